@@ -1,0 +1,4 @@
+pub mod Refusals
+pub mod Kinds
+pub mod Hashes
+pub mod Paths

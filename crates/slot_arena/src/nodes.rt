@@ -1,0 +1,33 @@
+//! What a slot holds.
+
+use crate::refs::Ref;
+use arrayvec::ArrayVec;
+
+/// What a slot holds. All but the main word of an indirection stays as it was made.
+#[derive(Debug, Drop)]
+pub enum Node {
+    /// A place of the trie whose main node may be replaced. The generation stays.
+    Indirection { generation: u64, main: Ref },
+    /// A main node: an entry, an indirection or a single, for each one of the bitmap, by rising index.
+    Branch {
+        bitmap: u32,
+        entries: ArrayVec<Ref, 32>,
+    },
+    /// A key and its value.
+    Single { key: u64, value: u64 },
+    /// A main node in whose place the single is to stand.
+    Tomb { single: Ref },
+    /// A main node: the singles of keys with one hash.
+    List { singles: ArrayVec<Ref, 32> },
+}
+
+/// The `prev` word of a main node.
+#[derive(Clone, Copy, Debug, PartialEq, Eq)]
+pub enum Prev {
+    /// The node is decided.
+    None,
+    /// The node was swapped in over this one, and isn't decided.
+    Pending(Ref),
+    /// The node was refused: this one is to stand in its place.
+    Failed(Ref),
+}

@@ -1,0 +1,13 @@
+//! References against values written by hand.
+
+use crate::Ref;
+
+#[test]
+fn names_slots(rt: HostRuntime) {
+    let first = Ref::new(1, 65535);
+    assert_eq!(rt; first.birth(), 1);
+    assert_eq!(rt; first.slot(), 65535);
+    assert!(rt; first != Ref::new(2, 65535), "another birth");
+    assert!(rt; first < Ref::new(2, 0), "births go before slots");
+    assert_eq!(rt; Ref::default().birth(), 0);
+}
