@@ -7,18 +7,28 @@ use arrayvec::ArrayVec;
 #[derive(Debug, Drop)]
 pub enum Node {
     /// A place of the trie whose main node may be replaced. The generation stays.
-    Indirection { generation: u64, main: Ref },
+    Indirection {
+        generation: u64,
+        main: Ref,
+    },
     /// A main node: an entry, an indirection or a single, for each one of the bitmap, by rising index.
     Branch {
         bitmap: u32,
         entries: ArrayVec<Ref, 32>,
     },
     /// A key and its value.
-    Single { key: u64, value: u64 },
+    Single {
+        key: u64,
+        value: u64,
+    },
     /// A main node in whose place the single is to stand.
-    Tomb { single: Ref },
+    Tomb {
+        single: Ref,
+    },
     /// A main node: the singles of keys with one hash.
-    List { singles: ArrayVec<Ref, 32> },
+    List {
+        singles: ArrayVec<Ref, 32>,
+    },
 }
 
 /// The `prev` word of a main node.

@@ -1,0 +1,54 @@
+-- What the program's words ask for.
+use Rattle.std.specs.Prelude.{◌≡◌, Bool, true, List, Option, Some, None, Result, Ok, Err, codes, if◌then◌else◌, option_and_then}
+use Rattle.std.specs.Str.{bytes_eq}
+use Rattle.clap.specs.Simple.{on_top}
+use Rattle.clap.specs.Walk.{is_empty}
+use Rattle.clap.specs.Words.{App, Row, Rule, Text, fault_of, first_of, new_app, new_rule, subcommand_of, with_rule, with_subcommand}
+use Rattle.clap.specs.declared.builder.action.ArgAction.TheVariants.{Set}
+use Rattle.clap.specs.declared.error.kind.ErrorKind.{ErrorKind}
+use Rattle.clap.specs.declared.error.kind.ErrorKind.TheVariants as kind
+use Rattle.ctrie.specs.declared.arguments.Request.{Request}
+use Rattle.ctrie.specs.declared.arguments.Request.TheVariants.{Check}
+use Rattle.ctrie.specs.declared.faults.Fault.{Fault}
+use Rattle.ctrie.specs.declared.faults.Fault.TheVariants.{Memory, Usage}
+
+-- the fault that tells of such an error
+abbrev pub fault_for : ErrorKind → Fault
+fault_for kind.OutOfMemory = Memory
+fault_for other = Usage
+
+-- the file of a request
+abbrev pub path_of : Request → Text
+path_of (Check path) = path.now
+
+-- the one file that a subcommand wants
+abbrev pub file_rule : Rule
+file_rule = record (new_rule (codes "FILE")) { required = true; action = Some Set }
+
+-- the program's command: a subcommand is wanted, and a file behind it
+unfoldable pub program : App
+program =
+    with_subcommand (on_top (λ s. record s { subcommand_required = true }) (new_app (codes "ctrie"))) (with_rule (new_app (codes "check")) file_rule).top
+
+-- the file behind the subcommand with this name, if it is the one that was met
+abbrev pub file_of : Text → Option (Text × List Row) → Option Text
+file_of name subcommand = option_and_then (λ s. if bytes_eq s.0 name then first_of (codes "FILE") s.1 else None) subcommand
+
+-- whether the command takes the words
+unfoldable pub takes : List Text → Bool
+takes words = is_empty (fault_of program words)
+
+-- the subcommand that the words name, with what stands behind it
+unfoldable pub met : List Text → Option (Text × List Row)
+met words = subcommand_of program words
+
+-- the file that the words want checked
+abbrev pub checked_file : List Text → Option Text
+checked_file words = if takes words then file_of (codes "check") (met words) else None
+
+-- The request is what the words ask for, and a fault of usage comes only where they ask for nothing.
+abbrev pub Answers : List Text → Result Request Fault → Type 0
+Answers words (Ok request) = checked_file words ≡ Some (path_of request)
+Answers words (Err Usage) = checked_file words ≡ None
+Answers words (Err Memory) = Unit {0}
+Answers words (Err fault) = ⊥

@@ -1,0 +1,79 @@
+//! The program: its words, its files and its exit status.
+
+ghost use Rattle.std.specs.Prelude.{◌≡◌, ◌≢◌, ◌≤◌, ◌⊎◌, IfErr};
+ghost use Rattle.std.specs.IoError.{error_kind};
+ghost use Rattle.ctrie.specs.Faults.{exit_status_of};
+
+use crate::arguments::{Request, request_of};
+use crate::checking::check_history;
+use crate::counting::Counted;
+use crate::faults::Fault;
+use std::fs::File;
+use std::io::ErrorKind;
+use std::rt::{Env, Files};
+use std::{env, io};
+
+/// Carries out what the program's words ask for, and gives its exit status, 0 to 3. What stands in the
+/// way is told on standard error.
+pub fn run<R: AllocGlobal + Env + Files + Print + Eprint>(rt: &R) -> u8
+    ensures { result ≤ 3 }
+{
+    let outcome = carry_out(rt);
+    if let Err(fault) = &outcome {
+        let _ = eprintln!(rt; "{fault}");
+    }
+    exit_status(&outcome)
+}
+
+/// 0 for a legal order, 3 for another, else what the fault tells.
+pub fn exit_status(outcome: &Result<bool, Fault>) -> u8
+    ensures { result ≡ exit_status_of outcome.now }
+{
+    match outcome {
+        Ok(true) => 0,
+        Ok(false) => 3,
+        Err(fault) => fault.status(),
+    }
+}
+
+fn carry_out<R: AllocGlobal + Env + Files + Print>(rt: &R) -> Result<bool, Fault> {
+    let words = words_of(rt)?;
+    match request_of(rt.alloc(), words.as_slice())? {
+        Request::Check(path) => check_file(rt, path),
+    }
+}
+
+/// The program's words. One that isn't UTF-8 is no word of a command.
+fn words_of<R: AllocGlobal + Env>(rt: &R) -> Result<Vec<String>, Fault>
+    ensures { IfErr result (λ fault. (fault ≡ Fault.Usage) ⊎ (fault ≡ Fault.Memory)) }
+{
+    match env::args(rt) {
+        Ok(words) => Ok(words.collect(rt.alloc())?),
+        Err(error) => Err(fault_of(&error, Fault::Usage)),
+    }
+}
+
+/// Checks the history in this file, and writes the verdict to standard output.
+pub fn check_file<R: AllocGlobal + Files + Print>(rt: &R, path: &str) -> Result<bool, Fault>
+    ensures { result ≢ Err Fault.Usage }
+{
+    let file = match File::open(rt, path) {
+        Ok(file) => file,
+        Err(error) => return Err(fault_of(&error, Fault::Read)),
+    };
+    let mut input = Counted::new(file);
+    let mut output = Counted::new(io::writer(rt));
+    check_history(rt.alloc(), &mut input, &mut output)
+}
+
+/// Want of memory, or another fault.
+fn fault_of(error: &io::Error, other: Fault) -> Fault
+    ensures memory { error_kind error.now ≡ ErrorKind.OutOfMemory → result ≡ Fault.Memory }
+    ensures other { error_kind error.now ≢ ErrorKind.OutOfMemory → result ≡ other }
+{
+    if error.kind() == ErrorKind::OutOfMemory {
+        Fault::Memory
+    } else {
+        other
+    }
+}

@@ -1,0 +1,95 @@
+//! A reader and a writer whose calls fail when they are told to.
+
+use std::io;
+use std::io::{ErrorKind, Read, Write};
+
+/// Which call fails, counted from 1, and how; 0 for none.
+#[derive(Clone, Copy)]
+pub struct Failure {
+    pub call: u64,
+    pub kind: ErrorKind,
+}
+
+/// No call fails.
+pub const NEVER: Failure = Failure {
+    call: 0,
+    kind: ErrorKind::Other,
+};
+
+/// A reader that gives so many bytes a call, and fails at one call.
+#[derive(Drop)]
+pub struct Source<'a> {
+    rest: &'a [u8],
+    most: usize,
+    calls: u64,
+    failure: Failure,
+}
+
+impl<'a> Source<'a> {
+    pub fn new(text: &'a [u8], most: usize, failure: Failure) -> Source<'a> {
+        Source {
+            rest: text,
+            most,
+            calls: 0,
+            failure,
+        }
+    }
+}
+
+impl Read for Source<'_> {
+    fn read(&mut self, buf: &mut [u8]) -> io::Result<usize> {
+        self.calls = self.calls.saturating_add(1);
+        if self.calls == self.failure.call {
+            return Err(io::Error::from(self.failure.kind));
+        }
+        let room = buf.len().min(self.most);
+        let rest = &mut self.rest;
+        rest.read(&mut buf[..room])
+    }
+}
+
+/// A writer that takes so many bytes a call, and fails or takes none at one call.
+#[derive(Drop)]
+pub struct Sink {
+    pub taken: Vec<u8>,
+    most: usize,
+    calls: u64,
+    failure: Failure,
+    is_silent: bool,
+}
+
+impl Sink {
+    /// A silent sink takes no byte in place of its failure.
+    pub fn new(taken: Vec<u8>, most: usize, failure: Failure, is_silent: bool) -> Sink {
+        Sink {
+            taken,
+            most,
+            calls: 0,
+            failure,
+            is_silent,
+        }
+    }
+
+    fn call(&mut self) -> io::Result<()> {
+        self.calls = self.calls.saturating_add(1);
+        if self.calls == self.failure.call {
+            return Err(io::Error::from(self.failure.kind));
+        }
+        Ok(())
+    }
+}
+
+impl Write for Sink {
+    fn write(&mut self, buf: &[u8]) -> io::Result<usize> {
+        if let Err(error) = self.call() {
+            return if self.is_silent { Ok(0) } else { Err(error) };
+        }
+        let count = buf.len().min(self.most);
+        self.taken.extend_from_slice(&buf[..count])?;
+        Ok(count)
+    }
+
+    fn flush(&mut self) -> io::Result<()> {
+        self.call()
+    }
+}

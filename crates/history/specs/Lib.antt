@@ -1,0 +1,10 @@
+pub mod Worlds
+pub mod WorldCodes
+pub mod Crowds
+pub mod Effects
+pub mod Changes
+pub mod Histories
+pub mod Orders
+pub mod Tables
+pub mod Replays
+pub mod Laws

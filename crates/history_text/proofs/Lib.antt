@@ -1,0 +1,17 @@
+pub mod Spaced
+pub mod Numbers
+pub mod Forms
+pub mod Each
+pub mod Runs
+pub mod Loop
+pub mod Parts
+pub mod FoundCalls
+pub mod FoundReplies
+pub mod Among
+pub mod Tied
+pub mod FoundLines
+pub mod Found
+pub mod Again
+pub mod AgainCalls
+pub mod AgainReplies
+pub mod Only
