@@ -1,0 +1,102 @@
+-- What a step that is taken does to the heap: one constructor for each kind of effect.
+use Rattle.std.proofs.Common.{◌≡◌, ℕ, ◌==◌, Bool, true, false, Option, Some, None, refl, sym, subst, eqb-true, arith}
+use Rattle.history.specs.declared.calls.Call.{Call}
+use Rattle.slot_arena.specs.declared.refs.Ref.{Ref}
+use Rattle.slot_arena.specs.declared.nodes.Node.{Node}
+use Rattle.slot_arena.specs.declared.nodes.Prev.TheVariants as prev
+use Rattle.machine_model.specs.declared.actions.Action.{Action}
+use Rattle.machine_model.specs.declared.actions.Action.TheVariants as act
+use Rattle.machine_model.specs.declared.operations.Operation.{Operation}
+use Rattle.machine_model.specs.declared.roots.Descriptor.{Descriptor}
+use Rattle.machine_model.specs.declared.steps.Outcome.{Outcome}
+use Rattle.machine_model.specs.declared.steps.Step.{Step}
+use Rattle.machine_model.specs.Heaps.{Heap, main_at, with_main, with_prev, taken, freed}
+use Rattle.machine_model.specs.States.{State}
+use Rattle.machine_model.specs.Calls.{handle_of}
+use Rattle.machine_model.specs.Reading.{is_licensed, is_pending_over}
+use Rattle.machine_model.specs.Operations.{action_of}
+use Rattle.machine_model.specs.Acting.{acted, aborted, offered, completed, new_root_taken, if_changed}
+use Rattle.machine_model.specs.Machine.{with_begin, sweep_by, ripe}
+use Rattle.machine_model.proofs.Moves.{Moves, Begins, Goes, Ends, Sweeps, begun_operation}
+
+-- the effects, where this slot is due to be freed, if one is
+pub data HeapMoves (heap : Heap) (due : Option Ref) : Heap → Type 0 where
+  Stays : HeapMoves heap due heap
+  Takes : (node : Node) → HeapMoves heap due (taken heap node)
+  Publishes : (indirection replaced fresh : Ref) → main_at heap indirection ≡ replaced →
+      HeapMoves heap due (with_prev (with_main heap indirection fresh) fresh (prev.Pending replaced))
+  Restores : (indirection main before : Ref) → main_at heap indirection ≡ main → HeapMoves heap due (with_main heap indirection before)
+  Decides : (indirection main before : Ref) (told : Option ℕ) → is_pending_over heap main before ≡ true →
+      HeapMoves heap due (with_prev heap main (if_changed (is_licensed heap indirection told) prev.None (prev.Failed before)))
+  Frees : (r : Ref) → due ≡ Some r → HeapMoves heap due (freed heap r)
+
+-- taking an offer back leaves the heap
+aborted_heap : (state : State) (handle : ℕ) (offer : Descriptor) → (aborted state handle offer).heap ≡ state.heap
+aborted_heap state handle offer = grind arith
+
+-- so does offering
+offered_heap : (state : State) (handle : ℕ) (offer : Descriptor) → (offered state handle offer).heap ≡ state.heap
+offered_heap state handle offer = grind arith
+
+-- and completing an offer
+completed_heap : (state : State) (handle : ℕ) (offer : Descriptor) (main : Ref) → (completed state handle offer main).heap ≡ state.heap
+completed_heap state handle offer main = grind arith
+
+-- swapping a main node in, by whether the replaced one still stands there
+published_heap : (heap : Heap) (due : Option Ref) (indirection replaced fresh : Ref) (b : Bool) → (main_at heap indirection == replaced) ≡ b →
+    HeapMoves heap due (if_changed b (with_prev (with_main heap indirection fresh) fresh (prev.Pending replaced)) heap)
+published_heap heap due indirection replaced fresh true e = Publishes indirection replaced fresh (eqb-true _ _ e)
+published_heap heap due indirection replaced fresh false e = Stays
+
+-- putting a main node back, by whether the failed one still stands there
+restored_heap : (heap : Heap) (due : Option Ref) (indirection main before : Ref) (b : Bool) → (main_at heap indirection == main) ≡ b →
+    HeapMoves heap due (if_changed b (with_main heap indirection before) heap)
+restored_heap heap due indirection main before true e = Restores indirection main before (eqb-true _ _ e)
+restored_heap heap due indirection main before false e = Stays
+
+-- deciding a main node, by whether it is still pending
+decided_heap : (heap : Heap) (due : Option Ref) (indirection main before : Ref) (told : Option ℕ) (b : Bool) → is_pending_over heap main before ≡ b →
+    HeapMoves heap due (if_changed b (with_prev heap main (if_changed (is_licensed heap indirection told) prev.None (prev.Failed before))) heap)
+decided_heap heap due indirection main before told true e = Decides indirection main before told e
+decided_heap heap due indirection main before told false e = Stays
+
+-- making a root, by whether a slot is free
+root_taken_heap : (state : State) (due : Option Ref) (main : Ref) (made : Option Ref) → HeapMoves state.heap due (new_root_taken state main made).heap
+root_taken_heap state due main None = Stays
+root_taken_heap state due main (Some made) = Takes _
+
+-- a heap that is the same stays
+same_heap : {heap after : Heap} (due : Option Ref) → after ≡ heap → HeapMoves heap due after
+same_heap {heap} due e = subst (λ h. HeapMoves heap due h) (sym e) Stays
+
+-- each action is such an effect
+pub acted_heap : (state : State) (due : Option Ref) (handle : ℕ) (action : Action) → HeapMoves state.heap due (acted state handle action).heap
+acted_heap state due handle (act.Abort offer) = same_heap due (aborted_heap state handle offer)
+acted_heap state due handle (act.Offer offer) = same_heap due (offered_heap state handle offer)
+acted_heap state due handle (act.Complete offer main) = same_heap due (completed_heap state handle offer main)
+acted_heap state due handle (act.Publish indirection replaced fresh) = published_heap state.heap due indirection replaced fresh _ refl
+acted_heap state due handle (act.Restore indirection main before) = restored_heap state.heap due indirection main before _ refl
+acted_heap state due handle (act.Decide indirection main before told) = decided_heap state.heap due indirection main before told _ refl
+acted_heap state due handle (act.Make node) = Takes node
+acted_heap state due handle (act.MakeRoot main) = root_taken_heap state due main _
+acted_heap state due handle action = Stays
+
+-- a begin leaves the heap
+begin_heap : (state : State) (actor : ℕ) (call : Call) (operation : Operation) → (with_begin state actor call operation).heap ≡ state.heap
+begin_heap state actor call operation = grind arith
+
+-- a sweep that frees nothing leaves the heap
+unripe_heap : (state : State) → (sweep_by state None).1.heap ≡ state.heap
+unripe_heap state = grind arith
+
+-- a sweep frees the ripe slot, if there is one
+sweep_heap : (state : State) (due : Option Ref) → HeapMoves state.heap due (sweep_by state due).1.heap
+sweep_heap state None = same_heap None (unripe_heap state)
+sweep_heap state (Some r) = Frees r refl
+
+-- each step that is taken is such an effect
+pub heap_moves : (state : State) (s : Step) (o : Outcome) (after : State) → Moves state s o after → HeapMoves state.heap (ripe state.epoch state.limbo) after.heap
+heap_moves state s o after (Begins {actor} {call} d) = same_heap _ (begin_heap state actor call (begun_operation state call))
+heap_moves state s o after (Goes {actor} {operation} d is a g) = acted_heap _ _ (handle_of operation.call) (action_of state operation)
+heap_moves state s o after (Ends d is a) = Stays
+heap_moves state s o after (Sweeps spent) = sweep_heap state (ripe state.epoch state.limbo)

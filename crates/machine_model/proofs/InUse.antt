@@ -1,0 +1,101 @@
+-- Which references name a slot in use, and that those in limbo do.
+use Rattle.std.proofs.Common.{◌≡◌, ℕ, zero, suc, ◌+◌, ◌<◌, ◌≤◌, ◌^◌, ◌==◌, ◌&&◌, Bool, true, false, cond, nat_lt, not, is_some, List, [], ◌∷◌, length, map, get_or, All, Option, Some, None, refl, ap, ◌∙◌, subst, inl, inr, eqb-true, arith}
+use Rattle.std.specs.List.{list_any}
+use Rattle.std.proofs.Math.ListN.{get_or-map}
+use Rattle.std.proofs.lemmas.Bool.{or_cases, and_parts, false≢true}
+use Rattle.std.proofs.lemmas.List.Elements.{All-nil, All-cons, All-head, All-tail, All-weaker, All-append, All-map, All-filter, filter_passes}
+use Rattle.std.proofs.lemmas.List.Sums.{sum_by-cons}
+use Rattle.slot_arena.specs.Refs.{ref_to, slot_of}
+use Rattle.slot_arena.specs.declared.refs.Ref.{Ref}
+use Rattle.machine_model.specs.declared.heaps.Slot.{Slot}
+use Rattle.machine_model.specs.declared.heaps.Zeroed.{Zeroed}
+use Rattle.machine_model.specs.Heaps.{Heap, named_from, in_use}
+use Rattle.machine_model.specs.States.{State}
+use Rattle.machine_model.specs.Counting.{is_zero, is_in, newly_zero, by_birth, put_in, is_in_use, limbo_after}
+use Rattle.machine_model.proofs.Found.{found_within}
+use Rattle.machine_model.proofs.Rest.{used}
+
+-- the reference names a slot of the list in use, where the first of them has the number n
+abbrev NamesFrom : ℕ → List (Option Slot) → Ref → Type 0
+NamesFrom n slots r = (k : ℕ) × (slot : Slot) × (get_or slots k None ≡ Some slot) × (r ≡ ref_to slot.birth (n + k))
+
+-- the reference names a slot in use
+abbrev pub InUse : Heap → Ref → Type 0
+InUse heap r = NamesFrom 0 heap.slots r
+
+-- the same with one more slot in front
+names_later : (n : ℕ) (o : Option Slot) (slots : List (Option Slot)) (r : Ref) → NamesFrom (n + 1) slots r → NamesFrom n (o ∷ slots) r
+names_later n o slots r (k, slot, at_k, is) = (suc k, slot, at_k, is ∙ ap (λ m. ref_to slot.birth m) (omega arith))
+
+-- the references made from a list of slots name slots in use
+named_in_use : (n : ℕ) (slots : List (Option Slot)) → All (NamesFrom n slots) (named_from n slots)
+named_in_use n [] = All-nil (NamesFrom n [])
+named_in_use n (None ∷ slots) =
+    All-weaker (NamesFrom (n + 1) slots) (NamesFrom n (None ∷ slots)) (names_later n None slots) (named_from (n + 1) slots) (named_in_use (n + 1) slots)
+named_in_use n (Some slot ∷ slots) =
+    All-cons (NamesFrom n (Some slot ∷ slots)) (ref_to slot.birth n) (named_from (n + 1) slots)
+    (zero, slot, refl, ap (λ m. ref_to slot.birth m) (omega arith))
+    (All-weaker (NamesFrom (n + 1) slots) (NamesFrom n (Some slot ∷ slots)) (names_later n (Some slot) slots) (named_from (n + 1) slots) (named_in_use (n + 1) slots))
+
+-- each of the references to slots in use names one
+pub all_in_use : (heap : Heap) → All (InUse heap) (in_use heap)
+all_in_use heap = named_in_use 0 heap.slots
+
+-- there are as many of them as slots in use
+pub length-named_from : (n : ℕ) (slots : List (Option Slot)) → length (named_from n slots) ≡ used (map is_some slots)
+length-named_from n [] = refl
+length-named_from n (None ∷ slots) = omega (arith, sum_by-cons (λ b. cond b 1 0) false (map is_some slots), length-named_from (n + 1) slots)
+length-named_from n (Some slot ∷ slots) = omega (arith, sum_by-cons (λ b. cond b 1 0) true (map is_some slots), length-named_from (n + 1) slots)
+
+-- what holds of each holds of one that is found
+pub of_found : (P : Ref → Type 0) (r : Ref) (qs : List Ref) → All P qs → list_any (λ q. q == r) qs ≡ true → P r
+of_found P r [] all found = absurd (false≢true found)
+of_found P r (q ∷ qs) all found = elim (or_cases (q == r) (list_any (λ x. x == r) qs) found) [
+  | inl here ↦ subst P (eqb-true q r here) (All-head P q qs all)
+  | inr later ↦ of_found P r qs (All-tail P q qs all) later
+]
+
+-- a reference names the slot that it was made of
+same_slot : (birth k n : ℕ) → k < n → n ≤ 2 ^ 16 → slot_of (ref_to birth (0 + k)) ≡ k
+same_slot birth k n h size = omega arith
+
+-- the flag of its slot is set
+pub flag_of_used : (heap : Heap) (r : Ref) → length heap.slots ≤ 2 ^ 16 → InUse heap r → get_or (map is_some heap.slots) (slot_of r) false ≡ true
+flag_of_used heap r size (k, slot, at_k, is) =
+    let its = ap (λ q. slot_of q) is ∙ same_slot slot.birth k (length heap.slots) (found_within heap.slots k slot at_k) size in
+    ap (λ i. get_or (map is_some heap.slots) i false) its ∙ get_or-map is_some heap.slots k None ∙ ap is_some at_k
+
+-- ---- limbo
+
+-- what holds of each holds after one more was put in, by where it is put
+put_in_by : (P : Ref → Type 0) (r q : Ref) (qs : List Ref) → P r → All P (q ∷ qs) → All P (put_in r qs) → (b : Bool) →
+    All P (cond b (r ∷ q ∷ qs) (q ∷ put_in r qs))
+put_in_by P r q qs h all rest true = All-cons P r (q ∷ qs) h all
+put_in_by P r q qs h all rest false = All-cons P q (put_in r qs) (All-head P q qs all) rest
+
+-- what holds of each holds after one more was put in
+put_in_all : (P : Ref → Type 0) (r : Ref) (qs : List Ref) → P r → All P qs → All P (put_in r qs)
+put_in_all P r [] h all = All-cons P r [] h (All-nil P)
+put_in_all P r (q ∷ qs) h all = put_in_by P r q qs h all (put_in_all P r qs h (All-tail P q qs all)) (nat_lt r q)
+
+-- what holds of each holds of each when they are sorted
+by_birth_all : (P : Ref → Type 0) (rs : List Ref) → All P rs → All P (by_birth rs)
+by_birth_all P [] all = all
+by_birth_all P (r ∷ rs) all = put_in_all P r (by_birth rs) (All-head P r rs all) (by_birth_all P rs (All-tail P r rs all))
+
+-- those that became zero are in use
+newly_zero_in_use : (before after : State) → All (InUse after.heap) (newly_zero before after)
+newly_zero_in_use before after =
+    by_birth_all (InUse after.heap) _ (All-filter (λ r. is_zero after r && not (is_in before.limbo r)) (InUse after.heap) (in_use after.heap) (all_in_use after.heap))
+
+-- what stays in limbo is in use
+kept_in_use : (after : State) (z : Zeroed) → (is_in_use after z.at && is_zero after z.at) ≡ true → InUse after.heap z.at
+kept_in_use after z e = of_found (InUse after.heap) z.at (in_use after.heap) (all_in_use after.heap) ((and_parts _ _ e).0)
+
+-- each slot of limbo is in use after a step
+pub limbo_in_use : (before after : State) → All (λ z. InUse after.heap z.at) (limbo_after before after)
+limbo_in_use before after =
+    All-append (λ z. InUse after.heap z.at) _ _
+    (All-weaker (λ z. (is_in_use after z.at && is_zero after z.at) ≡ true) (λ z. InUse after.heap z.at) (kept_in_use after) _
+    (filter_passes (λ z. is_in_use after z.at && is_zero after z.at) before.limbo))
+    (All-map (λ z. InUse after.heap z.at) _ (newly_zero before after) (newly_zero_in_use before after))

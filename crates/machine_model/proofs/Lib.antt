@@ -1,0 +1,14 @@
+pub mod Taken
+pub mod Moves
+pub mod Along
+pub mod Found
+pub mod Frames
+pub mod Actors
+pub mod EachOperation
+pub mod Refusals
+pub mod Refused
+pub mod Readers
+pub mod HeapMoves
+pub mod Rest
+pub mod InUse
+pub mod Slots

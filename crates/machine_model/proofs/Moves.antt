@@ -1,0 +1,125 @@
+-- What a step that is taken does: one constructor for each kind of step.
+use Rattle.std.proofs.Common.{◌≡◌, ℕ, Bool, true, false, cond, Option, Some, None, Ok, Err, refl, sym, subst}
+use Rattle.std.proofs.lemmas.Option.{none-some}
+use Rattle.ctrie_base.specs.declared.refusals.Refusal.{Refusal}
+use Rattle.ctrie_base.specs.declared.refusals.Refusal.TheVariants as refuse
+use Rattle.history.specs.declared.calls.Call.{Call}
+use Rattle.history.specs.declared.replies.Reply.{Reply}
+use Rattle.machine_model.specs.declared.operations.Operation.{Operation}
+use Rattle.machine_model.specs.declared.actions.Action.{Action}
+use Rattle.machine_model.specs.declared.actions.Action.TheVariants as act
+use Rattle.machine_model.specs.declared.steps.Step.{Step}
+use Rattle.machine_model.specs.declared.steps.Step.TheVariants as step
+use Rattle.machine_model.specs.declared.steps.Outcome.{Outcome}
+use Rattle.machine_model.specs.declared.steps.Outcome.TheVariants as outcome
+use Rattle.machine_model.specs.Calls.{handle_of}
+use Rattle.machine_model.specs.States.{State, root_at, operation_of}
+use Rattle.machine_model.specs.Operations.{action_of, kind_of}
+use Rattle.machine_model.specs.Acting.{gone, ended}
+use Rattle.machine_model.specs.Counting.{settled}
+use Rattle.machine_model.specs.Machine.{Answer, next, begin_denial, begin_unless, new_operation, with_begin, access_of, unwrapped, go_denial, go_unless, go_on, step_by, is_spent, ripe, sweep_by, settled_after}
+
+-- the action isn't the end of an operation
+abbrev pub GoesOn : Action → Type 0
+GoesOn (act.End answer) = ⊥
+GoesOn action = Unit {0}
+
+-- the operation that a begin brings in
+abbrev pub begun_operation : State → Call → Operation
+begun_operation state call = new_operation state call (unwrapped (access_of (root_at state (handle_of call))))
+
+-- what a sweep comes to
+abbrev pub swept : State → Outcome × State
+swept state = sweep_by state (ripe state.epoch state.limbo)
+
+pub data Moves (state : State) : Step → Outcome → State → Type 0 where
+  Begins : {actor : ℕ} {call : Call} → begin_denial state actor call ≡ None →
+      Moves state (step.Begin actor call) (outcome.Began (begun_operation state call).id) (settled state (with_begin state actor call (begun_operation state call)))
+  Goes : {actor : ℕ} {operation : Operation} {action : Action} → go_denial state actor ≡ None → operation_of state actor ≡ Some operation →
+      action_of state operation ≡ action → GoesOn action →
+      Moves state (step.Go actor) (outcome.Went (kind_of action)) (settled state (gone state actor operation))
+  Ends : {actor : ℕ} {operation : Operation} {answer : Reply} → go_denial state actor ≡ None → operation_of state actor ≡ Some operation →
+      action_of state operation ≡ act.End answer →
+      Moves state (step.Go actor) (outcome.Ended operation.id answer) (settled state (ended state actor operation answer))
+  Sweeps : is_spent state ≡ false → Moves state step.Sweep (swept state).0 (settled state (swept state).1)
+
+-- the step is a move where it is taken
+abbrev pub MovesIfTaken : State → Step → Answer → Type 0
+MovesIfTaken state s (Ok done) = Moves state s done.0 done.1
+MovesIfTaken state s (Err refusal) = Unit {0}
+
+-- a begin, by why it is denied
+begin_moves : (state : State) (actor : ℕ) (call : Call) (denial : Option Refusal) → begin_denial state actor call ≡ denial →
+    MovesIfTaken state (step.Begin actor call) (begin_unless state actor call denial)
+begin_moves state actor call None d = Begins d
+begin_moves state actor call (Some refusal) d = tt
+
+-- a step of an actor's operation, by its action
+step_moves : (state : State) (actor : ℕ) → go_denial state actor ≡ None → (operation : Operation) → operation_of state actor ≡ Some operation →
+    (action : Action) → action_of state operation ≡ action → MovesIfTaken state (step.Go actor) (step_by state actor operation action)
+step_moves state actor d operation o (act.End answer) a = Ends d o a
+step_moves state actor d operation o action a = Goes d o a tt
+
+-- the same, by what the actor runs
+go_on_moves : (state : State) (actor : ℕ) → go_denial state actor ≡ None → (found : Option Operation) → operation_of state actor ≡ found →
+    MovesIfTaken state (step.Go actor) (go_on state actor found)
+go_on_moves state actor d None o = tt
+go_on_moves state actor d (Some operation) o = step_moves state actor d operation o (action_of state operation) refl
+
+-- the same, by why it is denied
+go_moves : (state : State) (actor : ℕ) (denial : Option Refusal) → go_denial state actor ≡ denial →
+    MovesIfTaken state (step.Go actor) (go_unless state actor denial)
+go_moves state actor None d = go_on_moves state actor d (operation_of state actor) refl
+go_moves state actor (Some refusal) d = tt
+
+-- a sweep, by whether all steps are taken
+sweep_moves : (state : State) (spent : Bool) → is_spent state ≡ spent →
+    MovesIfTaken state step.Sweep (cond spent (Err refuse.Spent) (settled_after state (sweep_by state (ripe state.epoch state.limbo))))
+sweep_moves state true e = tt
+sweep_moves state false e = Sweeps e
+
+-- each step that is taken is a move
+pub moves : (state : State) (s : Step) → MovesIfTaken state s (next state s)
+unfolding next
+moves state (step.Begin actor call) = begin_moves state actor call (begin_denial state actor call) refl
+moves state (step.Go actor) = go_moves state actor (go_denial state actor) refl
+moves state step.Sweep = sweep_moves state (is_spent state) refl
+
+-- a step that comes to this is a move
+pub moved : (state : State) (s : Step) (o : Outcome) (after : State) → next state s ≡ Ok (o, after) → Moves state s o after
+moved state s o after e = subst (λ a. MovesIfTaken state s a) e (moves state s)
+
+-- what the end of an operation tells
+pub ending : (state : State) (actor id : ℕ) (answer : Reply) (after : State) → Moves state (step.Go actor) (outcome.Ended id answer) after →
+    (operation : Operation) × (operation_of state actor ≡ Some operation) × (operation.id ≡ id) × (action_of state operation ≡ act.End answer)
+    × (go_denial state actor ≡ None)
+ending state actor id answer after (Ends {operation} d is a) = (operation, is, refl, a, d)
+
+-- ---- where a step is taken
+
+-- a step that isn't denied
+abbrev pub IsTaken : Answer → Type 0
+IsTaken (Ok done) = Unit {0}
+IsTaken (Err why) = ⊥
+
+-- a step of an operation is taken, whatever its action
+step_taken : (state : State) (actor : ℕ) (operation : Operation) (action : Action) → IsTaken (step_by state actor operation action)
+step_taken state actor operation (act.End answer) = tt
+step_taken state actor operation action = tt
+
+-- the same, by what the actor runs
+go_on_taken : (state : State) (actor : ℕ) (found : Option Operation) (operation : Operation) → found ≡ Some operation → IsTaken (go_on state actor found)
+go_on_taken state actor None operation e = none-some operation e
+go_on_taken state actor (Some found) operation e = step_taken state actor found (action_of state found)
+
+-- the same, by why it is denied
+go_taken : (state : State) (actor : ℕ) (denial : Option Refusal) (operation : Operation) → denial ≡ None → operation_of state actor ≡ Some operation →
+    IsTaken (go_unless state actor denial)
+go_taken state actor None operation d e = go_on_taken state actor (operation_of state actor) operation e
+go_taken state actor (Some why) operation d e = none-some why (sym d)
+
+-- where nothing denies it the step is taken
+pub allowed_taken : (state : State) (actor : ℕ) (operation : Operation) → go_denial state actor ≡ None → operation_of state actor ≡ Some operation →
+    IsTaken (next state (step.Go actor))
+unfolding next
+allowed_taken state actor operation d e = go_taken state actor (go_denial state actor) operation d e

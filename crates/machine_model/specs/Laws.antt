@@ -1,0 +1,44 @@
+-- Laws of the machine, for every list of steps.
+use Rattle.std.specs.Prelude.{◌≡◌, ℕ, ◌+◌, List, [], ◌∷◌, ◌++◌, length, Contains, Some, Ok}
+use Rattle.ctrie_base.specs.declared.kinds.Kind.TheVariants as kind
+use Rattle.history.specs.declared.calls.Access.TheVariants.{ReadOnly}
+use Rattle.history.specs.declared.replies.Reply.TheVariants as reply
+use Rattle.machine_model.specs.declared.operations.Operation.{Operation}
+use Rattle.machine_model.specs.declared.steps.Limits.{Limits}
+use Rattle.machine_model.specs.declared.steps.Step.{Step}
+use Rattle.machine_model.specs.declared.steps.Step.TheVariants.{Go}
+use Rattle.machine_model.specs.declared.steps.Outcome.TheVariants.{Ended}
+use Rattle.machine_model.specs.Heaps.{in_use}
+use Rattle.machine_model.specs.States.{State, operation_of}
+use Rattle.machine_model.specs.Operations.{action_of, kind_of}
+use Rattle.machine_model.specs.Machine.{AreLimits, next, run, taken_steps}
+
+-- the slots in use and the free ones are all slots
+abbrev pub SlotsAddUp : Type 0
+SlotsAddUp =
+    (limits : Limits) (steps : List Step) → AreLimits limits →
+    length (in_use (run limits steps).heap) + length (run limits steps).heap.free ≡ limits.slots
+
+-- the next step of the actor's operation of this id is to make a node, and no slot is free
+abbrev pub FindsNoSlot : State → ℕ → ℕ → Type 0
+FindsNoSlot state actor id =
+    (operation : Operation) × (operation_of state actor ≡ Some operation) × (operation.id ≡ id)
+    × (kind_of (action_of state operation) ≡ kind.Make) × (state.heap.free ≡ [])
+
+-- an operation is refused for want of slots only where its step before was to make a node, and no slot was free before it
+abbrev pub RefusedForWantAlone : Type 0
+RefusedForWantAlone =
+    (limits : Limits) (steps : List Step) (actor id : ℕ) (after : State) → next (run limits steps) (Go actor) ≡ Ok (Ended id reply.NoSlots, after) →
+    (before between : List Step) × (steps ≡ before ++ Go actor ∷ between) × ¬ Contains between (Go actor) × FindsNoSlot (run limits before) actor id
+
+-- an operation on a read-only handle makes no node
+abbrev pub ReadersMakeNothing : Type 0
+ReadersMakeNothing =
+    (limits : Limits) (steps : List Step) (actor : ℕ) (operation : Operation) → operation_of (run limits steps) actor ≡ Some operation →
+    operation.access ≡ ReadOnly → ¬ (kind_of (action_of (run limits steps) operation) ≡ kind.Make)
+
+-- the steps that were taken lead to the same state, and all of them are taken
+abbrev pub TakenStepsSuffice : Type 0
+TakenStepsSuffice =
+    (limits : Limits) (steps : List Step) →
+    (run limits (taken_steps limits steps) ≡ run limits steps) × (taken_steps limits (taken_steps limits steps) ≡ taken_steps limits steps)

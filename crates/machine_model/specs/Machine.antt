@@ -1,0 +1,247 @@
+-- The machine: one atomic step, and runs of steps.
+use Rattle.std.specs.Prelude.{ℕ, zero, suc, ◌+◌, ◌==◌, ◌≤◌, ◌||◌, ◌&&◌, Bool, true, false, not, nat_lt, nat_le, is_some, List, [], ◌∷◌, ◌++◌, Option, Some, None, Result, Ok, Err, if◌then◌else◌}
+use Rattle.std.specs.List.{list_any}
+use Rattle.ctrie_base.specs.declared.refusals.Refusal.{Refusal}
+use Rattle.ctrie_base.specs.declared.refusals.Refusal.TheVariants as refuse
+use Rattle.history.specs.declared.calls.Access.{Access}
+use Rattle.history.specs.declared.calls.Access.TheVariants.{Writable, ReadOnly}
+use Rattle.history.specs.declared.calls.Call.{Call}
+use Rattle.history.specs.declared.events.Event.TheVariants.{Begin}
+use Rattle.history.specs.Histories.{begun}
+use Rattle.slot_arena.specs.declared.refs.Ref.{Ref}
+use Rattle.machine_model.specs.declared.operations.Operation.{Operation}
+use Rattle.machine_model.specs.declared.actions.Action.{Action}
+use Rattle.machine_model.specs.declared.actions.Action.TheVariants as act
+use Rattle.machine_model.specs.declared.roots.Root.{Root}
+use Rattle.machine_model.specs.declared.steps.Limits.{Limits}
+use Rattle.machine_model.specs.declared.steps.Step.{Step}
+use Rattle.machine_model.specs.declared.steps.Step.TheVariants as step
+use Rattle.machine_model.specs.declared.steps.Swept.TheVariants as swept
+use Rattle.machine_model.specs.declared.steps.Outcome.{Outcome}
+use Rattle.machine_model.specs.declared.steps.Outcome.TheVariants as outcome
+use Rattle.machine_model.specs.Heaps.{freed}
+use Rattle.machine_model.specs.Calls.{handle_of, needs_writable, needs_read_only, opens_handle, is_close}
+use Rattle.machine_model.specs.declared.heaps.Zeroed.{Zeroed}
+use Rattle.machine_model.specs.States.{State, first_state, handle_limit, step_limit, root_at, operation_of, with_root, with_operation}
+use Rattle.machine_model.specs.Operations.{first_line, action_of, kind_of}
+use Rattle.machine_model.specs.Orders.{on_time}
+use Rattle.machine_model.specs.Acting.{gone, ended}
+use Rattle.machine_model.specs.Counting.{settled}
+
+-- what a step gives: its outcome and the state after it, or a refusal
+abbrev pub Answer : Type 0
+Answer = Result (Outcome × State) Refusal
+
+-- ---- beginning
+
+-- the actor is one of the machine's
+abbrev pub is_actor : State → ℕ → Bool
+is_actor state actor = nat_lt 0 actor && nat_le actor state.limits.actors
+
+-- the actor runs an operation
+abbrev pub is_running : State → ℕ → Bool
+is_running state actor = is_some (operation_of state actor)
+
+-- an operation runs whose call names this handle
+abbrev names : ℕ → Option Operation → Bool
+names handle None = false
+names handle (Some operation) = handle_of operation.call == handle
+
+abbrev pub runs_on : State → ℕ → Bool
+runs_on state handle = list_any (names handle) state.actors
+
+-- the handle that an operation has reserved: it is to open it, and hasn't yet
+abbrev reserved_by : Option Operation → Option ℕ
+reserved_by None = None
+reserved_by (Some operation) = if operation.is_marked then None else operation.opens
+
+abbrev is_number : ℕ → Option ℕ → Bool
+is_number n None = false
+is_number n (Some m) = m == n
+
+-- the handle number is open or reserved
+abbrev pub is_taken : State → ℕ → Bool
+is_taken state handle = is_some (root_at state handle) || list_any (λ operation. is_number handle (reserved_by operation)) state.actors
+
+abbrev taken_below : State → ℕ → ℕ
+taken_below state zero = 0
+taken_below state (suc n) = taken_below state n + (if is_taken state n then 1 else 0)
+
+-- how many handles are open or reserved
+abbrev pub handles_taken : State → ℕ
+handles_taken state = taken_below state handle_limit
+
+abbrev least_from : State → ℕ → ℕ → ℕ
+least_from state zero n = n
+least_from state (suc left) n = if is_taken state n then least_from state left (n + 1) else n
+
+-- the least handle number that is neither open nor reserved
+abbrev pub least_free : State → ℕ
+least_free state = least_from state handle_limit 0
+
+abbrev pub access_of : Option Root → Option Access
+access_of None = None
+access_of (Some root) = Some root.access
+
+-- the first of these refusals whose reason holds
+abbrev first_reason : List (Bool × Refusal) → Option Refusal
+first_reason [] = None
+first_reason (r ∷ rs) = if r.0 then Some r.1 else first_reason rs
+
+abbrev is_access : Access → Option Access → Bool
+is_access access None = false
+is_access Writable (Some Writable) = true
+is_access Writable (Some ReadOnly) = false
+is_access ReadOnly (Some ReadOnly) = true
+is_access ReadOnly (Some Writable) = false
+
+-- the machine has taken all its steps
+abbrev pub is_spent : State → Bool
+is_spent state = nat_le step_limit state.steps
+
+-- why a begin is denied
+abbrev pub begin_denial : State → ℕ → Call → Option Refusal
+begin_denial state actor call =
+    let handle = handle_of call in
+    let access = access_of (root_at state handle) in
+    first_reason (
+    (not (is_actor state actor), refuse.NoActor) ∷ (is_running state actor, refuse.ActorBusy) ∷ (not (is_some access), refuse.NoHandle)
+    ∷ (needs_writable call && is_access ReadOnly access, refuse.ReadOnly) ∷ (needs_read_only call && is_access Writable access, refuse.NotReadOnly)
+    ∷ (is_close call && runs_on state handle, refuse.Busy) ∷ (opens_handle call && nat_le handle_limit (handles_taken state), refuse.HandlesFull)
+    ∷ (is_spent state, refuse.Spent) ∷ [])
+
+-- the operation of a new begin
+abbrev pub new_operation : State → Call → Access → Operation
+new_operation state call access = record {
+  id = begun state.events;
+  call = call;
+  access = access;
+  epoch = state.epoch;
+  private = [];
+  opens = if opens_handle call then Some (least_free state) else None;
+  attempt = 0;
+  is_marked = false;
+  generation = 0;
+  read_at = 0;
+  moment = 0;
+  line = first_line call;
+}
+
+-- a close takes the handle away as it begins, and enters the order there
+abbrev handle_closed : State → Call → ℕ → State
+handle_closed state call id =
+    if is_close call then record (with_root state (handle_of call) None) { places = state.places ++ on_time state.steps false id ∷ [] } else state
+
+abbrev pub with_begin : State → ℕ → Call → Operation → State
+with_begin state actor call operation =
+    let closed = handle_closed state call operation.id in
+    record (with_operation closed actor (Some operation)) { events = closed.events ++ Begin operation.id actor call operation.opens ∷ [] }
+
+abbrev pub unwrapped : Option Access → Access
+unwrapped None = Writable
+unwrapped (Some access) = access
+
+abbrev pub begin_unless : State → ℕ → Call → Option Refusal → Answer
+begin_unless state actor call (Some refusal) = Err refusal
+begin_unless state actor call None =
+    let operation = new_operation state call (unwrapped (access_of (root_at state (handle_of call)))) in
+    Ok (outcome.Began operation.id, settled state (with_begin state actor call operation))
+
+-- a step that begins an operation
+abbrev pub begin : State → ℕ → Call → Answer
+begin state actor call = begin_unless state actor call (begin_denial state actor call)
+
+-- ---- going on
+
+-- why a step of an actor's operation is denied
+abbrev pub go_denial : State → ℕ → Option Refusal
+go_denial state actor = first_reason ((not (is_actor state actor), refuse.NoActor) ∷ (not (is_running state actor), refuse.Idle) ∷ (is_spent state, refuse.Spent) ∷ [])
+
+abbrev pub step_by : State → ℕ → Operation → Action → Answer
+step_by state actor operation (act.End answer) = Ok (outcome.Ended operation.id answer, settled state (ended state actor operation answer))
+step_by state actor operation action = Ok (outcome.Went (kind_of action), settled state (gone state actor operation))
+
+abbrev pub go_on : State → ℕ → Option Operation → Answer
+go_on state actor None = Err refuse.Idle
+go_on state actor (Some operation) = step_by state actor operation (action_of state operation)
+
+abbrev pub go_unless : State → ℕ → Option Refusal → Answer
+go_unless state actor (Some refusal) = Err refusal
+go_unless state actor None = go_on state actor (operation_of state actor)
+
+-- the next step of the actor's operation
+abbrev pub go : State → ℕ → Answer
+go state actor = go_unless state actor (go_denial state actor)
+
+-- ---- sweeping
+
+-- the first slot of limbo, where it became zero two epochs ago or earlier
+abbrev pub ripe : ℕ → List Zeroed → Option Ref
+ripe epoch [] = None
+ripe epoch (z ∷ limbo) = if nat_le (z.epoch + 2) epoch then Some z.at else None
+
+-- the actor runs no operation that began in another epoch
+abbrev is_passed : ℕ → Option Operation → Bool
+is_passed epoch None = true
+is_passed epoch (Some operation) = operation.epoch == epoch
+
+-- reads the record of the actor at the cursor, and goes on if it is passed
+abbrev scanned : State → Bool → Outcome × State
+scanned state passed = (outcome.Swept (swept.Scanned passed), record state { cursor = state.cursor + (if passed then 1 else 0) })
+
+-- all actors were passed: the epoch grows
+abbrev advanced : State → Outcome × State
+advanced state = (outcome.Swept (swept.Advanced (state.epoch + 1)), record state { epoch = state.epoch + 1; cursor = 1 })
+
+abbrev pub sweep_by : State → Option Ref → Outcome × State
+sweep_by state (Some r) = (outcome.Swept swept.Freed, record state { heap = freed state.heap r })
+sweep_by state None =
+    if nat_le state.cursor state.limits.actors then scanned state (is_passed state.epoch (operation_of state state.cursor)) else advanced state
+
+abbrev pub settled_after : State → Outcome × State → Answer
+settled_after state swept = Ok (swept.0, settled state swept.1)
+
+-- a step of the sweep: frees a slot, or reads an actor's epoch, or lets the epoch grow
+abbrev pub sweep : State → Answer
+sweep state = if is_spent state then Err refuse.Spent else settled_after state (sweep_by state (ripe state.epoch state.limbo))
+
+-- ---- steps and runs
+
+-- one atomic step
+unfoldable pub next : State → Step → Answer
+next state (step.Begin actor call) = begin state actor call
+next state (step.Go actor) = go state actor
+next state step.Sweep = sweep state
+
+abbrev pub state_after : State → Answer → State
+state_after state (Ok done) = done.1
+state_after state (Err refusal) = state
+
+-- the state after a step; a denied one changes nothing
+abbrev pub next_state : State → Step → State
+next_state state s = state_after state (next state s)
+
+-- the state after these steps
+unfoldable pub run_from : State → List Step → State
+run_from state [] = state
+run_from state (s ∷ steps) = run_from (next_state state s) steps
+
+-- the state of a machine after these steps
+abbrev pub run : Limits → List Step → State
+run limits steps = run_from (first_state limits) steps
+
+abbrev is_taken_step : Answer → Bool
+is_taken_step (Ok done) = true
+is_taken_step (Err refusal) = false
+
+-- the steps that were taken: all but the denied ones
+unfoldable pub taken_from : State → List Step → List Step
+taken_from state [] = []
+taken_from state (s ∷ steps) = if is_taken_step (next state s) then s ∷ taken_from (next_state state s) steps else taken_from (next_state state s) steps
+
+abbrev pub taken_steps : Limits → List Step → List Step
+taken_steps limits steps = taken_from (first_state limits) steps
+
+-- the limits are in range
+abbrev pub AreLimits : Limits → Type 0
+AreLimits limits = (2 ≤ limits.slots) × (limits.slots ≤ 65536) × (1 ≤ limits.actors) × (limits.actors ≤ 64)

@@ -1,0 +1,104 @@
+-- READ: gives the decided main node of an indirection. A main node may stand there undecided, pending over the one
+-- before it; whoever reads it decides it. On a writable handle it is committed where the root still has the
+-- indirection's generation, and else it fails; on a read-only handle it fails. In the place of a failed one the one
+-- before it is put back.
+use Rattle.std.specs.Prelude.{ℕ, ◌==◌, Bool, true, false, nat_eq, Option, Some, None}
+use Rattle.std.specs.Option.{option_eq}
+use Rattle.history.specs.declared.calls.Access.{Access}
+use Rattle.history.specs.declared.calls.Access.TheVariants.{Writable, ReadOnly}
+use Rattle.slot_arena.specs.declared.refs.Ref.{Ref}
+use Rattle.slot_arena.specs.declared.nodes.Prev.{Prev}
+use Rattle.slot_arena.specs.declared.nodes.Prev.TheVariants as prev
+use Rattle.machine_model.specs.declared.roots.RootWord.{RootWord}
+use Rattle.machine_model.specs.declared.roots.RootWord.TheVariants.{Plain, Offer}
+use Rattle.machine_model.specs.declared.reading.After.{After}
+use Rattle.machine_model.specs.declared.reading.After.TheVariants.{Goes, Gives}
+use Rattle.machine_model.specs.declared.reading.Read.{Read}
+use Rattle.machine_model.specs.declared.reading.ReadLine.{ReadLine}
+use Rattle.machine_model.specs.declared.reading.ReadLine.TheVariants as read
+use Rattle.machine_model.specs.declared.actions.Action.{Action}
+use Rattle.machine_model.specs.declared.actions.Action.TheVariants as act
+use Rattle.machine_model.specs.declared.operations.Operation.{Operation}
+use Rattle.machine_model.specs.Heaps.{Heap, main_at, prev_at, generation_at}
+use Rattle.machine_model.specs.Calls.{handle_of}
+use Rattle.machine_model.specs.States.{State, word_at}
+
+-- what its step does
+abbrev pub read_action : Ref → ReadLine → Action
+read_action indirection read.Main = act.ReadMain indirection
+read_action indirection (read.Prev main) = act.ReadPrev main
+read_action indirection (read.AskRoot main before) = act.ReadRoot
+read_action indirection (read.Abort main before offer) = act.Abort offer
+read_action indirection (read.Decide main before told) = act.Decide indirection main before told
+read_action indirection (read.Restore main before) = act.Restore indirection main before
+
+-- What comes after each line; the word that it reads stands last.
+
+-- after the prev word: a decided node is given, a failed one is replaced, a pending one is decided
+abbrev after_prev : Access → Ref → Prev → After ReadLine Ref
+after_prev access main prev.None = Gives main
+after_prev access main (prev.Failed before) = Goes (read.Restore main before)
+after_prev Writable main (prev.Pending before) = Goes (read.AskRoot main before)
+after_prev ReadOnly main (prev.Pending before) = Goes (read.Decide main before None)
+
+-- after the root word: its generation is told, or the offer that stands there is taken back first
+abbrev after_ask : Heap → Ref → Ref → RootWord → After ReadLine Ref
+after_ask heap main before (Plain root) = Goes (read.Decide main before (Some (generation_at heap root)))
+after_ask heap main before (Offer offer) = Goes (read.Abort main before offer)
+
+-- the root was told to have the indirection's generation
+abbrev pub is_licensed : Heap → Ref → Option ℕ → Bool
+is_licensed heap indirection told = option_eq nat_eq told (Some (generation_at heap indirection))
+
+abbrev is_pending : Prev → Ref → Bool
+is_pending prev.None before = false
+is_pending (prev.Failed p) before = false
+is_pending (prev.Pending p) before = p == before
+
+-- the main node is still pending over this one
+abbrev pub is_pending_over : Heap → Ref → Ref → Bool
+is_pending_over heap main before = is_pending (prev_at heap main) before
+
+-- after deciding, by whether it may commit and whether the node was still pending
+abbrev after_decide : Ref → Bool → Bool → After ReadLine Ref
+after_decide main true true = Gives main
+after_decide main true false = Goes (read.Prev main)
+after_decide main false pending = Goes read.Main
+
+-- after putting the node before back, by whether the failed one still stood there
+abbrev after_restore : Ref → Bool → After ReadLine Ref
+after_restore before true = Gives before
+after_restore before false = Goes read.Main
+
+-- what comes after a step of a READ on a handle of this kind, whose root word is this
+abbrev pub read_after : Heap → Access → RootWord → Ref → ReadLine → After ReadLine Ref
+read_after heap access word indirection read.Main = Goes (read.Prev (main_at heap indirection))
+read_after heap access word indirection (read.Prev main) = after_prev access main (prev_at heap main)
+read_after heap access word indirection (read.AskRoot main before) = after_ask heap main before word
+read_after heap access word indirection (read.Abort main before offer) = Goes (read.AskRoot main before)
+read_after heap access word indirection (read.Decide main before told) =
+    after_decide main (is_licensed heap indirection told) (is_pending_over heap main before)
+read_after heap access word indirection (read.Restore main before) = after_restore before (main_at heap indirection == main)
+
+abbrev at_indirection : Ref → After ReadLine Ref → After Read Ref
+at_indirection indirection (Goes line) = Goes (record { indirection = indirection; line = line })
+at_indirection indirection (Gives main) = Gives main
+
+-- what comes after a step of a READ of this operation
+abbrev pub read_step : State → Operation → Read → After Read Ref
+read_step state operation read =
+    at_indirection read.indirection (read_after state.heap operation.access (word_at state (handle_of operation.call)) read.indirection read.line)
+
+-- a READ at its first line
+abbrev pub reading : Ref → Read
+reading indirection = record { indirection = indirection; line = read.Main }
+
+abbrev committed_by : Heap → Ref → Ref → Bool → Bool → Option Ref
+committed_by heap indirection main true true = Some main
+committed_by heap indirection main licensed pending = None
+
+-- the main node that a step of a READ commits, if it does
+abbrev pub commits : Heap → Ref → ReadLine → Option Ref
+commits heap indirection (read.Decide main before told) =
+    committed_by heap indirection main (is_licensed heap indirection told) (is_pending_over heap main before)
+commits heap indirection line = None

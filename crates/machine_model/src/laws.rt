@@ -1,0 +1,24 @@
+//! Laws of the definition, for every list of steps.
+
+ghost use Rattle.machine_model.specs.Laws.{SlotsAddUp, RefusedForWantAlone, ReadersMakeNothing, TakenStepsSuffice};
+
+/// A law: the slots in use and the free ones are all slots.
+pub fn slots_add_up()
+    ensures { SlotsAddUp }
+{}
+
+/// A law: an operation is refused for want of slots only where its step before was to make a node, and no
+/// slot was free before that step.
+pub fn refused_for_want_alone()
+    ensures { RefusedForWantAlone }
+{}
+
+/// A law: an operation on a read-only handle makes no node.
+pub fn readers_make_nothing()
+    ensures { ReadersMakeNothing }
+{}
+
+/// A law: denied steps can be left out of a run.
+pub fn taken_steps_suffice()
+    ensures { TakenStepsSuffice }
+{}

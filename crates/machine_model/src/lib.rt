@@ -1,0 +1,37 @@
+//! The map's machine as a definition: `specs/` says what one atomic step does. The types here are what
+//! the definition speaks of.
+#![tactic(auto)]
+
+mod actions;
+mod building;
+mod copying;
+mod finding;
+mod heaps;
+mod laws;
+mod lines;
+mod operations;
+mod orders;
+mod reading;
+mod refs;
+mod repairs;
+mod roots;
+mod runs;
+mod steps;
+mod walking;
+
+pub use actions::Action;
+pub use building::{BuildLine, Change, Site};
+pub use copying::CopyLine;
+pub use finding::KeyLine;
+pub use heaps::{Closing, Slot, Zeroed};
+pub use laws::{readers_make_nothing, refused_for_want_alone, slots_add_up, taken_steps_suffice};
+pub use lines::{Line, Purpose};
+pub use operations::Operation;
+pub use orders::Place;
+pub use reading::{After, Read, ReadLine, Swap, SwapLine};
+pub use refs::Refs;
+pub use repairs::{CleanLine, Climb, ClimbLine, RenewLine};
+pub use roots::{Complete, CompleteLine, Descriptor, Root, RootLine, RootWord};
+pub use runs::{late_put, put_and_get, refused_for_want_of_slots};
+pub use steps::{Limits, Outcome, Step, Swept};
+pub use walking::WalkLine;

@@ -1,0 +1,31 @@
+//! Running operations.
+
+use crate::lines::Line;
+use crate::refs::Refs;
+use history::{Access, Call};
+
+/// An operation that an actor runs.
+#[derive(Drop)]
+pub struct Operation {
+    pub id: u64,
+    pub call: Call,
+    /// Of the handle on which it was called.
+    pub access: Access,
+    /// The epoch at its begin.
+    pub epoch: u64,
+    /// The slots that it made in its running try.
+    pub private: Refs,
+    /// The handle that it opens, for a snapshot or a freeze: reserved until it is marked.
+    pub opens: Option<u16>,
+    /// How often it has offered.
+    pub attempt: u64,
+    /// Its last offer was carried out.
+    pub is_marked: bool,
+    /// The generation of the root that ROOT gave last in its first line.
+    pub generation: u64,
+    /// The step of the last read or swap of a main word by a READ.
+    pub read_at: u64,
+    /// The first step from there on at which what its last READ gave was the logical main node.
+    pub moment: u64,
+    pub line: Line,
+}

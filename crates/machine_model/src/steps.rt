@@ -1,0 +1,50 @@
+//! Steps and their outcomes.
+
+use ctrie_base::{HashKind, Kind};
+use history::{Call, Reply};
+
+/// The sizes of a machine.
+#[derive(Clone, Copy, Debug, PartialEq, Eq)]
+pub struct Limits {
+    /// The number of slots, 2 to 65,536.
+    pub slots: u32,
+    /// The number of actors, 1 to 64.
+    pub actors: u8,
+    /// The hash of keys.
+    pub hash: HashKind,
+}
+
+/// One atomic step.
+#[derive(Clone, Copy, Debug, PartialEq, Eq)]
+pub enum Step {
+    /// The actor begins an operation.
+    Begin { actor: u8, call: Call },
+    /// The next step of the actor's operation.
+    Go { actor: u8 },
+    /// A step of the sweep.
+    Sweep,
+}
+
+/// What a sweep's step did.
+#[derive(Clone, Copy, Debug, PartialEq, Eq)]
+pub enum Swept {
+    /// Read an actor's record of the epoch, and passed it or not.
+    Scanned { passed: bool },
+    /// The epoch grew to this one.
+    Advanced(u64),
+    /// Freed a slot.
+    Freed,
+}
+
+/// What a step did.
+#[derive(Debug, Drop)]
+pub enum Outcome {
+    /// An operation with this id began.
+    Began(u64),
+    /// An operation went on, by a step of this kind.
+    Went(Kind),
+    /// The operation with this id ended with this reply.
+    Ended(u64, Reply),
+    /// A step of the sweep.
+    Swept(Swept),
+}
