@@ -1,4 +1,4 @@
--- Three short runs, worked out by hand.
+-- Three short runs, whose histories, orders and numbers were known from outside.
 use Rattle.std.specs.Prelude.{◌≡◌, ℕ, List, [], ◌∷◌, ◌++◌, length, replicate, Some, None}
 use Rattle.ctrie_base.specs.declared.hashes.HashKind.TheVariants.{Low}
 use Rattle.history.specs.declared.calls.Call.{Call}
