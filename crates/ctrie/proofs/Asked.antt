@@ -8,9 +8,8 @@ use Rattle.std.specs.Str.{bytes_eq}
 use Rattle.clap.specs.Kinds.{IsAmong, Kinds}
 use Rattle.clap.specs.Simple.{app_of_fields, on_top, subcommand_rows}
 use Rattle.clap.specs.Walk.{is_empty}
-use Rattle.clap.specs.Words.{AddsArg, AddsSubcommand, App, Row, Text, app_of, fault_of, first_of, is_simple, is_simple_and_free, new_app, rule_of, subcommand_of, with_rule, with_subcommand}
+use Rattle.clap.specs.Words.{AddsSubcommand, App, Row, Text, app_of, fault_of, first_of, is_simple, is_simple_and_free, new_app, subcommand_of, with_subcommand}
 use Rattle.clap.proofs.OnLiterals.{clap_on_literals}
-use Rattle.clap.specs.declared.builder.arg.Arg.{Arg}
 use Rattle.clap.specs.declared.builder.command.Command.TheViews.{out-Command as fields_of}
 use Rattle.clap.specs.declared.builder.command.Command.{Command}
 use Rattle.clap.specs.declared.error.kind.ErrorKind.{ErrorKind}
@@ -18,8 +17,9 @@ use Rattle.clap.specs.declared.error.kind.ErrorKind.TheVariants.{OutOfMemory}
 use Rattle.clap.specs.declared.parser.matches.SubCommand.{SubCommand}
 use Rattle.clap.specs.declared.parser.matches.ArgMatches.TheViews.{out-SubCommand}
 use Rattle.ctrie.specs.declared.arguments.Request.{Request}
+use Rattle.ctrie.specs.declared.arguments.Request.TheVariants.{Check, Run}
 use Rattle.ctrie.specs.declared.faults.Fault.TheVariants.{Usage}
-use Rattle.ctrie.specs.Requests.{Answers, checked_file, fault_for, file_of, file_rule, met, path_of, program, takes}
+use Rattle.ctrie.specs.Requests.{Answers, IsMatched, asked_file, fault_for, file_of, has_globals, met, program, takes, wants_file}
 
 -- the program's command is one whose parse is known
 pub program-is_simple : is_simple program ≡ true
@@ -31,15 +31,16 @@ unfolding program clap_on_literals
 program-is_simple_and_free = refl
 
 -- what the calls of the builders make
-pub program_built : (file : Arg) (c0 c1 p0 p1 p2 : Command) → file.global ≡ false → rule_of file ≡ file_rule → app_of c0 ≡ new_app (codes "check")
-    → AddsArg c0 file c1 → (fields_of c1).has_globals ≡ false → app_of p0 ≡ new_app (codes "ctrie")
-    → fields_of p1 ≡ record (fields_of p0) { subcommand_required = true } → AddsSubcommand p1 c1 p2 → app_of p2 ≡ program
+pub program_built : (run check p0 p1 p2 p3 : Command) → app_of run ≡ wants_file (codes "run") → has_globals run ≡ false
+    → app_of check ≡ wants_file (codes "check") → has_globals check ≡ false → app_of p0 ≡ new_app (codes "ctrie")
+    → fields_of p1 ≡ record (fields_of p0) { subcommand_required = true } → AddsSubcommand p1 run p2 → AddsSubcommand p2 check p3 → app_of p3 ≡ program
 unfolding program
-program_built file c0 c1 p0 p1 p2 local is_file is_check adds_file no_globals is_program wanted adds_check =
-    let check : app_of c1 ≡ with_rule (new_app (codes "check")) file_rule = adds_file.shape local ∙ ap₂ with_rule is_check is_file in
+program_built run check p0 p1 p2 p3 is_run run_local is_check check_local is_program wanted adds_run adds_check =
     let wants : app_of p1 ≡ on_top (λ s. record s { subcommand_required = true }) (new_app (codes "ctrie"))
     = ap app_of_fields wanted ∙ ap (on_top (λ s. record s { subcommand_required = true })) is_program in
-    adds_check.shape no_globals ∙ ap₂ with_subcommand wants (ap (λ (a : App). a.top) check)
+    let first : app_of p2 ≡ with_subcommand (on_top (λ s. record s { subcommand_required = true }) (new_app (codes "ctrie"))) (wants_file (codes "run")).top
+    = adds_run.shape run_local ∙ ap₂ with_subcommand wants (ap (λ (a : App). a.top) is_run) in
+    adds_check.shape check_local ∙ ap₂ with_subcommand first (ap (λ (a : App). a.top) is_check)
 
 -- the name of the subcommand that was met
 pub rows-name : {Z : Type 0} (sub : Option (Box SubCommand Z)) → option_map (λ s. s.0) (subcommand_rows sub) ≡ option_map (λ b. (out-SubCommand (box_value b)).name.now) sub
@@ -47,11 +48,11 @@ rows-name None = refl
 rows-name (Some b) = refl
 
 -- the file behind the subcommand that was met
-pub file_met : (subcommand : Option (Text × List Row)) (name : Text) (rows : List Row) (file : Option Text) → option_map (λ s. s.0) subcommand ≡ Some name
-    → option_map (λ s. s.1) subcommand ≡ Some rows → first_of (codes "FILE") rows ≡ file
-    → file_of (codes "check") subcommand ≡ (if bytes_eq name (codes "check") then file else None)
-file_met None name rows file is_name is_rows is_file = cc
-file_met (Some (n, r)) name rows file is_name is_rows is_file =
+pub file_met : (wanted : Text) (subcommand : Option (Text × List Row)) (name : Text) (rows : List Row) (file : Option Text)
+    → option_map (λ s. s.0) subcommand ≡ Some name → option_map (λ s. s.1) subcommand ≡ Some rows → first_of (codes "FILE") rows ≡ file
+    → file_of wanted subcommand ≡ (if bytes_eq name wanted then file else None)
+file_met wanted None name rows file is_name is_rows is_file = cc
+file_met wanted (Some (n, r)) name rows file is_name is_rows is_file =
     let same_name : n ≡ name = cc in
     let same_rows : r ≡ rows = cc in
     rw (same_name, same_rows, is_file) refl
@@ -73,21 +74,26 @@ met_by_rows app words rows same is = sym (subst (λ (a : App). rows ≡ subcomma
 
 -- a request that was found in the matches is what the words ask for
 pub answers_found : (words : List Text) (rows : Option (Text × List Row)) (found : Option Request) → takes words ≡ true → met words ≡ rows
-    → option_map path_of found ≡ file_of (codes "check") rows → Answers words (ok_or found Usage)
-answers_found words rows None taken is file = rw (taken, is) (sym file)
-answers_found words rows (Some request) taken is file = rw (taken, is) (sym file)
+    → IsMatched rows found → Answers words (ok_or found Usage)
+answers_found words rows None taken is (check, run) = (rw (taken, is) check, rw (taken, is) run)
+answers_found words rows (Some (Check path)) taken is file = rw (taken, is) file
+answers_found words rows (Some (Run path)) taken is file = rw (taken, is) file
 
-answers_nothing : (words : List Text) (k : ErrorKind) → checked_file words ≡ None → Answers words (Err (fault_for k))
-answers_nothing words OutOfMemory nothing = tt
-answers_nothing words other nothing = nothing
+-- words that the command doesn't take ask for nothing
+asks_nothing : (name : Text) (words : List Text) → takes words ≡ false → asked_file name words ≡ None
+asks_nothing name words refused = rw refused refl
 
-refused_words : (words : List Text) (k : ErrorKind) (kinds : Kinds) → IsAmong k kinds → takes words ≡ is_empty kinds → checked_file words ≡ None
+answers_refused : (words : List Text) (k : ErrorKind) → takes words ≡ false → Answers words (Err (fault_for k))
+answers_refused words OutOfMemory refused = tt
+answers_refused words other refused = (asks_nothing (codes "check") words refused, asks_nothing (codes "run") words refused)
+
+refused_words : (words : List Text) (k : ErrorKind) (kinds : Kinds) → IsAmong k kinds → takes words ≡ is_empty kinds → takes words ≡ false
 refused_words words k [] among taken = absurd among
-refused_words words k (x ∷ xs) among taken = rw (taken, eqb-suc-zero (length xs)) refl
+refused_words words k (x ∷ xs) among taken = taken ∙ eqb-suc-zero (length xs)
 
 -- a command that fails by a kind other than memory doesn't take the words
 pub answers_error : (app : App) (words : List Text) (k : ErrorKind) → app ≡ program → (k ≡ OutOfMemory) ⊎ IsAmong k (fault_of app words)
     → Answers words (Err (fault_for k))
 unfolding takes
 answers_error app words k same (inl memory) = subst (λ (j : ErrorKind). Answers words (Err (fault_for j))) (sym memory) tt
-answers_error app words k same (inr among) = answers_nothing words k (refused_words words k (fault_of app words) among (ap (λ (a : App). is_empty (fault_of a words)) (sym same)))
+answers_error app words k same (inr among) = answers_refused words k (refused_words words k (fault_of app words) among (ap (λ (a : App). is_empty (fault_of a words)) (sym same)))

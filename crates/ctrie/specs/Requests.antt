@@ -5,10 +5,12 @@ use Rattle.clap.specs.Simple.{on_top}
 use Rattle.clap.specs.Walk.{is_empty}
 use Rattle.clap.specs.Words.{App, Row, Rule, Text, fault_of, first_of, new_app, new_rule, subcommand_of, with_rule, with_subcommand}
 use Rattle.clap.specs.declared.builder.action.ArgAction.TheVariants.{Set}
+use Rattle.clap.specs.declared.builder.command.Command.{Command}
+use Rattle.clap.specs.declared.builder.command.Command.TheViews.{out-Command as fields_of}
 use Rattle.clap.specs.declared.error.kind.ErrorKind.{ErrorKind}
 use Rattle.clap.specs.declared.error.kind.ErrorKind.TheVariants as kind
 use Rattle.ctrie.specs.declared.arguments.Request.{Request}
-use Rattle.ctrie.specs.declared.arguments.Request.TheVariants.{Check}
+use Rattle.ctrie.specs.declared.arguments.Request.TheVariants.{Check, Run}
 use Rattle.ctrie.specs.declared.faults.Fault.{Fault}
 use Rattle.ctrie.specs.declared.faults.Fault.TheVariants.{Memory, Usage}
 
@@ -17,18 +19,24 @@ abbrev pub fault_for : ErrorKind → Fault
 fault_for kind.OutOfMemory = Memory
 fault_for other = Usage
 
--- the file of a request
-abbrev pub path_of : Request → Text
-path_of (Check path) = path.now
-
 -- the one file that a subcommand wants
 abbrev pub file_rule : Rule
 file_rule = record (new_rule (codes "FILE")) { required = true; action = Some Set }
 
+-- a subcommand of this name, which wants one file
+abbrev pub wants_file : Text → App
+wants_file name = with_rule (new_app name) file_rule
+
+-- whether an argument of the command is one of its subcommands too
+abbrev pub has_globals : Command → Bool
+has_globals command = (fields_of command).has_globals
+
 -- the program's command: a subcommand is wanted, and a file behind it
 unfoldable pub program : App
 program =
-    with_subcommand (on_top (λ s. record s { subcommand_required = true }) (new_app (codes "ctrie"))) (with_rule (new_app (codes "check")) file_rule).top
+    with_subcommand
+    (with_subcommand (on_top (λ s. record s { subcommand_required = true }) (new_app (codes "ctrie"))) (wants_file (codes "run")).top)
+    (wants_file (codes "check")).top
 
 -- the file behind the subcommand with this name, if it is the one that was met
 abbrev pub file_of : Text → Option (Text × List Row) → Option Text
@@ -42,13 +50,20 @@ takes words = is_empty (fault_of program words)
 unfoldable pub met : List Text → Option (Text × List Row)
 met words = subcommand_of program words
 
--- the file that the words want checked
-abbrev pub checked_file : List Text → Option Text
-checked_file words = if takes words then file_of (codes "check") (met words) else None
+-- the file that the words name behind this subcommand
+abbrev pub asked_file : Text → List Text → Option Text
+asked_file name words = if takes words then file_of name (met words) else None
 
 -- The request is what the words ask for, and a fault of usage comes only where they ask for nothing.
 abbrev pub Answers : List Text → Result Request Fault → Type 0
-Answers words (Ok request) = checked_file words ≡ Some (path_of request)
-Answers words (Err Usage) = checked_file words ≡ None
+Answers words (Ok (Check path)) = asked_file (codes "check") words ≡ Some path.now
+Answers words (Ok (Run path)) = asked_file (codes "run") words ≡ Some path.now
+Answers words (Err Usage) = (asked_file (codes "check") words ≡ None) × (asked_file (codes "run") words ≡ None)
 Answers words (Err Memory) = Unit {0}
 Answers words (Err fault) = ⊥
+
+-- the request is what the subcommand that was met asks for
+abbrev pub IsMatched : Option (Text × List Row) → Option Request → Type 0
+IsMatched subcommand (Some (Check path)) = file_of (codes "check") subcommand ≡ Some path.now
+IsMatched subcommand (Some (Run path)) = file_of (codes "run") subcommand ≡ Some path.now
+IsMatched subcommand None = (file_of (codes "check") subcommand ≡ None) × (file_of (codes "run") subcommand ≡ None)

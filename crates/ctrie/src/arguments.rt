@@ -1,13 +1,13 @@
 //! The program's words.
 
-ghost use Rattle.std.specs.Prelude.{◌≡◌, codes, map, option_map};
-ghost use Rattle.clap.specs.Words.{kind_of, subcommand_rows_of};
-ghost use Rattle.ctrie.specs.Requests.{Answers, file_of, path_of, fault_for};
+ghost use Rattle.std.specs.Prelude.{◌≡◌, map, false, IfOk};
+ghost use Rattle.clap.specs.Words.{app_of, kind_of, subcommand_rows_of};
+ghost use Rattle.ctrie.specs.Requests.{Answers, IsMatched, wants_file, has_globals, fault_for};
 
 use crate::faults::Fault;
 use clap::error::ErrorKind;
 use clap::{Arg, ArgAction, ArgMatches};
-use std::alloc::Global;
+use std::alloc::{AllocError, Global};
 use std::convert::AsStr;
 
 /// What the program is asked to do.
@@ -15,6 +15,8 @@ use std::convert::AsStr;
 pub enum Request<'a> {
     /// To check the order of the history in this file.
     Check(&'a str),
+    /// To run the script in this file.
+    Run(&'a str),
 }
 
 /// Want of memory, or words that are no command or ask for help.
@@ -29,15 +31,28 @@ fn fault_of(error: &clap::Error) -> Fault
 
 /// The request that the matches make.
 fn matched<'a>(matches: &ArgMatches<'a>) -> Option<Request<'a>>
-    ensures { option_map path_of result ≡ file_of (codes "check") (subcommand_rows_of matches.now) }
+    ensures { IsMatched (subcommand_rows_of matches.now) result }
 {
     let (name, found) = matches.subcommand()?;
     let path = found.get_str("FILE")?;
     if name == "check" {
         Some(Request::Check(path))
+    } else if name == "run" {
+        Some(Request::Run(path))
     } else {
         None
     }
+}
+
+/// A subcommand that wants one file.
+fn wants_file<'a>(alloc: Global, name: &'a str) -> Result<clap::Command<'a>, AllocError>
+    ensures app { IfOk result (λ command. app_of command ≡ wants_file name.entry.now) }
+    ensures local { IfOk result (λ command. has_globals command ≡ false) }
+{
+    let file = Arg::new(alloc, "FILE")
+        .required(true)
+        .action(ArgAction::Set);
+    clap::Command::new(alloc, name).arg(file)
 }
 
 /// The request that the words make, of which the first is the program's name. It is refused by `Usage`
@@ -45,12 +60,11 @@ fn matched<'a>(matches: &ArgMatches<'a>) -> Option<Request<'a>>
 pub fn request_of<'a, S: AsStr>(alloc: Global, words: &'a [S]) -> Result<Request<'a>, Fault>
     ensures { Answers (map S.text words.entry.now) result }
 {
-    let file = Arg::new(alloc, "FILE")
-        .required(true)
-        .action(ArgAction::Set);
-    let check = clap::Command::new(alloc, "check").arg(file)?;
+    let run = wants_file(alloc, "run")?;
+    let check = wants_file(alloc, "check")?;
     let program = clap::Command::new(alloc, "ctrie")
         .subcommand_required(true)
+        .subcommand(run)?
         .subcommand(check)?;
     match program.try_get_matches_from(words) {
         Ok(matches) => matched(&matches).ok_or(Fault::Usage),

@@ -1,4 +1,4 @@
-//! The program `ctrie`: a map's histories, judged.
+//! The program `ctrie`: scripts for a map, run, and histories of a map, judged.
 #![tactic(auto)]
 
 mod arguments;
@@ -7,6 +7,9 @@ mod counting;
 mod faults;
 mod program;
 mod reading;
+mod reports;
+mod running;
+mod stepping;
 mod writing;
 
 use std::process::ExitCode;

@@ -1,13 +1,15 @@
 //! The program: its words, its files and its exit status.
 
-ghost use Rattle.std.specs.Prelude.{◌≡◌, ◌≢◌, ◌≤◌, ◌⊎◌, IfErr};
+ghost use Rattle.std.specs.Prelude.{◌≡◌, ◌≢◌, ◌≤◌, ◌⊎◌, IfOk, IfErr};
 ghost use Rattle.std.specs.IoError.{error_kind};
+ghost use Rattle.ctrie.specs.Counts.{failures};
 ghost use Rattle.ctrie.specs.Faults.{exit_status_of};
 
 use crate::arguments::{Request, request_of};
 use crate::checking::check_history;
 use crate::counting::Counted;
 use crate::faults::Fault;
+use crate::running::run_script;
 use std::fs::File;
 use std::io::ErrorKind;
 use std::rt::{Env, Files};
@@ -25,7 +27,8 @@ pub fn run<R: AllocGlobal + Env + Files + Print + Eprint>(rt: &R) -> u8
     exit_status(&outcome)
 }
 
-/// 0 for a legal order, 3 for another, else what the fault tells.
+/// 0 for a script that was carried out and for a legal order, 3 for another order, else what the fault
+/// tells.
 pub fn exit_status(outcome: &Result<bool, Fault>) -> u8
     ensures { result ≡ exit_status_of outcome.now }
 {
@@ -40,6 +43,10 @@ fn carry_out<R: AllocGlobal + Env + Files + Print>(rt: &R) -> Result<bool, Fault
     let words = words_of(rt)?;
     match request_of(rt.alloc(), words.as_slice())? {
         Request::Check(path) => check_file(rt, path),
+        Request::Run(path) => {
+            run_file(rt, path)?;
+            Ok(true)
+        }
     }
 }
 
@@ -57,13 +64,29 @@ fn words_of<R: AllocGlobal + Env>(rt: &R) -> Result<Vec<String>, Fault>
 pub fn check_file<R: AllocGlobal + Files + Print>(rt: &R, path: &str) -> Result<bool, Fault>
     ensures { result ≢ Err Fault.Usage }
 {
-    let file = match File::open(rt, path) {
-        Ok(file) => file,
-        Err(error) => return Err(fault_of(&error, Fault::Read)),
-    };
-    let mut input = Counted::new(file);
+    let mut input = opened(rt, path)?;
     let mut output = Counted::new(io::writer(rt));
     check_history(rt.alloc(), &mut input, &mut output)
+}
+
+/// Runs the script in this file, and writes the report to standard output.
+pub fn run_file<R: AllocGlobal + Files + Print>(rt: &R, path: &str) -> Result<(), Fault>
+    ensures { result ≢ Err Fault.Usage }
+{
+    let mut input = opened(rt, path)?;
+    let mut output = Counted::new(io::writer(rt));
+    run_script(rt.alloc(), &mut input, &mut output)
+}
+
+/// The file, of which no call has failed.
+fn opened<R: Files>(rt: &R, path: &str) -> Result<Counted<R::File>, Fault>
+    ensures none { IfOk result (λ input. failures input ≡ 0) }
+    ensures faults { result ≢ Err Fault.Usage }
+{
+    match File::open(rt, path) {
+        Ok(file) => Ok(Counted::new(file)),
+        Err(error) => Err(fault_of(&error, Fault::Read)),
+    }
 }
 
 /// Want of memory, or another fault.

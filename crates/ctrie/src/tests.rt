@@ -1,16 +1,20 @@
-//! Checks of histories by their bytes, with readers and writers that fail, and the program's words.
+//! Checks of histories and runs of scripts by their bytes, with readers and writers that fail, and the
+//! program's words.
 
 mod fakes;
 mod rows;
+mod scripts;
 
 use crate::arguments::{Request, request_of};
 use crate::checking::check_history;
 use crate::counting::Counted;
 use crate::faults::Fault;
-use crate::program::{check_file, exit_status};
+use crate::program::{check_file, exit_status, run_file};
+use crate::running::run_script;
 use ctrie_base::Refusal;
 use fakes::{Failure, NEVER, Sink, Source};
 use rows::ROWS;
+use scripts::CASES;
 use std::alloc::AllocError;
 use std::io::{ErrorKind, Read, Write};
 use std::test::Fail;
@@ -109,6 +113,100 @@ fn tells_write_faults(rt: HostRuntime) -> Result<(), Fail> {
     Ok(())
 }
 
+/// A machine without a step, and its report.
+const NOTHING: &str = "slots 2\nhash low\nactors 1\n";
+
+const REPORT_OF_NOTHING: &str = "hash low\norder\nslots used 2 free 0 limbo 0\n";
+
+/// Every script in one piece, and byte by byte to a writer that takes one byte a call.
+#[test]
+fn runs_scripts(rt: HostRuntime) -> Result<(), Fail> {
+    for case in CASES.split("==\n") {
+        let (script, wanted) = case.split_once("=\n").ok_or("no line `=`")?;
+        for most in [1, 8192] {
+            let mut input = Counted::new(Source::new(script.as_bytes(), most, NEVER));
+            let mut sink = Sink::new(Vec::new(rt.alloc()), most, NEVER, false);
+            let mut output = Counted::new(&mut sink);
+            match run_script(rt.alloc(), &mut input, &mut output) {
+                Ok(()) => assert!(rt; sink.taken.as_slice() == wanted.as_bytes(), "{script}"),
+                Err(fault) => {
+                    let told = format!(in rt.alloc(); "{fault}\n")?;
+                    assert!(rt; told.as_str() == wanted, "{script}");
+                    assert!(rt; sink.taken.is_empty(), "{script}");
+                }
+            }
+        }
+    }
+    Ok(())
+}
+
+/// Handles are opened until no number is left, and one of them again after a close.
+#[test]
+fn opens_all_handles(rt: HostRuntime) -> Result<(), Fail> {
+    let mut script = String::from_str(rt.alloc(), "slots 1024\nhash low\nactors 1\n")?;
+    let mut report = String::from_str(rt.alloc(), "hash low\n")?;
+    let mut order = String::from_str(rt.alloc(), "order")?;
+    for id in 0..255_u32 {
+        script.push_str("do 1 freeze 0\n")?;
+        let handle = id + 1;
+        writeln!(report, "begin {id} 1 freeze 0 as {handle}")?;
+        writeln!(report, "end {id} handle {handle}")?;
+        write!(order, " {id}")?;
+    }
+    script.push_str("do 1 freeze 0\ndo 1 close 255\ndo 1 freeze 0\n")?;
+    report.push_str("denied 1 4 HandlesFull\nbegin 255 1 close 255\nend 255 closed\n")?;
+    report.push_str("begin 256 1 freeze 0 as 255\nend 256 handle 255\n")?;
+    writeln!(report, "{} 255 256", order.as_str())?;
+    report.push_str("slots used 258 free 766 limbo 1\n")?;
+    let mut input = Counted::new(script.as_bytes());
+    let mut written = Vec::new(rt.alloc());
+    let mut output = Counted::new(&mut written);
+    let found = run_script(rt.alloc(), &mut input, &mut output);
+    assert_eq!(rt; found, Ok(()));
+    assert!(rt; written.as_slice() == report.as_bytes());
+    Ok(())
+}
+
+/// The reader of a script fails at each of its calls in turn, the last at the end.
+#[test]
+fn tells_read_faults_of_scripts(rt: HostRuntime) {
+    for call in 1..=7 {
+        let failure = Failure {
+            call,
+            kind: ErrorKind::Other,
+        };
+        let mut input = Counted::new(Source::new(NOTHING.as_bytes(), 5, failure));
+        let mut written = Vec::new(rt.alloc());
+        let mut output = Counted::new(&mut written);
+        let found = run_script(rt.alloc(), &mut input, &mut output);
+        assert_eq!(rt; found, Err(Fault::Read), "call {call}");
+        assert_eq!(rt; input.failed(), 1);
+        assert!(rt; written.is_empty(), "call {call}");
+    }
+}
+
+/// The writer of a report takes one byte a call, and fails or takes none at each call in turn, the last
+/// a flush.
+#[test]
+fn tells_write_faults_of_scripts(rt: HostRuntime) {
+    for is_silent in [false, true] {
+        for call in 1..=44 {
+            let failure = Failure {
+                call,
+                kind: ErrorKind::Other,
+            };
+            let mut input = Counted::new(NOTHING.as_bytes());
+            let mut sink = Sink::new(Vec::new(rt.alloc()), 1, failure, is_silent);
+            let mut output = Counted::new(&mut sink);
+            let found = run_script(rt.alloc(), &mut input, &mut output);
+            assert_eq!(rt; found, Err(Fault::Write), "call {call}");
+            let report = REPORT_OF_NOTHING.as_bytes();
+            assert!(rt; sink.taken.len() as u64 == call - 1, "call {call}");
+            assert!(rt; report.starts_with(sink.taken.as_slice()), "call {call}");
+        }
+    }
+}
+
 /// A call that fails counts, a write or a flush too, and a write that takes no byte.
 #[test]
 fn counts_failed_calls(rt: HostRuntime) -> Result<(), Fail> {
@@ -163,6 +261,10 @@ fn reads_words(rt: HostRuntime) -> Result<(), Fail> {
     let rows = [
         ("ctrie check a.history", Ok(Request::Check("a.history"))),
         ("ctrie check -- -a", Ok(Request::Check("-a"))),
+        ("ctrie run a.script", Ok(Request::Run("a.script"))),
+        ("ctrie run check", Ok(Request::Run("check"))),
+        ("ctrie run", Err(Fault::Usage)),
+        ("ctrie run a b", Err(Fault::Usage)),
         ("ctrie", Err(Fault::Usage)),
         ("ctrie check", Err(Fault::Usage)),
         ("ctrie check a b", Err(Fault::Usage)),
@@ -190,4 +292,5 @@ fn reads_words(rt: HostRuntime) -> Result<(), Fail> {
 #[test]
 fn misses_a_file(rt: HostRuntime) {
     assert_eq!(rt; check_file(&rt, "no-such.history"), Err(Fault::Read));
+    assert_eq!(rt; run_file(&rt, "no-such.script"), Err(Fault::Read));
 }

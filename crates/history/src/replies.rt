@@ -1,7 +1,8 @@
 //! The replies to calls.
 
-ghost use Rattle.std.specs.Prelude.{◌≡◌, ◌↔◌, List, ℕ, IsTrue};
+ghost use Rattle.std.specs.Prelude.{◌≡◌, ◌↔◌, ◌++◌, ◌∷◌, [], List, ℕ, IsTrue, IfOk};
 
+use std::alloc::{AllocError, Global};
 use std::marker::Model;
 
 /// Pairs of a key and its value.
@@ -40,6 +41,29 @@ impl Pairs {
         self.items.as_slice()
     }
 
+    /// A copy.
+    pub fn copy(&self) -> Result<Pairs, AllocError>
+        ensures { IfOk result (λ copy. copy ≡ self.now) }
+    {
+        let mut items = Vec::new(self.allocator());
+        items.extend_from_slice(self.as_slice())?;
+        Ok(Pairs { items })
+    }
+
+    /// A copy with one pair more, at its end.
+    pub fn with(&self, key: u64, value: u64) -> Result<Pairs, AllocError>
+        ensures { IfOk result (λ copy. copy ≡ self.now ++ (key, value) ∷ []) }
+    {
+        let mut copy = self.copy()?;
+        copy.items.push((key, value))?;
+        Ok(copy)
+    }
+
+    /// Where their memory comes from.
+    pub fn allocator(&self) -> Global {
+        *self.items.allocator()
+    }
+
     /// Whether the two are the same pairs.
     pub fn is_same(&self, other: &Pairs) -> bool
         ensures { IsTrue result ↔ (self.now ≡ other.now) }
@@ -72,6 +96,23 @@ pub enum Reply {
 }
 
 impl Reply {
+    /// A copy.
+    pub fn copy(&self) -> Result<Reply, AllocError>
+        ensures { IfOk result (λ copy. copy ≡ self.now) }
+    {
+        Ok(match self {
+            Reply::Found(value) => Reply::Found(*value),
+            Reply::Truth(truth) => Reply::Truth(*truth),
+            Reply::Crowded => Reply::Crowded,
+            Reply::Opened(handle) => Reply::Opened(*handle),
+            Reply::Closed => Reply::Closed,
+            Reply::Cleared => Reply::Cleared,
+            Reply::Pairs(pairs) => Reply::Pairs(pairs.copy()?),
+            Reply::Count(count) => Reply::Count(*count),
+            Reply::NoSlots => Reply::NoSlots,
+        })
+    }
+
     /// Whether the two are the same reply.
     pub fn is_same(&self, other: &Reply) -> bool
         ensures { IsTrue result ↔ (self.now ≡ other.now) }

@@ -73,7 +73,8 @@ fn call_of_four(name: Option<CallName>, handle: &[u8], third: &[u8], fourth: &[u
     call_on_pair(name, both(handle_word(handle), pair))
 }
 
-fn opens(name: Option<CallName>) -> bool
+/// Whether a call of this name opens a handle.
+pub fn opens(name: Option<CallName>) -> bool
     ensures { result ≡ opens name }
 {
     matches!(name, Some(CallName::Snapshot | CallName::Freeze))

@@ -13,9 +13,13 @@ mod reply_words;
 mod words;
 
 pub use call_text::CallText;
+pub use call_words::{call_of, opens};
 pub use event_text::{EventText, OrderText};
-pub use reading::{Given, Told, read_history};
+pub use lines::header_of;
+pub use names::CallName;
+pub use reading::{Given, Told, first_line, is_ignored, read_history};
 pub use reply_text::ReplyText;
+pub use words::{actor_word, both, cut, handle_word, number_word};
 
 #[cfg(test)]
 mod tests;

@@ -140,7 +140,8 @@ fn last_line(read: Given, name: Option<LineName>) -> Result<Progress, Refusal>
     }
 }
 
-fn is_ignored(line: &[u8]) -> bool
+/// Whether the line is empty or begins with `#`.
+pub fn is_ignored(line: &[u8]) -> bool
     ensures { result ≡ is_ignored line.now }
 {
     match line {
@@ -174,8 +175,8 @@ fn line_end(text: &[u8]) -> Option<usize>
     text.iter().position(|b| *b == b'\n')
 }
 
-// The first line, and the text behind it.
-fn first_line(text: &[u8]) -> (&[u8], &[u8])
+/// The first line of a text that isn't empty, and the text behind it.
+pub fn first_line(text: &[u8]) -> (&[u8], &[u8])
     requires { 0 < length text.now }
     ensures lines { lines_of text.now ≡ result.0.now ∷ lines_of result.1.now }
     ensures shorter { length result.1.now < length text.now }

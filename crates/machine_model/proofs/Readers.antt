@@ -16,7 +16,8 @@ use Rattle.machine_model.specs.declared.walking.WalkLine.{WalkLine}
 use Rattle.machine_model.specs.declared.steps.Limits.{Limits}
 use Rattle.machine_model.specs.declared.steps.Step.{Step}
 use Rattle.machine_model.specs.States.{State, operation_of}
-use Rattle.machine_model.specs.Calls.{needs_writable, inserts, when_found, Answers}
+use Rattle.machine_model.specs.Calls.{needs_writable, inserts, when_found}
+use Rattle.machine_model.specs.declared.finding.WhenFound.TheVariants.{Answers}
 use Rattle.machine_model.specs.Operations.{kind_of, line_action, line_after, first_line, action_of}
 use Rattle.machine_model.specs.Finding.{key_action, key_after}
 use Rattle.machine_model.specs.Walking.{walk_action, walk_after}

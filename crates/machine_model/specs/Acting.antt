@@ -41,11 +41,11 @@ abbrev pub offered : State → ℕ → Descriptor → State
 offered state handle offer = if_changed (is_plain (word_at state handle) offer.current) (with_word state handle (Offer offer)) state
 
 -- the root that an offer opens: writable over a root of its own, read-only over the old one
-abbrev opened_root : Descriptor → Option Ref → Root
+abbrev pub opened_root : Descriptor → Option Ref → Root
 opened_root offer (Some second) = record { access = Writable; word = Plain second }
 opened_root offer None = record { access = ReadOnly; word = Plain offer.current }
 
-abbrev opened : State → Descriptor → Option ℕ → State
+abbrev pub opened : State → Descriptor → Option ℕ → State
 opened state offer None = state
 opened state offer (Some handle) = with_root state handle (Some (opened_root offer offer.second))
 
@@ -55,7 +55,7 @@ marked id (Some operation) = Some (if operation.id == id then record operation {
 
 -- The offer is carried out: the new root stands, the handle is open, the old root's generation is closed, the operation
 -- that offered is marked and enters the order.
-abbrev carried_out : State → ℕ → Descriptor → State
+abbrev pub carried_out : State → ℕ → Descriptor → State
 carried_out state handle offer =
     let swapped = opened (with_word state handle (Plain offer.fresh)) offer offer.opens in
     record swapped {
@@ -72,15 +72,15 @@ completed state handle offer main =
 -- ---- main words and prev words
 
 -- a fresh main node comes to stand in the place of the replaced one, pending over it
-abbrev published : Heap → Ref → Ref → Ref → Heap
+abbrev pub published : Heap → Ref → Ref → Ref → Heap
 published heap indirection replaced fresh =
     if_changed (main_at heap indirection == replaced) (with_prev (with_main heap indirection fresh) fresh (prev.Pending replaced)) heap
 
-abbrev restored : Heap → Ref → Ref → Ref → Heap
+abbrev pub restored : Heap → Ref → Ref → Ref → Heap
 restored heap indirection main before = if_changed (main_at heap indirection == main) (with_main heap indirection before) heap
 
 -- a pending main node is committed with a licence, else it fails
-abbrev decided : Heap → Ref → Ref → Ref → Option ℕ → Heap
+abbrev pub decided : Heap → Ref → Ref → Ref → Option ℕ → Heap
 decided heap indirection main before told =
     if_changed (is_pending_over heap main before)
     (with_prev heap main (if_changed (is_licensed heap indirection told) prev.None (prev.Failed before))) heap
@@ -109,13 +109,13 @@ acted state handle (act.End answer) = state
 
 -- ---- what it does to the operation
 
-abbrev with_made : List Ref → Option Ref → List Ref
+abbrev pub with_made : List Ref → Option Ref → List Ref
 with_made private None = []
 with_made private (Some made) = private ++ made ∷ []
 
 -- The private list holds the slots that the operation made in its running try. It is emptied where the last of them is
 -- swapped in or offered, whether that succeeds or not, and where no slot is free.
-abbrev private_after : State → List Ref → Action → List Ref
+abbrev pub private_after : State → List Ref → Action → List Ref
 private_after state private (act.Make node) = with_made private (next_ref state.heap)
 private_after state private (act.MakeRoot main) = with_made private (next_ref state.heap)
 private_after state private (act.Publish indirection replaced fresh) = []
@@ -123,11 +123,11 @@ private_after state private (act.Offer offer) = []
 private_after state private action = private
 
 -- how often the operation has offered; each offer takes its mark away
-abbrev attempt_after : ℕ → Action → ℕ
+abbrev pub attempt_after : ℕ → Action → ℕ
 attempt_after attempt (act.Offer offer) = attempt + 1
 attempt_after attempt action = attempt
 
-abbrev mark_after : Bool → Action → Bool
+abbrev pub mark_after : Bool → Action → Bool
 mark_after mark (act.Offer offer) = false
 mark_after mark action = mark
 
@@ -148,21 +148,21 @@ operation_after state operation =
 -- ---- what it does to the order
 
 -- the operation swaps this main node in, for a change of its key
-abbrev swaps_in : Ref → Line → Bool
+abbrev pub swaps_in : Ref → Line → Bool
 swaps_in main (line.Swap (purpose.Update path before) s) = s.fresh == main
 swaps_in main line' = false
 
-abbrev entered_by : State → Ref → Option Operation → List Place
+abbrev pub entered_by : State → Ref → Option Operation → List Place
 entered_by state main None = []
 entered_by state main (Some operation) =
     if swaps_in main operation.line then place_of state operation state.steps false ∷ [] else []
 
 -- at a commit the operation whose change it is enters the order, whoever takes the step
-abbrev entered : State → Option Ref → List Place
+abbrev pub entered : State → Option Ref → List Place
 entered state None = []
 entered state (Some main) = flat_map (entered_by state main) state.actors
 
-abbrev commits_after : State → Option Ref → List ℕ
+abbrev pub commits_after : State → Option Ref → List ℕ
 commits_after state None = state.commits
 commits_after state (Some main) = slice_set state.commits (slot_of main) state.steps
 
@@ -174,7 +174,7 @@ gone state actor operation =
     acted (with_operation noted actor (Some (operation_after state operation))) (handle_of operation.call) (action_of state operation)
 
 -- an operation that was answered and changed nothing enters the order at its end
-abbrev entered_at_end : State → Operation → Reply → List Place
+abbrev pub entered_at_end : State → Operation → Reply → List Place
 entered_at_end state operation reply.NoSlots = []
 entered_at_end state operation answer = if is_placed state operation.id then [] else place_of state operation operation.moment true ∷ []
 

@@ -25,14 +25,14 @@ use Rattle.machine_model.specs.Swapping.{swapping}
 
 -- ---- a main node after a change; flag is that of the call's key
 
-abbrev changed_branch : ℕ → ℕ → List Ref → Change → Node
+abbrev pub changed_branch : ℕ → ℕ → List Ref → Change → Node
 changed_branch flag bitmap entries (change.Insert single) = Branch (bit_or bitmap flag) (entries_from (insert entries (position_of flag bitmap) single))
 changed_branch flag bitmap entries (change.Update position entry) = Branch bitmap (entries_from (slice_set entries position entry))
 changed_branch flag bitmap entries (change.Remove position) = Branch (bit_xor bitmap flag) (entries_from (remove entries position))
 changed_branch flag bitmap entries (change.Entomb single) = Tomb single
 
 -- a new single stands at a list's end
-abbrev changed_list : List Ref → Change → Node
+abbrev pub changed_list : List Ref → Change → Node
 changed_list singles (change.Insert single) = Listed (entries_from (singles ++ single ∷ []))
 changed_list singles (change.Update position single) = Listed (entries_from (slice_set singles position single))
 changed_list singles (change.Remove position) = Listed (entries_from (remove singles position))
@@ -45,12 +45,12 @@ changed flag node c = node
 
 -- ---- two singles whose paths part below: the node of both, and a chain of indirections and branches down to it
 
-abbrev key_in : Node → ℕ
+abbrev pub key_in : Node → ℕ
 key_in (Single k v) = k
 key_in node = 0
 
 -- the first of so many depths at which the hashes have different indices, or the depth after these
-abbrev parting : ℕ → ℕ → ℕ → ℕ → ℕ
+abbrev pub parting : ℕ → ℕ → ℕ → ℕ → ℕ
 parting zero a b depth = depth
 parting (suc left) a b depth = if index_in a depth == index_in b depth then parting left a b (depth + 1) else depth
 
@@ -58,17 +58,17 @@ parting (suc left) a b depth = if index_in a depth == index_in b depth then part
 abbrev pub pair_depth : State → ℕ → ℕ → ℕ → ℕ
 pair_depth state a b depth = parting (list_depth state.limits.hash - (depth + 1)) a b (depth + 1)
 
-abbrev by_index : ℕ → ℕ → Ref → Ref → List Ref
+abbrev pub by_index : ℕ → ℕ → Ref → Ref → List Ref
 by_index a b x y = if nat_lt a b then x ∷ y ∷ [] else y ∷ x ∷ []
 
 -- the main node of two singles at a depth: a branch, and below all levels a list, the older one first
-abbrev pair : State → ℕ → ℕ → ℕ → Ref → Ref → Node
+abbrev pub pair : State → ℕ → ℕ → ℕ → Ref → Ref → Node
 pair state depth old_hash hash old single =
     if depth == list_depth state.limits.hash then Listed (entries_from (old ∷ single ∷ []))
     else Branch (bit_or (flag_of old_hash depth) (flag_of hash depth)) (entries_from (by_index (index_in old_hash depth) (index_in hash depth) old single))
 
 -- the hash of the single at a position of a branch
-abbrev old_hash : State → Ref → ℕ → ℕ
+abbrev pub old_hash : State → Ref → ℕ → ℕ
 old_hash state main position = key_hash state (key_in (node_at state.heap (entry_at state.heap main position)))
 
 -- ---- what its step does
@@ -85,25 +85,25 @@ build_action state operation (build.Main path main c before) =
 
 -- ---- what comes after it, with the slot that was made
 
-abbrev after_single : State → Operation → List Ref → Ref → Option ℕ → Site → Ref → Line
+abbrev pub after_single : State → Operation → List Ref → Ref → Option ℕ → Site → Ref → Line
 after_single state operation path main before site.Absent made = line.Build (build.Main path main (change.Insert made) before)
 after_single state operation path main before (site.At position) made = line.Build (build.Main path main (change.Update position made) before)
 after_single state operation path main before (site.Beside position) made =
     line.Build (build.Pair path main position made (pair_depth state (old_hash state main position) (hash_in state operation) (depth_of path)))
 
 -- the topmost indirection goes into the main node, any other into a branch one higher
-abbrev after_link : List Ref → Ref → ℕ → ℕ → Ref → Line
+abbrev pub after_link : List Ref → Ref → ℕ → ℕ → Ref → Line
 after_link path main position depth made =
     if depth == depth_of path + 1 then line.Build (build.Main path main (change.Update position made) None) else line.Build (build.Rung path main position made (depth - 1))
 
-abbrev after_made : State → Operation → BuildLine → Ref → Line
+abbrev pub after_made : State → Operation → BuildLine → Ref → Line
 after_made state operation (build.Single path main site before) made = after_single state operation path main before site made
 after_made state operation (build.Pair path main position single depth) made = line.Build (build.Link path main position made depth)
 after_made state operation (build.Link path main position below depth) made = after_link path main position depth made
 after_made state operation (build.Rung path main position below depth) made = line.Build (build.Link path main position made depth)
 after_made state operation (build.Main path main c before) made = line.Swap (purpose.Update path before) (swapping (current path) main made)
 
-abbrev if_made : State → Operation → BuildLine → Option Ref → Line
+abbrev pub if_made : State → Operation → BuildLine → Option Ref → Line
 if_made state operation step None = line.End reply.NoSlots
 if_made state operation step (Some made) = after_made state operation step made
 

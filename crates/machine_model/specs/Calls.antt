@@ -4,6 +4,8 @@ use Rattle.history.specs.declared.calls.Call.{Call}
 use Rattle.history.specs.declared.calls.Call.TheVariants.{Get, Put, PutIfAbsent, Replace, ReplaceIf, Remove, RemoveIf, Clear, Snapshot, Freeze, Close, Entries, Count}
 use Rattle.history.specs.declared.replies.Reply.{Reply}
 use Rattle.history.specs.declared.replies.Reply.TheVariants as reply
+use Rattle.machine_model.specs.declared.finding.WhenFound.{WhenFound}
+use Rattle.machine_model.specs.declared.finding.WhenFound.TheVariants.{Answers, Sets, Removes}
 
 -- the handle on which a call is made
 abbrev pub handle_of : Call → ℕ
@@ -82,13 +84,7 @@ changed_reply (ReplaceIf h k a b) before = reply.Truth true
 changed_reply (RemoveIf h k v) before = reply.Truth true
 changed_reply call before = reply.Found before
 
--- What a call does where its key has a value: it answers, sets another one, or removes it.
-pub data WhenFound : Type 0 where
-  Answers : Reply → WhenFound
-  Sets : WhenFound
-  Removes : WhenFound
-
-abbrev answers_unless : Bool → WhenFound → WhenFound
+abbrev pub answers_unless : Bool → WhenFound → WhenFound
 answers_unless true todo = todo
 answers_unless false todo = Answers (reply.Truth false)
 

@@ -26,17 +26,17 @@ use Rattle.machine_model.specs.Renewing.{next_entry, branch_of}
 use Rattle.machine_model.specs.Finding.{anew}
 
 -- the next entry after those that are done; where all are, the new main node, if an entry changed
-abbrev clean_next : State → List Ref → Ref → List Ref → Line
+abbrev pub clean_next : State → List Ref → Ref → List Ref → Line
 clean_next state path main done =
     if nat_lt (length done) (length (entries_of (node_at state.heap main))) then line.Clean (clean.Entry path main done)
     else (if pointwise nat_eq done (entries_of (node_at state.heap main)) then anew else line.Clean (clean.Contracted path main done))
 
-abbrev is_single : Node → Bool
+abbrev pub is_single : Node → Bool
 is_single (Single k v) = true
 is_single node = false
 
 -- below the root a tomb where one single is left, else the branch with these entries
-abbrev contracted : State → List Ref → Ref → List Ref → Node
+abbrev pub contracted : State → List Ref → Ref → List Ref → Node
 contracted state path main (single ∷ []) =
     if is_below_root path && is_single (node_at state.heap single) then Tomb single else branch_of state main (single ∷ [])
 contracted state path main entries = branch_of state main entries
@@ -50,30 +50,30 @@ clean_action state (clean.Child path main done read) = read_action read.indirect
 clean_action state (clean.Tomb path main done child) = act.Look child
 clean_action state (clean.Contracted path main done) = act.Make (contracted state path main done)
 
-abbrev after_read : List Ref → After Read Ref → Line
+abbrev pub after_read : List Ref → After Read Ref → Line
 after_read path (Goes read) = line.Clean (clean.Read path read)
 after_read path (Gives main) = line.Clean (clean.Main path main)
 
 -- only a branch is cleaned
-abbrev after_main : State → List Ref → Ref → Node → Line
+abbrev pub after_main : State → List Ref → Ref → Node → Line
 after_main state path main (Branch bitmap entries) = clean_next state path main []
 after_main state path main node = anew
 
 -- an indirection is read, a single is kept
-abbrev after_entry : State → List Ref → Ref → List Ref → Ref → Node → Line
+abbrev pub after_entry : State → List Ref → Ref → List Ref → Ref → Node → Line
 after_entry state path main done entry (Indirection generation word) = line.Clean (clean.Child path main done (reading entry))
 after_entry state path main done entry node = clean_next state path main (done ++ entry ∷ [])
 
-abbrev after_child : List Ref → Ref → List Ref → After Read Ref → Line
+abbrev pub after_child : List Ref → Ref → List Ref → After Read Ref → Line
 after_child path main done (Goes read) = line.Clean (clean.Child path main done read)
 after_child path main done (Gives child) = line.Clean (clean.Tomb path main done child)
 
 -- a tomb's single takes the entry's place, any other entry is kept
-abbrev after_tomb : State → List Ref → Ref → List Ref → Node → Line
+abbrev pub after_tomb : State → List Ref → Ref → List Ref → Node → Line
 after_tomb state path main done (Tomb single) = clean_next state path main (done ++ single ∷ [])
 after_tomb state path main done node = clean_next state path main (done ++ next_entry state main done ∷ [])
 
-abbrev after_contracted : List Ref → Ref → Option Ref → Line
+abbrev pub after_contracted : List Ref → Ref → Option Ref → Line
 after_contracted path main None = line.End reply.NoSlots
 after_contracted path main (Some made) = line.Swap purpose.Clean (swapping (current path) main made)
 

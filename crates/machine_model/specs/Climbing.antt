@@ -40,11 +40,11 @@ abbrev pub higher : Climb → Ref → Climb
 higher c single = record c { path = above c.path; single = single }
 
 -- the position of the parent's entry for the call's key
-abbrev place_in : State → Operation → Climb → Ref → ℕ
+abbrev pub place_in : State → Operation → Climb → Ref → ℕ
 place_in state operation c main = position_of (flag_in state operation (above c.path)) (bitmap_of (node_at state.heap main))
 
 -- the parent's main node with the single in the tomb's place; below the root, where it is the only entry, a tomb of it
-abbrev contracted : State → Operation → Climb → Ref → Node
+abbrev pub contracted : State → Operation → Climb → Ref → Node
 contracted state operation c main =
     if is_below_root (above c.path) && (length (entries_of (node_at state.heap main)) == 1) then Tomb c.single
     else branch_of state main (slice_set (entries_of (node_at state.heap main)) (place_in state operation c main) c.single)
@@ -56,27 +56,27 @@ climb_action state operation (climb.Main c main) = act.Look main
 climb_action state operation (climb.Contracted c main) = act.Make (contracted state operation c main)
 climb_action state operation (climb.Root c root) = root_action root
 
-abbrev after_read : Climb → After Read Ref → Line
+abbrev pub after_read : Climb → After Read Ref → Line
 after_read c (Goes read) = line.Climb (climb.Read c read)
 after_read c (Gives main) = line.Climb (climb.Main c main)
 
 -- the branch's entry for the call's key is the tombed indirection
-abbrev holds_it : State → Operation → Climb → Ref → ℕ → List Ref → Bool
+abbrev pub holds_it : State → Operation → Climb → Ref → ℕ → List Ref → Bool
 holds_it state operation c main bitmap entries =
     has_flag bitmap (flag_in state operation (above c.path)) && (slice_index_or entries (place_in state operation c main) no_ref == current c.path)
 
-abbrev after_main : State → Operation → Climb → Ref → Node → Line
+abbrev pub after_main : State → Operation → Climb → Ref → Node → Line
 after_main state operation c main (Tomb single) = climbing operation (higher c single)
 after_main state operation c main (Branch bitmap entries) =
     if holds_it state operation c main bitmap entries.items then line.Climb (climb.Contracted c main) else climbed operation c.before
 after_main state operation c main node = climbed operation c.before
 
-abbrev after_contracted : Operation → Climb → Ref → Option Ref → Line
+abbrev pub after_contracted : Operation → Climb → Ref → Option Ref → Line
 after_contracted operation c main None = climbed operation c.before
 after_contracted operation c main (Some made) = line.Swap (purpose.Climb c) (swapping (current (above c.path)) main made)
 
 -- it goes on where the root is still of the generation in which the operation began its try
-abbrev after_root : State → Operation → Climb → After RootLine Ref → Line
+abbrev pub after_root : State → Operation → Climb → After RootLine Ref → Line
 after_root state operation c (Goes root) = line.Climb (climb.Root c root)
 after_root state operation c (Gives r) = if generation_at state.heap r == operation.generation then climbing operation c else climbed operation c.before
 

@@ -19,7 +19,7 @@ use Rattle.machine_model.specs.Machine.{next_state}
 
 -- ---- content
 
-abbrev pairs_at : (Ref → List (ℕ × ℕ)) → Heap → Ref → Node → List (ℕ × ℕ)
+abbrev pub pairs_at : (Ref → List (ℕ × ℕ)) → Heap → Ref → Node → List (ℕ × ℕ)
 pairs_at below heap r (Single key value) = (key, value) ∷ []
 pairs_at below heap r (Indirection generation main) = flat_map below (entries_of (node_at heap (logical_main heap r)))
 pairs_at below heap r node = []
@@ -40,13 +40,13 @@ content_at state handle = by_key (pairs_below most_levels state.heap (root_of (w
 
 -- ---- what an operation holds
 
-abbrev made_ref : Option Ref → List Ref
+abbrev pub made_ref : Option Ref → List Ref
 made_ref None = []
 made_ref (Some made) = made ∷ []
 
 -- The references that a step gets: those that it reads in a root, main or prev word, finds in a node that it looks at, or
 -- makes.
-abbrev got_by : State → ℕ → Action → List Ref
+abbrev pub got_by : State → ℕ → Action → List Ref
 got_by state handle act.ReadRoot = refs_of_word (word_at state handle)
 got_by state handle (act.ReadMain indirection) = main_at state.heap indirection ∷ []
 got_by state handle (act.ReadPrev main) = refs_of_prev (prev_at state.heap main)
@@ -55,15 +55,15 @@ got_by state handle (act.Make node) = made_ref (next_ref state.heap)
 got_by state handle (act.MakeRoot main) = made_ref (next_ref state.heap)
 got_by state handle action = []
 
-abbrev got_in : State → Option Operation → List Ref
+abbrev pub got_in : State → Option Operation → List Ref
 got_in state None = []
 got_in state (Some operation) = got_by state (handle_of operation.call) (action_of state operation)
 
-abbrev while_running : Option Operation → List Ref → List Ref
+abbrev pub while_running : Option Operation → List Ref → List Ref
 while_running None refs = []
 while_running (Some operation) refs = refs
 
-abbrev held_next : State → ℕ → List Ref → Step → List Ref
+abbrev pub held_next : State → ℕ → List Ref → Step → List Ref
 held_next state actor held (step.Go other) = held ++ (if other == actor then got_in state (operation_of state actor) else [])
 held_next state actor held other = held
 

@@ -36,7 +36,7 @@ copy_action (copy.Offer offer) = act.Offer offer
 copy_action (copy.Complete c) = complete_action c
 
 -- the operation's next offer
-abbrev offering : Operation → Ref → Ref → Ref → Option Ref → Line
+abbrev pub offering : Operation → Ref → Ref → Ref → Option Ref → Line
 offering operation root main fresh second = line.Copy (copy.Offer (record {
   operation = operation.id;
   attempt = operation.attempt + 1;
@@ -48,41 +48,41 @@ offering operation root main fresh second = line.Copy (copy.Offer (record {
 }))
 
 -- a clear makes an empty branch first
-abbrev after_given : Call → Ref → Ref → Line
+abbrev pub after_given : Call → Ref → Ref → Line
 after_given (Clear h) root main = line.Copy (copy.Empty root main)
 after_given call root main = line.Copy (copy.Fresh root main)
 
-abbrev after_read : Operation → Ref → After Read Ref → Line
+abbrev pub after_read : Operation → Ref → After Read Ref → Line
 after_read operation root (Goes read) = line.Copy (copy.Read root read)
 after_read operation root (Gives main) = after_given operation.call root main
 
 -- a writable snapshot makes a second root
-abbrev after_fresh : Operation → Call → Ref → Ref → Ref → Line
+abbrev pub after_fresh : Operation → Call → Ref → Ref → Ref → Line
 after_fresh operation (Snapshot h) root main made = line.Copy (copy.Second root main made)
 after_fresh operation call root main made = offering operation root main made None
 
-abbrev after_made : Operation → CopyLine → Ref → Line
+abbrev pub after_made : Operation → CopyLine → Ref → Line
 after_made operation (copy.Fresh root main) made = after_fresh operation operation.call root main made
 after_made operation (copy.Second root main fresh) made = offering operation root main fresh (Some made)
 after_made operation (copy.Empty root main) made = line.Copy (copy.Cleared root main made)
 after_made operation (copy.Cleared root main branch) made = offering operation root main made None
 after_made operation step made = anew
 
-abbrev if_made : Operation → CopyLine → Option Ref → Line
+abbrev pub if_made : Operation → CopyLine → Option Ref → Line
 if_made operation step None = line.End reply.NoSlots
 if_made operation step (Some made) = after_made operation step made
 
 -- once the offer stands it is completed; where another root or offer stands the operation starts anew
-abbrev after_offer : Descriptor → Bool → Line
+abbrev pub after_offer : Descriptor → Bool → Line
 after_offer offer true = line.Copy (copy.Complete (completing offer))
 after_offer offer false = anew
 
-abbrev copied_reply : Call → Option ℕ → Reply
+abbrev pub copied_reply : Call → Option ℕ → Reply
 copied_reply (Clear h) opens = reply.Cleared
 copied_reply call opens = reply.Opened (unwrap_or opens 0)
 
 -- it ends where its offer was carried out, by this step or before it by another operation, and else starts anew
-abbrev after_complete : Operation → After Complete Bool → Line
+abbrev pub after_complete : Operation → After Complete Bool → Line
 after_complete operation (Goes c) = line.Copy (copy.Complete c)
 after_complete operation (Gives done) = if done || operation.is_marked then line.End (copied_reply operation.call operation.opens) else anew
 

@@ -10,7 +10,7 @@ use Rattle.machine_model.specs.Heaps.{heap_refs, in_use}
 use Rattle.machine_model.specs.declared.heaps.Zeroed.{Zeroed}
 use Rattle.machine_model.specs.States.{State}
 
-abbrev refs_of_option : Option Ref → List Ref
+abbrev pub refs_of_option : Option Ref → List Ref
 refs_of_option None = []
 refs_of_option (Some r) = r ∷ []
 
@@ -23,7 +23,7 @@ abbrev pub refs_of_root : Option Root → List Ref
 refs_of_root None = []
 refs_of_root (Some root) = refs_of_word root.word
 
-abbrev refs_of_operation : Option Operation → List Ref
+abbrev pub refs_of_operation : Option Operation → List Ref
 refs_of_operation None = []
 refs_of_operation (Some operation) = operation.private
 

@@ -24,7 +24,9 @@ use Rattle.machine_model.specs.declared.lines.Line.TheVariants as line
 use Rattle.machine_model.specs.declared.actions.Action.{Action}
 use Rattle.machine_model.specs.declared.actions.Action.TheVariants as act
 use Rattle.machine_model.specs.Heaps.{node_at, entry_at, entries_of}
-use Rattle.machine_model.specs.Calls.{WhenFound, Answers, Sets, Removes, when_found, inserts, absent_reply, key_of}
+use Rattle.machine_model.specs.declared.finding.WhenFound.{WhenFound}
+use Rattle.machine_model.specs.declared.finding.WhenFound.TheVariants.{Answers, Sets, Removes}
+use Rattle.machine_model.specs.Calls.{when_found, inserts, absent_reply, key_of}
 use Rattle.machine_model.specs.States.{State}
 use Rattle.machine_model.specs.Paths.{current, above, is_below_root, flag_in, has_flag}
 use Rattle.machine_model.specs.Reading.{read_action, read_step, reading}
@@ -49,24 +51,24 @@ going_down path below = line.Key (key.Read (path ++ below ∷ []) (reading below
 -- ---- where the key is absent
 
 -- the call inserts it there, or answers
-abbrev absent : Operation → List Ref → Ref → Line
+abbrev pub absent : Operation → List Ref → Ref → Line
 absent operation path main =
     if inserts operation.call then line.Build (build.Single path main site.Absent None) else line.End (absent_reply operation.call)
 
 -- the same where the single of another key stands in its place
-abbrev absent_beside : Operation → List Ref → Ref → ℕ → Line
+abbrev pub absent_beside : Operation → List Ref → Ref → ℕ → Line
 absent_beside operation path main position =
     if inserts operation.call then line.Build (build.Single path main (site.Beside position) None) else line.End (absent_reply operation.call)
 
 -- the same at the end of a list of so many singles: 32 are the most
-abbrev absent_listed : Operation → List Ref → Ref → ℕ → Line
+abbrev pub absent_listed : Operation → List Ref → Ref → ℕ → Line
 absent_listed operation path main singles =
     if inserts operation.call && nat_le 32 singles then line.End reply.Crowded else absent operation path main
 
 -- ---- where the key is found
 
 -- takes the key out of a branch: where just another single is left below the root a tomb of it is made
-abbrev removing : State → List Ref → Ref → ℕ → ℕ → Node → Line
+abbrev pub removing : State → List Ref → Ref → ℕ → ℕ → Node → Line
 removing state path main position value (Branch bitmap entries) =
     if is_below_root path && (length entries.items == 2) then line.Key (key.Sibling path main position value)
     else line.Build (build.Main path main (change.Remove position) (Some value))
@@ -75,27 +77,27 @@ removing state path main position value (Listed singles) =
     else line.Build (build.Main path main (change.Remove position) (Some value))
 removing state path main position value node = anew
 
-abbrev found_so : State → List Ref → Ref → ℕ → ℕ → WhenFound → Line
+abbrev pub found_so : State → List Ref → Ref → ℕ → ℕ → WhenFound → Line
 found_so state path main position value (Answers answer) = line.End answer
 found_so state path main position value Sets = line.Build (build.Single path main (site.At position) (Some value))
 found_so state path main position value Removes = removing state path main position value (node_at state.heap main)
 
 -- the key stands at this position of the main node, with this value
-abbrev found : State → Operation → List Ref → Ref → ℕ → ℕ → Line
+abbrev pub found : State → Operation → List Ref → Ref → ℕ → ℕ → Line
 found state operation path main position value = found_so state path main position value (when_found operation.call value)
 
 -- ---- what comes after each line; what it looks at stands last
 
-abbrev after_read : List Ref → After Read Ref → Line
+abbrev pub after_read : List Ref → After Read Ref → Line
 after_read path (Goes read) = line.Key (key.Read path read)
 after_read path (Gives main) = line.Key (key.Main path main)
 
 -- a tomb: a writable operation cleans the parent first, a read-only one looks at its single
-abbrev after_tomb : Access → List Ref → Ref → Line
+abbrev pub after_tomb : Access → List Ref → Ref → Line
 after_tomb Writable path main = line.Clean (clean.Read (above path) (reading (current (above path))))
 after_tomb ReadOnly path main = line.Key (key.Listed path main 0)
 
-abbrev after_main : State → Operation → List Ref → Ref → Node → Line
+abbrev pub after_main : State → Operation → List Ref → Ref → Node → Line
 after_main state operation path main (Branch bitmap entries) =
     let flag = flag_in state operation path in
     if has_flag bitmap flag then line.Key (key.Entry path main (position_of flag bitmap)) else absent operation path main
@@ -104,29 +106,29 @@ after_main state operation path main (Listed singles) = line.Key (key.Listed pat
 after_main state operation path main (Indirection generation word) = anew
 after_main state operation path main (Single k v) = anew
 
-abbrev passes : Access → Bool → Bool
+abbrev pub passes : Access → Bool → Bool
 passes ReadOnly same = true
 passes Writable same = same
 
 -- a writable operation goes through indirections of the root's generation alone
-abbrev is_passable : Operation → ℕ → Bool
+abbrev pub is_passable : Operation → ℕ → Bool
 is_passable operation generation = passes operation.access (generation == operation.generation)
 
-abbrev after_entry : State → Operation → List Ref → Ref → ℕ → Node → Line
+abbrev pub after_entry : State → Operation → List Ref → Ref → ℕ → Node → Line
 after_entry state operation path main position (Indirection generation word) =
     if is_passable operation generation then going_down path (entry_at state.heap main position) else renew_next state path main []
 after_entry state operation path main position (Single k v) =
     if k == key_of operation.call then found state operation path main position v else absent_beside operation path main position
 after_entry state operation path main position node = anew
 
-abbrev after_listed : State → Operation → List Ref → Ref → ℕ → Node → Line
+abbrev pub after_listed : State → Operation → List Ref → Ref → ℕ → Node → Line
 after_listed state operation path main position (Single k v) =
     let singles = length (entries_of (node_at state.heap main)) in
     if k == key_of operation.call then found state operation path main position v
     else (if nat_lt (position + 1) singles then line.Key (key.Listed path main (position + 1)) else absent_listed operation path main singles)
 after_listed state operation path main position node = anew
 
-abbrev after_sibling : List Ref → Ref → ℕ → ℕ → Ref → Node → Line
+abbrev pub after_sibling : List Ref → Ref → ℕ → ℕ → Ref → Node → Line
 after_sibling path main position before other (Single k v) = line.Build (build.Main path main (change.Entomb other) (Some before))
 after_sibling path main position before other node = line.Build (build.Main path main (change.Remove position) (Some before))
 

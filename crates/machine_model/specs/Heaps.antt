@@ -35,7 +35,7 @@ empty_branch = Branch 0 (entries_from [])
 unfoldable pub stored : Heap → Ref → Option Slot
 stored heap r = slice_index_or heap.slots (slot_of r) None
 
-abbrev node_of : Option Slot → Node
+abbrev pub node_of : Option Slot → Node
 node_of None = empty_branch
 node_of (Some slot) = slot.node
 
@@ -43,7 +43,7 @@ node_of (Some slot) = slot.node
 unfoldable pub node_at : Heap → Ref → Node
 node_at heap r = node_of (stored heap r)
 
-abbrev prev_of : Option Slot → Prev
+abbrev pub prev_of : Option Slot → Prev
 prev_of None = prev.None
 prev_of (Some slot) = slot.prev
 
@@ -93,15 +93,21 @@ abbrev pub with_main_word : Ref → Node → Node
 with_main_word m (Indirection generation main) = Indirection generation m
 with_main_word m node = node
 
+abbrev pub main_changed : Ref → Slot → Slot
+main_changed m slot = record slot { node = with_main_word m slot.node }
+
+abbrev pub prev_changed : Prev → Slot → Slot
+prev_changed p slot = record slot { prev = p }
+
 -- the heap in which the indirection's main word is m
 unfoldable pub with_main : Heap → Ref → Ref → Heap
-with_main heap r m = written (λ slot. record slot { node = with_main_word m slot.node }) heap r
+with_main heap r m = written (main_changed m) heap r
 
 -- the heap in which the main node's prev word is p
 unfoldable pub with_prev : Heap → Ref → Prev → Heap
-with_prev heap r p = written (λ slot. record slot { prev = p }) heap r
+with_prev heap r p = written (prev_changed p) heap r
 
-abbrev ref_in : ℕ → List ℕ → Option Ref
+abbrev pub ref_in : ℕ → List ℕ → Option Ref
 ref_in births [] = None
 ref_in births (slot ∷ free) = Some (ref_to (births + 1) slot)
 

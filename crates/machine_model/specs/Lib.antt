@@ -17,5 +17,6 @@ pub mod Acting
 pub mod Counting
 pub mod Machine
 pub mod Contents
+pub mod Refusing
 pub mod Runs
 pub mod Laws

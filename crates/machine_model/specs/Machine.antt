@@ -1,6 +1,7 @@
 -- The machine: one atomic step, and runs of steps.
-use Rattle.std.specs.Prelude.{ℕ, zero, suc, ◌+◌, ◌==◌, ◌≤◌, ◌||◌, ◌&&◌, Bool, true, false, not, nat_lt, nat_le, is_some, List, [], ◌∷◌, ◌++◌, Option, Some, None, Result, Ok, Err, if◌then◌else◌}
+use Rattle.std.specs.Prelude.{ℕ, zero, suc, ◌+◌, ◌==◌, ◌≤◌, ◌||◌, ◌&&◌, Bool, true, false, not, nat_lt, nat_le, is_some, List, [], ◌∷◌, ◌++◌, Option, Some, None, option_map, Result, Ok, Err, if◌then◌else◌}
 use Rattle.std.specs.List.{list_any}
+use Rattle.ctrie_base.specs.declared.kinds.Kind.{Kind}
 use Rattle.ctrie_base.specs.declared.refusals.Refusal.{Refusal}
 use Rattle.ctrie_base.specs.declared.refusals.Refusal.TheVariants as refuse
 use Rattle.history.specs.declared.calls.Access.{Access}
@@ -32,6 +33,10 @@ use Rattle.machine_model.specs.Counting.{settled}
 abbrev pub Answer : Type 0
 Answer = Result (Outcome × State) Refusal
 
+-- the outcome, and the state with what every step does at its end
+abbrev pub settled_after : State → Outcome × State → Answer
+settled_after state done = Ok (done.0, settled state done.1)
+
 -- ---- beginning
 
 -- the actor is one of the machine's
@@ -42,8 +47,16 @@ is_actor state actor = nat_lt 0 actor && nat_le actor state.limits.actors
 abbrev pub is_running : State → ℕ → Bool
 is_running state actor = is_some (operation_of state actor)
 
+-- the kind of the next step of the actor's operation, if one runs
+abbrev pub next_kind : State → ℕ → Option Kind
+next_kind state actor = option_map (λ operation. kind_of (action_of state operation)) (operation_of state actor)
+
+-- some actor runs one
+abbrev pub is_busy : State → Bool
+is_busy state = list_any is_some state.actors
+
 -- an operation runs whose call names this handle
-abbrev names : ℕ → Option Operation → Bool
+abbrev pub names : ℕ → Option Operation → Bool
 names handle None = false
 names handle (Some operation) = handle_of operation.call == handle
 
@@ -51,11 +64,11 @@ abbrev pub runs_on : State → ℕ → Bool
 runs_on state handle = list_any (names handle) state.actors
 
 -- the handle that an operation has reserved: it is to open it, and hasn't yet
-abbrev reserved_by : Option Operation → Option ℕ
+abbrev pub reserved_by : Option Operation → Option ℕ
 reserved_by None = None
 reserved_by (Some operation) = if operation.is_marked then None else operation.opens
 
-abbrev is_number : ℕ → Option ℕ → Bool
+abbrev pub is_number : ℕ → Option ℕ → Bool
 is_number n None = false
 is_number n (Some m) = m == n
 
@@ -63,7 +76,7 @@ is_number n (Some m) = m == n
 abbrev pub is_taken : State → ℕ → Bool
 is_taken state handle = is_some (root_at state handle) || list_any (λ operation. is_number handle (reserved_by operation)) state.actors
 
-abbrev taken_below : State → ℕ → ℕ
+unfoldable pub taken_below : State → ℕ → ℕ
 taken_below state zero = 0
 taken_below state (suc n) = taken_below state n + (if is_taken state n then 1 else 0)
 
@@ -71,7 +84,7 @@ taken_below state (suc n) = taken_below state n + (if is_taken state n then 1 el
 abbrev pub handles_taken : State → ℕ
 handles_taken state = taken_below state handle_limit
 
-abbrev least_from : State → ℕ → ℕ → ℕ
+unfoldable pub least_from : State → ℕ → ℕ → ℕ
 least_from state zero n = n
 least_from state (suc left) n = if is_taken state n then least_from state left (n + 1) else n
 
@@ -84,11 +97,11 @@ access_of None = None
 access_of (Some root) = Some root.access
 
 -- the first of these refusals whose reason holds
-abbrev first_reason : List (Bool × Refusal) → Option Refusal
+abbrev pub first_reason : List (Bool × Refusal) → Option Refusal
 first_reason [] = None
 first_reason (r ∷ rs) = if r.0 then Some r.1 else first_reason rs
 
-abbrev is_access : Access → Option Access → Bool
+abbrev pub is_access : Access → Option Access → Bool
 is_access access None = false
 is_access Writable (Some Writable) = true
 is_access Writable (Some ReadOnly) = false
@@ -128,7 +141,7 @@ new_operation state call access = record {
 }
 
 -- a close takes the handle away as it begins, and enters the order there
-abbrev handle_closed : State → Call → ℕ → State
+abbrev pub handle_closed : State → Call → ℕ → State
 handle_closed state call id =
     if is_close call then record (with_root state (handle_of call) None) { places = state.places ++ on_time state.steps false id ∷ [] } else state
 
@@ -157,9 +170,13 @@ begin state actor call = begin_unless state actor call (begin_denial state actor
 abbrev pub go_denial : State → ℕ → Option Refusal
 go_denial state actor = first_reason ((not (is_actor state actor), refuse.NoActor) ∷ (not (is_running state actor), refuse.Idle) ∷ (is_spent state, refuse.Spent) ∷ [])
 
+-- what the step of the actor's operation does, but for what every step does at its end
+abbrev pub went : State → ℕ → Operation → Action → Outcome × State
+went state actor operation (act.End answer) = (outcome.Ended operation.id answer, ended state actor operation answer)
+went state actor operation action = (outcome.Went (kind_of action), gone state actor operation)
+
 abbrev pub step_by : State → ℕ → Operation → Action → Answer
-step_by state actor operation (act.End answer) = Ok (outcome.Ended operation.id answer, settled state (ended state actor operation answer))
-step_by state actor operation action = Ok (outcome.Went (kind_of action), settled state (gone state actor operation))
+step_by state actor operation action = settled_after state (went state actor operation action)
 
 abbrev pub go_on : State → ℕ → Option Operation → Answer
 go_on state actor None = Err refuse.Idle
@@ -181,25 +198,22 @@ ripe epoch [] = None
 ripe epoch (z ∷ limbo) = if nat_le (z.epoch + 2) epoch then Some z.at else None
 
 -- the actor runs no operation that began in another epoch
-abbrev is_passed : ℕ → Option Operation → Bool
+abbrev pub is_passed : ℕ → Option Operation → Bool
 is_passed epoch None = true
 is_passed epoch (Some operation) = operation.epoch == epoch
 
 -- reads the record of the actor at the cursor, and goes on if it is passed
-abbrev scanned : State → Bool → Outcome × State
+abbrev pub scanned : State → Bool → Outcome × State
 scanned state passed = (outcome.Swept (swept.Scanned passed), record state { cursor = state.cursor + (if passed then 1 else 0) })
 
 -- all actors were passed: the epoch grows
-abbrev advanced : State → Outcome × State
+abbrev pub advanced : State → Outcome × State
 advanced state = (outcome.Swept (swept.Advanced (state.epoch + 1)), record state { epoch = state.epoch + 1; cursor = 1 })
 
 abbrev pub sweep_by : State → Option Ref → Outcome × State
 sweep_by state (Some r) = (outcome.Swept swept.Freed, record state { heap = freed state.heap r })
 sweep_by state None =
     if nat_le state.cursor state.limits.actors then scanned state (is_passed state.epoch (operation_of state state.cursor)) else advanced state
-
-abbrev pub settled_after : State → Outcome × State → Answer
-settled_after state swept = Ok (swept.0, settled state swept.1)
 
 -- a step of the sweep: frees a slot, or reads an actor's epoch, or lets the epoch grow
 abbrev pub sweep : State → Answer
@@ -212,6 +226,12 @@ unfoldable pub next : State → Step → Answer
 next state (step.Begin actor call) = begin state actor call
 next state (step.Go actor) = go state actor
 next state step.Sweep = sweep state
+
+-- why a step is denied, where it is
+abbrev pub denial_of : State → Step → Option Refusal
+denial_of state (step.Begin actor call) = begin_denial state actor call
+denial_of state (step.Go actor) = go_denial state actor
+denial_of state step.Sweep = if is_spent state then Some refuse.Spent else None
 
 abbrev pub state_after : State → Answer → State
 state_after state (Ok done) = done.1
@@ -230,7 +250,7 @@ run_from state (s ∷ steps) = run_from (next_state state s) steps
 abbrev pub run : Limits → List Step → State
 run limits steps = run_from (first_state limits) steps
 
-abbrev is_taken_step : Answer → Bool
+abbrev pub is_taken_step : Answer → Bool
 is_taken_step (Ok done) = true
 is_taken_step (Err refusal) = false
 

@@ -97,28 +97,28 @@ kind_of (act.End answer) = kind.End
 -- ---- where it stands afterwards
 
 -- below the root: KEY reads it, SNAP and CLEAR too
-abbrev from_root : Call → Ref → Line
+abbrev pub from_root : Call → Ref → Line
 from_root (Clear h) r = line.Copy (copy.Read r (reading r))
 from_root (Snapshot h) r = line.Copy (copy.Read r (reading r))
 from_root (Freeze h) r = line.Copy (copy.Read r (reading r))
 from_root call r = going_down [] r
 
-abbrev after_root : Operation → After RootLine Ref → Line
+abbrev pub after_root : Operation → After RootLine Ref → Line
 after_root operation (Goes l) = line.Root l
 after_root operation (Gives r) = from_root operation.call r
 
 -- a removal that swapped in a tomb climbs; any other change is answered
-abbrev updated : Operation → List Ref → Option ℕ → Node → Line
+abbrev pub updated : Operation → List Ref → Option ℕ → Node → Line
 updated operation path before (Tomb single) = climbing operation (record { path = path; single = single; before = before })
 updated operation path before node = climbed operation before
 
 -- after a climb's swap: a tomb that was made there climbs on
-abbrev climbed_on : Operation → Climb → Node → Line
+abbrev pub climbed_on : Operation → Climb → Node → Line
 climbed_on operation c (Tomb single) = climbing operation (higher c c.single)
 climbed_on operation c node = climbed operation c.before
 
 -- after the SWAP of this node, by whether it succeeded
-abbrev swapped : Operation → Node → Purpose → Bool → Line
+abbrev pub swapped : Operation → Node → Purpose → Bool → Line
 swapped operation node (purpose.Update path before) true = updated operation path before node
 swapped operation node (purpose.Update path before) false = anew
 swapped operation node (purpose.Renew path) true = line.Key (key.Read path (reading (current path)))
@@ -127,7 +127,7 @@ swapped operation node purpose.Clean done = anew
 swapped operation node (purpose.Climb c) true = climbed_on operation c node
 swapped operation node (purpose.Climb c) false = line.Climb (climb.Root c root.Read)
 
-abbrev after_swap : State → Operation → Purpose → Swap → After Swap Bool → Line
+abbrev pub after_swap : State → Operation → Purpose → Swap → After Swap Bool → Line
 after_swap state operation why s (Goes next) = line.Swap why next
 after_swap state operation why s (Gives done) = swapped operation (node_at state.heap s.fresh) why done
 
@@ -146,43 +146,43 @@ line_after state operation (line.End answer) = line.End answer
 
 -- ---- the READ that it takes, and the generation of its root
 
-abbrev completing_read : Descriptor → CompleteLine → Option Read
+abbrev pub completing_read : Descriptor → CompleteLine → Option Read
 completing_read offer (complete.Reading l) = Some (record { indirection = offer.current; line = l })
 completing_read offer (complete.Swap main) = None
 
-abbrev rooting_read : RootLine → Option Read
+abbrev pub rooting_read : RootLine → Option Read
 rooting_read root.Read = None
 rooting_read (root.Completing c) = completing_read c.offer c.line
 
-abbrev swapping_read : Ref → SwapLine → Option Read
+abbrev pub swapping_read : Ref → SwapLine → Option Read
 swapping_read indirection swap.Publish = None
 swapping_read indirection (swap.Deciding l) = Some (record { indirection = indirection; line = l })
 swapping_read indirection swap.Check = None
 
-abbrev keying_read : KeyLine → Option Read
+abbrev pub keying_read : KeyLine → Option Read
 keying_read (key.Read path r) = Some r
 keying_read l = None
 
-abbrev renewing_read : RenewLine → Option Read
+abbrev pub renewing_read : RenewLine → Option Read
 renewing_read (renew.Read path main done r) = Some r
 renewing_read l = None
 
-abbrev cleaning_read : CleanLine → Option Read
+abbrev pub cleaning_read : CleanLine → Option Read
 cleaning_read (clean.Read path r) = Some r
 cleaning_read (clean.Child path main done r) = Some r
 cleaning_read l = None
 
-abbrev climbing_read : ClimbLine → Option Read
+abbrev pub climbing_read : ClimbLine → Option Read
 climbing_read (climb.Read c r) = Some r
 climbing_read (climb.Root c l) = rooting_read l
 climbing_read l = None
 
-abbrev copying_read : CopyLine → Option Read
+abbrev pub copying_read : CopyLine → Option Read
 copying_read (copy.Read r read) = Some read
 copying_read (copy.Complete c) = completing_read c.offer c.line
 copying_read l = None
 
-abbrev walking_read : WalkLine → Option Read
+abbrev pub walking_read : WalkLine → Option Read
 walking_read (walk.Read r todo taken) = Some r
 walking_read l = None
 
@@ -199,11 +199,11 @@ read_of (line.Copy l) = copying_read l
 read_of (line.Walk l) = walking_read l
 read_of (line.End answer) = None
 
-abbrev given_root : State → After RootLine Ref → ℕ → ℕ
+abbrev pub given_root : State → After RootLine Ref → ℕ → ℕ
 given_root state (Goes l) generation = generation
 given_root state (Gives r) generation = generation_at state.heap r
 
-abbrev generation_from : State → Operation → Line → ℕ
+abbrev pub generation_from : State → Operation → Line → ℕ
 generation_from state operation (line.Root l) =
     given_root state (root_after state.heap operation.access (word_at state (handle_of operation.call)) l) operation.generation
 generation_from state operation l = operation.generation

@@ -18,7 +18,7 @@ use Rattle.machine_model.specs.Operations.{read_of, action_of}
 -- ---- moments
 
 -- a READ counts from its last read of the main word, or its last swap of it
-abbrev counted_from : Action → ℕ → ℕ → ℕ
+abbrev pub counted_from : Action → ℕ → ℕ → ℕ
 counted_from (act.ReadMain indirection) step before = step
 counted_from (act.Restore indirection main before') step before = step
 counted_from action step before = before
@@ -26,7 +26,7 @@ counted_from action step before = before
 abbrev pub read_at_after : State → Operation → ℕ
 read_at_after state operation = counted_from (action_of state operation) state.steps operation.read_at
 
-abbrev committed_in : State → Option Read → Option Ref
+abbrev pub committed_in : State → Option Read → Option Ref
 committed_in state None = None
 committed_in state (Some r) = commits state.heap r.indirection r.line
 
@@ -34,16 +34,16 @@ committed_in state (Some r) = commits state.heap r.indirection r.line
 abbrev pub committed_now : State → Operation → Option Ref
 committed_now state operation = committed_in state (read_of operation.line)
 
-abbrev commit_step : State → Ref → Option Ref → ℕ
+abbrev pub commit_step : State → Ref → Option Ref → ℕ
 commit_step state main None = committed_at state main
 commit_step state main (Some now) = state.steps
 
 -- the first step from the READ's last read on at which what it gives was the logical main node
-abbrev moment_given : State → Operation → After Read Ref → ℕ
+abbrev pub moment_given : State → Operation → After Read Ref → ℕ
 moment_given state operation (Goes r) = operation.moment
 moment_given state operation (Gives main) = max (read_at_after state operation) (commit_step state main (committed_now state operation))
 
-abbrev moment_from : State → Operation → Option Read → ℕ
+abbrev pub moment_from : State → Operation → Option Read → ℕ
 moment_from state operation None = operation.moment
 moment_from state operation (Some r) = moment_given state operation (read_step state operation r)
 
@@ -57,14 +57,14 @@ abbrev pub on_time : ℕ → Bool → ℕ → Place
 on_time moment reads id = record { step = moment; on_time = true; moment = moment; reads = reads; id = id }
 
 -- the place of what is late: just before the closing of its generation
-abbrev late : ℕ → ℕ → Bool → ℕ → Place
+abbrev pub late : ℕ → ℕ → Bool → ℕ → Place
 late closing moment reads id = record { step = closing; on_time = false; moment = moment; reads = reads; id = id }
 
-abbrev place_by : Option ℕ → ℕ → Bool → ℕ → Place
+abbrev pub place_by : Option ℕ → ℕ → Bool → ℕ → Place
 place_by None moment reads id = on_time moment reads id
 place_by (Some closing) moment reads id = if nat_lt closing moment then late closing moment reads id else on_time moment reads id
 
-abbrev closing_for : State → Operation → Access → Option ℕ
+abbrev pub closing_for : State → Operation → Access → Option ℕ
 closing_for state operation Writable = closed_at state operation.generation
 closing_for state operation ReadOnly = None
 
@@ -79,19 +79,19 @@ is_placed state id = list_any (λ place. place.id == id) state.places
 -- ---- the order
 
 -- places are compared from their first number on; false is before true
-abbrev bool_before : Bool → Bool → Bool → Bool
+abbrev pub bool_before : Bool → Bool → Bool → Bool
 bool_before false true rest = true
 bool_before true false rest = false
 bool_before a b rest = rest
 
-abbrev number_before : ℕ → ℕ → Bool → Bool
+abbrev pub number_before : ℕ → ℕ → Bool → Bool
 number_before a b rest = if a == b then rest else nat_lt a b
 
 abbrev pub is_before : Place → Place → Bool
 is_before p q =
     number_before p.step q.step (bool_before p.on_time q.on_time (number_before p.moment q.moment (bool_before p.reads q.reads (nat_lt p.id q.id))))
 
-abbrev placed : Place → List Place → List Place
+abbrev pub placed : Place → List Place → List Place
 placed p [] = p ∷ []
 placed p (q ∷ qs) = if is_before p q then p ∷ q ∷ qs else q ∷ placed p qs
 

@@ -35,14 +35,14 @@ read_action indirection (read.Restore main before) = act.Restore indirection mai
 -- What comes after each line; the word that it reads stands last.
 
 -- after the prev word: a decided node is given, a failed one is replaced, a pending one is decided
-abbrev after_prev : Access → Ref → Prev → After ReadLine Ref
+abbrev pub after_prev : Access → Ref → Prev → After ReadLine Ref
 after_prev access main prev.None = Gives main
 after_prev access main (prev.Failed before) = Goes (read.Restore main before)
 after_prev Writable main (prev.Pending before) = Goes (read.AskRoot main before)
 after_prev ReadOnly main (prev.Pending before) = Goes (read.Decide main before None)
 
 -- after the root word: its generation is told, or the offer that stands there is taken back first
-abbrev after_ask : Heap → Ref → Ref → RootWord → After ReadLine Ref
+abbrev pub after_ask : Heap → Ref → Ref → RootWord → After ReadLine Ref
 after_ask heap main before (Plain root) = Goes (read.Decide main before (Some (generation_at heap root)))
 after_ask heap main before (Offer offer) = Goes (read.Abort main before offer)
 
@@ -50,7 +50,7 @@ after_ask heap main before (Offer offer) = Goes (read.Abort main before offer)
 abbrev pub is_licensed : Heap → Ref → Option ℕ → Bool
 is_licensed heap indirection told = option_eq nat_eq told (Some (generation_at heap indirection))
 
-abbrev is_pending : Prev → Ref → Bool
+abbrev pub is_pending : Prev → Ref → Bool
 is_pending prev.None before = false
 is_pending (prev.Failed p) before = false
 is_pending (prev.Pending p) before = p == before
@@ -60,13 +60,13 @@ abbrev pub is_pending_over : Heap → Ref → Ref → Bool
 is_pending_over heap main before = is_pending (prev_at heap main) before
 
 -- after deciding, by whether it may commit and whether the node was still pending
-abbrev after_decide : Ref → Bool → Bool → After ReadLine Ref
+abbrev pub after_decide : Ref → Bool → Bool → After ReadLine Ref
 after_decide main true true = Gives main
 after_decide main true false = Goes (read.Prev main)
 after_decide main false pending = Goes read.Main
 
 -- after putting the node before back, by whether the failed one still stood there
-abbrev after_restore : Ref → Bool → After ReadLine Ref
+abbrev pub after_restore : Ref → Bool → After ReadLine Ref
 after_restore before true = Gives before
 after_restore before false = Goes read.Main
 
@@ -80,7 +80,7 @@ read_after heap access word indirection (read.Decide main before told) =
     after_decide main (is_licensed heap indirection told) (is_pending_over heap main before)
 read_after heap access word indirection (read.Restore main before) = after_restore before (main_at heap indirection == main)
 
-abbrev at_indirection : Ref → After ReadLine Ref → After Read Ref
+abbrev pub at_indirection : Ref → After ReadLine Ref → After Read Ref
 at_indirection indirection (Goes line) = Goes (record { indirection = indirection; line = line })
 at_indirection indirection (Gives main) = Gives main
 
@@ -93,12 +93,12 @@ read_step state operation read =
 abbrev pub reading : Ref → Read
 reading indirection = record { indirection = indirection; line = read.Main }
 
-abbrev committed_by : Heap → Ref → Ref → Bool → Bool → Option Ref
-committed_by heap indirection main true true = Some main
-committed_by heap indirection main licensed pending = None
+abbrev pub committed_by : Ref → Bool → Bool → Option Ref
+committed_by main true true = Some main
+committed_by main licensed pending = None
 
 -- the main node that a step of a READ commits, if it does
 abbrev pub commits : Heap → Ref → ReadLine → Option Ref
 commits heap indirection (read.Decide main before told) =
-    committed_by heap indirection main (is_licensed heap indirection told) (is_pending_over heap main before)
+    committed_by main (is_licensed heap indirection told) (is_pending_over heap main before)
 commits heap indirection line = None

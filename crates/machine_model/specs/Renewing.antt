@@ -43,20 +43,20 @@ renew_action state operation (renew.Link path main done child) = act.Make (Indir
 renew_action state operation (renew.Branch path main done) = act.Make (branch_of state main done)
 
 -- an indirection of another generation is read, any other entry is kept
-abbrev after_entry : State → Operation → List Ref → Ref → List Ref → Ref → Node → Line
+abbrev pub after_entry : State → Operation → List Ref → Ref → List Ref → Ref → Node → Line
 after_entry state operation path main done entry (Indirection generation word) =
     if generation == operation.generation then renew_next state path main (done ++ entry ∷ []) else line.Renew (renew.Read path main done (reading entry))
 after_entry state operation path main done entry node = renew_next state path main (done ++ entry ∷ [])
 
-abbrev after_read : List Ref → Ref → List Ref → After Read Ref → Line
+abbrev pub after_read : List Ref → Ref → List Ref → After Read Ref → Line
 after_read path main done (Goes read) = line.Renew (renew.Read path main done read)
 after_read path main done (Gives child) = line.Renew (renew.Link path main done child)
 
-abbrev after_link : State → List Ref → Ref → List Ref → Option Ref → Line
+abbrev pub after_link : State → List Ref → Ref → List Ref → Option Ref → Line
 after_link state path main done None = line.End reply.NoSlots
 after_link state path main done (Some made) = renew_next state path main (done ++ made ∷ [])
 
-abbrev after_branch : List Ref → Ref → Option Ref → Line
+abbrev pub after_branch : List Ref → Ref → Option Ref → Line
 after_branch path main None = line.End reply.NoSlots
 after_branch path main (Some made) = line.Swap (purpose.Renew path) (swapping (current path) main made)
 

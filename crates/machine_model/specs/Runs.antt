@@ -31,11 +31,11 @@ shown state = record {
   limbo = length state.limbo;
 }
 
-abbrev sized : ℕ → ℕ → Limits
+abbrev pub sized : ℕ → ℕ → Limits
 sized slots actors = record { slots = slots; actors = actors; hash = Low }
 
 -- the actor begins this call and takes so many steps of it
-abbrev taking : ℕ → Call → ℕ → List Step
+abbrev pub taking : ℕ → Call → ℕ → List Step
 taking actor call n = step.Begin actor call ∷ replicate n (step.Go actor)
 
 -- A put takes twelve steps, and a get then finds its value.

@@ -54,7 +54,7 @@ step_limit = 2 ^ 40
 abbrev pub empty_heap : ℕ → Heap
 empty_heap slots = record { slots = replicate slots None; free = range_with_len 0 slots; births = 0 }
 
-abbrev first_heap : ℕ → Heap
+abbrev pub first_heap : ℕ → Heap
 first_heap slots = taken (taken (empty_heap slots) empty_branch) (Indirection 0 (ref_to 1 0))
 
 unfoldable pub first_state : Limits → State
@@ -80,7 +80,7 @@ first_state limits = record {
 abbrev pub root_at : State → ℕ → Option Root
 root_at state handle = slice_index_or state.roots handle None
 
-abbrev word_of : Option Root → RootWord
+abbrev pub word_of : Option Root → RootWord
 word_of None = Plain no_ref
 word_of (Some root) = root.word
 
@@ -88,7 +88,7 @@ word_of (Some root) = root.word
 abbrev pub word_at : State → ℕ → RootWord
 word_at state handle = word_of (root_at state handle)
 
-abbrev rewritten : RootWord → Option Root → Option Root
+abbrev pub rewritten : RootWord → Option Root → Option Root
 rewritten word None = None
 rewritten word (Some root) = Some (record root { word = word })
 
@@ -117,7 +117,7 @@ root_of (Offer offer) = offer.current
 abbrev pub key_hash : State → ℕ → ℕ
 key_hash state key = hash_of state.limits.hash key
 
-abbrev step_of : Option Closing → Option ℕ
+abbrev pub step_of : Option Closing → Option ℕ
 step_of closing = option_map (λ c. c.step) closing
 
 -- the step that closed a generation, if one did

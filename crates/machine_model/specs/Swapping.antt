@@ -31,7 +31,7 @@ use Rattle.machine_model.specs.Reading.{read_action, read_after}
 abbrev pub swapping : Ref → Ref → Ref → Swap
 swapping indirection replaced fresh = record { indirection = indirection; replaced = replaced; fresh = fresh; line = swap.Publish }
 
-abbrev action_at : Ref → Ref → Ref → SwapLine → Action
+abbrev pub action_at : Ref → Ref → Ref → SwapLine → Action
 action_at indirection replaced fresh swap.Publish = act.Publish indirection replaced fresh
 action_at indirection replaced fresh (swap.Deciding line) = read_action indirection line
 action_at indirection replaced fresh swap.Check = act.ReadPrev fresh
@@ -40,26 +40,26 @@ abbrev pub swap_action : Swap → Action
 swap_action s = action_at s.indirection s.replaced s.fresh s.line
 
 -- swapped in, the fresh node is decided; else the SWAP gives false
-abbrev after_publish : Ref → Bool → After SwapLine Bool
+abbrev pub after_publish : Ref → Bool → After SwapLine Bool
 after_publish fresh true = Goes (swap.Deciding (read.Prev fresh))
 after_publish fresh false = Gives false
 
 -- whatever the READ gives, the fresh node is decided
-abbrev after_deciding : After ReadLine Ref → After SwapLine Bool
+abbrev pub after_deciding : After ReadLine Ref → After SwapLine Bool
 after_deciding (Goes line) = Goes (swap.Deciding line)
 after_deciding (Gives main) = Goes swap.Check
 
-abbrev after_check : Prev → After SwapLine Bool
+abbrev pub after_check : Prev → After SwapLine Bool
 after_check prev.None = Gives true
 after_check (prev.Pending before) = Gives false
 after_check (prev.Failed before) = Gives false
 
-abbrev after_swap : Heap → Access → RootWord → Swap → SwapLine → After SwapLine Bool
+abbrev pub after_swap : Heap → Access → RootWord → Swap → SwapLine → After SwapLine Bool
 after_swap heap access word s swap.Publish = after_publish s.fresh (main_at heap s.indirection == s.replaced)
 after_swap heap access word s (swap.Deciding line) = after_deciding (read_after heap access word s.indirection line)
 after_swap heap access word s swap.Check = after_check (prev_at heap s.fresh)
 
-abbrev on_line : Swap → After SwapLine Bool → After Swap Bool
+abbrev pub on_line : Swap → After SwapLine Bool → After Swap Bool
 on_line s (Goes line) = Goes (record s { line = line })
 on_line s (Gives done) = Gives done
 
@@ -69,7 +69,7 @@ swap_after heap access word s = on_line s (after_swap heap access word s s.line)
 
 -- ---- COMPLETE
 
-abbrev is_try : Descriptor → Descriptor → Bool
+abbrev pub is_try : Descriptor → Descriptor → Bool
 is_try a b = (a.operation == b.operation) && (a.attempt == b.attempt)
 
 -- the offer still stands in the root word
@@ -90,22 +90,22 @@ is_carried_out word offer main = stands_in word offer && (main == offer.expected
 abbrev pub completing : Descriptor → Complete
 completing offer = record { offer = offer; line = complete.Reading read.Main }
 
-abbrev complete_action_at : Descriptor → CompleteLine → Action
+abbrev pub complete_action_at : Descriptor → CompleteLine → Action
 complete_action_at offer (complete.Reading line) = read_action offer.current line
 complete_action_at offer (complete.Swap main) = act.Complete offer main
 
 abbrev pub complete_action : Complete → Action
 complete_action c = complete_action_at c.offer c.line
 
-abbrev after_reading : After ReadLine Ref → After CompleteLine Bool
+abbrev pub after_reading : After ReadLine Ref → After CompleteLine Bool
 after_reading (Goes line) = Goes (complete.Reading line)
 after_reading (Gives main) = Goes (complete.Swap main)
 
-abbrev after_complete : Heap → Access → RootWord → Descriptor → CompleteLine → After CompleteLine Bool
+abbrev pub after_complete : Heap → Access → RootWord → Descriptor → CompleteLine → After CompleteLine Bool
 after_complete heap access word offer (complete.Reading line) = after_reading (read_after heap access word offer.current line)
 after_complete heap access word offer (complete.Swap main) = Gives (is_carried_out word offer main)
 
-abbrev of_offer : Descriptor → After CompleteLine Bool → After Complete Bool
+abbrev pub of_offer : Descriptor → After CompleteLine Bool → After Complete Bool
 of_offer offer (Goes line) = Goes (record { offer = offer; line = line })
 of_offer offer (Gives done) = Gives done
 
@@ -119,11 +119,11 @@ abbrev pub root_action : RootLine → Action
 root_action root.Read = act.ReadRoot
 root_action (root.Completing c) = complete_action c
 
-abbrev after_root_word : RootWord → After RootLine Ref
+abbrev pub after_root_word : RootWord → After RootLine Ref
 after_root_word (Plain r) = Gives r
 after_root_word (Offer offer) = Goes (root.Completing (completing offer))
 
-abbrev after_completing : After Complete Bool → After RootLine Ref
+abbrev pub after_completing : After Complete Bool → After RootLine Ref
 after_completing (Goes c) = Goes (root.Completing c)
 after_completing (Gives done) = Goes root.Read
 

@@ -29,20 +29,20 @@ abbrev pub by_key : List (ℕ × ℕ) → List (ℕ × ℕ)
 by_key [] = []
 by_key (p ∷ pairs) = put nat_cmp p.0 p.1 (by_key pairs)
 
-abbrev walked_reply : Call → List (ℕ × ℕ) → Reply
+abbrev pub walked_reply : Call → List (ℕ × ℕ) → Reply
 walked_reply (Count h) taken = reply.Count (length taken)
 walked_reply call taken = reply.Pairs (by_key taken)
 
 -- the next entry, or the end
-abbrev walk_next : Operation → List Ref → List (ℕ × ℕ) → Line
+abbrev pub walk_next : Operation → List Ref → List (ℕ × ℕ) → Line
 walk_next operation [] taken = line.End (walked_reply operation.call taken)
 walk_next operation (entry ∷ todo) taken = line.Walk (walk.Entry (entry ∷ todo) taken)
 
-abbrev first_of : List Ref → Ref
+abbrev pub first_of : List Ref → Ref
 first_of [] = no_ref
 first_of (entry ∷ todo) = entry
 
-abbrev rest_of : List Ref → List Ref
+abbrev pub rest_of : List Ref → List Ref
 rest_of [] = []
 rest_of (entry ∷ todo) = todo
 
@@ -53,12 +53,12 @@ walk_action (walk.Read read todo taken) = read_action read.indirection read.line
 walk_action (walk.Main main todo taken) = act.Look main
 walk_action (walk.Entry todo taken) = act.Look (first_of todo)
 
-abbrev after_read : List Ref → List (ℕ × ℕ) → After Read Ref → Line
+abbrev pub after_read : List Ref → List (ℕ × ℕ) → After Read Ref → Line
 after_read todo taken (Goes read) = line.Walk (walk.Read read todo taken)
 after_read todo taken (Gives main) = line.Walk (walk.Main main todo taken)
 
 -- a single is taken, an indirection is read
-abbrev after_entry : Operation → Ref → List Ref → List (ℕ × ℕ) → Node → Line
+abbrev pub after_entry : Operation → Ref → List Ref → List (ℕ × ℕ) → Node → Line
 after_entry operation entry todo taken (Indirection generation word) = line.Walk (walk.Read (reading entry) todo taken)
 after_entry operation entry todo taken (Single k v) = walk_next operation todo (taken ++ (k, v) ∷ [])
 after_entry operation entry todo taken node = walk_next operation todo taken

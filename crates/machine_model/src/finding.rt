@@ -2,6 +2,7 @@
 
 use crate::reading::Read;
 use crate::refs::Refs;
+use history::Reply;
 use slot_arena::Ref;
 
 /// A line of KEY below its root. A path has the indirections from the root down; the last is the
@@ -38,4 +39,15 @@ pub enum KeyLine {
         position: usize,
         before: u64,
     },
+}
+
+/// What a call does where its key has a value.
+#[derive(Drop)]
+pub enum WhenFound {
+    /// It answers this, and changes nothing.
+    Answers(Reply),
+    /// It sets another value.
+    Sets,
+    /// It removes the key.
+    Removes,
 }

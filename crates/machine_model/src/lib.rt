@@ -22,7 +22,7 @@ mod walking;
 pub use actions::Action;
 pub use building::{BuildLine, Change, Site};
 pub use copying::CopyLine;
-pub use finding::KeyLine;
+pub use finding::{KeyLine, WhenFound};
 pub use heaps::{Closing, Slot, Zeroed};
 pub use laws::{readers_make_nothing, refused_for_want_alone, slots_add_up, taken_steps_suffice};
 pub use lines::{Line, Purpose};

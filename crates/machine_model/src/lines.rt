@@ -1,5 +1,7 @@
 //! The lines of all programs.
 
+ghost use Rattle.std.specs.Prelude.{◌≡◌, IfOk};
+
 use crate::building::BuildLine;
 use crate::copying::CopyLine;
 use crate::finding::KeyLine;
@@ -9,6 +11,7 @@ use crate::repairs::{CleanLine, Climb, ClimbLine, RenewLine};
 use crate::roots::RootLine;
 use crate::walking::WalkLine;
 use history::Reply;
+use std::alloc::AllocError;
 
 /// What a SWAP is for.
 #[derive(Drop)]
@@ -21,6 +24,23 @@ pub enum Purpose {
     Clean,
     /// Climbing.
     Climb(Climb),
+}
+
+impl Purpose {
+    /// A copy.
+    pub fn copy(&self) -> Result<Purpose, AllocError>
+        ensures { IfOk result (λ copy. copy ≡ self.now) }
+    {
+        Ok(match self {
+            Purpose::Update { path, before } => Purpose::Update {
+                path: path.copy()?,
+                before: *before,
+            },
+            Purpose::Renew { path } => Purpose::Renew { path: path.copy()? },
+            Purpose::Clean => Purpose::Clean,
+            Purpose::Climb(climb) => Purpose::Climb(climb.copy()?),
+        })
+    }
 }
 
 /// The line on which an operation stands: what its next step does, and what it remembers.

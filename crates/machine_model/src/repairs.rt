@@ -1,9 +1,12 @@
 //! Renewing, cleaning and climbing: changes of the trie that leave its content alone.
 
+ghost use Rattle.std.specs.Prelude.{◌≡◌, IfOk};
+
 use crate::reading::Read;
 use crate::refs::Refs;
 use crate::roots::RootLine;
 use slot_arena::Ref;
+use std::alloc::AllocError;
 
 /// A line of RENEW: the current indirection's branch gets indirections of the root's generation. `done`
 /// has its new entries so far.
@@ -85,6 +88,19 @@ pub struct Climb {
     pub path: Refs,
     pub single: Ref,
     pub before: Option<u64>,
+}
+
+impl Climb {
+    /// A copy.
+    pub fn copy(&self) -> Result<Climb, AllocError>
+        ensures { IfOk result (λ copy. copy ≡ self.now) }
+    {
+        Ok(Climb {
+            path: self.path.copy()?,
+            single: self.single,
+            before: self.before,
+        })
+    }
 }
 
 /// A line of CLIMB: the tomb gives way to its single in the parent.

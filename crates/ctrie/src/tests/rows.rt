@@ -57,8 +57,27 @@ end 5 handle 1\n\
 begin 6 1 count 1\n\
 end 6 count 0\n";
 
+/// Two actors: one puts, the other gets the value that is being put.
+const GET_DURING_PUT: &str = "hash low\n\
+begin 0 1 put 0 5 50\n\
+begin 1 2 get 0 5\n\
+end 1 some 50\n\
+end 0 none\n\
+begin 2 2 freeze 0 as 1\n\
+end 2 handle 1\n\
+begin 3 1 remove 0 5\n\
+end 3 some 50\n\
+begin 4 2 entries 1\n\
+end 4 pairs 5=50\n";
+
 /// Events, what follows them, the answer, and what is written.
-pub static ROWS: [(&str, &str, Result<bool, Fault>, &str); 15] = [
+pub static ROWS: [(&str, &str, Result<bool, Fault>, &str); 16] = [
+    (
+        GET_DURING_PUT,
+        "order 0 1 2 3 4\nslots used 7 free 57 limbo 2\n",
+        Ok(true),
+        "legal\n",
+    ),
     (PUT_AND_GET, "order 1 0\n", Ok(false), "not legal\n"),
     (PUT_AND_GET, "order 0 1\n", Ok(true), "legal\n"),
     (

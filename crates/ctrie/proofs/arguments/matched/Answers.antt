@@ -9,11 +9,22 @@ use Rattle.ctrie.proofs.arguments.matched.Goals as goal
 pub returns-in_err-path : goal.returns-in_err-path
 returns-in_err-path c =
     let none : c.from_residual-in_err-path.result ≡ None = search rules in
-    let asked = file_met _ _ _ _ (rows-name _ ∙ sym c.in_ok-name.ensures.name) (sym c.in_ok-name.ensures.rows) (sym (first_value-rows (found_of c.in_ok-name.found.now) (codes "FILE")) ∙ sym c.in_err-path.ensures) in
-    rw none (sym (asked ∙ chosen_same _ _))
+    let is_name = rows-name _ ∙ sym c.in_ok-name.ensures.name in
+    let is_file = sym (first_value-rows (found_of c.in_ok-name.found.now) (codes "FILE")) ∙ sym c.in_err-path.ensures in
+    let check = file_met (codes "check") _ _ _ _ is_name (sym c.in_ok-name.ensures.rows) is_file in
+    let run = file_met (codes "run") _ _ _ _ is_name (sym c.in_ok-name.ensures.rows) is_file in
+    rw none (check ∙ chosen_same _ _, run ∙ chosen_same _ _)
 
 pub returns-then-eq : goal.returns-then-eq
 returns-then-eq c =
     let is_check : bytes_eq c.in_ok-name.name.now (codes "check") ≡ true = search rules in
-    let asked = file_met _ _ _ _ (rows-name _ ∙ sym c.in_ok-name.ensures.name) (sym c.in_ok-name.ensures.rows) (sym (first_value-rows (found_of c.in_ok-name.found.now) (codes "FILE")) ∙ sym c.in_ok-path.ensures) in
-    sym (rw is_check at asked)
+    let is_name = rows-name _ ∙ sym c.in_ok-name.ensures.name in
+    let is_file = sym (first_value-rows (found_of c.in_ok-name.found.now) (codes "FILE")) ∙ sym c.in_ok-path.ensures in
+    rw is_check at (file_met (codes "check") _ _ _ _ is_name (sym c.in_ok-name.ensures.rows) is_file)
+
+pub returns-then-eq-2 : goal.returns-then-eq-2
+returns-then-eq-2 c =
+    let is_run : bytes_eq c.in_ok-name.name.now (codes "run") ≡ true = search rules in
+    let is_name = rows-name _ ∙ sym c.in_ok-name.ensures.name in
+    let is_file = sym (first_value-rows (found_of c.in_ok-name.found.now) (codes "FILE")) ∙ sym c.in_ok-path.ensures in
+    rw is_run at (file_met (codes "run") _ _ _ _ is_name (sym c.in_ok-name.ensures.rows) is_file)

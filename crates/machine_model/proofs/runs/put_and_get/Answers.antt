@@ -4,9 +4,9 @@ use Rattle.machine_model.specs.Heaps.{stored, node_at, prev_at, with_main, with_
 use Rattle.machine_model.specs.States.{first_state}
 use Rattle.machine_model.specs.Counting.{count_of}
 use Rattle.machine_model.specs.Orders.{order_of}
-use Rattle.machine_model.specs.Machine.{run_from, next}
+use Rattle.machine_model.specs.Machine.{taken_below, least_from, run_from, next}
 use Rattle.machine_model.proofs.runs.put_and_get.Goals as goal
 
 pub returns : goal.returns
-unfolding run_from next first_state stored node_at prev_at with_main with_prev taken freed count_of order_of ones ones_in
+unfolding taken_below least_from run_from next first_state stored node_at prev_at with_main with_prev taken freed count_of order_of ones ones_in
 returns c = refl

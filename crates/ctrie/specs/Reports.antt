@@ -1,0 +1,77 @@
+-- What a run of a script reports.
+use Rattle.std.specs.Prelude.{ℕ, List, [], ◌∷◌, ◌++◌, length, drop, Option, Some, None, codes}
+use Rattle.std.specs.List.{flat_map}
+use Rattle.std.specs.Fmt.{decimal}
+use Rattle.ctrie_base.specs.declared.refusals.Refusal.{Refusal}
+use Rattle.ctrie_base.specs.declared.hashes.HashKind.{HashKind}
+use Rattle.ctrie_base.specs.Refusals.{number_of, name_of}
+use Rattle.ctrie_base.specs.Hashes as hashes
+use Rattle.history.specs.declared.events.Event.{Event}
+use Rattle.history_text.specs.Texts.{spaced, event_text, order_text}
+use Rattle.machine_model.specs.Heaps.{in_use}
+use Rattle.machine_model.specs.States.{State, first_state}
+use Rattle.machine_model.specs.Orders.{order_of}
+use Rattle.machine_model.specs.Machine.{run}
+use Rattle.script_text.specs.declared.commands.Command.{Command}
+use Rattle.script_text.specs.declared.commands.Command.TheVariants.{Begin, Go, Until, Finish, Do, Sweep}
+use Rattle.script_text.specs.Reading.{Reading}
+use Rattle.script_text.specs.Steps.{denial_of, after_command, all_steps}
+
+-- each line of a report ends with a line feed
+abbrev pub line : List ℕ → List ℕ
+line text = text ++ 10 ∷ []
+
+-- the first line
+abbrev pub hash_text : HashKind → List ℕ
+hash_text hash = spaced (codes "hash" ∷ hashes.name_of hash ∷ [])
+
+-- a denied line of the script
+abbrev pub denied_text : ℕ → Refusal → List ℕ
+denied_text actor refusal = spaced (codes "denied" ∷ decimal actor ∷ decimal (number_of refusal) ∷ name_of refusal ∷ [])
+
+-- how many slots are in use, free and in limbo
+abbrev pub slots_text : ℕ → ℕ → ℕ → List ℕ
+slots_text used free limbo =
+    spaced (codes "slots" ∷ codes "used" ∷ decimal used ∷ codes "free" ∷ decimal free ∷ codes "limbo" ∷ decimal limbo ∷ [])
+
+-- a line for each of these events
+abbrev pub event_lines : List Event → List ℕ
+event_lines events = flat_map (λ event. line (event_text event)) events
+
+-- the actor that a line names; a sweep names none
+abbrev pub actor_of : Command → ℕ
+actor_of (Begin actor call) = actor
+actor_of (Go actor times) = actor
+actor_of (Until actor kind) = actor
+actor_of (Finish actor) = actor
+actor_of (Do actor call) = actor
+actor_of (Sweep times) = 0
+
+-- what a line of the script tells: that it is denied, or else the events that it adds
+abbrev pub told_by : Option Refusal → ℕ → List Event → List ℕ
+told_by (Some refusal) actor added = line (denied_text actor refusal)
+told_by None actor added = event_lines added
+
+-- the events of a line of the script
+abbrev pub added_events : State → Command → List Event
+added_events state command = drop (length state.events) (after_command state command).events
+
+abbrev pub told : State → Command → List ℕ
+told state command = told_by (denial_of state command) (actor_of command) (added_events state command)
+
+-- what these lines of the script tell, one after the other
+unfoldable pub all_told : State → List Command → List ℕ
+all_told state [] = []
+all_told state (command ∷ more) = told state command ++ all_told (after_command state command) more
+
+-- the last lines, of the state after the run
+abbrev pub last_lines : State → List ℕ
+last_lines state = line (order_text (order_of state)) ++ line (slots_text (length (in_use state.heap)) (length state.heap.free) (length state.limbo))
+
+-- the state after the steps that all lines of the script name
+abbrev pub last_state : Reading → State
+last_state script = run script.limits (all_steps (first_state script.limits) script.commands)
+
+-- the report
+unfoldable pub report : Reading → List ℕ
+report script = line (hash_text script.limits.hash) ++ (all_told (first_state script.limits) script.commands ++ last_lines (last_state script))

@@ -1,0 +1,142 @@
+//! WALK: an operation on a read-only handle goes through all pairs.
+
+ghost use Rattle.std.specs.Prelude.{◌≡◌, ◌++◌, IfOk};
+ghost use Rattle.machine_model.specs.Heaps.{node_at, entries_of};
+ghost use Rattle.machine_model.specs.Walking.{walked_reply, walk_next, first_of, rest_of, walk_action, after_read, after_entry, walk_after};
+ghost use Rattle.plain_state.specs.Seen.{seen};
+
+use crate::pairs::pairs_by_key;
+use history::{Call, Pairs, Reply};
+use machine_model::{Action, After, Line, Operation, Read, Refs, WalkLine};
+use plain_reading::{handle_of, read_action, read_step, reading};
+use plain_state::{Parts, root_of};
+use slot_arena::{Node, Ref};
+use std::alloc::AllocError;
+
+/// The reply to a walk that has taken these pairs.
+fn walked_reply(call: Call, taken: &Pairs) -> Result<Reply, AllocError>
+    ensures { IfOk result (λ reply. reply ≡ walked_reply call taken.now) }
+{
+    let pairs = taken.as_slice();
+    Ok(match call {
+        Call::Count { .. } => Reply::Count(pairs.len() as u64),
+        _ => Reply::Pairs(pairs_by_key(taken.allocator(), pairs)?),
+    })
+}
+
+/// The line of the next entry or, where none is left to be looked at, of the end.
+fn walk_next(operation: &Operation, todo: Refs, taken: Pairs) -> Result<Line, AllocError>
+    ensures { IfOk result (λ line. line ≡ walk_next operation.now todo taken) }
+{
+    if todo.as_slice().is_empty() {
+        return Ok(Line::End(walked_reply(operation.call, &taken)?));
+    }
+    Ok(Line::Walk(WalkLine::Entry { todo, taken }))
+}
+
+/// The first of these entries.
+fn first_of(todo: &Refs) -> Ref
+    ensures { result ≡ first_of todo.now }
+{
+    todo.as_slice().first().copied().unwrap_or(Ref::default())
+}
+
+/// The entries behind the first.
+fn rest_of(todo: &Refs) -> Result<Refs, AllocError>
+    ensures { IfOk result (λ rest. rest ≡ rest_of todo.now) }
+{
+    match todo.as_slice() {
+        [] => Ok(Refs::new(todo.allocator())),
+        [_, rest @ ..] => Refs::from_slice(todo.allocator(), rest),
+    }
+}
+
+/// The entries of a main node, and behind them those that are still to be looked at.
+fn entries_before(node: &Node, todo: &Refs) -> Result<Refs, AllocError>
+    ensures { IfOk result (λ all. all ≡ entries_of node.now ++ todo.now) }
+{
+    let alloc = todo.allocator();
+    let rest = todo.as_slice();
+    match node {
+        Node::Branch { entries, .. } => Refs::from_both(alloc, entries.as_slice(), rest),
+        Node::List { singles } => Refs::from_both(alloc, singles.as_slice(), rest),
+        Node::Tomb { single } => Refs::from_both(alloc, &[*single], rest),
+        Node::Indirection { .. } | Node::Single { .. } => todo.copy(),
+    }
+}
+
+/// What the step of a WALK's line does.
+pub fn walk_action(line: &WalkLine) -> Action
+    ensures { result ≡ walk_action line.now }
+{
+    match line {
+        WalkLine::Root => Action::ReadRoot,
+        WalkLine::Read { read, .. } => read_action(read.indirection, read.line),
+        WalkLine::Main { main, .. } => Action::Look { at: *main },
+        WalkLine::Entry { todo, .. } => Action::Look { at: first_of(todo) },
+    }
+}
+
+/// After a step of an indirection's READ.
+fn after_read(todo: Refs, taken: Pairs, after: After<Read, Ref>) -> Line
+    ensures { result ≡ after_read todo taken after }
+{
+    match after {
+        After::Goes(read) => Line::Walk(WalkLine::Read { read, todo, taken }),
+        After::Gives(main) => Line::Walk(WalkLine::Main { main, todo, taken }),
+    }
+}
+
+/// After an entry: a single is taken, an indirection is read.
+fn after_entry(
+    parts: &Parts,
+    operation: &Operation,
+    entry: Ref,
+    todo: Refs,
+    taken: &Pairs,
+) -> Result<Line, AllocError>
+    ensures { IfOk result (λ line. line ≡ after_entry operation.now entry todo taken.now (node_at (seen parts.now).heap entry)) }
+{
+    match parts.heap.node(entry) {
+        Node::Indirection { .. } => Ok(Line::Walk(WalkLine::Read {
+            read: reading(entry),
+            todo,
+            taken: taken.copy()?,
+        })),
+        Node::Single { key, value } => walk_next(operation, todo, taken.with(*key, *value)?),
+        _ => walk_next(operation, todo, taken.copy()?),
+    }
+}
+
+/// The line that reads the root of the walk's handle.
+fn reading_root(parts: &Parts, operation: &Operation) -> Line
+    ensures { result ≡ walk_after (seen parts.now) operation.now WalkLine.Root }
+{
+    let word = parts.word(handle_of(operation.call));
+    Line::Walk(WalkLine::Read {
+        read: reading(root_of(word)),
+        todo: Refs::new(parts.alloc),
+        taken: Pairs::from_vec(Vec::new(parts.alloc)),
+    })
+}
+
+/// What comes after a step of WALK. An error says that memory was refused.
+pub fn walk_after(parts: &Parts, operation: &Operation, line: &WalkLine) -> Result<Line, AllocError>
+    ensures { IfOk result (λ after. after ≡ walk_after (seen parts.now) operation.now line.now) }
+{
+    match line {
+        WalkLine::Root => Ok(reading_root(parts, operation)),
+        WalkLine::Read { read, todo, taken } => Ok(after_read(
+            todo.copy()?,
+            taken.copy()?,
+            read_step(parts, operation, *read),
+        )),
+        WalkLine::Main { main, todo, taken } => {
+            let todo = entries_before(parts.heap.node(*main), todo)?;
+            walk_next(operation, todo, taken.copy()?)
+        }
+        WalkLine::Entry { todo, taken } => {
+            after_entry(parts, operation, first_of(todo), rest_of(todo)?, taken)
+        }
+    }
+}

@@ -1,0 +1,210 @@
+-- What steps come to.
+use Rattle.std.proofs.Common.{◌≡◌, ℕ, ◌+◌, inl, inr, true, false, List, [], ◌∷◌, length, if◌then◌else◌, Option, Some, None, IfOk, Result, Ok, Err, refl, sym, ap, ◌∙◌, arith, length-set}
+use Rattle.ctrie_base.specs.declared.refusals.Refusal.{Refusal}
+use Rattle.ctrie_base.specs.declared.refusals.Refusal.TheVariants as refuse
+use Rattle.history.specs.declared.calls.Call.{Call}
+use Rattle.history.specs.Histories.{begun}
+use Rattle.slot_arena.specs.Refs.{slot_of}
+use Rattle.slot_arena.specs.declared.refs.Ref.{Ref}
+use Rattle.slot_arena.specs.declared.nodes.Node.{Node}
+use Rattle.slot_arena.specs.declared.nodes.Prev.{Prev}
+use Rattle.machine_model.specs.declared.actions.Action.{Action}
+use Rattle.machine_model.specs.declared.actions.Action.TheVariants as act
+use Rattle.machine_model.specs.declared.operations.Operation.{Operation}
+use Rattle.machine_model.specs.declared.steps.Outcome.{Outcome}
+use Rattle.machine_model.specs.declared.steps.Outcome.TheVariants as outcome
+use Rattle.machine_model.specs.declared.steps.Step.{Step}
+use Rattle.machine_model.specs.declared.steps.Step.TheVariants as step
+use Rattle.machine_model.specs.Heaps.{Heap, with_main, with_prev, taken, take_from, freed}
+use Rattle.machine_model.specs.States.{State, operation_of}
+use Rattle.machine_model.specs.Calls.{handle_of}
+use Rattle.machine_model.specs.Operations.{action_of}
+use Rattle.machine_model.specs.Acting.{gone}
+use Rattle.machine_model.specs.Counting.{limbo_after, settled}
+use Rattle.machine_model.specs.Machine.{next, begin_denial, begin_unless, with_begin, go_denial, go_unless, go_on, went, is_spent, ripe, sweep_by, settled_after, is_taken_step}
+use Rattle.machine_model.proofs.Frames.{acted_framed}
+use Rattle.machine_model.proofs.HeapMoves.{HeapMoves, Stays, Takes, Publishes, Restores, Decides, Frees, acted_heap}
+use Rattle.machine_model.proofs.Moves.{begun_operation}
+use Rattle.plain_machine.specs.Bounds.{Applies, Leads}
+
+-- ---- the number of slots
+
+main_slots : (heap : Heap) (r m : Ref) → length (with_main heap r m).slots ≡ length heap.slots
+unfolding with_main
+main_slots heap r m = length-set heap.slots (slot_of r) _
+
+prev_slots : (heap : Heap) (r : Ref) (p : Prev) → length (with_prev heap r p).slots ≡ length heap.slots
+unfolding with_prev
+prev_slots heap r p = length-set heap.slots (slot_of r) _
+
+freed_slots : (heap : Heap) (r : Ref) → length (freed heap r).slots ≡ length heap.slots
+unfolding freed
+freed_slots heap r = length-set heap.slots (slot_of r) _
+
+take_slots : (heap : Heap) (node : Node) (free : List ℕ) → length (take_from heap node free).slots ≡ length heap.slots
+take_slots heap node [] = refl
+take_slots heap node (slot ∷ free) = length-set heap.slots slot _
+
+taken_slots : (heap : Heap) (node : Node) → length (taken heap node).slots ≡ length heap.slots
+unfolding taken
+taken_slots heap node = take_slots heap node heap.free
+
+-- no effect of an action changes it
+pub heap_slots : (heap : Heap) (due : Option Ref) (after : Heap) → HeapMoves heap due after → length after.slots ≡ length heap.slots
+heap_slots heap due after Stays = refl
+heap_slots heap due after (Takes node) = taken_slots heap node
+heap_slots heap due after (Publishes indirection replaced fresh e) = prev_slots (with_main heap indirection fresh) fresh _ ∙ main_slots heap indirection fresh
+heap_slots heap due after (Restores indirection main before e) = main_slots heap indirection before
+heap_slots heap due after (Decides indirection main before told e) = prev_slots heap main _
+heap_slots heap due after (Frees r e) = freed_slots heap r
+
+-- ---- denied steps
+
+pub begin_denied : (state : State) (actor : ℕ) (call : Call) (why : Refusal) → begin_denial state actor call ≡ Some why → next state (step.Begin actor call) ≡ Err why
+unfolding next
+begin_denied state actor call why e = ap (λ d. begin_unless state actor call d) e
+
+pub go_denied : (state : State) (actor : ℕ) (why : Refusal) → go_denial state actor ≡ Some why → next state (step.Go actor) ≡ Err why
+unfolding next
+go_denied state actor why e = ap (λ d. go_unless state actor d) e
+
+pub sweep_denied : (state : State) → is_spent state ≡ true → next state step.Sweep ≡ Err refuse.Spent
+unfolding next
+sweep_denied state e = ap (λ b. if b then Err refuse.Spent else settled_after state (sweep_by state (ripe state.epoch state.limbo))) e
+
+-- a denied step applies as such
+pub begin_refused : (state : State) (actor : ℕ) (call : Call) (why : Refusal) → begin_denial state actor call ≡ Some why →
+    Applies (Err why) state (next state (step.Begin actor call)) state
+begin_refused state actor call why e = (refl, inl (begin_denied state actor call why e))
+
+pub go_refused : (state : State) (actor : ℕ) (why : Refusal) → go_denial state actor ≡ Some why → Applies (Err why) state (next state (step.Go actor)) state
+go_refused state actor why e = (refl, inl (go_denied state actor why e))
+
+pub sweep_refused : (state : State) → is_spent state ≡ true → Applies (Err refuse.Spent) state (next state step.Sweep) state
+sweep_refused state e = (refl, inl (sweep_denied state e))
+
+-- ---- steps that aren't denied
+
+begin_answer : (state : State) (actor : ℕ) (call : Call) → begin_denial state actor call ≡ None →
+    next state (step.Begin actor call) ≡ Ok (outcome.Began (begun state.events), settled state (with_begin state actor call (begun_operation state call)))
+unfolding next
+begin_answer state actor call e = ap (λ d. begin_unless state actor call d) e
+
+sweep_answer : (state : State) → is_spent state ≡ false → next state step.Sweep ≡ settled_after state (sweep_by state (ripe state.epoch state.limbo))
+unfolding next
+sweep_answer state e = ap (λ b. if b then Err refuse.Spent else settled_after state (sweep_by state (ripe state.epoch state.limbo))) e
+
+go_answer : (state : State) (actor : ℕ) (operation : Operation) → go_denial state actor ≡ None → operation_of state actor ≡ Some operation →
+    next state (step.Go actor) ≡ settled_after state (went state actor operation (action_of state operation))
+unfolding next
+go_answer state actor operation e found = ap (λ d. go_unless state actor d) e ∙ ap (λ o. go_on state actor o) found
+
+-- an actor whose step isn't denied runs an operation
+running_by : (state : State) (actor : ℕ) (found : Option Operation) → operation_of state actor ≡ found → go_denial state actor ≡ None →
+    (operation : Operation) × (operation_of state actor ≡ Some operation)
+running_by state actor None e d = absurd (grind arith)
+running_by state actor (Some operation) e d = (operation, e)
+
+pub running : (state : State) (actor : ℕ) → go_denial state actor ≡ None → (operation : Operation) × (operation_of state actor ≡ Some operation)
+running state actor d = running_by state actor (operation_of state actor) refl d
+
+-- a step that lacks memory applies where it isn't denied
+pub begin_lacks : (state after : State) (actor : ℕ) (call : Call) → begin_denial state actor call ≡ None → after ≡ state →
+    Applies (Err refuse.Memory) state (next state (step.Begin actor call)) after
+begin_lacks state after actor call d e = (e, inr (refl, ap is_taken_step (begin_answer state actor call d)))
+
+pub go_lacks : (state after : State) (actor : ℕ) → go_denial state actor ≡ None → after ≡ state → Applies (Err refuse.Memory) state (next state (step.Go actor)) after
+go_lacks state after actor d e =
+    let (operation, found) = running state actor d in
+    (e, inr (refl, ap is_taken_step (go_answer state actor operation d found)))
+
+pub sweep_lacks : (state after : State) → is_spent state ≡ false → after ≡ state → Applies (Err refuse.Memory) state (next state step.Sweep) after
+sweep_lacks state after d e = (e, inr (refl, ap is_taken_step (sweep_answer state d)))
+
+-- ---- what they lead to
+
+-- what a begin leaves
+begin_leaves : (state : State) (actor : ℕ) (call : Call) (operation : Operation) →
+    ((with_begin state actor call operation).limbo ≡ state.limbo) × ((with_begin state actor call operation).steps ≡ state.steps)
+    × (length (with_begin state actor call operation).heap.slots ≡ length state.heap.slots)
+begin_leaves state actor call operation = grind arith
+
+-- a begin that isn't denied
+pub begin_leads : (state after : State) (actor : ℕ) (call : Call) (id : ℕ) → begin_denial state actor call ≡ None → id ≡ begun state.events →
+    after ≡ with_begin state actor call (begun_operation state call) → Leads state (step.Begin actor call) (outcome.Began id) after
+begin_leads state after actor call id d e is =
+    let left = begin_leaves state actor call (begun_operation state call) in
+    record {
+      answer = begin_answer state actor call d ∙ ap (λ n. Ok (outcome.Began n, settled state (with_begin state actor call (begun_operation state call)))) (sym e)
+          ∙ ap (λ x. Ok (outcome.Began id, settled state x)) (sym is);
+      limbo = ap (λ x. x.limbo) is ∙ left.0;
+      steps = ap (λ x. x.steps) is ∙ left.1;
+      slots = ap (λ x. length x.heap.slots) is ∙ left.2;
+    }
+
+-- what a step that goes on leaves
+record Leaves (before after : State) : Type 0 where
+  limbo : after.limbo ≡ before.limbo
+  steps : after.steps ≡ before.steps
+  slots : length after.heap.slots ≡ length before.heap.slots
+
+gone_leaves : (state : State) (actor : ℕ) (operation : Operation) → Leaves state (gone state actor operation)
+gone_leaves state actor operation = record {
+  limbo = (acted_framed _ (handle_of operation.call) (action_of state operation)).limbo;
+  steps = (acted_framed _ (handle_of operation.call) (action_of state operation)).steps;
+  slots = heap_slots _ None _ (acted_heap _ None (handle_of operation.call) (action_of state operation));
+}
+
+went_leaves : (state : State) (actor : ℕ) (operation : Operation) (action : Action) → Leaves state (went state actor operation action).1
+went_leaves state actor operation (act.End answer) = record { limbo = refl; steps = refl; slots = refl }
+went_leaves state actor operation action = gone_leaves state actor operation
+
+-- a step of an actor's operation that isn't denied
+pub go_leads : (state after : State) (actor : ℕ) (o : Outcome) → go_denial state actor ≡ None →
+    ((operation : Operation) → operation_of state actor ≡ Some operation → went state actor operation (action_of state operation) ≡ (o, after)) →
+    Leads state (step.Go actor) o after
+go_leads state after actor o d says =
+    let (operation, found) = running state actor d in
+    let is = says operation found in
+    let left = went_leaves state actor operation (action_of state operation) in
+    record {
+      answer = go_answer state actor operation d found ∙ ap (λ x. settled_after state x) is;
+      limbo = sym (ap (λ x. x.1.limbo) is) ∙ left.limbo;
+      steps = sym (ap (λ x. x.1.steps) is) ∙ left.steps;
+      slots = sym (ap (λ x. length x.1.heap.slots) is) ∙ left.slots;
+    }
+
+sweep_leaves : (state : State) (due : Option Ref) → Leaves state (sweep_by state due).1
+sweep_leaves state None = grind arith
+sweep_leaves state (Some r) = record { limbo = refl; steps = refl; slots = freed_slots state.heap r }
+
+-- a step of the sweep that isn't denied
+pub sweep_leads : (state after : State) (o : Outcome) → is_spent state ≡ false → (o, after) ≡ sweep_by state (ripe state.epoch state.limbo) →
+    Leads state step.Sweep o after
+sweep_leads state after o d is =
+    let left = sweep_leaves state (ripe state.epoch state.limbo) in
+    record {
+      answer = sweep_answer state d ∙ ap (λ x. settled_after state x) (sym is);
+      limbo = ap (λ x. x.1.limbo) is ∙ left.limbo;
+      steps = ap (λ x. x.1.steps) is ∙ left.steps;
+      slots = ap (λ x. length x.1.heap.slots) is ∙ left.slots;
+    }
+
+-- ---- the end of a step
+
+-- where a step left limbo and the count of steps, its end needs only what it led to
+settled_same : (before middle : State) → middle.limbo ≡ before.limbo → middle.steps ≡ before.steps → settled before middle ≡ settled middle middle
+settled_same before middle limbo steps =
+    ap (λ items. record middle { limbo = limbo_after (record middle { limbo = items }) middle; steps = before.steps + 1 }) (sym limbo)
+    ∙ ap (λ n. record middle { limbo = limbo_after middle middle; steps = n + 1 }) (sym steps)
+
+-- a step that led there applies
+pub leads_applies : (before middle after : State) (s : Step) (o : Outcome) → Leads before s o middle → after ≡ settled middle middle →
+    Applies (Ok o) before (next before s) after
+leads_applies before middle after s o h e =
+    h.answer ∙ ap (λ x. Ok (o, x)) (settled_same before middle h.limbo h.steps ∙ sym e)
+
+-- what follows of an outcome follows where there is one
+pub if_ok : {T E : Type 0} (r : Result T E) (P Q : T → Type 0) → ((x : T) → P x → Q x) → IfOk r P → IfOk r Q
+if_ok (Ok x) P Q f h = f x h
+if_ok (Err e) P Q f h = tt

@@ -1,0 +1,16 @@
+use Rattle.std.proofs.Common.{◌≡◌, ◌+◌, ◌*◌, ◌++◌, drop}
+use Rattle.std.specs.List.{flat_map}
+use Rattle.machine_model.specs.Heaps.{entries_of, node_at}
+use Rattle.machine_model.specs.Contents.{pairs_below}
+use Rattle.plain_machine.proofs.contents.+gathering.Given as goal
+
+abbrev pub decreases-gather : goal.decreases-gather
+decreases-gather l = 2 * l.levels
+
+abbrev pub decreases-gather_each : goal.decreases-gather_each
+decreases-gather_each l = 2 * l.levels + 1
+
+abbrev pub invariant-gather_each-loop-position : goal.invariant-gather_each-loop-position
+invariant-gather_each-loop-position l =
+    l.pairs.items ++ flat_map (pairs_below l.levels l.heap) (drop l.position (entries_of (node_at l.heap l.main)))
+    ≡ l.initial.pairs.items ++ flat_map (pairs_below l.levels l.heap) (entries_of (node_at l.heap l.main))

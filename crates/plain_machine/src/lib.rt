@@ -1,0 +1,16 @@
+//! The plain machine: it computes what the definition of the machine's step says, with vectors and scans.
+#![tactic(auto)]
+
+mod actors;
+mod beginning;
+mod contents;
+mod denials;
+mod handles;
+mod limbo;
+mod machine;
+mod marks;
+mod starting;
+mod stepping;
+mod sweeping;
+
+pub use machine::Plain;

@@ -1,0 +1,229 @@
+//! The plain machine as one value.
+
+ghost use Rattle.std.specs.Prelude.{◌≡◌, length, option_map, Some, IsSome, IfOk, IfErr, OnOk, IsOkUnless};
+ghost use Rattle.machine_model.specs.Heaps.{in_use};
+ghost use Rattle.machine_model.specs.States.{first_state, root_at};
+ghost use Rattle.machine_model.specs.Orders.{order_of};
+ghost use Rattle.machine_model.specs.Contents.{content_at};
+ghost use Rattle.machine_model.specs.Machine.{next, is_running, is_busy, next_kind, runs_on, denial_of, is_access, access_of, handles_taken, AreLimits};
+ghost use Rattle.plain_machine.specs.Bounds.{Applies, IsOfRun};
+ghost use Rattle.machine_model.specs.Refusing.{RefusesLimits, RefusesContent};
+
+use crate::actors::{is_running, runs_on};
+use crate::contents::{content_of, used};
+use crate::denials::{begin_denial, go_denial, is_access, sweep_denial};
+use crate::handles::handles_taken;
+use crate::limbo::Scratch;
+use crate::starting::{are_limits, first_parts};
+use crate::stepping::{begin, go, sweep};
+use ctrie_base::{Kind, Refusal};
+use history::{Access, Event, Pairs};
+use machine_model::{Limits, Outcome, Step};
+use plain_operations::{operation_kind, order_of};
+use plain_state::Parts;
+use std::alloc::Global;
+use std::marker::Model;
+
+/// A machine in vectors. It is seen as the definition's state, and is one to which a run of steps leads.
+#[derive(Drop)]
+pub struct Plain {
+    parts: Parts,
+    /// How many operations have begun: the id of the next one.
+    next_id: u64,
+    scratch: Scratch,
+}
+
+impl Model for Plain {
+    ghost use Rattle.std.specs.Prelude.{◌≡◌};
+    ghost use Rattle.history.specs.Histories.{begun};
+    ghost use Rattle.machine_model.specs.States.{State};
+    ghost use Rattle.plain_state.specs.Seen.{seen};
+    ghost use Rattle.plain_machine.specs.Bounds.{IsOfRun};
+
+    ghost Value = { State };
+
+    ghost view = { λ p. seen p.parts };
+
+    ghost invariant = { λ p. IsOfRun (seen p.parts) × (p.next_id ≡ begun p.parts.events.items) };
+}
+
+impl Plain {
+    /// A machine that has taken no step. The limits are checked first: `BadLimits` where one is out of
+    /// range; any other refusal is `Memory`.
+    pub fn new(alloc: Global, limits: Limits) -> Result<Plain, Refusal>
+        ensures made { IfOk result (λ p. p ≡ first_state limits) }
+        ensures refused { IfErr result (λ refusal. RefusesLimits limits refusal) }
+        ensures in_range { OnOk result (AreLimits limits) }
+    {
+        if !are_limits(limits) {
+            return Err(Refusal::BadLimits);
+        }
+        let parts = first_parts(alloc, limits)?;
+        Ok(Plain {
+            parts,
+            next_id: 0,
+            scratch: Scratch::new(alloc),
+        })
+    }
+
+    /// Takes a step, or refuses it. After a refusal nothing has changed; `Memory` is the only one that the
+    /// definition doesn't give, and comes only where it gives none.
+    pub fn apply(&mut self, step: Step) -> Result<Outcome, Refusal>
+        ensures { Applies result self.old (next self.old step) self.new }
+    {
+        match step {
+            Step::Begin { actor, call } => {
+                let id = self.next_id;
+                let outcome = begin(&mut self.parts, &mut self.scratch, actor, call, id)?;
+                self.next_id += 1;
+                Ok(outcome)
+            }
+            Step::Go { actor } => go(&mut self.parts, &mut self.scratch, actor),
+            Step::Sweep => sweep(&mut self.parts, &mut self.scratch),
+        }
+    }
+
+    /// Why the step is denied, where it is. `apply` answers the same.
+    pub fn denial(&self, step: Step) -> Option<Refusal>
+        ensures { result ≡ denial_of self.now step }
+    {
+        match step {
+            Step::Begin { actor, call } => begin_denial(&self.parts, actor, call),
+            Step::Go { actor } => go_denial(&self.parts, actor),
+            Step::Sweep => sweep_denial(&self.parts),
+        }
+    }
+
+    /// The order: the ids of operations by rising place. `Memory` is the only refusal.
+    #[tactic(auto, unfolding(machine_model::specs::Orders::order_of))]
+    pub fn order(&self) -> Result<Vec<u64>, Refusal>
+        ensures exact { IfOk result (λ order. order.items ≡ order_of self.now) }
+        ensures only_memory { IsOkUnless result Refusal.Memory }
+    {
+        Ok(order_of(self.parts.alloc, self.parts.places.as_slice())?)
+    }
+
+    /// What the map of an open handle holds, by rising key. `NoHandle` exactly where the handle isn't open;
+    /// any other refusal is `Memory`.
+    pub fn content(&self, handle: u16) -> Result<Pairs, Refusal>
+        ensures exact { IfOk result (λ pairs. pairs ≡ content_at self.now handle) }
+        ensures open { OnOk result (IsSome (root_at self.now handle)) }
+        ensures refused { IfErr result (λ refusal. RefusesContent self.now handle refusal) }
+    {
+        if self.parts.root(handle).is_none() {
+            return Err(Refusal::NoHandle);
+        }
+        Ok(content_of(&self.parts, handle)?)
+    }
+
+    /// The history.
+    pub fn events(&self) -> &[Event]
+        ensures { result.now ≡ self.now.events }
+    {
+        self.parts.events.as_slice()
+    }
+
+    /// The kind of the next step of the actor's operation, if it runs one.
+    pub fn next_kind(&self, actor: u8) -> Option<Kind>
+        ensures { result ≡ next_kind self.now actor }
+    {
+        match self.parts.operation(actor) {
+            None => None,
+            Some(operation) => Some(operation_kind(&self.parts, operation)),
+        }
+    }
+
+    /// The history, handed out. It takes no memory.
+    pub fn into_events(self) -> Vec<Event>
+        ensures { result.items ≡ self.events }
+    {
+        self.parts.events
+    }
+
+    /// Whether the actor runs an operation.
+    pub fn is_running(&self, actor: u8) -> bool
+        ensures { result ≡ is_running self.now actor }
+    {
+        is_running(&self.parts, actor)
+    }
+
+    /// Whether any actor runs an operation.
+    pub fn is_busy(&self) -> bool
+        ensures { result ≡ is_busy self.now }
+    {
+        self.parts.actors.iter().any(Option::is_some)
+    }
+
+    /// Whether an operation runs that was called on the handle.
+    pub fn runs_on(&self, handle: u16) -> bool
+        ensures { result ≡ runs_on self.now handle }
+    {
+        runs_on(&self.parts, handle)
+    }
+
+    /// Whether the handle is writable, if it is open.
+    pub fn is_writable(&self, handle: u16) -> Option<bool>
+        ensures { result ≡ option_map (λ access. is_access Access.Writable (Some access)) (access_of (root_at self.now handle)) }
+    {
+        match self.parts.access(handle) {
+            None => None,
+            access => Some(is_access(Access::Writable, access)),
+        }
+    }
+
+    /// How many handles are open or reserved: at most 256.
+    pub fn handles_taken(&self) -> u32
+        ensures { result ≡ handles_taken self.now }
+    {
+        u32::from(handles_taken(&self.parts))
+    }
+
+    /// How many slots are free.
+    pub fn free_slots(&self) -> u32
+        ensures { result ≡ length self.now.heap.free }
+    {
+        self.parts.heap.free().len() as u32
+    }
+
+    /// How many slots are in use, those of limbo among them.
+    pub fn used(&self) -> u32
+        ensures { result ≡ length (in_use self.now.heap) }
+    {
+        used(self.parts.heap.slots())
+    }
+
+    /// How many slots are in limbo.
+    pub fn limbo_len(&self) -> u32
+        ensures { result ≡ length self.now.limbo }
+    {
+        self.parts.limbo.len() as u32
+    }
+
+    /// The epoch.
+    pub fn epoch(&self) -> u64
+        ensures { result ≡ self.now.epoch }
+    {
+        self.parts.epoch
+    }
+
+    /// How many steps were taken.
+    pub fn steps_taken(&self) -> u64
+        ensures { result ≡ self.now.steps }
+    {
+        self.parts.steps
+    }
+
+    /// A law: a run of steps leads to the machine's state, so what holds along all runs holds of it.
+    pub fn comes_of_run(&self)
+        ensures { IsOfRun self.now }
+    {
+        let _steps = self.parts.steps;
+    }
+
+    /// The limits.
+    pub fn limits(&self) -> Limits
+        ensures { result ≡ self.now.limits }
+    {
+        self.parts.limits
+    }
+}

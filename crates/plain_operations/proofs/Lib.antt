@@ -1,0 +1,4 @@
+pub mod Rising
+pub mod Written
+pub mod Carried
+pub mod Gone

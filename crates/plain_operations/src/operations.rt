@@ -1,0 +1,79 @@
+//! A running operation: what its next step does, of which kind that is, and which READ it takes.
+
+ghost use Rattle.std.specs.Prelude.{◌≡◌, IfOk};
+ghost use Rattle.machine_model.specs.Operations.{first_line, action_of, kind_of};
+ghost use Rattle.plain_state.specs.Seen.{seen};
+
+use ctrie_base::Kind;
+use history::{Call, Reply};
+use machine_model::{Action, Line, Operation, RootLine, WalkLine};
+use plain_lines::{
+    build_action, clean_action, climb_action, copy_action, key_action, renew_action, walk_action,
+};
+use plain_reading::{root_action, swap_action};
+use plain_state::Parts;
+use std::alloc::AllocError;
+
+/// Where an operation begins.
+pub fn first_line(call: Call) -> Line
+    ensures { result ≡ first_line call }
+{
+    match call {
+        Call::Entries { .. } | Call::Count { .. } => Line::Walk(WalkLine::Root),
+        Call::Close { .. } => Line::End(Reply::Closed),
+        _ => Line::Root(RootLine::Read),
+    }
+}
+
+/// What the operation's next step does.
+pub fn operation_action(parts: &Parts, operation: &Operation) -> Result<Action, AllocError>
+    ensures { IfOk result (λ action. action ≡ action_of (seen parts.now) operation.now) }
+{
+    Ok(match &operation.line {
+        Line::Root(line) => root_action(*line),
+        Line::Key(line) => key_action(parts, line),
+        Line::Build(line) => build_action(parts, operation, line),
+        Line::Swap { swap, .. } => swap_action(*swap),
+        Line::Renew(line) => renew_action(parts, operation, line),
+        Line::Clean(line) => clean_action(parts, line),
+        Line::Climb(line) => climb_action(parts, operation, line),
+        Line::Copy(line) => copy_action(line),
+        Line::Walk(line) => walk_action(line),
+        Line::End(reply) => Action::End(reply.copy()?),
+    })
+}
+
+/// The kind of the operation's next step.
+pub fn operation_kind(parts: &Parts, operation: &Operation) -> Kind
+    ensures { result ≡ kind_of (action_of (seen parts.now) operation.now) }
+{
+    match &operation.line {
+        Line::Root(line) => kind_of(&root_action(*line)),
+        Line::Key(line) => kind_of(&key_action(parts, line)),
+        Line::Build(line) => kind_of(&build_action(parts, operation, line)),
+        Line::Swap { swap, .. } => kind_of(&swap_action(*swap)),
+        Line::Renew(line) => kind_of(&renew_action(parts, operation, line)),
+        Line::Clean(line) => kind_of(&clean_action(parts, line)),
+        Line::Climb(line) => kind_of(&climb_action(parts, operation, line)),
+        Line::Copy(line) => kind_of(&copy_action(line)),
+        Line::Walk(line) => kind_of(&walk_action(line)),
+        Line::End(_) => Kind::End,
+    }
+}
+
+/// The kind of a step is that of what it does.
+pub fn kind_of(action: &Action) -> Kind
+    ensures { result ≡ kind_of action.now }
+{
+    match action {
+        Action::ReadRoot => Kind::ReadRoot,
+        Action::Abort(_) | Action::Offer(_) | Action::Complete { .. } => Kind::SwapRoot,
+        Action::ReadMain { .. } => Kind::ReadMain,
+        Action::Publish { .. } | Action::Restore { .. } => Kind::SwapMain,
+        Action::ReadPrev { .. } => Kind::ReadPrev,
+        Action::Decide { .. } => Kind::SwapPrev,
+        Action::Look { .. } => Kind::Look,
+        Action::Make(_) | Action::MakeRoot { .. } => Kind::Make,
+        Action::End(_) => Kind::End,
+    }
+}

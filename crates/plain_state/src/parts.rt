@@ -1,0 +1,155 @@
+//! The parts of a plain machine.
+
+ghost use Rattle.std.specs.Prelude.{◌≡◌, ◌≤◌, option_map};
+ghost use Rattle.machine_model.specs.States.{root_at, word_at, operation_of, root_of, key_hash, closed_at, committed_at, with_word, with_root, with_operation, rewritten};
+ghost use Rattle.machine_model.specs.Machine.{access_of};
+ghost use Rattle.plain_state.specs.Seen.{seen};
+
+use crate::heap::PlainHeap;
+use history::{Access, Event};
+use machine_model::{Closing, Limits, Operation, Place, Root, RootWord, Zeroed};
+use slot_arena::Ref;
+use std::alloc::Global;
+
+/// All that a machine remembers. It holds just what the definition's state holds.
+#[derive(Drop)]
+pub struct Parts {
+    pub limits: Limits,
+    pub heap: PlainHeap,
+    /// The next generation to be drawn.
+    pub generations: u64,
+    /// The slots in use whose count is zero, in the order in which it became so.
+    pub limbo: Vec<Zeroed>,
+    pub epoch: u64,
+    /// The actor whose record of the epoch is read next.
+    pub cursor: u64,
+    /// Each handle number, if it is open.
+    pub roots: Vec<Option<Root>>,
+    /// Each actor's operation, if one runs.
+    pub actors: Vec<Option<Operation>>,
+    /// For each slot, the step in which the main node that stands there was committed.
+    pub commits: Vec<u64>,
+    /// The generations that were closed.
+    pub closings: Vec<Closing>,
+    /// The places of the operations in the order, as they came in.
+    pub places: Vec<Place>,
+    /// The history.
+    pub events: Vec<Event>,
+    /// How many steps were taken.
+    pub steps: u64,
+    /// Where memory comes from.
+    pub alloc: Global,
+}
+
+impl Parts {
+    /// The open handle of this number.
+    pub fn root(&self, handle: u16) -> Option<Root>
+        ensures { result ≡ root_at (seen self.now) handle }
+    {
+        self.roots.get(handle as usize).copied()?
+    }
+
+    /// Whether the handle is writable, if it is open.
+    pub fn access(&self, handle: u16) -> Option<Access>
+        ensures { result ≡ access_of (root_at (seen self.now) handle) }
+    {
+        match self.root(handle) {
+            None => None,
+            Some(root) => Some(root.access),
+        }
+    }
+
+    /// The root word of a handle.
+    pub fn word(&self, handle: u16) -> RootWord
+        ensures { result ≡ word_at (seen self.now) handle }
+    {
+        match self.root(handle) {
+            None => RootWord::Plain(Ref::default()),
+            Some(root) => root.word,
+        }
+    }
+
+    /// The actor's operation, if it runs one.
+    pub fn operation(&self, actor: u8) -> Option<&Operation>
+        ensures { option_map (λ operation. operation.now) result ≡ operation_of (seen self.now) actor }
+    {
+        let index = (actor as usize).checked_sub(1)?;
+        self.actors.get(index)?.as_ref()
+    }
+
+    /// The hash of a key in this machine.
+    pub fn key_hash(&self, key: u64) -> u64
+        ensures { result ≡ key_hash (seen self.now) key }
+    {
+        self.limits.hash.hash(key)
+    }
+
+    /// The step that closed a generation, if one did.
+    pub fn closed_at(&self, generation: u64) -> Option<u64>
+        ensures { result ≡ closed_at (seen self.now) generation }
+    {
+        let closing = self
+            .closings
+            .iter()
+            .find(|closing| closing.generation == generation)?;
+        Some(closing.step)
+    }
+
+    /// The step in which the main node was committed; an earlier one where it never was.
+    pub fn committed_at(&self, main: Ref) -> u64
+        ensures { result ≡ committed_at (seen self.now) main }
+    {
+        self.commits.get(main.slot() as usize).copied().unwrap_or(0)
+    }
+
+    /// Changes the root word of an open handle.
+    #[tactic(auto, using(crate::proofs::Written::unwritten))]
+    pub fn set_word(&mut self, handle: u16, word: RootWord)
+        ensures { seen self.new ≡ with_word (seen self.old) handle word }
+    {
+        if let Some(place) = self.roots.get_mut(handle as usize) {
+            set_word_in(place, word);
+        }
+    }
+
+    /// Lets the number name this, or nothing.
+    #[tactic(auto, using(crate::proofs::Written::unwritten))]
+    pub fn set_root(&mut self, handle: u16, root: Option<Root>)
+        ensures { seen self.new ≡ with_root (seen self.old) handle root }
+    {
+        if let Some(place) = self.roots.get_mut(handle as usize) {
+            *place = root;
+        }
+    }
+
+    /// Lets the actor run this operation, or none. The actor isn't 0.
+    #[tactic(auto, using(crate::proofs::Written::unwritten))]
+    pub fn set_operation(&mut self, actor: u8, operation: Option<Operation>)
+        requires { 1 ≤ actor }
+        ensures { seen self.new ≡ with_operation (seen self.old) actor operation }
+    {
+        let index = actor as usize - 1;
+        if let Some(place) = self.actors.get_mut(index) {
+            *place = operation;
+        }
+    }
+}
+
+/// Changes the root word of a handle, if it is open.
+fn set_word_in(place: &mut Option<Root>, word: RootWord)
+    ensures { place.new ≡ rewritten word place.old }
+{
+    if let Some(root) = place {
+        root.word = word;
+    }
+}
+
+/// The root that stands while an offer does.
+pub fn root_of(word: RootWord) -> Ref
+    ensures { result ≡ root_of word }
+{
+    match word {
+        RootWord::Plain(root) => root,
+        RootWord::Offer(offer) => offer.current,
+    }
+}

@@ -1,0 +1,15 @@
+//! Scripts for the map's machine: read exactly, with the first fault told.
+#![tactic(auto)]
+
+mod command_words;
+mod commands;
+mod headers;
+mod names;
+mod numbers;
+mod reading;
+
+pub use commands::Command;
+pub use reading::{Script, read_script};
+
+#[cfg(test)]
+mod tests;

@@ -1,0 +1,90 @@
+-- Steps of an operation, one after the other.
+use Rattle.std.specs.Prelude.{◌≡◌, ◌<◌, ◌≤◌, ◌+◌, ◌-◌, ℕ, zero, suc, Bool, true, false, not, List, [], ◌∷◌, Option, Some, None, Result, Ok, Err}
+use Rattle.std.proofs.Common.{refl, sym, ap, subst, arith, zero-add, ◌∙◌}
+use Rattle.ctrie_base.specs.declared.refusals.Refusal.{Refusal}
+use Rattle.ctrie_base.specs.declared.refusals.Refusal.TheVariants as refuse
+use Rattle.history.specs.declared.replies.Reply.{Reply}
+use Rattle.machine_model.specs.declared.steps.Step.{Step}
+use Rattle.machine_model.specs.declared.steps.Step.TheVariants.{Go}
+use Rattle.machine_model.specs.declared.steps.Outcome.{Outcome}
+use Rattle.machine_model.specs.declared.steps.Outcome.TheVariants as outcome
+use Rattle.machine_model.specs.States.{State}
+use Rattle.machine_model.specs.Machine.{Answer, next, is_running, is_actor, is_spent, go_denial, first_reason}
+use Rattle.step_machine.specs.Machines.{Taken, state_of, with_step, Applied}
+use Rattle.step_machine.specs.Callers.{Going, after_outcome, after_go, going_on, go_limit, Resumes}
+
+-- what goes on after this outcome leads on
+onwards : (k actor : ℕ) (n : ℕ) (from machine : Taken) (o : Outcome) →
+    ((b : Taken) → going_on n actor b ≡ (Ok None, machine) → going_on (n + k) actor b ≡ going_on k actor machine) →
+    after_outcome (going_on n actor) from o ≡ (Ok None, machine) → after_outcome (going_on (n + k) actor) from o ≡ going_on k actor machine
+onwards k actor n from machine (outcome.Ended id answer) more e = grind (arith, e)
+onwards k actor n from machine (outcome.Began id) more e = more from e
+onwards k actor n from machine (outcome.Went kind) more e = more from e
+onwards k actor n from machine (outcome.Swept done) more e = more from e
+
+after_answer : (k actor : ℕ) (n : ℕ) (from machine : Taken) (answer : Answer) →
+    ((b : Taken) → going_on n actor b ≡ (Ok None, machine) → going_on (n + k) actor b ≡ going_on k actor machine) →
+    after_go (going_on n actor) from actor answer ≡ (Ok None, machine) → after_go (going_on (n + k) actor) from actor answer ≡ going_on k actor machine
+after_answer k actor n from machine (Ok done) more e = onwards k actor n (with_step from (Go actor)) machine done.0 more e
+after_answer k actor n from machine (Err refusal) more e = grind (arith, e)
+
+-- steps that didn't end the operation, and steps behind them
+pub going-append : (n k actor : ℕ) (from machine : Taken) → going_on n actor from ≡ (Ok None, machine) → going_on (n + k) actor from ≡ going_on k actor machine
+unfolding going_on
+going-append zero k actor from machine e = rw (zero-add k) (ap (λ m. going_on k actor m) (ap (λ g. g.1) e))
+going-append (suc n) k actor from machine e =
+    let e' : suc n + k ≡ suc (n + k) = omega arith in
+    rw e' (after_answer k actor n from machine (next (state_of from) (Go actor)) (λ b f. going-append n k actor b machine f) e)
+
+-- one step more than those before, of which this is the answer
+last_answer : (actor : ℕ) (from machine : Taken) (i rest : ℕ) (answer : Answer) → going_on i actor from ≡ (Ok None, machine) →
+    next (state_of machine) (Go actor) ≡ answer → going_on (i + suc rest) actor from ≡ after_go (going_on rest actor) machine actor answer
+unfolding going_on
+last_answer actor from machine i rest answer so e = going-append i (suc rest) actor from machine so ∙ rw e refl
+
+-- the rest of the steps, where one is left at least
+left : (i : ℕ) → i < go_limit → i + suc (go_limit - (i + 1)) ≡ go_limit
+left i within = omega (arith, within)
+
+-- the operation ends
+pub ends : (i actor id : ℕ) (answer : Reply) (o : Outcome) (from machine after : Taken) → i < go_limit → going_on i actor from ≡ (Ok None, machine) →
+    o ≡ outcome.Ended id answer → Applied (Ok o) machine (Go actor) after → going_on go_limit actor from ≡ (Ok (Some answer), after)
+ends i actor id answer o from machine after within so is applied =
+    let step = subst (λ x. Applied (Ok x) machine (Go actor) after) is applied in
+    subst (λ n. going_on n actor from ≡ (Ok (Some answer), after)) (left i within)
+    (last_answer actor from machine i (go_limit - (i + 1)) (Ok (outcome.Ended id answer, state_of after)) so step.1 ∙ ap (λ m. (Ok (Some answer), m)) (sym step.0))
+
+running_by : (a r s : Bool) → first_reason ((not a, refuse.NoActor) ∷ (not r, refuse.Idle) ∷ (s, refuse.Spent) ∷ []) ≡ None → r ≡ true
+running_by true true s e = refl
+running_by true false s e = grind (arith, e)
+running_by false r s e = grind (arith, e)
+
+-- where nothing denies a step of the actor's operation it runs one
+runs : (state : State) (actor : ℕ) → go_denial state actor ≡ None → is_running state actor ≡ true
+runs state actor e = running_by (is_actor state actor) (is_running state actor) (is_spent state) e
+
+-- a step is refused
+pub stops : (i actor : ℕ) (refusal : Refusal) (from machine after : Taken) → i < go_limit → going_on i actor from ≡ (Ok None, machine) →
+    Applied (Err refusal) machine (Go actor) after → Resumes (Err refusal) from actor after
+stops i actor refuse.Memory from machine after within so step =
+    (i, within, so ∙ ap (λ m. (Ok None, m)) (sym step.0), runs (state_of after) actor (subst (λ m. go_denial (state_of m) actor ≡ None) (sym step.0) step.1))
+stops i actor refusal from machine after within so step =
+    subst (λ n. going_on n actor from ≡ (Err refusal, after)) (left i within)
+    (last_answer actor from machine i (go_limit - (i + 1)) (Err refusal) so step.1 ∙ ap (λ m. (Err refusal, m)) (sym step.0))
+
+-- the operation goes on
+pub goes : (i actor : ℕ) (o : Outcome) (from machine after : Taken) → going_on i actor from ≡ (Ok None, machine) →
+    Applied (Ok o) machine (Go actor) after → ((id : ℕ) (answer : Reply) → o ≡ outcome.Ended id answer → ⊥) → going_on (i + 1) actor from ≡ (Ok None, after)
+unfolding going_on
+goes i actor (outcome.Ended id answer) from machine after so step other = absurd (other id answer refl)
+goes i actor (outcome.Began id) from machine after so step other =
+    last_answer actor from machine i zero (Ok (outcome.Began id, state_of after)) so step.1 ∙ ap (λ m. (Ok None, m)) (sym step.0)
+goes i actor (outcome.Went kind) from machine after so step other =
+    last_answer actor from machine i zero (Ok (outcome.Went kind, state_of after)) so step.1 ∙ ap (λ m. (Ok None, m)) (sym step.0)
+goes i actor (outcome.Swept done) from machine after so step other =
+    last_answer actor from machine i zero (Ok (outcome.Swept done, state_of after)) so step.1 ∙ ap (λ m. (Ok None, m)) (sym step.0)
+
+-- so many steps didn't end it
+pub reached : (i actor : ℕ) (from machine : Taken) → go_limit ≤ i → i ≤ go_limit → going_on i actor from ≡ (Ok None, machine) →
+    going_on go_limit actor from ≡ (Ok None, machine)
+reached i actor from machine low high so = subst (λ n. going_on n actor from ≡ (Ok None, machine)) (omega (arith, low, high)) so

@@ -1,0 +1,78 @@
+-- Calls that take many steps.
+use Rattle.std.specs.Prelude.{◌≡◌, ◌<◌, ◌⊎◌, ℕ, zero, suc, List, [], true, Bool, false, Option, Some, None, Result, Ok, Err}
+use Rattle.ctrie_base.specs.declared.refusals.Refusal.{Refusal}
+use Rattle.ctrie_base.specs.declared.refusals.Refusal.TheVariants.{Memory, Busy, Spent}
+use Rattle.history.specs.declared.calls.Call.{Call}
+use Rattle.history.specs.declared.replies.Reply.{Reply}
+use Rattle.machine_model.specs.declared.steps.Step.{Step}
+use Rattle.machine_model.specs.declared.steps.Step.TheVariants.{Begin, Go, Sweep}
+use Rattle.machine_model.specs.declared.steps.Outcome.{Outcome}
+use Rattle.machine_model.specs.declared.steps.Outcome.TheVariants.{Ended}
+use Rattle.machine_model.specs.Machine.{Answer, next, denial_of, is_running, is_busy, is_spent}
+use Rattle.step_machine.specs.Machines.{Taken, state_of, with_step, Applied}
+
+-- the same as of a step of which just the refusal is told
+abbrev pub Stepped : Result (Unit {0}) Refusal → Taken → Step → Taken → Type 0
+Stepped (Ok done) before step after = (o : Outcome) × Applied (Ok o) before step after
+Stepped (Err refusal) before step after = Applied (Err refusal) before step after
+
+-- how many steps of an operation one call takes at most
+abbrev pub go_limit : ℕ
+go_limit = 16384
+
+-- what steps of an operation come to: its reply if it has ended, or a denial, and the machine after them
+abbrev pub Going : Type 0
+Going = Result (Option Reply) Refusal × Taken
+
+abbrev pub after_outcome : (Taken → Going) → Taken → Outcome → Going
+after_outcome more machine (Ended id answer) = (Ok (Some answer), machine)
+after_outcome more machine other = more machine
+
+abbrev pub after_go : (Taken → Going) → Taken → ℕ → Answer → Going
+after_go more machine actor (Ok done) = after_outcome more (with_step machine (Go actor)) done.0
+after_go more machine actor (Err refusal) = (Err refusal, machine)
+
+-- so many steps of the actor's operation, fewer where it ends or one is denied
+unfoldable pub going_on : ℕ → ℕ → Taken → Going
+going_on zero actor machine = (Ok None, machine)
+going_on (suc n) actor machine = after_go (going_on n actor) machine actor (next (state_of machine) (Go actor))
+
+-- An operation goes on until it ends, but for no more than the limit of steps. For want of memory it stops before one of
+-- these: the steps taken so far stand, and the operation still runs.
+abbrev pub Resumes : Result (Option Reply) Refusal → Taken → ℕ → Taken → Type 0
+Resumes (Err Memory) before actor after =
+    (n : ℕ) × (n < go_limit) × (going_on n actor before ≡ (Ok None, after)) × (is_running (state_of after) actor ≡ true)
+Resumes result before actor after = going_on go_limit actor before ≡ (result, after)
+
+-- A call begins, where nothing denies it, and goes on.
+abbrev pub CompletesUnless : Option Refusal → Result (Option Reply) Refusal → Taken → ℕ → Call → Taken → Type 0
+CompletesUnless (Some refusal) result before actor call after = (result ≡ Err refusal) × (after ≡ before)
+CompletesUnless None result before actor call after =
+    ((result ≡ Err Memory) × (after ≡ before)) ⊎ Resumes result (with_step before (Begin actor call)) actor after
+
+abbrev pub Completes : Result (Option Reply) Refusal → Taken → ℕ → Call → Taken → Type 0
+Completes result before actor call after = CompletesUnless (denial_of (state_of before) (Begin actor call)) result before actor call after
+
+-- so many steps of the sweep
+unfoldable pub swept : ℕ → Taken → Taken
+swept zero machine = machine
+swept (suc n) machine = swept n (with_step machine Sweep)
+
+-- limbo isn't empty before any of so many steps of the sweep
+abbrev pub IsNeeded : ℕ → Taken → Type 0
+IsNeeded n machine = (m : ℕ) → m < n → (state_of (swept m machine)).limbo ≡ [] → ⊥
+
+-- how steps of the sweep come to an end: limbo is empty, or memory is wanting, or the machine has taken all its steps
+abbrev pub SweepsUntil : Result (Unit {0}) Refusal → Taken → Type 0
+SweepsUntil (Ok done) after = (state_of after).limbo ≡ []
+SweepsUntil (Err Memory) after = (state_of after).limbo ≡ [] → ⊥
+SweepsUntil (Err Spent) after = ((state_of after).limbo ≡ [] → ⊥) × (is_spent (state_of after) ≡ true)
+SweepsUntil (Err refusal) after = ⊥
+
+abbrev pub ReclaimsUnless : Bool → Result (Unit {0}) Refusal → Taken → Taken → Type 0
+ReclaimsUnless true result before after = (result ≡ Err Busy) × (after ≡ before)
+ReclaimsUnless false result before after = (n : ℕ) × (after ≡ swept n before) × IsNeeded n before × SweepsUntil result after
+
+-- Where no operation runs, the sweep goes on until limbo is empty. The steps taken so far stand in any case.
+abbrev pub Reclaims : Result (Unit {0}) Refusal → Taken → Taken → Type 0
+Reclaims result before after = ReclaimsUnless (is_busy (state_of before)) result before after

@@ -1,0 +1,10 @@
+//! The map's machine: its public calls. Each is the definition's, of the steps taken so far.
+#![tactic(auto)]
+
+mod callers;
+mod machine;
+mod records;
+
+pub use machine::Machine;
+pub use machine_model::{Limits, Outcome, Step, Swept};
+pub use records::{Record, run};

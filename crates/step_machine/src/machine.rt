@@ -1,0 +1,207 @@
+//! A machine and its steps.
+
+ghost use Rattle.std.specs.Prelude.{◌≡◌, ◌≢◌, ◌+◌, ℕ, length, option_map, Some, Ok, IsSome, IfOk, IfErr, OnOk, IsOkUnless};
+ghost use Rattle.ctrie_base.specs.declared.kinds.Kind.TheVariants.{Make};
+ghost use Rattle.history.specs.declared.calls.Access.TheVariants.{ReadOnly};
+ghost use Rattle.history.specs.declared.replies.Reply.TheVariants.{NoSlots};
+ghost use Rattle.machine_model.specs.declared.operations.Operation.{Operation};
+ghost use Rattle.machine_model.specs.States.{root_at, operation_of};
+ghost use Rattle.machine_model.specs.Heaps.{in_use};
+ghost use Rattle.machine_model.specs.Orders.{order_of};
+ghost use Rattle.machine_model.specs.Contents.{content_at};
+ghost use Rattle.machine_model.specs.Machine.{AreLimits, is_running, is_busy, runs_on, next_kind, handles_taken, is_access, access_of};
+ghost use Rattle.machine_model.specs.Refusing.{RefusesLimits, RefusesContent};
+ghost use Rattle.step_machine.specs.Machines.{Taken, fresh, state_of, Applied, FoundNoSlot};
+
+use ctrie_base::{Kind, Refusal};
+use history::{Access, Event};
+use machine_model::{Limits, Outcome, Step};
+use plain_machine::Plain;
+use std::alloc::Global;
+use std::marker::Model;
+
+/// A map that many actors change step by step, with all that was done to it. At first handle 0 is open,
+/// writable and empty, and no step was taken.
+#[derive(Drop)]
+pub struct Machine {
+    plain: Plain,
+    steps: Vec<Step>,
+}
+
+impl Model for Machine {
+    ghost use Rattle.std.specs.Prelude.{◌≡◌};
+    ghost use Rattle.machine_model.specs.Machine.{AreLimits, run};
+    ghost use Rattle.step_machine.specs.Machines.{Taken};
+
+    ghost Value = { Taken };
+
+    ghost view = { λ m. record { limits = m.plain.limits; steps = m.steps.items } };
+
+    ghost invariant = { λ m. (m.plain ≡ run m.plain.limits m.steps.items) × AreLimits m.plain.limits };
+}
+
+impl Machine {
+    /// A machine of these sizes. `BadLimits` exactly where one of them is out of range, and else only
+    /// `Memory`: nothing is made then.
+    #[tactic(auto, unfolding(machine_model::specs::States::first_state, machine_model::specs::Machine::run_from))]
+    pub fn new(alloc: Global, limits: Limits) -> Result<Machine, Refusal>
+        ensures made { IfOk result (λ machine. machine ≡ fresh limits) }
+        ensures in_range { OnOk result (AreLimits limits) }
+        ensures refused { IfErr result (λ refusal. RefusesLimits limits refusal) }
+    {
+        Ok(Machine {
+            plain: Plain::new(alloc, limits)?,
+            steps: Vec::new(alloc),
+        })
+    }
+
+    /// Takes a step. Where it is refused, for want of memory too, nothing has changed; `Memory` is answered
+    /// only where nothing else denies the step. A reply `NoSlots` comes only where the actor's step before
+    /// was to make a node, and no slot was free before it.
+    #[tactic(auto, using(crate::proofs::Steps::kept_limits, crate::proofs::Steps::next_run, crate::proofs::Denials::denied_applied, crate::proofs::Denials::refused_applied))]
+    pub fn apply(&mut self, step: Step) -> Result<Outcome, Refusal>
+        ensures applied { Applied result self.old step self.new }
+        ensures want { (actor id : ℕ) → step ≡ Step.Go actor → result ≡ Ok (Outcome.Ended id NoSlots) → FoundNoSlot self.old actor id }
+    {
+        if let Some(refusal) = self.plain.denial(step) {
+            return Err(refusal);
+        }
+        self.steps.reserve(1)?;
+        let outcome = self.plain.apply(step)?;
+        let _ = self.steps.push(step);
+        machine_model::refused_for_want_alone();
+        Ok(outcome)
+    }
+
+    /// All events so far, in order of time.
+    pub fn events(&self) -> &[Event]
+        ensures { result.now ≡ (state_of self.now).events }
+    {
+        self.plain.events()
+    }
+
+    /// The steps that were taken, in order of time.
+    pub fn steps(&self) -> &[Step]
+        ensures { result.now ≡ self.now.steps }
+    {
+        self.steps.as_slice()
+    }
+
+    /// The ids of the operations in the order that explains their replies: by rising place. Only `Memory`
+    /// is refused.
+    pub fn order(&self) -> Result<Vec<u64>, Refusal>
+        ensures order { IfOk result (λ order. order.items ≡ order_of (state_of self.now)) }
+        ensures only_memory { IsOkUnless result Refusal.Memory }
+    {
+        self.plain.order()
+    }
+
+    /// The content of a handle's map, by rising key. `NoHandle` exactly where it isn't open, and else only
+    /// `Memory`.
+    pub fn content(&self, handle: u16) -> Result<Vec<(u64, u64)>, Refusal>
+        ensures pairs { IfOk result (λ pairs. pairs.items ≡ content_at (state_of self.now) handle) }
+        ensures open { OnOk result (IsSome (root_at (state_of self.now) handle)) }
+        ensures refused { IfErr result (λ refusal. RefusesContent (state_of self.now) handle refusal) }
+    {
+        Ok(self.plain.content(handle)?.into_vec())
+    }
+
+    /// The kind of the next step of the actor's operation; none where none runs. An operation on a read-only
+    /// handle never makes a node.
+    pub fn next_kind(&self, actor: u8) -> Option<Kind>
+        ensures kind { result ≡ next_kind (state_of self.now) actor }
+        ensures readers { (operation : Operation) → operation_of (state_of self.now) actor ≡ Some operation →
+            operation.access ≡ ReadOnly → result ≢ Some Make }
+    {
+        machine_model::readers_make_nothing();
+        self.plain.next_kind(actor)
+    }
+
+    /// Whether the actor runs an operation.
+    pub fn is_running(&self, actor: u8) -> bool
+        ensures { result ≡ is_running (state_of self.now) actor }
+    {
+        self.plain.is_running(actor)
+    }
+
+    /// Whether any actor runs an operation.
+    pub fn is_busy(&self) -> bool
+        ensures { result ≡ is_busy (state_of self.now) }
+    {
+        self.plain.is_busy()
+    }
+
+    /// Whether an operation runs whose call names this handle.
+    pub fn runs_on(&self, handle: u16) -> bool
+        ensures { result ≡ runs_on (state_of self.now) handle }
+    {
+        self.plain.runs_on(handle)
+    }
+
+    /// Whether the handle is writable; none where it isn't open.
+    pub fn is_writable(&self, handle: u16) -> Option<bool>
+        ensures { result ≡ option_map (λ access. is_access Access.Writable (Some access)) (access_of (root_at (state_of self.now) handle)) }
+    {
+        self.plain.is_writable(handle)
+    }
+
+    /// How many handles are open or reserved, at most 256.
+    pub fn handles_taken(&self) -> u32
+        ensures { result ≡ handles_taken (state_of self.now) }
+    {
+        self.plain.handles_taken()
+    }
+
+    /// How many slots are free.
+    pub fn free_slots(&self) -> u32
+        ensures { result ≡ length (state_of self.now).heap.free }
+    {
+        self.plain.free_slots()
+    }
+
+    /// How many slots are in use, those in limbo too. These and the free ones are all slots.
+    pub fn used(&self) -> u32
+        ensures used { result ≡ length (in_use (state_of self.now).heap) }
+        ensures sum { result + length (state_of self.now).heap.free ≡ self.now.limits.slots }
+    {
+        machine_model::slots_add_up();
+        self.plain.used()
+    }
+
+    /// How many slots are in use but counted by nothing.
+    pub fn limbo_len(&self) -> u32
+        ensures { result ≡ length (state_of self.now).limbo }
+    {
+        self.plain.limbo_len()
+    }
+
+    /// The present epoch, from 0.
+    pub fn epoch(&self) -> u64
+        ensures { result ≡ (state_of self.now).epoch }
+    {
+        self.plain.epoch()
+    }
+
+    /// How many steps were taken, at most 2^40.
+    pub fn steps_taken(&self) -> u64
+        ensures { result ≡ (state_of self.now).steps }
+    {
+        self.plain.steps_taken()
+    }
+
+    /// The sizes of the machine.
+    pub fn limits(&self) -> Limits
+        ensures { result ≡ self.now.limits }
+    {
+        self.plain.limits()
+    }
+
+    /// The steps and the history, handed out. It takes no memory.
+    pub fn into_parts(self) -> (Vec<Step>, Vec<Event>)
+        ensures steps { result.0.items ≡ self.steps }
+        ensures events { result.1.items ≡ (state_of self).events }
+    {
+        let Machine { plain, steps } = self;
+        (steps, plain.into_events())
+    }
+}

@@ -1,0 +1,78 @@
+//! Runs of steps and their records.
+
+ghost use Rattle.std.specs.Prelude.{◌≡◌, IfOk, IfErr, OnOk, IsOkUnless};
+ghost use Rattle.machine_model.specs.Machine.{AreLimits};
+ghost use Rattle.machine_model.specs.Refusing.{RefusesLimits};
+ghost use Rattle.step_machine.specs.Records.{IsAfter, IsRecordOf, IsRecord};
+
+use crate::machine::Machine;
+use ctrie_base::Refusal;
+use history::Event;
+use machine_model::{Limits, Step};
+use std::alloc::Global;
+
+/// What is kept of a run.
+#[derive(Debug, Drop)]
+pub struct Record {
+    pub limits: Limits,
+    /// The steps that were taken.
+    pub steps: Vec<Step>,
+    /// The history.
+    pub events: Vec<Event>,
+    /// The ids of the operations in the order that explains their replies.
+    pub order: Vec<u64>,
+    /// How many slots are in use at the end, those in limbo too.
+    pub used: u32,
+    /// How many slots are free at the end.
+    pub free: u32,
+    /// How many slots are in limbo at the end.
+    pub limbo: u32,
+}
+
+/// The record of a machine that takes these steps, those left out that are denied. `BadLimits` exactly
+/// where a limit is out of range, and else only `Memory`.
+#[tactic(auto, using(crate::proofs::Recording::if_recorded))]
+pub fn run(alloc: Global, limits: Limits, steps: &[Step]) -> Result<Record, Refusal>
+    ensures record { IfOk result (IsRecord limits steps.now) }
+    ensures in_range { OnOk result (AreLimits limits) }
+    ensures refused { IfErr result (λ refusal. RefusesLimits limits refusal) }
+{
+    let machine = machine_after(alloc, limits, steps)?;
+    record_of(machine)
+}
+
+/// A machine that has taken these steps, but for those that are denied.
+#[tactic(auto, using(crate::proofs::Recording::none_kept))]
+fn machine_after(alloc: Global, limits: Limits, steps: &[Step]) -> Result<Machine, Refusal>
+    ensures after { IfOk result (IsAfter limits steps.now) }
+    ensures in_range { OnOk result (AreLimits limits) }
+    ensures refused { IfErr result (λ refusal. RefusesLimits limits refusal) }
+{
+    let mut machine = Machine::new(alloc, limits)?;
+    for step in steps {
+        machine.take_unless_denied(*step)?;
+    }
+    Ok(machine)
+}
+
+/// What a machine has done.
+fn record_of(machine: Machine) -> Result<Record, Refusal>
+    ensures record { IfOk result (IsRecordOf machine) }
+    ensures only_memory { IsOkUnless result Refusal.Memory }
+{
+    let limits = machine.limits();
+    let order = machine.order()?;
+    let used = machine.used();
+    let free = machine.free_slots();
+    let limbo = machine.limbo_len();
+    let (steps, events) = machine.into_parts();
+    Ok(Record {
+        limits,
+        steps,
+        events,
+        order,
+        used,
+        free,
+        limbo,
+    })
+}
