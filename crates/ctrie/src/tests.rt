@@ -14,8 +14,8 @@ use crate::running::run_script;
 use ctrie_base::Refusal;
 use fakes::{Failure, NEVER, Sink, Source};
 use rows::ROWS;
-use scripts::CASES;
-use std::alloc::AllocError;
+use scripts::GROUPS;
+use std::alloc::{AllocError, Global};
 use std::io::{ErrorKind, Read, Write};
 use std::test::Fail;
 
@@ -121,23 +121,30 @@ const REPORT_OF_NOTHING: &str = "hash low\norder\nslots used 2 free 0 limbo 0\n"
 /// Every script in one piece, and byte by byte to a writer that takes one byte a call.
 #[test]
 fn runs_scripts(rt: HostRuntime) -> Result<(), Fail> {
-    for case in CASES.split("==\n") {
-        let (script, wanted) = case.split_once("=\n").ok_or("no line `=`")?;
-        for most in [1, 8192] {
-            let mut input = Counted::new(Source::new(script.as_bytes(), most, NEVER));
-            let mut sink = Sink::new(Vec::new(rt.alloc()), most, NEVER, false);
-            let mut output = Counted::new(&mut sink);
-            match run_script(rt.alloc(), &mut input, &mut output) {
-                Ok(()) => assert!(rt; sink.taken.as_slice() == wanted.as_bytes(), "{script}"),
-                Err(fault) => {
-                    let told = format!(in rt.alloc(); "{fault}\n")?;
-                    assert!(rt; told.as_str() == wanted, "{script}");
-                    assert!(rt; sink.taken.is_empty(), "{script}");
-                }
+    for cases in &GROUPS {
+        for case in cases.split("==\n") {
+            let (script, wanted) = case.split_once("=\n").ok_or("no line `=`")?;
+            for most in [1, 8192] {
+                assert!(rt; gives(rt.alloc(), script, wanted, most)?, "{script}");
             }
         }
     }
     Ok(())
+}
+
+/// Whether the script gives the report, or the fault with nothing written, through a reader and a writer
+/// that take that many bytes a call at most.
+fn gives(alloc: Global, script: &str, wanted: &str, most: usize) -> Result<bool, Fail> {
+    let mut input = Counted::new(Source::new(script.as_bytes(), most, NEVER));
+    let mut sink = Sink::new(Vec::new(alloc), most, NEVER, false);
+    let mut output = Counted::new(&mut sink);
+    match run_script(alloc, &mut input, &mut output) {
+        Ok(()) => Ok(sink.taken.as_slice() == wanted.as_bytes()),
+        Err(fault) => {
+            let told = format!(in alloc; "{fault}\n")?;
+            Ok(told.as_str() == wanted && sink.taken.is_empty())
+        }
+    }
 }
 
 /// Handles are opened until no number is left, and one of them again after a close.
