@@ -1,5 +1,5 @@
 -- What the steps of a command come to.
-use Rattle.std.proofs.Common.{◌≡◌, ℕ, zero, suc, ◌-◌, [], ◌∷◌, Option, Some, None, refl, ap, ◌+◌, ◌∙◌, add-one, true, false}
+use Rattle.std.proofs.Common.{◌≡◌, ℕ, zero, suc, [], ◌∷◌, Option, Some, None, refl, ap, ◌+◌, ◌∙◌, add-one, true, false}
 use Rattle.std.specs.Prelude.{replicate}
 use Rattle.ctrie_base.specs.declared.kinds.Kind.{Kind}
 use Rattle.ctrie_base.specs.declared.refusals.Refusal.{Refusal}

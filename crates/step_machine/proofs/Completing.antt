@@ -1,15 +1,15 @@
 -- A call that begins and goes on.
 use Rattle.std.specs.Prelude.{◌≡◌, ℕ, Option, Some, None, Result, Ok, Err}
-use Rattle.std.proofs.Common.{refl, sym, ap, subst, arith, inl, inr, ◌∙◌}
+use Rattle.std.proofs.Common.{refl, subst, arith, inl, inr}
 use Rattle.ctrie_base.specs.declared.refusals.Refusal.{Refusal}
 use Rattle.ctrie_base.specs.declared.refusals.Refusal.TheVariants as refuse
 use Rattle.history.specs.declared.calls.Call.{Call}
 use Rattle.history.specs.declared.replies.Reply.{Reply}
 use Rattle.machine_model.specs.declared.steps.Step.TheVariants.{Begin}
 use Rattle.machine_model.specs.States.{State}
-use Rattle.machine_model.specs.Machine.{next, begin_denial, begin_unless, denial_of, Answer}
-use Rattle.step_machine.specs.Machines.{Taken, state_of, with_step, Applied}
-use Rattle.step_machine.specs.Callers.{Stepped, Resumes, CompletesUnless, Completes}
+use Rattle.machine_model.specs.Machine.{next, begin_denial, begin_unless}
+use Rattle.step_machine.specs.Machines.{Taken, state_of, Applied}
+use Rattle.step_machine.specs.Callers.{Stepped, Resumes, Completes}
 
 -- what denies a begin is what denies the step
 denies_by : (state : State) (actor : ℕ) (call : Call) (denial : Option Refusal) (refusal : Refusal) → begin_unless state actor call denial ≡ Err refusal →

@@ -1,13 +1,12 @@
 -- Denials.
-use Rattle.std.specs.Prelude.{◌≡◌, ◌≢◌, ◌⊎◌, ℕ, Bool, true, false, List, [], ◌∷◌, Some, None, Err, cond}
+use Rattle.std.specs.Prelude.{◌≡◌, ◌⊎◌, Bool, true, false, List, [], ◌∷◌, Some, None, Err, cond}
 use Rattle.std.proofs.Common.{refl, arith, inl, inr}
 use Rattle.ctrie_base.specs.declared.refusals.Refusal.{Refusal}
 use Rattle.ctrie_base.specs.declared.refusals.Refusal.TheVariants as refuse
-use Rattle.history.specs.declared.calls.Call.{Call}
 use Rattle.machine_model.specs.declared.steps.Step.{Step}
 use Rattle.machine_model.specs.declared.steps.Step.TheVariants as step
 use Rattle.machine_model.specs.States.{State}
-use Rattle.machine_model.specs.Machine.{next, begin_denial, denial_of, first_reason, is_spent, is_taken_step}
+use Rattle.machine_model.specs.Machine.{next, denial_of, first_reason, is_spent, is_taken_step}
 use Rattle.step_machine.specs.Machines.{Taken, state_of, Applied}
 
 -- what denies a sweep

@@ -1,17 +1,16 @@
 -- Steps of an operation, one after the other.
-use Rattle.std.specs.Prelude.{◌≡◌, ◌<◌, ◌≤◌, ◌+◌, ◌-◌, ℕ, zero, suc, Bool, true, false, not, List, [], ◌∷◌, Option, Some, None, Result, Ok, Err}
+use Rattle.std.specs.Prelude.{◌≡◌, ◌<◌, ◌≤◌, ◌+◌, ◌-◌, ℕ, zero, suc, Bool, true, false, not, [], ◌∷◌, Some, None, Ok, Err}
 use Rattle.std.proofs.Common.{refl, sym, ap, subst, arith, zero-add, ◌∙◌}
 use Rattle.ctrie_base.specs.declared.refusals.Refusal.{Refusal}
 use Rattle.ctrie_base.specs.declared.refusals.Refusal.TheVariants as refuse
 use Rattle.history.specs.declared.replies.Reply.{Reply}
-use Rattle.machine_model.specs.declared.steps.Step.{Step}
 use Rattle.machine_model.specs.declared.steps.Step.TheVariants.{Go}
 use Rattle.machine_model.specs.declared.steps.Outcome.{Outcome}
 use Rattle.machine_model.specs.declared.steps.Outcome.TheVariants as outcome
 use Rattle.machine_model.specs.States.{State}
 use Rattle.machine_model.specs.Machine.{Answer, next, is_running, is_actor, is_spent, go_denial, first_reason}
 use Rattle.step_machine.specs.Machines.{Taken, state_of, with_step, Applied}
-use Rattle.step_machine.specs.Callers.{Going, after_outcome, after_go, going_on, go_limit, Resumes}
+use Rattle.step_machine.specs.Callers.{after_outcome, after_go, going_on, go_limit, Resumes}
 
 -- what goes on after this outcome leads on
 onwards : (k actor : ℕ) (n : ℕ) (from machine : Taken) (o : Outcome) →

@@ -10,7 +10,7 @@ use Rattle.std.specs.Prelude.{length}
 use Rattle.machine_model.specs.Heaps.{in_use}
 use Rattle.machine_model.specs.Orders.{order_of}
 use Rattle.machine_model.specs.States.{State, first_state}
-use Rattle.machine_model.specs.Machine.{Answer, next, next_state, run_from, run, is_taken_step, taken_from, taken_steps}
+use Rattle.machine_model.specs.Machine.{next, next_state, run_from, run, is_taken_step, taken_from}
 use Rattle.machine_model.proofs.Taken.{run-taken}
 use Rattle.step_machine.specs.Machines.{Taken, fresh, state_of, with_step, Applied}
 use Rattle.step_machine.specs.declared.records.Record.{Record}

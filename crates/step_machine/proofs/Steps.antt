@@ -5,7 +5,7 @@ use Rattle.machine_model.specs.declared.steps.Limits.{Limits}
 use Rattle.machine_model.specs.declared.steps.Step.{Step}
 use Rattle.machine_model.specs.declared.steps.Outcome.{Outcome}
 use Rattle.machine_model.specs.States.{State, first_state}
-use Rattle.machine_model.specs.Machine.{next, run_from, run}
+use Rattle.machine_model.specs.Machine.{next, run}
 use Rattle.machine_model.proofs.Moves.{moved}
 use Rattle.machine_model.proofs.Along.{run_push}
 use Rattle.machine_model.proofs.Frames.{limits_kept}

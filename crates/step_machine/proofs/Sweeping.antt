@@ -1,17 +1,16 @@
 -- Steps of the sweep, one after the other.
-use Rattle.std.specs.Prelude.{◌≡◌, ◌<◌, ◌≤◌, ◌+◌, ◌^◌, ℕ, zero, suc, nat_le, Bool, true, false, cond, List, [], Result, Ok, Err}
+use Rattle.std.specs.Prelude.{◌≡◌, ◌<◌, ◌+◌, ◌^◌, ℕ, zero, suc, Bool, true, false, [], Result, Ok, Err}
 use Rattle.std.proofs.Common.{refl, sym, ap, subst, arith, ◌∙◌}
 use Rattle.ctrie_base.specs.declared.refusals.Refusal.{Refusal}
 use Rattle.ctrie_base.specs.declared.refusals.Refusal.TheVariants as refuse
-use Rattle.machine_model.specs.declared.steps.Step.{Step}
 use Rattle.machine_model.specs.declared.steps.Step.TheVariants.{Sweep}
 use Rattle.machine_model.specs.declared.steps.Outcome.{Outcome}
 use Rattle.machine_model.specs.States.{State}
-use Rattle.machine_model.specs.Machine.{Answer, next, is_busy, is_spent, settled_after, sweep_by, ripe}
+use Rattle.machine_model.specs.Machine.{next, is_busy, is_spent}
 use Rattle.machine_model.proofs.Moves.{moved}
 use Rattle.machine_model.proofs.Frames.{steps_counted}
 use Rattle.step_machine.specs.Machines.{Taken, state_of, with_step, Applied}
-use Rattle.step_machine.specs.Callers.{Stepped, swept, IsNeeded, SweepsUntil, ReclaimsUnless, Reclaims}
+use Rattle.step_machine.specs.Callers.{Stepped, swept, IsNeeded, Reclaims}
 
 -- so many steps of the sweep led here, and each was needed
 pub record IsSwept (before machine : Taken) : Type 0 where

@@ -1,5 +1,5 @@
 -- Calls that take many steps.
-use Rattle.std.specs.Prelude.{◌≡◌, ◌<◌, ◌⊎◌, ℕ, zero, suc, List, [], true, Bool, false, Option, Some, None, Result, Ok, Err}
+use Rattle.std.specs.Prelude.{◌≡◌, ◌<◌, ◌⊎◌, ℕ, zero, suc, [], true, Bool, false, Option, Some, None, Result, Ok, Err}
 use Rattle.ctrie_base.specs.declared.refusals.Refusal.{Refusal}
 use Rattle.ctrie_base.specs.declared.refusals.Refusal.TheVariants.{Memory, Busy, Spent}
 use Rattle.history.specs.declared.calls.Call.{Call}

@@ -8,3 +8,6 @@ mod records;
 pub use machine::Machine;
 pub use machine_model::{Limits, Outcome, Step, Swept};
 pub use records::{Record, run};
+
+#[cfg(test)]
+mod tests;
