@@ -17,7 +17,7 @@ use Rattle.machine_model.specs.Operations.{action_of}
 use Rattle.machine_model.specs.Calls.{handle_of}
 use Rattle.machine_model.specs.Swapping.{is_carried_out}
 use Rattle.machine_model.specs.Acting.{acted, aborted, offered, completed, new_root_taken, marked, operation_after, gone}
-use Rattle.machine_model.specs.Machine.{with_begin, sweep_by, begin_denial, go_denial}
+use Rattle.machine_model.specs.Machine.{with_begin, begin_denial, go_denial}
 use Rattle.machine_model.proofs.Found.{found_elsewhere, found_here}
 use Rattle.machine_model.proofs.Moves.{Moves, Begins, Goes, Ends, Sweeps}
 
@@ -82,10 +82,6 @@ gone_actors state actor operation = acted_actors _ (handle_of operation.call) (a
 pub begin_actors : (state : State) (actor : ℕ) (call : Call) (operation : Operation) →
     (with_begin state actor call operation).actors ≡ set state.actors (actor - 1) (Some operation)
 begin_actors state actor call operation = grind arith
-
--- a sweep leaves the running operations
-pub sweep_actors : (state : State) (ripe : Option Ref) → (sweep_by state ripe).1.actors ≡ state.actors
-sweep_actors state ripe = grind arith
 
 -- ---- what one actor runs after a step, by the one before
 
@@ -152,7 +148,7 @@ of_others state s o after (Goes {actor} {operation} d is a g) k other found h =
 of_others state s o after (Ends {actor} {operation} d is a) k other found h =
     let none = ap (λ x. marks_by state x) is ∙ ap (λ x. marks_of state (handle_of operation.call) x) a in
     (found, found_of_other state.actors actor k _ (go_counts state actor d) other ∙ h, ap (λ m. mark_one m found) (sym none))
-of_others state s o after (Sweeps spent) k other found h = (found, (rw sweep_actors at h), refl)
+of_others state s o after (Sweeps spent) k other found h = (found, h, refl)
 
 -- after a write at its own place an actor runs what was put there
 found_of_own : (xs : List (Option Operation)) (actor k : ℕ) (put : Option Operation) (found : Operation) → actor ≡ suc k →

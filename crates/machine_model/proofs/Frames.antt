@@ -12,7 +12,7 @@ use Rattle.machine_model.specs.declared.steps.Step.{Step}
 use Rattle.machine_model.specs.States.{State}
 use Rattle.machine_model.specs.Operations.{action_of}
 use Rattle.machine_model.specs.Acting.{acted, aborted, offered, completed, new_root_taken}
-use Rattle.machine_model.specs.Machine.{with_begin, sweep_by}
+use Rattle.machine_model.specs.Machine.{with_begin, swept}
 use Rattle.machine_model.proofs.Moves.{Moves, Begins, Goes, Ends, Sweeps, begun_operation}
 
 -- what stays the same, whatever the action does
@@ -58,15 +58,15 @@ begin_limits : (state : State) (actor : ℕ) (call : Call) (operation : Operatio
 begin_limits state actor call operation = grind arith
 
 -- a sweep keeps the limits
-sweep_limits : (state : State) (ripe : Option Ref) → (sweep_by state ripe).1.limits ≡ state.limits
-sweep_limits state ripe = grind arith
+sweep_limits : (state : State) → (swept state).1.limits ≡ state.limits
+sweep_limits state = refl
 
 -- a machine keeps its limits
 pub limits_kept : (state : State) (s : Step) (o : Outcome) (after : State) → Moves state s o after → after.limits ≡ state.limits
 limits_kept state s o after (Begins {actor} {call} d) = begin_limits state actor call (begun_operation state call)
 limits_kept state s o after (Goes {actor} {operation} d found a g) = (acted_framed _ _ (action_of state operation)).limits
 limits_kept state s o after (Ends d found a) = refl
-limits_kept state s o after (Sweeps spent) = sweep_limits state _
+limits_kept state s o after (Sweeps spent) = sweep_limits state
 
 -- each step that is taken is counted
 pub steps_counted : (state : State) (s : Step) (o : Outcome) (after : State) → Moves state s o after → after.steps ≡ state.steps + 1

@@ -1,5 +1,5 @@
 -- What a step that is taken does to the heap: one constructor for each kind of effect.
-use Rattle.std.proofs.Common.{◌≡◌, ℕ, ◌==◌, Bool, true, false, Option, Some, None, refl, sym, subst, eqb-true, arith}
+use Rattle.std.proofs.Common.{◌≡◌, ℕ, ◌==◌, Bool, true, false, List, map, Option, Some, None, refl, sym, subst, eqb-true, arith}
 use Rattle.history.specs.declared.calls.Call.{Call}
 use Rattle.slot_arena.specs.declared.refs.Ref.{Ref}
 use Rattle.slot_arena.specs.declared.nodes.Node.{Node}
@@ -10,13 +10,14 @@ use Rattle.machine_model.specs.declared.operations.Operation.{Operation}
 use Rattle.machine_model.specs.declared.roots.Descriptor.{Descriptor}
 use Rattle.machine_model.specs.declared.steps.Outcome.{Outcome}
 use Rattle.machine_model.specs.declared.steps.Step.{Step}
-use Rattle.machine_model.specs.Heaps.{Heap, main_at, with_main, with_prev, taken, freed}
+use Rattle.slot_arena.specs.Heaps.{Heap, main_at, with_main, with_prev, taken, freed}
 use Rattle.machine_model.specs.States.{State}
 use Rattle.machine_model.specs.Calls.{handle_of}
-use Rattle.machine_model.specs.Reading.{is_licensed, is_pending_over}
+use Rattle.machine_model.specs.Reading.{Verdict, Commits, Fails, Overtaken, verdict}
 use Rattle.machine_model.specs.Operations.{action_of}
-use Rattle.machine_model.specs.Acting.{acted, aborted, offered, completed, new_root_taken, if_changed}
-use Rattle.machine_model.specs.Machine.{with_begin, sweep_by, ripe}
+use Rattle.machine_model.specs.Acting.{acted, aborted, offered, completed, decided, new_root_taken, if_changed}
+use Rattle.epochs.specs.Sweeping.{Reclaimer, ripe, sweep_by}
+use Rattle.machine_model.specs.Machine.{with_begin, pin_of, reclaimer_of}
 use Rattle.machine_model.proofs.Moves.{Moves, Begins, Goes, Ends, Sweeps, begun_operation}
 
 -- the effects, where this slot is due to be freed, if one is
@@ -25,9 +26,11 @@ pub data HeapMoves (heap : Heap) (due : Option Ref) : Heap → Type 0 where
   Takes : (node : Node) → HeapMoves heap due (taken heap node)
   Publishes : (indirection replaced fresh : Ref) → main_at heap indirection ≡ replaced →
       HeapMoves heap due (with_prev (with_main heap indirection fresh) fresh (prev.Pending replaced))
-  Restores : (indirection main before : Ref) → main_at heap indirection ≡ main → HeapMoves heap due (with_main heap indirection before)
-  Decides : (indirection main before : Ref) (told : Option ℕ) → is_pending_over heap main before ≡ true →
-      HeapMoves heap due (with_prev heap main (if_changed (is_licensed heap indirection told) prev.None (prev.Failed before)))
+  Restores : (indirection main previous : Ref) → main_at heap indirection ≡ main → HeapMoves heap due (with_main heap indirection previous)
+  Commit : (indirection main previous : Ref) (told : Option ℕ) → verdict heap indirection main previous told ≡ Commits →
+      HeapMoves heap due (with_prev heap main prev.None)
+  Fail : (indirection main previous : Ref) (told : Option ℕ) → verdict heap indirection main previous told ≡ Fails →
+      HeapMoves heap due (with_prev heap main (prev.Failed previous))
   Frees : (r : Ref) → due ≡ Some r → HeapMoves heap due (freed heap r)
 
 -- taking an offer back leaves the heap
@@ -49,16 +52,17 @@ published_heap heap due indirection replaced fresh true e = Publishes indirectio
 published_heap heap due indirection replaced fresh false e = Stays
 
 -- putting a main node back, by whether the failed one still stands there
-restored_heap : (heap : Heap) (due : Option Ref) (indirection main before : Ref) (b : Bool) → (main_at heap indirection == main) ≡ b →
-    HeapMoves heap due (if_changed b (with_main heap indirection before) heap)
-restored_heap heap due indirection main before true e = Restores indirection main before (eqb-true _ _ e)
-restored_heap heap due indirection main before false e = Stays
+restored_heap : (heap : Heap) (due : Option Ref) (indirection main previous : Ref) (b : Bool) → (main_at heap indirection == main) ≡ b →
+    HeapMoves heap due (if_changed b (with_main heap indirection previous) heap)
+restored_heap heap due indirection main previous true e = Restores indirection main previous (eqb-true _ _ e)
+restored_heap heap due indirection main previous false e = Stays
 
--- deciding a main node, by whether it is still pending
-decided_heap : (heap : Heap) (due : Option Ref) (indirection main before : Ref) (told : Option ℕ) (b : Bool) → is_pending_over heap main before ≡ b →
-    HeapMoves heap due (if_changed b (with_prev heap main (if_changed (is_licensed heap indirection told) prev.None (prev.Failed before))) heap)
-decided_heap heap due indirection main before told true e = Decides indirection main before told e
-decided_heap heap due indirection main before told false e = Stays
+-- deciding a main node, by what comes of it
+decided_heap : (heap : Heap) (due : Option Ref) (indirection main previous : Ref) (told : Option ℕ) (v : Verdict) → verdict heap indirection main previous told ≡ v →
+    HeapMoves heap due (decided heap main previous v)
+decided_heap heap due indirection main previous told Commits e = Commit indirection main previous told e
+decided_heap heap due indirection main previous told Fails e = Fail indirection main previous told e
+decided_heap heap due indirection main previous told (Overtaken licensed) e = Stays
 
 -- making a root, by whether a slot is free
 root_taken_heap : (state : State) (due : Option Ref) (main : Ref) (made : Option Ref) → HeapMoves state.heap due (new_root_taken state main made).heap
@@ -75,8 +79,8 @@ acted_heap state due handle (act.Abort offer) = same_heap due (aborted_heap stat
 acted_heap state due handle (act.Offer offer) = same_heap due (offered_heap state handle offer)
 acted_heap state due handle (act.Complete offer main) = same_heap due (completed_heap state handle offer main)
 acted_heap state due handle (act.Publish indirection replaced fresh) = published_heap state.heap due indirection replaced fresh _ refl
-acted_heap state due handle (act.Restore indirection main before) = restored_heap state.heap due indirection main before _ refl
-acted_heap state due handle (act.Decide indirection main before told) = decided_heap state.heap due indirection main before told _ refl
+acted_heap state due handle (act.Restore indirection main previous) = restored_heap state.heap due indirection main previous _ refl
+acted_heap state due handle (act.Decide indirection main previous told) = decided_heap state.heap due indirection main previous told _ refl
 acted_heap state due handle (act.Make node) = Takes node
 acted_heap state due handle (act.MakeRoot main) = root_taken_heap state due main _
 acted_heap state due handle action = Stays
@@ -85,18 +89,14 @@ acted_heap state due handle action = Stays
 begin_heap : (state : State) (actor : ℕ) (call : Call) (operation : Operation) → (with_begin state actor call operation).heap ≡ state.heap
 begin_heap state actor call operation = grind arith
 
--- a sweep that frees nothing leaves the heap
-unripe_heap : (state : State) → (sweep_by state None).1.heap ≡ state.heap
-unripe_heap state = grind arith
-
 -- a sweep frees the ripe slot, if there is one
-sweep_heap : (state : State) (due : Option Ref) → HeapMoves state.heap due (sweep_by state due).1.heap
-sweep_heap state None = same_heap None (unripe_heap state)
-sweep_heap state (Some r) = Frees r refl
+sweep_heap : (pins : List (Option ℕ)) (r : Reclaimer) (due : Option Ref) → HeapMoves r.heap due (sweep_by pins r due).1.heap
+sweep_heap pins r None = same_heap None (grind arith)
+sweep_heap pins r (Some at) = Frees at refl
 
 -- each step that is taken is such an effect
 pub heap_moves : (state : State) (s : Step) (o : Outcome) (after : State) → Moves state s o after → HeapMoves state.heap (ripe state.epoch state.limbo) after.heap
 heap_moves state s o after (Begins {actor} {call} d) = same_heap _ (begin_heap state actor call (begun_operation state call))
 heap_moves state s o after (Goes {actor} {operation} d is a g) = acted_heap _ _ (handle_of operation.call) (action_of state operation)
 heap_moves state s o after (Ends d is a) = Stays
-heap_moves state s o after (Sweeps spent) = sweep_heap state (ripe state.epoch state.limbo)
+heap_moves state s o after (Sweeps spent) = sweep_heap (map pin_of state.actors) (reclaimer_of state) (ripe state.epoch state.limbo)

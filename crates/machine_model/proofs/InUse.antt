@@ -7,11 +7,10 @@ use Rattle.std.proofs.lemmas.List.Elements.{All-nil, All-cons, All-head, All-tai
 use Rattle.std.proofs.lemmas.List.Sums.{sum_by-cons}
 use Rattle.slot_arena.specs.Refs.{ref_to, slot_of}
 use Rattle.slot_arena.specs.declared.refs.Ref.{Ref}
-use Rattle.machine_model.specs.declared.heaps.Slot.{Slot}
-use Rattle.machine_model.specs.declared.heaps.Zeroed.{Zeroed}
-use Rattle.machine_model.specs.Heaps.{Heap, named_from, in_use}
-use Rattle.machine_model.specs.States.{State}
-use Rattle.machine_model.specs.Counting.{is_zero, is_in, newly_zero, by_birth, put_in, is_in_use, limbo_after}
+use Rattle.slot_arena.specs.declared.nodes.Slot.{Slot}
+use Rattle.epochs.specs.declared.limbo.Zeroed.{Zeroed}
+use Rattle.slot_arena.specs.Heaps.{Heap, named_from, in_use}
+use Rattle.epochs.specs.Limbo.{is_zero, is_in, newly_zero, by_birth, put_in, is_in_use, limbo_after}
 use Rattle.machine_model.proofs.Found.{found_within}
 use Rattle.machine_model.proofs.Rest.{used}
 
@@ -84,18 +83,18 @@ by_birth_all P [] all = all
 by_birth_all P (r ∷ rs) all = put_in_all P r (by_birth rs) (All-head P r rs all) (by_birth_all P rs (All-tail P r rs all))
 
 -- those that became zero are in use
-newly_zero_in_use : (before after : State) → All (InUse after.heap) (newly_zero before after)
-newly_zero_in_use before after =
-    by_birth_all (InUse after.heap) _ (All-filter (λ r. is_zero after r && not (is_in before.limbo r)) (InUse after.heap) (in_use after.heap) (all_in_use after.heap))
+newly_zero_in_use : (heap : Heap) (outside : List Ref) (limbo : List Zeroed) → All (InUse heap) (newly_zero heap outside limbo)
+newly_zero_in_use heap outside limbo =
+    by_birth_all (InUse heap) _ (All-filter (λ r. is_zero heap outside r && not (is_in limbo r)) (InUse heap) (in_use heap) (all_in_use heap))
 
 -- what stays in limbo is in use
-kept_in_use : (after : State) (z : Zeroed) → (is_in_use after z.at && is_zero after z.at) ≡ true → InUse after.heap z.at
-kept_in_use after z e = of_found (InUse after.heap) z.at (in_use after.heap) (all_in_use after.heap) ((and_parts _ _ e).0)
+kept_in_use : (heap : Heap) (outside : List Ref) (z : Zeroed) → (is_in_use heap z.at && is_zero heap outside z.at) ≡ true → InUse heap z.at
+kept_in_use heap outside z e = of_found (InUse heap) z.at (in_use heap) (all_in_use heap) ((and_parts _ _ e).0)
 
 -- each slot of limbo is in use after a step
-pub limbo_in_use : (before after : State) → All (λ z. InUse after.heap z.at) (limbo_after before after)
-limbo_in_use before after =
-    All-append (λ z. InUse after.heap z.at) _ _
-    (All-weaker (λ z. (is_in_use after z.at && is_zero after z.at) ≡ true) (λ z. InUse after.heap z.at) (kept_in_use after) _
-    (filter_passes (λ z. is_in_use after z.at && is_zero after z.at) before.limbo))
-    (All-map (λ z. InUse after.heap z.at) _ (newly_zero before after) (newly_zero_in_use before after))
+pub limbo_in_use : (heap : Heap) (outside : List Ref) (epoch : ℕ) (limbo : List Zeroed) → All (λ z. InUse heap z.at) (limbo_after heap outside epoch limbo)
+limbo_in_use heap outside epoch limbo =
+    All-append (λ z. InUse heap z.at) _ _
+    (All-weaker (λ z. (is_in_use heap z.at && is_zero heap outside z.at) ≡ true) (λ z. InUse heap z.at) (kept_in_use heap outside) _
+    (filter_passes (λ z. is_in_use heap z.at && is_zero heap outside z.at) limbo))
+    (All-map (λ z. InUse heap z.at) _ (newly_zero heap outside limbo) (newly_zero_in_use heap outside limbo))

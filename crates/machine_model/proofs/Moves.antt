@@ -1,6 +1,8 @@
 -- What a step that is taken does: one constructor for each kind of step.
 use Rattle.std.proofs.Common.{◌≡◌, ℕ, Bool, true, false, cond, Option, Some, None, Ok, Err, refl, sym, subst}
+use Rattle.std.specs.Prelude.{unwrap_or}
 use Rattle.std.proofs.lemmas.Option.{none-some}
+use Rattle.history.specs.declared.calls.Access.TheVariants.{Writable}
 use Rattle.ctrie_base.specs.declared.refusals.Refusal.{Refusal}
 use Rattle.ctrie_base.specs.declared.refusals.Refusal.TheVariants as refuse
 use Rattle.history.specs.declared.calls.Call.{Call}
@@ -17,7 +19,7 @@ use Rattle.machine_model.specs.States.{State, root_at, operation_of}
 use Rattle.machine_model.specs.Operations.{action_of, kind_of}
 use Rattle.machine_model.specs.Acting.{gone, ended}
 use Rattle.machine_model.specs.Counting.{settled}
-use Rattle.machine_model.specs.Machine.{Answer, next, begin_denial, begin_unless, new_operation, with_begin, access_of, unwrapped, go_denial, go_unless, go_on, step_by, is_spent, ripe, sweep_by, settled_after}
+use Rattle.machine_model.specs.Machine.{Answer, next, begin_denial, begin_unless, new_operation, with_begin, access_of, go_denial, go_unless, go_on, step_by, is_spent, swept, settled_after}
 
 -- the action isn't the end of an operation
 abbrev pub GoesOn : Action → Type 0
@@ -26,11 +28,7 @@ GoesOn action = Unit {0}
 
 -- the operation that a begin brings in
 abbrev pub begun_operation : State → Call → Operation
-begun_operation state call = new_operation state call (unwrapped (access_of (root_at state (handle_of call))))
-
--- what a sweep comes to
-abbrev pub swept : State → Outcome × State
-swept state = sweep_by state (ripe state.epoch state.limbo)
+begun_operation state call = new_operation state call (unwrap_or (access_of (root_at state (handle_of call))) Writable)
 
 pub data Moves (state : State) : Step → Outcome → State → Type 0 where
   Begins : {actor : ℕ} {call : Call} → begin_denial state actor call ≡ None →
@@ -74,7 +72,7 @@ go_moves state actor (Some refusal) d = tt
 
 -- a sweep, by whether all steps are taken
 sweep_moves : (state : State) (spent : Bool) → is_spent state ≡ spent →
-    MovesIfTaken state step.Sweep (cond spent (Err refuse.Spent) (settled_after state (sweep_by state (ripe state.epoch state.limbo))))
+    MovesIfTaken state step.Sweep (cond spent (Err refuse.Spent) (settled_after state (swept state)))
 sweep_moves state true e = tt
 sweep_moves state false e = Sweeps e
 

@@ -10,6 +10,7 @@ use Rattle.machine_model.specs.declared.operations.Operation.{Operation}
 use Rattle.machine_model.specs.declared.lines.Line.{Line}
 use Rattle.machine_model.specs.declared.lines.Line.TheVariants as line
 use Rattle.machine_model.specs.declared.roots.RootLine.{RootLine}
+use Rattle.machine_model.specs.declared.roots.RootLine.TheVariants as root
 use Rattle.machine_model.specs.declared.finding.KeyLine.{KeyLine}
 use Rattle.machine_model.specs.declared.finding.KeyLine.TheVariants as key
 use Rattle.machine_model.specs.declared.walking.WalkLine.{WalkLine}
@@ -29,7 +30,7 @@ use Rattle.machine_model.proofs.EachOperation.{OfEach, of_running, of_each_along
 
 -- the lines of KEY but the look at a sibling, which is for a removal
 abbrev IsReadersKey : KeyLine → Type 0
-IsReadersKey (key.Sibling path main position before) = ⊥
+IsReadersKey (key.Sibling path main position former) = ⊥
 IsReadersKey l = Unit {0}
 
 -- the lines of operations on read-only handles
@@ -38,6 +39,7 @@ IsReaders (line.Root l) = Unit {0}
 IsReaders (line.Key l) = IsReadersKey l
 IsReaders (line.Walk l) = Unit {0}
 IsReaders (line.End answer) = Unit {0}
+IsReaders line.Impossible = Unit {0}
 IsReaders l = ⊥
 
 -- if its handle is read-only, the operation is a reader: its call needs no writable handle, and it stands on such a line
@@ -86,7 +88,7 @@ module _ (state : State) (operation : Operation) (a : operation.access ≡ ReadO
   by_key_line (key.Main path main) h = key_main_readers path main
   by_key_line (key.Entry path main position) h = key_entry_readers path main position
   by_key_line (key.Listed path main position) h = key_listed_readers path main position
-  by_key_line (key.Sibling path main position before) h = absurd h
+  by_key_line (key.Sibling path main position former) h = absurd h
 
 -- KEY goes on or ends
 key_readers : (state : State) (operation : Operation) (l : KeyLine) → operation.access ≡ ReadOnly → needs_writable operation.call ≡ false → IsReadersKey l →
@@ -110,6 +112,7 @@ readers state operation (line.Climb l) a n h = absurd h
 readers state operation (line.Copy l) a n h = absurd h
 readers state operation (line.Walk l) a n h = walk_readers state operation l
 readers state operation (line.End answer) a n h = tt
+readers state operation line.Impossible a n h = tt
 
 -- no step of ROOT makes a node
 root_makes_nothing : (state : State) (operation : Operation) (l : RootLine) → kind_of (line_action state operation (line.Root l)) ≡ kind.Make → ⊥
@@ -139,6 +142,7 @@ readers_make_nothing state operation (line.Climb l) h e = h
 readers_make_nothing state operation (line.Copy l) h e = h
 readers_make_nothing state operation (line.Walk l) h e = walk_makes_nothing l e
 readers_make_nothing state operation (line.End answer) h e = end_makes_nothing e
+readers_make_nothing state operation line.Impossible h e = root_makes_nothing state operation root.Read e
 
 -- a begin that isn't denied on a read-only handle is of a call that needs no writable one
 begun_on_read_only : (state : State) (actor : ℕ) (call : Call) → begin_denial state actor call ≡ None → (begun_operation state call).access ≡ ReadOnly →

@@ -95,6 +95,7 @@ refusal state operation (line.Climb l) g h = absurd (climb_refusal state operati
 refusal state operation (line.Copy l) g h = copy_refusal state operation l h
 refusal state operation (line.Walk l) g h = absurd (walk_refusal state operation l h)
 refusal state operation (line.End answer) g h = absurd g
+refusal state operation line.Impossible g h = absurd h
 
 -- an operation whose next step is such an end stands on that line
 pub end_line : (state : State) (operation : Operation) (l : Line) → line_action state operation l ≡ act.End reply.NoSlots → IsRefusal l

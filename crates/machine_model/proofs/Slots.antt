@@ -8,17 +8,18 @@ use Rattle.slot_arena.specs.Refs.{slot_of}
 use Rattle.slot_arena.specs.declared.refs.Ref.{Ref}
 use Rattle.slot_arena.specs.declared.nodes.Node.{Node}
 use Rattle.slot_arena.specs.declared.nodes.Prev.{Prev}
-use Rattle.machine_model.specs.declared.heaps.Slot.{Slot}
-use Rattle.machine_model.specs.declared.heaps.Zeroed.{Zeroed}
+use Rattle.slot_arena.specs.declared.nodes.Slot.{Slot}
+use Rattle.epochs.specs.declared.limbo.Zeroed.{Zeroed}
 use Rattle.machine_model.specs.declared.steps.Limits.{Limits}
 use Rattle.machine_model.specs.declared.steps.Outcome.{Outcome}
 use Rattle.machine_model.specs.declared.steps.Step.{Step}
-use Rattle.machine_model.specs.Heaps.{Heap, stored, written, with_main, with_prev, with_main_word, taken, take_from, freed, in_use}
+use Rattle.slot_arena.specs.Heaps.{Heap, stored, written, with_main, with_prev, with_main_word, taken, take_from, freed, in_use}
 use Rattle.machine_model.specs.States.{State, first_state, empty_heap}
-use Rattle.machine_model.specs.Machine.{ripe, run, AreLimits}
+use Rattle.epochs.specs.Sweeping.{ripe}
+use Rattle.machine_model.specs.Machine.{run, AreLimits}
 use Rattle.machine_model.proofs.Along.{along}
 use Rattle.machine_model.proofs.Moves.{Moves, Begins, Goes, Ends, Sweeps}
-use Rattle.machine_model.proofs.HeapMoves.{HeapMoves, Stays, Takes, Publishes, Restores, Decides, Frees, heap_moves}
+use Rattle.machine_model.proofs.HeapMoves.{HeapMoves, Stays, Takes, Publishes, Restores, Commit, Fail, Frees, heap_moves}
 use Rattle.machine_model.proofs.Rest.{IsRest, take_one, free_one, all_free}
 use Rattle.machine_model.proofs.InUse.{InUse, flag_of_used, limbo_in_use, length-named_from}
 
@@ -84,8 +85,9 @@ moves_kept slots heap after due small is_used Stays h = h
 moves_kept slots heap after due small is_used (Takes node) h = taken_kept slots heap node h
 moves_kept slots heap after due small is_used (Publishes indirection replaced fresh e) h =
     with_prev_kept slots _ fresh _ (with_main_kept slots heap indirection fresh h)
-moves_kept slots heap after due small is_used (Restores indirection main before e) h = with_main_kept slots heap indirection before h
-moves_kept slots heap after due small is_used (Decides indirection main before told e) h = with_prev_kept slots heap main _ h
+moves_kept slots heap after due small is_used (Restores indirection main previous e) h = with_main_kept slots heap indirection previous h
+moves_kept slots heap after due small is_used (Commit indirection main previous told e) h = with_prev_kept slots heap main _ h
+moves_kept slots heap after due small is_used (Fail indirection main previous told e) h = with_prev_kept slots heap main _ h
 moves_kept slots heap after due small is_used (Frees r e) h = freed_kept slots heap r small (is_used r e) h
 
 -- ---- runs
@@ -107,10 +109,10 @@ ripe_in_use P epoch (z ∷ limbo) all r e = ripe_by P (nat_le (z.epoch + 2) epoc
 
 -- after each step the slots of limbo are in use
 settled_limbo : (state : State) (s : Step) (o : Outcome) (after : State) → Moves state s o after → All (λ z. InUse after.heap z.at) after.limbo
-settled_limbo state s o after (Begins d) = limbo_in_use state _
-settled_limbo state s o after (Goes d is a g) = limbo_in_use state _
-settled_limbo state s o after (Ends d is a) = limbo_in_use state _
-settled_limbo state s o after (Sweeps spent) = limbo_in_use state _
+settled_limbo state s o after (Begins d) = limbo_in_use _ _ _ _
+settled_limbo state s o after (Goes d is a g) = limbo_in_use _ _ _ _
+settled_limbo state s o after (Ends d is a) = limbo_in_use _ _ _ _
+settled_limbo state s o after (Sweeps spent) = limbo_in_use _ _ _ _
 
 -- each step keeps that
 sound_after : (slots : ℕ) → slots ≤ 2 ^ 16 → (state : State) (s : Step) → IsSound slots state → (o : Outcome) (after : State) → Moves state s o after → IsSound slots after

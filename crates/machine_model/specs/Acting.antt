@@ -4,12 +4,11 @@ use Rattle.history.specs.declared.calls.Access.TheVariants.{Writable, ReadOnly}
 use Rattle.history.specs.declared.replies.Reply.{Reply}
 use Rattle.history.specs.declared.replies.Reply.TheVariants as reply
 use Rattle.history.specs.declared.events.Event.TheVariants.{End}
-use Rattle.slot_arena.specs.Refs.{slot_of}
 use Rattle.slot_arena.specs.declared.refs.Ref.{Ref}
 use Rattle.slot_arena.specs.declared.nodes.Node.TheVariants.{Indirection}
 use Rattle.slot_arena.specs.declared.nodes.Prev.TheVariants as prev
 use Rattle.machine_model.specs.declared.operations.Operation.{Operation}
-use Rattle.machine_model.specs.declared.orders.Place.{Place}
+use Rattle.places.specs.declared.place.Place.{Place}
 use Rattle.machine_model.specs.declared.roots.Root.{Root}
 use Rattle.machine_model.specs.declared.roots.RootWord.TheVariants.{Plain, Offer}
 use Rattle.machine_model.specs.declared.roots.Descriptor.{Descriptor}
@@ -18,13 +17,15 @@ use Rattle.machine_model.specs.declared.lines.Line.{Line}
 use Rattle.machine_model.specs.declared.lines.Line.TheVariants as line
 use Rattle.machine_model.specs.declared.actions.Action.{Action}
 use Rattle.machine_model.specs.declared.actions.Action.TheVariants as act
-use Rattle.machine_model.specs.Heaps.{Heap, main_at, generation_at, with_main, with_prev, taken, next_ref}
+use Rattle.slot_arena.specs.Heaps.{Heap, main_at, generation_at, with_main, with_prev, taken, next_ref}
 use Rattle.machine_model.specs.Calls.{handle_of}
 use Rattle.machine_model.specs.States.{State, word_at, with_word, with_root, with_operation}
-use Rattle.machine_model.specs.Reading.{is_licensed, is_pending_over}
+use Rattle.places.specs.Places.{on_time}
+use Rattle.machine_model.specs.declared.heaps.Commit.{Commit}
+use Rattle.machine_model.specs.Reading.{Verdict, Commits, Fails, Overtaken, verdict}
 use Rattle.machine_model.specs.Swapping.{stands_in, is_plain}
 use Rattle.machine_model.specs.Operations.{action_of, line_after, generation_after}
-use Rattle.machine_model.specs.Orders.{place_of, on_time, is_placed, committed_now, read_at_after, moment_after}
+use Rattle.machine_model.specs.Orders.{place_of, is_placed, committed_now, read_at_after, moment_after}
 
 -- ---- root words
 
@@ -34,16 +35,16 @@ if_changed false changed same = same
 
 -- an offer that still stands is taken back
 abbrev pub aborted : State → ℕ → Descriptor → State
-aborted state handle offer = if_changed (stands_in (word_at state handle) offer) (with_word state handle (Plain offer.current)) state
+aborted state handle offer = if_changed (stands_in (word_at state handle) offer) (with_word state handle (Plain offer.root)) state
 
 -- an offer comes to stand where its root still does
 abbrev pub offered : State → ℕ → Descriptor → State
-offered state handle offer = if_changed (is_plain (word_at state handle) offer.current) (with_word state handle (Offer offer)) state
+offered state handle offer = if_changed (is_plain (word_at state handle) offer.root) (with_word state handle (Offer offer)) state
 
 -- the root that an offer opens: writable over a root of its own, read-only over the old one
 abbrev pub opened_root : Descriptor → Option Ref → Root
 opened_root offer (Some second) = record { access = Writable; word = Plain second }
-opened_root offer None = record { access = ReadOnly; word = Plain offer.current }
+opened_root offer None = record { access = ReadOnly; word = Plain offer.root }
 
 abbrev pub opened : State → Descriptor → Option ℕ → State
 opened state offer None = state
@@ -57,17 +58,17 @@ marked id (Some operation) = Some (if operation.id == id then record operation {
 -- that offered is marked and enters the order.
 abbrev pub carried_out : State → ℕ → Descriptor → State
 carried_out state handle offer =
-    let swapped = opened (with_word state handle (Plain offer.fresh)) offer offer.opens in
+    let swapped = opened (with_word state handle (Plain offer.successor)) offer offer.opens in
     record swapped {
       actors = map (marked offer.operation) swapped.actors;
-      closings = swapped.closings ++ record { generation = generation_at state.heap offer.current; step = state.steps } ∷ [];
+      closings = swapped.closings ++ record { generation = generation_at state.heap offer.root; step = state.steps } ∷ [];
       places = swapped.places ++ on_time state.steps false offer.operation ∷ [];
     }
 
 abbrev pub completed : State → ℕ → Descriptor → Ref → State
 completed state handle offer main =
     if_changed (stands_in (word_at state handle) offer)
-    (if main == offer.expected then carried_out state handle offer else with_word state handle (Plain offer.current)) state
+    (if main == offer.expected then carried_out state handle offer else with_word state handle (Plain offer.root)) state
 
 -- ---- main words and prev words
 
@@ -77,13 +78,13 @@ published heap indirection replaced fresh =
     if_changed (main_at heap indirection == replaced) (with_prev (with_main heap indirection fresh) fresh (prev.Pending replaced)) heap
 
 abbrev pub restored : Heap → Ref → Ref → Ref → Heap
-restored heap indirection main before = if_changed (main_at heap indirection == main) (with_main heap indirection before) heap
+restored heap indirection main previous = if_changed (main_at heap indirection == main) (with_main heap indirection previous) heap
 
--- a pending main node is committed with a licence, else it fails
-abbrev pub decided : Heap → Ref → Ref → Ref → Option ℕ → Heap
-decided heap indirection main before told =
-    if_changed (is_pending_over heap main before)
-    (with_prev heap main (if_changed (is_licensed heap indirection told) prev.None (prev.Failed before))) heap
+-- a pending main node is committed with a licence, else it fails; a decided one stays as it is
+abbrev pub decided : Heap → Ref → Ref → Verdict → Heap
+decided heap main previous Commits = with_prev heap main prev.None
+decided heap main previous Fails = with_prev heap main (prev.Failed previous)
+decided heap main previous (Overtaken licensed) = heap
 
 abbrev pub new_root_taken : State → Ref → Option Ref → State
 new_root_taken state main None = state
@@ -99,9 +100,10 @@ acted state handle (act.Offer offer) = offered state handle offer
 acted state handle (act.Complete offer main) = completed state handle offer main
 acted state handle (act.ReadMain indirection) = state
 acted state handle (act.Publish indirection replaced fresh) = record state { heap = published state.heap indirection replaced fresh }
-acted state handle (act.Restore indirection main before) = record state { heap = restored state.heap indirection main before }
+acted state handle (act.Restore indirection main previous) = record state { heap = restored state.heap indirection main previous }
 acted state handle (act.ReadPrev main) = state
-acted state handle (act.Decide indirection main before told) = record state { heap = decided state.heap indirection main before told }
+acted state handle (act.Decide indirection main previous told) =
+    record state { heap = decided state.heap main previous (verdict state.heap indirection main previous told) }
 acted state handle (act.Look at) = state
 acted state handle (act.Make node) = record state { heap = taken state.heap node }
 acted state handle (act.MakeRoot main) = new_root_taken state main (next_ref state.heap)
@@ -109,6 +111,7 @@ acted state handle (act.End answer) = state
 
 -- ---- what it does to the operation
 
+-- one reference more; none at all where no slot was free
 abbrev pub with_made : List Ref → Option Ref → List Ref
 with_made private None = []
 with_made private (Some made) = private ++ made ∷ []
@@ -149,7 +152,7 @@ operation_after state operation =
 
 -- the operation swaps this main node in, for a change of its key
 abbrev pub swaps_in : Ref → Line → Bool
-swaps_in main (line.Swap (purpose.Update path before) s) = s.fresh == main
+swaps_in main (line.Swap (purpose.Update path former) s) = s.fresh == main
 swaps_in main line' = false
 
 abbrev pub entered_by : State → Ref → Option Operation → List Place
@@ -162,9 +165,9 @@ abbrev pub entered : State → Option Ref → List Place
 entered state None = []
 entered state (Some main) = flat_map (entered_by state main) state.actors
 
-abbrev pub commits_after : State → Option Ref → List ℕ
+abbrev pub commits_after : State → Option Ref → List Commit
 commits_after state None = state.commits
-commits_after state (Some main) = slice_set state.commits (slot_of main) state.steps
+commits_after state (Some main) = state.commits ++ record { main = main; step = state.steps } ∷ []
 
 -- the state after a step of the actor's operation that isn't its end, but for what every step does
 abbrev pub gone : State → ℕ → Operation → State

@@ -12,7 +12,6 @@ use Rattle.machine_model.specs.declared.operations.Operation.{Operation}
 use Rattle.machine_model.specs.declared.reading.After.{After}
 use Rattle.machine_model.specs.declared.reading.After.TheVariants.{Goes, Gives}
 use Rattle.machine_model.specs.declared.reading.Read.{Read}
-use Rattle.machine_model.specs.declared.roots.RootLine.TheVariants as root
 use Rattle.machine_model.specs.declared.building.Site.TheVariants as site
 use Rattle.machine_model.specs.declared.building.Change.TheVariants as change
 use Rattle.machine_model.specs.declared.building.BuildLine.TheVariants as build
@@ -23,12 +22,14 @@ use Rattle.machine_model.specs.declared.lines.Line.{Line}
 use Rattle.machine_model.specs.declared.lines.Line.TheVariants as line
 use Rattle.machine_model.specs.declared.actions.Action.{Action}
 use Rattle.machine_model.specs.declared.actions.Action.TheVariants as act
-use Rattle.machine_model.specs.Heaps.{node_at, entry_at, entries_of}
+use Rattle.slot_arena.specs.Heaps.{node_at, entry_at, entries_of}
 use Rattle.machine_model.specs.declared.finding.WhenFound.{WhenFound}
 use Rattle.machine_model.specs.declared.finding.WhenFound.TheVariants.{Answers, Sets, Removes}
 use Rattle.machine_model.specs.Calls.{when_found, inserts, absent_reply, key_of}
 use Rattle.machine_model.specs.States.{State}
-use Rattle.machine_model.specs.Paths.{current, above, is_below_root, flag_in, has_flag}
+use Rattle.nodes.specs.Levels.{has_flag}
+use Rattle.machine_model.specs.Paths.{current, above, is_below_root, flag_in, is_start}
+use Rattle.machine_model.specs.Lines.{impossible}
 use Rattle.machine_model.specs.Reading.{read_action, read_step, reading}
 use Rattle.machine_model.specs.Renewing.{renew_next}
 
@@ -38,11 +39,7 @@ key_action state (key.Read path read) = read_action read.indirection read.line
 key_action state (key.Main path main) = act.Look main
 key_action state (key.Entry path main position) = act.Look (entry_at state.heap main position)
 key_action state (key.Listed path main position) = act.Look (entry_at state.heap main position)
-key_action state (key.Sibling path main position before) = act.Look (entry_at state.heap main (1 - position))
-
--- a line that no machine reaches: a node is of another kind than the program takes it for
-abbrev pub anew : Line
-anew = line.Root root.Read
+key_action state (key.Sibling path main position former) = act.Look (entry_at state.heap main (1 - position))
 
 -- reads the indirection below the current one
 abbrev pub going_down : List Ref → Ref → Line
@@ -75,7 +72,7 @@ removing state path main position value (Branch bitmap entries) =
 removing state path main position value (Listed singles) =
     if length singles.items == 2 then line.Build (build.Main path main (change.Entomb (entry_at state.heap main (1 - position))) (Some value))
     else line.Build (build.Main path main (change.Remove position) (Some value))
-removing state path main position value node = anew
+removing state path main position value node = impossible
 
 abbrev pub found_so : State → List Ref → Ref → ℕ → ℕ → WhenFound → Line
 found_so state path main position value (Answers answer) = line.End answer
@@ -88,56 +85,57 @@ found state operation path main position value = found_so state path main positi
 
 -- ---- what comes after each line; what it looks at stands last
 
-abbrev pub after_read : List Ref → After Read Ref → Line
-after_read path (Goes read) = line.Key (key.Read path read)
-after_read path (Gives main) = line.Key (key.Main path main)
+abbrev pub key_after_read : List Ref → After Read Ref → Line
+key_after_read path (Goes read) = line.Key (key.Read path read)
+key_after_read path (Gives main) = line.Key (key.Main path main)
 
--- a tomb: a writable operation cleans the parent first, a read-only one looks at its single
+-- a tomb, which never stands at a root: a writable operation cleans the parent first, a read-only one looks at its single
 abbrev pub after_tomb : Access → List Ref → Ref → Line
-after_tomb Writable path main = line.Clean (clean.Read (above path) (reading (current (above path))))
+after_tomb Writable path main = if is_below_root path then line.Clean (clean.Read (above path) (reading (current (above path)))) else impossible
 after_tomb ReadOnly path main = line.Key (key.Listed path main 0)
 
-abbrev pub after_main : State → Operation → List Ref → Ref → Node → Line
-after_main state operation path main (Branch bitmap entries) =
+abbrev pub key_after_main : State → Operation → List Ref → Ref → Node → Line
+key_after_main state operation path main (Branch bitmap entries) =
     let flag = flag_in state operation path in
     if has_flag bitmap flag then line.Key (key.Entry path main (position_of flag bitmap)) else absent operation path main
-after_main state operation path main (Tomb single) = after_tomb operation.access path main
-after_main state operation path main (Listed singles) = line.Key (key.Listed path main 0)
-after_main state operation path main (Indirection generation word) = anew
-after_main state operation path main (Single k v) = anew
+key_after_main state operation path main (Tomb single) = after_tomb operation.access path main
+key_after_main state operation path main (Listed singles) = line.Key (key.Listed path main 0)
+key_after_main state operation path main (Indirection generation word) = impossible
+key_after_main state operation path main (Single k v) = impossible
 
 abbrev pub passes : Access → Bool → Bool
 passes ReadOnly same = true
 passes Writable same = same
 
--- a writable operation goes through indirections of the root's generation alone
+-- a writable operation goes through indirections of its root's generation alone
 abbrev pub is_passable : Operation → ℕ → Bool
-is_passable operation generation = passes operation.access (generation == operation.generation)
+is_passable operation generation = passes operation.access (is_start operation generation)
 
-abbrev pub after_entry : State → Operation → List Ref → Ref → ℕ → Node → Line
-after_entry state operation path main position (Indirection generation word) =
+abbrev pub key_after_entry : State → Operation → List Ref → Ref → ℕ → Node → Line
+key_after_entry state operation path main position (Indirection generation word) =
     if is_passable operation generation then going_down path (entry_at state.heap main position) else renew_next state path main []
-after_entry state operation path main position (Single k v) =
+key_after_entry state operation path main position (Single k v) =
     if k == key_of operation.call then found state operation path main position v else absent_beside operation path main position
-after_entry state operation path main position node = anew
+key_after_entry state operation path main position node = impossible
 
 abbrev pub after_listed : State → Operation → List Ref → Ref → ℕ → Node → Line
 after_listed state operation path main position (Single k v) =
     let singles = length (entries_of (node_at state.heap main)) in
     if k == key_of operation.call then found state operation path main position v
     else (if nat_lt (position + 1) singles then line.Key (key.Listed path main (position + 1)) else absent_listed operation path main singles)
-after_listed state operation path main position node = anew
+after_listed state operation path main position node = impossible
 
 abbrev pub after_sibling : List Ref → Ref → ℕ → ℕ → Ref → Node → Line
-after_sibling path main position before other (Single k v) = line.Build (build.Main path main (change.Entomb other) (Some before))
-after_sibling path main position before other node = line.Build (build.Main path main (change.Remove position) (Some before))
+after_sibling path main position former other (Single k v) = line.Build (build.Main path main (change.Entomb other) (Some former))
+after_sibling path main position former other (Indirection generation word) = line.Build (build.Main path main (change.Remove position) (Some former))
+after_sibling path main position former other node = impossible
 
 -- what comes after a step of KEY
 abbrev pub key_after : State → Operation → KeyLine → Line
-key_after state operation (key.Read path read) = after_read path (read_step state operation read)
-key_after state operation (key.Main path main) = after_main state operation path main (node_at state.heap main)
-key_after state operation (key.Entry path main position) = after_entry state operation path main position (node_at state.heap (entry_at state.heap main position))
+key_after state operation (key.Read path read) = key_after_read path (read_step state operation read)
+key_after state operation (key.Main path main) = key_after_main state operation path main (node_at state.heap main)
+key_after state operation (key.Entry path main position) = key_after_entry state operation path main position (node_at state.heap (entry_at state.heap main position))
 key_after state operation (key.Listed path main position) = after_listed state operation path main position (node_at state.heap (entry_at state.heap main position))
-key_after state operation (key.Sibling path main position before) =
+key_after state operation (key.Sibling path main position former) =
     let other = entry_at state.heap main (1 - position) in
-    after_sibling path main position before other (node_at state.heap other)
+    after_sibling path main position former other (node_at state.heap other)

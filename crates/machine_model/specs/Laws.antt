@@ -8,7 +8,7 @@ use Rattle.machine_model.specs.declared.steps.Limits.{Limits}
 use Rattle.machine_model.specs.declared.steps.Step.{Step}
 use Rattle.machine_model.specs.declared.steps.Step.TheVariants.{Go}
 use Rattle.machine_model.specs.declared.steps.Outcome.TheVariants.{Ended}
-use Rattle.machine_model.specs.Heaps.{in_use}
+use Rattle.slot_arena.specs.Heaps.{in_use}
 use Rattle.machine_model.specs.States.{State, operation_of}
 use Rattle.machine_model.specs.Operations.{action_of, kind_of}
 use Rattle.machine_model.specs.Machine.{AreLimits, next, run, taken_steps}

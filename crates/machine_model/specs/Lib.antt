@@ -1,7 +1,8 @@
-pub mod Heaps
 pub mod Calls
 pub mod States
+pub mod Pairs
 pub mod Paths
+pub mod Lines
 pub mod Reading
 pub mod Swapping
 pub mod Renewing

@@ -1,5 +1,5 @@
 -- The machine: one atomic step, and runs of steps.
-use Rattle.std.specs.Prelude.{ℕ, zero, suc, ◌+◌, ◌==◌, ◌≤◌, ◌||◌, ◌&&◌, Bool, true, false, not, nat_lt, nat_le, is_some, List, [], ◌∷◌, ◌++◌, Option, Some, None, option_map, Result, Ok, Err, if◌then◌else◌}
+use Rattle.std.specs.Prelude.{ℕ, zero, suc, ◌+◌, ◌==◌, ◌≤◌, ◌||◌, ◌&&◌, Bool, true, false, not, nat_lt, nat_le, is_some, List, [], ◌∷◌, ◌++◌, map, Option, Some, None, option_map, unwrap_or, Result, Ok, Err, if◌then◌else◌}
 use Rattle.std.specs.List.{list_any}
 use Rattle.ctrie_base.specs.declared.kinds.Kind.{Kind}
 use Rattle.ctrie_base.specs.declared.refusals.Refusal.{Refusal}
@@ -17,15 +17,14 @@ use Rattle.machine_model.specs.declared.roots.Root.{Root}
 use Rattle.machine_model.specs.declared.steps.Limits.{Limits}
 use Rattle.machine_model.specs.declared.steps.Step.{Step}
 use Rattle.machine_model.specs.declared.steps.Step.TheVariants as step
-use Rattle.machine_model.specs.declared.steps.Swept.TheVariants as swept
+use Rattle.epochs.specs.declared.limbo.Swept.{Swept}
+use Rattle.epochs.specs.Sweeping.{Reclaimer, swept_once}
 use Rattle.machine_model.specs.declared.steps.Outcome.{Outcome}
 use Rattle.machine_model.specs.declared.steps.Outcome.TheVariants as outcome
-use Rattle.machine_model.specs.Heaps.{freed}
 use Rattle.machine_model.specs.Calls.{handle_of, needs_writable, needs_read_only, opens_handle, is_close}
-use Rattle.machine_model.specs.declared.heaps.Zeroed.{Zeroed}
 use Rattle.machine_model.specs.States.{State, first_state, handle_limit, step_limit, root_at, operation_of, with_root, with_operation}
 use Rattle.machine_model.specs.Operations.{first_line, action_of, kind_of}
-use Rattle.machine_model.specs.Orders.{on_time}
+use Rattle.places.specs.Places.{on_time}
 use Rattle.machine_model.specs.Acting.{gone, ended}
 use Rattle.machine_model.specs.Counting.{settled}
 
@@ -134,7 +133,7 @@ new_operation state call access = record {
   opens = if opens_handle call then Some (least_free state) else None;
   attempt = 0;
   is_marked = false;
-  generation = 0;
+  generation = None;
   read_at = 0;
   moment = 0;
   line = first_line call;
@@ -150,14 +149,10 @@ with_begin state actor call operation =
     let closed = handle_closed state call operation.id in
     record (with_operation closed actor (Some operation)) { events = closed.events ++ Begin operation.id actor call operation.opens ∷ [] }
 
-abbrev pub unwrapped : Option Access → Access
-unwrapped None = Writable
-unwrapped (Some access) = access
-
 abbrev pub begin_unless : State → ℕ → Call → Option Refusal → Answer
 begin_unless state actor call (Some refusal) = Err refusal
 begin_unless state actor call None =
-    let operation = new_operation state call (unwrapped (access_of (root_at state (handle_of call)))) in
+    let operation = new_operation state call (unwrap_or (access_of (root_at state (handle_of call))) Writable) in
     Ok (outcome.Began operation.id, settled state (with_begin state actor call operation))
 
 -- a step that begins an operation
@@ -192,32 +187,26 @@ go state actor = go_unless state actor (go_denial state actor)
 
 -- ---- sweeping
 
--- the first slot of limbo, where it became zero two epochs ago or earlier
-abbrev pub ripe : ℕ → List Zeroed → Option Ref
-ripe epoch [] = None
-ripe epoch (z ∷ limbo) = if nat_le (z.epoch + 2) epoch then Some z.at else None
+-- the epoch that an actor has recorded: that of its operation's begin, while one runs
+abbrev pub pin_of : Option Operation → Option ℕ
+pin_of operation = option_map (λ o. o.epoch) operation
 
--- the actor runs no operation that began in another epoch
-abbrev pub is_passed : ℕ → Option Operation → Bool
-is_passed epoch None = true
-is_passed epoch (Some operation) = operation.epoch == epoch
+abbrev pub reclaimer_of : State → Reclaimer
+reclaimer_of state = record { heap = state.heap; limbo = state.limbo; epoch = state.epoch; cursor = state.cursor }
 
--- reads the record of the actor at the cursor, and goes on if it is passed
-abbrev pub scanned : State → Bool → Outcome × State
-scanned state passed = (outcome.Swept (swept.Scanned passed), record state { cursor = state.cursor + (if passed then 1 else 0) })
+abbrev pub with_reclaimer : State → Reclaimer → State
+with_reclaimer state r = record state { heap = r.heap; limbo = r.limbo; epoch = r.epoch; cursor = r.cursor }
 
--- all actors were passed: the epoch grows
-abbrev pub advanced : State → Outcome × State
-advanced state = (outcome.Swept (swept.Advanced (state.epoch + 1)), record state { epoch = state.epoch + 1; cursor = 1 })
+abbrev pub swept_with : State → Swept × Reclaimer → Outcome × State
+swept_with state done = (outcome.Swept done.0, with_reclaimer state done.1)
 
-abbrev pub sweep_by : State → Option Ref → Outcome × State
-sweep_by state (Some r) = (outcome.Swept swept.Freed, record state { heap = freed state.heap r })
-sweep_by state None =
-    if nat_le state.cursor state.limits.actors then scanned state (is_passed state.epoch (operation_of state state.cursor)) else advanced state
+-- what a step of the sweep does, but for what every step does at its end
+abbrev pub swept : State → Outcome × State
+swept state = swept_with state (swept_once (map pin_of state.actors) (reclaimer_of state))
 
 -- a step of the sweep: frees a slot, or reads an actor's epoch, or lets the epoch grow
 abbrev pub sweep : State → Answer
-sweep state = if is_spent state then Err refuse.Spent else settled_after state (sweep_by state (ripe state.epoch state.limbo))
+sweep state = if is_spent state then Err refuse.Spent else settled_after state (swept state)
 
 -- ---- steps and runs
 

@@ -1,4 +1,5 @@
--- A running operation: what its next step does, of which kind it is, and on which line the operation stands after it.
+-- A running operation: what its next step does, of which kind it is, and on which line the operation stands after it. All of
+-- this, here and in the programs' own files, is computed from the state before the step.
 use Rattle.std.specs.Prelude.{ℕ, Bool, true, false, List, [], Option, Some, None}
 use Rattle.ctrie_base.specs.declared.kinds.Kind.{Kind}
 use Rattle.ctrie_base.specs.declared.kinds.Kind.TheVariants as kind
@@ -39,14 +40,15 @@ use Rattle.machine_model.specs.declared.lines.Line.{Line}
 use Rattle.machine_model.specs.declared.lines.Line.TheVariants as line
 use Rattle.machine_model.specs.declared.actions.Action.{Action}
 use Rattle.machine_model.specs.declared.actions.Action.TheVariants as act
-use Rattle.machine_model.specs.Heaps.{node_at, generation_at}
+use Rattle.slot_arena.specs.Heaps.{node_at, generation_at}
 use Rattle.machine_model.specs.Calls.{handle_of}
 use Rattle.machine_model.specs.States.{State, word_at}
 use Rattle.machine_model.specs.Paths.{current}
 use Rattle.machine_model.specs.Reading.{reading}
 use Rattle.machine_model.specs.Swapping.{swap_action, swap_after, root_action, root_after}
 use Rattle.machine_model.specs.Renewing.{renew_action, renew_after}
-use Rattle.machine_model.specs.Finding.{key_action, key_after, going_down, anew}
+use Rattle.machine_model.specs.Lines.{new_try, impossible}
+use Rattle.machine_model.specs.Finding.{key_action, key_after, going_down}
 use Rattle.machine_model.specs.Building.{build_action, build_after}
 use Rattle.machine_model.specs.Cleaning.{clean_action, clean_after}
 use Rattle.machine_model.specs.Climbing.{climb_action, climb_after, climbing, higher, climbed}
@@ -59,7 +61,7 @@ abbrev pub first_line : Call → Line
 first_line (Entries h) = line.Walk walk.Root
 first_line (Count h) = line.Walk walk.Root
 first_line (Close h) = line.End reply.Closed
-first_line call = line.Root root.Read
+first_line call = new_try
 
 -- ---- what its next step does
 
@@ -74,6 +76,7 @@ line_action state operation (line.Climb l) = climb_action state operation l
 line_action state operation (line.Copy l) = copy_action l
 line_action state operation (line.Walk l) = walk_action l
 line_action state operation (line.End answer) = act.End answer
+line_action state operation line.Impossible = act.ReadRoot
 
 abbrev pub action_of : State → Operation → Action
 action_of state operation = line_action state operation operation.line
@@ -86,9 +89,9 @@ kind_of (act.Offer offer) = kind.SwapRoot
 kind_of (act.Complete offer main) = kind.SwapRoot
 kind_of (act.ReadMain indirection) = kind.ReadMain
 kind_of (act.Publish indirection replaced fresh) = kind.SwapMain
-kind_of (act.Restore indirection main before) = kind.SwapMain
+kind_of (act.Restore indirection main previous) = kind.SwapMain
 kind_of (act.ReadPrev main) = kind.ReadPrev
-kind_of (act.Decide indirection main before told) = kind.SwapPrev
+kind_of (act.Decide indirection main previous told) = kind.SwapPrev
 kind_of (act.Look at) = kind.Look
 kind_of (act.Make node) = kind.Make
 kind_of (act.MakeRoot main) = kind.Make
@@ -108,22 +111,22 @@ after_root operation (Goes l) = line.Root l
 after_root operation (Gives r) = from_root operation.call r
 
 -- a removal that swapped in a tomb climbs; any other change is answered
-abbrev pub updated : Operation → List Ref → Option ℕ → Node → Line
-updated operation path before (Tomb single) = climbing operation (record { path = path; single = single; before = before })
-updated operation path before node = climbed operation before
+abbrev pub after_update : Operation → List Ref → Option ℕ → Node → Line
+after_update operation path former (Tomb single) = climbing operation (record { path = path; single = single; former = former })
+after_update operation path former node = climbed operation former
 
 -- after a climb's swap: a tomb that was made there climbs on
 abbrev pub climbed_on : Operation → Climb → Node → Line
 climbed_on operation c (Tomb single) = climbing operation (higher c c.single)
-climbed_on operation c node = climbed operation c.before
+climbed_on operation c node = climbed operation c.former
 
 -- after the SWAP of this node, by whether it succeeded
 abbrev pub swapped : Operation → Node → Purpose → Bool → Line
-swapped operation node (purpose.Update path before) true = updated operation path before node
-swapped operation node (purpose.Update path before) false = anew
+swapped operation node (purpose.Update path former) true = after_update operation path former node
+swapped operation node (purpose.Update path former) false = new_try
 swapped operation node (purpose.Renew path) true = line.Key (key.Read path (reading (current path)))
-swapped operation node (purpose.Renew path) false = anew
-swapped operation node purpose.Clean done = anew
+swapped operation node (purpose.Renew path) false = new_try
+swapped operation node purpose.Clean done = new_try
 swapped operation node (purpose.Climb c) true = climbed_on operation c node
 swapped operation node (purpose.Climb c) false = line.Climb (climb.Root c root.Read)
 
@@ -143,11 +146,12 @@ line_after state operation (line.Climb l) = climb_after state operation l
 line_after state operation (line.Copy l) = copy_after state operation l
 line_after state operation (line.Walk l) = walk_after state operation l
 line_after state operation (line.End answer) = line.End answer
+line_after state operation line.Impossible = impossible
 
 -- ---- the READ that it takes, and the generation of its root
 
 abbrev pub completing_read : Descriptor → CompleteLine → Option Read
-completing_read offer (complete.Reading l) = Some (record { indirection = offer.current; line = l })
+completing_read offer (complete.Reading l) = Some (record { indirection = offer.root; line = l })
 completing_read offer (complete.Swap main) = None
 
 abbrev pub rooting_read : RootLine → Option Read
@@ -198,16 +202,17 @@ read_of (line.Climb l) = climbing_read l
 read_of (line.Copy l) = copying_read l
 read_of (line.Walk l) = walking_read l
 read_of (line.End answer) = None
+read_of line.Impossible = None
 
-abbrev pub given_root : State → After RootLine Ref → ℕ → ℕ
+abbrev pub given_root : State → After RootLine Ref → Option ℕ → Option ℕ
 given_root state (Goes l) generation = generation
-given_root state (Gives r) generation = generation_at state.heap r
+given_root state (Gives r) generation = Some (generation_at state.heap r)
 
-abbrev pub generation_from : State → Operation → Line → ℕ
+abbrev pub generation_from : State → Operation → Line → Option ℕ
 generation_from state operation (line.Root l) =
     given_root state (root_after state.heap operation.access (word_at state (handle_of operation.call)) l) operation.generation
 generation_from state operation l = operation.generation
 
 -- the generation of the root that ROOT gave last in the program's first line
-abbrev pub generation_after : State → Operation → ℕ
+abbrev pub generation_after : State → Operation → Option ℕ
 generation_after state operation = generation_from state operation operation.line

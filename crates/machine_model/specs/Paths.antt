@@ -1,12 +1,11 @@
--- Paths, and where a call's key leads on them. A path has the indirections from the root down; the last is the current
+-- What an operation goes by: its generation, its path, and where its key leads. A path has the indirections from the root down; the last is the current
 -- one.
-use Rattle.std.specs.Prelude.{ℕ, ◌+◌, ◌-◌, ◌*◌, ◌/◌, ◌==◌, Bool, not, nat_lt, bit_and, List, length, take, slice_index_or}
-use Rattle.ctrie_base.specs.Hashes.{bits_of}
-use Rattle.ctrie_base.specs.Paths.{index_at, flag_at}
-use Rattle.ctrie_base.specs.declared.hashes.HashKind.{HashKind}
+use Rattle.std.specs.Prelude.{ℕ, ◌-◌, Bool, nat_lt, nat_eq, List, length, take, slice_index_or, Some, unwrap_or}
+use Rattle.std.specs.Option.{option_eq}
 use Rattle.slot_arena.specs.declared.refs.Ref.{Ref}
+use Rattle.slot_arena.specs.Heaps.{no_ref}
+use Rattle.nodes.specs.Levels.{flag_of}
 use Rattle.machine_model.specs.declared.operations.Operation.{Operation}
-use Rattle.machine_model.specs.Heaps.{no_ref}
 use Rattle.machine_model.specs.Calls.{key_of}
 use Rattle.machine_model.specs.States.{State, key_hash}
 
@@ -26,17 +25,6 @@ is_below_root path = nat_lt 1 (length path)
 abbrev pub depth_of : List Ref → ℕ
 depth_of path = length path - 1
 
--- the depth below all levels of a hash, where lists stand: 7 for 32 bits, 13 for 64
-abbrev pub list_depth : HashKind → ℕ
-list_depth hash = (bits_of hash + 4) / 5
-
--- the index of a hash at a depth, five bits for each, and its flag
-abbrev pub index_in : ℕ → ℕ → ℕ
-index_in hash depth = index_at hash (5 * depth)
-
-abbrev pub flag_of : ℕ → ℕ → ℕ
-flag_of hash depth = flag_at hash (5 * depth)
-
 -- the hash of the call's key
 abbrev pub hash_in : State → Operation → ℕ
 hash_in state operation = key_hash state (key_of operation.call)
@@ -45,6 +33,10 @@ hash_in state operation = key_hash state (key_of operation.call)
 abbrev pub flag_in : State → Operation → List Ref → ℕ
 flag_in state operation path = flag_of (hash_in state operation) (depth_of path)
 
--- the bitmap has the flag
-abbrev pub has_flag : ℕ → ℕ → Bool
-has_flag bitmap flag = not (bit_and bitmap flag == 0)
+-- the generation of the root that ROOT gave last; the laws say that there is one wherever a program asks for it
+abbrev pub start_of : Operation → ℕ
+start_of operation = unwrap_or operation.generation 0
+
+-- this is that generation
+abbrev pub is_start : Operation → ℕ → Bool
+is_start operation generation = option_eq nat_eq operation.generation (Some generation)

@@ -9,7 +9,7 @@ use Rattle.history.specs.declared.events.Event.TheVariants as event
 use Rattle.machine_model.specs.declared.steps.Step.{Step}
 use Rattle.machine_model.specs.declared.steps.Step.TheVariants as step
 use Rattle.machine_model.specs.declared.steps.Limits.{Limits}
-use Rattle.machine_model.specs.Heaps.{in_use}
+use Rattle.slot_arena.specs.Heaps.{in_use}
 use Rattle.machine_model.specs.States.{State}
 use Rattle.machine_model.specs.Orders.{order_of}
 use Rattle.machine_model.specs.Machine.{run}

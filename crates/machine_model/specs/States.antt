@@ -6,16 +6,17 @@ use Rattle.history.specs.declared.calls.Access.TheVariants.{Writable}
 use Rattle.history.specs.declared.events.Event.{Event}
 use Rattle.slot_arena.specs.declared.refs.Ref.{Ref}
 use Rattle.slot_arena.specs.declared.nodes.Node.TheVariants.{Indirection}
-use Rattle.machine_model.specs.declared.heaps.Zeroed.{Zeroed}
+use Rattle.epochs.specs.declared.limbo.Zeroed.{Zeroed}
+use Rattle.machine_model.specs.declared.heaps.Commit.{Commit}
 use Rattle.machine_model.specs.declared.heaps.Closing.{Closing}
 use Rattle.machine_model.specs.declared.steps.Limits.{Limits}
 use Rattle.machine_model.specs.declared.roots.Root.{Root}
 use Rattle.machine_model.specs.declared.roots.RootWord.{RootWord}
 use Rattle.machine_model.specs.declared.roots.RootWord.TheVariants.{Plain, Offer}
 use Rattle.machine_model.specs.declared.operations.Operation.{Operation}
-use Rattle.machine_model.specs.declared.orders.Place.{Place}
-use Rattle.slot_arena.specs.Refs.{ref_to, slot_of}
-use Rattle.machine_model.specs.Heaps.{Heap, taken, no_ref, empty_branch}
+use Rattle.places.specs.declared.place.Place.{Place}
+use Rattle.slot_arena.specs.Refs.{ref_to}
+use Rattle.slot_arena.specs.Heaps.{Heap, taken, no_ref, empty_branch}
 
 pub record State : Type 0 where
   pub limits : Limits
@@ -31,8 +32,8 @@ pub record State : Type 0 where
   pub roots : List (Option Root)
   -- each actor's operation, if one runs
   pub actors : List (Option Operation)
-  -- for each slot, the step in which the main node that stands there was committed
-  pub commits : List ℕ
+  -- the commits of main nodes, as they came
+  pub commits : List Commit
   -- the generations that were closed
   pub closings : List Closing
   -- the places of the operations in the order, as they came in
@@ -67,7 +68,7 @@ first_state limits = record {
   cursor = 1;
   roots = slice_set (replicate handle_limit None) 0 (Some (record { access = Writable; word = Plain (ref_to 2 1) }));
   actors = replicate limits.actors None;
-  commits = replicate limits.slots 0;
+  commits = [];
   closings = [];
   places = [];
   events = [];
@@ -111,7 +112,7 @@ with_operation state actor operation = record state { actors = slice_set state.a
 -- the root that stands while an offer does
 abbrev pub root_of : RootWord → Ref
 root_of (Plain root) = root
-root_of (Offer offer) = offer.current
+root_of (Offer offer) = offer.root
 
 -- the hash of a key in this machine
 abbrev pub key_hash : State → ℕ → ℕ
@@ -124,6 +125,10 @@ step_of closing = option_map (λ c. c.step) closing
 abbrev pub closed_at : State → ℕ → Option ℕ
 closed_at state generation = step_of (find (λ c. c.generation == generation) state.closings)
 
--- the step in which the main node was committed; an earlier one where it never was
+abbrev pub step_of_commit : Option Commit → ℕ
+step_of_commit None = 0
+step_of_commit (Some commit) = commit.step
+
+-- the step in which the main node was committed; 0 where it never was, since it is its indirection's first
 abbrev pub committed_at : State → Ref → ℕ
-committed_at state main = slice_index_or state.commits (slot_of main) 0
+committed_at state main = step_of_commit (find (λ commit. commit.main == main) state.commits)

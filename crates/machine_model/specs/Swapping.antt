@@ -22,7 +22,7 @@ use Rattle.machine_model.specs.declared.reading.SwapLine.{SwapLine}
 use Rattle.machine_model.specs.declared.reading.SwapLine.TheVariants as swap
 use Rattle.machine_model.specs.declared.actions.Action.{Action}
 use Rattle.machine_model.specs.declared.actions.Action.TheVariants as act
-use Rattle.machine_model.specs.Heaps.{Heap, main_at, prev_at}
+use Rattle.slot_arena.specs.Heaps.{Heap, main_at, prev_at}
 use Rattle.machine_model.specs.Reading.{read_action, read_after}
 
 -- ---- SWAP
@@ -51,8 +51,8 @@ after_deciding (Gives main) = Goes swap.Check
 
 abbrev pub after_check : Prev → After SwapLine Bool
 after_check prev.None = Gives true
-after_check (prev.Pending before) = Gives false
-after_check (prev.Failed before) = Gives false
+after_check (prev.Pending previous) = Gives false
+after_check (prev.Failed previous) = Gives false
 
 abbrev pub after_swap : Heap → Access → RootWord → Swap → SwapLine → After SwapLine Bool
 after_swap heap access word s swap.Publish = after_publish s.fresh (main_at heap s.indirection == s.replaced)
@@ -91,7 +91,7 @@ abbrev pub completing : Descriptor → Complete
 completing offer = record { offer = offer; line = complete.Reading read.Main }
 
 abbrev pub complete_action_at : Descriptor → CompleteLine → Action
-complete_action_at offer (complete.Reading line) = read_action offer.current line
+complete_action_at offer (complete.Reading line) = read_action offer.root line
 complete_action_at offer (complete.Swap main) = act.Complete offer main
 
 abbrev pub complete_action : Complete → Action
@@ -102,7 +102,7 @@ after_reading (Goes line) = Goes (complete.Reading line)
 after_reading (Gives main) = Goes (complete.Swap main)
 
 abbrev pub after_complete : Heap → Access → RootWord → Descriptor → CompleteLine → After CompleteLine Bool
-after_complete heap access word offer (complete.Reading line) = after_reading (read_after heap access word offer.current line)
+after_complete heap access word offer (complete.Reading line) = after_reading (read_after heap access word offer.root line)
 after_complete heap access word offer (complete.Swap main) = Gives (is_carried_out word offer main)
 
 abbrev pub of_offer : Descriptor → After CompleteLine Bool → After Complete Bool

@@ -28,11 +28,11 @@ pub enum Action {
         replaced: Ref,
         fresh: Ref,
     },
-    /// Puts `before` in the place of a failed main node, if that one still stands there.
+    /// Puts `previous` in the place of a failed main node, if that one still stands there.
     Restore {
         indirection: Ref,
         main: Ref,
-        before: Ref,
+        previous: Ref,
     },
     /// Reads the `prev` word.
     ReadPrev {
@@ -43,7 +43,7 @@ pub enum Action {
     Decide {
         indirection: Ref,
         main: Ref,
-        before: Ref,
+        previous: Ref,
         told: Option<u64>,
     },
     /// Looks at a slot that never changes.

@@ -1,7 +1,6 @@
 //! The nodes that a change of one key makes.
 
-use crate::refs::Refs;
-use slot_arena::Ref;
+use slot_arena::{Ref, Refs};
 
 /// Where the key's new single goes.
 #[derive(Clone, Copy)]
@@ -27,7 +26,7 @@ pub enum Change {
     Entomb { single: Ref },
 }
 
-/// A step that makes a node for a change of one key. `before` is the key's value before the change. The
+/// A step that makes a node for a change of one key. `former` is the key's value before the change. The
 /// root's depth is 0; an indirection's level is five times its depth.
 #[derive(Drop)]
 pub enum BuildLine {
@@ -36,7 +35,7 @@ pub enum BuildLine {
         path: Refs,
         main: Ref,
         site: Site,
-        before: Option<u64>,
+        former: Option<u64>,
     },
     /// Makes the main node of the two singles, at the depth where their paths part or below all levels.
     Pair {
@@ -67,6 +66,6 @@ pub enum BuildLine {
         path: Refs,
         main: Ref,
         change: Change,
-        before: Option<u64>,
+        former: Option<u64>,
     },
 }

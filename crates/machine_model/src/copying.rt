@@ -8,15 +8,32 @@ use slot_arena::Ref;
 #[derive(Clone, Copy)]
 pub enum CopyLine {
     /// Reads the root.
-    Read { root: Ref, read: Read },
+    Read {
+        root: Ref,
+        read: Read,
+    },
     /// Makes the new root over its main node.
-    Fresh { root: Ref, main: Ref },
+    Successor {
+        root: Ref,
+        main: Ref,
+    },
     /// Makes the root of a writable snapshot over the same main node.
-    Second { root: Ref, main: Ref, fresh: Ref },
+    Second {
+        root: Ref,
+        main: Ref,
+        successor: Ref,
+    },
     /// For a clear: makes an empty branch.
-    Empty { root: Ref, main: Ref },
+    Empty {
+        root: Ref,
+        main: Ref,
+    },
     /// For a clear: makes the new root over the empty branch.
-    Cleared { root: Ref, main: Ref, branch: Ref },
+    Cleared {
+        root: Ref,
+        main: Ref,
+        branch: Ref,
+    },
     /// Offers the swap.
     Offer(Descriptor),
     /// Completes the own offer.

@@ -1,9 +1,8 @@
 //! How a call on one key goes down the trie.
 
 use crate::reading::Read;
-use crate::refs::Refs;
 use history::Reply;
-use slot_arena::Ref;
+use slot_arena::{Ref, Refs};
 
 /// A line of KEY below its root. A path has the indirections from the root down; the last is the
 /// current one.
@@ -37,7 +36,7 @@ pub enum KeyLine {
         path: Refs,
         main: Ref,
         position: usize,
-        before: u64,
+        former: u64,
     },
 }
 

@@ -1,23 +1,12 @@
-//! What the heap's slots hold, and what is kept beside them.
+//! What is kept of nodes and generations beside the heap.
 
-use slot_arena::{Node, Prev, Ref};
+use slot_arena::Ref;
 
-/// A slot in use.
-#[derive(Drop)]
-pub struct Slot {
-    /// The birth number that was drawn when it was taken, from 1.
-    pub birth: u64,
-    pub node: Node,
-    /// The `prev` word of a main node.
-    pub prev: Prev,
-}
-
-/// A slot of limbo: in use, but nothing refers to it.
+/// The step in which a main node was committed.
 #[derive(Clone, Copy)]
-pub struct Zeroed {
-    pub at: Ref,
-    /// The epoch in which its count became zero.
-    pub epoch: u64,
+pub struct Commit {
+    pub main: Ref,
+    pub step: u64,
 }
 
 /// The step that closed a generation.

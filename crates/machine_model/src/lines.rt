@@ -1,46 +1,26 @@
 //! The lines of all programs.
 
-ghost use Rattle.std.specs.Prelude.{◌≡◌, IfOk};
-
 use crate::building::BuildLine;
 use crate::copying::CopyLine;
 use crate::finding::KeyLine;
 use crate::reading::Swap;
-use crate::refs::Refs;
 use crate::repairs::{CleanLine, Climb, ClimbLine, RenewLine};
 use crate::roots::RootLine;
 use crate::walking::WalkLine;
 use history::Reply;
-use std::alloc::AllocError;
+use slot_arena::Refs;
 
 /// What a SWAP is for.
 #[derive(Drop)]
 pub enum Purpose {
-    /// The call's own change of its key, whose value before it was `before`.
-    Update { path: Refs, before: Option<u64> },
+    /// The call's own change of its key, whose value before it was `former`.
+    Update { path: Refs, former: Option<u64> },
     /// Renewing the last of the path.
     Renew { path: Refs },
     /// Cleaning.
     Clean,
     /// Climbing.
     Climb(Climb),
-}
-
-impl Purpose {
-    /// A copy.
-    pub fn copy(&self) -> Result<Purpose, AllocError>
-        ensures { IfOk result (λ copy. copy ≡ self.now) }
-    {
-        Ok(match self {
-            Purpose::Update { path, before } => Purpose::Update {
-                path: path.copy()?,
-                before: *before,
-            },
-            Purpose::Renew { path } => Purpose::Renew { path: path.copy()? },
-            Purpose::Clean => Purpose::Clean,
-            Purpose::Climb(climb) => Purpose::Climb(climb.copy()?),
-        })
-    }
 }
 
 /// The line on which an operation stands: what its next step does, and what it remembers.
@@ -58,4 +38,6 @@ pub enum Line {
     Walk(WalkLine),
     /// Ends with this reply.
     End(Reply),
+    /// No machine reaches it: a node is of another kind than the program takes it for.
+    Impossible,
 }

@@ -1,8 +1,8 @@
 //! Running operations.
 
 use crate::lines::Line;
-use crate::refs::Refs;
 use history::{Access, Call};
+use slot_arena::Refs;
 
 /// An operation that an actor runs.
 #[derive(Drop)]
@@ -21,8 +21,8 @@ pub struct Operation {
     pub attempt: u64,
     /// Its last offer was carried out.
     pub is_marked: bool,
-    /// The generation of the root that ROOT gave last in its first line.
-    pub generation: u64,
+    /// The generation of the root that ROOT gave last in its first line, if it has got one.
+    pub generation: Option<u64>,
     /// The step of the last read or swap of a main word by a READ.
     pub read_at: u64,
     /// The first step from there on at which what its last READ gave was the logical main node.

@@ -21,27 +21,27 @@ pub enum ReadLine {
     Prev {
         main: Ref,
     },
-    /// The node is pending over `before`: reads the root, for its generation.
+    /// The node is pending over `previous`: reads the root, for its generation.
     AskRoot {
         main: Ref,
-        before: Ref,
+        previous: Ref,
     },
     /// An offer stands in the root: takes it back, and asks again.
     Abort {
         main: Ref,
-        before: Ref,
+        previous: Ref,
         offer: Descriptor,
     },
     /// Decides the node by the generation that the root had; by none on a read-only handle.
     Decide {
         main: Ref,
-        before: Ref,
+        previous: Ref,
         told: Option<u64>,
     },
-    /// The node has failed: puts `before` back in its place.
+    /// The node has failed: puts `previous` back in its place.
     Restore {
         main: Ref,
-        before: Ref,
+        previous: Ref,
     },
 }
 

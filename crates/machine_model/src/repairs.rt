@@ -1,12 +1,8 @@
 //! Renewing, cleaning and climbing: changes of the trie that leave its content alone.
 
-ghost use Rattle.std.specs.Prelude.{◌≡◌, IfOk};
-
 use crate::reading::Read;
-use crate::refs::Refs;
 use crate::roots::RootLine;
-use slot_arena::Ref;
-use std::alloc::AllocError;
+use slot_arena::{Ref, Refs};
 
 /// A line of RENEW: the current indirection's branch gets indirections of the root's generation. `done`
 /// has its new entries so far.
@@ -87,20 +83,7 @@ pub enum CleanLine {
 pub struct Climb {
     pub path: Refs,
     pub single: Ref,
-    pub before: Option<u64>,
-}
-
-impl Climb {
-    /// A copy.
-    pub fn copy(&self) -> Result<Climb, AllocError>
-        ensures { IfOk result (λ copy. copy ≡ self.now) }
-    {
-        Ok(Climb {
-            path: self.path.copy()?,
-            single: self.single,
-            before: self.before,
-        })
-    }
+    pub former: Option<u64>,
 }
 
 /// A line of CLIMB: the tomb gives way to its single in the parent.

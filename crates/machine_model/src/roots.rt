@@ -13,11 +13,11 @@ pub struct Descriptor {
     /// Which of the operation's tries it is, from 1.
     pub attempt: u64,
     /// The root that is to be swapped.
-    pub current: Ref,
+    pub root: Ref,
     /// The main node that the root must have.
     pub expected: Ref,
     /// The root that is to stand in its place.
-    pub fresh: Ref,
+    pub successor: Ref,
     /// The root of the handle to open, for a writable snapshot.
     pub second: Option<Ref>,
     /// The handle to open, for a snapshot or a freeze.

@@ -1,6 +1,7 @@
 //! Steps and their outcomes.
 
 use ctrie_base::{HashKind, Kind};
+use epochs::Swept;
 use history::{Call, Reply};
 
 /// The sizes of a machine.
@@ -23,17 +24,6 @@ pub enum Step {
     Go { actor: u8 },
     /// A step of the sweep.
     Sweep,
-}
-
-/// What a sweep's step did.
-#[derive(Clone, Copy, Debug, PartialEq, Eq)]
-pub enum Swept {
-    /// Read an actor's record of the epoch, and passed it or not.
-    Scanned { passed: bool },
-    /// The epoch grew to this one.
-    Advanced(u64),
-    /// Freed a slot.
-    Freed,
 }
 
 /// What a step did.

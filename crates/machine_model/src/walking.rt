@@ -1,12 +1,11 @@
 //! Walks over all pairs of a read-only map.
 
 use crate::reading::Read;
-use crate::refs::Refs;
 use history::Pairs;
-use slot_arena::Ref;
+use slot_arena::{Ref, Refs};
 
-/// A line of WALK. `todo` has the entries that are still to be looked at, the next one first; `taken` the
-/// pairs so far.
+/// A line of WALK. `todo` has the entries that are still to be looked at, the next one first; `pairs` those
+/// so far.
 #[derive(Drop)]
 pub enum WalkLine {
     /// Reads the root word.
@@ -15,17 +14,17 @@ pub enum WalkLine {
     Read {
         read: Read,
         todo: Refs,
-        taken: Pairs,
+        pairs: Pairs,
     },
     /// Looks at its main node.
     Main {
         main: Ref,
         todo: Refs,
-        taken: Pairs,
+        pairs: Pairs,
     },
     /// Looks at the next entry.
     Entry {
         todo: Refs,
-        taken: Pairs,
+        pairs: Pairs,
     },
 }

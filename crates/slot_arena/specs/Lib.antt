@@ -1,1 +1,3 @@
 pub mod Refs
+pub mod Heaps
+pub mod Counts

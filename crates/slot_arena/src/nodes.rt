@@ -41,3 +41,13 @@ pub enum Prev {
     /// The node was refused: this one is to stand in its place.
     Failed(Ref),
 }
+
+/// A slot in use.
+#[derive(Debug, Drop)]
+pub struct Slot {
+    /// The birth number that was drawn when it was taken, from 1.
+    pub birth: u64,
+    pub node: Node,
+    /// The `prev` word of a main node.
+    pub prev: Prev,
+}

@@ -7,7 +7,7 @@ use Rattle.slot_arena.specs.declared.nodes.Node.{Node}
 use Rattle.slot_arena.specs.declared.nodes.Node.TheVariants.{Indirection, Branch, Single, Tomb, List as Listed}
 use Rattle.slot_arena.specs.declared.nodes.Prev.{Prev}
 use Rattle.slot_arena.specs.declared.nodes.Prev.TheVariants as prev
-use Rattle.machine_model.specs.declared.heaps.Slot.{Slot}
+use Rattle.slot_arena.specs.declared.nodes.Slot.{Slot}
 
 pub record Heap : Type 0 where
   -- each slot, if it is in use
@@ -17,9 +17,10 @@ pub record Heap : Type 0 where
   -- how many births were drawn
   pub births : ℕ
 
--- Looking up. Where nothing is there, each look-up gives a default; no step of a machine ever meets one.
+-- Looking up. A look-up goes by the slot alone, and where nothing stands there it gives a default. The laws of memory say
+-- that a machine's steps look up what was made under that very reference, and so meet no default.
 
--- the reference that names no slot
+-- the reference that stands for none: births begin at 1, so it is never drawn
 abbrev pub no_ref : Ref
 no_ref = 0
 
@@ -129,6 +130,11 @@ unfoldable pub freed : Heap → Ref → Heap
 freed heap r = record heap { slots = slice_set heap.slots (slot_of r) None; free = slot_of r ∷ heap.free }
 
 -- References.
+
+-- the reference that is there, if one is
+abbrev pub refs_of_option : Option Ref → List Ref
+refs_of_option None = []
+refs_of_option (Some r) = r ∷ []
 
 -- the references that stand in a node
 abbrev pub refs_of_node : Node → List Ref

@@ -1,4 +1,4 @@
-//! Places in the order.
+//! The place of an operation in the order.
 
 /// The place of an operation in the order. Places are compared from the first field on.
 #[derive(Clone, Copy, Debug, PartialEq, Eq, PartialOrd, Ord)]
@@ -9,8 +9,8 @@ pub struct Place {
     pub on_time: bool,
     /// The operation's moment.
     pub moment: u64,
-    /// It changed nothing. What changes the map stands before the readers of the same moment.
-    pub reads: bool,
+    /// It changed nothing. What changes the map stands before the others of the same moment.
+    pub changed_nothing: bool,
     /// The operation.
     pub id: u64,
 }

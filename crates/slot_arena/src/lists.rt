@@ -2,7 +2,7 @@
 
 ghost use Rattle.std.specs.Prelude.{◌≡◌, [], ◌∷◌, ◌++◌, List, ℕ, IfOk, OnOk, OnErr};
 
-use slot_arena::Ref;
+use crate::refs::Ref;
 use std::alloc::{AllocError, Global};
 use std::marker::Model;
 

@@ -1,0 +1,2 @@
+pub mod Limbo
+pub mod Sweeping
