@@ -1,12 +1,12 @@
 pub mod EntryMaps
 pub mod CrowdCounts
 pub mod WorldSteps
-mod Places
-mod Begins
-mod Rows
-mod Noting
-mod OneWorld
-mod Leading
-mod Standing
-mod Marking
-mod Legal
+pub mod Places
+pub mod Begins
+pub mod Rows
+pub mod Noting
+pub mod OneWorld
+pub mod Leading
+pub mod Standing
+pub mod Marking
+pub mod Legal

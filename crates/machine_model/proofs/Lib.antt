@@ -12,3 +12,5 @@ pub mod HeapMoves
 pub mod Rest
 pub mod InUse
 pub mod Slots
+pub mod Times
+pub mod Grown
