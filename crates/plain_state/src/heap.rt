@@ -1,13 +1,12 @@
 //! The heap of a plain machine.
 
 ghost use Rattle.std.specs.Prelude.{◌≡◌, ◌<◌, ◌≤◌, ◌-◌, ◌^◌, length, replicate, None, slice_index_or, option_map, IfOk, OnOk, OnErr};
-ghost use Rattle.machine_model.specs.Heaps.{no_ref, node_at, prev_at, main_at, generation_at, entries_of, entry_at, bitmap_of, next_ref, logical_main, with_main_word, main_changed, prev_changed, with_main, with_prev, taken, freed};
+ghost use Rattle.slot_arena.specs.Heaps.{no_ref, node_at, prev_at, main_at, generation_at, entries_of, entry_at, bitmap_of, next_ref, logical_main, with_main_word, main_changed, prev_changed, with_main, with_prev, taken, freed};
 ghost use Rattle.std.specs.List.{range_with_len};
 ghost use Rattle.machine_model.specs.States.{empty_heap};
 
 use arrayvec::ArrayVec;
-use machine_model::Slot;
-use slot_arena::{Node, Prev, Ref};
+use slot_arena::{Node, Prev, Ref, Slot};
 use std::alloc::{AllocError, Global};
 use std::marker::Model;
 
@@ -24,7 +23,7 @@ pub struct PlainHeap {
 
 impl Model for PlainHeap {
     ghost use Rattle.std.specs.Prelude.{◌≡◌};
-    ghost use Rattle.machine_model.specs.Heaps.{Heap, empty_branch};
+    ghost use Rattle.slot_arena.specs.Heaps.{Heap, empty_branch};
 
     ghost Value = { Heap };
 
@@ -64,15 +63,8 @@ impl PlainHeap {
         self.free.as_slice()
     }
 
-    /// How many births were drawn.
-    pub fn births(&self) -> u64
-        ensures { result ≡ self.now.births }
-    {
-        self.births
-    }
-
     /// The node that stands in a slot.
-    #[tactic(auto, unfolding(machine_model::specs::Heaps::node_at, machine_model::specs::Heaps::stored))]
+    #[tactic(auto, unfolding(slot_arena::specs::Heaps::node_at, slot_arena::specs::Heaps::stored))]
     pub fn node(&self, at: Ref) -> &Node
         ensures { result.now ≡ node_at self.now at }
     {
@@ -83,7 +75,7 @@ impl PlainHeap {
     }
 
     /// The `prev` word of a main node.
-    #[tactic(auto, unfolding(machine_model::specs::Heaps::prev_at, machine_model::specs::Heaps::stored))]
+    #[tactic(auto, unfolding(slot_arena::specs::Heaps::prev_at, slot_arena::specs::Heaps::stored))]
     pub fn prev(&self, at: Ref) -> Prev
         ensures { result ≡ prev_at self.now at }
     {
@@ -155,7 +147,7 @@ impl PlainHeap {
         let main = self.main(indirection);
         match self.prev(main) {
             Prev::None => main,
-            Prev::Pending(before) | Prev::Failed(before) => before,
+            Prev::Pending(previous) | Prev::Failed(previous) => previous,
         }
     }
 
@@ -169,7 +161,7 @@ impl PlainHeap {
     }
 
     /// Changes the main word of an indirection.
-    #[tactic(auto, using(crate::proofs::Written::unwritten), unfolding(machine_model::specs::Heaps::with_main, machine_model::specs::Heaps::stored))]
+    #[tactic(auto, using(crate::proofs::Written::unwritten), unfolding(slot_arena::specs::Heaps::with_main, slot_arena::specs::Heaps::stored))]
     pub fn set_main(&mut self, at: Ref, main: Ref)
         ensures { self.new ≡ with_main self.old at main }
     {
@@ -179,7 +171,7 @@ impl PlainHeap {
     }
 
     /// Changes the `prev` word of a main node.
-    #[tactic(auto, using(crate::proofs::Written::unwritten), unfolding(machine_model::specs::Heaps::with_prev, machine_model::specs::Heaps::stored))]
+    #[tactic(auto, using(crate::proofs::Written::unwritten), unfolding(slot_arena::specs::Heaps::with_prev, slot_arena::specs::Heaps::stored))]
     pub fn set_prev(&mut self, at: Ref, prev: Prev)
         ensures { self.new ≡ with_prev self.old at prev }
     {
@@ -189,7 +181,7 @@ impl PlainHeap {
     }
 
     /// Puts the node into the first free slot, under a new birth. Where no slot is free nothing happens.
-    #[tactic(auto, unfolding(machine_model::specs::Heaps::taken))]
+    #[tactic(auto, unfolding(slot_arena::specs::Heaps::taken))]
     pub fn take(&mut self, node: Node)
         requires { self.old.births < 2 ^ 64 - 1 }
         ensures { self.new ≡ taken self.old node }
@@ -209,7 +201,7 @@ impl PlainHeap {
     }
 
     /// Empties the slot; it is the first of the free ones then. After an error nothing has changed.
-    #[tactic(auto, unfolding(machine_model::specs::Heaps::freed))]
+    #[tactic(auto, unfolding(slot_arena::specs::Heaps::freed))]
     pub fn release(&mut self, at: Ref) -> Result<(), AllocError>
         ensures ok { OnOk result (self.new ≡ freed self.old at) }
         ensures err { OnErr result (self.new ≡ self.old) }

@@ -3,6 +3,8 @@
 
 mod heap;
 mod parts;
+mod writing;
 
 pub use heap::PlainHeap;
 pub use parts::{Parts, root_of};
+pub use writing::write_at;

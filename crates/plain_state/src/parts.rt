@@ -1,13 +1,15 @@
 //! The parts of a plain machine.
 
-ghost use Rattle.std.specs.Prelude.{◌≡◌, ◌≤◌, option_map};
-ghost use Rattle.machine_model.specs.States.{root_at, word_at, operation_of, root_of, key_hash, closed_at, committed_at, with_word, with_root, with_operation, rewritten};
+ghost use Rattle.std.specs.Prelude.{◌≡◌, ◌==◌, option_map, find};
+ghost use Rattle.machine_model.specs.States.{root_at, word_at, operation_of, root_of, key_hash, closed_at, committed_at};
 ghost use Rattle.machine_model.specs.Machine.{access_of};
 ghost use Rattle.plain_state.specs.Seen.{seen};
 
 use crate::heap::PlainHeap;
+use epochs::Zeroed;
 use history::{Access, Event};
-use machine_model::{Closing, Limits, Operation, Place, Root, RootWord, Zeroed};
+use machine_model::{Closing, Commit, Limits, Operation, Root, RootWord};
+use places::Place;
 use slot_arena::Ref;
 use std::alloc::Global;
 
@@ -27,8 +29,8 @@ pub struct Parts {
     pub roots: Vec<Option<Root>>,
     /// Each actor's operation, if one runs.
     pub actors: Vec<Option<Operation>>,
-    /// For each slot, the step in which the main node that stands there was committed.
-    pub commits: Vec<u64>,
+    /// The commits of main nodes, as they came.
+    pub commits: Vec<Commit>,
     /// The generations that were closed.
     pub closings: Vec<Closing>,
     /// The places of the operations in the order, as they came in.
@@ -95,52 +97,24 @@ impl Parts {
         Some(closing.step)
     }
 
-    /// The step in which the main node was committed; an earlier one where it never was.
+    /// The commit of the main node, if it was committed.
+    fn commit_of(&self, main: Ref) -> Option<Commit>
+        ensures { result ≡ find (λ commit. commit.main == main) (seen self.now).commits }
+    {
+        self.commits
+            .iter()
+            .find(|commit| commit.main == main)
+            .copied()
+    }
+
+    /// The step in which the main node was committed; 0 where it never was.
     pub fn committed_at(&self, main: Ref) -> u64
         ensures { result ≡ committed_at (seen self.now) main }
     {
-        self.commits.get(main.slot() as usize).copied().unwrap_or(0)
-    }
-
-    /// Changes the root word of an open handle.
-    #[tactic(auto, using(crate::proofs::Written::unwritten))]
-    pub fn set_word(&mut self, handle: u16, word: RootWord)
-        ensures { seen self.new ≡ with_word (seen self.old) handle word }
-    {
-        if let Some(place) = self.roots.get_mut(handle as usize) {
-            set_word_in(place, word);
+        match self.commit_of(main) {
+            None => 0,
+            Some(commit) => commit.step,
         }
-    }
-
-    /// Lets the number name this, or nothing.
-    #[tactic(auto, using(crate::proofs::Written::unwritten))]
-    pub fn set_root(&mut self, handle: u16, root: Option<Root>)
-        ensures { seen self.new ≡ with_root (seen self.old) handle root }
-    {
-        if let Some(place) = self.roots.get_mut(handle as usize) {
-            *place = root;
-        }
-    }
-
-    /// Lets the actor run this operation, or none. The actor isn't 0.
-    #[tactic(auto, using(crate::proofs::Written::unwritten))]
-    pub fn set_operation(&mut self, actor: u8, operation: Option<Operation>)
-        requires { 1 ≤ actor }
-        ensures { seen self.new ≡ with_operation (seen self.old) actor operation }
-    {
-        let index = actor as usize - 1;
-        if let Some(place) = self.actors.get_mut(index) {
-            *place = operation;
-        }
-    }
-}
-
-/// Changes the root word of a handle, if it is open.
-fn set_word_in(place: &mut Option<Root>, word: RootWord)
-    ensures { place.new ≡ rewritten word place.old }
-{
-    if let Some(root) = place {
-        root.word = word;
     }
 }
 
@@ -150,6 +124,6 @@ pub fn root_of(word: RootWord) -> Ref
 {
     match word {
         RootWord::Plain(root) => root,
-        RootWord::Offer(offer) => offer.current,
+        RootWord::Offer(offer) => offer.root,
     }
 }
