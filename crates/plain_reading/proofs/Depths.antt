@@ -3,7 +3,7 @@ use Rattle.std.specs.Prelude.{◌≡◌, ℕ, ◌*◌, ◌/◌, ◌%◌, ◌^◌
 use Rattle.std.proofs.Common.{arith, sym, ap}
 use Rattle.std.proofs.Math.Nat.{div-eq_of_lt}
 use Rattle.std.proofs.Math.Pow.{pow_mono}
-use Rattle.machine_model.specs.Paths.{index_in}
+use Rattle.nodes.specs.Levels.{index_in}
 
 -- a hash of 64 bits has no more of them below depth 12
 pub spent : (hash depth : ℕ) → hash < 2 ^ 64 → 12 < depth → 0 ≡ index_in hash depth

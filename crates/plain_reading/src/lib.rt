@@ -6,6 +6,7 @@ mod calls;
 mod paths;
 mod reads;
 mod swaps;
+mod verdicts;
 
 pub use calls::{
     absent_reply, changed_reply, handle_of, inserts, is_close, key_of, needs_read_only,
@@ -13,12 +14,11 @@ pub use calls::{
 };
 pub use paths::{
     above, current, depth_of, flag_in, flag_of, has_flag, hash_in, index_in, is_below_root,
-    list_depth, position_of,
+    is_start, list_depth, position_of, start_of,
 };
-pub use reads::{
-    commits, is_licensed, is_pending_over, read_action, read_after, read_step, reading,
-};
+pub use reads::{committed_by, read_action, read_after, read_step, reading};
 pub use swaps::{
     complete_action, complete_after, completing, is_plain, root_action, root_after, stands_in,
     swap_action, swap_after, swapping,
 };
+pub use verdicts::{Verdict, verdict_on};

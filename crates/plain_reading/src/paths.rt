@@ -2,14 +2,15 @@
 
 ghost use Rattle.std.specs.Prelude.{◌≡◌, ◌-◌, IfOk};
 ghost use Rattle.ctrie_base.specs.Paths.{position_of};
-ghost use Rattle.machine_model.specs.Paths.{current, above, is_below_root, depth_of, list_depth, index_in, flag_of, hash_in, flag_in, has_flag};
+ghost use Rattle.machine_model.specs.Paths.{current, above, is_below_root, depth_of, hash_in, flag_in, start_of, is_start};
+ghost use Rattle.nodes.specs.Levels.{list_depth, index_in, flag_of, has_flag};
 ghost use Rattle.plain_state.specs.Seen.{seen};
 
 use crate::calls::key_of;
 use ctrie_base::HashKind;
-use machine_model::{Operation, Refs};
+use machine_model::Operation;
 use plain_state::Parts;
-use slot_arena::Ref;
+use slot_arena::{Ref, Refs};
 use std::alloc::AllocError;
 
 /// The last indirection.
@@ -65,6 +66,20 @@ pub fn flag_of(hash: u64, depth: usize) -> u32
     ensures { result ≡ flag_of hash depth }
 {
     1 << index_in(hash, depth)
+}
+
+/// The generation of the root that ROOT gave last in the operation's first line; 0 before it has given one.
+pub fn start_of(operation: &Operation) -> u64
+    ensures { result ≡ start_of operation.now }
+{
+    operation.generation.unwrap_or(0)
+}
+
+/// Whether this is that generation.
+pub fn is_start(operation: &Operation, generation: u64) -> bool
+    ensures { result ≡ is_start operation.now generation }
+{
+    operation.generation == Some(generation)
 }
 
 /// The hash of the call's key.

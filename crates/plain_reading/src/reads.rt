@@ -1,12 +1,14 @@
 //! READ: gives the decided main node of an indirection.
 
 ghost use Rattle.std.specs.Prelude.{◌≡◌};
-ghost use Rattle.machine_model.specs.Reading.{read_action, after_prev, after_ask, is_licensed, is_pending_over, is_pending, after_decide, after_restore, read_after, at_indirection, read_step, reading, committed_by, commits};
+ghost use Rattle.machine_model.specs.Reading.{read_action, after_prev, after_ask, after_decide, after_restore, read_after, at_indirection, read_step, reading, committed_so, committed_by};
 ghost use Rattle.slot_arena.specs.declared.nodes.Prev.TheVariants.{Pending};
 ghost use Rattle.machine_model.specs.declared.reading.After.TheVariants.{Goes};
 ghost use Rattle.plain_state.specs.Seen.{seen};
+ghost use Rattle.plain_reading.specs.Verdicts.{meant};
 
 use crate::calls::handle_of;
+use crate::verdicts::{Verdict, verdict_on};
 use history::Access;
 use machine_model::{Action, After, Operation, Read, ReadLine, RootWord};
 use plain_state::{Parts, PlainHeap};
@@ -21,16 +23,20 @@ pub fn read_action(indirection: Ref, line: ReadLine) -> Action
         ReadLine::Prev { main } => Action::ReadPrev { main },
         ReadLine::AskRoot { .. } => Action::ReadRoot,
         ReadLine::Abort { offer, .. } => Action::Abort(offer),
-        ReadLine::Decide { main, before, told } => Action::Decide {
+        ReadLine::Decide {
+            main,
+            previous,
+            told,
+        } => Action::Decide {
             indirection,
             main,
-            before,
+            previous,
             told,
         },
-        ReadLine::Restore { main, before } => Action::Restore {
+        ReadLine::Restore { main, previous } => Action::Restore {
             indirection,
             main,
-            before,
+            previous,
         },
     }
 }
@@ -41,77 +47,60 @@ fn after_prev(access: Access, main: Ref, prev: Prev) -> After<ReadLine, Ref>
 {
     match prev {
         Prev::None => After::Gives(main),
-        Prev::Failed(before) => After::Goes(ReadLine::Restore { main, before }),
-        Prev::Pending(before) => After::Goes(deciding(access, main, before)),
+        Prev::Failed(previous) => After::Goes(ReadLine::Restore { main, previous }),
+        Prev::Pending(previous) => After::Goes(deciding(access, main, previous)),
     }
 }
 
 /// How a pending node is decided: on a read-only handle without asking for the root's generation.
-fn deciding(access: Access, main: Ref, before: Ref) -> ReadLine
-    ensures { Goes result ≡ after_prev access main (Pending before) }
+fn deciding(access: Access, main: Ref, previous: Ref) -> ReadLine
+    ensures { Goes result ≡ after_prev access main (Pending previous) }
 {
     match access {
-        Access::Writable => ReadLine::AskRoot { main, before },
+        Access::Writable => ReadLine::AskRoot { main, previous },
         Access::ReadOnly => ReadLine::Decide {
             main,
-            before,
+            previous,
             told: None,
         },
     }
 }
 
 /// After the root word: its generation is told, or the offer that stands there is taken back first.
-fn after_ask(heap: &PlainHeap, main: Ref, before: Ref, word: RootWord) -> After<ReadLine, Ref>
-    ensures { result ≡ after_ask heap.now main before word }
+fn after_ask(heap: &PlainHeap, main: Ref, previous: Ref, word: RootWord) -> After<ReadLine, Ref>
+    ensures { result ≡ after_ask heap.now main previous word }
 {
     match word {
         RootWord::Plain(root) => After::Goes(ReadLine::Decide {
             main,
-            before,
+            previous,
             told: Some(heap.generation(root)),
         }),
         RootWord::Offer(offer) => After::Goes(ReadLine::Abort {
             main,
-            before,
+            previous,
             offer,
         }),
     }
 }
 
-/// Whether the root was told to have the indirection's generation.
-pub fn is_licensed(heap: &PlainHeap, indirection: Ref, told: Option<u64>) -> bool
-    ensures { result ≡ is_licensed heap.now indirection told }
+/// After deciding: what another step decided is read again.
+fn after_decide(main: Ref, verdict: Verdict) -> After<ReadLine, Ref>
+    ensures { result ≡ after_decide main (meant verdict) }
 {
-    told == Some(heap.generation(indirection))
-}
-
-/// Whether the main node is still pending over this one.
-pub fn is_pending_over(heap: &PlainHeap, main: Ref, before: Ref) -> bool
-    ensures { result ≡ is_pending_over heap.now main before }
-{
-    match heap.prev(main) {
-        Prev::Pending(other) => other == before,
-        Prev::None | Prev::Failed(_) => false,
+    match verdict {
+        Verdict::Commits => After::Gives(main),
+        Verdict::Overtaken { licensed: true } => After::Goes(ReadLine::Prev { main }),
+        Verdict::Fails | Verdict::Overtaken { licensed: false } => After::Goes(ReadLine::Main),
     }
 }
 
-/// After deciding, by whether it may commit and whether the node was still pending.
-fn after_decide(main: Ref, licensed: bool, pending: bool) -> After<ReadLine, Ref>
-    ensures { result ≡ after_decide main licensed pending }
-{
-    match (licensed, pending) {
-        (true, true) => After::Gives(main),
-        (true, false) => After::Goes(ReadLine::Prev { main }),
-        (false, _) => After::Goes(ReadLine::Main),
-    }
-}
-
-/// After putting the node before back, by whether the failed one still stood there.
-fn after_restore(before: Ref, stood: bool) -> After<ReadLine, Ref>
-    ensures { result ≡ after_restore before stood }
+/// After putting the previous node back, by whether the failed one still stood there.
+fn after_restore(previous: Ref, stood: bool) -> After<ReadLine, Ref>
+    ensures { result ≡ after_restore previous stood }
 {
     if stood {
-        After::Gives(before)
+        After::Gives(previous)
     } else {
         After::Goes(ReadLine::Main)
     }
@@ -132,15 +121,15 @@ pub fn read_after(
             main: heap.main(indirection),
         }),
         ReadLine::Prev { main } => after_prev(access, main, heap.prev(main)),
-        ReadLine::AskRoot { main, before } => after_ask(heap, main, before, word),
-        ReadLine::Abort { main, before, .. } => After::Goes(ReadLine::AskRoot { main, before }),
-        ReadLine::Decide { main, before, told } => after_decide(
+        ReadLine::AskRoot { main, previous } => after_ask(heap, main, previous, word),
+        ReadLine::Abort { main, previous, .. } => After::Goes(ReadLine::AskRoot { main, previous }),
+        ReadLine::Decide {
             main,
-            is_licensed(heap, indirection, told),
-            is_pending_over(heap, main, before),
-        ),
-        ReadLine::Restore { main, before } => {
-            after_restore(before, heap.main(indirection) == main)
+            previous,
+            told,
+        } => after_decide(main, verdict_on(heap, indirection, main, previous, told)),
+        ReadLine::Restore { main, previous } => {
+            after_restore(previous, heap.main(indirection) == main)
         }
     }
 }
@@ -180,25 +169,24 @@ pub fn reading(indirection: Ref) -> Read
 }
 
 /// The main node that a step of a READ commits, if it does.
-pub fn commits(heap: &PlainHeap, indirection: Ref, line: ReadLine) -> Option<Ref>
-    ensures { result ≡ commits heap.now indirection line }
+pub fn committed_by(heap: &PlainHeap, indirection: Ref, line: ReadLine) -> Option<Ref>
+    ensures { result ≡ committed_by heap.now indirection line }
 {
     match line {
-        ReadLine::Decide { main, before, told } => committed_by(
+        ReadLine::Decide {
             main,
-            is_licensed(heap, indirection, told),
-            is_pending_over(heap, main, before),
-        ),
+            previous,
+            told,
+        } => committed_so(main, verdict_on(heap, indirection, main, previous, told)),
         _ => None,
     }
 }
 
-fn committed_by(main: Ref, licensed: bool, pending: bool) -> Option<Ref>
-    ensures { result ≡ committed_by main licensed pending }
+fn committed_so(main: Ref, verdict: Verdict) -> Option<Ref>
+    ensures { result ≡ committed_so main (meant verdict) }
 {
-    if licensed && pending {
-        Some(main)
-    } else {
-        None
+    match verdict {
+        Verdict::Commits => Some(main),
+        Verdict::Fails | Verdict::Overtaken { .. } => None,
     }
 }

@@ -165,7 +165,7 @@ pub fn complete_action(complete: Complete) -> Action
 {
     let line = complete.line;
     match line {
-        CompleteLine::Reading(line) => read_action(complete.offer.current, line),
+        CompleteLine::Reading(line) => read_action(complete.offer.root, line),
         CompleteLine::Swap { main } => Action::Complete {
             offer: complete.offer,
             main,
@@ -193,7 +193,7 @@ fn after_complete_line(
     let line = complete.line;
     match line {
         CompleteLine::Reading(line) => {
-            after_reading(read_after(heap, access, word, complete.offer.current, line))
+            after_reading(read_after(heap, access, word, complete.offer.root, line))
         }
         CompleteLine::Swap { main } => After::Gives(is_carried_out(word, complete.offer, main)),
     }
