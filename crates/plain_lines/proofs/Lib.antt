@@ -1,4 +1,4 @@
 pub mod Entries
 pub mod Parents
 pub mod Partings
-pub mod ByKey
+pub mod Sorting

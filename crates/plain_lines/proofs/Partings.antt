@@ -1,8 +1,8 @@
 -- The depth at which two hashes part.
 use Rattle.std.specs.Prelude.{◌≡◌, ℕ, zero, suc, ◌+◌, if◌then◌else◌}
 use Rattle.std.proofs.Common.{arith, ap, eq-eqb, ◌∙◌}
-use Rattle.machine_model.specs.Paths.{index_in}
-use Rattle.machine_model.specs.Building.{parting}
+use Rattle.nodes.specs.Levels.{index_in}
+use Rattle.nodes.specs.Levels.{parting}
 
 -- where the indices are the same the hashes part below
 pub parts_below : (n m a b depth : ℕ) → n ≡ m + 1 → index_in a depth ≡ index_in b depth → parting n a b depth ≡ parting m a b (depth + 1)

@@ -1,8 +1,10 @@
 //! The nodes that a change of one key makes, and the SWAP of the last one.
 
-ghost use Rattle.std.specs.Prelude.{◌≡◌, ◌+◌, ◌-◌, ◌<◌, ◌^◌, ◌++◌, insert, remove, slice_set, IfOk};
-ghost use Rattle.machine_model.specs.Heaps.{entry_at, entries_from};
-ghost use Rattle.machine_model.specs.Building.{changed_branch, changed_list, changed, key_in, parting, pair_depth, by_index, pair, old_hash, build_action, after_single, after_link, after_made, build_after};
+ghost use Rattle.std.specs.Prelude.{◌≡◌, ◌+◌, ◌-◌, ◌<◌, ◌^◌, IfOk};
+ghost use Rattle.slot_arena.specs.Heaps.{entry_at};
+ghost use Rattle.nodes.specs.Levels.{parting};
+ghost use Rattle.nodes.specs.Builders.{pair};
+ghost use Rattle.machine_model.specs.Building.{key_in, pair_depth, old_hash, build_action, after_single, after_link, build_after_made, build_after};
 ghost use Rattle.machine_model.specs.Paths.{current, depth_of};
 ghost use Rattle.machine_model.specs.Swapping.{swapping};
 ghost use Rattle.machine_model.specs.declared.building.BuildLine.TheVariants as B;
@@ -10,15 +12,14 @@ ghost use Rattle.machine_model.specs.declared.lines.Line.TheVariants as L;
 ghost use Rattle.machine_model.specs.declared.lines.Purpose.TheVariants as P;
 ghost use Rattle.plain_state.specs.Seen.{seen};
 
-use arrayvec::ArrayVec;
+use crate::builders::{changed, pair, rung};
 use history::Reply;
-use machine_model::{Action, BuildLine, Change, Line, Operation, Purpose, Refs, Site};
+use machine_model::{Action, BuildLine, Change, Line, Operation, Purpose, Site};
 use plain_reading::{
-    current, flag_in, flag_of, hash_in, index_in, key_of, list_depth, position_of, swapping,
-    value_of,
+    current, flag_in, hash_in, index_in, key_of, list_depth, start_of, swapping, value_of,
 };
 use plain_state::Parts;
-use slot_arena::{Node, Ref};
+use slot_arena::{Node, Ref, Refs};
 use std::alloc::AllocError;
 
 /// The line that comes next, unless memory runs out.
@@ -49,13 +50,10 @@ fn built(parts: &Parts, operation: &Operation, line: &BuildLine) -> Node
             ..
         } => pair_beside(parts, *main, *position, *depth, hash, *single),
         BuildLine::Link { below, .. } => Node::Indirection {
-            generation: operation.generation,
+            generation: start_of(operation),
             main: *below,
         },
-        BuildLine::Rung { below, depth, .. } => Node::Branch {
-            bitmap: flag_of(hash, *depth),
-            entries: entries_from(&[*below]),
-        },
+        BuildLine::Rung { below, depth, .. } => rung(hash, *depth, *below),
         BuildLine::Main {
             path,
             main,
@@ -86,15 +84,15 @@ pub fn build_after(
 
 /// What comes after the node was made.
 fn after_made(parts: &Parts, operation: &Operation, line: &BuildLine, made: Ref) -> Next
-    ensures { IfOk result (λ after. after ≡ after_made (seen parts.now) operation.now line.now made) }
+    ensures { IfOk result (λ after. after ≡ build_after_made (seen parts.now) operation.now line.now made) }
 {
     match line {
         BuildLine::Single {
             path,
             main,
             site,
-            before,
-        } => after_single(parts, operation, path, *main, *before, *site, made),
+            former,
+        } => after_single(parts, operation, path, *main, *former, *site, made),
         BuildLine::Pair {
             path,
             main,
@@ -119,9 +117,9 @@ fn after_made(parts: &Parts, operation: &Operation, line: &BuildLine, made: Ref)
         BuildLine::Main {
             path,
             main,
-            before,
+            former,
             ..
-        } => updating(path, *main, *before, made),
+        } => updating(path, *main, *former, made),
     }
 }
 
@@ -131,20 +129,20 @@ fn after_single(
     operation: &Operation,
     path: &Refs,
     main: Ref,
-    before: Option<u64>,
+    former: Option<u64>,
     site: Site,
     made: Ref,
 ) -> Next
-    ensures { IfOk result (λ after. after ≡ after_single (seen parts.now) operation.now path.now main before site made) }
+    ensures { IfOk result (λ after. after ≡ after_single (seen parts.now) operation.now path.now main former site made) }
 {
     match site {
-        Site::Absent => changing(path, main, Change::Insert { single: made }, before),
+        Site::Absent => changing(path, main, Change::Insert { single: made }, former),
         Site::At { position } => {
             let update = Change::Update {
                 position,
                 entry: made,
             };
-            changing(path, main, update, before)
+            changing(path, main, update, former)
         }
         Site::Beside { position } => {
             let old = old_hash(parts, main, position);
@@ -181,26 +179,26 @@ fn after_link(path: &Refs, main: Ref, position: usize, depth: usize, made: Ref) 
 }
 
 /// Swaps in the main node that was made next.
-fn updating(path: &Refs, main: Ref, before: Option<u64>, made: Ref) -> Next
-    ensures { IfOk result (λ after. after ≡ L.Swap (P.Update path.now before) (swapping (current path.now) main made)) }
+fn updating(path: &Refs, main: Ref, former: Option<u64>, made: Ref) -> Next
+    ensures { IfOk result (λ after. after ≡ L.Swap (P.Update path.now former) (swapping (current path.now) main made)) }
 {
     let swap = swapping(current(path), main, made);
     let path = path.copy()?;
     Ok(Line::Swap {
-        purpose: Purpose::Update { path, before },
+        purpose: Purpose::Update { path, former },
         swap,
     })
 }
 
 /// Makes the main node with this change next.
-pub(crate) fn changing(path: &Refs, main: Ref, change: Change, before: Option<u64>) -> Next
-    ensures { IfOk result (λ after. after ≡ L.Build (B.Main path.now main change before)) }
+pub(crate) fn changing(path: &Refs, main: Ref, change: Change, former: Option<u64>) -> Next
+    ensures { IfOk result (λ after. after ≡ L.Build (B.Main path.now main change former)) }
 {
     Ok(Line::Build(BuildLine::Main {
         path: path.copy()?,
         main,
         change,
-        before,
+        former,
     }))
 }
 
@@ -215,66 +213,6 @@ fn linking(path: &Refs, main: Ref, position: usize, below: Ref, depth: usize) ->
         below,
         depth,
     }))
-}
-
-/// The main node after the change, where `flag` is that of the call's key.
-fn changed(flag: u32, node: &Node, change: Change) -> Node
-    ensures { result ≡ changed flag node.now change }
-{
-    match node {
-        Node::Branch { bitmap, entries } => {
-            changed_branch(flag, *bitmap, entries.as_slice(), change)
-        }
-        Node::List { singles } => changed_list(singles.as_slice(), change),
-        Node::Indirection { generation, main } => Node::Indirection {
-            generation: *generation,
-            main: *main,
-        },
-        Node::Single { key, value } => Node::Single {
-            key: *key,
-            value: *value,
-        },
-        Node::Tomb { single } => Node::Tomb { single: *single },
-    }
-}
-
-/// A branch after the change, where `flag` is that of the call's key.
-fn changed_branch(flag: u32, bitmap: u32, entries: &[Ref], change: Change) -> Node
-    ensures { result ≡ changed_branch flag bitmap entries.now change }
-{
-    match change {
-        Change::Insert { single } => Node::Branch {
-            bitmap: bitmap | flag,
-            entries: with_inserted(entries, position_of(flag, bitmap), single),
-        },
-        Change::Update { position, entry } => Node::Branch {
-            bitmap,
-            entries: with_replaced(entries, position, entry),
-        },
-        Change::Remove { position } => Node::Branch {
-            bitmap: bitmap ^ flag,
-            entries: without(entries, position),
-        },
-        Change::Entomb { single } => Node::Tomb { single },
-    }
-}
-
-/// A list after the change: a new single stands at its end.
-fn changed_list(singles: &[Ref], change: Change) -> Node
-    ensures { result ≡ changed_list singles.now change }
-{
-    match change {
-        Change::Insert { single } => Node::List {
-            singles: entries_from_parts(singles, &[single], &[]),
-        },
-        Change::Update { position, entry } => Node::List {
-            singles: with_replaced(singles, position, entry),
-        },
-        Change::Remove { position } => Node::List {
-            singles: without(singles, position),
-        },
-        Change::Entomb { single } => Node::Tomb { single },
-    }
 }
 
 /// The key of a single.
@@ -337,102 +275,15 @@ fn pair_beside(
     hash: u64,
     single: Ref,
 ) -> Node
-    ensures { result ≡ pair (seen parts.now) depth (old_hash (seen parts.now) main position) hash (entry_at (seen parts.now).heap main position) single }
+    ensures { result ≡ pair (seen parts.now).limits.hash depth (old_hash (seen parts.now) main position) hash (entry_at (seen parts.now).heap main position) single }
 {
     let old = parts.heap.entry(main, position);
     pair(
-        parts,
+        parts.limits.hash,
         depth,
         old_hash(parts, main, position),
         hash,
         old,
         single,
     )
-}
-
-/// The main node of two singles at a depth: a branch, and below all levels a list, the older one first.
-fn pair(parts: &Parts, depth: usize, old_hash: u64, hash: u64, old: Ref, single: Ref) -> Node
-    ensures { result ≡ pair (seen parts.now) depth old_hash hash old single }
-{
-    if depth == list_depth(parts.limits.hash) {
-        return Node::List {
-            singles: entries_from(&[old, single]),
-        };
-    }
-    let both = by_index(
-        index_in(old_hash, depth),
-        index_in(hash, depth),
-        old,
-        single,
-    );
-    Node::Branch {
-        bitmap: flag_of(old_hash, depth) | flag_of(hash, depth),
-        entries: entries_from(&both),
-    }
-}
-
-/// The two references by the rising index of what they refer to.
-fn by_index(first_index: u32, other_index: u32, first: Ref, other: Ref) -> [Ref; 2]
-    ensures { result ≡ by_index first_index other_index first other }
-{
-    if first_index < other_index {
-        [first, other]
-    } else {
-        [other, first]
-    }
-}
-
-/// These references as the entries of a node. It has room for 32; those behind are left out.
-pub(crate) fn entries_from(refs: &[Ref]) -> ArrayVec<Ref, 32>
-    ensures { result ≡ entries_from refs.now }
-{
-    let mut entries = ArrayVec::new();
-    extend(&mut entries, refs);
-    entries
-}
-
-/// The references of three slices, one behind the other, as the entries of a node.
-fn entries_from_parts(front: &[Ref], middle: &[Ref], back: &[Ref]) -> ArrayVec<Ref, 32>
-    ensures { result ≡ entries_from (front.now ++ middle.now ++ back.now) }
-{
-    let mut entries = entries_from(front);
-    extend(&mut entries, middle);
-    extend(&mut entries, back);
-    entries
-}
-
-/// Adds references at the end, as many of them as there is room for.
-fn extend(entries: &mut ArrayVec<Ref, 32>, more: &[Ref])
-    ensures { entries.new ≡ entries_from (entries.old.items ++ more.now) }
-{
-    let room = entries.remaining_capacity().min(more.len());
-    let _ = entries.try_extend_from_slice(&more[..room]);
-}
-
-/// The entries with one more at this position, or at the end where there are fewer.
-fn with_inserted(entries: &[Ref], position: usize, one: Ref) -> ArrayVec<Ref, 32>
-    ensures { result ≡ entries_from (insert entries.now position one) }
-{
-    let position = position.min(entries.len());
-    entries_from_parts(&entries[..position], &[one], &entries[position..])
-}
-
-/// The entries with another one at this position, if one stands there.
-fn with_replaced(entries: &[Ref], position: usize, one: Ref) -> ArrayVec<Ref, 32>
-    ensures { result ≡ entries_from (slice_set entries.now position one) }
-{
-    if position >= entries.len() {
-        return entries_from(entries);
-    }
-    entries_from_parts(&entries[..position], &[one], &entries[position + 1..])
-}
-
-/// The entries without the one at this position, if one stands there.
-fn without(entries: &[Ref], position: usize) -> ArrayVec<Ref, 32>
-    ensures { result ≡ entries_from (remove entries.now position) }
-{
-    if position >= entries.len() {
-        return entries_from(entries);
-    }
-    entries_from_parts(&entries[..position], &[], &entries[position + 1..])
 }

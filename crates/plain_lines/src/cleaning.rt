@@ -2,45 +2,31 @@
 
 ghost use Rattle.std.specs.Prelude.{◌≡◌, ◌<◌, ◌-◌, ◌^◌, nat_eq, IfOk};
 ghost use lib.Pointwise.{pointwise};
-ghost use Rattle.machine_model.specs.Heaps.{node_at, entries_of};
-ghost use Rattle.machine_model.specs.Cleaning.{clean_next, is_single, contracted, clean_action, after_read, after_main, after_entry, after_child, after_tomb, after_contracted, clean_after};
+ghost use Rattle.slot_arena.specs.Heaps.{node_at};
+ghost use Rattle.machine_model.specs.Cleaning.{clean_next, is_single, leaves_single, cleaned, clean_action, clean_after_read, clean_after_main, clean_after_entry, after_child, clean_after_tomb, clean_after_contracted, clean_after};
 ghost use Rattle.plain_state.specs.Seen.{seen};
 
-use crate::beginning::anew;
-use crate::renewing::{branch_of, next_entry};
+use crate::builders::contracted;
+use crate::lines::new_try;
+use crate::renewing::next_entry;
 use history::Reply;
-use machine_model::{Action, After, CleanLine, Line, Operation, Purpose, Read, Refs};
+use machine_model::{Action, After, CleanLine, Line, Operation, Purpose, Read};
 use plain_reading::{current, is_below_root, read_action, read_step, reading, swapping};
 use plain_state::Parts;
-use slot_arena::{Node, Ref};
+use slot_arena::{Node, Ref, Refs};
 use std::alloc::AllocError;
 
 /// The line of the next entry after those that are done. Where all are done: that of the new main node,
 /// or, where no entry changed, of the operation's next try.
-pub fn clean_next(parts: &Parts, path: Refs, main: Ref, done: Refs) -> Line
+fn clean_next(parts: &Parts, path: Refs, main: Ref, done: Refs) -> Line
     ensures { result ≡ clean_next (seen parts.now) path main done }
 {
-    if done.as_slice().len() < parts.heap.entry_count(main) {
+    if done.as_slice().len() < parts.heap.entries(main).len() {
         Line::Clean(CleanLine::Entry { path, main, done })
-    } else if has_entries(parts.heap.node(main), done.as_slice()) {
-        anew()
+    } else if done.as_slice() == parts.heap.entries(main) {
+        new_try()
     } else {
         Line::Clean(CleanLine::Contracted { path, main, done })
-    }
-}
-
-/// Whether the node has just these entries.
-fn has_entries(node: &Node, entries: &[Ref]) -> bool
-    ensures { result ≡ pointwise nat_eq entries.now (entries_of node.now) }
-{
-    match node {
-        Node::Branch {
-            entries: others,
-            ..
-        } => entries == others.as_slice(),
-        Node::List { singles } => entries == singles.as_slice(),
-        Node::Tomb { single } => entries == [*single].as_slice(),
-        _ => entries.is_empty(),
     }
 }
 
@@ -51,17 +37,23 @@ fn is_single(node: &Node) -> bool
     matches!(node, Node::Single { .. })
 }
 
-/// The new main node: below the root a tomb where one single is left, else the branch with these
-/// entries.
-fn contracted(parts: &Parts, path: &Refs, main: Ref, entries: &[Ref]) -> Node
-    ensures { result ≡ contracted (seen parts.now) path.now main entries.now }
+/// Whether one single alone is left.
+fn leaves_single(parts: &Parts, entries: &[Ref]) -> bool
+    ensures { result ≡ leaves_single (seen parts.now) entries.now }
 {
-    if let [single] = entries {
-        if is_below_root(path) && is_single(parts.heap.node(*single)) {
-            return Node::Tomb { single: *single };
-        }
+    match entries {
+        [entry] => is_single(parts.heap.node(*entry)),
+        _ => false,
     }
-    branch_of(parts, main, entries)
+}
+
+/// The new main node: below the root a tomb where one single alone is left, else the branch with these
+/// entries.
+fn cleaned(parts: &Parts, path: &Refs, main: Ref, entries: &[Ref]) -> Node
+    ensures { result ≡ cleaned (seen parts.now) path.now main entries.now }
+{
+    let may_entomb = is_below_root(path) && leaves_single(parts, entries);
+    contracted(may_entomb, parts.heap.bitmap(main), entries)
 }
 
 /// What the step of a CLEAN's line does.
@@ -78,14 +70,14 @@ pub fn clean_action(parts: &Parts, line: &CleanLine) -> Action
         },
         CleanLine::Tomb { child, .. } => Action::Look { at: *child },
         CleanLine::Contracted { path, main, done } => {
-            Action::Make(contracted(parts, path, *main, done.as_slice()))
+            Action::Make(cleaned(parts, path, *main, done.as_slice()))
         }
     }
 }
 
 /// After a step of the indirection's READ.
 fn after_read(path: Refs, after: After<Read, Ref>) -> Line
-    ensures { result ≡ after_read path after }
+    ensures { result ≡ clean_after_read path after }
 {
     match after {
         After::Goes(read) => Line::Clean(CleanLine::Read { path, read }),
@@ -95,14 +87,14 @@ fn after_read(path: Refs, after: After<Read, Ref>) -> Line
 
 /// After the main node: only a branch is cleaned.
 fn after_main(parts: &Parts, path: Refs, main: Ref) -> Line
-    ensures { result ≡ after_main (seen parts.now) path main (node_at (seen parts.now).heap main) }
+    ensures { result ≡ clean_after_main (seen parts.now) path main (node_at (seen parts.now).heap main) }
 {
     match parts.heap.node(main) {
         Node::Branch { .. } => {
             let done = Refs::new(path.allocator());
             clean_next(parts, path, main, done)
         }
-        _ => anew(),
+        _ => new_try(),
     }
 }
 
@@ -114,7 +106,7 @@ fn after_entry(
     done: &Refs,
     entry: Ref,
 ) -> Result<Line, AllocError>
-    ensures { IfOk result (λ line. line ≡ after_entry (seen parts.now) path main done.now entry (node_at (seen parts.now).heap entry)) }
+    ensures { IfOk result (λ line. line ≡ clean_after_entry (seen parts.now) path main done.now entry (node_at (seen parts.now).heap entry)) }
 {
     match parts.heap.node(entry) {
         Node::Indirection { .. } => Ok(Line::Clean(CleanLine::Child {
@@ -123,7 +115,8 @@ fn after_entry(
             done: done.copy()?,
             read: reading(entry),
         })),
-        _ => Ok(clean_next(parts, path, main, done.with(entry)?)),
+        Node::Single { .. } => Ok(clean_next(parts, path, main, done.with(entry)?)),
+        _ => Ok(Line::Impossible),
     }
 }
 
@@ -155,7 +148,7 @@ fn after_tomb(
     done: &Refs,
     child: Ref,
 ) -> Result<Line, AllocError>
-    ensures { IfOk result (λ line. line ≡ after_tomb (seen parts.now) path main done.now (node_at (seen parts.now).heap child)) }
+    ensures { IfOk result (λ line. line ≡ clean_after_tomb (seen parts.now) path main done.now (node_at (seen parts.now).heap child)) }
 {
     let kept = match parts.heap.node(child) {
         Node::Tomb { single } => *single,
@@ -166,7 +159,7 @@ fn after_tomb(
 
 /// After the new main node was made, if a slot was free.
 fn after_contracted(path: &Refs, main: Ref, made: Option<Ref>) -> Line
-    ensures { result ≡ after_contracted path.now main made }
+    ensures { result ≡ clean_after_contracted path.now main made }
 {
     match made {
         None => Line::End(Reply::NoSlots),

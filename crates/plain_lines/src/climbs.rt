@@ -1,30 +1,27 @@
 //! CLIMB: after a removal that left a tomb, the tomb gives way to its single in the parent, and so on
 //! upwards.
 
-ghost use Rattle.std.specs.Prelude.{◌≡◌, ◌<◌, ◌-◌, ◌^◌, slice_set, IfOk};
-ghost use Rattle.machine_model.specs.Heaps.{node_at, entries_of};
-ghost use Rattle.machine_model.specs.Climbing.{climbed, climbing, higher, place_in, contracted, climb_action, after_read, holds_it, after_main, after_contracted, after_root, climb_after};
+ghost use Rattle.std.specs.Prelude.{◌≡◌, ◌<◌, ◌-◌, ◌^◌, IfOk};
+ghost use Rattle.slot_arena.specs.Heaps.{node_at};
+ghost use Rattle.machine_model.specs.Climbing.{climbed, climbing, higher, place_in, climbed_node, climb_action, climb_after_read, holds_it, climb_after_main, climb_after_contracted, climb_after_root, climb_after};
 ghost use Rattle.machine_model.specs.Paths.{above, is_below_root, flag_in};
 ghost use Rattle.plain_state.specs.Seen.{seen};
 
-use crate::renewing::branch_of;
-use arrayvec::ArrayVec;
-use machine_model::{
-    Action, After, Climb, ClimbLine, Line, Operation, Purpose, Read, Refs, RootLine,
-};
+use crate::builders::{contracted, with_replaced};
+use machine_model::{Action, After, Climb, ClimbLine, Line, Operation, Purpose, Read, RootLine};
 use plain_reading::{
     above, changed_reply, current, depth_of, flag_of, handle_of, has_flag, hash_in, is_below_root,
-    position_of, read_action, read_step, reading, root_action, root_after, swapping,
+    is_start, position_of, read_action, read_step, reading, root_action, root_after, swapping,
 };
 use plain_state::Parts;
-use slot_arena::{Node, Ref};
+use slot_arena::{Node, Ref, Refs};
 use std::alloc::AllocError;
 
 /// The line that answers the removal. The key had this value before it.
-pub fn climbed(operation: &Operation, before: Option<u64>) -> Line
-    ensures { result ≡ climbed operation.now before }
+pub fn climbed(operation: &Operation, former: Option<u64>) -> Line
+    ensures { result ≡ climbed operation.now former }
 {
-    Line::End(changed_reply(operation.call, before))
+    Line::End(changed_reply(operation.call, former))
 }
 
 /// The line that reads the parent of the tombed indirection; where that is the root, the removal is
@@ -33,13 +30,24 @@ pub fn climbing(operation: &Operation, climb: &Climb) -> Result<Line, AllocError
     ensures { IfOk result (λ line. line ≡ climbing operation.now climb.now) }
 {
     if !is_below_root(&climb.path) {
-        return Ok(climbed(operation, climb.before));
+        return Ok(climbed(operation, climb.former));
     }
     let parents = above(&climb.path)?;
     Ok(Line::Climb(ClimbLine::Read {
-        climb: climb.copy()?,
+        climb: copy_of(climb)?,
         read: reading(current(&parents)),
     }))
+}
+
+/// A copy of the climb. An error says that memory was refused.
+pub fn copy_of(climb: &Climb) -> Result<Climb, AllocError>
+    ensures { IfOk result (λ copy. copy ≡ climb.now) }
+{
+    Ok(Climb {
+        path: climb.path.copy()?,
+        single: climb.single,
+        former: climb.former,
+    })
 }
 
 /// The climb from one indirection further up, whose tomb has this single. An error says that memory was
@@ -50,7 +58,7 @@ pub fn higher(climb: &Climb, single: Ref) -> Result<Climb, AllocError>
     Ok(Climb {
         path: above(&climb.path)?,
         single,
-        before: climb.before,
+        former: climb.former,
     })
 }
 
@@ -80,45 +88,19 @@ fn place_in(parts: &Parts, operation: &Operation, climb: &Climb, main: Ref) -> u
     )
 }
 
-/// The entries of a main node.
-fn entries_of(node: &Node) -> ArrayVec<Ref, 32>
-    ensures { result.items ≡ entries_of node.now }
-{
-    let mut copy = ArrayVec::new();
-    let _ = match node {
-        Node::Branch { entries, .. } => copy.try_extend_from_slice(entries.as_slice()),
-        Node::List { singles } => copy.try_extend_from_slice(singles.as_slice()),
-        Node::Tomb { single } => copy.try_extend_from_slice(&[*single]),
-        _ => Ok(()),
-    };
-    copy
-}
-
-/// The entries of a main node with another one at this position.
-#[tactic(auto, using(crate::proofs::Entries::unwritten))]
-fn with_entry(node: &Node, position: usize, entry: Ref) -> ArrayVec<Ref, 32>
-    ensures { result.items ≡ slice_set (entries_of node.now) position entry }
-{
-    let mut entries = entries_of(node);
-    if position < entries.len() {
-        entries[position] = entry;
-    }
-    entries
-}
-
 /// The parent's main node with the single in the tomb's place; below the root, where that is the only
 /// entry, a tomb of it.
-fn contracted(parts: &Parts, operation: &Operation, climb: &Climb, main: Ref) -> Node
-    ensures { result ≡ contracted (seen parts.now) operation.now climb.now main }
+#[tactic(auto, using(crate::proofs::Entries::contracted_capped))]
+fn climbed_node(parts: &Parts, operation: &Operation, climb: &Climb, main: Ref) -> Node
+    ensures { result ≡ climbed_node (seen parts.now) operation.now climb.now main }
 {
-    if is_parent_below_root(&climb.path) && parts.heap.entry_count(main) == 1 {
-        return Node::Tomb {
-            single: climb.single,
-        };
-    }
     let place = place_in(parts, operation, climb, main);
-    let entries = with_entry(parts.heap.node(main), place, climb.single);
-    branch_of(parts, main, entries.as_slice())
+    let entries = with_replaced(parts.heap.entries(main), place, climb.single);
+    contracted(
+        is_parent_below_root(&climb.path),
+        parts.heap.bitmap(main),
+        entries.as_slice(),
+    )
 }
 
 /// What the step of a CLIMB's line does.
@@ -129,7 +111,7 @@ pub fn climb_action(parts: &Parts, operation: &Operation, line: &ClimbLine) -> A
         ClimbLine::Read { read, .. } => read_action(read.indirection, read.line),
         ClimbLine::Main { main, .. } => Action::Look { at: *main },
         ClimbLine::Contracted { climb, main } => {
-            Action::Make(contracted(parts, operation, climb, *main))
+            Action::Make(climbed_node(parts, operation, climb, *main))
         }
         ClimbLine::Root { root, .. } => root_action(*root),
     }
@@ -137,7 +119,7 @@ pub fn climb_action(parts: &Parts, operation: &Operation, line: &ClimbLine) -> A
 
 /// After a step of the parent's READ.
 fn after_read(climb: Climb, after: After<Read, Ref>) -> Line
-    ensures { result ≡ after_read climb after }
+    ensures { result ≡ climb_after_read climb after }
 {
     match after {
         After::Goes(read) => Line::Climb(ClimbLine::Read { climb, read }),
@@ -169,18 +151,19 @@ fn after_main(
     climb: &Climb,
     main: Ref,
 ) -> Result<Line, AllocError>
-    ensures { IfOk result (λ line. line ≡ after_main (seen parts.now) operation.now climb.now main (node_at (seen parts.now).heap main)) }
+    ensures { IfOk result (λ line. line ≡ climb_after_main (seen parts.now) operation.now climb.now main (node_at (seen parts.now).heap main)) }
 {
     match parts.heap.node(main) {
         Node::Tomb { single } => climbing(operation, &higher(climb, *single)?),
         Node::Branch { bitmap, entries }
             if holds_it(parts, operation, climb, main, *bitmap, entries.as_slice()) => {
             Ok(Line::Climb(ClimbLine::Contracted {
-                climb: climb.copy()?,
+                climb: copy_of(climb)?,
                 main,
             }))
         }
-        _ => Ok(climbed(operation, climb.before)),
+        Node::Branch { .. } => Ok(climbed(operation, climb.former)),
+        _ => Ok(Line::Impossible),
     }
 }
 
@@ -191,12 +174,12 @@ fn after_contracted(
     main: Ref,
     made: Option<Ref>,
 ) -> Result<Line, AllocError>
-    ensures { IfOk result (λ line. line ≡ after_contracted operation.now climb.now main made) }
+    ensures { IfOk result (λ line. line ≡ climb_after_contracted operation.now climb.now main made) }
 {
     match made {
-        None => Ok(climbed(operation, climb.before)),
+        None => Ok(climbed(operation, climb.former)),
         Some(made) => Ok(Line::Swap {
-            purpose: Purpose::Climb(climb.copy()?),
+            purpose: Purpose::Climb(copy_of(climb)?),
             swap: swapping(current(&above(&climb.path)?), main, made),
         }),
     }
@@ -209,18 +192,18 @@ fn after_root(
     climb: &Climb,
     after: After<RootLine, Ref>,
 ) -> Result<Line, AllocError>
-    ensures { IfOk result (λ line. line ≡ after_root (seen parts.now) operation.now climb.now after) }
+    ensures { IfOk result (λ line. line ≡ climb_after_root (seen parts.now) operation.now climb.now after) }
 {
     match after {
         After::Goes(root) => Ok(Line::Climb(ClimbLine::Root {
-            climb: climb.copy()?,
+            climb: copy_of(climb)?,
             root,
         })),
         After::Gives(root) => {
-            if parts.heap.generation(root) == operation.generation {
+            if is_start(operation, parts.heap.generation(root)) {
                 climbing(operation, climb)
             } else {
-                Ok(climbed(operation, climb.before))
+                Ok(climbed(operation, climb.former))
             }
         }
     }
@@ -237,7 +220,7 @@ pub fn climb_after(
 {
     match line {
         ClimbLine::Read { climb, read } => {
-            Ok(after_read(climb.copy()?, read_step(parts, operation, *read)))
+            Ok(after_read(copy_of(climb)?, read_step(parts, operation, *read)))
         }
         ClimbLine::Main { climb, main } => after_main(parts, operation, climb, *main),
         ClimbLine::Contracted { climb, main } => {

@@ -1,10 +1,10 @@
 //! SNAP and CLEAR: a snapshot, a freeze or a clear offers to swap the root, and completes the offer.
 
-ghost use Rattle.std.specs.Prelude.{◌≡◌, ◌<◌, ◌-◌, ◌^◌, IfOk, IsOk};
-ghost use Rattle.machine_model.specs.Copying.{copy_action, offering, after_given, after_read, after_fresh, after_made, if_made, after_offer, copied_reply, after_complete, copy_after};
+ghost use Rattle.std.specs.Prelude.{◌≡◌, ◌<◌, ◌-◌, ◌^◌};
+ghost use Rattle.machine_model.specs.Copying.{copy_action, offering, after_given, copy_after_read, after_successor, copy_after_made, copy_if_made, after_offer, copied_reply, copy_after_complete, copy_after};
 ghost use Rattle.plain_state.specs.Seen.{seen};
 
-use crate::beginning::anew;
+use crate::lines::new_try;
 use arrayvec::ArrayVec;
 use history::{Call, Reply};
 use machine_model::{Action, After, Complete, CopyLine, Descriptor, Line, Operation, Read};
@@ -13,7 +13,6 @@ use plain_reading::{
 };
 use plain_state::Parts;
 use slot_arena::{Node, Ref};
-use std::alloc::AllocError;
 
 /// What the step of a line of SNAP or CLEAR does.
 pub fn copy_action(line: &CopyLine) -> Action
@@ -21,7 +20,7 @@ pub fn copy_action(line: &CopyLine) -> Action
 {
     match line {
         CopyLine::Read { read, .. } => read_action(read.indirection, read.line),
-        CopyLine::Fresh { main, .. } | CopyLine::Second { main, .. } => {
+        CopyLine::Successor { main, .. } | CopyLine::Second { main, .. } => {
             Action::MakeRoot { main: *main }
         }
         CopyLine::Empty { .. } => Action::Make(Node::Branch {
@@ -34,18 +33,24 @@ pub fn copy_action(line: &CopyLine) -> Action
     }
 }
 
-/// The line of the operation's next offer: to put `fresh` in the place of this root, if that one still
+/// The line of the operation's next offer: to put the successor in the place of this root, if that one still
 /// has this main node.
-fn offering(operation: &Operation, root: Ref, main: Ref, fresh: Ref, second: Option<Ref>) -> Line
+fn offering(
+    operation: &Operation,
+    root: Ref,
+    main: Ref,
+    successor: Ref,
+    second: Option<Ref>,
+) -> Line
     requires { operation.now.attempt < 2 ^ 64 - 1 }
-    ensures { result ≡ offering operation.now root main fresh second }
+    ensures { result ≡ offering operation.now root main successor second }
 {
     Line::Copy(CopyLine::Offer(Descriptor {
         operation: operation.id,
         attempt: operation.attempt + 1,
-        current: root,
+        root,
         expected: main,
-        fresh,
+        successor,
         second,
         opens: operation.opens,
     }))
@@ -57,13 +62,13 @@ fn after_given(call: Call, root: Ref, main: Ref) -> Line
 {
     match call {
         Call::Clear { .. } => Line::Copy(CopyLine::Empty { root, main }),
-        _ => Line::Copy(CopyLine::Fresh { root, main }),
+        _ => Line::Copy(CopyLine::Successor { root, main }),
     }
 }
 
 /// After a step of the root's READ.
 fn after_read(operation: &Operation, root: Ref, after: After<Read, Ref>) -> Line
-    ensures { result ≡ after_read operation.now root after }
+    ensures { result ≡ copy_after_read operation.now root after }
 {
     match after {
         After::Goes(read) => Line::Copy(CopyLine::Read { root, read }),
@@ -72,15 +77,15 @@ fn after_read(operation: &Operation, root: Ref, after: After<Read, Ref>) -> Line
 }
 
 /// After the new root was made: a writable snapshot makes a second one.
-fn after_fresh(operation: &Operation, root: Ref, main: Ref, made: Ref) -> Line
+fn after_successor(operation: &Operation, root: Ref, main: Ref, made: Ref) -> Line
     requires { operation.now.attempt < 2 ^ 64 - 1 }
-    ensures { result ≡ after_fresh operation.now operation.now.call root main made }
+    ensures { result ≡ after_successor operation.now operation.now.call root main made }
 {
     match operation.call {
         Call::Snapshot { .. } => Line::Copy(CopyLine::Second {
             root,
             main,
-            fresh: made,
+            successor: made,
         }),
         _ => offering(operation, root, main, made, None),
     }
@@ -89,27 +94,29 @@ fn after_fresh(operation: &Operation, root: Ref, main: Ref, made: Ref) -> Line
 /// After a node was made.
 fn after_made(operation: &Operation, line: &CopyLine, made: Ref) -> Line
     requires { operation.now.attempt < 2 ^ 64 - 1 }
-    ensures { result ≡ after_made operation.now line.now made }
+    ensures { result ≡ copy_after_made operation.now line.now made }
 {
     match line {
-        CopyLine::Fresh { root, main } => after_fresh(operation, *root, *main, made),
-        CopyLine::Second { root, main, fresh } => {
-            offering(operation, *root, *main, *fresh, Some(made))
-        }
+        CopyLine::Successor { root, main } => after_successor(operation, *root, *main, made),
+        CopyLine::Second {
+            root,
+            main,
+            successor,
+        } => { offering(operation, *root, *main, *successor, Some(made)) }
         CopyLine::Empty { root, main } => Line::Copy(CopyLine::Cleared {
             root: *root,
             main: *main,
             branch: made,
         }),
         CopyLine::Cleared { root, main, .. } => offering(operation, *root, *main, made, None),
-        CopyLine::Read { .. } | CopyLine::Offer(_) | CopyLine::Complete(_) => anew(),
+        CopyLine::Read { .. } | CopyLine::Offer(_) | CopyLine::Complete(_) => Line::Impossible,
     }
 }
 
 /// After a line that makes a node, if a slot was free.
 fn if_made(operation: &Operation, line: &CopyLine, made: Option<Ref>) -> Line
     requires { operation.now.attempt < 2 ^ 64 - 1 }
-    ensures { result ≡ if_made operation.now line.now made }
+    ensures { result ≡ copy_if_made operation.now line.now made }
 {
     match made {
         None => Line::End(Reply::NoSlots),
@@ -124,7 +131,7 @@ fn after_offer(offer: Descriptor, stands: bool) -> Line
     if stands {
         Line::Copy(CopyLine::Complete(completing(offer)))
     } else {
-        anew()
+        new_try()
     }
 }
 
@@ -141,7 +148,7 @@ fn copied_reply(call: Call, opens: Option<u16>) -> Reply
 /// After a step of the offer's COMPLETE: the operation ends where its offer was carried out, by this
 /// step or before it by another operation, and else starts anew.
 fn after_complete(operation: &Operation, after: After<Complete, bool>) -> Line
-    ensures { result ≡ after_complete operation.now after }
+    ensures { result ≡ copy_after_complete operation.now after }
 {
     match after {
         After::Goes(complete) => Line::Copy(CopyLine::Complete(complete)),
@@ -149,32 +156,31 @@ fn after_complete(operation: &Operation, after: After<Complete, bool>) -> Line
             if done || operation.is_marked {
                 Line::End(copied_reply(operation.call, operation.opens))
             } else {
-                anew()
+                new_try()
             }
         }
     }
 }
 
-/// What comes after a step of SNAP or CLEAR. It takes no memory, so there is no error.
-pub fn copy_after(parts: &Parts, operation: &Operation, line: &CopyLine) -> Result<Line, AllocError>
+/// What comes after a step of SNAP or CLEAR. It takes no memory.
+pub fn copy_after(parts: &Parts, operation: &Operation, line: &CopyLine) -> Line
     requires births { (seen parts.now).heap.births < 2 ^ 64 - 1 }
     requires attempts { operation.now.attempt < 2 ^ 64 - 1 }
-    ensures after { IfOk result (λ after. after ≡ copy_after (seen parts.now) operation.now line.now) }
-    ensures no_error { IsOk result }
+    ensures { result ≡ copy_after (seen parts.now) operation.now line.now }
 {
     match line {
         CopyLine::Read { root, read } => {
-            Ok(after_read(operation, *root, read_step(parts, operation, *read)))
+            after_read(operation, *root, read_step(parts, operation, *read))
         }
         CopyLine::Offer(offer) => {
             let word = parts.word(handle_of(operation.call));
-            Ok(after_offer(*offer, is_plain(word, offer.current)))
+            after_offer(*offer, is_plain(word, offer.root))
         }
         CopyLine::Complete(complete) => {
             let word = parts.word(handle_of(operation.call));
             let after = complete_after(&parts.heap, operation.access, word, *complete);
-            Ok(after_complete(operation, after))
+            after_complete(operation, after)
         }
-        _ => Ok(if_made(operation, line, parts.heap.next_ref())),
+        _ => if_made(operation, line, parts.heap.next_ref()),
     }
 }

@@ -2,31 +2,31 @@
 //! place where it isn't.
 
 ghost use Rattle.std.specs.Prelude.{◌≡◌, ◌==◌, ◌&&◌, ◌-◌, IfOk, if◌then◌else◌};
-ghost use Rattle.machine_model.specs.Heaps.{node_at, entry_at};
+ghost use Rattle.slot_arena.specs.Heaps.{node_at, entry_at};
 ghost use Rattle.machine_model.specs.Calls.{inserts, absent_reply};
-ghost use Rattle.machine_model.specs.Finding.{key_action, anew, going_down, absent, absent_beside, absent_listed, removing, found, after_read, after_tomb, after_main, is_passable, after_entry, after_listed, after_sibling, key_after};
+ghost use Rattle.machine_model.specs.Finding.{key_action, going_down, absent, absent_beside, absent_listed, removing, found, key_after_read, after_tomb, key_after_main, is_passable, key_after_entry, after_listed, after_sibling, key_after};
 ghost use Rattle.machine_model.specs.declared.building.BuildLine.TheVariants as B;
 ghost use Rattle.machine_model.specs.declared.building.Change.TheVariants as C;
 ghost use Rattle.machine_model.specs.declared.finding.KeyLine.TheVariants as K;
 ghost use Rattle.machine_model.specs.declared.lines.Line.TheVariants as L;
-ghost use Rattle.machine_model.specs.Paths.{is_below_root, flag_in, has_flag};
+ghost use Rattle.machine_model.specs.Paths.{is_below_root, flag_in};
+ghost use Rattle.nodes.specs.Levels.{has_flag};
 ghost use Rattle.ctrie_base.specs.Paths.{position_of};
 ghost use Rattle.plain_state.specs.Seen.{seen};
 
-use crate::beginning::anew;
+use crate::builders::MOST_ENTRIES;
 use crate::building::changing;
 use crate::renewing::renew_next;
 use history::{Access, Reply};
 use machine_model::{
-    Action, After, BuildLine, Change, CleanLine, KeyLine, Line, Operation, Read, Refs, Site,
-    WhenFound,
+    Action, After, BuildLine, Change, CleanLine, KeyLine, Line, Operation, Read, Site, WhenFound,
 };
 use plain_reading::{
-    above, absent_reply, current, flag_in, has_flag, inserts, is_below_root, key_of, position_of,
-    read_action, read_step, reading, when_found,
+    above, absent_reply, current, flag_in, has_flag, inserts, is_below_root, is_start, key_of,
+    position_of, read_action, read_step, reading, when_found,
 };
 use plain_state::Parts;
-use slot_arena::{Node, Ref};
+use slot_arena::{Node, Ref, Refs};
 use std::alloc::AllocError;
 
 /// What the step of a KEY's line does.
@@ -69,8 +69,8 @@ pub fn key_after(parts: &Parts, operation: &Operation, line: &KeyLine) -> Result
             path,
             main,
             position,
-            before,
-        } => after_sibling(parts, path, *main, *position, *before),
+            former,
+        } => after_sibling(parts, path, *main, *position, *former),
     }
 }
 
@@ -121,7 +121,7 @@ fn absent_at(operation: &Operation, path: &Refs, main: Ref, site: Site) -> Resul
         path: path.copy()?,
         main,
         site,
-        before: None,
+        former: None,
     }))
 }
 
@@ -134,7 +134,7 @@ fn absent_listed(
 ) -> Result<Line, AllocError>
     ensures { IfOk result (λ after. after ≡ absent_listed operation.now path.now main singles) }
 {
-    if inserts(operation.call) && 32 <= singles {
+    if inserts(operation.call) && MOST_ENTRIES <= singles {
         return Ok(Line::End(Reply::Crowded));
     }
     absent(operation, path, main)
@@ -157,7 +157,7 @@ fn found(
             path: path.copy()?,
             main,
             site: Site::At { position },
-            before: Some(value),
+            former: Some(value),
         })),
         WhenFound::Removes => removing(parts, path, main, position, value),
     }
@@ -188,7 +188,7 @@ fn removing(
             };
             changing(path, main, change, Some(value))
         }
-        _ => Ok(anew()),
+        _ => Ok(Line::Impossible),
     }
 }
 
@@ -208,7 +208,7 @@ fn removing_from_branch(
             path: path.copy()?,
             main,
             position,
-            before: value,
+            former: value,
         }));
     }
     changing(path, main, Change::Remove { position }, Some(value))
@@ -216,7 +216,7 @@ fn removing_from_branch(
 
 /// After the READ: it goes on, or the main node that it gave is looked at.
 fn after_read(path: &Refs, after: After<Read, Ref>) -> Result<Line, AllocError>
-    ensures { IfOk result (λ line. line ≡ after_read path.now after) }
+    ensures { IfOk result (λ line. line ≡ key_after_read path.now after) }
 {
     let path = path.copy()?;
     Ok(Line::Key(match after {
@@ -230,6 +230,7 @@ fn after_tomb(access: Access, path: &Refs, main: Ref) -> Result<Line, AllocError
     ensures { IfOk result (λ after. after ≡ after_tomb access path.now main) }
 {
     match access {
+        Access::Writable if !is_below_root(path) => Ok(Line::Impossible),
         Access::Writable => {
             let parent = above(path)?;
             let read = reading(current(&parent));
@@ -257,13 +258,13 @@ fn after_main(
     path: &Refs,
     main: Ref,
 ) -> Result<Line, AllocError>
-    ensures { IfOk result (λ after. after ≡ after_main (seen parts.now) operation.now path.now main (node_at (seen parts.now).heap main)) }
+    ensures { IfOk result (λ after. after ≡ key_after_main (seen parts.now) operation.now path.now main (node_at (seen parts.now).heap main)) }
 {
     match parts.heap.node(main) {
         Node::Branch { bitmap, .. } => after_branch(parts, operation, path, main, *bitmap),
         Node::Tomb { .. } => after_tomb(operation.access, path, main),
         Node::List { .. } => listing(path, main, 0),
-        Node::Indirection { .. } | Node::Single { .. } => Ok(anew()),
+        Node::Indirection { .. } | Node::Single { .. } => Ok(Line::Impossible),
     }
 }
 
@@ -296,7 +297,7 @@ fn is_passable(operation: &Operation, generation: u64) -> bool
 {
     match operation.access {
         Access::ReadOnly => true,
-        Access::Writable => generation == operation.generation,
+        Access::Writable => is_start(operation, generation),
     }
 }
 
@@ -308,7 +309,7 @@ fn after_entry(
     main: Ref,
     position: usize,
 ) -> Result<Line, AllocError>
-    ensures { IfOk result (λ after. after ≡ after_entry (seen parts.now) operation.now path.now main position (node_at (seen parts.now).heap (entry_at (seen parts.now).heap main position))) }
+    ensures { IfOk result (λ after. after ≡ key_after_entry (seen parts.now) operation.now path.now main position (node_at (seen parts.now).heap (entry_at (seen parts.now).heap main position))) }
 {
     let entry = parts.heap.entry(main, position);
     match parts.heap.node(entry) {
@@ -325,7 +326,7 @@ fn after_entry(
             }
             absent_beside(operation, path, main, position)
         }
-        _ => Ok(anew()),
+        _ => Ok(Line::Impossible),
     }
 }
 
@@ -344,13 +345,13 @@ fn after_listed(
             if *key == key_of(operation.call) {
                 return found(parts, operation, path, main, position, *value);
             }
-            let singles = parts.heap.entry_count(main);
+            let singles = parts.heap.entries(main).len();
             if position.saturating_add(1) < singles {
                 return listing(path, main, position + 1);
             }
             absent_listed(operation, path, main, singles)
         }
-        _ => Ok(anew()),
+        _ => Ok(Line::Impossible),
     }
 }
 
@@ -360,15 +361,16 @@ fn after_sibling(
     path: &Refs,
     main: Ref,
     position: usize,
-    before: u64,
+    former: u64,
 ) -> Result<Line, AllocError>
     ensures { IfOk result (λ after. after ≡ (let other = entry_at (seen parts.now).heap main (1 - position) in
-        after_sibling path.now main position before other (node_at (seen parts.now).heap other))) }
+        after_sibling path.now main position former other (node_at (seen parts.now).heap other))) }
 {
     let other = sibling(parts, main, position);
     let change = match parts.heap.node(other) {
         Node::Single { .. } => Change::Entomb { single: other },
-        _ => Change::Remove { position },
+        Node::Indirection { .. } => Change::Remove { position },
+        _ => return Ok(Line::Impossible),
     };
-    changing(path, main, change, Some(before))
+    changing(path, main, change, Some(former))
 }

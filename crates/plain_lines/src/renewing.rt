@@ -1,26 +1,23 @@
 //! RENEW: a branch gets indirections of the root's generation.
 
 ghost use Rattle.std.specs.Prelude.{◌≡◌, ◌<◌, ◌-◌, ◌^◌, IfOk};
-ghost use Rattle.machine_model.specs.Heaps.{node_at};
-ghost use Rattle.machine_model.specs.Renewing.{renew_next, next_entry, branch_of, renew_action, after_entry, after_read, after_link, after_branch, renew_after};
+ghost use Rattle.slot_arena.specs.Heaps.{node_at};
+ghost use Rattle.machine_model.specs.Renewing.{renew_next, next_entry, branch_of, renew_action, renew_after_entry, renew_after_read, renew_after_link, renew_after_branch, renew_after};
 ghost use Rattle.plain_state.specs.Seen.{seen};
 
-use crate::building::entries_from;
+use crate::builders::renewed;
 use history::Reply;
-use machine_model::{Action, After, Line, Operation, Purpose, Read, Refs, RenewLine};
-use plain_reading::{current, read_action, read_step, reading, swapping};
+use machine_model::{Action, After, Line, Operation, Purpose, Read, RenewLine};
+use plain_reading::{current, is_start, read_action, read_step, reading, start_of, swapping};
 use plain_state::Parts;
-use slot_arena::{Node, Ref};
+use slot_arena::{Node, Ref, Refs};
 use std::alloc::AllocError;
 
 /// The branch `main` with other entries in the same places.
-pub fn branch_of(parts: &Parts, main: Ref, entries: &[Ref]) -> Node
+fn branch_of(parts: &Parts, main: Ref, entries: &[Ref]) -> Node
     ensures { result ≡ branch_of (seen parts.now) main entries.now }
 {
-    Node::Branch {
-        bitmap: parts.heap.bitmap(main),
-        entries: entries_from(entries),
-    }
+    renewed(parts.heap.bitmap(main), entries)
 }
 
 /// The entry that comes after those that are done.
@@ -34,7 +31,7 @@ pub fn next_entry(parts: &Parts, main: Ref, done: &Refs) -> Ref
 pub fn renew_next(parts: &Parts, path: Refs, main: Ref, done: Refs) -> Line
     ensures { result ≡ renew_next (seen parts.now) path main done }
 {
-    if done.as_slice().len() < parts.heap.entry_count(main) {
+    if done.as_slice().len() < parts.heap.entries(main).len() {
         Line::Renew(RenewLine::Entry { path, main, done })
     } else {
         Line::Renew(RenewLine::Branch { path, main, done })
@@ -51,7 +48,7 @@ pub fn renew_action(parts: &Parts, operation: &Operation, line: &RenewLine) -> A
         },
         RenewLine::Read { read, .. } => read_action(read.indirection, read.line),
         RenewLine::Link { child, .. } => Action::Make(Node::Indirection {
-            generation: operation.generation,
+            generation: start_of(operation),
             main: *child,
         }),
         RenewLine::Branch { main, done, .. } => {
@@ -60,7 +57,7 @@ pub fn renew_action(parts: &Parts, operation: &Operation, line: &RenewLine) -> A
     }
 }
 
-/// After an entry: an indirection of another generation is read, any other entry is kept.
+/// After an entry: an indirection of another generation is read, one of the root's or a single is kept.
 fn after_entry(
     parts: &Parts,
     operation: &Operation,
@@ -69,10 +66,10 @@ fn after_entry(
     done: &Refs,
     entry: Ref,
 ) -> Result<Line, AllocError>
-    ensures { IfOk result (λ line. line ≡ after_entry (seen parts.now) operation.now path main done.now entry (node_at (seen parts.now).heap entry)) }
+    ensures { IfOk result (λ line. line ≡ renew_after_entry (seen parts.now) operation.now path main done.now entry (node_at (seen parts.now).heap entry)) }
 {
     match parts.heap.node(entry) {
-        Node::Indirection { generation, .. } if *generation != operation.generation => {
+        Node::Indirection { generation, .. } if !is_start(operation, *generation) => {
             Ok(Line::Renew(RenewLine::Read {
                 path,
                 main,
@@ -80,13 +77,16 @@ fn after_entry(
                 read: reading(entry),
             }))
         }
-        _ => Ok(renew_next(parts, path, main, done.with(entry)?)),
+        Node::Indirection { .. } | Node::Single { .. } => {
+            Ok(renew_next(parts, path, main, done.with(entry)?))
+        }
+        _ => Ok(Line::Impossible),
     }
 }
 
 /// After a step of a READ: it goes on, or the indirection over what it gave is made.
 fn after_read(path: Refs, main: Ref, done: Refs, after: After<Read, Ref>) -> Line
-    ensures { result ≡ after_read path main done after }
+    ensures { result ≡ renew_after_read path main done after }
 {
     match after {
         After::Goes(read) => Line::Renew(RenewLine::Read {
@@ -112,7 +112,7 @@ fn after_link(
     done: &Refs,
     made: Option<Ref>,
 ) -> Result<Line, AllocError>
-    ensures { IfOk result (λ line. line ≡ after_link (seen parts.now) path.now main done.now made) }
+    ensures { IfOk result (λ line. line ≡ renew_after_link (seen parts.now) path.now main done.now made) }
 {
     match made {
         None => Ok(Line::End(Reply::NoSlots)),
@@ -122,7 +122,7 @@ fn after_link(
 
 /// After the new branch was made, if a slot was free.
 fn after_branch(path: &Refs, main: Ref, made: Option<Ref>) -> Result<Line, AllocError>
-    ensures { IfOk result (λ line. line ≡ after_branch path.now main made) }
+    ensures { IfOk result (λ line. line ≡ renew_after_branch path.now main made) }
 {
     match made {
         None => Ok(Line::End(Reply::NoSlots)),

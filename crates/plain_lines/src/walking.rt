@@ -1,37 +1,36 @@
 //! WALK: an operation on a read-only handle goes through all pairs.
 
-ghost use Rattle.std.specs.Prelude.{◌≡◌, ◌++◌, IfOk};
-ghost use Rattle.machine_model.specs.Heaps.{node_at, entries_of};
-ghost use Rattle.machine_model.specs.Walking.{walked_reply, walk_next, first_of, rest_of, walk_action, after_read, after_entry, walk_after};
+ghost use Rattle.std.specs.Prelude.{◌≡◌, IfOk};
+ghost use Rattle.slot_arena.specs.Heaps.{node_at};
+ghost use Rattle.machine_model.specs.Walking.{walked_reply, walk_next, first_of, rest_of, walk_action, walk_after_read, walk_after_entry, walk_after};
 ghost use Rattle.plain_state.specs.Seen.{seen};
 
 use crate::pairs::pairs_by_key;
 use history::{Call, Pairs, Reply};
-use machine_model::{Action, After, Line, Operation, Read, Refs, WalkLine};
+use machine_model::{Action, After, Line, Operation, Read, WalkLine};
 use plain_reading::{handle_of, read_action, read_step, reading};
 use plain_state::{Parts, root_of};
-use slot_arena::{Node, Ref};
+use slot_arena::{Node, Ref, Refs};
 use std::alloc::AllocError;
 
 /// The reply to a walk that has taken these pairs.
-fn walked_reply(call: Call, taken: &Pairs) -> Result<Reply, AllocError>
-    ensures { IfOk result (λ reply. reply ≡ walked_reply call taken.now) }
+fn walked_reply(call: Call, pairs: &Pairs) -> Result<Reply, AllocError>
+    ensures { IfOk result (λ reply. reply ≡ walked_reply call pairs.now) }
 {
-    let pairs = taken.as_slice();
     Ok(match call {
-        Call::Count { .. } => Reply::Count(pairs.len() as u64),
-        _ => Reply::Pairs(pairs_by_key(taken.allocator(), pairs)?),
+        Call::Count { .. } => Reply::Count(pairs.as_slice().len() as u64),
+        _ => Reply::Pairs(pairs_by_key(pairs.allocator(), pairs.as_slice())?),
     })
 }
 
 /// The line of the next entry or, where none is left to be looked at, of the end.
-fn walk_next(operation: &Operation, todo: Refs, taken: Pairs) -> Result<Line, AllocError>
-    ensures { IfOk result (λ line. line ≡ walk_next operation.now todo taken) }
+fn walk_next(operation: &Operation, todo: Refs, pairs: Pairs) -> Result<Line, AllocError>
+    ensures { IfOk result (λ line. line ≡ walk_next operation.now todo pairs) }
 {
     if todo.as_slice().is_empty() {
-        return Ok(Line::End(walked_reply(operation.call, &taken)?));
+        return Ok(Line::End(walked_reply(operation.call, &pairs)?));
     }
-    Ok(Line::Walk(WalkLine::Entry { todo, taken }))
+    Ok(Line::Walk(WalkLine::Entry { todo, pairs }))
 }
 
 /// The first of these entries.
@@ -51,20 +50,6 @@ fn rest_of(todo: &Refs) -> Result<Refs, AllocError>
     }
 }
 
-/// The entries of a main node, and behind them those that are still to be looked at.
-fn entries_before(node: &Node, todo: &Refs) -> Result<Refs, AllocError>
-    ensures { IfOk result (λ all. all ≡ entries_of node.now ++ todo.now) }
-{
-    let alloc = todo.allocator();
-    let rest = todo.as_slice();
-    match node {
-        Node::Branch { entries, .. } => Refs::from_both(alloc, entries.as_slice(), rest),
-        Node::List { singles } => Refs::from_both(alloc, singles.as_slice(), rest),
-        Node::Tomb { single } => Refs::from_both(alloc, &[*single], rest),
-        Node::Indirection { .. } | Node::Single { .. } => todo.copy(),
-    }
-}
-
 /// What the step of a WALK's line does.
 pub fn walk_action(line: &WalkLine) -> Action
     ensures { result ≡ walk_action line.now }
@@ -78,12 +63,12 @@ pub fn walk_action(line: &WalkLine) -> Action
 }
 
 /// After a step of an indirection's READ.
-fn after_read(todo: Refs, taken: Pairs, after: After<Read, Ref>) -> Line
-    ensures { result ≡ after_read todo taken after }
+fn after_read(todo: Refs, pairs: Pairs, after: After<Read, Ref>) -> Line
+    ensures { result ≡ walk_after_read todo pairs after }
 {
     match after {
-        After::Goes(read) => Line::Walk(WalkLine::Read { read, todo, taken }),
-        After::Gives(main) => Line::Walk(WalkLine::Main { main, todo, taken }),
+        After::Goes(read) => Line::Walk(WalkLine::Read { read, todo, pairs }),
+        After::Gives(main) => Line::Walk(WalkLine::Main { main, todo, pairs }),
     }
 }
 
@@ -93,18 +78,18 @@ fn after_entry(
     operation: &Operation,
     entry: Ref,
     todo: Refs,
-    taken: &Pairs,
+    pairs: &Pairs,
 ) -> Result<Line, AllocError>
-    ensures { IfOk result (λ line. line ≡ after_entry operation.now entry todo taken.now (node_at (seen parts.now).heap entry)) }
+    ensures { IfOk result (λ line. line ≡ walk_after_entry operation.now entry todo pairs.now (node_at (seen parts.now).heap entry)) }
 {
     match parts.heap.node(entry) {
         Node::Indirection { .. } => Ok(Line::Walk(WalkLine::Read {
             read: reading(entry),
             todo,
-            taken: taken.copy()?,
+            pairs: pairs.copy()?,
         })),
-        Node::Single { key, value } => walk_next(operation, todo, taken.with(*key, *value)?),
-        _ => walk_next(operation, todo, taken.copy()?),
+        Node::Single { key, value } => walk_next(operation, todo, pairs.with(*key, *value)?),
+        _ => Ok(Line::Impossible),
     }
 }
 
@@ -116,7 +101,7 @@ fn reading_root(parts: &Parts, operation: &Operation) -> Line
     Line::Walk(WalkLine::Read {
         read: reading(root_of(word)),
         todo: Refs::new(parts.alloc),
-        taken: Pairs::from_vec(Vec::new(parts.alloc)),
+        pairs: Pairs::from_vec(Vec::new(parts.alloc)),
     })
 }
 
@@ -126,17 +111,18 @@ pub fn walk_after(parts: &Parts, operation: &Operation, line: &WalkLine) -> Resu
 {
     match line {
         WalkLine::Root => Ok(reading_root(parts, operation)),
-        WalkLine::Read { read, todo, taken } => Ok(after_read(
+        WalkLine::Read { read, todo, pairs } => Ok(after_read(
             todo.copy()?,
-            taken.copy()?,
+            pairs.copy()?,
             read_step(parts, operation, *read),
         )),
-        WalkLine::Main { main, todo, taken } => {
-            let todo = entries_before(parts.heap.node(*main), todo)?;
-            walk_next(operation, todo, taken.copy()?)
+        WalkLine::Main { main, todo, pairs } => {
+            let entries = parts.heap.entries(*main);
+            let todo = Refs::from_both(todo.allocator(), entries, todo.as_slice())?;
+            walk_next(operation, todo, pairs.copy()?)
         }
-        WalkLine::Entry { todo, taken } => {
-            after_entry(parts, operation, first_of(todo), rest_of(todo)?, taken)
+        WalkLine::Entry { todo, pairs } => {
+            after_entry(parts, operation, first_of(todo), rest_of(todo)?, pairs)
         }
     }
 }

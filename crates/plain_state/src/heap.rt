@@ -1,7 +1,7 @@
 //! The heap of a plain machine.
 
-ghost use Rattle.std.specs.Prelude.{◌≡◌, ◌<◌, ◌≤◌, ◌-◌, ◌^◌, length, replicate, None, slice_index_or, option_map, IfOk, OnOk, OnErr};
-ghost use Rattle.slot_arena.specs.Heaps.{no_ref, node_at, prev_at, main_at, generation_at, entries_of, entry_at, bitmap_of, next_ref, logical_main, with_main_word, main_changed, prev_changed, with_main, with_prev, taken, freed};
+ghost use Rattle.std.specs.Prelude.{◌≡◌, ◌<◌, ◌≤◌, ◌-◌, ◌^◌, replicate, None, option_map, IfOk, OnOk, OnErr};
+ghost use Rattle.slot_arena.specs.Heaps.{node_at, prev_at, main_at, generation_at, entries_of, entry_at, bitmap_of, next_ref, logical_main, with_main_word, main_changed, prev_changed, with_main, with_prev, taken, freed};
 ghost use Rattle.std.specs.List.{range_with_len};
 ghost use Rattle.machine_model.specs.States.{empty_heap};
 
@@ -9,6 +9,7 @@ use arrayvec::ArrayVec;
 use slot_arena::{Node, Prev, Ref, Slot};
 use std::alloc::{AllocError, Global};
 use std::marker::Model;
+use std::slice::from_ref;
 
 /// The slots, each empty or with what stands in it, and the numbers of the free ones, the next first.
 /// Where nothing stands in a slot, a look-up gives what the definition gives.
@@ -115,28 +116,26 @@ impl PlainHeap {
         }
     }
 
-    /// How many entries a main node has: those of a branch, the singles of a list, the single of a tomb.
-    pub fn entry_count(&self, main: Ref) -> usize
-        ensures { result ≡ length (entries_of (node_at self.now main)) }
+    /// The entries of a main node: those of a branch, the singles of a list, the single of a tomb.
+    pub fn entries(&self, main: Ref) -> &[Ref]
+        ensures { result.now ≡ entries_of (node_at self.now main) }
     {
         match self.node(main) {
-            Node::Branch { entries, .. } => entries.len(),
-            Node::List { singles } => singles.len(),
-            Node::Tomb { .. } => 1,
-            _ => 0,
+            Node::Branch { entries, .. } => entries.as_slice(),
+            Node::List { singles } => singles.as_slice(),
+            Node::Tomb { single } => from_ref(single),
+            Node::Indirection { .. } | Node::Single { .. } => &[],
         }
     }
 
-    /// The entry of a main node at a position.
+    /// The entry of a main node at a position, or the reference that names no slot.
     pub fn entry(&self, main: Ref, position: usize) -> Ref
         ensures { result ≡ entry_at self.now main position }
     {
-        match self.node(main) {
-            Node::Branch { entries, .. } => entry_in(entries.as_slice(), position),
-            Node::List { singles } => entry_in(singles.as_slice(), position),
-            Node::Tomb { single } => entry_in(&[*single], position),
-            _ => Ref::default(),
-        }
+        self.entries(main)
+            .get(position)
+            .copied()
+            .unwrap_or(Ref::default())
     }
 
     /// The logical main node of an indirection: the one before the main node while that is pending or
@@ -263,11 +262,4 @@ fn numbers_below(alloc: Global, count: u32) -> Result<Vec<u16>, AllocError>
         numbers.push(number as u16)?;
     }
     Ok(numbers)
-}
-
-/// The reference at this position, or the one that names no slot.
-fn entry_in(entries: &[Ref], position: usize) -> Ref
-    ensures { result ≡ slice_index_or entries.now position no_ref }
-{
-    entries.get(position).copied().unwrap_or(Ref::default())
 }

@@ -1,5 +1,5 @@
 use Rattle.std.proofs.Common.{◌≡◌, ◌-◌}
-use Rattle.machine_model.specs.Building.{parting}
+use Rattle.nodes.specs.Levels.{parting}
 use Rattle.plain_lines.proofs.building.parting.Given as goal
 
 abbrev pub invariant-loop-depth : goal.invariant-loop-depth

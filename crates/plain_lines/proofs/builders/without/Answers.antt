@@ -1,7 +1,7 @@
 use Rattle.std.proofs.Common.{ap, ◌∙◌}
-use Rattle.machine_model.specs.Heaps.{entries_from}
+use Rattle.slot_arena.specs.Heaps.{entries_from}
 use Rattle.plain_lines.proofs.Entries.{remove_parts}
-use Rattle.plain_lines.proofs.building.without.Goals as goal
+use Rattle.plain_lines.proofs.builders.without.Goals as goal
 
 pub returns : goal.returns
 returns c =

@@ -1,7 +1,7 @@
 use Rattle.std.proofs.Common.{arith, ap, ◌∙◌}
-use Rattle.machine_model.specs.Heaps.{entries_from}
+use Rattle.slot_arena.specs.Heaps.{entries_from}
 use Rattle.plain_lines.proofs.Entries.{set_parts}
-use Rattle.plain_lines.proofs.building.with_replaced.Goals as goal
+use Rattle.plain_lines.proofs.builders.with_replaced.Goals as goal
 
 pub returns : goal.returns
 returns c =

@@ -1,7 +1,7 @@
 use Rattle.std.proofs.Common.{◌≡◌, ◌++◌, arith, ap, take}
 use Rattle.std.proofs.lemmas.Grind.{common_steps}
 use Rattle.plain_lines.proofs.Entries.{filled}
-use Rattle.plain_lines.proofs.building.extend.Goals as goal
+use Rattle.plain_lines.proofs.builders.extend.Goals as goal
 
 pub returns : goal.returns
 returns c =

@@ -1,6 +1,6 @@
 use Rattle.std.proofs.Common.{ap}
 use Rattle.plain_lines.proofs.Entries.{capped_both}
-use Rattle.plain_lines.proofs.building.entries_from_parts.Goals as goal
+use Rattle.plain_lines.proofs.builders.entries_from_parts.Goals as goal
 
 pub returns : goal.returns
 returns c =
