@@ -34,13 +34,13 @@ pub fn climbing(operation: &Operation, climb: &Climb) -> Result<Line, AllocError
     }
     let parents = above(&climb.path)?;
     Ok(Line::Climb(ClimbLine::Read {
-        climb: copy_of(climb)?,
+        climb: copy_of_climb(climb)?,
         read: reading(current(&parents)),
     }))
 }
 
 /// A copy of the climb. An error says that memory was refused.
-pub fn copy_of(climb: &Climb) -> Result<Climb, AllocError>
+pub fn copy_of_climb(climb: &Climb) -> Result<Climb, AllocError>
     ensures { IfOk result (λ copy. copy ≡ climb.now) }
 {
     Ok(Climb {
@@ -158,7 +158,7 @@ fn after_main(
         Node::Branch { bitmap, entries }
             if holds_it(parts, operation, climb, main, *bitmap, entries.as_slice()) => {
             Ok(Line::Climb(ClimbLine::Contracted {
-                climb: copy_of(climb)?,
+                climb: copy_of_climb(climb)?,
                 main,
             }))
         }
@@ -179,7 +179,7 @@ fn after_contracted(
     match made {
         None => Ok(climbed(operation, climb.former)),
         Some(made) => Ok(Line::Swap {
-            purpose: Purpose::Climb(copy_of(climb)?),
+            purpose: Purpose::Climb(copy_of_climb(climb)?),
             swap: swapping(current(&above(&climb.path)?), main, made),
         }),
     }
@@ -196,7 +196,7 @@ fn after_root(
 {
     match after {
         After::Goes(root) => Ok(Line::Climb(ClimbLine::Root {
-            climb: copy_of(climb)?,
+            climb: copy_of_climb(climb)?,
             root,
         })),
         After::Gives(root) => {
@@ -220,7 +220,7 @@ pub fn climb_after(
 {
     match line {
         ClimbLine::Read { climb, read } => {
-            Ok(after_read(copy_of(climb)?, read_step(parts, operation, *read)))
+            Ok(after_read(copy_of_climb(climb)?, read_step(parts, operation, *read)))
         }
         ClimbLine::Main { climb, main } => after_main(parts, operation, climb, *main),
         ClimbLine::Contracted { climb, main } => {

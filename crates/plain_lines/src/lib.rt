@@ -15,7 +15,7 @@ mod walking;
 
 pub use building::{build_action, build_after};
 pub use cleaning::{clean_action, clean_after};
-pub use climbs::{climb_action, climb_after, climbed, climbing, higher};
+pub use climbs::{climb_action, climb_after, climbed, climbing, copy_of_climb, higher};
 pub use copying::{copy_action, copy_after};
 pub use finding::{going_down, key_action, key_after};
 pub use lines::new_try;

@@ -1,4 +1,3 @@
 pub mod Rising
-pub mod Written
 pub mod Carried
 pub mod Gone

@@ -2,17 +2,18 @@
 
 ghost use Rattle.std.specs.Prelude.{◌≡◌, ◌<◌, ◌-◌, ◌^◌, map, slice_set, slice_index_or, MatchOption, vec_len, vec_capacity};
 ghost use Rattle.machine_model.specs.declared.roots.RootWord.TheVariants.{Plain};
-ghost use Rattle.machine_model.specs.Heaps.{next_ref, generation_at};
+ghost use Rattle.slot_arena.specs.Heaps.{next_ref, generation_at};
 ghost use Rattle.plain_operations.specs.Actions.{MakesNothing};
 ghost use Rattle.machine_model.specs.States.{State, rewritten, with_word};
 ghost use Rattle.machine_model.specs.Acting.{aborted, offered, opened, opened_root, marked, carried_out, completed, published, restored, decided, new_root_taken, acted};
 ghost use Rattle.plain_state.specs.Seen.{seen};
+ghost use Rattle.plain_reading.specs.Verdicts.{meant};
 
 use crate::moments::on_time;
 use history::Access;
 use machine_model::{Action, Closing, Descriptor, Operation, Root, RootWord};
-use plain_reading::{is_licensed, is_pending_over, is_plain, stands_in};
-use plain_state::{Parts, PlainHeap};
+use plain_reading::{Verdict, is_plain, stands_in, verdict_on};
+use plain_state::{Parts, PlainHeap, write_at};
 use slot_arena::{Node, Prev, Ref};
 
 /// Does what the action does, on this handle. It takes no memory: there is room for a closing and a
@@ -52,14 +53,17 @@ fn swap(parts: &mut Parts, handle: u16, action: &Action)
         Action::Restore {
             indirection,
             main,
-            before,
-        } => restore(&mut parts.heap, *indirection, *main, *before),
+            previous,
+        } => restore(&mut parts.heap, *indirection, *main, *previous),
         Action::Decide {
             indirection,
             main,
-            before,
+            previous,
             told,
-        } => decide(&mut parts.heap, *indirection, *main, *before, *told),
+        } => {
+            let verdict = verdict_on(&parts.heap, *indirection, *main, *previous, *told);
+            decide(&mut parts.heap, *main, *previous, verdict);
+        }
         _ => {}
     }
 }
@@ -69,7 +73,7 @@ fn abort(parts: &mut Parts, handle: u16, offer: Descriptor)
     ensures does { seen parts.new ≡ aborted (seen parts.old) handle offer }
     ensures limbo { parts.new.limbo ≡ parts.old.limbo }
 {
-    let root = RootWord::Plain(offer.current);
+    let root = RootWord::Plain(offer.root);
     if stands_in(parts.word(handle), offer) {
         set_word(&mut parts.roots, handle, root);
     }
@@ -80,7 +84,7 @@ fn put_offer(parts: &mut Parts, handle: u16, offer: Descriptor)
     ensures does { seen parts.new ≡ offered (seen parts.old) handle offer }
     ensures limbo { parts.new.limbo ≡ parts.old.limbo }
 {
-    if is_plain(parts.word(handle), offer.current) {
+    if is_plain(parts.word(handle), offer.root) {
         set_word(&mut parts.roots, handle, RootWord::Offer(offer));
     }
 }
@@ -120,12 +124,12 @@ fn carry_out(parts: &mut Parts, handle: u16, offer: &Descriptor)
 /// The closing of the generation of the offer's old root, in this step.
 fn closing_of(parts: &Parts, offer: &Descriptor) -> Closing
     ensures { result ≡ record {
-      generation = generation_at (seen parts.now).heap offer.now.current;
+      generation = generation_at (seen parts.now).heap offer.now.root;
       step = (seen parts.now).steps;
     } }
 {
     Closing {
-        generation: parts.heap.generation(offer.current),
+        generation: parts.heap.generation(offer.root),
         step: parts.steps,
     }
 }
@@ -134,14 +138,14 @@ fn closing_of(parts: &Parts, offer: &Descriptor) -> Closing
 /// one.
 fn swap_root(roots: &mut Vec<Option<Root>>, handle: u16, offer: &Descriptor)
     ensures { (state : State) → state.roots ≡ roots.old.items → roots.new.items
-        ≡ (opened (with_word state handle (Plain offer.now.fresh)) offer.now offer.now.opens).roots }
+        ≡ (opened (with_word state handle (Plain offer.now.successor)) offer.now offer.now.opens).roots }
 {
-    set_word(roots, handle, RootWord::Plain(offer.fresh));
+    set_word(roots, handle, RootWord::Plain(offer.successor));
     open(roots, *offer);
 }
 
 /// Changes the root word of a handle that is open.
-#[tactic(auto, using(crate::proofs::Written::unwritten))]
+#[tactic(auto, using(plain_state::proofs::Written::unwritten))]
 fn set_word(roots: &mut Vec<Option<Root>>, handle: u16, word: RootWord)
     ensures { roots.new.items ≡ slice_set roots.old.items handle
         (rewritten word (slice_index_or roots.old.items handle None)) }
@@ -166,17 +170,7 @@ fn open(roots: &mut Vec<Option<Root>>, offer: Descriptor)
         roots.new.items ≡ slice_set roots.old.items handle (Some (opened_root offer offer.second))) }
 {
     if let Some(handle) = offer.opens {
-        set_root(roots, handle, opened_root(offer));
-    }
-}
-
-/// Lets the number name this root.
-#[tactic(auto, using(crate::proofs::Written::unwritten))]
-fn set_root(roots: &mut Vec<Option<Root>>, handle: u16, root: Root)
-    ensures { roots.new.items ≡ slice_set roots.old.items handle (Some root) }
-{
-    if let Some(place) = roots.get_mut(handle as usize) {
-        *place = Some(root);
+        write_at(roots, handle as usize, Some(opened_root(offer)));
     }
 }
 
@@ -191,7 +185,7 @@ fn opened_root(offer: Descriptor) -> Root
         },
         None => Root {
             access: Access::ReadOnly,
-            word: RootWord::Plain(offer.current),
+            word: RootWord::Plain(offer.root),
         },
     }
 }
@@ -233,26 +227,23 @@ fn publish(heap: &mut PlainHeap, indirection: Ref, replaced: Ref, fresh: Ref)
     }
 }
 
-/// Puts the node before in the place of a failed one, if that one still stands there.
-fn restore(heap: &mut PlainHeap, indirection: Ref, main: Ref, before: Ref)
-    ensures { heap.new ≡ restored heap.old indirection main before }
+/// Puts the previous node in the place of a failed one, if that one still stands there.
+fn restore(heap: &mut PlainHeap, indirection: Ref, main: Ref, previous: Ref)
+    ensures { heap.new ≡ restored heap.old indirection main previous }
 {
     if heap.main(indirection) == main {
-        heap.set_main(indirection, before);
+        heap.set_main(indirection, previous);
     }
 }
 
-/// Commits a pending main node with a licence, else makes it failed.
-fn decide(heap: &mut PlainHeap, indirection: Ref, main: Ref, before: Ref, told: Option<u64>)
-    ensures { heap.new ≡ decided heap.old indirection main before told }
+/// Commits a pending main node with a licence, else makes it failed; what another decided stays.
+fn decide(heap: &mut PlainHeap, main: Ref, previous: Ref, verdict: Verdict)
+    ensures { heap.new ≡ decided heap.old main previous (meant verdict) }
 {
-    if is_pending_over(heap, main, before) {
-        let decision = if is_licensed(heap, indirection, told) {
-            Prev::None
-        } else {
-            Prev::Failed(before)
-        };
-        heap.set_prev(main, decision);
+    match verdict {
+        Verdict::Commits => heap.set_prev(main, Prev::None),
+        Verdict::Fails => heap.set_prev(main, Prev::Failed(previous)),
+        Verdict::Overtaken { .. } => {}
     }
 }
 

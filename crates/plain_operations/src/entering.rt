@@ -1,14 +1,14 @@
-//! Which operations enter the order at a step, and the record of commits.
+//! Which operations enter the order at a step, and the list of commits.
 
-ghost use Rattle.std.specs.Prelude.{◌≡◌, slice_set, MatchOption, option_to_list, Some, IfOk};
-ghost use Rattle.slot_arena.specs.Refs.{slot_of};
+ghost use Rattle.std.specs.Prelude.{◌≡◌, ◌<◌, ◌++◌, ◌∷◌, [], MatchOption, option_to_list, Some, IfOk, vec_len, vec_capacity};
 ghost use Rattle.history.specs.declared.replies.Reply.TheVariants.{Closed};
 ghost use Rattle.machine_model.specs.Acting.{swaps_in, entered_by, entered, entered_at_end};
 ghost use Rattle.plain_state.specs.Seen.{seen};
 
 use crate::moments::{is_placed, place_of};
 use history::Reply;
-use machine_model::{Line, Operation, Place, Purpose};
+use machine_model::{Commit, Line, Operation, Purpose};
+use places::Place;
 use plain_state::Parts;
 use slot_arena::Ref;
 use std::alloc::AllocError;
@@ -84,22 +84,13 @@ fn entered_unless_placed(parts: &Parts, operation: &Operation) -> Option<Place>
     }
 }
 
-/// Notes the step in which a main node was committed, if one was.
-pub fn note_commit(commits: &mut Vec<u64>, committed: Option<Ref>, step: u64)
+/// Adds the commit of this main node in this step to the others, if one is committed. There is room for it.
+pub fn note_commit(commits: &mut Vec<Commit>, committed: Option<Ref>, step: u64)
+    requires { vec_len commits.old < vec_capacity commits.old }
     ensures { MatchOption committed (commits.new.items ≡ commits.old.items)
-        (λ main. commits.new.items ≡ slice_set commits.old.items (slot_of main) step) }
+        (λ main. commits.new.items ≡ commits.old.items ++ record { main = main; step = step } ∷ []) }
 {
     if let Some(main) = committed {
-        set_step(commits, main.slot(), step);
-    }
-}
-
-/// Writes the step of a slot.
-#[tactic(auto, using(crate::proofs::Written::unwritten))]
-fn set_step(commits: &mut Vec<u64>, slot: u16, step: u64)
-    ensures { commits.new.items ≡ slice_set commits.old.items slot step }
-{
-    if let Some(place) = commits.get_mut(slot as usize) {
-        *place = step;
+        let _ = commits.push(Commit { main, step });
     }
 }

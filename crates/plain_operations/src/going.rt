@@ -18,9 +18,10 @@ use crate::moments::committed_now;
 use crate::operations::{kind_of, operation_action};
 use crate::operations_after::operation_after;
 use history::{Event, Reply};
-use machine_model::{Action, Operation, Outcome, Place};
+use machine_model::{Action, Operation, Outcome};
+use places::Place;
 use plain_reading::handle_of;
-use plain_state::Parts;
+use plain_state::{Parts, write_at};
 use slot_arena::Ref;
 use std::alloc::AllocError;
 
@@ -123,12 +124,23 @@ fn proceed(parts: &mut Parts, actor: u8, action: Action) -> Result<Outcome, Allo
     let turn = turn_of(parts, running(parts, actor), &action)?;
     let kind = kind_of(&action);
     let step = parts.steps;
-    parts.closings.reserve(1)?;
+    make_room(parts)?;
     enter(&mut parts.places, &turn.entering)?;
     note_commit(&mut parts.commits, turn.committed, step);
     set_operation(&mut parts.actors, actor, Some(turn.after));
     act(parts, turn.handle, action);
     Ok(Outcome::Went(kind))
+}
+
+/// Makes room for a closing and a commit. Nothing that is seen changes.
+fn make_room(parts: &mut Parts) -> Result<(), AllocError>
+    ensures same { seen parts.new ≡ seen parts.old }
+    ensures limbo { parts.new.limbo ≡ parts.old.limbo }
+    ensures closings { OnOk result (vec_len parts.new.closings < vec_capacity parts.new.closings) }
+    ensures commits { OnOk result (vec_len parts.new.commits < vec_capacity parts.new.commits) }
+{
+    parts.closings.reserve(1)?;
+    parts.commits.reserve(1)
 }
 
 /// What a step of an operation changes besides what its action does.
@@ -187,12 +199,8 @@ fn put_place(places: &mut Vec<Place>, place: Option<Place>)
 }
 
 /// Lets the actor run this operation, or none.
-#[tactic(auto, using(crate::proofs::Written::unwritten))]
 fn set_operation(actors: &mut Vec<Option<Operation>>, actor: u8, operation: Option<Operation>)
     ensures { actors.new.items ≡ slice_set actors.old.items (actor - 1) operation }
 {
-    let index = (actor as usize).saturating_sub(1);
-    if let Some(place) = actors.get_mut(index) {
-        *place = operation;
-    }
+    write_at(actors, (actor as usize).saturating_sub(1), operation);
 }

@@ -7,20 +7,20 @@ ghost use Rattle.slot_arena.specs.declared.nodes.Node.{Node};
 ghost use Rattle.machine_model.specs.Calls.{handle_of};
 ghost use Rattle.machine_model.specs.States.{State, word_at};
 ghost use Rattle.machine_model.specs.Swapping.{root_after};
-ghost use Rattle.machine_model.specs.Operations.{from_root, updated, climbed_on, swapped, line_after, given_root, generation_after};
+ghost use Rattle.machine_model.specs.Operations.{from_root, after_update, climbed_on, swapped, line_after, given_root, generation_after};
 ghost use Rattle.plain_state.specs.Seen.{seen};
 
 use history::Call;
 use machine_model::{
-    After, Climb, ClimbLine, CopyLine, KeyLine, Line, Operation, Purpose, Refs, RootLine, Swap,
+    After, Climb, ClimbLine, CopyLine, KeyLine, Line, Operation, Purpose, RootLine, Swap,
 };
 use plain_lines::{
-    anew, build_after, clean_after, climb_after, climbed, climbing, copy_after, going_down, higher,
-    key_after, renew_after, walk_after,
+    build_after, clean_after, climb_after, climbed, climbing, copy_after, copy_of_climb,
+    going_down, higher, key_after, new_try, renew_after, walk_after,
 };
 use plain_reading::{current, handle_of, reading, root_after, swap_after};
 use plain_state::{Parts, PlainHeap};
-use slot_arena::{Node, Ref};
+use slot_arena::{Node, Ref, Refs};
 use std::alloc::{AllocError, Global};
 
 /// The line on which the operation stands after its next step. Births and offers don't run out.
@@ -38,9 +38,10 @@ pub fn operation_line_after(parts: &Parts, operation: &Operation) -> Result<Line
         Line::Renew(line) => renew_after(parts, operation, line),
         Line::Clean(line) => clean_after(parts, operation, line),
         Line::Climb(line) => climb_after(parts, operation, line),
-        Line::Copy(line) => copy_after(parts, operation, line),
+        Line::Copy(line) => Ok(copy_after(parts, operation, line)),
         Line::Walk(line) => walk_after(parts, operation, line),
         Line::End(reply) => Ok(Line::End(reply.copy()?)),
+        Line::Impossible => Ok(Line::Impossible),
     }
 }
 
@@ -80,24 +81,24 @@ fn first_root_after(parts: &Parts, operation: &Operation, line: RootLine) -> Aft
 }
 
 /// A removal that swapped in a tomb climbs; any other change is answered.
-fn updated(
+fn after_update(
     operation: &Operation,
     path: &Refs,
-    before: Option<u64>,
+    former: Option<u64>,
     node: &Node,
 ) -> Result<Line, AllocError>
-    ensures { IfOk result (λ line. line ≡ updated operation.now path.now before node.now) }
+    ensures { IfOk result (λ line. line ≡ after_update operation.now path.now former node.now) }
 {
     match node {
         Node::Tomb { single } => {
             let climb = Climb {
                 path: path.copy()?,
                 single: *single,
-                before,
+                former,
             };
             climbing(operation, &climb)
         }
-        _ => Ok(climbed(operation, before)),
+        _ => Ok(climbed(operation, former)),
     }
 }
 
@@ -107,7 +108,7 @@ fn climbed_on(operation: &Operation, climb: &Climb, node: &Node) -> Result<Line,
 {
     match node {
         Node::Tomb { .. } => climbing(operation, &higher(climb, climb.single)?),
-        _ => Ok(climbed(operation, climb.before)),
+        _ => Ok(climbed(operation, climb.former)),
     }
 }
 
@@ -116,12 +117,12 @@ fn swapped_in(operation: &Operation, node: &Node, purpose: &Purpose) -> Result<L
     ensures { IfOk result (λ line. line ≡ swapped operation.now node.now purpose.now true) }
 {
     match purpose {
-        Purpose::Update { path, before } => updated(operation, path, *before, node),
+        Purpose::Update { path, former } => after_update(operation, path, *former, node),
         Purpose::Renew { path } => Ok(Line::Key(KeyLine::Read {
             path: path.copy()?,
             read: reading(current(path)),
         })),
-        Purpose::Clean => Ok(anew()),
+        Purpose::Clean => Ok(new_try()),
         Purpose::Climb(climb) => climbed_on(operation, climb, node),
     }
 }
@@ -133,10 +134,10 @@ fn not_swapped(purpose: &Purpose) -> Result<Line, AllocError>
 {
     match purpose {
         Purpose::Climb(climb) => Ok(Line::Climb(ClimbLine::Root {
-            climb: climb.copy()?,
+            climb: copy_of_climb(climb)?,
             root: RootLine::Read,
         })),
-        _ => Ok(anew()),
+        _ => Ok(new_try()),
     }
 }
 
@@ -156,6 +157,21 @@ fn swapped(
     }
 }
 
+/// A copy of the purpose.
+fn same_purpose(purpose: &Purpose) -> Result<Purpose, AllocError>
+    ensures { IfOk result (λ copy. copy ≡ purpose.now) }
+{
+    Ok(match purpose {
+        Purpose::Update { path, former } => Purpose::Update {
+            path: path.copy()?,
+            former: *former,
+        },
+        Purpose::Renew { path } => Purpose::Renew { path: path.copy()? },
+        Purpose::Clean => Purpose::Clean,
+        Purpose::Climb(climb) => Purpose::Climb(copy_of_climb(climb)?),
+    })
+}
+
 /// After a step of a SWAP.
 fn after_swap(
     parts: &Parts,
@@ -169,7 +185,7 @@ fn after_swap(
     let word = parts.word(handle_of(operation.call));
     match swap_after(&parts.heap, operation.access, word, swap) {
         After::Goes(next) => Ok(Line::Swap {
-            purpose: purpose.copy()?,
+            purpose: same_purpose(purpose)?,
             swap: next,
         }),
         After::Gives(done) => swapped(operation, parts.heap.node(swap.fresh), purpose, done),
@@ -177,7 +193,7 @@ fn after_swap(
 }
 
 /// The generation of the root that ROOT gave last in the operation's first line, after its next step.
-pub fn generation_after(parts: &Parts, operation: &Operation) -> u64
+pub fn generation_after(parts: &Parts, operation: &Operation) -> Option<u64>
     ensures { result ≡ generation_after (seen parts.now) operation.now }
 {
     match &operation.line {
@@ -191,11 +207,11 @@ pub fn generation_after(parts: &Parts, operation: &Operation) -> u64
 }
 
 /// The generation of the root that was given, else the one before.
-fn given_root(heap: &PlainHeap, after: After<RootLine, Ref>, generation: u64) -> u64
+fn given_root(heap: &PlainHeap, after: After<RootLine, Ref>, generation: Option<u64>) -> Option<u64>
     ensures { (state : State) → state.heap ≡ heap.now → result ≡ given_root state after generation }
 {
     match after {
         After::Goes(_) => generation,
-        After::Gives(root) => heap.generation(root),
+        After::Gives(root) => Some(heap.generation(root)),
     }
 }

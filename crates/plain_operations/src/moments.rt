@@ -2,13 +2,15 @@
 
 ghost use Rattle.std.specs.Prelude.{◌≡◌};
 ghost use Rattle.machine_model.specs.Operations.{action_of};
-ghost use Rattle.machine_model.specs.Orders.{counted_from, read_at_after, committed_now, commit_step, moment_after, moment_given, on_time, late, place_by, closing_for, place_of, is_placed};
+ghost use Rattle.machine_model.specs.Orders.{counted_from, read_at_after, committed_now, commit_step, moment_after, moment_given, closed_after, closing_for, place_of, is_placed};
+ghost use Rattle.places.specs.Places.{on_time, late, place_by};
 ghost use Rattle.plain_state.specs.Seen.{seen};
 
 use crate::taken_reads::read_of;
 use history::Access;
-use machine_model::{Action, After, Operation, Place, Read};
-use plain_reading::{commits, read_step};
+use machine_model::{Action, After, Operation, Read};
+use places::Place;
+use plain_reading::{committed_by, read_step};
 use plain_state::Parts;
 use slot_arena::Ref;
 
@@ -36,7 +38,7 @@ pub fn committed_now(parts: &Parts, operation: &Operation) -> Option<Ref>
 {
     match read_of(&operation.line) {
         None => None,
-        Some(read) => commits(&parts.heap, read.indirection, read.line),
+        Some(read) => committed_by(&parts.heap, read.indirection, read.line),
     }
 }
 
@@ -83,39 +85,46 @@ fn moment_given(
 }
 
 /// The place of what isn't late.
-pub fn on_time(moment: u64, reads: bool, id: u64) -> Place
-    ensures { result ≡ on_time moment reads id }
+pub fn on_time(moment: u64, changed_nothing: bool, id: u64) -> Place
+    ensures { result ≡ on_time moment changed_nothing id }
 {
     Place {
         step: moment,
         on_time: true,
         moment,
-        reads,
+        changed_nothing,
         id,
     }
 }
 
 /// The place of what is late: just before the closing of its generation.
-fn late(closing: u64, moment: u64, reads: bool, id: u64) -> Place
-    ensures { result ≡ late closing moment reads id }
+fn late(closing: u64, moment: u64, changed_nothing: bool, id: u64) -> Place
+    ensures { result ≡ late closing moment changed_nothing id }
 {
     Place {
         step: closing,
         on_time: false,
         moment,
-        reads,
+        changed_nothing,
         id,
     }
 }
 
 /// The place with this moment, where the generation was closed in that step, if it was.
-fn place_by(closing: Option<u64>, moment: u64, reads: bool, id: u64) -> Place
-    ensures { result ≡ place_by closing moment reads id }
+fn place_by(closing: Option<u64>, moment: u64, changed_nothing: bool, id: u64) -> Place
+    ensures { result ≡ place_by closing moment changed_nothing id }
 {
     match closing {
-        Some(closing) if closing < moment => late(closing, moment, reads, id),
-        _ => on_time(moment, reads, id),
+        Some(closing) if closing < moment => late(closing, moment, changed_nothing, id),
+        _ => on_time(moment, changed_nothing, id),
     }
+}
+
+/// The step that closed this generation, if there is one and it was closed.
+fn closed_after(parts: &Parts, generation: Option<u64>) -> Option<u64>
+    ensures { result ≡ closed_after (seen parts.now) generation }
+{
+    parts.closed_at(generation?)
 }
 
 /// The step that closed the operation's generation, if one did; on a read-only handle none.
@@ -123,17 +132,22 @@ fn closing_for(parts: &Parts, operation: &Operation) -> Option<u64>
     ensures { result ≡ closing_for (seen parts.now) operation.now operation.now.access }
 {
     match operation.access {
-        Access::Writable => parts.closed_at(operation.generation),
+        Access::Writable => closed_after(parts, operation.generation),
         Access::ReadOnly => None,
     }
 }
 
 /// The place of an operation with this moment: on a writable handle it is late where its generation was
 /// closed before.
-pub fn place_of(parts: &Parts, operation: &Operation, moment: u64, reads: bool) -> Place
-    ensures { result ≡ place_of (seen parts.now) operation.now moment reads }
+pub fn place_of(parts: &Parts, operation: &Operation, moment: u64, changed_nothing: bool) -> Place
+    ensures { result ≡ place_of (seen parts.now) operation.now moment changed_nothing }
 {
-    place_by(closing_for(parts, operation), moment, reads, operation.id)
+    place_by(
+        closing_for(parts, operation),
+        moment,
+        changed_nothing,
+        operation.id,
+    )
 }
 
 /// Whether the operation has a place.

@@ -1,14 +1,16 @@
 //! A running operation: what its next step does, of which kind that is, and which READ it takes.
 
-ghost use Rattle.std.specs.Prelude.{◌≡◌, IfOk};
+ghost use Rattle.std.specs.Prelude.{◌≡◌, IfOk, MatchResult};
+ghost use Rattle.machine_model.specs.declared.lines.Line.TheVariants as lines;
 ghost use Rattle.machine_model.specs.Operations.{first_line, action_of, kind_of};
 ghost use Rattle.plain_state.specs.Seen.{seen};
 
 use ctrie_base::Kind;
 use history::{Call, Reply};
-use machine_model::{Action, Line, Operation, RootLine, WalkLine};
+use machine_model::{Action, Line, Operation, WalkLine};
 use plain_lines::{
-    build_action, clean_action, climb_action, copy_action, key_action, renew_action, walk_action,
+    build_action, clean_action, climb_action, copy_action, key_action, new_try, renew_action,
+    walk_action,
 };
 use plain_reading::{root_action, swap_action};
 use plain_state::Parts;
@@ -21,13 +23,13 @@ pub fn first_line(call: Call) -> Line
     match call {
         Call::Entries { .. } | Call::Count { .. } => Line::Walk(WalkLine::Root),
         Call::Close { .. } => Line::End(Reply::Closed),
-        _ => Line::Root(RootLine::Read),
+        _ => new_try(),
     }
 }
 
-/// What the operation's next step does.
-pub fn operation_action(parts: &Parts, operation: &Operation) -> Result<Action, AllocError>
-    ensures { IfOk result (λ action. action ≡ action_of (seen parts.now) operation.now) }
+/// What the operation's next step does, or the reply with which it ends.
+fn action_or_reply<'a>(parts: &Parts, operation: &'a Operation) -> Result<Action, &'a Reply>
+    ensures { MatchResult result (λ action. action ≡ action_of (seen parts.now) operation.now) (λ reply. operation.now.line ≡ lines.End reply.now) }
 {
     Ok(match &operation.line {
         Line::Root(line) => root_action(*line),
@@ -39,25 +41,28 @@ pub fn operation_action(parts: &Parts, operation: &Operation) -> Result<Action, 
         Line::Climb(line) => climb_action(parts, operation, line),
         Line::Copy(line) => copy_action(line),
         Line::Walk(line) => walk_action(line),
-        Line::End(reply) => Action::End(reply.copy()?),
+        Line::Impossible => Action::ReadRoot,
+        Line::End(reply) => return Err(reply),
     })
+}
+
+/// What the operation's next step does.
+pub fn operation_action(parts: &Parts, operation: &Operation) -> Result<Action, AllocError>
+    ensures { IfOk result (λ action. action ≡ action_of (seen parts.now) operation.now) }
+{
+    match action_or_reply(parts, operation) {
+        Ok(action) => Ok(action),
+        Err(reply) => Ok(Action::End(reply.copy()?)),
+    }
 }
 
 /// The kind of the operation's next step.
 pub fn operation_kind(parts: &Parts, operation: &Operation) -> Kind
     ensures { result ≡ kind_of (action_of (seen parts.now) operation.now) }
 {
-    match &operation.line {
-        Line::Root(line) => kind_of(&root_action(*line)),
-        Line::Key(line) => kind_of(&key_action(parts, line)),
-        Line::Build(line) => kind_of(&build_action(parts, operation, line)),
-        Line::Swap { swap, .. } => kind_of(&swap_action(*swap)),
-        Line::Renew(line) => kind_of(&renew_action(parts, operation, line)),
-        Line::Clean(line) => kind_of(&clean_action(parts, line)),
-        Line::Climb(line) => kind_of(&climb_action(parts, operation, line)),
-        Line::Copy(line) => kind_of(&copy_action(line)),
-        Line::Walk(line) => kind_of(&walk_action(line)),
-        Line::End(_) => Kind::End,
+    match action_or_reply(parts, operation) {
+        Ok(action) => kind_of(&action),
+        Err(_) => Kind::End,
     }
 }
 

@@ -7,9 +7,9 @@ ghost use Rattle.plain_state.specs.Seen.{seen};
 
 use crate::lines::{generation_after, operation_line_after};
 use crate::moments::{moment_after, read_at_after};
-use machine_model::{Action, Operation, Refs};
+use machine_model::{Action, Operation};
 use plain_state::Parts;
-use slot_arena::Ref;
+use slot_arena::{Ref, Refs};
 use std::alloc::AllocError;
 
 /// The operation after its step, which does that. Births and offers don't run out.

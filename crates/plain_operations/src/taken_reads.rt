@@ -21,14 +21,14 @@ pub fn read_of(line: &Line) -> Option<Read>
         Line::Climb(line) => climbing_read(line),
         Line::Copy(line) => copying_read(*line),
         Line::Walk(line) => walking_read(line),
-        Line::Build(_) | Line::End(_) => None,
+        Line::Build(_) | Line::End(_) | Line::Impossible => None,
     }
 }
 
 fn completing_read(complete: Complete) -> Option<Read>
     ensures { result ≡ completing_read complete.offer complete.line }
 {
-    let indirection = complete.offer.current;
+    let indirection = complete.offer.root;
     let line = complete.line;
     match line {
         CompleteLine::Reading(line) => Some(Read { indirection, line }),
