@@ -13,7 +13,7 @@ use crate::moments::on_time;
 use history::Access;
 use machine_model::{Action, Closing, Descriptor, Operation, Root, RootWord};
 use plain_reading::{Verdict, is_plain, stands_in, verdict_on};
-use plain_state::{Parts, PlainHeap, write_at};
+use plain_state::{Parts, PlainHeap, set_root};
 use slot_arena::{Node, Prev, Ref};
 
 /// Does what the action does, on this handle. It takes no memory: there is room for a closing and a
@@ -170,7 +170,7 @@ fn open(roots: &mut Vec<Option<Root>>, offer: Descriptor)
         roots.new.items ≡ slice_set roots.old.items handle (Some (opened_root offer offer.second))) }
 {
     if let Some(handle) = offer.opens {
-        write_at(roots, handle as usize, Some(opened_root(offer)));
+        set_root(roots, handle, Some(opened_root(offer)));
     }
 }
 

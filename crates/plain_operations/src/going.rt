@@ -1,6 +1,6 @@
 //! A step of an operation: all of it but for limbo and the count of steps.
 
-ghost use Rattle.std.specs.Prelude.{◌≡◌, ◌<◌, ◌-◌, ◌^◌, ◌++◌, slice_set, option_to_list, IfOk, OnOk, OnErr, Some, IsSome, vec_len, vec_capacity};
+ghost use Rattle.std.specs.Prelude.{◌≡◌, ◌<◌, ◌^◌, ◌++◌, option_to_list, IfOk, OnOk, OnErr, Some, IsSome, vec_len, vec_capacity};
 ghost use Rattle.machine_model.specs.declared.operations.Operation.{Operation};
 ghost use Rattle.machine_model.specs.declared.actions.Action.TheVariants as actions;
 ghost use Rattle.machine_model.specs.declared.steps.Outcome.TheVariants.{Went};
@@ -21,7 +21,7 @@ use history::{Event, Reply};
 use machine_model::{Action, Operation, Outcome};
 use places::Place;
 use plain_reading::handle_of;
-use plain_state::{Parts, write_at};
+use plain_state::{Parts, set_operation};
 use slot_arena::Ref;
 use std::alloc::AllocError;
 
@@ -196,11 +196,4 @@ fn put_place(places: &mut Vec<Place>, place: Option<Place>)
     if let Some(place) = place {
         let _ = places.push(place);
     }
-}
-
-/// Lets the actor run this operation, or none.
-fn set_operation(actors: &mut Vec<Option<Operation>>, actor: u8, operation: Option<Operation>)
-    ensures { actors.new.items ≡ slice_set actors.old.items (actor - 1) operation }
-{
-    write_at(actors, (actor as usize).saturating_sub(1), operation);
 }

@@ -7,4 +7,4 @@ mod writing;
 
 pub use heap::PlainHeap;
 pub use parts::{Parts, root_of};
-pub use writing::write_at;
+pub use writing::{set_operation, set_root};
