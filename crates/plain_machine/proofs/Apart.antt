@@ -9,14 +9,15 @@ use Rattle.std.proofs.lemmas.Bool.{or_cases, and_parts, false≢true}
 use Rattle.std.proofs.lemmas.List.Elements.{All-head, All-tail}
 use Rattle.slot_arena.specs.Refs.{ref_to}
 use Rattle.slot_arena.specs.declared.refs.Ref.{Ref}
-use Rattle.machine_model.specs.declared.heaps.Slot.{Slot}
-use Rattle.machine_model.specs.declared.heaps.Zeroed.{Zeroed}
-use Rattle.machine_model.specs.Heaps.{named_from, in_use}
+use Rattle.slot_arena.specs.declared.nodes.Slot.{Slot}
+use Rattle.epochs.specs.declared.limbo.Zeroed.{Zeroed}
+use Rattle.slot_arena.specs.Heaps.{Heap, named_from, in_use}
 use Rattle.machine_model.specs.declared.steps.Limits.{Limits}
 use Rattle.machine_model.specs.declared.steps.Outcome.{Outcome}
 use Rattle.machine_model.specs.declared.steps.Step.{Step}
 use Rattle.machine_model.specs.States.{State, first_state}
-use Rattle.machine_model.specs.Machine.{ripe, run, AreLimits}
+use Rattle.epochs.specs.Sweeping.{ripe}
+use Rattle.machine_model.specs.Machine.{run, AreLimits}
 use Rattle.machine_model.proofs.Along.{along}
 use Rattle.machine_model.proofs.HeapMoves.{heap_moves}
 use Rattle.machine_model.proofs.InUse.{InUse}
@@ -24,7 +25,7 @@ use Rattle.machine_model.proofs.Moves.{Moves, Begins, Goes, Ends, Sweeps}
 use Rattle.machine_model.proofs.Slots.{sound_along}
 use Rattle.plain_machine.proofs.Steps.{heap_slots}
 use Rattle.plain_machine.proofs.Settling.{at_says, in_use_if, stands_if}
-use Rattle.machine_model.specs.Counting.{is_zero, is_in, put_in, by_birth, newly_zero, limbo_after, is_in_use}
+use Rattle.epochs.specs.Limbo.{is_zero, is_in, put_in, by_birth, newly_zero, limbo_after, is_in_use}
 
 -- the list has the reference
 abbrev has : List Ref → Ref → Bool
@@ -182,30 +183,38 @@ zeroed_refs : (epoch : ℕ) (rs : List Ref) → map (λ (z : Zeroed). z.at) (map
 zeroed_refs epoch [] = refl
 zeroed_refs epoch (r ∷ rs) = ap (λ rest. r ∷ rest) (zeroed_refs epoch rs)
 
+-- the slot is in use and nothing refers to it
+abbrev stays : Heap → List Ref → Ref → Bool
+stays heap outside r = is_in_use heap r && is_zero heap outside r
+
+-- nothing refers to it, and it isn't in limbo yet
+abbrev comes : Heap → List Ref → List Zeroed → Ref → Bool
+comes heap outside limbo r = is_zero heap outside r && not (is_in limbo r)
+
 -- the references of limbo after a step
-limbo_refs : (before after : State) →
-    map (λ z. z.at) (limbo_after before after) ≡ filter (λ r. is_in_use after r && is_zero after r) (map (λ z. z.at) before.limbo) ++ newly_zero before after
-limbo_refs before after =
-    map-append (λ (z : Zeroed). z.at) (filter (λ z. is_in_use after z.at && is_zero after z.at) before.limbo) (map (λ r. record { at = r; epoch = after.epoch }) (newly_zero before after))
-    ∙ ap (λ x. x ++ map (λ (z : Zeroed). z.at) (map (λ r. record { at = r; epoch = after.epoch }) (newly_zero before after))) (kept_refs (λ r. is_in_use after r && is_zero after r) before.limbo)
-    ∙ ap (λ x. filter (λ r. is_in_use after r && is_zero after r) (map (λ z. z.at) before.limbo) ++ x) (zeroed_refs after.epoch (newly_zero before after))
+limbo_refs : (heap : Heap) (outside : List Ref) (epoch : ℕ) (limbo : List Zeroed) →
+    map (λ z. z.at) (limbo_after heap outside epoch limbo) ≡ filter (stays heap outside) (map (λ z. z.at) limbo) ++ newly_zero heap outside limbo
+limbo_refs heap outside epoch limbo =
+    map-append (λ (z : Zeroed). z.at) (filter (λ z. stays heap outside z.at) limbo) (map (λ r. record { at = r; epoch = epoch }) (newly_zero heap outside limbo))
+    ∙ ap (λ x. x ++ map (λ (z : Zeroed). z.at) (map (λ r. record { at = r; epoch = epoch }) (newly_zero heap outside limbo))) (kept_refs (stays heap outside) limbo)
+    ∙ ap (λ x. filter (stays heap outside) (map (λ z. z.at) limbo) ++ x) (zeroed_refs epoch (newly_zero heap outside limbo))
 
 -- what has become zero wasn't in limbo
-fresh_lacks : (before after : State) (x : Ref) → has (newly_zero before after) x ≡ true → has (map (λ z. z.at) before.limbo) x ≡ false
-fresh_lacks before after x h =
-    let passes = filter_has (λ r. is_zero after r && not (is_in before.limbo r)) (in_use after.heap) x
-    (sym (sorted_has (filter (λ r. is_zero after r && not (is_in before.limbo r)) (in_use after.heap)) x) ∙ h) in
-    at_says before.limbo x ∙ not_true (is_in before.limbo x) ((and_parts (is_zero after x) (not (is_in before.limbo x)) passes).1)
+fresh_lacks : (heap : Heap) (outside : List Ref) (limbo : List Zeroed) (x : Ref) → has (newly_zero heap outside limbo) x ≡ true → has (map (λ z. z.at) limbo) x ≡ false
+fresh_lacks heap outside limbo x h =
+    let passes = filter_has (comes heap outside limbo) (in_use heap) x (sym (sorted_has (filter (comes heap outside limbo) (in_use heap)) x) ∙ h) in
+    at_says limbo x ∙ not_true (is_in limbo x) ((and_parts (is_zero heap outside x) (not (is_in limbo x)) passes).1)
 
 -- limbo is apart after a step
-pub limbo_apart : (before after : State) → length after.heap.slots ≤ 65536 → AreApart (map (λ z. z.at) before.limbo) → AreApart (map (λ z. z.at) (limbo_after before after))
-limbo_apart before after size apart =
-    subst AreApart (sym (limbo_refs before after))
-    (append_apart (filter (λ r. is_in_use after r && is_zero after r) (map (λ z. z.at) before.limbo)) (newly_zero before after)
-    (filter_apart (λ r. is_in_use after r && is_zero after r) (map (λ z. z.at) before.limbo) apart)
-    (sorted_apart (filter (λ r. is_zero after r && not (is_in before.limbo r)) (in_use after.heap))
-    (filter_apart (λ r. is_zero after r && not (is_in before.limbo r)) (in_use after.heap) (named_apart 0 after.heap.slots (omega arith))))
-    (λ x h. filter_lacks (λ r. is_in_use after r && is_zero after r) (map (λ z. z.at) before.limbo) x (fresh_lacks before after x h)))
+pub limbo_apart : (heap : Heap) (outside : List Ref) (epoch : ℕ) (limbo : List Zeroed) → length heap.slots ≤ 65536 → AreApart (map (λ z. z.at) limbo) →
+    AreApart (map (λ z. z.at) (limbo_after heap outside epoch limbo))
+limbo_apart heap outside epoch limbo size apart =
+    subst AreApart (sym (limbo_refs heap outside epoch limbo))
+    (append_apart (filter (stays heap outside) (map (λ z. z.at) limbo)) (newly_zero heap outside limbo)
+    (filter_apart (stays heap outside) (map (λ z. z.at) limbo) apart)
+    (sorted_apart (filter (comes heap outside limbo) (in_use heap))
+    (filter_apart (comes heap outside limbo) (in_use heap) (named_apart 0 heap.slots (omega arith))))
+    (λ x h. filter_lacks (stays heap outside) (map (λ z. z.at) limbo) x (fresh_lacks heap outside limbo x h)))
 
 -- ---- how long such a list is
 
@@ -239,10 +248,10 @@ fewer rs us apart within =
 -- each step leaves limbo apart
 apart_after : (state : State) (s : Step) (o : Outcome) (after : State) → Moves state s o after → length after.heap.slots ≤ 65536 →
     AreApart (map (λ z. z.at) state.limbo) → AreApart (map (λ z. z.at) after.limbo)
-apart_after state s o after (Begins d) size h = limbo_apart state _ size h
-apart_after state s o after (Goes d is a g) size h = limbo_apart state _ size h
-apart_after state s o after (Ends d is a) size h = limbo_apart state _ size h
-apart_after state s o after (Sweeps spent) size h = limbo_apart state _ size h
+apart_after state s o after (Begins d) size h = limbo_apart _ _ _ state.limbo size h
+apart_after state s o after (Goes d is a g) size h = limbo_apart _ _ _ state.limbo size h
+apart_after state s o after (Ends d is a) size h = limbo_apart _ _ _ state.limbo size h
+apart_after state s o after (Sweeps spent) size h = limbo_apart _ _ _ state.limbo size h
 
 -- at first limbo is empty
 apart_at_first : (limits : Limits) → AreApart (map (λ z. z.at) (first_state limits).limbo)

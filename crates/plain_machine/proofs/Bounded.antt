@@ -1,5 +1,5 @@
 -- The numbers of a machine are bounded along each run.
-use Rattle.std.proofs.Common.{◌≡◌, ℕ, ◌+◌, ◌≤◌, false, cond, List, [], ◌∷◌, ◌++◌, Option, Some, None, Result, Ok, Err, refl, sym, ap, ◌∙◌, subst, arith, leb-true, leb-false}
+use Rattle.std.proofs.Common.{◌≡◌, ℕ, ◌+◌, ◌≤◌, false, cond, List, [], ◌∷◌, ◌++◌, Option, Some, None, Result, Ok, Err, refl, sym, ap, ◌∙◌, subst, arith, leb-false, map}
 use Rattle.std.proofs.lemmas.List.Sums.{sum_by-append}
 use Rattle.ctrie_base.specs.declared.refusals.Refusal.{Refusal}
 use Rattle.history.specs.declared.calls.Call.{Call}
@@ -18,20 +18,20 @@ use Rattle.machine_model.specs.declared.steps.Outcome.{Outcome}
 use Rattle.machine_model.specs.declared.steps.Step.{Step}
 use Rattle.machine_model.specs.declared.steps.Step.TheVariants as step
 use Rattle.machine_model.specs.Calls.{handle_of}
-use Rattle.machine_model.specs.Heaps.{Heap, empty_branch, with_main, with_prev, taken, take_from, freed}
+use Rattle.slot_arena.specs.Heaps.{Heap, empty_branch, with_main, with_prev, taken, take_from, freed}
 use Rattle.slot_arena.specs.Refs.{ref_to}
 use Rattle.slot_arena.specs.declared.nodes.Node.TheVariants.{Indirection}
 use Rattle.machine_model.specs.States.{State, empty_heap, first_state, step_limit}
 use Rattle.machine_model.specs.Operations.{action_of}
 use Rattle.slot_arena.specs.declared.nodes.Prev.TheVariants as prev
-use Rattle.machine_model.specs.Reading.{is_licensed}
-use Rattle.machine_model.specs.Acting.{acted, if_changed, aborted, offered, completed, new_root_taken, attempt_after, operation_after, gone}
-use Rattle.machine_model.specs.Machine.{next, next_state, state_after, is_spent, begin_denial, go_denial, with_begin, sweep_by, ripe, run, run_from, AreLimits}
+use Rattle.epochs.specs.Sweeping.{Reclaimer, ripe, sweep_by}
+use Rattle.machine_model.specs.Acting.{acted, aborted, offered, completed, new_root_taken, attempt_after, operation_after, gone}
+use Rattle.machine_model.specs.Machine.{next, next_state, state_after, is_spent, begin_denial, go_denial, with_begin, pin_of, reclaimer_of, run, run_from, AreLimits}
 use Rattle.machine_model.proofs.Along.{along, run_push, kept_by_moves}
 use Rattle.machine_model.proofs.Actors.{mark_one, mark_only, marks_by, marks_in}
 use Rattle.machine_model.proofs.EachOperation.{OfEach, of_each_along, of_running}
 use Rattle.machine_model.proofs.Frames.{acted_framed, limits_kept, steps_counted}
-use Rattle.machine_model.proofs.HeapMoves.{HeapMoves, Stays, Takes, Publishes, Restores, Decides, Frees, heap_moves}
+use Rattle.machine_model.proofs.HeapMoves.{HeapMoves, Stays, Takes, Publishes, Restores, Commit, Fail, Frees, heap_moves}
 use Rattle.machine_model.proofs.Moves.{moved, Moves, Begins, Goes, Ends, Sweeps, begun_operation}
 use Rattle.machine_model.proofs.Slots.{sound_along, add_up}
 use Rattle.plain_machine.proofs.Apart.{limbo_few}
@@ -87,8 +87,9 @@ heap_births : (heap : Heap) (due : Option Ref) (after : Heap) → HeapMoves heap
 heap_births heap due after Stays = omega arith
 heap_births heap due after (Takes node) = taken_births heap node
 heap_births heap due after (Publishes indirection replaced fresh e) = omega (arith, prev_births (with_main heap indirection fresh) fresh (prev.Pending replaced), main_births heap indirection fresh)
-heap_births heap due after (Restores indirection main before e) = omega (arith, main_births heap indirection before)
-heap_births heap due after (Decides indirection main before told e) = omega (arith, prev_births heap main (if_changed (is_licensed heap indirection told) prev.None (prev.Failed before)))
+heap_births heap due after (Restores indirection main previous e) = omega (arith, main_births heap indirection previous)
+heap_births heap due after (Commit indirection main previous told e) = omega (arith, prev_births heap main prev.None)
+heap_births heap due after (Fail indirection main previous told e) = omega (arith, prev_births heap main (prev.Failed previous))
 heap_births heap due after (Frees r e) = omega (arith, freed_births heap r)
 
 -- ---- generations
@@ -117,44 +118,28 @@ acted_generations state handle action = omega arith
 begin_generations : (state : State) (actor : ℕ) (call : Call) (operation : Operation) → (with_begin state actor call operation).generations ≡ state.generations
 begin_generations state actor call operation = grind arith
 
-sweep_generations : (state : State) (due : Option Ref) → (sweep_by state due).1.generations ≡ state.generations
-sweep_generations state due = grind arith
-
 generations_after : (state : State) (s : Step) (o : Outcome) (after : State) → Moves state s o after → after.generations ≤ state.generations + 1
 generations_after state s o after (Begins {actor} {call} d) = omega (arith, begin_generations state actor call (begun_operation state call))
 generations_after state s o after (Goes {actor} {operation} d is a g) = acted_generations _ (handle_of operation.call) (action_of state operation)
 generations_after state s o after (Ends d is a) = omega arith
-generations_after state s o after (Sweeps spent) = omega (arith, sweep_generations state (ripe state.epoch state.limbo))
+generations_after state s o after (Sweeps spent) = omega arith
 
--- ---- the epoch and the cursor
+-- ---- the epoch
 
-begin_epoch : (state : State) (actor : ℕ) (call : Call) (operation : Operation) → ((with_begin state actor call operation).epoch ≡ state.epoch) × ((with_begin state actor call operation).cursor ≡ state.cursor)
+begin_epoch : (state : State) (actor : ℕ) (call : Call) (operation : Operation) → (with_begin state actor call operation).epoch ≡ state.epoch
 begin_epoch state actor call operation = grind arith
 
-sweep_epoch : (state : State) (due : Option Ref) → (sweep_by state due).1.epoch ≤ state.epoch + 1
-sweep_epoch state due = grind arith
-
-sweep_cursor : (state : State) (due : Option Ref) → state.cursor ≤ state.limits.actors + 1 → (sweep_by state due).1.cursor ≤ state.limits.actors + 1
-sweep_cursor state due h = grind (arith, leb-true)
+sweep_epoch : (pins : List (Option ℕ)) (r : Reclaimer) (due : Option Ref) → (sweep_by pins r due).1.epoch ≤ r.epoch + 1
+sweep_epoch pins r due = grind arith
 
 gone_epoch : (state : State) (actor : ℕ) (operation : Operation) → (gone state actor operation).epoch ≡ state.epoch
 gone_epoch state actor operation = (acted_framed _ (handle_of operation.call) (action_of state operation)).epoch
-
-gone_cursor : (state : State) (actor : ℕ) (operation : Operation) → (gone state actor operation).cursor ≡ state.cursor
-gone_cursor state actor operation = (acted_framed _ (handle_of operation.call) (action_of state operation)).cursor
 
 epoch_after : (state : State) (s : Step) (o : Outcome) (after : State) → Moves state s o after → after.epoch ≤ state.epoch + 1
 epoch_after state s o after (Begins {actor} {call} d) = omega (arith, begin_epoch state actor call (begun_operation state call))
 epoch_after state s o after (Goes {actor} {operation} d is a g) = omega (arith, gone_epoch state actor operation)
 epoch_after state s o after (Ends d is a) = omega arith
-epoch_after state s o after (Sweeps spent) = sweep_epoch state (ripe state.epoch state.limbo)
-
-cursor_after : (state : State) (s : Step) (o : Outcome) (after : State) → Moves state s o after → state.cursor ≤ state.limits.actors + 1 →
-    after.cursor ≤ state.limits.actors + 1
-cursor_after state s o after (Begins {actor} {call} d) h = omega (arith, begin_epoch state actor call (begun_operation state call))
-cursor_after state s o after (Goes {actor} {operation} d is a g) h = omega (arith, gone_cursor state actor operation)
-cursor_after state s o after (Ends d is a) h = h
-cursor_after state s o after (Sweeps spent) h = sweep_cursor state (ripe state.epoch state.limbo) h
+epoch_after state s o after (Sweeps spent) = sweep_epoch (map pin_of state.actors) (reclaimer_of state) (ripe state.epoch state.limbo)
 
 -- ---- begins
 
@@ -169,12 +154,14 @@ one_if_begin (step.Begin actor call) = 1
 one_if_begin (step.Go actor) = 0
 one_if_begin step.Sweep = 0
 
+pub none_begins : (s : Step) → ((actor : ℕ) (call : Call) → s ≡ step.Begin actor call → ⊥) → one_if_begin s ≡ 0
+none_begins (step.Begin actor call) h = absurd (h actor call refl)
+none_begins (step.Go actor) h = refl
+none_begins step.Sweep h = refl
+
 begin_events : (state : State) (actor : ℕ) (call : Call) (operation : Operation) →
     (with_begin state actor call operation).events ≡ state.events ++ Begin operation.id actor call operation.opens ∷ []
 begin_events state actor call operation = grind arith
-
-sweep_events : (state : State) (due : Option Ref) → (sweep_by state due).1.events ≡ state.events
-sweep_events state due = grind arith
 
 -- a begin is one more, and nothing else is
 pub begins_after : (state : State) (s : Step) (o : Outcome) (after : State) → Moves state s o after → begun after.events ≡ begun state.events + one_if_begin s
@@ -183,8 +170,7 @@ begins_after state s o after (Begins {actor} {call} d) =
 begins_after state s o after (Goes {actor} {operation} d is a g) =
     ap begun ((acted_framed _ (handle_of operation.call) (action_of state operation)).events) ∙ (let none : begun state.events ≡ begun state.events + 0 = omega arith in none)
 begins_after state s o after (Ends {actor} {operation} {answer} d is a) = begun_push state.events (End operation.id answer)
-begins_after state s o after (Sweeps spent) =
-    ap begun (sweep_events state (ripe state.epoch state.limbo)) ∙ (let none : begun state.events ≡ begun state.events + 0 = omega arith in none)
+begins_after state s o after (Sweeps spent) = omega arith
 
 -- at most one
 one_if_begin_most : (s : Step) → one_if_begin s ≤ 1
@@ -231,7 +217,6 @@ record Grows (limits : Limits) (state : State) : Type 0 where
   births : state.heap.births ≤ state.steps + 2
   generations : state.generations ≤ state.steps + 1
   epoch : state.epoch ≤ state.steps
-  cursor : state.cursor ≤ state.limits.actors + 1
   begins : begun state.events ≤ state.steps
 
 -- at first
@@ -244,7 +229,6 @@ grows_at_first limits = record {
       let twice = taken_births (taken (empty_heap limits.slots) empty_branch) (Indirection 0 (ref_to 1 0)) in omega (arith, once, twice);
   generations = omega arith;
   epoch = omega arith;
-  cursor = omega arith;
   begins = omega arith;
 }
 
@@ -259,7 +243,6 @@ grows_after limits state s o after m h =
       births = omega (arith, heap_births state.heap (ripe state.epoch state.limbo) after.heap (heap_moves state s o after m), h.births, counted);
       generations = omega (arith, generations_after state s o after m, h.generations, counted);
       epoch = omega (arith, epoch_after state s o after m, h.epoch, counted);
-      cursor = let within = cursor_after state s o after m h.cursor in rw same within;
       begins = omega (arith, begins_after state s o after m, one_if_begin_most s, h.begins, counted);
     }
 
@@ -278,7 +261,6 @@ bounded_along limits ok steps =
       births = h.births;
       generations = h.generations;
       epoch = h.epoch;
-      cursor = h.cursor;
       attempts = λ actor operation is. of_running FewAttempts (run limits steps) (few_attempts limits steps) actor operation is;
       begins = h.begins;
       rest = omega (arith, add_up limits.slots (run limits steps).heap sound.heap, ok.1);
@@ -314,12 +296,6 @@ applied_run before after s (Err why) e h = subst IsOfRun (sym (e.0)) h
 pub applied_begun : (before after : State) (s : Step) (o : Outcome) → Applies (Ok o) before (next before s) after →
     begun after.events ≡ begun before.events + one_if_begin s
 applied_begun before after s o e = begins_after before s o after (moved before s o after e)
-
--- as many have begun after any other step than a begin
-pub applied_others : (before after : State) (s : Step) (r : Result Outcome Refusal) → one_if_begin s ≡ 0 → Applies r before (next before s) after →
-    begun before.events ≡ begun after.events
-applied_others before after s (Ok o) none e = omega (arith, applied_begun before after s o e)
-applied_others before after s (Err why) none e = ap (λ x. begun x.events) (sym (e.0))
 
 -- the first state is one of a run, and nothing has begun
 pub first_run : (limits : Limits) (state : State) → AreLimits limits → state ≡ first_state limits → IsOfRun state × (0 ≡ begun state.events)

@@ -3,7 +3,7 @@ use Rattle.std.proofs.Common.{◌≡◌, ℕ, ◌+◌, ◌<◌, ◌≤◌, Bool,
 use Rattle.std.specs.List.{flat_map}
 use Rattle.std.proofs.lemmas.List.{at_drop_more, at_drop_all}
 use Rattle.slot_arena.specs.declared.refs.Ref.{Ref}
-use Rattle.machine_model.specs.declared.heaps.Slot.{Slot}
+use Rattle.slot_arena.specs.declared.nodes.Slot.{Slot}
 use Rattle.plain_machine.specs.Marks.{marked, all_marked}
 
 -- marking none

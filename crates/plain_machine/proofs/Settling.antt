@@ -8,14 +8,16 @@ use Rattle.std.proofs.lemmas.Option.{none-some, same_Some}
 use Rattle.std.proofs.lemmas.List.Sums.{sum_by-cons}
 use Rattle.slot_arena.specs.Refs.{ref_to, slot_of, birth_of}
 use Rattle.slot_arena.specs.declared.refs.Ref.{Ref}
-use Rattle.machine_model.specs.declared.heaps.Slot.{Slot}
-use Rattle.machine_model.specs.declared.heaps.Zeroed.{Zeroed}
-use Rattle.machine_model.specs.Heaps.{Heap, named_from, in_use}
+use Rattle.slot_arena.specs.declared.nodes.Slot.{Slot}
+use Rattle.epochs.specs.declared.limbo.Zeroed.{Zeroed}
+use Rattle.slot_arena.specs.Heaps.{Heap, named_from, in_use}
 use Rattle.machine_model.specs.States.{State}
-use Rattle.machine_model.specs.Counting.{counted_refs, count_of, is_zero, is_in, by_birth, is_in_use, limbo_after}
+use Rattle.slot_arena.specs.Counts.{count_of}
+use Rattle.epochs.specs.Limbo.{is_zero, is_in, by_birth, is_in_use, limbo_after}
+use Rattle.machine_model.specs.Counting.{outside}
 use Rattle.machine_model.proofs.Found.{found_within}
 use Rattle.machine_model.proofs.InUse.{InUse, all_in_use, of_found}
-use Rattle.plain_machine.specs.Marks.{has_birth, stands, marked, all_marked, is_unmarked, counted_marks, zeroed_in}
+use Rattle.plain_machine.specs.Marks.{has_birth, stands, marked, all_marked, is_unmarked, counted_refs, counted_marks, zeroed_in}
 use Rattle.plain_machine.proofs.Marking.{none_marked, first_marked}
 
 -- ---- references and slots
@@ -119,7 +121,7 @@ none_counts r (q ∷ rs) =
     ap (λ n. n == 0) (sum_by-cons (λ x. cond (x == r) 1 0) q rs) ∙ count_more (q == r) (count_by (λ x. x == r) rs) (list_any (λ x. x == r) rs) (none_counts r rs)
 
 -- the same of a state's count
-zero_says : (state : State) (r : Ref) → is_zero state r ≡ not (list_any (λ q. q == r) (counted_refs state))
+zero_says : (state : State) (r : Ref) → is_zero state.heap (outside state) r ≡ not (list_any (λ q. q == r) (counted_refs state))
 unfolding count_of
 zero_says state r = none_counts r (counted_refs state)
 
@@ -134,7 +136,7 @@ length-counted_marks : (state : State) → length (counted_marks state) ≡ leng
 length-counted_marks state = length-all_marked state.heap.slots _ (counted_refs state) ∙ length-replicate (length state.heap.slots) false
 
 -- the mark of what stands in a slot says whether it is counted
-counted_says : (state : State) (r : Ref) → stands state.heap.slots r ≡ true → not (get_or (counted_marks state) (slot_of r) false) ≡ is_zero state r
+counted_says : (state : State) (r : Ref) → stands state.heap.slots r ≡ true → not (get_or (counted_marks state) (slot_of r) false) ≡ is_zero state.heap (outside state) r
 counted_says state r at_r =
     let within : slot_of r < length (replicate (length state.heap.slots) false) =
     omega (arith, standing_within state.heap.slots r at_r, length-replicate (length state.heap.slots) false) in
@@ -159,7 +161,7 @@ named_found n (suc k) (Some s ∷ slots) slot e =
     (ap (λ m. list_any (λ q. q == ref_to slot.birth m) (named_from (n + 1) slots)) (let m : n + suc k ≡ n + 1 + k = omega arith in m) ∙ named_found (n + 1) k slots slot e)
 
 -- what stands in a slot is in use
-pub in_use_if : (state : State) (r : Ref) → stands state.heap.slots r ≡ true → is_in_use state r ≡ true
+pub in_use_if : (state : State) (r : Ref) → stands state.heap.slots r ≡ true → is_in_use state.heap r ≡ true
 in_use_if state r at_r =
     let (s, is_s, birth_s) = birth_found (birth_of r) _ at_r in
     let made : r ≡ ref_to s.birth (0 + slot_of r) = made_of r ∙ (let e : ref_to (birth_of r) (slot_of r) ≡ ref_to s.birth (0 + slot_of r) = omega (arith, birth_s) in e) in
@@ -188,9 +190,9 @@ same_tests false true f g = g refl
 same_tests false false f g = refl
 
 -- a reference is to a slot in use where it names what stands there
-in_use_says : (state : State) (r : Ref) → length state.heap.slots ≤ 65536 → stands state.heap.slots r ≡ is_in_use state r
+in_use_says : (state : State) (r : Ref) → length state.heap.slots ≤ 65536 → stands state.heap.slots r ≡ is_in_use state.heap r
 in_use_says state r size =
-    same_tests (stands state.heap.slots r) (is_in_use state r) (in_use_if state r)
+    same_tests (stands state.heap.slots r) (is_in_use state.heap r) (in_use_if state r)
     (λ e. stands_if state.heap r size (of_found (InUse state.heap) r (in_use state.heap) (all_in_use state.heap) e))
 
 -- each slot in use stands
@@ -206,9 +208,9 @@ and_same false b c d e h = ap (λ x. x && d) e
 
 -- what has no mark is in use, and its count is zero
 unmarked_says : (state : State) (r : Ref) → length state.heap.slots ≤ 65536 →
-    is_unmarked state.heap.slots (counted_marks state) r ≡ (is_in_use state r && is_zero state r)
+    is_unmarked state.heap.slots (counted_marks state) r ≡ (is_in_use state.heap r && is_zero state.heap (outside state) r)
 unmarked_says state r size =
-    and_same (stands state.heap.slots r) (is_in_use state r) (not (get_or (counted_marks state) (slot_of r) false)) (is_zero state r) (in_use_says state r size)
+    and_same (stands state.heap.slots r) (is_in_use state.heap r) (not (get_or (counted_marks state) (slot_of r) false)) (is_zero state.heap (outside state) r) (in_use_says state r size)
     (counted_says state r)
 
 -- a list is filtered alike by tests that agree
@@ -253,7 +255,7 @@ fresh_by false inside before h = ap not (h refl)
 
 -- what stands has no mark after those of limbo, where its count has become zero
 fresh_says : (state : State) (r : Ref) → stands state.heap.slots r ≡ true →
-    is_unmarked state.heap.slots (all_marked state.heap.slots (counted_marks state) (map (λ z. z.at) (kept state))) r ≡ (is_zero state r && not (is_in state.limbo r))
+    is_unmarked state.heap.slots (all_marked state.heap.slots (counted_marks state) (map (λ z. z.at) (kept state))) r ≡ (is_zero state.heap (outside state) r && not (is_in state.limbo r))
 fresh_says state r at_r =
     let slots = state.heap.slots in
     let within : slot_of r < length (counted_marks state) = omega (arith, standing_within state.heap.slots r at_r, length-counted_marks state) in
@@ -273,16 +275,16 @@ fresh_says state r at_r =
 pub limbo_so : (state : State) → length state.heap.slots ≤ 65536 →
     kept state ++ zeroed_in state.epoch (by_birth (filter
     (is_unmarked state.heap.slots (all_marked state.heap.slots (counted_marks state) (map (λ z. z.at) (kept state)))) (named_from 0 state.heap.slots)))
-    ≡ limbo_after state state
+    ≡ limbo_after state.heap (outside state) state.epoch state.limbo
 limbo_so state size =
-    let left : kept state ≡ filter (λ z. is_in_use state z.at && is_zero state z.at) state.limbo =
-    filter_alike (λ z. is_unmarked state.heap.slots (counted_marks state) z.at) (λ z. is_in_use state z.at && is_zero state z.at) state.limbo
+    let left : kept state ≡ filter (λ z. is_in_use state.heap z.at && is_zero state.heap (outside state) z.at) state.limbo =
+    filter_alike (λ z. is_unmarked state.heap.slots (counted_marks state) z.at) (λ z. is_in_use state.heap z.at && is_zero state.heap (outside state) z.at) state.limbo
     (λ z. unmarked_says state z.at size) in
     let fresh : filter (is_unmarked state.heap.slots (all_marked state.heap.slots (counted_marks state) (map (λ z. z.at) (kept state)))) (in_use state.heap)
-    ≡ filter (λ r. is_zero state r && not (is_in state.limbo r)) (in_use state.heap) =
+    ≡ filter (λ r. is_zero state.heap (outside state) r && not (is_in state.limbo r)) (in_use state.heap) =
     filter_alike_on (λ r. stands state.heap.slots r ≡ true)
     (is_unmarked state.heap.slots (all_marked state.heap.slots (counted_marks state) (map (λ z. z.at) (kept state))))
-    (λ r. is_zero state r && not (is_in state.limbo r)) (in_use state.heap) (all_stand state.heap size) (fresh_says state) in
+    (λ r. is_zero state.heap (outside state) r && not (is_in state.limbo r)) (in_use state.heap) (all_stand state.heap size) (fresh_says state) in
     ap (λ x. x ++ zeroed_in state.epoch (by_birth (filter
     (is_unmarked state.heap.slots (all_marked state.heap.slots (counted_marks state) (map (λ z. z.at) (kept state)))) (named_from 0 state.heap.slots)))) left
-    ∙ ap (λ x. filter (λ z. is_in_use state z.at && is_zero state z.at) state.limbo ++ zeroed_in state.epoch (by_birth x)) fresh
+    ∙ ap (λ x. filter (λ z. is_in_use state.heap z.at && is_zero state.heap (outside state) z.at) state.limbo ++ zeroed_in state.epoch (by_birth x)) fresh

@@ -1,5 +1,7 @@
 -- What steps come to.
-use Rattle.std.proofs.Common.{◌≡◌, ℕ, ◌+◌, inl, inr, true, false, List, [], ◌∷◌, length, if◌then◌else◌, Option, Some, None, IfOk, Result, Ok, Err, refl, sym, ap, ◌∙◌, arith, length-set}
+use Rattle.std.proofs.Common.{◌≡◌, ℕ, ◌+◌, inl, inr, true, false, List, [], ◌∷◌, length, if◌then◌else◌, Option, Some, None, IfOk, Result, Ok, Err, refl, sym, ap, ◌∙◌, arith, length-set, Bool, map, slice_index_or}
+use Rattle.std.proofs.Math.ListN.{get_or-map}
+use Rattle.std.proofs.lemmas.Option.{none-some, same_Some}
 use Rattle.ctrie_base.specs.declared.refusals.Refusal.{Refusal}
 use Rattle.ctrie_base.specs.declared.refusals.Refusal.TheVariants as refuse
 use Rattle.history.specs.declared.calls.Call.{Call}
@@ -15,15 +17,17 @@ use Rattle.machine_model.specs.declared.steps.Outcome.{Outcome}
 use Rattle.machine_model.specs.declared.steps.Outcome.TheVariants as outcome
 use Rattle.machine_model.specs.declared.steps.Step.{Step}
 use Rattle.machine_model.specs.declared.steps.Step.TheVariants as step
-use Rattle.machine_model.specs.Heaps.{Heap, with_main, with_prev, taken, take_from, freed}
+use Rattle.slot_arena.specs.Heaps.{Heap, with_main, with_prev, taken, take_from, freed}
 use Rattle.machine_model.specs.States.{State, operation_of}
 use Rattle.machine_model.specs.Calls.{handle_of}
 use Rattle.machine_model.specs.Operations.{action_of}
 use Rattle.machine_model.specs.Acting.{gone}
-use Rattle.machine_model.specs.Counting.{limbo_after, settled}
-use Rattle.machine_model.specs.Machine.{next, begin_denial, begin_unless, with_begin, go_denial, go_unless, go_on, went, is_spent, ripe, sweep_by, settled_after, is_taken_step}
+use Rattle.epochs.specs.Limbo.{limbo_after}
+use Rattle.epochs.specs.Sweeping.{ripe, sweep_by}
+use Rattle.machine_model.specs.Counting.{outside, settled}
+use Rattle.machine_model.specs.Machine.{next, begin_denial, begin_unless, with_begin, go_denial, go_unless, go_on, went, is_spent, pin_of, reclaimer_of, swept_with, swept, settled_after, is_taken_step, denial_of}
 use Rattle.machine_model.proofs.Frames.{acted_framed}
-use Rattle.machine_model.proofs.HeapMoves.{HeapMoves, Stays, Takes, Publishes, Restores, Decides, Frees, acted_heap}
+use Rattle.machine_model.proofs.HeapMoves.{HeapMoves, Stays, Takes, Publishes, Restores, Commit, Fail, Frees, acted_heap}
 use Rattle.machine_model.proofs.Moves.{begun_operation}
 use Rattle.plain_machine.specs.Bounds.{Applies, Leads}
 
@@ -54,34 +58,27 @@ pub heap_slots : (heap : Heap) (due : Option Ref) (after : Heap) → HeapMoves h
 heap_slots heap due after Stays = refl
 heap_slots heap due after (Takes node) = taken_slots heap node
 heap_slots heap due after (Publishes indirection replaced fresh e) = prev_slots (with_main heap indirection fresh) fresh _ ∙ main_slots heap indirection fresh
-heap_slots heap due after (Restores indirection main before e) = main_slots heap indirection before
-heap_slots heap due after (Decides indirection main before told e) = prev_slots heap main _
+heap_slots heap due after (Restores indirection main previous e) = main_slots heap indirection previous
+heap_slots heap due after (Commit indirection main previous told e) = prev_slots heap main _
+heap_slots heap due after (Fail indirection main previous told e) = prev_slots heap main _
 heap_slots heap due after (Frees r e) = freed_slots heap r
 
 -- ---- denied steps
 
-pub begin_denied : (state : State) (actor : ℕ) (call : Call) (why : Refusal) → begin_denial state actor call ≡ Some why → next state (step.Begin actor call) ≡ Err why
-unfolding next
-begin_denied state actor call why e = ap (λ d. begin_unless state actor call d) e
+sweep_denied : (state : State) (b : Bool) (why : Refusal) → (if b then Some refuse.Spent else None) ≡ Some why →
+    (if b then Err refuse.Spent else settled_after state (swept state)) ≡ Err why
+sweep_denied state true why e = ap Err (same_Some refuse.Spent why e)
+sweep_denied state false why e = absurd (none-some why e)
 
-pub go_denied : (state : State) (actor : ℕ) (why : Refusal) → go_denial state actor ≡ Some why → next state (step.Go actor) ≡ Err why
+denied : (state : State) (s : Step) (why : Refusal) → denial_of state s ≡ Some why → next state s ≡ Err why
 unfolding next
-go_denied state actor why e = ap (λ d. go_unless state actor d) e
-
-pub sweep_denied : (state : State) → is_spent state ≡ true → next state step.Sweep ≡ Err refuse.Spent
-unfolding next
-sweep_denied state e = ap (λ b. if b then Err refuse.Spent else settled_after state (sweep_by state (ripe state.epoch state.limbo))) e
+denied state (step.Begin actor call) why e = ap (λ d. begin_unless state actor call d) e
+denied state (step.Go actor) why e = ap (λ d. go_unless state actor d) e
+denied state step.Sweep why e = sweep_denied state (is_spent state) why e
 
 -- a denied step applies as such
-pub begin_refused : (state : State) (actor : ℕ) (call : Call) (why : Refusal) → begin_denial state actor call ≡ Some why →
-    Applies (Err why) state (next state (step.Begin actor call)) state
-begin_refused state actor call why e = (refl, inl (begin_denied state actor call why e))
-
-pub go_refused : (state : State) (actor : ℕ) (why : Refusal) → go_denial state actor ≡ Some why → Applies (Err why) state (next state (step.Go actor)) state
-go_refused state actor why e = (refl, inl (go_denied state actor why e))
-
-pub sweep_refused : (state : State) → is_spent state ≡ true → Applies (Err refuse.Spent) state (next state step.Sweep) state
-sweep_refused state e = (refl, inl (sweep_denied state e))
+pub refused : (state : State) (s : Step) (why : Refusal) → denial_of state s ≡ Some why → Applies (Err why) state (next state s) state
+refused state s why e = (refl, inl (denied state s why e))
 
 -- ---- steps that aren't denied
 
@@ -90,9 +87,9 @@ begin_answer : (state : State) (actor : ℕ) (call : Call) → begin_denial stat
 unfolding next
 begin_answer state actor call e = ap (λ d. begin_unless state actor call d) e
 
-sweep_answer : (state : State) → is_spent state ≡ false → next state step.Sweep ≡ settled_after state (sweep_by state (ripe state.epoch state.limbo))
+sweep_answer : (state : State) → is_spent state ≡ false → next state step.Sweep ≡ settled_after state (swept state)
 unfolding next
-sweep_answer state e = ap (λ b. if b then Err refuse.Spent else settled_after state (sweep_by state (ripe state.epoch state.limbo))) e
+sweep_answer state e = ap (λ b. if b then Err refuse.Spent else settled_after state (swept state)) e
 
 go_answer : (state : State) (actor : ℕ) (operation : Operation) → go_denial state actor ≡ None → operation_of state actor ≡ Some operation →
     next state (step.Go actor) ≡ settled_after state (went state actor operation (action_of state operation))
@@ -108,18 +105,23 @@ running_by state actor (Some operation) e d = (operation, e)
 pub running : (state : State) (actor : ℕ) → go_denial state actor ≡ None → (operation : Operation) × (operation_of state actor ≡ Some operation)
 running state actor d = running_by state actor (operation_of state actor) refl d
 
+unspent_by : (b : Bool) → (if b then Some refuse.Spent else None) ≡ None → b ≡ false
+unspent_by true d = absurd (none-some _ (sym d))
+unspent_by false d = refl
+
+-- a sweep that isn't denied
+sweep_unspent : (state : State) → denial_of state step.Sweep ≡ None → is_spent state ≡ false
+sweep_unspent state d = unspent_by (is_spent state) d
+
+-- a step that isn't denied is taken
+allowed : (state : State) (s : Step) → denial_of state s ≡ None → is_taken_step (next state s) ≡ true
+allowed state (step.Begin actor call) d = ap is_taken_step (begin_answer state actor call d)
+allowed state (step.Go actor) d = let (operation, found) = running state actor d in ap is_taken_step (go_answer state actor operation d found)
+allowed state step.Sweep d = ap is_taken_step (sweep_answer state (sweep_unspent state d))
+
 -- a step that lacks memory applies where it isn't denied
-pub begin_lacks : (state after : State) (actor : ℕ) (call : Call) → begin_denial state actor call ≡ None → after ≡ state →
-    Applies (Err refuse.Memory) state (next state (step.Begin actor call)) after
-begin_lacks state after actor call d e = (e, inr (refl, ap is_taken_step (begin_answer state actor call d)))
-
-pub go_lacks : (state after : State) (actor : ℕ) → go_denial state actor ≡ None → after ≡ state → Applies (Err refuse.Memory) state (next state (step.Go actor)) after
-go_lacks state after actor d e =
-    let (operation, found) = running state actor d in
-    (e, inr (refl, ap is_taken_step (go_answer state actor operation d found)))
-
-pub sweep_lacks : (state after : State) → is_spent state ≡ false → after ≡ state → Applies (Err refuse.Memory) state (next state step.Sweep) after
-sweep_lacks state after d e = (e, inr (refl, ap is_taken_step (sweep_answer state d)))
+pub lacks : (state after : State) (s : Step) → denial_of state s ≡ None → after ≡ state → Applies (Err refuse.Memory) state (next state s) after
+lacks state after s d e = (e, inr (refl, allowed state s d))
 
 -- ---- what they lead to
 
@@ -174,29 +176,32 @@ go_leads state after actor o d says =
       slots = sym (ap (λ x. length x.1.heap.slots) is) ∙ left.slots;
     }
 
-sweep_leaves : (state : State) (due : Option Ref) → Leaves state (sweep_by state due).1
-sweep_leaves state None = grind arith
-sweep_leaves state (Some r) = record { limbo = refl; steps = refl; slots = freed_slots state.heap r }
+sweep_leaves : (state : State) (pins : List (Option ℕ)) (due : Option Ref) → Leaves state (swept_with state (sweep_by pins (reclaimer_of state) due)).1
+sweep_leaves state pins None = grind arith
+sweep_leaves state pins (Some r) = record { limbo = refl; steps = refl; slots = freed_slots state.heap r }
 
 -- a step of the sweep that isn't denied
-pub sweep_leads : (state after : State) (o : Outcome) → is_spent state ≡ false → (o, after) ≡ sweep_by state (ripe state.epoch state.limbo) →
-    Leads state step.Sweep o after
+pub sweep_leads : (state after : State) (o : Outcome) → denial_of state step.Sweep ≡ None → (o, after) ≡ swept state → Leads state step.Sweep o after
 sweep_leads state after o d is =
-    let left = sweep_leaves state (ripe state.epoch state.limbo) in
+    let left = sweep_leaves state (map pin_of state.actors) (ripe state.epoch state.limbo) in
     record {
-      answer = sweep_answer state d ∙ ap (λ x. settled_after state x) (sym is);
+      answer = sweep_answer state (sweep_unspent state d) ∙ ap (λ x. settled_after state x) (sym is);
       limbo = ap (λ x. x.1.limbo) is ∙ left.limbo;
       steps = ap (λ x. x.1.steps) is ∙ left.steps;
       slots = ap (λ x. length x.1.heap.slots) is ∙ left.slots;
     }
+
+-- what the actor at an index has recorded
+pub pin_found : (actors : List (Option Operation)) (i : ℕ) → slice_index_or (map pin_of actors) i None ≡ pin_of (slice_index_or actors i None)
+pin_found actors i = get_or-map pin_of actors i None
 
 -- ---- the end of a step
 
 -- where a step left limbo and the count of steps, its end needs only what it led to
 settled_same : (before middle : State) → middle.limbo ≡ before.limbo → middle.steps ≡ before.steps → settled before middle ≡ settled middle middle
 settled_same before middle limbo steps =
-    ap (λ items. record middle { limbo = limbo_after (record middle { limbo = items }) middle; steps = before.steps + 1 }) (sym limbo)
-    ∙ ap (λ n. record middle { limbo = limbo_after middle middle; steps = n + 1 }) (sym steps)
+    ap (λ items. record middle { limbo = limbo_after middle.heap (outside middle) middle.epoch items; steps = before.steps + 1 }) (sym limbo)
+    ∙ ap (λ n. record middle { limbo = limbo_after middle.heap (outside middle) middle.epoch middle.limbo; steps = n + 1 }) (sym steps)
 
 -- a step that led there applies
 pub leads_applies : (before middle after : State) (s : Step) (o : Outcome) → Leads before s o middle → after ≡ settled middle middle →

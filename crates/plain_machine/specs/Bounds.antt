@@ -6,7 +6,7 @@ use Rattle.history.specs.Histories.{begun}
 use Rattle.machine_model.specs.declared.operations.Operation.{Operation}
 use Rattle.machine_model.specs.declared.steps.Outcome.{Outcome}
 use Rattle.machine_model.specs.declared.steps.Step.{Step}
-use Rattle.machine_model.specs.Heaps.{in_use}
+use Rattle.slot_arena.specs.Heaps.{in_use}
 use Rattle.machine_model.specs.States.{State, step_limit, operation_of}
 use Rattle.machine_model.specs.Counting.{settled}
 use Rattle.machine_model.specs.Machine.{Answer, next, run, is_taken_step, AreLimits}
@@ -24,7 +24,6 @@ pub record IsBounded (state : State) : Type 0 where
   pub births : state.heap.births ≤ state.steps + 2
   pub generations : state.generations ≤ state.steps + 1
   pub epoch : state.epoch ≤ state.steps
-  pub cursor : state.cursor ≤ state.limits.actors + 1
   pub attempts : (actor : ℕ) (operation : Operation) → operation_of state actor ≡ Some operation → operation.attempt ≤ state.steps
   pub begins : begun state.events ≤ state.steps
   -- a slot is in use or free, and those of limbo are in use

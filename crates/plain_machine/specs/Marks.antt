@@ -1,11 +1,12 @@
 -- Marks: for each slot, whether a reference to what stands there was found.
-use Rattle.std.specs.Prelude.{ℕ, ◌==◌, ◌&&◌, Bool, true, false, not, List, [], ◌∷◌, Option, Some, None, slice_index_or, slice_set, replicate, length, map, if◌then◌else◌}
+use Rattle.std.specs.Prelude.{ℕ, ◌==◌, ◌&&◌, Bool, true, false, not, List, [], ◌∷◌, ◌++◌, Option, Some, None, slice_index_or, slice_set, replicate, length, map, if◌then◌else◌}
 use Rattle.slot_arena.specs.Refs.{slot_of, birth_of}
 use Rattle.slot_arena.specs.declared.refs.Ref.{Ref}
-use Rattle.machine_model.specs.declared.heaps.Slot.{Slot}
-use Rattle.machine_model.specs.declared.heaps.Zeroed.{Zeroed}
+use Rattle.slot_arena.specs.declared.nodes.Slot.{Slot}
+use Rattle.epochs.specs.declared.limbo.Zeroed.{Zeroed}
 use Rattle.machine_model.specs.States.{State}
-use Rattle.machine_model.specs.Counting.{counted_refs}
+use Rattle.slot_arena.specs.Heaps.{heap_refs}
+use Rattle.machine_model.specs.Counting.{outside}
 
 abbrev pub has_birth : ℕ → Option Slot → Bool
 has_birth birth None = false
@@ -27,6 +28,10 @@ all_marked slots marks (r ∷ rs) = all_marked slots (marked slots marks r) rs
 -- the reference names what stands in its slot, and that has no mark
 abbrev pub is_unmarked : List (Option Slot) → List Bool → Ref → Bool
 is_unmarked slots marks r = stands slots r && not (slice_index_or marks (slot_of r) false)
+
+-- the references that count: those that stand in slots in use, and those that are held from outside
+abbrev pub counted_refs : State → List Ref
+counted_refs state = heap_refs state.heap ++ outside state
 
 -- the slots to which a reference counts
 abbrev pub counted_marks : State → List Bool

@@ -1,27 +1,25 @@
 //! How an operation begins.
 
-ghost use Rattle.std.specs.Prelude.{◌≡◌, ◌≤◌, ◌<◌, ◌-◌, vec_len, slice_set, vec_capacity, Some, None, if◌then◌else◌};
+ghost use Rattle.std.specs.Prelude.{◌≡◌, ◌≤◌, ◌<◌, vec_len, vec_capacity, unwrap_or, Some, None, if◌then◌else◌};
 ghost use Rattle.history.specs.Histories.{begun};
 ghost use Rattle.machine_model.specs.States.{root_at};
 ghost use Rattle.machine_model.specs.Calls.{handle_of, opens_handle};
-ghost use Rattle.machine_model.specs.Machine.{access_of, unwrapped, new_operation, handle_closed, with_begin, least_free};
+ghost use Rattle.machine_model.specs.Machine.{access_of, new_operation, handle_closed, with_begin, least_free};
 ghost use Rattle.plain_state.specs.Seen.{seen};
 
 use crate::handles::least_free;
 use history::{Access, Call, Event};
-use machine_model::{Operation, Refs, Root};
+use machine_model::Operation;
 use plain_operations::{first_line, on_time};
 use plain_reading::{handle_of, is_close, opens_handle};
-use plain_state::Parts;
+use plain_state::{Parts, set_operation, set_root};
+use slot_arena::Refs;
 
 /// The access of an open handle.
 fn access_for(parts: &Parts, call: Call) -> Access
-    ensures { result ≡ unwrapped (access_of (root_at (seen parts.now) (handle_of call))) }
+    ensures { result ≡ unwrap_or (access_of (root_at (seen parts.now) (handle_of call))) Access.Writable }
 {
-    match parts.access(handle_of(call)) {
-        None => Access::Writable,
-        Some(access) => access,
-    }
+    parts.access(handle_of(call)).unwrap_or(Access::Writable)
 }
 
 /// The handle that a call opens, if it opens one.
@@ -38,7 +36,7 @@ fn handle_to_open(parts: &Parts, call: Call) -> Option<u16>
 /// The operation of a new begin; as many operations have begun before it as its id says.
 pub fn new_operation(parts: &Parts, call: Call, id: u64) -> Operation
     requires { id ≡ begun (seen parts.now).events }
-    ensures { result ≡ new_operation (seen parts.now) call (unwrapped (access_of (root_at (seen parts.now) (handle_of call)))) }
+    ensures { result ≡ new_operation (seen parts.now) call (unwrap_or (access_of (root_at (seen parts.now) (handle_of call))) Access.Writable) }
 {
     Operation {
         id,
@@ -49,32 +47,10 @@ pub fn new_operation(parts: &Parts, call: Call, id: u64) -> Operation
         opens: handle_to_open(parts, call),
         attempt: 0,
         is_marked: false,
-        generation: 0,
+        generation: None,
         read_at: 0,
         moment: 0,
         line: first_line(call),
-    }
-}
-
-/// Lets the number name nothing.
-#[tactic(auto, using(plain_state::proofs::Written::unwritten))]
-fn take_away(roots: &mut Vec<Option<Root>>, handle: u16)
-    ensures { roots.new.items ≡ slice_set roots.old.items handle None }
-{
-    if let Some(place) = roots.get_mut(handle as usize) {
-        *place = None;
-    }
-}
-
-/// Lets the actor, counted from 1, run this operation.
-#[tactic(auto, using(plain_state::proofs::Written::unwritten))]
-fn run(actors: &mut Vec<Option<Operation>>, actor: u8, operation: Operation)
-    requires { 1 ≤ actor }
-    ensures { actors.new.items ≡ slice_set actors.old.items (actor - 1) (Some operation) }
-{
-    let index = actor as usize - 1;
-    if let Some(place) = actors.get_mut(index) {
-        *place = Some(operation);
     }
 }
 
@@ -86,7 +62,7 @@ fn close_handle(parts: &mut Parts, call: Call, id: u64)
     ensures limbo { parts.new.limbo ≡ parts.old.limbo }
 {
     if is_close(call) {
-        take_away(&mut parts.roots, handle_of(call));
+        set_root(&mut parts.roots, handle_of(call), None);
         let _ = parts.places.push(on_time(parts.steps, false, id));
     }
 }
@@ -106,5 +82,5 @@ pub fn begin_operation(parts: &mut Parts, actor: u8, call: Call, operation: Oper
         call,
         opens: operation.opens,
     });
-    run(&mut parts.actors, actor, operation);
+    set_operation(&mut parts.actors, actor, Some(operation));
 }

@@ -2,15 +2,14 @@
 
 ghost use Rattle.std.specs.Prelude.{◌≡◌, ◌≤◌, ◌++◌, length, IfOk, OnOk};
 ghost use Rattle.std.specs.List.{flat_map};
-ghost use Rattle.machine_model.specs.Heaps.{named_from, entries_of, node_at, logical_main};
+ghost use Rattle.slot_arena.specs.Heaps.{named_from, entries_of, node_at, logical_main};
 ghost use Rattle.machine_model.specs.Contents.{pairs_below, content_at};
 ghost use Rattle.plain_state.specs.Seen.{seen};
 
 use history::Pairs;
-use machine_model::Slot;
 use plain_lines::pairs_by_key;
 use plain_state::{Parts, PlainHeap, root_of};
-use slot_arena::{Node, Ref};
+use slot_arena::{Node, Ref, Slot};
 use std::alloc::AllocError;
 
 /// A root, 13 levels of indirections below it, and the singles.
@@ -65,8 +64,8 @@ fn gather_each(
 ) -> Result<(), AllocError>
     ensures { OnOk result (pairs.new.items ≡ pairs.old.items ++ flat_map (pairs_below levels heap.now) (entries_of (node_at heap.now main))) }
 {
-    for position in 0..heap.entry_count(main) {
-        gather(pairs, levels, heap, heap.entry(main, position))?;
+    for entry in heap.entries(main) {
+        gather(pairs, levels, heap, *entry)?;
     }
     Ok(())
 }

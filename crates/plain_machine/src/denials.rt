@@ -2,13 +2,14 @@
 
 ghost use Rattle.std.specs.Prelude.{◌≡◌};
 ghost use Rattle.machine_model.specs.Machine.{is_spent, is_access, begin_denial, go_denial, denial_of};
-ghost use Rattle.machine_model.specs.declared.steps.Step.TheVariants as Step;
+ghost use Rattle.machine_model.specs.declared.steps.Step.TheVariants as steps;
 ghost use Rattle.plain_state.specs.Seen.{seen};
 
 use crate::actors::{is_actor, is_running, runs_on};
 use crate::handles::{HANDLE_LIMIT, handles_taken};
 use ctrie_base::Refusal;
 use history::{Access, Call};
+use machine_model::Step;
 use plain_reading::{handle_of, is_close, needs_read_only, needs_writable, opens_handle};
 use plain_state::Parts;
 
@@ -16,7 +17,7 @@ use plain_state::Parts;
 const STEP_LIMIT: u64 = 1 << 40;
 
 /// Whether the machine has taken all its steps.
-pub fn is_spent(parts: &Parts) -> bool
+fn is_spent(parts: &Parts) -> bool
     ensures { result ≡ is_spent (seen parts.now) }
 {
     STEP_LIMIT <= parts.steps
@@ -35,7 +36,7 @@ pub fn is_access(access: Access, found: Option<Access>) -> bool
 }
 
 /// Why a begin is denied, if it is.
-pub fn begin_denial(parts: &Parts, actor: u8, call: Call) -> Option<Refusal>
+fn begin_denial(parts: &Parts, actor: u8, call: Call) -> Option<Refusal>
     ensures { result ≡ begin_denial (seen parts.now) actor call }
 {
     let handle = handle_of(call);
@@ -62,7 +63,7 @@ pub fn begin_denial(parts: &Parts, actor: u8, call: Call) -> Option<Refusal>
 }
 
 /// Why a step of an actor's operation is denied, if it is.
-pub fn go_denial(parts: &Parts, actor: u8) -> Option<Refusal>
+fn go_denial(parts: &Parts, actor: u8) -> Option<Refusal>
     ensures { result ≡ go_denial (seen parts.now) actor }
 {
     if !is_actor(parts, actor) {
@@ -76,9 +77,20 @@ pub fn go_denial(parts: &Parts, actor: u8) -> Option<Refusal>
     }
 }
 
+/// Why the step is denied, if it is.
+pub fn denial_of(parts: &Parts, step: Step) -> Option<Refusal>
+    ensures { result ≡ denial_of (seen parts.now) step }
+{
+    match step {
+        Step::Begin { actor, call } => begin_denial(parts, actor, call),
+        Step::Go { actor } => go_denial(parts, actor),
+        Step::Sweep => sweep_denial(parts),
+    }
+}
+
 /// Why a step of the sweep is denied, if it is.
-pub fn sweep_denial(parts: &Parts) -> Option<Refusal>
-    ensures { result ≡ denial_of (seen parts.now) Step.Sweep }
+fn sweep_denial(parts: &Parts) -> Option<Refusal>
+    ensures { result ≡ denial_of (seen parts.now) steps.Sweep }
 {
     if is_spent(parts) {
         Some(Refusal::Spent)

@@ -1,7 +1,7 @@
 //! The plain machine as one value.
 
 ghost use Rattle.std.specs.Prelude.{◌≡◌, length, option_map, Some, IsSome, IfOk, IfErr, OnOk, IsOkUnless};
-ghost use Rattle.machine_model.specs.Heaps.{in_use};
+ghost use Rattle.slot_arena.specs.Heaps.{in_use};
 ghost use Rattle.machine_model.specs.States.{first_state, root_at};
 ghost use Rattle.machine_model.specs.Orders.{order_of};
 ghost use Rattle.machine_model.specs.Contents.{content_at};
@@ -11,11 +11,11 @@ ghost use Rattle.machine_model.specs.Refusing.{RefusesLimits, RefusesContent};
 
 use crate::actors::{is_running, runs_on};
 use crate::contents::{content_of, used};
-use crate::denials::{begin_denial, go_denial, is_access, sweep_denial};
+use crate::denials::{denial_of, is_access};
 use crate::handles::handles_taken;
 use crate::limbo::Scratch;
 use crate::starting::{are_limits, first_parts};
-use crate::stepping::{begin, go, sweep};
+use crate::stepping::take_step;
 use ctrie_base::{Kind, Refusal};
 use history::{Access, Event, Pairs};
 use machine_model::{Limits, Outcome, Step};
@@ -71,31 +71,22 @@ impl Plain {
     pub fn apply(&mut self, step: Step) -> Result<Outcome, Refusal>
         ensures { Applies result self.old (next self.old step) self.new }
     {
-        match step {
-            Step::Begin { actor, call } => {
-                let id = self.next_id;
-                let outcome = begin(&mut self.parts, &mut self.scratch, actor, call, id)?;
-                self.next_id += 1;
-                Ok(outcome)
-            }
-            Step::Go { actor } => go(&mut self.parts, &mut self.scratch, actor),
-            Step::Sweep => sweep(&mut self.parts, &mut self.scratch),
+        let outcome = take_step(&mut self.parts, &mut self.scratch, step, self.next_id)?;
+        if let Step::Begin { .. } = step {
+            self.next_id += 1;
         }
+        Ok(outcome)
     }
 
     /// Why the step is denied, where it is. `apply` answers the same.
     pub fn denial(&self, step: Step) -> Option<Refusal>
         ensures { result ≡ denial_of self.now step }
     {
-        match step {
-            Step::Begin { actor, call } => begin_denial(&self.parts, actor, call),
-            Step::Go { actor } => go_denial(&self.parts, actor),
-            Step::Sweep => sweep_denial(&self.parts),
-        }
+        denial_of(&self.parts, step)
     }
 
     /// The order: the ids of operations by rising place. `Memory` is the only refusal.
-    #[tactic(auto, unfolding(machine_model::specs::Orders::order_of))]
+    #[tactic(auto, unfolding(places::specs::Places::ids_by_place))]
     pub fn order(&self) -> Result<Vec<u64>, Refusal>
         ensures exact { IfOk result (λ order. order.items ≡ order_of self.now) }
         ensures only_memory { IsOkUnless result Refusal.Memory }

@@ -1,14 +1,15 @@
 //! Marking the slots to which something refers.
 
 ghost use Rattle.std.specs.Prelude.{◌≡◌, flat_map, map};
-ghost use Rattle.machine_model.specs.Heaps.{refs_of_node, refs_of_prev, refs_of_slot};
-ghost use Rattle.machine_model.specs.Counting.{refs_of_word, refs_of_root, refs_of_operation, counted_refs};
+ghost use Rattle.slot_arena.specs.Heaps.{refs_of_node, refs_of_prev, refs_of_slot};
+ghost use Rattle.machine_model.specs.Counting.{refs_of_word, refs_of_root, refs_of_operation};
 ghost use Rattle.plain_state.specs.Seen.{seen};
-ghost use Rattle.plain_machine.specs.Marks.{stands, marked, all_marked, is_unmarked};
+ghost use Rattle.plain_machine.specs.Marks.{stands, marked, all_marked, is_unmarked, counted_refs};
 
-use machine_model::{Operation, Root, RootWord, Slot, Zeroed};
+use epochs::Zeroed;
+use machine_model::{Operation, Root, RootWord};
 use plain_state::Parts;
-use slot_arena::{Node, Prev, Ref};
+use slot_arena::{Node, Prev, Ref, Slot};
 
 /// Whether the reference names what stands in its slot.
 pub fn stands(slots: &[Option<Slot>], at: Ref) -> bool
@@ -70,7 +71,7 @@ fn mark_prev(marks: &mut Vec<bool>, slots: &[Option<Slot>], prev: Prev)
 {
     match prev {
         Prev::None => {}
-        Prev::Pending(before) | Prev::Failed(before) => mark(marks, slots, before),
+        Prev::Pending(previous) | Prev::Failed(previous) => mark(marks, slots, previous),
     }
 }
 
@@ -103,9 +104,9 @@ fn mark_word(marks: &mut Vec<bool>, slots: &[Option<Slot>], word: RootWord)
     match word {
         RootWord::Plain(root) => mark(marks, slots, root),
         RootWord::Offer(offer) => {
-            mark(marks, slots, offer.current);
+            mark(marks, slots, offer.root);
             mark(marks, slots, offer.expected);
-            mark(marks, slots, offer.fresh);
+            mark(marks, slots, offer.successor);
             if let Some(second) = offer.second {
                 mark(marks, slots, second);
             }

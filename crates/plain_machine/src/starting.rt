@@ -78,7 +78,7 @@ pub fn first_parts(alloc: Global, limits: Limits) -> Result<Parts, AllocError>
         cursor: 1,
         roots: first_roots(alloc)?,
         actors: idle_actors(alloc, limits.actors)?,
-        commits: vec![in alloc; 0; limits.slots as usize]?,
+        commits: Vec::new(alloc),
         closings: Vec::new(alloc),
         places: Vec::new(alloc),
         events: Vec::new(alloc),

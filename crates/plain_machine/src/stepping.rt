@@ -1,71 +1,41 @@
-//! The steps: a begin, a step of an actor's operation, and a step of the sweep.
+//! A step: a begin, a step of an actor's operation, or a step of the sweep.
 
-ghost use Rattle.std.specs.Prelude.{◌≡◌, ◌+◌, ◌<◌, ◌≤◌, length, vec_len, vec_capacity, None, false, IfOk, OnOk, OnErr};
+ghost use Rattle.std.specs.Prelude.{◌≡◌, ◌+◌, ◌<◌, ◌≤◌, length, vec_len, vec_capacity, None, IfOk, OnOk, OnErr};
 ghost use Rattle.history.specs.Histories.{begun};
-ghost use Rattle.machine_model.specs.declared.steps.Step.TheVariants as step;
-ghost use Rattle.machine_model.specs.Machine.{next, begin_denial, go_denial, is_spent};
+ghost use Rattle.machine_model.specs.declared.steps.Step.TheVariants as steps;
+ghost use Rattle.machine_model.specs.Machine.{next, denial_of};
 ghost use Rattle.plain_state.specs.Seen.{seen};
 ghost use Rattle.plain_machine.specs.Bounds.{IsBounded, Applies, Leads};
 
 use crate::beginning::{begin_operation, new_operation};
-use crate::denials::{begin_denial, go_denial, is_spent};
+use crate::denials::denial_of;
 use crate::limbo::{Scratch, settle};
 use crate::sweeping::sweep_once;
 use ctrie_base::Refusal;
 use history::Call;
-use machine_model::Outcome;
+use machine_model::{Outcome, Step};
 use plain_operations::go_on;
 use plain_state::Parts;
 use std::alloc::AllocError;
 
-/// A step that begins an operation of this id, which is the number of begins so far.
-#[tactic(auto, using(crate::proofs::Steps::begin_refused, crate::proofs::Steps::begin_lacks, crate::proofs::Steps::leads_applies))]
-pub fn begin(
+/// Takes a step, or refuses it. A begin's operation gets this id, which is the number of begins so far. After
+/// a refusal nothing has changed.
+#[tactic(auto, using(crate::proofs::Steps::refused, crate::proofs::Steps::lacks, crate::proofs::Steps::leads_applies))]
+pub fn take_step(
     parts: &mut Parts,
     scratch: &mut Scratch,
-    actor: u8,
-    call: Call,
+    step: Step,
     id: u64,
 ) -> Result<Outcome, Refusal>
     requires bounds { IsBounded (seen parts.old) }
     requires id { id ≡ begun (seen parts.old).events }
-    ensures { Applies result (seen parts.old) (next (seen parts.old) (step.Begin actor call)) (seen parts.new) }
+    ensures { Applies result (seen parts.old) (next (seen parts.old) step) (seen parts.new) }
 {
-    if let Some(refusal) = begin_denial(parts, actor, call) {
+    if let Some(refusal) = denial_of(parts, step) {
         return Err(refusal);
     }
     make_room(parts, scratch)?;
-    let outcome = begin_allowed(parts, actor, call, id);
-    settle(parts, scratch);
-    Ok(outcome)
-}
-
-/// The next step of the actor's operation.
-#[tactic(auto, using(crate::proofs::Steps::go_refused, crate::proofs::Steps::go_lacks, crate::proofs::Steps::leads_applies))]
-pub fn go(parts: &mut Parts, scratch: &mut Scratch, actor: u8) -> Result<Outcome, Refusal>
-    requires { IsBounded (seen parts.old) }
-    ensures { Applies result (seen parts.old) (next (seen parts.old) (step.Go actor)) (seen parts.new) }
-{
-    if let Some(refusal) = go_denial(parts, actor) {
-        return Err(refusal);
-    }
-    make_room(parts, scratch)?;
-    let outcome = go_allowed(parts, actor)?;
-    settle(parts, scratch);
-    Ok(outcome)
-}
-
-/// A step of the sweep.
-#[tactic(auto, using(crate::proofs::Steps::sweep_refused, crate::proofs::Steps::sweep_lacks, crate::proofs::Steps::leads_applies))]
-pub fn sweep(parts: &mut Parts, scratch: &mut Scratch) -> Result<Outcome, Refusal>
-    requires { IsBounded (seen parts.old) }
-    ensures { Applies result (seen parts.old) (next (seen parts.old) step.Sweep) (seen parts.new) }
-{
-    if is_spent(parts) {
-        return Err(Refusal::Spent);
-    }
-    make_room(parts, scratch)?;
-    let outcome = sweep_allowed(parts)?;
+    let outcome = take_allowed(parts, step, id)?;
     settle(parts, scratch);
     Ok(outcome)
 }
@@ -86,43 +56,36 @@ fn make_room(parts: &mut Parts, scratch: &mut Scratch) -> Result<(), AllocError>
     parts.events.reserve(1)
 }
 
-/// A begin that isn't denied, but for what every step does at its end.
-#[tactic(auto, using(crate::proofs::Steps::begin_leads))]
-fn begin_allowed(parts: &mut Parts, actor: u8, call: Call, id: u64) -> Outcome
-    requires allowed { begin_denial (seen parts.old) actor call ≡ None }
+/// A step that isn't denied, but for what every step does at its end. After an error nothing has changed.
+#[tactic(auto, using(crate::proofs::Steps::go_leads, crate::proofs::Steps::sweep_leads))]
+fn take_allowed(parts: &mut Parts, step: Step, id: u64) -> Result<Outcome, AllocError>
+    requires bounds { IsBounded (seen parts.old) }
+    requires allowed { denial_of (seen parts.old) step ≡ None }
     requires id { id ≡ begun (seen parts.old).events }
     requires places { vec_len parts.old.places < vec_capacity parts.old.places }
     requires events { vec_len parts.old.events < vec_capacity parts.old.events }
-    ensures leads { Leads (seen parts.old) (step.Begin actor call) result (seen parts.new) }
+    ensures leads { IfOk result (λ outcome. Leads (seen parts.old) step outcome (seen parts.new)) }
+    ensures err { OnErr result (seen parts.new ≡ seen parts.old) }
+    ensures limbo { parts.new.limbo ≡ parts.old.limbo }
+{
+    match step {
+        Step::Begin { actor, call } => Ok(begin(parts, actor, call, id)),
+        Step::Go { actor } => go_on(parts, actor),
+        Step::Sweep => sweep_once(parts),
+    }
+}
+
+/// A begin that isn't denied, but for what every step does at its end.
+#[tactic(auto, using(crate::proofs::Steps::begin_leads))]
+fn begin(parts: &mut Parts, actor: u8, call: Call, id: u64) -> Outcome
+    requires allowed { denial_of (seen parts.old) (steps.Begin actor call) ≡ None }
+    requires id { id ≡ begun (seen parts.old).events }
+    requires places { vec_len parts.old.places < vec_capacity parts.old.places }
+    requires events { vec_len parts.old.events < vec_capacity parts.old.events }
+    ensures leads { Leads (seen parts.old) (steps.Begin actor call) result (seen parts.new) }
     ensures limbo { parts.new.limbo ≡ parts.old.limbo }
 {
     let operation = new_operation(parts, call, id);
     begin_operation(parts, actor, call, operation);
     Outcome::Began(id)
-}
-
-/// A step of an actor's operation that isn't denied, but for what every step does at its end. After an error
-/// nothing has changed.
-#[tactic(auto, using(crate::proofs::Steps::go_leads))]
-fn go_allowed(parts: &mut Parts, actor: u8) -> Result<Outcome, AllocError>
-    requires bounds { IsBounded (seen parts.old) }
-    requires allowed { go_denial (seen parts.old) actor ≡ None }
-    ensures leads { IfOk result (λ outcome. Leads (seen parts.old) (step.Go actor) outcome (seen parts.new)) }
-    ensures err { OnErr result (seen parts.new ≡ seen parts.old) }
-    ensures limbo { parts.new.limbo ≡ parts.old.limbo }
-{
-    go_on(parts, actor)
-}
-
-/// A step of the sweep that isn't denied, but for what every step does at its end. After an error nothing
-/// has changed.
-#[tactic(auto, using(crate::proofs::Steps::sweep_leads))]
-fn sweep_allowed(parts: &mut Parts) -> Result<Outcome, AllocError>
-    requires bounds { IsBounded (seen parts.old) }
-    requires allowed { is_spent (seen parts.old) ≡ false }
-    ensures leads { IfOk result (λ outcome. Leads (seen parts.old) step.Sweep outcome (seen parts.new)) }
-    ensures err { OnErr result (seen parts.new ≡ seen parts.old) }
-    ensures limbo { parts.new.limbo ≡ parts.old.limbo }
-{
-    sweep_once(parts)
 }

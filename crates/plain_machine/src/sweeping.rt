@@ -1,12 +1,12 @@
 //! A step of the sweep: it frees a slot, or reads an actor's epoch, or lets the epoch grow.
 
-ghost use Rattle.std.specs.Prelude.{◌≡◌, ◌≤◌, ◌<◌, ◌^◌, OnErr, IfOk};
-ghost use Rattle.std.specs.Option.{option_copied};
-ghost use Rattle.machine_model.specs.Machine.{ripe, is_passed, scanned, advanced, sweep_by};
-ghost use Rattle.machine_model.specs.States.{operation_of};
+ghost use Rattle.std.specs.Prelude.{◌≡◌, ◌≤◌, ◌<◌, ◌-◌, ◌^◌, map, slice_index_or, None, OnErr, IfOk, vec_len};
+ghost use Rattle.epochs.specs.Sweeping.{ripe, is_passed, scanned, advanced};
+ghost use Rattle.machine_model.specs.Machine.{pin_of, reclaimer_of, swept_with, swept};
 ghost use Rattle.plain_state.specs.Seen.{seen};
 
-use machine_model::{Operation, Outcome, Swept, Zeroed};
+use epochs::{Swept, Zeroed};
+use machine_model::{Operation, Outcome};
 use plain_state::Parts;
 use slot_arena::Ref;
 use std::alloc::AllocError;
@@ -23,23 +23,31 @@ fn ripe(epoch: u64, limbo: &[Zeroed]) -> Option<Ref>
     }
 }
 
-/// Whether the actor runs no operation that began in another epoch.
-fn is_passed(epoch: u64, operation: Option<&Operation>) -> bool
-    ensures { result ≡ is_passed epoch (option_copied operation.entry) }
+/// The epoch that the actor at the cursor has recorded, if it has.
+#[tactic(auto, using(crate::proofs::Steps::pin_found))]
+fn pin_at(actors: &[Option<Operation>], cursor: u64) -> Option<u64>
+    ensures { result ≡ slice_index_or (map pin_of actors.now) (cursor - 1) None }
 {
-    match operation {
+    let index = cursor.saturating_sub(1) as usize;
+    Some(actors.get(index)?.as_ref()?.epoch)
+}
+
+/// Whether an actor passes that has recorded this.
+fn is_passed(epoch: u64, recorded: Option<u64>) -> bool
+    ensures { result ≡ is_passed epoch recorded }
+{
+    match recorded {
         None => true,
-        Some(operation) => operation.epoch == epoch,
+        Some(recorded) => recorded == epoch,
     }
 }
 
 /// Reads the record of the actor at the cursor, and goes on if it is passed.
-fn scan(parts: &mut Parts) -> Outcome
-    requires { parts.old.cursor ≤ parts.old.limits.actors }
-    ensures scanned { (result, seen parts.new) ≡ scanned (seen parts.old) (is_passed parts.old.epoch (operation_of (seen parts.old) parts.old.cursor)) }
+fn scan(parts: &mut Parts, passed: bool) -> Outcome
+    requires { parts.old.cursor ≤ vec_len parts.old.actors }
+    ensures scanned { (result, seen parts.new) ≡ swept_with (seen parts.old) (scanned (reclaimer_of (seen parts.old)) passed) }
     ensures limbo { parts.new.limbo ≡ parts.old.limbo }
 {
-    let passed = is_passed(parts.epoch, parts.operation(parts.cursor as u8));
     if passed {
         parts.cursor += 1;
     }
@@ -49,7 +57,7 @@ fn scan(parts: &mut Parts) -> Outcome
 /// All actors were passed: the epoch grows.
 fn advance(parts: &mut Parts) -> Outcome
     requires { parts.old.epoch < 2 ^ 63 }
-    ensures advanced { (result, seen parts.new) ≡ advanced (seen parts.old) }
+    ensures advanced { (result, seen parts.new) ≡ swept_with (seen parts.old) (advanced (reclaimer_of (seen parts.old))) }
     ensures limbo { parts.new.limbo ≡ parts.old.limbo }
 {
     parts.epoch += 1;
@@ -60,7 +68,7 @@ fn advance(parts: &mut Parts) -> Outcome
 /// What a step of the sweep does, but for what every step does at its end. After an error nothing has changed.
 pub fn sweep_once(parts: &mut Parts) -> Result<Outcome, AllocError>
     requires { parts.old.epoch < 2 ^ 63 }
-    ensures ok { IfOk result (λ outcome. (outcome, seen parts.new) ≡ sweep_by (seen parts.old) (ripe parts.old.epoch parts.old.limbo.items)) }
+    ensures ok { IfOk result (λ outcome. (outcome, seen parts.new) ≡ swept (seen parts.old)) }
     ensures err { OnErr result (seen parts.new ≡ seen parts.old) }
     ensures limbo { parts.new.limbo ≡ parts.old.limbo }
 {
@@ -68,8 +76,10 @@ pub fn sweep_once(parts: &mut Parts) -> Result<Outcome, AllocError>
         parts.heap.release(at)?;
         return Ok(Outcome::Swept(Swept::Freed));
     }
-    if parts.cursor <= u64::from(parts.limits.actors) {
-        Ok(scan(parts))
+    if parts.cursor <= parts.actors.len() as u64 {
+        let recorded = pin_at(parts.actors.as_slice(), parts.cursor);
+        let passed = is_passed(parts.epoch, recorded);
+        Ok(scan(parts, passed))
     } else {
         Ok(advance(parts))
     }

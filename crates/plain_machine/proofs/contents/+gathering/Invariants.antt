@@ -1,6 +1,6 @@
 use Rattle.std.proofs.Common.{◌≡◌, ◌+◌, ◌*◌, ◌++◌, drop}
 use Rattle.std.specs.List.{flat_map}
-use Rattle.machine_model.specs.Heaps.{entries_of, node_at}
+use Rattle.slot_arena.specs.Heaps.{entries_of, node_at}
 use Rattle.machine_model.specs.Contents.{pairs_below}
 use Rattle.plain_machine.proofs.contents.+gathering.Given as goal
 
@@ -10,7 +10,7 @@ decreases-gather l = 2 * l.levels
 abbrev pub decreases-gather_each : goal.decreases-gather_each
 decreases-gather_each l = 2 * l.levels + 1
 
-abbrev pub invariant-gather_each-loop-position : goal.invariant-gather_each-loop-position
-invariant-gather_each-loop-position l =
-    l.pairs.items ++ flat_map (pairs_below l.levels l.heap) (drop l.position (entries_of (node_at l.heap l.main)))
-    ≡ l.initial.pairs.items ++ flat_map (pairs_below l.levels l.heap) (entries_of (node_at l.heap l.main))
+abbrev pub invariant-gather_each-loop-entry : goal.invariant-gather_each-loop-entry
+invariant-gather_each-loop-entry l =
+    l.pairs.items ++ flat_map (pairs_below l.levels l.heap) (drop l.entry-index (entries_of (node_at l.heap l.fn.main)))
+    ≡ l.initial.pairs.items ++ flat_map (pairs_below l.levels l.heap) (entries_of (node_at l.heap l.fn.main))

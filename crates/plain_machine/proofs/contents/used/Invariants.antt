@@ -1,5 +1,5 @@
 use Rattle.std.proofs.Common.{◌≡◌, ◌+◌, ◌≤◌, length, drop}
-use Rattle.machine_model.specs.Heaps.{named_from}
+use Rattle.slot_arena.specs.Heaps.{named_from}
 use Rattle.plain_machine.proofs.contents.used.Given as goal
 
 abbrev pub invariant-loop-slot : goal.invariant-loop-slot

@@ -1,5 +1,5 @@
 use Rattle.std.proofs.Common.{◌+◌, ap, sym, ◌∙◌, map, drop}
-use Rattle.machine_model.specs.declared.heaps.Zeroed.{Zeroed}
+use Rattle.epochs.specs.declared.limbo.Zeroed.{Zeroed}
 use Rattle.plain_machine.specs.Marks.{all_marked}
 use Rattle.plain_machine.proofs.Marking.{rest_map_marked}
 use Rattle.plain_machine.proofs.marks.mark_limbo.Goals as goal

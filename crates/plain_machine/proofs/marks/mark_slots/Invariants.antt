@@ -1,6 +1,6 @@
 use Rattle.std.proofs.Common.{◌≡◌, drop}
 use Rattle.std.specs.List.{flat_map}
-use Rattle.machine_model.specs.Heaps.{refs_of_slot}
+use Rattle.slot_arena.specs.Heaps.{refs_of_slot}
 use Rattle.plain_machine.specs.Marks.{all_marked}
 use Rattle.plain_machine.proofs.marks.mark_slots.Given as goal
 
