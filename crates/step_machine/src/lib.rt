@@ -5,8 +5,9 @@ mod callers;
 mod machine;
 mod records;
 
+pub use epochs::Swept;
 pub use machine::Machine;
-pub use machine_model::{Limits, Outcome, Step, Swept};
+pub use machine_model::{Limits, Outcome, Step};
 pub use records::{Record, run};
 
 #[cfg(test)]

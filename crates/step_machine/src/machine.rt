@@ -6,7 +6,7 @@ ghost use Rattle.history.specs.declared.calls.Access.TheVariants.{ReadOnly};
 ghost use Rattle.history.specs.declared.replies.Reply.TheVariants.{NoSlots};
 ghost use Rattle.machine_model.specs.declared.operations.Operation.{Operation};
 ghost use Rattle.machine_model.specs.States.{root_at, operation_of};
-ghost use Rattle.machine_model.specs.Heaps.{in_use};
+ghost use Rattle.slot_arena.specs.Heaps.{in_use};
 ghost use Rattle.machine_model.specs.Orders.{order_of};
 ghost use Rattle.machine_model.specs.Contents.{content_at};
 ghost use Rattle.machine_model.specs.Machine.{AreLimits, is_running, is_busy, runs_on, next_kind, handles_taken, is_access, access_of};
