@@ -8,7 +8,7 @@ use Rattle.ctrie_base.specs.Refusals.{number_of, name_of}
 use Rattle.ctrie_base.specs.Hashes as hashes
 use Rattle.history.specs.declared.events.Event.{Event}
 use Rattle.history_text.specs.Texts.{spaced, event_text, order_text}
-use Rattle.machine_model.specs.Heaps.{in_use}
+use Rattle.slot_arena.specs.Heaps.{in_use}
 use Rattle.machine_model.specs.States.{State, first_state}
 use Rattle.machine_model.specs.Orders.{order_of}
 use Rattle.machine_model.specs.Machine.{run}

@@ -11,11 +11,6 @@ pub none_marked : (slots : List (Option Slot)) (marks : List Bool) → all_marke
 unfolding all_marked
 none_marked slots marks = refl
 
--- marking one
-pub one_marked : (slots : List (Option Slot)) (marks : List Bool) (r : Ref) → all_marked slots marks (r ∷ []) ≡ marked slots marks r
-unfolding all_marked
-one_marked slots marks r = refl
-
 -- marking one and then the others
 pub first_marked : (slots : List (Option Slot)) (marks : List Bool) (r : Ref) (rs : List Ref) →
     all_marked slots marks (r ∷ rs) ≡ all_marked slots (marked slots marks r) rs

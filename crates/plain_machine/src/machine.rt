@@ -6,7 +6,7 @@ ghost use Rattle.machine_model.specs.States.{first_state, root_at};
 ghost use Rattle.machine_model.specs.Orders.{order_of};
 ghost use Rattle.machine_model.specs.Contents.{content_at};
 ghost use Rattle.machine_model.specs.Machine.{next, is_running, is_busy, next_kind, runs_on, denial_of, is_access, access_of, handles_taken, AreLimits};
-ghost use Rattle.plain_machine.specs.Bounds.{Applies, IsOfRun};
+ghost use Rattle.plain_machine.specs.Bounds.{Applies};
 ghost use Rattle.machine_model.specs.Refusing.{RefusesLimits, RefusesContent};
 
 use crate::actors::{is_running, runs_on};
@@ -202,13 +202,6 @@ impl Plain {
         ensures { result ≡ self.now.steps }
     {
         self.parts.steps
-    }
-
-    /// A law: a run of steps leads to the machine's state, so what holds along all runs holds of it.
-    pub fn comes_of_run(&self)
-        ensures { IsOfRun self.now }
-    {
-        let _steps = self.parts.steps;
     }
 
     /// The limits.

@@ -1,4 +1,4 @@
-//! A running operation: what its next step does, of which kind that is, and which READ it takes.
+//! A running operation: where it begins, what its next step does, and of which kind that is.
 
 ghost use Rattle.std.specs.Prelude.{◌≡◌, IfOk, MatchResult};
 ghost use Rattle.machine_model.specs.declared.lines.Line.TheVariants as lines;
