@@ -20,12 +20,13 @@ use Rattle.history.specs.declared.replies.Reply.TheVariants as answer
 use Rattle.history.specs.declared.events.Event.{Event}
 use Rattle.history.specs.declared.events.Event.TheVariants.{Begin, End}
 use Rattle.history_text.specs.Texts.{reply_words, call_words, opens_words, event_words, order_words, pair_text}
-use Rattle.history_text.specs.Words.{number_of, wanted, made, largest}
+use Rattle.text_lines.specs.Words.{number_of, wanted, made, largest}
 use Rattle.history_text.specs.Names.{reply_named, hash_named}
 use Rattle.history_text.specs.Lines.{reply_of, pair_words, pair_word, pair_at, equals_at, has_equals, each, order_of, header_of}
 use Rattle.history_text.specs.Grammar.{ReplyFits, CallFits, EventFits, IsHandle, IsNumber}
-use Rattle.history_text.proofs.Numbers.{own}
-use Rattle.history_text.proofs.Again.{IsClean, clean_decimal, clean_pair, handle_again, value_again, wanted_again, both_again}
+use Rattle.text_lines.proofs.Numbers.{own}
+use Rattle.text_lines.proofs.Again.{IsClean, clean_decimal, value_again, wanted_again, both_again}
+use Rattle.history_text.proofs.Again.{clean_pair, handle_again}
 
 -- Pairs.
 

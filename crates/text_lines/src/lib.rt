@@ -9,3 +9,6 @@ mod words;
 pub use faults::Told;
 pub use reading::{LineReader, read_text};
 pub use words::{both, cut, number_from, number_of, number_word};
+
+#[cfg(test)]
+mod tests;
