@@ -25,10 +25,10 @@ use Rattle.history_text.specs.Reading.{Reading, Progress, Start, InEvents, Order
 use Rattle.history_text.specs.Grammar.{EventFits, IsNumber, AreLast, SpellEvents, Spell, IsSpelling, IsShort}
 use Rattle.text_lines.proofs.Whole.{Leads, leads_read}
 use Rattle.history_text.proofs.Tied.{Tied, tied_nil, tied_push, well_next, may_begin, may_end}
-use Rattle.text_lines.proofs.Again.{words_again, value_again, both_again}
+use Rattle.text_lines.proofs.Again.{clean, words_again, value_again, both_again}
 use Rattle.history_text.proofs.Again.{actor_again}
 use Rattle.history_text.proofs.AgainCalls.{call_again}
-use Rattle.history_text.proofs.AgainReplies.{reply_again, order_again, header_again, clean, clean_event, clean_order, clean_hash}
+use Rattle.history_text.proofs.AgainReplies.{reply_again, order_again, header_again, clean_event, clean_order, clean_hash}
 
 passes : (test : ℕ → Bool) (r : Result ℕ Refusal) (n : ℕ) → r ≡ Ok n → test n ≡ true → passing test r ≡ Ok n
 passes test r n e t = rw (e, t) refl

@@ -5,7 +5,6 @@ mod command_words;
 mod commands;
 mod headers;
 mod names;
-mod numbers;
 mod reading;
 
 pub use commands::Command;

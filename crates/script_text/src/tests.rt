@@ -1,9 +1,9 @@
 use super::*;
 use ctrie_base::{HashKind, Kind, Refusal};
 use history::Call;
-use history_text::Told;
 use machine_model::Limits;
 use std::test::Fail;
+use text_lines::Told;
 
 // Each command once.
 const WHOLE: &[u8] =

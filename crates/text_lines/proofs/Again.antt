@@ -1,6 +1,7 @@
 -- The words of a text, and the numbers among them, are read again.
-use Rattle.std.proofs.Common.{◌≡◌, ℕ, ◌<◌, ◌≤◌, ◌^◌, List, [], ◌∷◌, ◌++◌, length, refl, ap, ◌∙◌, Result, Ok, Some, Bool, true, false, eqb, arith}
-use Rattle.std.specs.List.{onto_first, AllByRecursion}
+use Rattle.std.proofs.Common.{◌≡◌, ℕ, ◌<◌, ◌≤◌, ◌^◌, List, [], ◌∷◌, ◌++◌, length, refl, ap, ◌∙◌, Result, Ok, Some, Bool, true, false, eqb, ◌&&◌, arith}
+use Rattle.std.specs.Prelude.{not}
+use Rattle.std.specs.List.{list_all, onto_first, AllByRecursion}
 use Rattle.std.specs.Str.{all_ascii_digits}
 use Rattle.std.specs.Fmt.{decimal}
 use borrow.Author.Tests.{le-ltb}
@@ -20,6 +21,21 @@ IsClean (b ∷ bs) = (eqb b 32 ≡ false) × IsClean bs
 pub clean_append : (a b : List ℕ) → IsClean a → IsClean b → IsClean (a ++ b)
 clean_append [] b p q = q
 clean_append (x ∷ xs) b p q = (p.0, clean_append xs b p.1 q)
+
+and_parts : (a b : Bool) → (a && b) ≡ true → (a ≡ true) × (b ≡ true)
+and_parts true b e = (refl, e)
+and_parts false b e = absurd cc
+
+not_parts : (a : Bool) → not a ≡ true → a ≡ false
+not_parts true e = absurd cc
+not_parts false e = refl
+
+pub clean : (w : List ℕ) → list_all (λ b. not (eqb b 32)) w ≡ true → IsClean w
+clean [] e = tt
+clean (b ∷ bs) e = let p = and_parts (not (eqb b 32)) (list_all (λ x. not (eqb x 32)) bs) e in (not_parts (eqb b 32) p.0, clean bs p.1)
+
+abbrev pub AreClean : List (List ℕ) → Type 0
+AreClean ws = AllByRecursion IsClean ws
 
 not_space : (c : ℕ) (b : Bool) → eqb c 32 ≡ b → 48 ≤ c → eqb c 32 ≡ false
 not_space c true e le = absurd (let same : c ≡ 32 = eqb-true c 32 e in omega arith)
@@ -43,7 +59,7 @@ last_word [] clean = refl
 last_word (b ∷ bs) clean = slice_split-cons_no (λ x. eqb x 32) b bs clean.0 ∙ ap (onto_first b) (last_word bs clean.1)
 
 -- the words of the text of words without spaces
-pub words_again : (w : List ℕ) (ws : List (List ℕ)) → IsClean w → AllByRecursion IsClean ws → words_of (spaced (w ∷ ws)) ≡ w ∷ ws
+pub words_again : (w : List ℕ) (ws : List (List ℕ)) → IsClean w → AreClean ws → words_of (spaced (w ∷ ws)) ≡ w ∷ ws
 words_again w [] clean others = last_word w clean
 words_again w (v ∷ ws) clean others = split_word w (spaced (v ∷ ws)) clean ∙ ap (λ (t : List (List ℕ)). w ∷ t) (words_again v ws others.0 others.1)
 
