@@ -2,3 +2,4 @@ pub mod FoundCommands
 pub mod Found
 pub mod AgainCommands
 pub mod Only
+pub mod SameKinds
