@@ -102,6 +102,7 @@ from_start (l ∷ more) end read leads done =
 
 -- what is read is spelled so
 pub spelled : (text : List ℕ) (read : Reading) → history_of text ≡ Ok read → IsSpelling text read
+unfolding history_of
 spelled text read e = let whole = text_leads history_format text read e in from_start (said_lines text) whole.0 read whole.1 whole.2
 
 pub is_found : (text : List ℕ) (r : Result Given Told) → Reads given r (history_of text) → IfOk r (λ g. IsSpelling text (given g))

@@ -123,6 +123,7 @@ start_only (l ∷ more) read well spelled =
 
 -- what is spelled so is read
 pub read_again : (text : List ℕ) (read : Reading) → IsSpelling text read → IsShort text → history_of text ≡ Ok read
+unfolding history_of
 read_again text read spelled short =
     let f = start_only (said_lines text) read spelled.1 spelled.0 in
     leads_read history_format text f.0 read short f.1 f.2

@@ -59,5 +59,5 @@ abbrev pub history_format : Format Progress Reading
 history_format = record { most_lines = 300000; start = Start; words_after = words_after; all_read = all_read }
 
 -- the history that a text says, or the first line with a fault
-abbrev pub history_of : List ℕ → Result Reading LineFault
+unfoldable pub history_of : List ℕ → Result Reading LineFault
 history_of text = text_of history_format text

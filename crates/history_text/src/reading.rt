@@ -103,7 +103,8 @@ fn named_line(
     name: Option<LineName>,
     words: &[&[u8]],
 ) -> Result<Progress, Refusal>
-    ensures { result ≢ Err Refusal.Memory → made seen result ≡ named_line log.0 log.1 name (nows words.now) }
+    ensures { result ≢ Err Refusal.Memory
+        → made seen result ≡ named_line log.0 log.1 name (nows words.now) }
 {
     match name {
         Some(LineName::Begin) => {
@@ -143,11 +144,14 @@ fn last_line(read: Given, name: Option<LineName>) -> Result<Progress, Refusal>
 ///
 /// The lines that are neither empty nor begin with `#` are `hash NAME`, the events and lines
 /// `denied ..`, the order, and at most one line `slots ..`.
+#[tactic(auto, unfolding(crate::specs::Reading::history_of))]
 pub fn read_history(alloc: Global, text: &[u8]) -> Result<Given, Told>
-    // What is read is spelled so, and well formed.
+    // The lines that aren't ignored spell what is read: the header, lines `denied ..`, the events, the
+    // order, and at most one line `slots ..`. The events are well formed.
     ensures found { IfOk result (λ g. IsSpelling text.now (given g)) }
     // What is spelled so, in at most 300,000 lines, is read, unless memory runs out.
-    ensures only { (read : Reading) → IsSpelling text.now read → IsShort text.now → Reads given result (Ok read) }
+    ensures only { (read : Reading) → IsSpelling text.now read → IsShort text.now
+        → Reads given result (Ok read) }
     // What is read, or which fault is told at which line.
     ensures exact { Reads given result (history_of text.now) }
 {

@@ -110,7 +110,8 @@ fn all_have_equals(words: &[&[u8]]) -> bool
 
 /// The pairs that these words say.
 fn pairs_of(alloc: Global, words: &[&[u8]]) -> Result<Vec<(u64, u64)>, Refusal>
-    ensures { result ≢ Err Refusal.Memory → made (λ pairs. pairs.items) result ≡ pair_words (nows words.now) }
+    ensures { result ≢ Err Refusal.Memory
+        → made (λ pairs. pairs.items) result ≡ pair_words (nows words.now) }
 {
     if !all_have_equals(words) {
         return Err(Refusal::BadLine);
@@ -125,7 +126,8 @@ fn pairs_of(alloc: Global, words: &[&[u8]]) -> Result<Vec<(u64, u64)>, Refusal>
 /// The ids that these words say: each must be a number, else BadNumber. Anything may be answered as
 /// `Memory`.
 pub fn order_of(alloc: Global, words: &[&[u8]]) -> Result<Vec<u64>, Refusal>
-    ensures { result ≢ Err Refusal.Memory → made (λ order. order.items) result ≡ order_of (nows words.now) }
+    ensures { result ≢ Err Refusal.Memory
+        → made (λ order. order.items) result ≡ order_of (nows words.now) }
 {
     let mut order = Vec::new(alloc);
     for word in words {

@@ -137,6 +137,7 @@ from_start (l ∷ more) end script leads done =
 
 -- what is read is spelled so
 pub spelled : (text : List ℕ) (script : Reading) → script_of text ≡ Ok script → IsSpelling text script
+unfolding script_of
 spelled text script e = let whole = text_leads script_format text script e in from_start (said_lines text) whole.0 script whole.1 whole.2
 
 pub is_found : (text : List ℕ) (r : Result Script Told) → Reads read r (script_of text) → IfOk r (λ script. IsSpelling text (read script))

@@ -104,6 +104,7 @@ script_leads script f each =
 
 -- what is spelled so is read
 pub read_again : (text : List ℕ) (script : Reading) → IsSpelling text script → IsShort text → script_of text ≡ Ok script
+unfolding script_of
 read_again text script spelled short =
     let whole = subst (λ (ls : List (List ℕ)). Leads script_format Start ls (InCommands script.limits script.commands)) (sym spelled.0) (script_leads script spelled.1 spelled.2) in
     leads_read script_format text (InCommands script.limits script.commands) script short whole refl

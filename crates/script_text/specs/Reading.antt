@@ -40,5 +40,5 @@ abbrev pub script_format : Format Progress Reading
 script_format = record { most_lines = 100000; start = Start; words_after = words_after; all_read = all_read }
 
 -- the script that a text says, or the first line with a fault
-abbrev pub script_of : List ℕ → Result Reading LineFault
+unfoldable pub script_of : List ℕ → Result Reading LineFault
 script_of text = text_of script_format text

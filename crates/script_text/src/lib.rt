@@ -9,6 +9,7 @@ mod reading;
 
 pub use commands::Command;
 pub use reading::{Script, read_script};
+pub use text_lines::Told;
 
 #[cfg(test)]
 mod tests;

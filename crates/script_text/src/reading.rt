@@ -90,7 +90,8 @@ impl LineReader for Progress {
 
 /// The script with a command more.
 fn with_command(script: Script, command: Command) -> Result<Progress, Refusal>
-    ensures { result ≢ Err Refusal.Memory → made seen result ≡ Ok (InCommands script.limits (script.commands.items ++ command ∷ [])) }
+    ensures { result ≢ Err Refusal.Memory
+        → made seen result ≡ Ok (InCommands script.limits (script.commands.items ++ command ∷ [])) }
 {
     let Script {
         limits,
@@ -105,11 +106,14 @@ fn with_command(script: Script, command: Command) -> Result<Progress, Refusal>
 ///
 /// The lines that are neither empty nor begin with `#` are `slots N`, `hash NAME`, `actors N`, and then
 /// a command each.
+#[tactic(auto, unfolding(crate::specs::Reading::script_of))]
 pub fn read_script(alloc: Global, text: &[u8]) -> Result<Script, Told>
-    // What is read is spelled so.
+    // The lines that aren't ignored spell what is read: the three of the header, and a line for each
+    // command.
     ensures found { IfOk result (λ script. IsSpelling text.now (read script)) }
     // What is spelled so, in at most 100,000 lines, is read, unless memory runs out.
-    ensures only { (script : Reading) → IsSpelling text.now script → IsShort text.now → Reads read result (Ok script) }
+    ensures only { (script : Reading) → IsSpelling text.now script → IsShort text.now
+        → Reads read result (Ok script) }
     // What is read, or which fault is told at which line.
     ensures exact { Reads read result (script_of text.now) }
 {

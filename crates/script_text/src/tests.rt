@@ -3,7 +3,6 @@ use ctrie_base::{HashKind, Kind, Refusal};
 use history::Call;
 use machine_model::Limits;
 use std::test::Fail;
-use text_lines::Told;
 
 // Each command once.
 const WHOLE: &[u8] =

@@ -8,17 +8,17 @@ use Rattle.text_lines.specs.Views.{Tells, told_at}
 use Rattle.text_lines.proofs.FirstLine.{no_lines}
 
 module _ {P A : Type 0} (format : Format P A) where
-  pub goes_on : (number : ℕ) (p q : P) (line : List ℕ) (more : List (List ℕ)) (total : Result P LineFault) → line_after format number p line ≡ Ok q
+  pub goes_on : (number : ℕ) (p q : P) (line : List ℕ) (more : List (List ℕ)) (total : Result P LineFault) → Ok q ≡ line_after format number p line
       → read_lines format number p (line ∷ more) ≡ total → read_lines format (number + 1) q more ≡ total
   unfolding read_lines
   goes_on number p q line more total h so_far =
-      let one : read_lines format number p (line ∷ more) ≡ read_lines format (number + 1) q more = rw h refl in sym one ∙ so_far
+      let one : read_lines format number p (line ∷ more) ≡ read_lines format (number + 1) q more = rw (sym h) refl in sym one ∙ so_far
 
-  pub stops : (number : ℕ) (p : P) (line : List ℕ) (more : List (List ℕ)) (total : Result P LineFault) (f : Refusal) → line_after format number p line ≡ Err f
+  pub stops : (number : ℕ) (p : P) (line : List ℕ) (more : List (List ℕ)) (total : Result P LineFault) (f : Refusal) → Err f ≡ line_after format number p line
       → read_lines format number p (line ∷ more) ≡ total → total ≡ Err (record { line = number; refusal = f })
   unfolding read_lines
   stops number p line more total f h so_far =
-      let one : read_lines format number p (line ∷ more) ≡ Err (record { line = number; refusal = f }) = rw h refl in sym so_far ∙ one
+      let one : read_lines format number p (line ∷ more) ≡ Err (record { line = number; refusal = f }) = rw (sym h) refl in sym so_far ∙ one
 
   pub text_fault : (text : List ℕ) (f : LineFault) → read_lines format 1 format.start (lines_of text) ≡ Err f → text_of format text ≡ Err f
   unfolding text_of

@@ -8,7 +8,7 @@ mod words;
 
 pub use faults::Told;
 pub use reading::{LineReader, read_text};
-pub use words::{both, cut, number_from, number_of, number_word};
+pub use words::{both, number_from, number_of, number_word};
 
 #[cfg(test)]
 mod tests;

@@ -16,17 +16,19 @@ pub trait LineReader: Drop {
     /// What a whole text says.
     type Given: Drop;
 
-    /// What contracts see of what was read so far.
+    /// The values in which contracts see what was read so far.
     ghost State: { Type 0 };
 
-    /// What contracts see of what a whole text says.
+    /// The values in which they see what a whole text says.
     ghost Value: { Type 0 };
 
-    /// The kind of text.
+    /// How texts of this kind are read.
     ghost format: { Format State Value };
 
+    /// What was read so far, as contracts see it.
     ghost seen: { Self → State };
 
+    /// What a whole text says, as contracts see it.
     ghost given: { Self.Given → Value };
 
     /// The most lines that a text may have.
@@ -39,7 +41,8 @@ pub trait LineReader: Drop {
 
     /// With the words of a line more. Anything may be answered as `Memory`.
     fn words_after(self, alloc: Global, words: &[&[u8]]) -> Result<Self, Refusal>
-        ensures { result ≢ Err Refusal.Memory → made seen result ≡ format.words_after (seen self) (nows words.now) };
+        ensures { result ≢ Err Refusal.Memory
+            → made seen result ≡ format.words_after (seen self) (nows words.now) };
 
     /// What is read once no line is left.
     fn all_read(self) -> Result<Self::Given, Refusal>
@@ -54,7 +57,8 @@ fn line_after<R: LineReader>(
     before: R,
     line: &[u8],
 ) -> Result<R, Refusal>
-    ensures said { result ≢ Err Refusal.Memory → made R.seen result ≡ line_after R.format number (R.seen before) line.now }
+    ensures said { result ≢ Err Refusal.Memory
+        → made R.seen result ≡ line_after R.format number (R.seen before) line.now }
     ensures bound { OnOk result (number < 2 ^ 32) }
 {
     if number > u64::from(R::most_lines()) {
@@ -77,7 +81,8 @@ fn told(number: u64, refusal: Refusal) -> Told
     }
 }
 
-/// Reads a text. The first line with a fault is told, or that memory ran out.
+/// Reads a text. The first line with a fault is told, or that memory ran out: anything may be answered
+/// as `Memory`.
 pub fn read_text<R: LineReader>(alloc: Global, text: &[u8]) -> Result<R::Given, Told>
     ensures { Reads R.given result (text_of R.format text.now) }
 {

@@ -1,4 +1,5 @@
 use super::*;
+use crate::words::cut;
 use ctrie_base::Refusal;
 use std::test::Fail;
 

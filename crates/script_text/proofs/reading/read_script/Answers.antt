@@ -1,9 +1,12 @@
+use Rattle.script_text.specs.Reading.{script_of}
 use Rattle.script_text.proofs.Found.{is_found}
 use Rattle.script_text.proofs.Only.{only_so}
 use Rattle.script_text.proofs.reading.read_script.Goals as goal
 
 pub returns-clause-found : goal.returns-clause-found
+unfolding script_of
 returns-clause-found c = is_found c.args.text.now c.read_text.result c.read_text.ensures
 
 pub returns-clause-only : goal.returns-clause-only
+unfolding script_of
 returns-clause-only c = only_so c.args.text.now c.read_text.result c.read_text.ensures

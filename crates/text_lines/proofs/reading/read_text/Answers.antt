@@ -11,13 +11,13 @@ returns-in-Err g c =
     let format = g.R.LineReader.format in
     let before = rw c.first_line.ensures.lines at c.loop-rest.invariant.so_far in
     rw c.told.ensures (told_rightly c.loop-rest.number c.in-Err.refusal _ (λ n.
-    text_fault format c.args.text.now _ (stops format c.loop-rest.number (g.R.LineReader.seen c.loop-rest.read) c.first_line.result.0.now (lines_of c.first_line.result.1.now) _ c.in-Err.refusal (sym (c.in-Err.ensures.said (other_refusal c.in-Err.refusal n))) before)))
+    text_fault format c.args.text.now _ (stops format c.loop-rest.number (g.R.LineReader.seen c.loop-rest.read) c.first_line.result.0.now (lines_of c.first_line.result.1.now) _ c.in-Err.refusal (c.in-Err.ensures.said (other_refusal c.in-Err.refusal n)) before)))
 
 pub loop-rest-preserved : goal.loop-rest-preserved
 loop-rest-preserved g c =
     let before = rw c.first_line.ensures.lines at c.loop-rest.invariant.so_far in
     record {
-      so_far = goes_on g.R.LineReader.format c.loop-rest.number (g.R.LineReader.seen c.loop-rest.read) (g.R.LineReader.seen c.in-Ok.after) c.first_line.result.0.now (lines_of c.first_line.result.1.now) _ (sym (c.in-Ok.ensures.said (λ e. cc))) before;
+      so_far = goes_on g.R.LineReader.format c.loop-rest.number (g.R.LineReader.seen c.loop-rest.read) (g.R.LineReader.seen c.in-Ok.after) c.first_line.result.0.now (lines_of c.first_line.result.1.now) _ (c.in-Ok.ensures.said (λ e. cc)) before;
       counted = omega (arith, ap length c.first_line.ensures.lines, c.loop-rest.invariant.counted);
     }
 
