@@ -9,7 +9,7 @@ use Rattle.std.specs.FinMap.{from_entries}
 use Rattle.std.proofs.lemmas.Map.Lookups.{exact_unsigned}
 use Rattle.std.proofs.lemmas.List.Sums.{count_by-le-length, sum_by-cons}
 use Rattle.std.proofs.lemmas.Map.Entries.{length-keys_of}
-use Rattle.history.specs.Crowds.{crowd_of, kept_count, IsCounted}
+use Rattle.history.specs.Crowds.{crowd_of, kept_count, WritesCount, IsCounted}
 use Rattle.history.specs.Effects.{others, is_crowded}
 use Rattle.history.proofs.EntryMaps.{entries_made, get_made}
 
@@ -81,7 +81,7 @@ abbrev pub PutsCount : List (ℕ × ℕ) → List (ℕ × ℕ) → ℕ → ℕ �
 PutsCount cs ds h n = (q : ℕ) → lookup (is_at (nat_cmp q)) ds ≡ cond (is_at (nat_cmp h) q) (Some n) (lookup (is_at (nat_cmp q)) cs)
 
 -- what is kept after a count is written
-pub kept_count-put : (es fs : List (ℕ × ℕ)) (h n : ℕ) → PutsCount es fs h n → (q : ℕ) → kept_count fs q ≡ cond (h == q) n (kept_count es q)
+pub kept_count-put : (es fs : List (ℕ × ℕ)) (h n : ℕ) → PutsCount es fs h n → WritesCount es fs h n
 kept_count-put es fs h n put q =
     ap (λ o. unwrap_or o 0) (put q) ∙ one_count (is_at (nat_cmp h) q) n _ ∙ ap (λ b. cond b n (kept_count es q)) (unsigned_tied h q)
 
@@ -130,10 +130,10 @@ module _ (hash : ℕ → ℕ) where
 
   -- a key that is removed, and its count
   pub IsCounted-remove : (es fs cs ds : List (ℕ × ℕ)) (k v h n : ℕ) → IsCounted hash es cs → lookup (is_at (nat_cmp k)) es ≡ Some v → fs ≡ remove_entry (is_at (nat_cmp k)) es → IsStrictlySortedBy nat_cmp (keys_of fs)
-      → h ≡ hash k → n ≡ kept_count cs h - 1 → PutsCount cs ds h n → IsCounted hash fs ds
+      → h ≡ hash k → n ≡ kept_count cs h - 1 → WritesCount cs ds h n → IsCounted hash fs ds
   IsCounted-remove es fs cs ds k v h n is some removed rising at less put = record {
     rising = rising;
-    counted = λ q. kept_count-put cs ds h n put q ∙ written_less (kept_count cs) h q n _ (omega (arith, kept_count-pos es cs k v h is some at))
+    counted = λ q. put q ∙ written_less (kept_count cs) h q n _ (omega (arith, kept_count-pos es cs k v h is some at))
         (ap₂ (λ a xs. cond (a == q) 1 0 + crowd_of hash xs q) at removed ∙ crowd_of-remove_entry hash q k v es some ∙ sym (is.counted q));
   }
 

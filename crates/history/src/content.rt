@@ -1,11 +1,11 @@
 //! The map that one handle names, and how crowded its hashes are.
 
-ghost use Rattle.std.specs.Prelude.{◌≡◌, Some, IfOk, OnErr, IsOkUnless};
+ghost use Rattle.std.specs.Prelude.{◌≡◌, ◌<◌, ◌-◌, Some, IfOk, OnErr, IsOkUnless};
 ghost use Rattle.std.specs.Ordering.{nat_cmp};
 ghost use Rattle.std.specs.BTreeMap.{ContainsKey, Updates};
 ghost use Rattle.std.specs.FinMap as map;
 ghost use Rattle.ctrie_base.specs.Hashes.{hash_of};
-ghost use Rattle.history.specs.Crowds.{IsCounted, kept_count};
+ghost use Rattle.history.specs.Crowds.{IsCounted, WritesCount, kept_count};
 ghost use Rattle.history.specs.Effects.{is_crowded};
 
 use crate::replies::Pairs;
@@ -122,8 +122,7 @@ impl Content {
     {
         let before = self.pairs.remove(&key)?;
         let hash = self.kind.hash(key);
-        let crowd = count_at(&self.crowds, hash);
-        set_count(&mut self.crowds, hash, crowd - 1);
+        uncount(&mut self.crowds, hash);
         Some(before)
     }
 
@@ -167,6 +166,19 @@ fn set_count(counts: &mut BTreeMap<u64, u64>, hash: u64, count: u64)
 {
     if let Some(kept) = counts.get_mut(&hash) {
         *kept = count;
+    }
+}
+
+/// Counts one key less at a hash that has some. Where none is left, no count is kept.
+fn uncount(counts: &mut BTreeMap<u64, u64>, hash: u64)
+    requires { 0 < kept_count counts.old.entries hash }
+    ensures { WritesCount counts.old.entries counts.new.entries hash (kept_count counts.old.entries hash - 1) }
+{
+    let left = count_at(counts, hash) - 1;
+    if left == 0 {
+        let _ = counts.remove(&hash);
+    } else {
+        set_count(counts, hash, left);
     }
 }
 

@@ -7,11 +7,13 @@ use Rattle.history.specs.declared.calls.Call.TheVariants.{Get, Put, PutIfAbsent,
 use Rattle.history.specs.Histories.{OpensRightly}
 use Rattle.history_text.specs.declared.names.CallName.TheVariants as call
 use Rattle.history_text.specs.Texts.{call_words, opens_words}
-use Rattle.history_text.specs.Words.{handle_word, value_word, both}
+use Rattle.text_lines.specs.Words.{both}
+use Rattle.history_text.specs.Words.{handle_word, value_word}
 use Rattle.history_text.specs.Names.{call_named}
 use Rattle.history_text.specs.Lines.{call_of, call_on_handle, call_on_key, call_on_pair, call_on_change, opening_call}
 use Rattle.history_text.specs.Grammar.{CallFits, IsHandle, IsNumber}
-use Rattle.history_text.proofs.Again.{handle_again, value_again, both_again}
+use Rattle.text_lines.proofs.Again.{value_again, both_again}
+use Rattle.history_text.proofs.Again.{handle_again}
 
 at_handle : (h : ℕ) → IsHandle h → handle_word (decimal h) ≡ Ok h
 at_handle h p = handle_again h p

@@ -1,6 +1,6 @@
 -- The words of a reply, an order and a header are read again, and no word of an event has a space.
-use Rattle.std.proofs.Common.{◌≡◌, ℕ, suc, ◌+◌, ◌<◌, ◌≤◌, List, [], ◌∷◌, ◌++◌, length, take, drop, refl, ap, ◌∙◌, Result, Ok, Option, Some, None, Bool, true, false, eqb, ◌&&◌, arith}
-use Rattle.std.specs.Prelude.{map, codes, not, IfSome}
+use Rattle.std.proofs.Common.{◌≡◌, ℕ, suc, ◌+◌, ◌<◌, ◌≤◌, List, [], ◌∷◌, ◌++◌, length, take, drop, refl, ap, ◌∙◌, Result, Ok, Option, Some, None, Bool, true, false, eqb, arith}
+use Rattle.std.specs.Prelude.{map, codes, IfSome}
 use Rattle.std.specs.List.{list_all, position_or_len, AllByRecursion}
 use Rattle.std.specs.Fmt.{decimal}
 use Rattle.std.specs.Str.{all_ascii_digits}
@@ -20,12 +20,13 @@ use Rattle.history.specs.declared.replies.Reply.TheVariants as answer
 use Rattle.history.specs.declared.events.Event.{Event}
 use Rattle.history.specs.declared.events.Event.TheVariants.{Begin, End}
 use Rattle.history_text.specs.Texts.{reply_words, call_words, opens_words, event_words, order_words, pair_text}
-use Rattle.history_text.specs.Words.{number_of, wanted, made, largest}
+use Rattle.text_lines.specs.Words.{number_of, wanted, made, largest}
 use Rattle.history_text.specs.Names.{reply_named, hash_named}
 use Rattle.history_text.specs.Lines.{reply_of, pair_words, pair_word, pair_at, equals_at, has_equals, each, order_of, header_of}
 use Rattle.history_text.specs.Grammar.{ReplyFits, CallFits, EventFits, IsHandle, IsNumber}
-use Rattle.history_text.proofs.Numbers.{own}
-use Rattle.history_text.proofs.Again.{IsClean, clean_decimal, clean_pair, handle_again, value_again, wanted_again, both_again}
+use Rattle.text_lines.proofs.Numbers.{own}
+use Rattle.text_lines.proofs.Again.{IsClean, AreClean, clean, clean_decimal, value_again, wanted_again, both_again}
+use Rattle.history_text.proofs.Again.{clean_pair, handle_again}
 
 -- Pairs.
 
@@ -108,21 +109,6 @@ header_again Block = refl
 
 -- Words without spaces.
 
-and_parts : (a b : Bool) → (a && b) ≡ true → (a ≡ true) × (b ≡ true)
-and_parts true b e = (refl, e)
-and_parts false b e = absurd cc
-
-not_parts : (a : Bool) → not a ≡ true → a ≡ false
-not_parts true e = absurd cc
-not_parts false e = refl
-
-pub clean : (w : List ℕ) → list_all (λ b. not (eqb b 32)) w ≡ true → IsClean w
-clean [] e = tt
-clean (b ∷ bs) e = let p = and_parts (not (eqb b 32)) (list_all (λ x. not (eqb x 32)) bs) e in (not_parts (eqb b 32) p.0, clean bs p.1)
-
-abbrev pub AreClean : List (List ℕ) → Type 0
-AreClean ws = AllByRecursion IsClean ws
-
 clean_more : (ws vs : List (List ℕ)) → AreClean ws → AreClean vs → AreClean (ws ++ vs)
 clean_more [] vs p q = q
 clean_more (w ∷ ws) vs p q = (p.0, clean_more ws vs p.1 q)
@@ -134,7 +120,7 @@ clean_each : {A : Type 0} (text : A → List ℕ) (Fits : A → Type 0) → ((x 
 clean_each text Fits says [] f = tt
 clean_each text Fits says (x ∷ xs) f = (says x f.0, clean_each text Fits says xs f.1)
 
-clean_call : (c : Call) → CallFits c → AreClean (call_words c)
+pub clean_call : (c : Call) → CallFits c → AreClean (call_words c)
 clean_call (Get h k) f = (clean (codes "get") refl, (handle_clean h f.0, (clean_decimal k f.1, tt)))
 clean_call (Put h k v) f = (clean (codes "put") refl, (handle_clean h f.0, (clean_decimal k f.1, (clean_decimal v f.2, tt))))
 clean_call (PutIfAbsent h k v) f = (clean (codes "put-if-absent") refl, (handle_clean h f.0, (clean_decimal k f.1, (clean_decimal v f.2, tt))))

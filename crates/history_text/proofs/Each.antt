@@ -3,7 +3,7 @@ use Rattle.std.proofs.Common.{◌≡◌, ℕ, ◌+◌, ◌<◌, List, [], ◌∷
 use denote.Ref.{Bor}
 use Rattle.std.proofs.lemmas.List.{take_more, at_drop_more}
 use Rattle.ctrie_base.specs.declared.refusals.Refusal.{Refusal}
-use Rattle.history_text.specs.Words.{nows, made, ◌>>=◌}
+use Rattle.text_lines.specs.Words.{nows, made, ◌>>=◌}
 use Rattle.history_text.specs.Lines.{each}
 
 abbrev Reader : Type 0 → Type 0

@@ -2,7 +2,7 @@
 use Rattle.std.proofs.Common.{◌≡◌, ℕ, ◌<◌, ◌≤◌, List, [], ◌∷◌, length, refl, arith, Err}
 use denote.Ref.{Bor}
 use Rattle.ctrie_base.specs.declared.refusals.Refusal.TheVariants.{BadLine}
-use Rattle.history_text.specs.Words.{nows}
+use Rattle.text_lines.specs.Words.{nows}
 use Rattle.history_text.specs.Lines.{call_of}
 
 pub short_call : (ws : List (Bor (List ℕ))) → length ws < 2 → call_of (nows ws) ≡ Err BadLine

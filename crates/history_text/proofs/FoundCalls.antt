@@ -10,11 +10,12 @@ use Rattle.history.specs.Histories.{OpensRightly}
 use Rattle.history_text.specs.declared.names.CallName.{CallName}
 use Rattle.history_text.specs.declared.names.CallName.TheVariants as call
 use Rattle.history_text.specs.Texts.{call_words, opens_words}
-use Rattle.history_text.specs.Words.{handle_word, value_word, both, largest}
+use Rattle.text_lines.specs.Words.{both, largest}
+use Rattle.history_text.specs.Words.{handle_word, value_word}
 use Rattle.history_text.specs.Names.{call_named, call_name, call_names}
 use Rattle.history_text.specs.Lines.{call_of, call_on_handle, call_on_key, call_on_pair, call_on_change, opening_call, opens}
 use Rattle.history_text.specs.Grammar.{CallFits, IsHandle, IsNumber}
-use Rattle.history_text.proofs.Parts.{both_ok, made_ok, word_is, named_is}
+use Rattle.text_lines.proofs.Parts.{both_ok, made_ok, word_is, named_is}
 
 -- these words are those of the call and of the handle that it opens
 pub record SaysCall (words : List (List ℕ)) (x : Call × Option ℕ) : Type 0 where

@@ -1,25 +1,25 @@
 -- What the lines of a text that is read are.
-use Rattle.std.proofs.Common.{◌≡◌, ℕ, ◌+◌, List, [], ◌∷◌, ◌++◌, refl, sym, ap, ◌∙◌, subst, Result, Ok, Err, Option, Some, Bool, true, false, cond, eqb, ◌⊎◌, inl, inr}
-use Rattle.std.specs.Prelude.{map, codes, filter, not, nat_lt}
+use Rattle.std.proofs.Common.{◌≡◌, ℕ, List, [], ◌∷◌, ◌++◌, refl, sym, ap, ◌∙◌, subst, Ok, Option, Some, Bool, true, false, eqb, ◌⊎◌, inl, inr}
+use Rattle.std.specs.Prelude.{map, codes, not}
 use Rattle.std.specs.List.{AllByRecursion}
 use Rattle.std.specs.Fmt.{decimal}
 use Rattle.std.proofs.lemmas.Bool.{eqb-true}
 use Rattle.std.proofs.lemmas.List.Splits.{join_with_byte-slice_split}
-use Rattle.ctrie_base.specs.declared.refusals.Refusal.{Refusal}
-use Rattle.ctrie_base.specs.declared.refusals.Refusal.TheVariants.{TooLong}
 use Rattle.ctrie_base.specs.declared.hashes.HashKind.{HashKind}
 use Rattle.history.specs.declared.events.Event.{Event}
 use Rattle.history.specs.Histories.{begun, MayFollow}
 use Rattle.history_text.specs.declared.names.LineName.{LineName}
 use Rattle.history_text.specs.declared.names.LineName.TheVariants as line
-use Rattle.history_text.specs.Texts.{spaced, event_words, order_words, call_words, opens_words, reply_words}
-use Rattle.history_text.specs.Words.{words_of, value_word, actor_word, both, largest}
+use Rattle.text_lines.specs.Words.{spaced, words_of, both, largest}
+use Rattle.history_text.specs.Texts.{event_words, order_words, call_words, opens_words, reply_words}
+use Rattle.history_text.specs.Words.{value_word, actor_word}
 use Rattle.history_text.specs.Names.{line_named, line_name, line_names}
 use Rattle.history_text.specs.Lines.{call_of, reply_of, order_of}
 use Rattle.history_text.specs.Running.{is_busy, is_running, next_id, idle_actor, running_id, begin_of, begin_from, end_of}
-use Rattle.history_text.specs.Reading.{Progress, InEvents, Ordered, is_ignored, named_line, words_after, line_after, at_line, read_lines, most_lines}
+use Rattle.history_text.specs.Reading.{Progress, InEvents, Ordered, named_line, words_after}
 use Rattle.history_text.specs.Grammar.{EventFits, IsNumber}
-use Rattle.history_text.proofs.Parts.{ok_is, both_ok, made_ok, bind_ok, passing_ok, word_is, named_is}
+use Rattle.text_lines.proofs.Parts.{ok_is, both_ok, made_ok, word_is, named_is}
+use Rattle.history_text.proofs.Parts.{passing_ok}
 use Rattle.history_text.proofs.FoundCalls.{call_found}
 use Rattle.history_text.proofs.FoundReplies.{reply_found, order_found}
 use Rattle.history_text.proofs.Tied.{Tied, begin_may, end_may}
@@ -118,45 +118,6 @@ pub moves : (hash : HashKind) (es : List Event) (words : List (List ℕ)) (q : P
 unfolding words_after
 moves hash es [] q t h = absurd cc
 moves hash es (w ∷ ws) q t h = named_moves (line_named w) hash es w ws q t (λ n. line_is_named w n) h
-
--- One line of several.
-
-pub at_ok : {A : Type 0} (n : ℕ) (r : Result A Refusal) (x : A) → at_line n r ≡ Ok x → r ≡ Ok x
-at_ok n (Ok y) x e = cc
-at_ok n (Err f) x e = absurd cc
-
-abbrev pub Steps : Progress → List ℕ → Progress → Type 0
-Steps p line q = ((is_ignored line ≡ true) × (p ≡ q)) ⊎ ((is_ignored line ≡ false) × (words_after p (words_of line) ≡ Ok q))
-
-step_cases : (long ignored : Bool) (p q : Progress) (words : Result Progress Refusal) → cond long (Err TooLong) (cond ignored (Ok p) words) ≡ Ok q
-    → ((ignored ≡ true) × (p ≡ q)) ⊎ ((ignored ≡ false) × (words ≡ Ok q))
-step_cases true ignored p q words e = absurd cc
-step_cases false true p q words e = inl (refl, cc)
-step_cases false false p q words e = inr (refl, e)
-
-steps : (n : ℕ) (p q : Progress) (line : List ℕ) → line_after n p line ≡ Ok q → Steps p line q
-unfolding line_after
-steps n p q line e = step_cases (nat_lt most_lines n) (is_ignored line) p q (words_after p (words_of line)) e
-
-pub split_lines : (n : ℕ) (p : Progress) (line : List ℕ) (more : List (List ℕ)) (end : Progress) → read_lines n p (line ∷ more) ≡ Ok end
-    → (q : Progress) × Steps p line q × (read_lines (n + 1) q more ≡ Ok end)
-unfolding read_lines
-split_lines n p line more end e =
-    let b = bind_ok (at_line n (line_after n p line)) (λ after. read_lines (n + 1) after more) end e in
-    (b.0, steps n p b.0 line (at_ok n (line_after n p line) b.0 b.1), b.2)
-
-pub no_more : (n : ℕ) (p end : Progress) → read_lines n p [] ≡ Ok end → p ≡ end
-unfolding read_lines
-no_more n p end e = cc
-
-abbrev pub kept : List (List ℕ) → List (List ℕ)
-kept lines = filter (λ line. not (is_ignored line)) lines
-
-pub skips : (line : List ℕ) (more : List (List ℕ)) → is_ignored line ≡ true → kept (line ∷ more) ≡ kept more
-skips line more e = rw e refl
-
-pub keeps : (line : List ℕ) (more : List (List ℕ)) → is_ignored line ≡ false → kept (line ∷ more) ≡ line ∷ kept more
-keeps line more e = rw e refl
 
 -- the line of these words
 pub line_of : (line : List ℕ) (words : List (List ℕ)) → words_of line ≡ words → line ≡ spaced words

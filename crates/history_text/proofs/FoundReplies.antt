@@ -16,11 +16,12 @@ use Rattle.history.specs.declared.replies.Reply.TheVariants as answer
 use Rattle.history_text.specs.declared.names.ReplyName.{ReplyName}
 use Rattle.history_text.specs.declared.names.ReplyName.TheVariants as reply
 use Rattle.history_text.specs.Texts.{reply_words, pair_text}
-use Rattle.history_text.specs.Words.{number_of, handle_word, value_word, wanted, made, largest}
+use Rattle.text_lines.specs.Words.{number_of, wanted, made, largest}
+use Rattle.history_text.specs.Words.{handle_word, value_word}
 use Rattle.history_text.specs.Names.{reply_named, reply_name, reply_names, hash_named, hash_kinds}
 use Rattle.history_text.specs.Lines.{reply_of, bare_reply, reply_with, is_pairs, plain_reply, pair_words, pair_word, pair_at, equals_at, has_equals, each, order_of, header_of, hash_wanted}
 use Rattle.history_text.specs.Grammar.{ReplyFits, IsNumber}
-use Rattle.history_text.proofs.Parts.{both_ok, made_ok, bind_ok, word_is, wanted_is, named_is}
+use Rattle.text_lines.proofs.Parts.{both_ok, made_ok, bind_ok, word_is, wanted_is, named_is}
 
 pub record SaysReply (words : List (List ℕ)) (x : Reply) : Type 0 where
   pub text : words ≡ reply_words x

@@ -1,9 +1,7 @@
 pub mod Spaced
-pub mod Numbers
 pub mod Forms
 pub mod Each
 pub mod Runs
-pub mod Loop
 pub mod Parts
 pub mod FoundCalls
 pub mod FoundReplies

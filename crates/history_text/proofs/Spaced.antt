@@ -7,7 +7,8 @@ use Rattle.std.proofs.lemmas.List.Concat.{flat_map-append}
 use Rattle.history.specs.declared.calls.Call.{Call}
 use Rattle.history.specs.declared.calls.Call.TheVariants.{Get, Put, PutIfAbsent, Replace, ReplaceIf, Remove, RemoveIf, Clear, Snapshot, Freeze, Close, Entries, Count}
 use Rattle.history.specs.declared.events.Event.TheVariants.{Begin}
-use Rattle.history_text.specs.Texts.{spaced, behind_spaces, call_words, call_text, opens_words, event_text}
+use Rattle.text_lines.specs.Words.{spaced}
+use Rattle.history_text.specs.Texts.{behind_spaces, call_words, call_text, opens_words, event_text}
 
 -- one word more behind a space
 pub behind_push : (ws : List (List ℕ)) (w : List ℕ) → behind_spaces (ws ++ w ∷ []) ≡ behind_spaces ws ++ 32 ∷ w

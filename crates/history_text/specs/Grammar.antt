@@ -1,5 +1,5 @@
 -- How a history is spelled, apart from how it is read.
-use Rattle.std.specs.Prelude.{◌≡◌, ℕ, ◌≤◌, not, List, [], ◌∷◌, length, filter, IfSome, ◌⊎◌, codes}
+use Rattle.std.specs.Prelude.{◌≡◌, ℕ, ◌≤◌, List, [], ◌∷◌, IfSome, ◌⊎◌, codes}
 use Rattle.std.specs.List.{AllByRecursion}
 use Rattle.ctrie_base.specs.Hashes.{name_of}
 use Rattle.history.specs.declared.calls.Call.{Call}
@@ -9,9 +9,10 @@ use Rattle.history.specs.declared.replies.Reply.TheVariants as reply
 use Rattle.history.specs.declared.events.Event.{Event}
 use Rattle.history.specs.declared.events.Event.TheVariants.{Begin, End}
 use Rattle.history.specs.Histories.{IsWellFormed}
-use Rattle.history_text.specs.Texts.{spaced, event_text, order_text}
-use Rattle.history_text.specs.Words.{words_of, largest}
-use Rattle.history_text.specs.Reading.{Reading, lines_of, is_ignored, most_lines}
+use Rattle.text_lines.specs.Words.{spaced, words_of, largest}
+use Rattle.history_text.specs.Texts.{event_text, order_text}
+use Rattle.text_lines.specs.Texts.{said_lines, HasLines}
+use Rattle.history_text.specs.Reading.{Reading, history_format}
 
 -- Numbers in their ranges: each has a spelling.
 
@@ -77,7 +78,7 @@ Spell (header ∷ more) read = (header ≡ spaced (codes "hash" ∷ name_of read
 
 -- the text's lines that aren't ignored spell the history, which is well formed
 abbrev pub IsSpelling : List ℕ → Reading → Type 0
-IsSpelling text read = Spell (filter (λ line. not (is_ignored line)) (lines_of text)) read × IsWellFormed read.events
+IsSpelling text read = Spell (said_lines text) read × IsWellFormed read.events
 
 abbrev pub IsShort : List ℕ → Type 0
-IsShort text = length (lines_of text) ≤ most_lines
+IsShort text = HasLines history_format.most_lines text

@@ -14,7 +14,8 @@ use Rattle.history_text.specs.declared.names.CallName.{CallName}
 use Rattle.history_text.specs.declared.names.CallName.TheVariants as call
 use Rattle.history_text.specs.declared.names.ReplyName.{ReplyName}
 use Rattle.history_text.specs.declared.names.ReplyName.TheVariants as reply
-use Rattle.history_text.specs.Words.{number_of, largest, wanted, value_word, handle_word, both, made, ◌>>=◌}
+use Rattle.text_lines.specs.Words.{number_of, largest, wanted, both, made, ◌>>=◌}
+use Rattle.history_text.specs.Words.{value_word, handle_word}
 use Rattle.history_text.specs.Names.{call_named, reply_named, hash_named}
 
 -- Calls, by their name and the number of their words. A call that opens no handle comes with none.

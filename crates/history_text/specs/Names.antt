@@ -1,20 +1,15 @@
 -- The words by which lines, calls, replies and hashes are named.
 use Rattle.std.specs.Prelude.{ℕ, List, [], ◌∷◌, Option, codes}
-use Rattle.std.specs.List.{find}
-use Rattle.std.specs.Str.{bytes_eq}
 use Rattle.ctrie_base.specs.declared.hashes.HashKind.{HashKind}
 use Rattle.ctrie_base.specs.declared.hashes.HashKind.TheVariants.{Low, Fold, Wide, Block}
 use Rattle.ctrie_base.specs.Hashes.{name_of}
+use Rattle.text_lines.specs.Words.{named}
 use Rattle.history_text.specs.declared.names.CallName.{CallName}
 use Rattle.history_text.specs.declared.names.CallName.TheVariants as call
 use Rattle.history_text.specs.declared.names.ReplyName.{ReplyName}
 use Rattle.history_text.specs.declared.names.ReplyName.TheVariants as reply
 use Rattle.history_text.specs.declared.names.LineName.{LineName}
 use Rattle.history_text.specs.declared.names.LineName.TheVariants as line
-
--- which of these is named by this word
-abbrev pub named : {N : Type 0} → (N → List ℕ) → List N → List ℕ → Option N
-named name all word = find (λ n. bytes_eq word (name n)) all
 
 abbrev pub call_name : CallName → List ℕ
 call_name call.Get = codes "get"

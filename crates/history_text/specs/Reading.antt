@@ -1,12 +1,13 @@
 -- Reading a history from its lines: what each says after those before it, and the first fault.
-use Rattle.std.specs.Prelude.{ℕ, ◌+◌, ◌++◌, Bool, true, List, [], ◌∷◌, length, Option, Some, Result, Ok, Err, ◌==◌, nat_lt, if◌then◌else◌}
+use Rattle.std.specs.Prelude.{ℕ, ◌++◌, List, [], ◌∷◌, Option, Some, Result, Ok, Err}
 use Rattle.ctrie_base.specs.declared.refusals.Refusal.{Refusal}
-use Rattle.ctrie_base.specs.declared.refusals.Refusal.TheVariants.{BadLine, BadHeader, BadOrder, TooLong}
+use Rattle.ctrie_base.specs.declared.refusals.Refusal.TheVariants.{BadLine, BadHeader, BadOrder}
 use Rattle.ctrie_base.specs.declared.hashes.HashKind.{HashKind}
 use Rattle.history.specs.declared.events.Event.{Event}
 use Rattle.history_text.specs.declared.names.LineName.{LineName}
 use Rattle.history_text.specs.declared.names.LineName.TheVariants as line
-use Rattle.history_text.specs.Words.{cut_at, words_of, made, ◌>>=◌}
+use Rattle.text_lines.specs.Words.{made}
+use Rattle.text_lines.specs.Reading.{LineFault, Format, text_of}
 use Rattle.history_text.specs.Names.{line_named}
 use Rattle.history_text.specs.Lines.{order_of, header_of}
 use Rattle.history_text.specs.Running.{begin_of, end_of}
@@ -16,26 +17,6 @@ pub record Reading : Type 0 where
   pub hash : HashKind
   pub events : List Event
   pub order : List ℕ
-
--- a fault and the number of its line, from 1
-pub record LineFault : Type 0 where
-  pub line : ℕ
-  pub refusal : Refusal
-
--- lines end with a line feed; the last may lack it
-abbrev pub without_empty_last : List (List ℕ) → List (List ℕ)
-without_empty_last [] = []
-without_empty_last ([] ∷ []) = []
-without_empty_last ((b ∷ bs) ∷ []) = (b ∷ bs) ∷ []
-without_empty_last (x ∷ y ∷ more) = x ∷ without_empty_last (y ∷ more)
-
-unfoldable pub lines_of : List ℕ → List (List ℕ)
-lines_of text = without_empty_last (cut_at 10 text)
-
--- empty lines and those that begin with `#`
-abbrev pub is_ignored : List ℕ → Bool
-is_ignored [] = true
-is_ignored (b ∷ bs) = b == 35
 
 -- what the lines so far have said
 pub data Progress : Type 0 where
@@ -66,23 +47,6 @@ words_after (Ordered read) [] = Err BadOrder
 words_after (Ordered read) (word ∷ words) = last_line read (line_named word)
 words_after (Ended read) words = Err BadOrder
 
-abbrev pub most_lines : ℕ
-most_lines = 300000
-
--- a line, ignored or not, after what was read before
-unfoldable pub line_after : ℕ → Progress → List ℕ → Result Progress Refusal
-line_after number before line =
-    if nat_lt most_lines number then Err TooLong else (if is_ignored line then Ok before else words_after before (words_of line))
-
-abbrev pub at_line : {A : Type 0} → ℕ → Result A Refusal → Result A LineFault
-at_line number (Ok x) = Ok x
-at_line number (Err e) = Err (record { line = number; refusal = e })
-
--- the lines, numbered from this number on, up to the first with a fault
-unfoldable pub read_lines : ℕ → Progress → List (List ℕ) → Result Progress LineFault
-read_lines number before [] = Ok before
-read_lines number before (line ∷ more) = at_line number (line_after number before line) >>= λ after. read_lines (number + 1) after more
-
 -- a missing line is told at the line after the last
 abbrev pub all_read : Progress → Result Reading Refusal
 all_read Start = Err BadHeader
@@ -90,6 +54,10 @@ all_read (InEvents hash events) = Err BadOrder
 all_read (Ordered read) = Ok read
 all_read (Ended read) = Ok read
 
+-- how histories are read, of at most 300,000 lines
+abbrev pub history_format : Format Progress Reading
+history_format = record { most_lines = 300000; start = Start; words_after = words_after; all_read = all_read }
+
 -- the history that a text says, or the first line with a fault
 unfoldable pub history_of : List ℕ → Result Reading LineFault
-history_of text = read_lines 1 Start (lines_of text) >>= λ read. at_line (length (lines_of text) + 1) (all_read read)
+history_of text = text_of history_format text

@@ -6,7 +6,8 @@ use Rattle.ctrie_base.specs.declared.refusals.Refusal.TheVariants.{BadLine}
 use Rattle.history.specs.declared.events.Event.{Event}
 use Rattle.history.specs.declared.events.Event.TheVariants.{Begin, End}
 use Rattle.history.specs.Histories.{begun}
-use Rattle.history_text.specs.Words.{value_word, actor_word, both, made, passing}
+use Rattle.text_lines.specs.Words.{both, made}
+use Rattle.history_text.specs.Words.{value_word, actor_word, passing}
 use Rattle.history_text.specs.Lines.{call_of, reply_of}
 
 -- the operations that run, as pairs of an id and an actor, with one event more

@@ -1,20 +1,22 @@
 //! Calls, read from their words.
 
 ghost use Rattle.std.specs.Prelude.{◌≡◌};
-ghost use Rattle.history_text.specs.Words.{nows, handle_word, value_word, both};
+ghost use Rattle.text_lines.specs.Words.{nows, both};
+ghost use Rattle.history_text.specs.Words.{handle_word, value_word};
 ghost use Rattle.history_text.specs.Lines.{call_of, call_on_handle, call_on_key, call_on_pair, call_on_change, opening_call, opens, call_of_four, call_of_five};
 
 use crate::names::CallName;
-use crate::words::{both, handle_word, value_word};
+use crate::words::{handle_word, value_word};
 use ctrie_base::Refusal;
 use history::Call;
+use text_lines::both;
 
 /// A call, and the handle behind `as` where it opens one.
 pub type Said = Result<(Call, Option<u16>), Refusal>;
 
 /// The call that these words say. The name and the number of words are wrong with BadLine, a number
 /// with BadNumber.
-#[tactic(auto, unfolding(crate::specs::Lines::call_of))]
+#[tactic(auto, using(crate::proofs::Forms::short_call, crate::proofs::Forms::long_call), unfolding(crate::specs::Lines::call_of))]
 pub fn call_of(words: &[&[u8]]) -> Said
     ensures { result ≡ call_of (nows words.now) }
 {

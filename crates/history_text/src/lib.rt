@@ -17,9 +17,10 @@ pub use call_words::{call_of, opens};
 pub use event_text::{EventText, OrderText};
 pub use lines::header_of;
 pub use names::CallName;
-pub use reading::{Given, Told, first_line, is_ignored, read_history};
+pub use reading::{Given, read_history};
 pub use reply_text::ReplyText;
-pub use words::{actor_word, both, cut, handle_word, number_word};
+pub use text_lines::Told;
+pub use words::{actor_word, handle_word};
 
 #[cfg(test)]
 mod tests;

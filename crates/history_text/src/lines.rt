@@ -1,7 +1,7 @@
 //! Event lines and the header, read from their words.
 
-ghost use Rattle.std.specs.Prelude.{◌≡◌, IfOk};
-ghost use Rattle.history_text.specs.Words.{nows};
+ghost use Rattle.std.specs.Prelude.{◌≡◌, ◌≢◌};
+ghost use Rattle.text_lines.specs.Words.{nows};
 ghost use Rattle.history_text.specs.Lines.{header_of};
 ghost use Rattle.history_text.specs.Running.{begin_of, begin_from, end_of};
 
@@ -9,10 +9,10 @@ use crate::call_words::call_of;
 use crate::log::Log;
 use crate::names::hash_named;
 use crate::reply_words::reply_of;
-use crate::words::both;
 use ctrie_base::{HashKind, Refusal};
 use history::Event;
-use std::alloc::{AllocError, Global};
+use std::alloc::Global;
+use text_lines::both;
 
 /// The hash that the header names. Any fault is BadHeader.
 #[tactic(auto, unfolding(crate::specs::Lines::header_of))]
@@ -47,33 +47,24 @@ fn begin_from(log: &Log, id: &[u8], actor: &[u8], call: &[&[u8]]) -> Result<Even
     ensures { result ≡ begin_from log.now.1 id.now actor.now (nows call.now) }
 {
     let said = both(log.idle_actor(actor), call_of(call));
-    match both(log.next_id(id), said) {
-        Ok((id, (actor, (call, opens)))) => Ok(Event::Begin {
-            id,
-            actor,
-            call,
-            opens,
-        }),
-        Err(fault) => Err(fault),
-    }
+    let (id, (actor, (call, opens))) = both(log.next_id(id), said)?;
+    Ok(Event::Begin {
+        id,
+        actor,
+        call,
+        opens,
+    })
 }
 
 /// The end that the words behind `end` say. Beside wrong words, the id of an operation that doesn't
-/// run is BadLine.
+/// run is BadLine. Anything may be answered as `Memory`.
 #[tactic(auto, unfolding(crate::specs::Running::end_of))]
-pub fn end_of(
-    alloc: Global,
-    log: &Log,
-    words: &[&[u8]],
-) -> Result<Result<Event, Refusal>, AllocError>
-    ensures { IfOk result (λ said. said ≡ end_of log.now.1 (nows words.now)) }
+pub fn end_of(alloc: Global, log: &Log, words: &[&[u8]]) -> Result<Event, Refusal>
+    ensures { result ≢ Err Refusal.Memory → result ≡ end_of log.now.1 (nows words.now) }
 {
     let [id, answer @ ..] = words else {
-        return Ok(Err(Refusal::BadLine));
+        return Err(Refusal::BadLine);
     };
-    let answer = reply_of(alloc, answer)?;
-    match both(log.running_id(id), answer) {
-        Ok((id, reply)) => Ok(Ok(Event::End { id, reply })),
-        Err(fault) => Ok(Err(fault)),
-    }
+    let (id, reply) = both(log.running_id(id), reply_of(alloc, answer))?;
+    Ok(Event::End { id, reply })
 }

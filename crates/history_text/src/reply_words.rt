@@ -1,33 +1,32 @@
 //! Replies and orders, read from their words.
 
-ghost use Rattle.std.specs.Prelude.{◌≡◌, ◌∷◌, [], map, IfOk};
-ghost use Rattle.history_text.specs.Words.{nows, made, wanted, number_of, largest};
+ghost use Rattle.std.specs.Prelude.{◌≡◌, ◌≢◌, ◌∷◌, [], map};
+ghost use Rattle.text_lines.specs.Words.{nows, made, wanted, number_of, largest};
 ghost use Rattle.history_text.specs.Lines.{equals_at, has_equals, pair_word, pair_words, each, bare_reply, reply_with, is_pairs, plain_reply, reply_of, order_of};
 ghost use Rattle.std.specs.List.{list_all};
 
 use crate::names::ReplyName;
-use crate::words::{both, handle_word, number_of, value_word};
+use crate::words::{handle_word, value_word};
 use ctrie_base::Refusal;
 use history::{Pairs, Reply};
-use std::alloc::{AllocError, Global};
+use std::alloc::Global;
+use text_lines::{both, number_of};
 
 /// The reply that these words say. The name, the number of words and a pair without `=` are wrong
-/// with BadLine, a number with BadNumber.
+/// with BadLine, a number with BadNumber. Anything may be answered as `Memory`.
 #[tactic(auto, unfolding(crate::specs::Lines::reply_of))]
-pub fn reply_of(alloc: Global, words: &[&[u8]]) -> Result<Result<Reply, Refusal>, AllocError>
-    ensures { IfOk result (λ said. said ≡ reply_of (nows words.now)) }
+pub fn reply_of(alloc: Global, words: &[&[u8]]) -> Result<Reply, Refusal>
+    ensures { result ≢ Err Refusal.Memory → result ≡ reply_of (nows words.now) }
 {
     let [name, more @ ..] = words else {
-        return Ok(Err(Refusal::BadLine));
+        return Err(Refusal::BadLine);
     };
     let name = ReplyName::of(name);
     if !is_pairs(name) {
-        return Ok(plain_reply(name, more));
+        return plain_reply(name, more);
     }
-    match pairs_of(alloc, more)? {
-        Ok(pairs) => Ok(Ok(Reply::Pairs(Pairs::from_vec(pairs)))),
-        Err(fault) => Ok(Err(fault)),
-    }
+    let pairs = pairs_of(alloc, more)?;
+    Ok(Reply::Pairs(Pairs::from_vec(pairs)))
 }
 
 fn is_pairs(name: Option<ReplyName>) -> bool
@@ -109,32 +108,30 @@ fn all_have_equals(words: &[&[u8]]) -> bool
     true
 }
 
-fn pairs_of(alloc: Global, words: &[&[u8]]) -> Result<Result<Vec<(u64, u64)>, Refusal>, AllocError>
-    ensures { IfOk result (λ said. made (λ pairs. pairs.items) said ≡ pair_words (nows words.now)) }
+/// The pairs that these words say.
+fn pairs_of(alloc: Global, words: &[&[u8]]) -> Result<Vec<(u64, u64)>, Refusal>
+    ensures { result ≢ Err Refusal.Memory
+        → made (λ pairs. pairs.items) result ≡ pair_words (nows words.now) }
 {
     if !all_have_equals(words) {
-        return Ok(Err(Refusal::BadLine));
+        return Err(Refusal::BadLine);
     }
     let mut pairs = Vec::new(alloc);
     for word in words {
-        match pair_word(word) {
-            Ok(pair) => pairs.push(pair)?,
-            Err(fault) => return Ok(Err(fault)),
-        }
+        pairs.push(pair_word(word)?)?;
     }
-    Ok(Ok(pairs))
+    Ok(pairs)
 }
 
-/// The ids that these words say: each must be a number, else BadNumber.
-pub fn order_of(alloc: Global, words: &[&[u8]]) -> Result<Result<Vec<u64>, Refusal>, AllocError>
-    ensures { IfOk result (λ said. made (λ order. order.items) said ≡ order_of (nows words.now)) }
+/// The ids that these words say: each must be a number, else BadNumber. Anything may be answered as
+/// `Memory`.
+pub fn order_of(alloc: Global, words: &[&[u8]]) -> Result<Vec<u64>, Refusal>
+    ensures { result ≢ Err Refusal.Memory
+        → made (λ order. order.items) result ≡ order_of (nows words.now) }
 {
     let mut order = Vec::new(alloc);
     for word in words {
-        match wanted(word) {
-            Ok(id) => order.push(id)?,
-            Err(fault) => return Ok(Err(fault)),
-        }
+        order.push(wanted(word)?)?;
     }
-    Ok(Ok(order))
+    Ok(order)
 }

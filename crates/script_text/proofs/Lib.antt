@@ -1,1 +1,5 @@
-pub mod Loop
+pub mod FoundCommands
+pub mod Found
+pub mod AgainCommands
+pub mod Only
+pub mod SameKinds

@@ -9,13 +9,13 @@ use Rattle.history_text.specs.declared.names.CallName.{CallName}
 use Rattle.history_text.specs.declared.names.CallName.TheVariants as name
 use Rattle.history_text.specs.Names.{call_named}
 use Rattle.history_text.specs.Lines.{call_of, opens}
-use Rattle.history_text.specs.Words.{actor_word, handle_word, both, made}
+use Rattle.text_lines.specs.Words.{number_from, both, made}
+use Rattle.history_text.specs.Words.{actor_word, handle_word}
 use Rattle.script_text.specs.declared.commands.Command.{Command}
 use Rattle.script_text.specs.declared.commands.Command.TheVariants.{Begin, Go, Until, Finish, Do, Sweep}
 use Rattle.script_text.specs.declared.names.CommandName.{CommandName}
 use Rattle.script_text.specs.declared.names.CommandName.TheVariants as command
 use Rattle.script_text.specs.Names.{command_named, kind_named}
-use Rattle.script_text.specs.Numbers.{times_word}
 
 -- Calls. They are those of a history, but a snapshot and a freeze name no handle to open.
 
@@ -31,7 +31,10 @@ unfoldable pub script_call : List (List ℕ) → Result Call Refusal
 script_call [] = Err BadLine
 script_call (name ∷ more) = if opens (call_named name) then opening_call (call_named name) more else made (λ said. said.0) (call_of (name ∷ more))
 
--- A word that must name a kind.
+-- Words that must say how often, and name a kind.
+
+abbrev pub times_word : List ℕ → Result ℕ Refusal
+times_word word = number_from 1 1000000 word
 
 abbrev pub kind_wanted : Option Kind → Result Kind Refusal
 kind_wanted None = Err BadLine

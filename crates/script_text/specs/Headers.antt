@@ -4,7 +4,7 @@ use Rattle.std.specs.Prelude.{ℕ, List, [], ◌∷◌, Result, Ok, Err, codes, 
 use Rattle.std.specs.Str.{bytes_eq}
 use Rattle.ctrie_base.specs.declared.refusals.Refusal.{Refusal}
 use Rattle.ctrie_base.specs.declared.refusals.Refusal.TheVariants.{BadHeader}
-use Rattle.script_text.specs.Numbers.{number_from}
+use Rattle.text_lines.specs.Words.{number_from}
 
 -- what must stand in the header
 abbrev pub header_value : Result ℕ Refusal → Result ℕ Refusal

@@ -3,7 +3,7 @@ use Rattle.std.specs.Prelude.{ℕ, List, [], ◌∷◌, Option, codes}
 use Rattle.ctrie_base.specs.declared.kinds.Kind.{Kind}
 use Rattle.ctrie_base.specs.declared.kinds.Kind.TheVariants.{ReadRoot, SwapRoot, ReadMain, SwapMain, ReadPrev, SwapPrev, Look, Make, End}
 use Rattle.ctrie_base.specs.Kinds.{name_of}
-use Rattle.history_text.specs.Names.{named}
+use Rattle.text_lines.specs.Words.{named}
 use Rattle.script_text.specs.declared.names.CommandName.{CommandName}
 use Rattle.script_text.specs.declared.names.CommandName.TheVariants as command
 

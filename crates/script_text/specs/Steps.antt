@@ -1,8 +1,8 @@
 -- The steps that a line names in a state.
 use Rattle.std.specs.Prelude.{ℕ, zero, suc, Bool, true, false, List, [], ◌∷◌, ◌++◌, Option, Some, None, replicate, if◌then◌else◌}
-use denote.Enum.Bare.{sameb}
+use Rattle.std.specs.Str.{bytes_eq}
 use Rattle.ctrie_base.specs.declared.kinds.Kind.{Kind}
-use Rattle.ctrie_base.specs.contracts.kinds.Kind.{the_type}
+use Rattle.ctrie_base.specs.Kinds.{name_of}
 use Rattle.ctrie_base.specs.declared.refusals.Refusal.{Refusal}
 use Rattle.machine_model.specs.declared.steps.Step.{Step}
 use Rattle.machine_model.specs.declared.steps.Step.TheVariants as step
@@ -15,7 +15,7 @@ use Rattle.script_text.specs.declared.commands.Command.TheVariants.{Begin, Go, U
 abbrev pub stops : Option Kind → Option Kind → Bool
 stops wanted None = true
 stops None (Some kind) = false
-stops (Some wanted) (Some kind) = sameb the_type wanted kind
+stops (Some wanted) (Some kind) = bytes_eq (name_of wanted) (name_of kind)
 
 -- steps of an actor's operation up to where they stop, at most so many
 unfoldable pub going : ℕ → Option Kind → ℕ → State → List Step

@@ -1,15 +1,15 @@
 //! Commands, read from their words.
 
 ghost use Rattle.std.specs.Prelude.{◌≡◌};
-ghost use Rattle.history_text.specs.Words.{nows};
-ghost use Rattle.script_text.specs.Commands.{command_of, named_command, begin_of, do_of, go_of, until_of, finish_of, sweep_of, kind_word, script_call, opening_call};
+ghost use Rattle.text_lines.specs.Words.{nows};
+ghost use Rattle.script_text.specs.Commands.{command_of, named_command, begin_of, do_of, go_of, until_of, finish_of, sweep_of, times_word, kind_word, script_call, opening_call};
 
 use crate::commands::Command;
 use crate::names::{CommandName, kind_named};
-use crate::numbers::times_word;
 use ctrie_base::{Kind, Refusal};
 use history::Call;
-use history_text::{CallName, actor_word, both, call_of, handle_word, opens};
+use history_text::{CallName, actor_word, call_of, handle_word, opens};
+use text_lines::{both, number_from};
 
 /// What the words of a line say. The name and the number of words are wrong with BadLine, a number
 /// with BadNumber.
@@ -108,6 +108,14 @@ fn sweep_of(words: &[&[u8]]) -> Result<Command, Refusal>
     };
     let times = times_word(times)?;
     Ok(Command::Sweep { times })
+}
+
+/// A word that must say how often: a number from 1 to 1,000,000.
+fn times_word(word: &[u8]) -> Result<u32, Refusal>
+    ensures { result ≡ times_word word.now }
+{
+    let times = number_from(word, 1, 1_000_000)?;
+    Ok(times as u32)
 }
 
 /// A word that must name a kind of an operation's steps, else BadLine.

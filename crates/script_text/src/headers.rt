@@ -1,11 +1,11 @@
 //! The numbers of the header: slots and actors.
 
 ghost use Rattle.std.specs.Prelude.{◌≡◌, ◌≤◌, IfOk};
-ghost use Rattle.history_text.specs.Words.{nows};
+ghost use Rattle.text_lines.specs.Words.{nows};
 ghost use Rattle.script_text.specs.Headers.{header_number, slots_of, actors_of};
 
-use crate::numbers::number_from;
 use ctrie_base::Refusal;
+use text_lines::number_from;
 
 /// The number of slots that the words `slots N` say, 2 to 65,536. Any fault is BadHeader.
 pub fn slots_of(words: &[&[u8]]) -> Result<u32, Refusal>

@@ -5,11 +5,11 @@ mod command_words;
 mod commands;
 mod headers;
 mod names;
-mod numbers;
 mod reading;
 
 pub use commands::Command;
 pub use reading::{Script, read_script};
+pub use text_lines::Told;
 
 #[cfg(test)]
 mod tests;

@@ -1,7 +1,6 @@
 use super::*;
 use ctrie_base::{HashKind, Kind, Refusal};
 use history::Call;
-use history_text::Told;
 use machine_model::Limits;
 use std::test::Fail;
 

@@ -1,6 +1,6 @@
 use Rattle.std.proofs.Common.{◌≡◌, drop}
 use Rattle.std.specs.List.{list_all}
-use Rattle.history_text.specs.Words.{nows}
+use Rattle.text_lines.specs.Words.{nows}
 use Rattle.history_text.specs.Lines.{has_equals}
 use Rattle.history_text.proofs.reply_words.all_have_equals.Given as goal
 

@@ -1,5 +1,5 @@
 use Rattle.std.proofs.Common.{◌≡◌, take, Ok}
-use Rattle.history_text.specs.Words.{nows, wanted, number_of, largest}
+use Rattle.text_lines.specs.Words.{nows, wanted, number_of, largest}
 use Rattle.history_text.specs.Lines.{each}
 use Rattle.history_text.proofs.reply_words.order_of.Given as goal
 

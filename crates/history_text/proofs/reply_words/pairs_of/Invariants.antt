@@ -1,5 +1,5 @@
 use Rattle.std.proofs.Common.{◌≡◌, take, Ok}
-use Rattle.history_text.specs.Words.{nows}
+use Rattle.text_lines.specs.Words.{nows}
 use Rattle.history_text.specs.Lines.{each, pair_word}
 use Rattle.history_text.proofs.reply_words.pairs_of.Given as goal
 
