@@ -75,7 +75,10 @@ fn tells_write_faults(rt: HostRuntime) {
             assert_eq!(rt; found, Err(Fault::Write), "call {call}");
             assert_eq!(rt; output.failed(), 1);
             assert!(rt; sink.taken.len() as u64 == call - 1, "call {call}");
-            assert!(rt; LINE.as_bytes().starts_with(sink.taken.as_slice()), "call {call}");
+            assert!(rt;
+                LINE.as_bytes().starts_with(sink.taken.as_slice()),
+                "call {call}"
+            );
         }
     }
 }

@@ -4,15 +4,11 @@ use Rattle.std.specs.Prelude.{replicate}
 use Rattle.ctrie_base.specs.declared.kinds.Kind.{Kind}
 use Rattle.ctrie_base.specs.declared.refusals.Refusal.{Refusal}
 use Rattle.history.specs.declared.calls.Call.{Call}
-use Rattle.machine_model.specs.declared.steps.Limits.{Limits}
 use Rattle.machine_model.specs.declared.steps.Step.{Step}
 use Rattle.machine_model.specs.declared.steps.Step.TheVariants.{Begin, Go, Sweep}
-use Rattle.machine_model.specs.States.{State, first_state}
-use Rattle.machine_model.specs.Machine.{next_kind, next, next_state, run, run_from, begin_denial, begin_unless}
-use Rattle.machine_model.proofs.Along.{along}
-use Rattle.machine_model.proofs.Frames.{limits_kept}
+use Rattle.machine_model.specs.States.{State}
+use Rattle.machine_model.specs.Machine.{next_kind, next, next_state, run_from, begin_denial, begin_unless}
 use Rattle.script_text.specs.Steps.{stops, going, most_steps, doing}
-use Rattle.step_machine.specs.Machines.{Taken, state_of}
 use Rattle.ctrie_commands.specs.Denials.{denial_in}
 
 -- a begin is denied for the reason that the definition lists
@@ -23,16 +19,6 @@ by_denial state actor call None = refl
 pub begin_denied : (state : State) (actor : ℕ) (call : Call) → denial_in (next state (Begin actor call)) ≡ begin_denial state actor call
 unfolding next
 begin_denied state actor call = by_denial state actor call (begin_denial state actor call)
-
--- a machine keeps its limits
-first_limits : (limits : Limits) → (first_state limits).limits ≡ limits
-unfolding first_state
-first_limits limits = refl
-
-pub limits_of : (taken : Taken) → (state_of taken).limits ≡ taken.limits
-limits_of taken =
-    along taken.limits (λ state. state.limits ≡ taken.limits) (first_limits taken.limits)
-    (λ steps s o after m kept. limits_kept (run taken.limits steps) s o after m ∙ kept) taken.steps
 
 -- no step is left
 pub going_none : (wanted : Option Kind) (actor : ℕ) (state : State) → run_from state (going 0 wanted actor state) ≡ state

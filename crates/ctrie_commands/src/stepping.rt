@@ -1,7 +1,7 @@
 //! Carrying out the commands of a script.
 
 ghost use Rattle.std.specs.Prelude.{◌≡◌, ◌∷◌, [], IfOk, OnOk, None, replicate};
-ghost use Rattle.machine_model.specs.Machine.{next, next_state, run_from, is_actor, is_spent, begin_denial, go_denial};
+ghost use Rattle.machine_model.specs.Machine.{next, next_state, run_from, begin_denial, go_denial};
 ghost use Rattle.machine_model.specs.declared.steps.Step.TheVariants.{Begin, Sweep};
 ghost use Rattle.script_text.specs.Steps.{stops, going, doing, denial_of, after_command};
 ghost use Rattle.step_machine.specs.Machines.{state_of};
@@ -12,13 +12,7 @@ use history::Call;
 use machine_model::Step;
 use script_text::Command;
 use std::alloc::AllocError;
-use step_machine::Machine;
-
-/// How many steps `until`, `finish` and `do` take at most.
-const MOST_STEPS: u32 = 16_384;
-
-/// How many steps a machine takes.
-const STEP_LIMIT: u64 = 1 << 40;
+use step_machine::{GO_LIMIT, Machine};
 
 /// Carries out one command, and gives why it is denied, if it is. After an error some of its steps may
 /// have been taken.
@@ -30,8 +24,8 @@ pub fn carry_out(machine: &mut Machine, command: Command) -> Result<Option<Refus
     match command {
         Command::Begin { actor, call } => begin(machine, actor, call),
         Command::Go { actor, times } => go(machine, actor, None, times),
-        Command::Until { actor, kind } => go(machine, actor, Some(kind), MOST_STEPS),
-        Command::Finish { actor } => go(machine, actor, None, MOST_STEPS),
+        Command::Until { actor, kind } => go(machine, actor, Some(kind), GO_LIMIT),
+        Command::Finish { actor } => go(machine, actor, None, GO_LIMIT),
         Command::Do { actor, call } => perform(machine, actor, call),
         Command::Sweep { times } => sweep(machine, times),
     }
@@ -68,7 +62,7 @@ fn perform(machine: &mut Machine, actor: u8, call: Call) -> Result<Option<Refusa
     match begin(machine, actor, call)? {
         Some(refusal) => Ok(Some(refusal)),
         None => {
-            go_on(machine, actor, None, MOST_STEPS)?;
+            go_on(machine, actor, None, GO_LIMIT)?;
             Ok(None)
         }
     }
@@ -84,40 +78,9 @@ fn go(
     ensures state { OnOk result (state_of machine.new ≡ run_from (state_of machine.old) (going most wanted actor (state_of machine.old))) }
     ensures denial { IfOk result (λ denial. denial ≡ go_denial (state_of machine.old) actor) }
 {
-    let denial = go_denial(machine, actor);
+    let denial = machine.denial(Step::Go { actor });
     go_on(machine, actor, wanted, most)?;
     Ok(denial)
-}
-
-/// Why a step of the actor's operation is denied.
-fn go_denial(machine: &Machine, actor: u8) -> Option<Refusal>
-    ensures { result ≡ go_denial (state_of machine.now) actor }
-{
-    if !is_actor(machine, actor) {
-        return Some(Refusal::NoActor);
-    }
-    if !machine.is_running(actor) {
-        return Some(Refusal::Idle);
-    }
-    if is_spent(machine) {
-        return Some(Refusal::Spent);
-    }
-    None
-}
-
-/// Whether the actor is one of the machine's.
-#[tactic(auto, using(crate::proofs::Carrying::limits_of))]
-fn is_actor(machine: &Machine, actor: u8) -> bool
-    ensures { result ≡ is_actor (state_of machine.now) actor }
-{
-    actor > 0 && actor <= machine.limits().actors
-}
-
-/// Whether the machine has taken all its steps.
-fn is_spent(machine: &Machine) -> bool
-    ensures { result ≡ is_spent (state_of machine.now) }
-{
-    machine.steps_taken() >= STEP_LIMIT
 }
 
 /// Takes steps of the actor's operation, at most so many, up to where they stop.

@@ -1,6 +1,6 @@
 //! Histories with the answer and the bytes that are wanted of each: their events, and what follows them.
 
-use crate::faults::Fault;
+use crate::Fault;
 use ctrie_base::Refusal;
 
 /// A put, and a get that found its value.
