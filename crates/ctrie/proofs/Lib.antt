@@ -1,5 +1,1 @@
 pub mod Asked
-pub mod Known
-pub mod Written
-pub mod Carrying
-pub mod Telling

@@ -11,8 +11,8 @@ use Rattle.clap.specs.declared.error.kind.ErrorKind.{ErrorKind}
 use Rattle.clap.specs.declared.error.kind.ErrorKind.TheVariants as kind
 use Rattle.ctrie.specs.declared.arguments.Request.{Request}
 use Rattle.ctrie.specs.declared.arguments.Request.TheVariants.{Check, Run}
-use Rattle.ctrie.specs.declared.faults.Fault.{Fault}
-use Rattle.ctrie.specs.declared.faults.Fault.TheVariants.{Memory, Usage}
+use Rattle.counted_io.specs.declared.faults.Fault.{Fault}
+use Rattle.counted_io.specs.declared.faults.Fault.TheVariants.{Memory, Usage}
 
 -- the fault that tells of such an error
 abbrev pub fault_for : ErrorKind → Fault

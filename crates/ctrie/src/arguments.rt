@@ -4,9 +4,9 @@ ghost use Rattle.std.specs.Prelude.{◌≡◌, map, false, IfOk};
 ghost use Rattle.clap.specs.Words.{app_of, kind_of, subcommand_rows_of};
 ghost use Rattle.ctrie.specs.Requests.{Answers, IsMatched, wants_file, has_globals, fault_for};
 
-use crate::faults::Fault;
 use clap::error::ErrorKind;
 use clap::{Arg, ArgAction, ArgMatches};
+use ctrie_commands::Fault;
 use std::alloc::{AllocError, Global};
 use std::convert::AsStr;
 

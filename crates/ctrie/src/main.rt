@@ -2,15 +2,7 @@
 #![tactic(auto)]
 
 mod arguments;
-mod checking;
-mod counting;
-mod faults;
 mod program;
-mod reading;
-mod reports;
-mod running;
-mod stepping;
-mod writing;
 
 use std::process::ExitCode;
 

@@ -2,14 +2,11 @@
 
 ghost use Rattle.std.specs.Prelude.{◌≡◌, ◌≢◌, ◌≤◌, ◌⊎◌, IfOk, IfErr};
 ghost use Rattle.std.specs.IoError.{error_kind};
-ghost use Rattle.ctrie.specs.Counts.{failures};
-ghost use Rattle.ctrie.specs.Faults.{exit_status_of};
+ghost use Rattle.counted_io.specs.Counts.{failures};
+ghost use Rattle.ctrie.specs.Statuses.{exit_status_of};
 
 use crate::arguments::{Request, request_of};
-use crate::checking::check_history;
-use crate::counting::Counted;
-use crate::faults::Fault;
-use crate::running::run_script;
+use ctrie_commands::{Counted, Fault, check_history, run_script};
 use std::fs::File;
 use std::io::ErrorKind;
 use std::rt::{Env, Files};

@@ -1,12 +1,14 @@
 -- Denials.
-use Rattle.std.specs.Prelude.{◌≡◌, ◌⊎◌, Bool, true, false, List, [], ◌∷◌, Some, None, Err, cond}
-use Rattle.std.proofs.Common.{refl, arith, inl, inr}
+use Rattle.std.specs.Prelude.{◌≡◌, ◌⊎◌, ℕ, Bool, true, false, List, [], ◌∷◌, Option, Some, None, Err, cond, unwrap_or}
+use Rattle.std.proofs.Common.{refl, sym, subst, arith, inl, inr}
 use Rattle.ctrie_base.specs.declared.refusals.Refusal.{Refusal}
 use Rattle.ctrie_base.specs.declared.refusals.Refusal.TheVariants as refuse
+use Rattle.history.specs.declared.calls.Call.{Call}
+use Rattle.machine_model.specs.declared.operations.Operation.{Operation}
 use Rattle.machine_model.specs.declared.steps.Step.{Step}
 use Rattle.machine_model.specs.declared.steps.Step.TheVariants as step
-use Rattle.machine_model.specs.States.{State}
-use Rattle.machine_model.specs.Machine.{next, denial_of, first_reason, is_spent, is_taken_step}
+use Rattle.machine_model.specs.States.{State, operation_of}
+use Rattle.machine_model.specs.Machine.{next, denial_of, begin_denial, begin_unless, go_denial, go_unless, first_reason, is_spent, is_taken_step}
 use Rattle.step_machine.specs.Machines.{Taken, state_of, Applied}
 
 -- what denies a sweep
@@ -53,14 +55,54 @@ not_for_memory state (step.Begin actor call) e = begin_reasons _ _ _ _ _ _ _ _ e
 not_for_memory state (step.Go actor) e = go_reasons _ _ _ e
 not_for_memory state step.Sweep e = spent_alone (is_spent state) e
 
--- what contracts say of a denied step
-pub denied_applied : (machine : Taken) (s : Step) (refusal : Refusal) → denial_of (state_of machine) s ≡ Some refusal → Applied (Err refusal) machine s machine
-denied_applied machine s refuse.Memory d = absurd (not_for_memory (state_of machine) s d)
-denied_applied machine s refusal d = (refl, denied (state_of machine) s refusal d)
+-- nothing is refused for want of memory
 
--- what contracts say of a step that isn't denied and yet is refused
-pub refused_applied : (machine : Taken) (s : Step) (refusal : Refusal) → denial_of (state_of machine) s ≡ None →
+begin_refused : (state : State) (actor : ℕ) (call : Call) (denial : Option Refusal) → (denial ≡ Some refuse.Memory → ⊥) →
+    begin_unless state actor call denial ≡ Err refuse.Memory → ⊥
+begin_refused state actor call (Some refusal) other e = other (let same : refusal ≡ refuse.Memory = grind (arith, e) in rw same refl)
+begin_refused state actor call None other e = grind (arith, e)
+
+go_refused : (state : State) (actor : ℕ) (denial : Option Refusal) (operation : Option Operation) → operation_of state actor ≡ operation →
+    (denial ≡ Some refuse.Memory → ⊥) → go_unless state actor denial ≡ Err refuse.Memory → ⊥
+go_refused state actor (Some refusal) operation is other e = other (let same : refusal ≡ refuse.Memory = grind (arith, e) in rw same refl)
+go_refused state actor None None is other e = let idle = rw is at e in grind (arith, idle)
+go_refused state actor None (Some operation) is other e = let went = rw is at e in grind (arith, went)
+
+sweep_refused : (state : State) (spent : Bool) → is_spent state ≡ spent → next state step.Sweep ≡ Err refuse.Memory → ⊥
+unfolding next
+sweep_refused state true is e = let d = rw is at e in grind (arith, d)
+sweep_refused state false is e = let d = rw is at e in grind (arith, d)
+
+never_memory : (state : State) (s : Step) → next state s ≡ Err refuse.Memory → ⊥
+unfolding next
+never_memory state (step.Begin actor call) e = begin_refused state actor call (begin_denial state actor call) (not_for_memory state (step.Begin actor call)) e
+never_memory state (step.Go actor) e = go_refused state actor (go_denial state actor) (operation_of state actor) refl (not_for_memory state (step.Go actor)) e
+never_memory state step.Sweep e = sweep_refused state (is_spent state) refl e
+
+-- nothing denies what is taken
+allowed_by : (state : State) (s : Step) (denial : Option Refusal) → denial_of state s ≡ denial → is_taken_step (next state s) ≡ true → denial ≡ None
+allowed_by state s None is taken = refl
+allowed_by state s (Some refusal) is taken = let refused = rw (denied state s refusal is) at taken in absurd (grind (arith, refused))
+
+pub allowed : (state : State) (s : Step) → is_taken_step (next state s) ≡ true → denial_of state s ≡ None
+allowed state s taken = allowed_by state s (denial_of state s) refl taken
+
+-- what contracts say of a step for which there is no room: it is denied, or memory was wanting
+wanting_by : (machine : Taken) (s : Step) (denial : Option Refusal) → denial_of (state_of machine) s ≡ denial →
+    Applied (Err (unwrap_or denial refuse.Memory)) machine s machine
+wanting_by machine s None is = (refl, is)
+wanting_by machine s (Some refuse.Memory) is = absurd (not_for_memory (state_of machine) s is)
+wanting_by machine s (Some refusal) is = (refl, denied (state_of machine) s refusal is)
+
+pub wanting_applied : (machine : Taken) (s : Step) (refusal : Refusal) → refusal ≡ unwrap_or (denial_of (state_of machine) s) refuse.Memory →
+    Applied (Err refusal) machine s machine
+wanting_applied machine s refusal is =
+    subst (λ (r : Refusal). Applied (Err r) machine s machine) (sym is) (wanting_by machine s (denial_of (state_of machine) s) refl)
+
+-- what contracts say of a step that is refused: the definition denies it, or memory was wanting for one that it takes
+pub refused_applied : (machine : Taken) (s : Step) (refusal : Refusal) →
     (next (state_of machine) s ≡ Err refusal) ⊎ ((refusal ≡ refuse.Memory) × (is_taken_step (next (state_of machine) s) ≡ true)) → Applied (Err refusal) machine s machine
-refused_applied machine s refuse.Memory allowed why = (refl, allowed)
-refused_applied machine s refusal allowed (inl e) = (refl, e)
-refused_applied machine s refusal allowed (inr e) = let is = e.0 in absurd (grind (arith, is))
+refused_applied machine s refuse.Memory (inl e) = absurd (never_memory (state_of machine) s e)
+refused_applied machine s refuse.Memory (inr e) = (refl, allowed (state_of machine) s e.1)
+refused_applied machine s refusal (inl e) = (refl, e)
+refused_applied machine s refusal (inr e) = let is = e.0 in absurd (grind (arith, is))

@@ -7,8 +7,7 @@ use Rattle.history.specs.declared.replies.Reply.{Reply}
 use Rattle.machine_model.specs.declared.steps.Step.TheVariants.{Go}
 use Rattle.machine_model.specs.declared.steps.Outcome.{Outcome}
 use Rattle.machine_model.specs.declared.steps.Outcome.TheVariants as outcome
-use Rattle.machine_model.specs.States.{State}
-use Rattle.machine_model.specs.Machine.{Answer, next, is_running, is_actor, is_spent, go_denial, first_reason}
+use Rattle.machine_model.specs.Machine.{Answer, next, denial_of}
 use Rattle.step_machine.specs.Machines.{Taken, state_of, with_step, Applied}
 use Rattle.step_machine.specs.Callers.{after_outcome, after_go, going_on, go_limit, Resumes}
 
@@ -53,20 +52,11 @@ ends i actor id answer o from machine after within so is applied =
     subst (λ n. going_on n actor from ≡ (Ok (Some answer), after)) (left i within)
     (last_answer actor from machine i (go_limit - (i + 1)) (Ok (outcome.Ended id answer, state_of after)) so step.1 ∙ ap (λ m. (Ok (Some answer), m)) (sym step.0))
 
-running_by : (a r s : Bool) → first_reason ((not a, refuse.NoActor) ∷ (not r, refuse.Idle) ∷ (s, refuse.Spent) ∷ []) ≡ None → r ≡ true
-running_by true true s e = refl
-running_by true false s e = grind (arith, e)
-running_by false r s e = grind (arith, e)
-
--- where nothing denies a step of the actor's operation it runs one
-runs : (state : State) (actor : ℕ) → go_denial state actor ≡ None → is_running state actor ≡ true
-runs state actor e = running_by (is_actor state actor) (is_running state actor) (is_spent state) e
-
 -- a step is refused
 pub stops : (i actor : ℕ) (refusal : Refusal) (from machine after : Taken) → i < go_limit → going_on i actor from ≡ (Ok None, machine) →
     Applied (Err refusal) machine (Go actor) after → Resumes (Err refusal) from actor after
 stops i actor refuse.Memory from machine after within so step =
-    (i, within, so ∙ ap (λ m. (Ok None, m)) (sym step.0), runs (state_of after) actor (subst (λ m. go_denial (state_of m) actor ≡ None) (sym step.0) step.1))
+    (i, within, so ∙ ap (λ m. (Ok None, m)) (sym step.0), subst (λ m. denial_of (state_of m) (Go actor) ≡ None) (sym step.0) step.1)
 stops i actor refusal from machine after within so step =
     subst (λ n. going_on n actor from ≡ (Err refusal, after)) (left i within)
     (last_answer actor from machine i (go_limit - (i + 1)) (Err refusal) so step.1 ∙ ap (λ m. (Err refusal, m)) (sym step.0))

@@ -1,6 +1,6 @@
 -- What a step that is taken does to the run that led to it.
-use Rattle.std.specs.Prelude.{◌≡◌, List, [], ◌∷◌, ◌++◌, Ok}
-use Rattle.std.proofs.Common.{refl, sym, subst}
+use Rattle.std.specs.Prelude.{◌≡◌, ◌⊎◌, List, [], ◌∷◌, ◌++◌, Ok}
+use Rattle.std.proofs.Common.{refl, sym, ap, subst, inl, inr}
 use Rattle.machine_model.specs.declared.steps.Limits.{Limits}
 use Rattle.machine_model.specs.declared.steps.Step.{Step}
 use Rattle.machine_model.specs.declared.steps.Outcome.{Outcome}
@@ -9,6 +9,7 @@ use Rattle.machine_model.specs.Machine.{next, run}
 use Rattle.machine_model.proofs.Moves.{moved}
 use Rattle.machine_model.proofs.Along.{run_push}
 use Rattle.machine_model.proofs.Frames.{limits_kept}
+use Rattle.step_machine.specs.Machines.{IsTaken, AreTaken}
 
 -- the sizes stay
 pub kept_limits : (before : State) (s : Step) (o : Outcome) (after : State) → next before s ≡ Ok (o, after) → after.limits ≡ before.limits
@@ -24,3 +25,37 @@ pub next_run : (before : State) (steps : List Step) (s : Step) (o : Outcome) (af
 next_run before steps s o after led e =
     subst (λ limits. after ≡ run limits (steps ++ s ∷ [])) (sym (kept_limits before s o after e))
     (run_with before.limits steps s o after (subst (λ state. next state s ≡ Ok (o, after)) led e))
+
+-- where a list with one element more is cut, either that element stands behind the cut alone, or the list itself is cut there
+
+data Cut {A : Type 0} (xs : List A) (x : A) (before : List A) (at : A) (after : List A) : Type 0 where
+  Last : xs ≡ before → x ≡ at → Cut xs x before at after
+  Earlier : (rest : List A) → xs ≡ before ++ at ∷ rest → Cut xs x before at after
+
+longer : {A : Type 0} (y : A) (xs : List A) (x : A) (before : List A) (at : A) (after : List A) → Cut xs x before at after → Cut (y ∷ xs) x (y ∷ before) at after
+longer y xs x before at after (Last same is) = Last (ap (λ l. y ∷ l) same) is
+longer y xs x before at after (Earlier rest same) = Earlier rest (ap (λ l. y ∷ l) same)
+
+cut_push : {A : Type 0} (xs : List A) (x : A) (before : List A) (at : A) (after : List A) → xs ++ x ∷ [] ≡ before ++ at ∷ after → Cut xs x before at after
+cut_push [] x [] at after e = Last refl cc
+cut_push [] x (b ∷ []) at after e = absurd cc
+cut_push [] x (b ∷ c ∷ before) at after e = absurd cc
+cut_push (y ∷ xs) x [] at after e = Earlier xs (let same : y ≡ at = cc in rw same refl)
+cut_push (y ∷ xs) x (b ∷ before) at after e =
+    let same : y ≡ b = cc in
+    let rest : xs ++ x ∷ [] ≡ before ++ at ∷ after = cc in
+    subst (λ (z : _). Cut (y ∷ xs) x (z ∷ before) at after) same (longer y xs x before at after (cut_push xs x before at after rest))
+
+-- behind steps that the definition takes, one more that it takes
+taken_push : (limits : Limits) (steps : List Step) (s : Step) → AreTaken limits steps → IsTaken (run limits steps) s → AreTaken limits (steps ++ s ∷ [])
+taken_push limits steps s all last before after step e = elim (cut_push steps s before step after e) [
+  | Last same is ↦ subst (λ (b : List Step). IsTaken (run limits b) step) same (subst (λ (x : Step). IsTaken (run limits steps) x) is last)
+  | Earlier rest same ↦ all before rest step same
+]
+
+pub all_taken : (before : State) (steps : List Step) (s : Step) (o : Outcome) (after : State) → before ≡ run before.limits steps → AreTaken before.limits steps →
+    next before s ≡ Ok (o, after) → AreTaken after.limits (steps ++ s ∷ [])
+all_taken before steps s o after led all e =
+    let last : IsTaken before s = rw e refl in
+    subst (λ limits. AreTaken limits (steps ++ s ∷ [])) (sym (kept_limits before s o after e))
+    (taken_push before.limits steps s all (subst (λ state. IsTaken state s) led last))

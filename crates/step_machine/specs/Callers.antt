@@ -8,8 +8,8 @@ use Rattle.machine_model.specs.declared.steps.Step.{Step}
 use Rattle.machine_model.specs.declared.steps.Step.TheVariants.{Begin, Go, Sweep}
 use Rattle.machine_model.specs.declared.steps.Outcome.{Outcome}
 use Rattle.machine_model.specs.declared.steps.Outcome.TheVariants.{Ended}
-use Rattle.machine_model.specs.Machine.{Answer, next, denial_of, is_running, is_busy, is_spent}
-use Rattle.step_machine.specs.Machines.{Taken, state_of, with_step, Applied}
+use Rattle.machine_model.specs.Machine.{Answer, next, denial_of, is_busy, is_spent}
+use Rattle.step_machine.specs.Machines.{Taken, state_of, with_step, IsTaken, Applied}
 
 -- the same as of a step of which just the refusal is told
 abbrev pub Stepped : Result (Unit {0}) Refusal → Taken → Step → Taken → Type 0
@@ -38,10 +38,10 @@ going_on zero actor machine = (Ok None, machine)
 going_on (suc n) actor machine = after_go (going_on n actor) machine actor (next (state_of machine) (Go actor))
 
 -- An operation goes on until it ends, but for no more than the limit of steps. For want of memory it stops before one of
--- these: the steps taken so far stand, and the operation still runs.
+-- these that nothing denies: the steps taken so far stand, and the operation still runs.
 abbrev pub Resumes : Result (Option Reply) Refusal → Taken → ℕ → Taken → Type 0
 Resumes (Err Memory) before actor after =
-    (n : ℕ) × (n < go_limit) × (going_on n actor before ≡ (Ok None, after)) × (is_running (state_of after) actor ≡ true)
+    (n : ℕ) × (n < go_limit) × (going_on n actor before ≡ (Ok None, after)) × (denial_of (state_of after) (Go actor) ≡ None)
 Resumes result before actor after = going_on go_limit actor before ≡ (result, after)
 
 -- A call begins, where nothing denies it, and goes on.
@@ -58,20 +58,25 @@ unfoldable pub swept : ℕ → Taken → Taken
 swept zero machine = machine
 swept (suc n) machine = swept n (with_step machine Sweep)
 
--- limbo isn't empty before any of so many steps of the sweep
-abbrev pub IsNeeded : ℕ → Taken → Type 0
-IsNeeded n machine = (m : ℕ) → m < n → (state_of (swept m machine)).limbo ≡ [] → ⊥
+-- limbo isn't empty
+abbrev pub IsLeft : Taken → Type 0
+IsLeft machine = (state_of machine).limbo ≡ [] → ⊥
 
--- how steps of the sweep come to an end: limbo is empty, or memory is wanting, or the machine has taken all its steps
+-- each of so many steps of the sweep is taken, and limbo isn't empty before it
+abbrev pub AreNeeded : ℕ → Taken → Type 0
+AreNeeded n machine = (m : ℕ) → m < n → IsLeft (swept m machine) × IsTaken (state_of (swept m machine)) Sweep
+
+-- how steps of the sweep come to an end: limbo is empty, or else memory is wanting for a step that nothing denies, or the
+-- machine has taken all its steps
 abbrev pub SweepsUntil : Result (Unit {0}) Refusal → Taken → Type 0
 SweepsUntil (Ok done) after = (state_of after).limbo ≡ []
-SweepsUntil (Err Memory) after = (state_of after).limbo ≡ [] → ⊥
-SweepsUntil (Err Spent) after = ((state_of after).limbo ≡ [] → ⊥) × (is_spent (state_of after) ≡ true)
+SweepsUntil (Err Memory) after = IsLeft after × (denial_of (state_of after) Sweep ≡ None)
+SweepsUntil (Err Spent) after = IsLeft after × (is_spent (state_of after) ≡ true)
 SweepsUntil (Err refusal) after = ⊥
 
 abbrev pub ReclaimsUnless : Bool → Result (Unit {0}) Refusal → Taken → Taken → Type 0
 ReclaimsUnless true result before after = (result ≡ Err Busy) × (after ≡ before)
-ReclaimsUnless false result before after = (n : ℕ) × (after ≡ swept n before) × IsNeeded n before × SweepsUntil result after
+ReclaimsUnless false result before after = (n : ℕ) × (after ≡ swept n before) × AreNeeded n before × SweepsUntil result after
 
 -- Where no operation runs, the sweep goes on until limbo is empty. The steps taken so far stand in any case.
 abbrev pub Reclaims : Result (Unit {0}) Refusal → Taken → Taken → Type 0

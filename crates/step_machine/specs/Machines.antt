@@ -1,5 +1,5 @@
 -- What contracts see of a machine, and what a step does to it.
-use Rattle.std.specs.Prelude.{◌≡◌, ℕ, List, [], ◌∷◌, ◌++◌, Contains, None, Result, Ok, Err}
+use Rattle.std.specs.Prelude.{◌≡◌, ℕ, true, List, [], ◌∷◌, ◌++◌, Contains, None, Result, Ok, Err}
 use Rattle.ctrie_base.specs.declared.refusals.Refusal.{Refusal}
 use Rattle.ctrie_base.specs.declared.refusals.Refusal.TheVariants.{Memory}
 use Rattle.machine_model.specs.declared.steps.Limits.{Limits}
@@ -7,7 +7,7 @@ use Rattle.machine_model.specs.declared.steps.Step.{Step}
 use Rattle.machine_model.specs.declared.steps.Step.TheVariants.{Go}
 use Rattle.machine_model.specs.declared.steps.Outcome.{Outcome}
 use Rattle.machine_model.specs.States.{State}
-use Rattle.machine_model.specs.Machine.{next, denial_of, run}
+use Rattle.machine_model.specs.Machine.{next, denial_of, is_taken_step, run}
 use Rattle.machine_model.specs.Laws.{FindsNoSlot}
 
 -- a machine: its limits, and the steps that it has taken
@@ -22,6 +22,14 @@ fresh limits = record { limits = limits; steps = [] }
 -- the state that its steps lead to
 abbrev pub state_of : Taken → State
 state_of machine = run machine.limits machine.steps
+
+-- the definition takes the step in this state
+abbrev pub IsTaken : State → Step → Type 0
+IsTaken state step = is_taken_step (next state step) ≡ true
+
+-- the definition takes each of the steps, in the state that those before it lead to
+abbrev pub AreTaken : Limits → List Step → Type 0
+AreTaken limits steps = (before after : List Step) (step : Step) → steps ≡ before ++ step ∷ after → IsTaken (run limits before) step
 
 -- the machine with one step more
 abbrev pub with_step : Taken → Step → Taken

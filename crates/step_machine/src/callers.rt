@@ -12,12 +12,13 @@ use history::{Call, Reply};
 use machine_model::{Outcome, Step};
 
 /// How many steps of an operation one call takes at most.
-const GO_LIMIT: u32 = 16_384;
+pub const GO_LIMIT: u32 = 16_384;
 
 impl Machine {
     /// Begins the call and takes steps of it until it ends; none where 16,384 steps didn't end it. What
-    /// denies the begin is answered, and nothing has changed then. After `Memory` the steps taken so far
-    /// stand: an operation that began still runs.
+    /// denies the begin is answered, and nothing has changed then. After `Memory` or `Spent` the steps taken
+    /// so far stand: an operation that began still runs. `Memory` is answered only where nothing denies the
+    /// next step.
     #[tactic(auto, using(crate::proofs::Completing::not_begun, crate::proofs::Completing::begun))]
     pub fn complete(&mut self, actor: u8, call: Call) -> Result<Option<Reply>, Refusal>
         ensures { Completes result self.old actor call self.new }
@@ -28,7 +29,7 @@ impl Machine {
 
     /// Takes steps of the actor's operation until it ends; none where 16,384 steps didn't end it. `NoActor`
     /// and `Idle` where it runs none. After `Memory` or `Spent` the steps taken so far stand, and the
-    /// operation still runs.
+    /// operation still runs. `Memory` is answered only where nothing denies the next step.
     #[tactic(auto, using(crate::proofs::Going::stops), unfolding(crate::specs::Callers::going_on))]
     pub fn resume(&mut self, actor: u8) -> Result<Option<Reply>, Refusal>
         ensures { Resumes result self.old actor self.new }
@@ -42,8 +43,9 @@ impl Machine {
     }
 
     /// Takes steps of the sweep until limbo is empty. `Busy` while any operation runs: nothing has changed
-    /// then. After `Memory` or `Spent` the steps taken so far stand.
-    #[tactic(auto, using(crate::proofs::Sweeping::unswept, crate::proofs::Sweeping::again, crate::proofs::Sweeping::finished, crate::proofs::Sweeping::refused, crate::proofs::Sweeping::nearer))]
+    /// then. After `Memory` or `Spent` the steps taken so far stand; `Spent` where the machine has taken all
+    /// its steps, and `Memory` only where it hasn't.
+    #[tactic(auto, using(crate::proofs::Sweeping::unswept, crate::proofs::Sweeping::finished, crate::proofs::Sweeping::nearer))]
     pub fn reclaim(&mut self) -> Result<(), Refusal>
         ensures { Reclaims result self.old self.new }
     {
@@ -58,7 +60,7 @@ impl Machine {
 
     /// Takes a step, if nothing denies it. Only `Memory` is refused, and nothing has changed then.
     #[tactic(auto, using(crate::proofs::Recording::kept_taken, crate::proofs::Recording::kept_denied))]
-    pub fn take_unless_denied(&mut self, step: Step) -> Result<(), Refusal>
+    pub(crate) fn take_unless_denied(&mut self, step: Step) -> Result<(), Refusal>
         ensures taken { OnOk result ((limits : Limits) (steps : List Step) → IsAfter limits steps self.old → IsAfter limits (steps ++ step ∷ []) self.new) }
         ensures unchanged { OnErr result (self.new ≡ self.old) }
         ensures only_memory { IsOkUnless result Refusal.Memory }
@@ -73,9 +75,7 @@ impl Machine {
     fn take(&mut self, step: Step) -> Result<(), Refusal>
         ensures { Stepped result self.old step self.new }
     {
-        match self.apply(step) {
-            Ok(_) => Ok(()),
-            Err(refusal) => Err(refusal),
-        }
+        self.apply(step)?;
+        Ok(())
     }
 }

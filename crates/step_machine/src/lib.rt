@@ -5,6 +5,7 @@ mod callers;
 mod machine;
 mod records;
 
+pub use callers::GO_LIMIT;
 pub use epochs::Swept;
 pub use machine::Machine;
 pub use machine_model::{Limits, Outcome, Step};

@@ -9,9 +9,9 @@ ghost use Rattle.machine_model.specs.States.{root_at, operation_of};
 ghost use Rattle.slot_arena.specs.Heaps.{in_use};
 ghost use Rattle.machine_model.specs.Orders.{order_of};
 ghost use Rattle.machine_model.specs.Contents.{content_at};
-ghost use Rattle.machine_model.specs.Machine.{AreLimits, is_running, is_busy, runs_on, next_kind, handles_taken, is_access, access_of};
+ghost use Rattle.machine_model.specs.Machine.{AreLimits, denial_of, is_running, is_busy, runs_on, next_kind, handles_taken, is_access, access_of};
 ghost use Rattle.machine_model.specs.Refusing.{RefusesLimits, RefusesContent};
-ghost use Rattle.step_machine.specs.Machines.{Taken, fresh, state_of, Applied, FoundNoSlot};
+ghost use Rattle.step_machine.specs.Machines.{Taken, fresh, state_of, AreTaken, Applied, FoundNoSlot};
 
 use ctrie_base::{Kind, Refusal};
 use history::{Access, Event};
@@ -31,13 +31,14 @@ pub struct Machine {
 impl Model for Machine {
     ghost use Rattle.std.specs.Prelude.{◌≡◌};
     ghost use Rattle.machine_model.specs.Machine.{AreLimits, run};
-    ghost use Rattle.step_machine.specs.Machines.{Taken};
+    ghost use Rattle.step_machine.specs.Machines.{Taken, AreTaken};
 
     ghost Value = { Taken };
 
     ghost view = { λ m. record { limits = m.plain.limits; steps = m.steps.items } };
 
-    ghost invariant = { λ m. (m.plain ≡ run m.plain.limits m.steps.items) × AreLimits m.plain.limits };
+    ghost invariant = { λ m. (m.plain ≡ run m.plain.limits m.steps.items) × AreLimits m.plain.limits
+        × AreTaken m.plain.limits m.steps.items };
 }
 
 impl Machine {
@@ -58,19 +59,26 @@ impl Machine {
     /// Takes a step. Where it is refused, for want of memory too, nothing has changed; `Memory` is answered
     /// only where nothing else denies the step. A reply `NoSlots` comes only where the actor's step before
     /// was to make a node, and no slot was free before it.
-    #[tactic(auto, using(crate::proofs::Steps::kept_limits, crate::proofs::Steps::next_run, crate::proofs::Denials::denied_applied, crate::proofs::Denials::refused_applied))]
+    #[tactic(auto, using(crate::proofs::Steps::kept_limits, crate::proofs::Steps::next_run, crate::proofs::Steps::all_taken, crate::proofs::Denials::wanting_applied, crate::proofs::Denials::refused_applied))]
     pub fn apply(&mut self, step: Step) -> Result<Outcome, Refusal>
         ensures applied { Applied result self.old step self.new }
         ensures want { (actor id : ℕ) → step ≡ Step.Go actor → result ≡ Ok (Outcome.Ended id NoSlots) → FoundNoSlot self.old actor id }
     {
-        if let Some(refusal) = self.plain.denial(step) {
-            return Err(refusal);
+        // The room is taken first, so that a step that was taken can be recorded.
+        if self.steps.reserve(1).is_err() {
+            return Err(self.denial(step).unwrap_or(Refusal::Memory));
         }
-        self.steps.reserve(1)?;
         let outcome = self.plain.apply(step)?;
         let _ = self.steps.push(step);
         machine_model::refused_for_want_alone();
         Ok(outcome)
+    }
+
+    /// Why a step is denied, if it is: what `apply` answers, but for want of memory.
+    pub fn denial(&self, step: Step) -> Option<Refusal>
+        ensures { result ≡ denial_of (state_of self.now) step }
+    {
+        self.plain.denial(step)
     }
 
     /// All events so far, in order of time.
@@ -80,9 +88,11 @@ impl Machine {
         self.plain.events()
     }
 
-    /// The steps that were taken, in order of time.
+    /// The steps that were taken, in order of time. The definition takes each of them, in the state that
+    /// those before it lead to.
     pub fn steps(&self) -> &[Step]
-        ensures { result.now ≡ self.now.steps }
+        ensures steps { result.now ≡ self.now.steps }
+        ensures taken { AreTaken self.now.limits self.now.steps }
     {
         self.steps.as_slice()
     }
@@ -189,9 +199,10 @@ impl Machine {
         self.plain.steps_taken()
     }
 
-    /// The sizes of the machine.
+    /// The sizes of the machine, which are in range.
     pub fn limits(&self) -> Limits
-        ensures { result ≡ self.now.limits }
+        ensures limits { result ≡ self.now.limits }
+        ensures in_range { AreLimits self.now.limits }
     {
         self.plain.limits()
     }

@@ -1,0 +1,130 @@
+//! Reading and writing all of a text, with readers and writers that fail, and the texts of faults.
+
+mod fakes;
+
+use crate::{Counted, Fault, read_all, write_all};
+use ctrie_base::Refusal;
+use fakes::{Failure, NEVER, Sink, Source};
+use std::alloc::AllocError;
+use std::io::{ErrorKind, Read, Write};
+use std::test::Fail;
+
+/// Forty-nine bytes: ten calls that give five bytes at most, and one at the end.
+const TEXT: &str = "hash low\nbegin 0 1 put 0 1 10\nend 0 none\norder 0\n";
+
+const LINE: &str = "legal\n";
+
+/// In one piece and byte by byte, from one reader behind another.
+#[test]
+fn reads_all(rt: HostRuntime) -> Result<(), Fail> {
+    for most in [1, 8192] {
+        let first = Source::new(TEXT.as_bytes(), most, NEVER);
+        let second = Source::new(LINE.as_bytes(), most, NEVER);
+        let mut input = Counted::new(first.chain(second));
+        let text = read_all(rt.alloc(), &mut input).map_err(|_| "fault")?;
+        assert!(rt; text.starts_with(TEXT.as_bytes()) && text.ends_with(LINE.as_bytes()));
+        assert_eq!(rt; text.len(), 55);
+        assert_eq!(rt; input.failed(), 0);
+    }
+    Ok(())
+}
+
+/// The reader fails at each of its calls in turn, the last at the end; an interrupted call is made again.
+#[test]
+fn tells_read_faults(rt: HostRuntime) {
+    for (kind, length) in [
+        (ErrorKind::Other, Err(Fault::Read)),
+        (ErrorKind::Interrupted, Ok(49)),
+    ] {
+        for call in 1..=11 {
+            let source = Source::new(TEXT.as_bytes(), 5, Failure { call, kind });
+            let mut input = Counted::new(source);
+            let found = read_all(rt.alloc(), &mut input);
+            assert_eq!(rt; found.map(|text| text.len()), length, "call {call}");
+            assert_eq!(rt; input.failed(), 1);
+        }
+    }
+}
+
+/// In one piece and byte by byte; nothing is written of an empty text.
+#[test]
+fn writes_all(rt: HostRuntime) {
+    for most in [1, 8192] {
+        for text in [LINE, ""] {
+            let mut sink = Sink::new(Vec::new(rt.alloc()), most, NEVER, false);
+            let mut output = Counted::new(&mut sink);
+            assert_eq!(rt; write_all(&mut output, text.as_bytes()), Ok(()));
+            assert_eq!(rt; output.failed(), 0);
+            assert!(rt; sink.taken.as_slice() == text.as_bytes());
+        }
+    }
+}
+
+/// The writer takes one byte a call, and fails or takes none at each call in turn, the last a flush.
+#[test]
+fn tells_write_faults(rt: HostRuntime) {
+    for is_silent in [false, true] {
+        for call in 1..=7 {
+            let failure = Failure {
+                call,
+                kind: ErrorKind::Other,
+            };
+            let mut sink = Sink::new(Vec::new(rt.alloc()), 1, failure, is_silent);
+            let mut output = Counted::new(&mut sink);
+            let found = write_all(&mut output, LINE.as_bytes());
+            assert_eq!(rt; found, Err(Fault::Write), "call {call}");
+            assert_eq!(rt; output.failed(), 1);
+            assert!(rt; sink.taken.len() as u64 == call - 1, "call {call}");
+            assert!(rt;
+                LINE.as_bytes().starts_with(sink.taken.as_slice()),
+                "call {call}"
+            );
+        }
+    }
+}
+
+/// A call that fails counts, a write or a flush too, and a write that takes no byte.
+#[test]
+fn counts_failed_calls(rt: HostRuntime) -> Result<(), Fail> {
+    let failure = Failure {
+        call: 2,
+        kind: ErrorKind::Other,
+    };
+    let mut input = Counted::new(Source::new(TEXT.as_bytes(), 5, failure));
+    let mut piece = [0; 8];
+    assert!(rt; input.read(&mut piece).is_ok() && input.failed() == 0);
+    assert!(rt; input.read(&mut piece).is_err() && input.failed() == 1);
+    assert!(rt; input.read(&mut piece).is_ok() && input.failed() == 1);
+    for is_silent in [false, true] {
+        let sink = Sink::new(Vec::new(rt.alloc()), 5, failure, is_silent);
+        let mut output = Counted::new(sink);
+        assert!(rt; output.write(&piece).is_ok() && output.failed() == 0);
+        assert!(rt; output.write(&piece).is_ok() == is_silent && output.failed() == 1);
+        assert!(rt; output.flush().is_ok() && output.failed() == 1);
+    }
+    let mut output = Counted::new(Sink::new(Vec::new(rt.alloc()), 5, failure, false));
+    assert!(rt; output.flush().is_ok() && output.flush().is_err() && output.failed() == 1);
+    Ok(())
+}
+
+#[test]
+fn shows_faults(rt: HostRuntime) -> Result<(), Fail> {
+    let rows = [
+        (Fault::Line(3, Refusal::BadLine), "line 3: BadLine", 1),
+        (
+            Fault::Line(300001, Refusal::TooLong),
+            "line 300001: TooLong",
+            1,
+        ),
+        (Fault::Read, "ctrie: read", 2),
+        (Fault::Write, "ctrie: write", 2),
+        (Fault::Memory, "ctrie: memory", 2),
+        (Fault::Usage, "ctrie: usage", 1),
+    ];
+    for (fault, text, status) in &rows {
+        assert!(rt; fault.to_string(rt.alloc())?.as_str() == *text, "{text}");
+        assert_eq!(rt; fault.status(), *status);
+    }
+    assert!(rt; Fault::from(AllocError) == Fault::Memory);
+    Ok(())
+}

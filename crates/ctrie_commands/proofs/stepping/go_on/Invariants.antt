@@ -1,0 +1,11 @@
+-- The steps that are left come to what all of them do.
+use Rattle.std.proofs.Common.{◌≡◌, ◌-◌}
+use Rattle.machine_model.specs.Machine.{run_from}
+use Rattle.script_text.specs.Steps.{going}
+use Rattle.step_machine.specs.Machines.{state_of}
+use Rattle.ctrie_commands.proofs.stepping.go_on.Given as goal
+
+abbrev pub invariant-loop : goal.invariant-loop
+invariant-loop l =
+    run_from (state_of l.machine) (going (l.most - l.counter) l.wanted l.actor (state_of l.machine))
+    ≡ run_from (state_of l.initial.machine) (going l.most l.wanted l.actor (state_of l.initial.machine))

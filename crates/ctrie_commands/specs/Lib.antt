@@ -1,0 +1,4 @@
+pub mod Verdicts
+pub mod Denials
+pub mod Reports
+pub mod Scripts

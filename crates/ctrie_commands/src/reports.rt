@@ -1,0 +1,149 @@
+//! The report of a script's run.
+
+ghost use Rattle.std.specs.Prelude.{◌≡◌, ◌++◌, Some, IfOk, OnOk, drop};
+ghost use Rattle.std.specs.String.{string_bytes};
+ghost use Rattle.machine_model.specs.Machine.{run_from};
+ghost use Rattle.script_text.specs.Steps.{after_command, all_steps};
+ghost use Rattle.script_text.specs.Views.{read};
+ghost use Rattle.step_machine.specs.Machines.{state_of};
+ghost use Rattle.ctrie_commands.specs.Reports.{denied_text, slots_text, event_lines, actor_of, told, all_told, last_lines, report};
+
+use crate::stepping::carry_out;
+use ctrie_base::Refusal;
+use history::Event;
+use history_text::{EventText, OrderText};
+use script_text::{Command, Script};
+use std::alloc::{AllocError, Global};
+use std::fmt;
+use step_machine::Machine;
+
+/// A denied line, as `denied 1 5 Busy`.
+#[derive(Clone, Copy)]
+struct DeniedText {
+    actor: u8,
+    refusal: Refusal,
+}
+
+impl fmt::Display for DeniedText {
+    ghost output = { λ t. Some (denied_text t.actor t.refusal) };
+
+    fn fmt<W: fmt::Write>(&self, f: &mut fmt::Formatter<W>) -> fmt::Result {
+        let number = self.refusal.number();
+        write!(f, "denied {} {number} {}", self.actor, self.refusal)
+    }
+}
+
+/// How many slots are in use, free and in limbo, as `slots used 4 free 60 limbo 1`.
+#[derive(Clone, Copy)]
+struct SlotsText {
+    used: u32,
+    free: u32,
+    limbo: u32,
+}
+
+impl fmt::Display for SlotsText {
+    ghost output = { λ t. Some (slots_text t.used t.free t.limbo) };
+
+    fn fmt<W: fmt::Write>(&self, f: &mut fmt::Formatter<W>) -> fmt::Result {
+        write!(
+            f,
+            "slots used {} free {} limbo {}",
+            self.used, self.free, self.limbo
+        )
+    }
+}
+
+/// The report of the script's run: which hash, what each line tells, the order, and the slots. Only
+/// memory is refused.
+pub fn report_of(alloc: Global, script: &Script) -> Result<String, AllocError>
+    ensures { IfOk result (λ text. string_bytes text ≡ report (read script.now)) }
+{
+    // The limits that a script says are in range.
+    let Ok(mut machine) = Machine::new(alloc, script.limits) else {
+        return Err(AllocError);
+    };
+    let mut text = String::new(alloc);
+    writeln!(text, "hash {}", script.limits.hash)?;
+    tell_all(&mut text, &mut machine, &script.commands)?;
+    tell_last(&mut text, &machine)?;
+    Ok(text)
+}
+
+/// Carries out these commands, and adds what they tell.
+fn tell_all(
+    text: &mut String,
+    machine: &mut Machine,
+    commands: &[Command],
+) -> Result<(), AllocError>
+    ensures state { OnOk result (state_of machine.new ≡ run_from (state_of machine.old) (all_steps (state_of machine.old) commands.now)) }
+    ensures text { OnOk result (string_bytes text.new ≡ string_bytes text.old ++ all_told (state_of machine.old) commands.now) }
+{
+    for command in commands {
+        tell(text, machine, *command)?;
+    }
+    Ok(())
+}
+
+/// Carries out a command, and adds what it tells: that it is denied, or else the events that it added.
+fn tell(text: &mut String, machine: &mut Machine, command: Command) -> Result<(), AllocError>
+    ensures state { OnOk result (state_of machine.new ≡ after_command (state_of machine.old) command) }
+    ensures text { OnOk result (string_bytes text.new ≡ string_bytes text.old ++ told (state_of machine.old) command) }
+{
+    let before = machine.events().len();
+    match carry_out(machine, command)? {
+        Some(refusal) => {
+            let actor = actor_of(command);
+            writeln!(text, "{}", DeniedText { actor, refusal })
+        }
+        None => tell_events(text, behind(machine.events(), before)),
+    }
+}
+
+/// The actor that a command names, 0 for a sweep.
+fn actor_of(command: Command) -> u8
+    ensures { result ≡ actor_of command }
+{
+    match command {
+        Command::Begin { actor, .. }
+        | Command::Go { actor, .. }
+        | Command::Until { actor, .. }
+        | Command::Finish { actor }
+        | Command::Do { actor, .. } => actor,
+        Command::Sweep { .. } => 0,
+    }
+}
+
+/// The events behind the first ones.
+fn behind(events: &[Event], count: usize) -> &[Event]
+    ensures { result.now ≡ drop count events.now }
+{
+    if count <= events.len() {
+        &events[count..]
+    } else {
+        &[]
+    }
+}
+
+/// Adds the lines of these events.
+fn tell_events(text: &mut String, events: &[Event]) -> Result<(), AllocError>
+    ensures { OnOk result (string_bytes text.new ≡ string_bytes text.old ++ event_lines events.now) }
+{
+    for event in events {
+        writeln!(text, "{}", EventText(event))?;
+    }
+    Ok(())
+}
+
+/// Adds the last lines: the order and the slots.
+fn tell_last(text: &mut String, machine: &Machine) -> Result<(), AllocError>
+    ensures { OnOk result (string_bytes text.new ≡ string_bytes text.old ++ last_lines (state_of machine.now)) }
+{
+    let Ok(order) = machine.order() else {
+        return Err(AllocError);
+    };
+    writeln!(text, "{}", OrderText(&order))?;
+    let used = machine.used();
+    let free = machine.free_slots();
+    let limbo = machine.limbo_len();
+    writeln!(text, "{}", SlotsText { used, free, limbo })
+}
