@@ -168,6 +168,11 @@ fn denies(rt: HostRuntime) -> Result<(), Fail> {
         (1, Call::Close { handle: 0 }, Refusal::Busy),
     ];
     for (actor, call, refusal) in &calls {
+        let begins = Step::Begin {
+            actor: *actor,
+            call: *call,
+        };
+        assert!(rt; machine.denial(begins) == Some(*refusal), "{refusal}");
         assert!(rt;
             machine.complete(*actor, *call).err() == Some(*refusal),
             "{refusal}"
@@ -177,6 +182,9 @@ fn denies(rt: HostRuntime) -> Result<(), Fail> {
     assert!(rt; machine.resume(0).err() == Some(Refusal::NoActor));
     assert!(rt; machine.reclaim().err() == Some(Refusal::Busy));
     assert_eq!(rt; machine.steps_taken(), taken);
+    assert!(rt;
+        machine.denial(Step::Go { actor: 2 }) == None && machine.denial(Step::Sweep) == None
+    );
     let reply = machine.resume(2)?;
     let told = format!(in rt.alloc(); "{reply:?}")?;
     assert_eq!(rt; told.as_str(), "Some(Found(None))");
