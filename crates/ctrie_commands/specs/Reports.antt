@@ -7,7 +7,8 @@ use Rattle.ctrie_base.specs.declared.hashes.HashKind.{HashKind}
 use Rattle.ctrie_base.specs.Refusals.{number_of, name_of}
 use Rattle.ctrie_base.specs.Hashes as hashes
 use Rattle.history.specs.declared.events.Event.{Event}
-use Rattle.history_text.specs.Texts.{spaced, event_text, order_text}
+use Rattle.text_lines.specs.Words.{spaced}
+use Rattle.history_text.specs.Texts.{event_text, order_text}
 use Rattle.slot_arena.specs.Heaps.{in_use}
 use Rattle.machine_model.specs.States.{State, first_state}
 use Rattle.machine_model.specs.Orders.{order_of}

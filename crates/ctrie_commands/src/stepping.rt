@@ -103,6 +103,7 @@ fn go_on(
 
 /// Whether steps stop here: where no operation runs, and where the next step is of the kind that is
 /// waited for.
+#[tactic(auto, using(script_text::proofs::SameKinds::same_kind))]
 fn stops(wanted: Option<Kind>, kind: Option<Kind>) -> bool
     ensures { result ≡ stops wanted kind }
 {
