@@ -1,0 +1,4 @@
+pub mod Branches
+pub mod Looking
+pub mod Lists
+pub mod Changing

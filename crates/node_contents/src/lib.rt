@@ -1,0 +1,2 @@
+//! What nodes say of one key, and what the node builders do to contents.
+#![tactic(auto)]
