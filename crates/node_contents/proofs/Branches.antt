@@ -16,7 +16,7 @@ use Rattle.nodes.specs.Levels.{has_flag}
 use Rattle.node_contents.specs.Branches.{standing, HasPlaces, at_place}
 
 -- how many entries stand before a place
-abbrev before : List (Option Ref) → ℕ → ℕ
+abbrev pub before : List (Option Ref) → ℕ → ℕ
 before [] x = zero
 before (p ∷ places) zero = zero
 before (None ∷ places) (suc x) = before places x
@@ -25,7 +25,7 @@ before (Some entry ∷ places) (suc x) = suc (before places x)
 -- ---- the entry at a place
 
 -- the entry at a place is the one behind those before it
-standing_at : (places : List (Option Ref)) (x : ℕ) (entry d : Ref) → at_place places x ≡ Some entry → get_or (standing places) (before places x) d ≡ entry
+pub standing_at : (places : List (Option Ref)) (x : ℕ) (entry d : Ref) → at_place places x ≡ Some entry → get_or (standing places) (before places x) d ≡ entry
 standing_at [] x entry d e = absurd (let bad : None ≡ Some entry = e in cc)
 standing_at (None ∷ places) zero entry d e = absurd (let bad : None ≡ Some entry = e in cc)
 standing_at (Some q ∷ places) zero entry d e = let same : Some q ≡ Some entry = e in cc
@@ -76,7 +76,7 @@ module _ (bitmap : ℕ) (entries : List Ref) (places : List (Option Ref)) (h : H
   pub has_flag-place : has_flag bitmap (2 ^ x) ≡ is_some (at_place places x)
   has_flag-place = ap (λ n. not (n == 0)) (and_pow bitmap x ∙ ap (λ n. n * 2 ^ x) bit_at-place) ∙ set_bit (is_some (at_place places x)) x
 
-  position-before : position_of (2 ^ x) bitmap ≡ before places x
+  pub position-before : position_of (2 ^ x) bitmap ≡ before places x
   position-before =
       ap count_ones (and_mask bitmap x ∙ ap (λ n. n % 2 ^ x) h.bits ∙ mask_l-low (map is_some places) x ∙ ap mask_l (take-map is_some x places))
       ∙ ones-mask_l is_some (take x places) ∙ before_counts places x

@@ -1,2 +1,4 @@
 pub mod Branches
 pub mod Changes
+pub mod ListChanges
+pub mod Tombs
