@@ -115,7 +115,7 @@ standing-less (None ∷ places) (suc x) q e = standing-less places x q e
 standing-less (Some p ∷ places) (suc x) q e = ap (λ es. p ∷ es) (standing-less places x q e)
 
 -- no more entries than places
-standing-le : (places : List (Option Ref)) → length (standing places) ≤ length places
+pub standing-le : (places : List (Option Ref)) → length (standing places) ≤ length places
 standing-le [] = omega arith
 standing-le (None ∷ places) = omega (arith, standing-le places)
 standing-le (Some entry ∷ places) = omega (arith, standing-le places)

@@ -2,3 +2,5 @@ pub mod Branches
 pub mod Changes
 pub mod ListChanges
 pub mod Tombs
+pub mod Refilling
+pub mod Chains

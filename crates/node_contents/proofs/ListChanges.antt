@@ -13,7 +13,7 @@ use Rattle.node_contents.specs.Lists.{IsNew, AreSingles}
 use Rattle.node_contents.specs.Changing.{Changes}
 use Rattle.node_contents.proofs.Changes.{look-same, look-other}
 
-or_else-absent : (f : Found) → or_else f Absent ≡ f
+pub or_else-absent : (f : Found) → or_else f Absent ≡ f
 or_else-absent Absent = refl
 or_else-absent (Has value) = refl
 or_else-absent (Below indirection) = refl

@@ -2,3 +2,4 @@ pub mod Branches
 pub mod Looking
 pub mod Lists
 pub mod Changing
+pub mod Chains
