@@ -1,0 +1,5 @@
+pub mod Maps
+pub mod Values
+pub mod Shapes
+pub mod Updating
+pub mod Paths

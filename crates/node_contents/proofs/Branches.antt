@@ -85,6 +85,21 @@ module _ (bitmap : ℕ) (entries : List Ref) (places : List (Option Ref)) (h : H
   pub entry-place : (entry d : Ref) → at_place places x ≡ Some entry → slice_index_or entries (position_of (2 ^ x) bitmap) d ≡ entry
   entry-place entry d e = ap₂ (λ es n. get_or es n d) h.stand position-before ∙ standing_at places x entry d e
 
+  -- a flag that is there, and one that isn't
+  pub flagged : (d : Ref) → has_flag bitmap (2 ^ x) ≡ true → at_place places x ≡ Some (slice_index_or entries (position_of (2 ^ x) bitmap) d)
+  flagged d e = by_place (at_place places x) refl
+    where
+      by_place : (o : Option Ref) → at_place places x ≡ o → o ≡ Some (slice_index_or entries (position_of (2 ^ x) bitmap) d)
+      by_place None is = absurd (let bad : true ≡ false = sym e ∙ has_flag-place ∙ ap is_some is in cc)
+      by_place (Some entry) is = ap Some (sym (entry-place entry d is))
+
+  pub unflagged : has_flag bitmap (2 ^ x) ≡ false → at_place places x ≡ None
+  unflagged e = by_place (at_place places x) refl
+    where
+      by_place : (o : Option Ref) → at_place places x ≡ o → o ≡ None
+      by_place None is = refl
+      by_place (Some entry) is = absurd (let bad : false ≡ true = sym e ∙ has_flag-place ∙ ap is_some is in cc)
+
 -- ---- what the builders do
 
 -- an entry more

@@ -4,3 +4,4 @@ pub mod ListChanges
 pub mod Tombs
 pub mod Refilling
 pub mod Chains
+pub mod Beside
