@@ -3,3 +3,5 @@ pub mod Values
 pub mod Shapes
 pub mod Updating
 pub mod Paths
+pub mod Contents
+pub mod Repairs
