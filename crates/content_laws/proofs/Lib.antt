@@ -5,3 +5,4 @@ pub mod Updating
 pub mod Paths
 pub mod Contents
 pub mod Repairs
+pub mod Updates

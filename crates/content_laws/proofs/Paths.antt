@@ -176,7 +176,7 @@ module _ (trie : Trie) (ok : IsTrie trie) where
       by_change (beside value f n c) = by_index value c (index q == index key) refl
 
   -- a tomb is never updated
-  update_of_tomb : (g t key : ℕ) (i single : Ref) (old new : Node) (former now : Option ℕ) → IsOwnUpdate trie g t i key old new former now → old ≢ Tomb single
+  pub update_of_tomb : (g t key : ℕ) (i single : Ref) (old new : Node) (former now : Option ℕ) → IsOwnUpdate trie g t i key old new former now → old ≢ Tomb single
   update_of_tomb g t key i s old new former now (branch_inserts bitmap value entries single o a b c) e = let bad : Branch bitmap entries ≡ Tomb s = sym o ∙ e in cc
   update_of_tomb g t key i s old new former now (branch_updates bitmap was value entries single o a b c d) e = let bad : Branch bitmap entries ≡ Tomb s = sym o ∙ e in cc
   update_of_tomb g t key i s old new former now (branch_removes bitmap was entries o a b c) e = let bad : Branch bitmap entries ≡ Tomb s = sym o ∙ e in cc

@@ -1,6 +1,7 @@
 -- A repair leaves the value of every key alone, in every generation.
 use Rattle.std.proofs.Common.{◌≡◌, ◌≢◌, ℕ, zero, suc, ◌+◌, ◌*◌, ◌/◌, ◌%◌, ◌^◌, ◌<◌, ◌≤◌, ◌==◌, Bool, true, false, cond, List, [], ◌∷◌, length, slice_index_or, Option, Some, None, ◌⊎◌, inl, inr, refl, sym, ap, ap₂, subst, ◌∙◌, arith, eqb-true, pow_pos, add_comm}
 use Rattle.std.proofs.lemmas.Nat.{mod-pow-add}
+use Rattle.std.proofs.Math.Nat.{mul-div_cancel}
 use Rattle.arrayvec.specs.ArrayVec.{ArrayVec}
 use Rattle.ctrie_base.specs.Hashes.{hash_of}
 use Rattle.slot_arena.specs.declared.refs.Ref.{Ref}
@@ -11,7 +12,7 @@ use Rattle.nodes.specs.Levels.{index_in}
 use Rattle.node_contents.specs.Branches.{standing, at_place}
 use Rattle.node_contents.specs.Looking.{Found, Absent, Has, Below, look_at, value_by, find_at, value_in}
 use Rattle.node_contents.specs.Changing.{look}
-use Rattle.node_contents.proofs.Branches.{differ}
+use Rattle.node_contents.proofs.Branches.{before, differ}
 use Rattle.node_contents.proofs.Changes.{look_place, look_branch, look-same, look-other}
 use Rattle.node_contents.proofs.Tombs.{place_of}
 use Rattle.content_laws.specs.Tries.{Trie, generation, node_in, assigned, IsShaped, IsChild, most_levels, content}
@@ -20,6 +21,9 @@ use Rattle.content_laws.proofs.Values.{value_by-same, assigned-own, assigned-oth
 use Rattle.content_laws.proofs.Shapes.{IsBranch, branch_shape, IsTomb, tomb_shape, LeadsBelow, leads_below, below_is, single_ends, leads}
 use Rattle.content_laws.proofs.Paths.{LooksUp, in_none, in_entry, refilled_looks, LooksUpOne, one_none, one_entry, one_looks}
 use Rattle.content_laws.proofs.Contents.{same_values, same_content}
+
+same_factor : (x y p : ℕ) → 0 < p → x * p ≡ y * p → x ≡ y
+same_factor x y p pos e = sym (mul-div_cancel x pos) ∙ ap (λ n. n / p) e ∙ mul-div_cancel y pos
 
 module _ (trie : Trie) (ok : IsTrie trie) where
   -- whichever main node is assigned, it has its shape
@@ -124,13 +128,93 @@ module _ (trie : Trie) (ok : IsTrie trie) where
     repaired_gives : (levels : ℕ) → suc levels + trie.depth i ≡ most_levels → IsRepair trie g t (node_in trie t i) (node_in trie (suc t) i) →
         ((j : Ref) → trie.depth j ≡ suc (trie.depth i) → Agrees trie A B q levels (suc (trie.depth i)) j) →
         value_in trie.node A (hash_of trie.kind) q levels (trie.depth i) (node_in trie (suc t) i) ≡ value_in trie.node B (hash_of trie.kind) q levels (trie.depth i) (node_in trie t i)
-    repaired_gives levels sum (refills bitmap entries new_entries o n count stays) below = ?
-    repaired_gives levels sum (entombs bitmap entries entry single o one n stay) below = ?
+    repaired_gives levels sum (refills bitmap entries new_entries o n count stays) below =
+        by_look (refilled_looks trie ok g t q i (node_in trie t i) (node_in trie (suc t) i) bitmap entries new_entries (ok.shaped t i (omega arith)) o n count stays)
+      where
+        deep : (entry : Ref) → look trie.node (hash_of trie.kind) (trie.depth i) q (node_in trie t i) ≡ look_at q entry (trie.node entry) →
+            (h : ℕ) (word : Ref) → trie.node entry ≡ Indirection h word → trie.depth entry ≡ suc (trie.depth i) × trie.depth entry < most_levels
+        deep entry a h word is =
+            let child = (leads_below trie i q (node_in trie t i) entry (ok.shaped t i (omega arith)) (a ∙ leads trie.node q h entry word is)).child in (child.deeper, child.within)
+        deep' : (other : Ref) → look trie.node (hash_of trie.kind) (trie.depth i) q (node_in trie (suc t) i) ≡ look_at q other (trie.node other) →
+            (h : ℕ) (word : Ref) → trie.node other ≡ Indirection h word → trie.depth other ≡ suc (trie.depth i)
+        deep' other b h word is = (leads_below trie i q (node_in trie (suc t) i) other (ok.shaped (suc t) i lt) (b ∙ leads trie.node q h other word is)).child.deeper
+        by_look : LooksUp trie ok g t q i (node_in trie t i) (node_in trie (suc t) i) →
+            value_in trie.node A (hash_of trie.kind) q levels (trie.depth i) (node_in trie (suc t) i) ≡ value_in trie.node B (hash_of trie.kind) q levels (trie.depth i) (node_in trie t i)
+        by_look (in_none a b) =
+            ap (value_by (find_at trie.node A (hash_of trie.kind) q levels (suc (trie.depth i)))) b
+            ∙ sym (ap (value_by (find_at trie.node B (hash_of trie.kind) q levels (suc (trie.depth i)))) a)
+        by_look (in_entry entry other stay a b) =
+            ap (value_by (find_at trie.node A (hash_of trie.kind) q levels (suc (trie.depth i)))) b
+            ∙ entry_gives levels entry other sum stay (deep entry a) (deep' other b) below
+            ∙ sym (ap (value_by (find_at trie.node B (hash_of trie.kind) q levels (suc (trie.depth i)))) a)
+    repaired_gives levels sum (entombs bitmap entries entry single o one n stay) below =
+        by_look (one_looks trie ok q i (node_in trie t i) bitmap entries entry (ok.shaped t i (omega arith)) o one)
+      where
+        s : IsTomb trie i single
+        s = tomb_shape trie i (node_in trie (suc t) i) single (ok.shaped (suc t) i lt) n
+        br : IsBranch trie i bitmap entries
+        br = branch_shape trie i (node_in trie t i) bitmap entries (ok.shaped t i (omega arith)) o
+        list : standing br.places ≡ entry ∷ []
+        list = sym br.has.stand ∙ one
+        found : (z : ℕ) × (at_place br.places z ≡ Some (slice_index_or (standing br.places) 0 no_ref)) × (before br.places z ≡ 0)
+        found = place_of br.places 0 no_ref (omega (arith, ap length list))
+        z : ℕ
+        z = found.0
+        at_z : at_place br.places z ≡ Some entry
+        at_z = found.1 ∙ ap (λ es. Some (slice_index_or es 0 no_ref)) list
+        P : ℕ
+        P = 2 ^ (5 * trie.depth i)
+        h : ℕ
+        h = hash_of trie.kind s.key
+        -- the single's key has the entry's place
+        placed : Stays trie g t entry single → index_in h (trie.depth i) ≡ z
+        placed (kept same) = br.in_place z s.key s.value entry at_z (ap trie.node same ∙ s.is)
+        placed (renewed_by h' word word' is apart fresh main) = absurd (let bad : Indirection g word' ≡ Single s.key s.value = sym fresh ∙ s.is in cc)
+        placed (untombed h' word is tomb) =
+            let child = br.children z h' entry word at_z is in
+            let se = tomb_shape trie entry (trie.node (B entry)) single (shaped_assigned g t entry (omega arith)) tomb in
+            let same : Single se.key se.value ≡ Single s.key s.value = sym se.is ∙ s.is in
+            let key_is : se.key ≡ s.key = cc in
+            let led : h % 2 ^ (5 * trie.depth entry) ≡ trie.path entry = ap (λ k. hash_of trie.kind k % 2 ^ (5 * trie.depth entry)) (sym key_is) ∙ se.led in
+            let five : 5 * trie.depth entry ≡ 5 + 5 * trie.depth i = omega (arith, child.deeper) in
+            let whole : index_in h (trie.depth i) * P + h % P ≡ trie.path i + z * P =
+            sym (mod-pow-add h 5 (5 * trie.depth i)) ∙ ap (λ n. h % 2 ^ n) (sym five) ∙ led ∙ child.led in
+            same_factor (index_in h (trie.depth i)) z P (pow_pos (5 * trie.depth i)) (omega (arith, whole, s.led))
+        -- and no other key is found
+        absent : look trie.node (hash_of trie.kind) (trie.depth i) q (node_in trie t i) ≡ Absent → q ≢ s.key
+        absent a same =
+            not_absent stay (sym (look_branch trie.node q bitmap (index_in (hash_of trie.kind q) (trie.depth i)) entries br.places br.has
+            ∙ ap (λ k. look_place trie.node q (at_place br.places (index_in (hash_of trie.kind k) (trie.depth i)))) same
+            ∙ ap (look_place trie.node q) (ap (at_place br.places) (placed stay) ∙ at_z)) ∙ sym (ap (look trie.node (hash_of trie.kind) (trie.depth i) q) o) ∙ a)
+          where
+            not_absent : Stays trie g t entry single → look_at q entry (trie.node entry) ≢ Absent
+            not_absent (kept e) none = let bad : Has s.value ≡ Absent = sym (look-same trie.node q s.value entry (ap trie.node e ∙ s.is ∙ ap (λ k. Single k s.value) (sym same))) ∙ none in cc
+            not_absent (renewed_by h' word word' is apart fresh main) none = let bad : Indirection g word' ≡ Single s.key s.value = sym fresh ∙ s.is in cc
+            not_absent (untombed h' word is tomb) none = let bad : Below entry ≡ Absent = sym (leads trie.node q h' entry word is) ∙ none in cc
+        deep : look trie.node (hash_of trie.kind) (trie.depth i) q (node_in trie t i) ≡ look_at q entry (trie.node entry) →
+            (h : ℕ) (word : Ref) → trie.node entry ≡ Indirection h word → trie.depth entry ≡ suc (trie.depth i) × trie.depth entry < most_levels
+        deep a h word is =
+            let child = (leads_below trie i q (node_in trie t i) entry (ok.shaped t i (omega arith)) (a ∙ leads trie.node q h entry word is)).child in (child.deeper, child.within)
+        by_look : LooksUpOne trie ok q i entry (node_in trie t i) →
+            value_in trie.node A (hash_of trie.kind) q levels (trie.depth i) (node_in trie (suc t) i) ≡ value_in trie.node B (hash_of trie.kind) q levels (trie.depth i) (node_in trie t i)
+        by_look (one_none a) =
+            ap (value_by (find_at trie.node A (hash_of trie.kind) q levels (suc (trie.depth i))))
+            (ap (look trie.node (hash_of trie.kind) (trie.depth i) q) n ∙ look-other trie.node q s.key s.value single s.is (absent a))
+            ∙ sym (ap (value_by (find_at trie.node B (hash_of trie.kind) q levels (suc (trie.depth i)))) a)
+        by_look (one_entry a) =
+            ap (λ m. value_by (find_at trie.node A (hash_of trie.kind) q levels (suc (trie.depth i))) (look trie.node (hash_of trie.kind) (trie.depth i) q m)) n
+            ∙ entry_gives levels entry single sum stay (deep a) (λ h word is. absurd (let bad : Indirection h word ≡ Single s.key s.value = sym is ∙ s.is in cc)) below
+            ∙ sym (ap (value_by (find_at trie.node B (hash_of trie.kind) q levels (suc (trie.depth i)))) a)
 
     pub repair_stays : IsRepair trie g t (node_in trie t i) (node_in trie (suc t) i) → AgreesIfBelow trie A B q
     repair_stays r levels j sum below = by_test (j == i) refl
       where
         by_test : (b : Bool) → (j == i) ≡ b →
             value_in trie.node A (hash_of trie.kind) q levels (trie.depth j) (trie.node (A j)) ≡ value_in trie.node B (hash_of trie.kind) q levels (trie.depth j) (trie.node (B j))
-        by_test true same = ?
+        by_test true same =
+            let at = eqb-true j i same in
+            subst (λ k. value_in trie.node A (hash_of trie.kind) q levels (trie.depth k) (trie.node (A k)) ≡ value_in trie.node B (hash_of trie.kind) q levels (trie.depth k) (trie.node (B k))) (sym at)
+            (ap (λ m. value_in trie.node A (hash_of trie.kind) q levels (trie.depth i) (trie.node m)) (assigned-own trie g (suc t) i refl)
+            ∙ repaired_gives levels (omega (arith, ap trie.depth at)) r (λ k deeper. subst (λ d. Agrees trie A B q levels (suc d) k) (ap trie.depth at) (below k (deeper ∙ ap (λ n. suc (trie.depth n)) (sym at))))
+            ∙ sym (ap (λ m. value_in trie.node B (hash_of trie.kind) q levels (trie.depth i) (trie.node m)) (assigned-own trie g t i refl)))
         by_test false other = same_assigned A B q levels j (shaped_assigned g t j (omega arith)) (assigned-still trie g (suc t) t j (others j (differ j i other))) below
