@@ -6,3 +6,4 @@ pub mod Paths
 pub mod Contents
 pub mod Repairs
 pub mod Updates
+pub mod Crowds

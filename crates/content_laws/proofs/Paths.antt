@@ -40,6 +40,12 @@ module _ (trie : Trie) (ok : IsTrie trie) where
       let at = on-depth t g q depth' above lt on in
       (led_below t q above below lt (subst (λ d. says trie t q d above ≡ Below below) (sym at) leads)).child.deeper ∙ ap suc at
 
+  pub on-within : (t g q depth : ℕ) (i : Ref) → t ≤ trie.last → On trie t g q depth i → trie.depth i < most_levels
+  on-within t g q depth i lt (at_root e) = omega (arith, ok.root_depth g)
+  on-within t g q depth i lt (at_below depth' above below on leads e) =
+      let at = on-depth t g q depth' above lt on in
+      (led_below t q above below lt (subst (λ d. says trie t q d above ≡ Below below) (sym at) leads)).child.within
+
   pub on-path : (t g q depth : ℕ) (i : Ref) → t ≤ trie.last → On trie t g q depth i → trie.path i ≡ hash_of trie.kind q % 2 ^ (5 * depth)
   on-path t g q depth i lt (at_root e) = ok.root_path g ∙ sym (mod-one (hash_of trie.kind q))
   on-path t g q depth i lt (at_below depth' above below on leads e) =

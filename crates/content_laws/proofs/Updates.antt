@@ -18,7 +18,7 @@ use Rattle.content_laws.proofs.Maps.{get-inserted, get-removed, same_answers}
 use Rattle.content_laws.proofs.Values.{value_by-same, assigned-own, assigned-still, found_below, Agrees, AgreesIfBelow}
 use Rattle.content_laws.proofs.Shapes.{single_ends}
 use Rattle.content_laws.proofs.Updating.{HasUpdated, changes, beside, IsBeside, has_updated, found_of}
-use Rattle.content_laws.proofs.Paths.{on-generation, on-depth, path_lasts, update_of_tomb}
+use Rattle.content_laws.proofs.Paths.{on-generation, on-depth, on-within, path_lasts, update_of_tomb}
 use Rattle.content_laws.proofs.Contents.{get-content, same_values}
 use Rattle.content_laws.proofs.Repairs.{shaped_assigned, same_node, same_assigned}
 
@@ -139,9 +139,18 @@ module _ (trie : Trie) (ok : IsTrie trie) where
       pub has : value_at trie g (suc t) key ≡ now
       pub stay : (q : ℕ) → q ≢ key → value_at trie g (suc t) q ≡ value_at trie g t q
 
-    -- an indirection has a level below it
-    levels_left : (levels : ℕ) × (suc levels + trie.depth i ≡ most_levels)
-    levels_left = ?
 
     pub update_changes : (u : ℕ) → u ≤ t → On trie u g key (trie.depth i) i → IsOwnUpdate trie g t i key old new former now → ChangesValue
-    update_changes u le on is = ?
+    update_changes u le on is = by_path (path_lasts trie ok u t g key (trie.depth i) i le (omega arith) on)
+      where
+        by_path : On trie t g key (trie.depth i) i ⊎ IsTombed trie t i → ChangesValue
+        by_path (inr (single, tomb)) = absurd (update_of_tomb trie ok g t key i single old new former now is tomb)
+        by_path (inl on') =
+            let within = on-within trie ok t g key (trie.depth i) i (omega arith) on' in
+            let sum : suc (14 - trie.depth i) + trie.depth i ≡ most_levels = omega arith in
+            let updated = has_updated trie g t i key old new former now (ok.shaped t i (omega arith)) is in
+            record {
+              had = key_had (14 - trie.depth i) sum on' updated;
+              has = key_has (14 - trie.depth i) sum (on_suc t g key (trie.depth i) i i (omega arith) others (omega arith) on') updated;
+              stay = λ q apart. same_values trie ok g (suc t) t q (others_stay updated q apart);
+            }
