@@ -7,3 +7,4 @@ pub mod Contents
 pub mod Repairs
 pub mod Updates
 pub mod Crowds
+pub mod Effects
