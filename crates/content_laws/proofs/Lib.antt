@@ -8,3 +8,4 @@ pub mod Repairs
 pub mod Updates
 pub mod Crowds
 pub mod Effects
+pub mod Listed

@@ -38,7 +38,7 @@ pub leads : (node : Ref → Node) (q g : ℕ) (entry word : Ref) → node entry 
 leads node q g entry word is = ap (look_at q entry) is
 
 -- singles of a list lead nowhere
-singles_end : (node : Ref → Node) (q : ℕ) (j : Ref) (singles : List Ref) → AreSingles node singles → look_among node q singles ≢ Below j
+pub singles_end : (node : Ref → Node) (q : ℕ) (j : Ref) (singles : List Ref) → AreSingles node singles → look_among node q singles ≢ Below j
 singles_end node q j [] are e = let bad : Absent ≡ Below j = e in cc
 singles_end node q j (s ∷ singles) are e = by_first (singles_end node q j singles are.1) (look_at q s (node s)) refl e
   where
