@@ -9,3 +9,7 @@ pub mod Updates
 pub mod Crowds
 pub mod Effects
 pub mod Listed
+pub mod Generations
+pub mod Openings
+pub mod Readers
+pub mod Done

@@ -69,7 +69,7 @@ module _ (trie : Trie) (ok : IsTrie trie) where
   -- ---- one step
 
   -- a tomb that leads below isn't one
-  tomb_ends : (t q : ℕ) (i j : Ref) → t ≤ trie.last → IsTombed trie t i → says trie t q (trie.depth i) i ≢ Below j
+  pub tomb_ends : (t q : ℕ) (i j : Ref) → t ≤ trie.last → IsTombed trie t i → says trie t q (trie.depth i) i ≢ Below j
   tomb_ends t q i j lt (single, is) e =
       let s = tomb_shape trie i (node_in trie t i) single (ok.shaped t i lt) is in
       single_ends trie.node q s.key s.value single j s.is (sym (ap (look trie.node (hash_of trie.kind) (trie.depth i) q) is) ∙ e)

@@ -23,7 +23,7 @@ use Rattle.content_laws.proofs.Contents.{get-content, same_values}
 use Rattle.content_laws.proofs.Repairs.{shaped_assigned, same_node, same_assigned}
 
 -- a value that is found is the value, whatever is below
-value_of-found : (f : Ref → Option ℕ) (o : Option ℕ) → value_by f (found_of o) ≡ o
+pub value_of-found : (f : Ref → Option ℕ) (o : Option ℕ) → value_by f (found_of o) ≡ o
 value_of-found f None = refl
 value_of-found f (Some v) = refl
 

@@ -1,5 +1,5 @@
 -- What a step may do to the main nodes of a trie.
-use Rattle.std.specs.Prelude.{◌≡◌, ◌≢◌, ℕ, suc, ◌+◌, ◌-◌, ◌<◌, ◌≤◌, Bool, true, false, List, [], ◌∷◌, length, slice_index_or, Contains, Option, Some, None}
+use Rattle.std.specs.Prelude.{◌≡◌, ◌≢◌, ℕ, suc, ◌+◌, ◌-◌, ◌^◌, ◌<◌, ◌≤◌, Bool, true, false, List, [], ◌∷◌, length, slice_index_or, Contains, Option, Some, None}
 use Rattle.arrayvec.specs.ArrayVec.{ArrayVec}
 use Rattle.ctrie_base.specs.Hashes.{hash_of}
 use Rattle.ctrie_base.specs.Paths.{position_of}
@@ -10,11 +10,11 @@ use Rattle.slot_arena.specs.declared.nodes.Node.TheVariants.{Indirection, Branch
 use Rattle.slot_arena.specs.Heaps.{no_ref, entries_from}
 use Rattle.nodes.specs.Levels.{flag_of, has_flag}
 use Rattle.nodes.specs.Builders.{inserted, updated, removed, renewed, list_inserted, list_updated, list_removed}
-use Rattle.node_contents.specs.Looking.{Absent, look_among}
+use Rattle.node_contents.specs.Looking.{Absent, Below, look_among}
 use Rattle.node_contents.specs.Chains.{LeadsToPair}
 use Rattle.machine_model.specs.declared.finding.WhenFound.TheVariants.{Sets, Removes}
-use Rattle.machine_model.specs.Calls.{value_of, inserts, when_found}
-use Rattle.content_laws.specs.Tries.{Trie, generation, node_in, assigned, IsShaped, most_levels}
+use Rattle.machine_model.specs.Calls.{key_of, value_of, inserts, when_found}
+use Rattle.content_laws.specs.Tries.{Trie, generation, node_in, says, assigned, On, IsShaped, most_levels}
 
 -- ---- repairs: nodes made by renewing, cleaning and climbing
 
@@ -104,3 +104,42 @@ pub record IsTrie (trie : Trie) : Type 0 where
   pub shaped : (t : ℕ) (i : Ref) → t ≤ trie.last → IsShaped trie i (node_in trie t i)
   -- each step does one of these
   pub does : (t : ℕ) → t < trie.last → Does trie t
+
+-- ---- what operations know
+
+-- Step t is the commit of the call's own update of its key, in generation g, where the key had this value.
+pub record Updates (trie : Trie) (t g : ℕ) (call : Call) (former : Option ℕ) : Type 0 where
+  -- the indirection, which was once on the key's path
+  pub indirection : Ref
+  pub once : ℕ
+  pub before : once ≤ t
+  pub on : On trie once g (key_of call) (trie.depth indirection) indirection
+  -- its main node alone is changed, as the call asks
+  pub leaves : LeavesOthers trie t indirection
+  pub now : Option ℕ
+  pub asks : Asks call former now
+  pub updates : IsOwnUpdate trie g t indirection (key_of call) (node_in trie t indirection) (node_in trie (suc t) indirection) former now
+  -- keys are 64 bits
+  pub fits : key_of call < 2 ^ 64
+
+-- Just behind step c a new root of generation h has the main node that the root of generation g has in the end.
+pub record Opens (trie : Trie) (c g h : ℕ) : Type 0 where
+  pub newer : g < h
+  pub old_root : generation trie (trie.root g) ≡ g
+  pub new_root : generation trie (trie.root h) ≡ h
+  pub in_range : c < trie.last
+  pub same : trie.main (suc c) (trie.root h) ≡ trie.main trie.last (trie.root g)
+
+-- An operation on a writable handle that looks for its key is at an indirection, which was once on the key's path in
+-- generation g, and had this main node before step t.
+pub record Looks (trie : Trie) (t g key : ℕ) (i main : Ref) : Type 0 where
+  pub once : ℕ
+  pub before : once ≤ t
+  pub in_range : t ≤ trie.last
+  pub on : On trie once g key (trie.depth i) i
+  pub given : trie.main t i ≡ main
+
+-- in the end the indirection is reached along a key's hash from a generation's root
+pub data IsReached (trie : Trie) (g key : ℕ) : ℕ → Ref → Type 0 where
+  root_is : IsReached trie g key 0 (trie.root g)
+  below_is : (depth : ℕ) (i below : Ref) → IsReached trie g key depth i → says trie trie.last key depth i ≡ Below below → IsReached trie g key (suc depth) below
