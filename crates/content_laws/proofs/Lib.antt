@@ -13,3 +13,4 @@ pub mod Generations
 pub mod Openings
 pub mod Readers
 pub mod Done
+pub mod Finality

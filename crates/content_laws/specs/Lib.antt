@@ -1,3 +1,4 @@
 pub mod Tries
 pub mod Steps
 pub mod Effects
+pub mod Finality
