@@ -5,3 +5,5 @@ pub mod Tombs
 pub mod Refilling
 pub mod Chains
 pub mod Beside
+pub mod Maps
+pub mod Builders

@@ -3,3 +3,4 @@ pub mod Looking
 pub mod Lists
 pub mod Changing
 pub mod Chains
+pub mod Laws
