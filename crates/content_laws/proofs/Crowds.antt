@@ -10,7 +10,6 @@ use Rattle.std.proofs.lemmas.Map.Views.{any-filter_same}
 use Rattle.std.proofs.lemmas.List.Sums.{length-filter}
 use Rattle.history.specs.Worlds.{KeyMap}
 use Rattle.history.specs.Effects.{others, is_crowded}
-use Rattle.content_laws.proofs.Maps.{get-inserted}
 
 -- a key stands in a list
 abbrev pub is_among : List ℕ → ℕ → Bool

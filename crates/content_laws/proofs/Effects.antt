@@ -15,7 +15,8 @@ use Rattle.machine_model.specs.Calls.{key_of, value_of, inserts, absent_reply, c
 use Rattle.node_contents.proofs.Branches.{differ}
 use Rattle.content_laws.specs.Steps.{Asks, to_insert, to_set, to_remove}
 use Rattle.content_laws.specs.Effects.{act_in, IsKeyed, ChangesKey}
-use Rattle.content_laws.proofs.Maps.{get-inserted, get-removed, same_answers}
+use Rattle.node_contents.proofs.Maps.{get-inserted, get-removed}
+use Rattle.content_laws.proofs.Maps.{same_answers}
 
 -- ---- maps that differ at one key
 

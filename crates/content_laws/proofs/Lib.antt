@@ -14,3 +14,4 @@ pub mod Openings
 pub mod Readers
 pub mod Done
 pub mod Finality
+pub mod Runs

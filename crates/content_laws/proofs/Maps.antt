@@ -2,17 +2,11 @@
 use Rattle.std.proofs.Common.{◌≡◌, ◌≢◌, ℕ, zero, suc, ◌<◌, ◌==◌, Bool, true, false, cond, List, [], ◌∷◌, length, Contains, Option, Some, None, ◌⊎◌, inl, inr, nat_cmp, refl, sym, ap, ◌∙◌, arith, eqb-true, eq-eqb}
 use Rattle.std.specs.Ordering.{eq_by_cmp}
 use Rattle.std.specs.Cmp.{nat_cmp_total, unsigned_tied}
-use Rattle.std.specs.FinMap.{FinMap, get, insert, remove, empty, get-empty, get-insert, get-remove, same_map, nat_cmp-IsAntisymmetric}
+use Rattle.std.specs.FinMap.{FinMap, get, insert, remove, empty, get-empty, same_map, nat_cmp-IsAntisymmetric}
 use Rattle.history.specs.Worlds.{KeyMap}
 use Rattle.node_contents.proofs.Branches.{differ}
+use Rattle.node_contents.proofs.Maps.{get-inserted}
 use Rattle.content_laws.specs.Tries.{put_value, map_of}
-
--- what a changed map has at a key
-pub get-inserted : (m : KeyMap) (k v q : ℕ) → get (insert m k v) q ≡ cond (q == k) (Some v) (get m q)
-get-inserted m k v q = get-insert nat_cmp_total m k v q ∙ ap (λ b. cond b (Some v) (get m q)) (unsigned_tied q k)
-
-pub get-removed : (m : KeyMap) (k q : ℕ) → get (remove m k) q ≡ cond (q == k) None (get m q)
-get-removed m k q = get-remove nat_cmp_total m k q ∙ ap (λ b. cond b None (get m q)) (unsigned_tied q k)
 
 -- maps that answer alike are one
 pub same_answers : (m n : KeyMap) → ((q : ℕ) → get m q ≡ get n q) → m ≡ n

@@ -52,6 +52,8 @@ module _ (trie : Trie) (i : Ref) where
     pub places : List (Option Ref)
     pub has : HasPlaces bitmap entries.items places
     pub in_place : AreInPlace trie.node (hash_of trie.kind) (trie.depth i) places
+    pub led : (x key value : ℕ) (single : Ref) → at_place places x ≡ Some single → trie.node single ≡ Single key value →
+        hash_of trie.kind key % 2 ^ (5 * trie.depth i) ≡ trie.path i
     pub children : (x g : ℕ) (child word : Ref) → at_place places x ≡ Some child → trie.node child ≡ Indirection g word → IsChild trie i x child
 
   pub record IsList (singles : ArrayVec Ref) : Type 0 where
@@ -68,7 +70,7 @@ module _ (trie : Trie) (i : Ref) where
 
   -- by what the node is
   pub branch_shape : (n : Node) (bitmap : ℕ) (entries : ArrayVec Ref) → IsShaped trie i n → n ≡ Branch bitmap entries → IsBranch bitmap entries
-  branch_shape n bitmap entries (branch b es places is has in_place children) e =
+  branch_shape n bitmap entries (branch b es places is has in_place led children) e =
       let same : Branch b es ≡ Branch bitmap entries = sym is ∙ e in
       let b_is : b ≡ bitmap = cc in
       let es_is : es ≡ entries = cc in
@@ -76,13 +78,14 @@ module _ (trie : Trie) (i : Ref) where
         places = places;
         has = subst₂ (λ (b : ℕ) (es : ArrayVec Ref). HasPlaces b es.items places) b_is es_is has;
         in_place = in_place;
+        led = led;
         children = children;
       }
   branch_shape n bitmap entries (list singles is are most deep one_hash) e = absurd (let bad : Listed singles ≡ Branch bitmap entries = sym is ∙ e in cc)
   branch_shape n bitmap entries (tomb single key value is own led) e = absurd (let bad : Tomb single ≡ Branch bitmap entries = sym is ∙ e in cc)
 
   pub list_shape : (n : Node) (singles : ArrayVec Ref) → IsShaped trie i n → n ≡ Listed singles → IsList singles
-  list_shape n singles (branch b es places is has in_place children) e = absurd (let bad : Branch b es ≡ Listed singles = sym is ∙ e in cc)
+  list_shape n singles (branch b es places is has in_place led children) e = absurd (let bad : Branch b es ≡ Listed singles = sym is ∙ e in cc)
   list_shape n singles (list others is are most deep one_hash) e =
       let same : Listed others ≡ Listed singles = sym is ∙ e in
       let s_is : others ≡ singles = cc in
@@ -90,7 +93,7 @@ module _ (trie : Trie) (i : Ref) where
   list_shape n singles (tomb single key value is own led) e = absurd (let bad : Tomb single ≡ Listed singles = sym is ∙ e in cc)
 
   pub tomb_shape : (n : Node) (single : Ref) → IsShaped trie i n → n ≡ Tomb single → IsTomb single
-  tomb_shape n single (branch b es places is has in_place children) e = absurd (let bad : Branch b es ≡ Tomb single = sym is ∙ e in cc)
+  tomb_shape n single (branch b es places is has in_place led children) e = absurd (let bad : Branch b es ≡ Tomb single = sym is ∙ e in cc)
   tomb_shape n single (list singles is are most deep one_hash) e = absurd (let bad : Listed singles ≡ Tomb single = sym is ∙ e in cc)
   tomb_shape n single (tomb other key value is own led) e =
       let same : Tomb other ≡ Tomb single = sym is ∙ e in
@@ -106,7 +109,7 @@ module _ (trie : Trie) (i : Ref) where
     pub alike : (p : ℕ) → index_in (hash_of trie.kind p) (trie.depth i) ≡ index_in (hash_of trie.kind q) (trie.depth i) → look trie.node (hash_of trie.kind) (trie.depth i) p n ≡ Below j
 
   pub leads_below : (q : ℕ) (n : Node) (j : Ref) → IsShaped trie i n → look trie.node (hash_of trie.kind) (trie.depth i) q n ≡ Below j → LeadsBelow q n j
-  leads_below q n j (branch b es places is has in_place children) e = by_place (at_place places x) refl
+  leads_below q n j (branch b es places is has in_place led children) e = by_place (at_place places x) refl
       (sym (look_branch trie.node q b x es places has) ∙ sym (ap (look trie.node (hash_of trie.kind) (trie.depth i) q) is) ∙ e)
     where
       x : ℕ

@@ -14,7 +14,8 @@ use Rattle.node_contents.proofs.ListChanges.{or_else-absent}
 use Rattle.node_contents.proofs.Chains.{chain_says}
 use Rattle.content_laws.specs.Tries.{Trie, generation, node_in, says, assigned, value_at, content, On, at_root, at_below, IsTombed, IsShaped, most_levels}
 use Rattle.content_laws.specs.Steps.{IsOwnUpdate, LeavesOthers, IsTrie}
-use Rattle.content_laws.proofs.Maps.{get-inserted, get-removed, same_answers}
+use Rattle.node_contents.proofs.Maps.{get-inserted, get-removed}
+use Rattle.content_laws.proofs.Maps.{same_answers}
 use Rattle.content_laws.proofs.Values.{value_by-same, assigned-own, assigned-still, found_below, Agrees, AgreesIfBelow}
 use Rattle.content_laws.proofs.Shapes.{single_ends}
 use Rattle.content_laws.proofs.Updating.{HasUpdated, changes, beside, IsBeside, has_updated, found_of}

@@ -2,3 +2,4 @@ pub mod Tries
 pub mod Steps
 pub mod Effects
 pub mod Finality
+pub mod Runs

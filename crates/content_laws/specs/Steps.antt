@@ -1,5 +1,5 @@
 -- What a step may do to the main nodes of a trie.
-use Rattle.std.specs.Prelude.{◌≡◌, ◌≢◌, ℕ, suc, ◌+◌, ◌-◌, ◌^◌, ◌<◌, ◌≤◌, Bool, true, false, List, [], ◌∷◌, length, slice_index_or, Contains, Option, Some, None}
+use Rattle.std.specs.Prelude.{◌≡◌, ◌≢◌, ℕ, suc, ◌+◌, ◌-◌, ◌*◌, ◌^◌, ◌<◌, ◌≤◌, Bool, true, false, List, [], ◌∷◌, length, slice_index_or, Contains, Option, Some, None}
 use Rattle.arrayvec.specs.ArrayVec.{ArrayVec}
 use Rattle.ctrie_base.specs.Hashes.{hash_of}
 use Rattle.ctrie_base.specs.Paths.{position_of}
@@ -100,6 +100,8 @@ pub record IsTrie (trie : Trie) : Type 0 where
   -- a root has depth 0, and the empty path leads to it
   pub root_depth : (g : ℕ) → trie.depth (trie.root g) ≡ 0
   pub root_path : (g : ℕ) → trie.path (trie.root g) ≡ 0
+  -- a path has five bits for each level
+  pub path_fits : (i : Ref) → trie.path i < 2 ^ (5 * trie.depth i)
   -- main nodes have their shape at each time
   pub shaped : (t : ℕ) (i : Ref) → t ≤ trie.last → IsShaped trie i (node_in trie t i)
   -- each step does one of these

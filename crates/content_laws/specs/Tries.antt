@@ -80,9 +80,11 @@ pub record IsChild (trie : Trie) (i : Ref) (x : ℕ) (child : Ref) : Type 0 wher
 
 -- a main node of an indirection i
 pub data IsShaped (trie : Trie) (i : Ref) (n : Node) : Type 0 where
-  -- each entry stands at its place
+  -- each entry stands at its place, and the path leads to it
   branch : (bitmap : ℕ) (entries : ArrayVec Ref) (places : List (Option Ref)) → n ≡ Branch bitmap entries → HasPlaces bitmap entries.items places →
       AreInPlace trie.node (hash_of trie.kind) (trie.depth i) places →
+      ((x key value : ℕ) (single : Ref) → at_place places x ≡ Some single → trie.node single ≡ Single key value →
+      hash_of trie.kind key % 2 ^ (5 * trie.depth i) ≡ trie.path i) →
       ((x g : ℕ) (child word : Ref) → at_place places x ≡ Some child → trie.node child ≡ Indirection g word → IsChild trie i x child) → IsShaped trie i n
   -- singles of different keys of one hash, below all levels
   list : (singles : ArrayVec Ref) → n ≡ Listed singles → AreSingles trie.node singles.items → length singles.items ≤ 32 → trie.depth i ≡ list_depth trie.kind →
