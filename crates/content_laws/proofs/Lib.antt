@@ -15,3 +15,4 @@ pub mod Readers
 pub mod Done
 pub mod Finality
 pub mod Runs
+pub mod PairLists

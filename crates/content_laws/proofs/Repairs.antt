@@ -18,7 +18,7 @@ use Rattle.node_contents.proofs.Tombs.{place_of}
 use Rattle.content_laws.specs.Tries.{Trie, generation, node_in, assigned, IsShaped, IsChild, most_levels, content}
 use Rattle.content_laws.specs.Steps.{Stays, kept, renewed_by, untombed, IsRepair, refills, entombs, LeavesOthers, IsTrie}
 use Rattle.content_laws.proofs.Values.{value_by-same, assigned-own, assigned-other, assigned-still, found_below, found_nothing, Agrees, AgreesIfBelow}
-use Rattle.content_laws.proofs.Shapes.{IsBranch, branch_shape, IsTomb, tomb_shape, LeadsBelow, leads_below, below_is, single_ends, leads}
+use Rattle.content_laws.proofs.Shapes.{IsBranch, child-depth, branch_shape, IsTomb, tomb_shape, LeadsBelow, leads_below, below_is, single_ends, leads}
 use Rattle.content_laws.proofs.Paths.{LooksUp, in_none, in_entry, refilled_looks, LooksUpOne, one_none, one_entry, one_looks}
 use Rattle.content_laws.proofs.Contents.{same_values, same_content}
 
@@ -82,7 +82,7 @@ module _ (trie : Trie) (ok : IsTrie trie) where
 
     -- an entry that stays gives the same
     entry_gives : (levels : ℕ) (entry other : Ref) → suc levels + trie.depth i ≡ most_levels → Stays trie g t entry other →
-        ((h : ℕ) (word : Ref) → trie.node entry ≡ Indirection h word → trie.depth entry ≡ suc (trie.depth i) × trie.depth entry < most_levels) →
+        ((h : ℕ) (word : Ref) → trie.node entry ≡ Indirection h word → trie.depth entry ≡ suc (trie.depth i) × trie.depth entry ≤ 13) →
         ((h : ℕ) (word : Ref) → trie.node other ≡ Indirection h word → trie.depth other ≡ suc (trie.depth i)) →
         ((j : Ref) → trie.depth j ≡ suc (trie.depth i) → Agrees trie A B q levels (suc (trie.depth i)) j) →
         value_by (find_at trie.node A (hash_of trie.kind) q levels (suc (trie.depth i))) (look_at q other (trie.node other))
@@ -132,9 +132,9 @@ module _ (trie : Trie) (ok : IsTrie trie) where
         by_look (refilled_looks trie ok g t q i (node_in trie t i) (node_in trie (suc t) i) bitmap entries new_entries (ok.shaped t i (omega arith)) o n count stays)
       where
         deep : (entry : Ref) → look trie.node (hash_of trie.kind) (trie.depth i) q (node_in trie t i) ≡ look_at q entry (trie.node entry) →
-            (h : ℕ) (word : Ref) → trie.node entry ≡ Indirection h word → trie.depth entry ≡ suc (trie.depth i) × trie.depth entry < most_levels
+            (h : ℕ) (word : Ref) → trie.node entry ≡ Indirection h word → trie.depth entry ≡ suc (trie.depth i) × trie.depth entry ≤ 13
         deep entry a h word is =
-            let child = (leads_below trie i q (node_in trie t i) entry (ok.shaped t i (omega arith)) (a ∙ leads trie.node q h entry word is)).child in (child.deeper, child.within)
+            let child = (leads_below trie i q (node_in trie t i) entry (ok.shaped t i (omega arith)) (a ∙ leads trie.node q h entry word is)).child in (child.deeper, child-depth trie i (index_in (hash_of trie.kind q) (trie.depth i)) entry child)
         deep' : (other : Ref) → look trie.node (hash_of trie.kind) (trie.depth i) q (node_in trie (suc t) i) ≡ look_at q other (trie.node other) →
             (h : ℕ) (word : Ref) → trie.node other ≡ Indirection h word → trie.depth other ≡ suc (trie.depth i)
         deep' other b h word is = (leads_below trie i q (node_in trie (suc t) i) other (ok.shaped (suc t) i lt) (b ∙ leads trie.node q h other word is)).child.deeper
@@ -192,9 +192,9 @@ module _ (trie : Trie) (ok : IsTrie trie) where
             not_absent (renewed_by h' word word' is apart fresh main) none = let bad : Indirection g word' ≡ Single s.key s.value = sym fresh ∙ s.is in cc
             not_absent (untombed h' word is tomb) none = let bad : Below entry ≡ Absent = sym (leads trie.node q h' entry word is) ∙ none in cc
         deep : look trie.node (hash_of trie.kind) (trie.depth i) q (node_in trie t i) ≡ look_at q entry (trie.node entry) →
-            (h : ℕ) (word : Ref) → trie.node entry ≡ Indirection h word → trie.depth entry ≡ suc (trie.depth i) × trie.depth entry < most_levels
+            (h : ℕ) (word : Ref) → trie.node entry ≡ Indirection h word → trie.depth entry ≡ suc (trie.depth i) × trie.depth entry ≤ 13
         deep a h word is =
-            let child = (leads_below trie i q (node_in trie t i) entry (ok.shaped t i (omega arith)) (a ∙ leads trie.node q h entry word is)).child in (child.deeper, child.within)
+            let child = (leads_below trie i q (node_in trie t i) entry (ok.shaped t i (omega arith)) (a ∙ leads trie.node q h entry word is)).child in (child.deeper, child-depth trie i (index_in (hash_of trie.kind q) (trie.depth i)) entry child)
         by_look : LooksUpOne trie ok q i entry (node_in trie t i) →
             value_in trie.node A (hash_of trie.kind) q levels (trie.depth i) (node_in trie (suc t) i) ≡ value_in trie.node B (hash_of trie.kind) q levels (trie.depth i) (node_in trie t i)
         by_look (one_none a) =

@@ -2,6 +2,8 @@
 use Rattle.std.proofs.Common.{◌≡◌, ◌≢◌, ℕ, zero, suc, ◌+◌, ◌*◌, ◌^◌, ◌%◌, ◌<◌, ◌≤◌, ◌==◌, Bool, true, false, cond, List, [], ◌∷◌, length, Option, Some, None, refl, sym, ap, ap₂, subst, subst₂, ◌∙◌, arith}
 use Rattle.arrayvec.specs.ArrayVec.{ArrayVec}
 use Rattle.ctrie_base.specs.Hashes.{hash_of}
+use Rattle.ctrie_base.specs.declared.hashes.HashKind.{HashKind}
+use Rattle.ctrie_base.specs.declared.hashes.HashKind.TheVariants.{Low, Fold, Wide, Block}
 use Rattle.slot_arena.specs.declared.refs.Ref.{Ref}
 use Rattle.slot_arena.specs.declared.nodes.Node.{Node}
 use Rattle.slot_arena.specs.declared.nodes.Node.TheVariants.{Indirection, Branch, Single, Tomb, List as Listed}
@@ -47,7 +49,18 @@ singles_end node q j (s ∷ singles) are e = by_first (singles_end node q j sing
     by_first rest (Has v) is e = let bad : Has v ≡ Below j = e in cc
     by_first rest (Below i) is e = single_ends node q are.0.key are.0.value s i are.0.is is
 
+-- lists stand below 7 or 13 levels
+pub list_depth-le : (kind : HashKind) → list_depth kind ≤ 13
+list_depth-le Low = omega arith
+list_depth-le Fold = omega arith
+list_depth-le Wide = omega arith
+list_depth-le Block = omega arith
+
 module _ (trie : Trie) (i : Ref) where
+  -- a child stands no deeper
+  pub child-depth : (x : ℕ) (child : Ref) → IsChild trie i x child → trie.depth child ≤ 13
+  child-depth x child c = omega (arith, c.within, list_depth-le trie.kind)
+
   pub record IsBranch (bitmap : ℕ) (entries : ArrayVec Ref) : Type 0 where
     pub places : List (Option Ref)
     pub has : HasPlaces bitmap entries.items places

@@ -74,7 +74,7 @@ content trie g t = map_of trie.keys (value_at trie g t)
 -- an indirection at this place of a branch of an indirection i
 pub record IsChild (trie : Trie) (i : Ref) (x : ℕ) (child : Ref) : Type 0 where
   pub deeper : trie.depth child ≡ suc (trie.depth i)
-  pub within : trie.depth child < most_levels
+  pub within : trie.depth child ≤ list_depth trie.kind
   pub led : trie.path child ≡ trie.path i + x * 2 ^ (5 * trie.depth i)
   pub older : generation trie child ≤ generation trie i
 
