@@ -16,3 +16,5 @@ pub mod Done
 pub mod Finality
 pub mod Runs
 pub mod PairLists
+pub mod Spreads
+pub mod Shown

@@ -22,7 +22,7 @@ use Rattle.content_laws.proofs.Shapes.{IsBranch, child-depth, branch_shape, IsTo
 use Rattle.content_laws.proofs.Paths.{LooksUp, in_none, in_entry, refilled_looks, LooksUpOne, one_none, one_entry, one_looks}
 use Rattle.content_laws.proofs.Contents.{same_values, same_content}
 
-same_factor : (x y p : ℕ) → 0 < p → x * p ≡ y * p → x ≡ y
+pub same_factor : (x y p : ℕ) → 0 < p → x * p ≡ y * p → x ≡ y
 same_factor x y p pos e = sym (mul-div_cancel x pos) ∙ ap (λ n. n / p) e ∙ mul-div_cancel y pos
 
 module _ (trie : Trie) (ok : IsTrie trie) where

@@ -3,3 +3,4 @@ pub mod Steps
 pub mod Effects
 pub mod Finality
 pub mod Runs
+pub mod Pairs
