@@ -17,4 +17,6 @@ pub mod Finality
 pub mod Runs
 pub mod PairLists
 pub mod Spreads
+pub mod Parting
 pub mod Shown
+pub mod Shaping

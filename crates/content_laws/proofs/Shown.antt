@@ -21,6 +21,7 @@ use Rattle.content_laws.specs.Pairs.{pairs_of, pairs_from}
 use Rattle.content_laws.proofs.PairLists.{Pairs, found_in, EachKey, AreApart, each-append, each-weaker, found-first, found-later, found-none, entries_are, count_is}
 use Rattle.content_laws.proofs.Spreads.{HaveIndex, found_at, spread-found, spread-apart, spread-each}
 use Rattle.content_laws.proofs.Values.{assigned-last, found_below, found_nothing, Agrees, AgreesIfBelow, agrees}
+use Rattle.content_laws.proofs.Parting.{parted}
 use Rattle.content_laws.proofs.Shapes.{child-depth}
 use Rattle.content_laws.proofs.Contents.{get-content}
 use Rattle.content_laws.proofs.Repairs.{shaped_assigned, same_assigned, same_factor}
@@ -60,24 +61,6 @@ module _ (trie : Trie) (ok : IsTrie trie) where
 
   abbrev below_of : ℕ → ℕ → ℕ → Ref → Option ℕ
   below_of q levels depth = find_at trie.node last_main (hash_of trie.kind) q levels depth
-
-  -- the path to a child parts into that to its parent and its index
-  parted : (i child : Ref) (x k : ℕ) → IsChild trie i x child → hash_of trie.kind k % 2 ^ (5 * trie.depth child) ≡ trie.path child →
-      (index_in (hash_of trie.kind k) (trie.depth i) ≡ x) × (hash_of trie.kind k % 2 ^ (5 * trie.depth i) ≡ trie.path i)
-  parted i child x k c led = (same_factor (index_in h (trie.depth i)) x P pos (omega (arith, whole, low)), low)
-    where
-      h : ℕ
-      h = hash_of trie.kind k
-      P : ℕ
-      P = 2 ^ (5 * trie.depth i)
-      pos : 0 < P
-      pos = pow_pos (5 * trie.depth i)
-      five : 5 * trie.depth child ≡ 5 + 5 * trie.depth i
-      five = omega (arith, c.deeper)
-      whole : index_in h (trie.depth i) * P + h % P ≡ x * P + trie.path i
-      whole = sym (mod-pow-add h 5 (5 * trie.depth i)) ∙ ap (λ n. h % 2 ^ n) (sym five) ∙ led ∙ c.led ∙ add_comm (trie.path i) (x * P)
-      low : h % P ≡ trie.path i
-      low = sym (mod-mul-add (index_in h (trie.depth i)) P (h % P) (mod-lt h pos)) ∙ ap (λ n. n % P) whole ∙ mod-mul-add x P (trie.path i) (ok.path_fits i)
 
   -- what is reached from an entry at a place
   record EntryShows (levels : ℕ) (i : Ref) (x : ℕ) (entry : Ref) : Type 0 where
@@ -187,7 +170,7 @@ module _ (trie : Trie) (ok : IsTrie trie) where
                     found = λ q. s.found q ∙ ap (λ n. below_of q (suc levels) n e) c.deeper ∙ sym (ap (value_by (below_of q (suc levels) (suc d))) (ap (look_at q e) is_m));
                     apart = s.apart;
                     led = each-weaker (λ k. hash_of trie.kind k % 2 ^ (5 * trie.depth e) ≡ trie.path e) (λ k. (index_in (hash_of trie.kind k) d ≡ x) × (hash_of trie.kind k % 2 ^ (5 * d) ≡ trie.path i))
-                        (λ k led. parted i e x k c led) (reach (suc levels) e) s.led;
+                        (λ k led. parted trie ok.path_fits i e x k c led) (reach (suc levels) e) s.led;
                   }
               by_node (Branch bitmap es) is_m = other (Branch bitmap es) is_m (λ k v bad. cc) (λ h w bad. cc) (λ q. refl)
               by_node (Tomb single) is_m = other (Tomb single) is_m (λ k v bad. cc) (λ h w bad. cc) (λ q. refl)

@@ -4,3 +4,4 @@ pub mod Effects
 pub mod Finality
 pub mod Runs
 pub mod Pairs
+pub mod Shapes

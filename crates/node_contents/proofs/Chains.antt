@@ -30,7 +30,7 @@ none_before zero x = refl
 none_before (suc n) zero = refl
 none_before (suc n) (suc x) = none_before n x
 
-none_at : (n x : ℕ) → at_place (empty_places n) x ≡ None
+pub none_at : (n x : ℕ) → at_place (empty_places n) x ≡ None
 unfolding empty_places
 none_at zero x = refl
 none_at (suc n) zero = refl
@@ -48,11 +48,11 @@ one_before (suc n) zero (suc y) a lt apart = ap suc (none_before n y) ∙ sym (a
 one_before (suc n) (suc x) zero a lt apart = sym (ap (λ b. cond {A = ℕ} b 1 0) (le-ltb (suc x) zero (omega arith)))
 one_before (suc n) (suc x) (suc y) a lt apart = one_before n x y a (omega arith) (λ e. apart (ap suc e)) ∙ sym (ap (λ b. cond {A = ℕ} b 1 0) (lt-step x y))
 
-one_length : (n : ℕ) → length (empty_places n) ≡ n
+pub one_length : (n : ℕ) → length (empty_places n) ≡ n
 unfolding empty_places
 one_length n = length-replicate n None
 
-nothing : HasPlaces 0 [] (empty_places 32)
+pub nothing : HasPlaces 0 [] (empty_places 32)
 unfolding empty_places
 nothing = record { size = refl; bits = refl; stand = refl }
 

@@ -24,7 +24,7 @@ or_else-assoc (Has value) g h = refl
 or_else-assoc (Below indirection) g h = refl
 
 module _ (node : Ref → Node) where
-  look_among-append : (key : ℕ) (xs ys : List Ref) → look_among node key (xs ++ ys) ≡ or_else (look_among node key xs) (look_among node key ys)
+  pub look_among-append : (key : ℕ) (xs ys : List Ref) → look_among node key (xs ++ ys) ≡ or_else (look_among node key xs) (look_among node key ys)
   look_among-append key [] ys = refl
   look_among-append key (x ∷ xs) ys =
       ap (or_else (look_at key x (node x))) (look_among-append key xs ys) ∙ sym (or_else-assoc (look_at key x (node x)) (look_among node key xs) (look_among node key ys))
@@ -43,7 +43,7 @@ module _ (node : Ref → Node) where
       ap₂ or_else (look-other node key are.0.key are.0.value s are.0.is (apart_from_first key value s singles are.0 rest)) rest
 
   -- another single of the same key in its place
-  set_same : (singles : List Ref) (p key former value : ℕ) (d single : Ref) → AreSingles node singles → p < length singles →
+  pub set_same : (singles : List Ref) (p key former value : ℕ) (d single : Ref) → AreSingles node singles → p < length singles →
       node (get_or singles p d) ≡ Single key former → node single ≡ Single key value → look_among node key (set singles p single) ≡ Has value
   set_same [] p key former value d single are lt is new = absurd (omega arith)
   set_same (s ∷ singles) zero key former value d single are lt is new = ap (λ f. or_else f (look_among node key singles)) (look-same node key value single new)
@@ -52,7 +52,7 @@ module _ (node : Ref → Node) where
       ap₂ or_else (look-other node key are.0.key are.0.value s are.0.is (apart_from_first key former s singles are.0 rest))
       (set_same singles p key former value d single are.1 (omega arith) is new)
 
-  set_others : (singles : List Ref) (p key former value q : ℕ) (d single : Ref) → p < length singles →
+  pub set_others : (singles : List Ref) (p key former value q : ℕ) (d single : Ref) → p < length singles →
       node (get_or singles p d) ≡ Single key former → node single ≡ Single key value → q ≢ key → look_among node q (set singles p single) ≡ look_among node q singles
   set_others [] p key former value q d single lt is new apart = refl
   set_others (s ∷ singles) zero key former value q d single lt is new apart =
@@ -61,7 +61,7 @@ module _ (node : Ref → Node) where
       ap (or_else (look_at q s (node s))) (set_others singles p key former value q d single (omega arith) is new apart)
 
   -- without it
-  remove_same : (singles : List Ref) (p key former : ℕ) (d : Ref) → AreSingles node singles → p < length singles →
+  pub remove_same : (singles : List Ref) (p key former : ℕ) (d : Ref) → AreSingles node singles → p < length singles →
       node (get_or singles p d) ≡ Single key former → look_among node key (remove singles p) ≡ Absent
   remove_same [] p key former d are lt is = absurd (omega arith)
   remove_same (s ∷ singles) zero key former d are lt is =
@@ -72,7 +72,7 @@ module _ (node : Ref → Node) where
       ap₂ or_else (look-other node key are.0.key are.0.value s are.0.is (apart_from_first key former s singles are.0 rest))
       (remove_same singles p key former d are.1 (omega arith) is)
 
-  remove_others : (singles : List Ref) (p key former q : ℕ) (d : Ref) → p < length singles → node (get_or singles p d) ≡ Single key former → q ≢ key →
+  pub remove_others : (singles : List Ref) (p key former q : ℕ) (d : Ref) → p < length singles → node (get_or singles p d) ≡ Single key former → q ≢ key →
       look_among node q (remove singles p) ≡ look_among node q singles
   remove_others [] p key former q d lt is apart = absurd (omega arith)
   remove_others (s ∷ singles) zero key former q d lt is apart = ap (λ f. or_else f (look_among node q singles)) (sym (look-other node q key former s is apart))
