@@ -20,3 +20,4 @@ pub mod Spreads
 pub mod Parting
 pub mod Shown
 pub mod Shaping
+pub mod ListShaping
