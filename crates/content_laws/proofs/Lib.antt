@@ -21,3 +21,4 @@ pub mod Parting
 pub mod Shown
 pub mod Shaping
 pub mod ListShaping
+pub mod HeapPairs

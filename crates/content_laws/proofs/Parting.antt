@@ -25,3 +25,12 @@ module _ (trie : Trie) (fits : (i : Ref) → trie.path i < 2 ^ (5 * trie.depth i
       whole = sym (mod-pow-add h 5 (5 * trie.depth i)) ∙ ap (λ n. h % 2 ^ n) (sym five) ∙ led ∙ c.led ∙ add_comm (trie.path i) (x * P)
       low : h % P ≡ trie.path i
       low = sym (mod-mul-add (index_in h (trie.depth i)) P (h % P) (mod-lt h pos)) ∙ ap (λ n. n % P) whole ∙ mod-mul-add x P (trie.path i) (fits i)
+
+  -- a path that leads to a key leads on to it at its index
+  pub leads_down : (i child : Ref) (key : ℕ) → hash_of trie.kind key % 2 ^ (5 * trie.depth i) ≡ trie.path i → IsChild trie i (index_in (hash_of trie.kind key) (trie.depth i)) child →
+      hash_of trie.kind key % 2 ^ (5 * trie.depth child) ≡ trie.path child
+  leads_down i child key led c =
+      let h = hash_of trie.kind key in
+      let five : 5 * trie.depth child ≡ 5 + 5 * trie.depth i = omega (arith, c.deeper) in
+      ap (λ n. h % 2 ^ n) five ∙ mod-pow-add h 5 (5 * trie.depth i) ∙ add_comm (index_in h (trie.depth i) * 2 ^ (5 * trie.depth i)) (h % 2 ^ (5 * trie.depth i))
+      ∙ ap (λ p. p + index_in h (trie.depth i) * 2 ^ (5 * trie.depth i)) led ∙ sym c.led

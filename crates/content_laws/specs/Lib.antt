@@ -5,3 +5,4 @@ pub mod Finality
 pub mod Runs
 pub mod Pairs
 pub mod Shapes
+pub mod InUse
