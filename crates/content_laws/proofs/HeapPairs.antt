@@ -46,7 +46,7 @@ unfolding grown
 grown-standing states zero r slot e = e
 grown-standing states (suc t) r slot e = ap (λ o. or_before o (grown states t r)) e
 
-flat_map-same : (f g : Ref → List (ℕ × ℕ)) (rs : List Ref) → ((r : Ref) → Contains rs r → f r ≡ g r) → flat_map f rs ≡ flat_map g rs
+pub flat_map-same : (f g : Ref → List (ℕ × ℕ)) (rs : List Ref) → ((r : Ref) → Contains rs r → f r ≡ g r) → flat_map f rs ≡ flat_map g rs
 flat_map-same f g [] h = refl
 flat_map-same f g (r ∷ rs) h = ap₂ (λ a b. a ++ b) (h r (0, omega arith, refl)) (flat_map-same f g rs (λ q c. h q (suc c.0, omega (arith, c.1), c.2)))
 

@@ -22,3 +22,4 @@ pub mod Shown
 pub mod Shaping
 pub mod ListShaping
 pub mod HeapPairs
+pub mod Walks

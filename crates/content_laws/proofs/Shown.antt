@@ -27,23 +27,23 @@ use Rattle.content_laws.proofs.Contents.{get-content}
 use Rattle.content_laws.proofs.Repairs.{shaped_assigned, same_assigned, same_factor}
 
 module _ (trie : Trie) (ok : IsTrie trie) where
-  abbrev last_main : Ref → Ref
+  abbrev pub last_main : Ref → Ref
   last_main i = trie.main trie.last i
 
-  abbrev reach : ℕ → Ref → Pairs
+  abbrev pub reach : ℕ → Ref → Pairs
   reach levels r = pairs_from trie.node last_main levels r
 
   -- ---- one step of reaching
 
-  reach-single : (levels k v : ℕ) (r : Ref) → trie.node r ≡ Single k v → reach (suc levels) r ≡ (k, v) ∷ []
+  pub reach-single : (levels k v : ℕ) (r : Ref) → trie.node r ≡ Single k v → reach (suc levels) r ≡ (k, v) ∷ []
   unfolding pairs_from
   reach-single levels k v r is = ap (pairs_of (pairs_from trie.node last_main levels) trie.node last_main r) is
 
-  reach-below : (levels g : ℕ) (r word : Ref) → trie.node r ≡ Indirection g word → reach (suc levels) r ≡ flat_map (reach levels) (entries_of (node_in trie trie.last r))
+  pub reach-below : (levels g : ℕ) (r word : Ref) → trie.node r ≡ Indirection g word → reach (suc levels) r ≡ flat_map (reach levels) (entries_of (node_in trie trie.last r))
   unfolding pairs_from
   reach-below levels g r word is = ap (pairs_of (pairs_from trie.node last_main levels) trie.node last_main r) is
 
-  reach-other : (levels : ℕ) (r : Ref) (n : Node) → trie.node r ≡ n → ((k v : ℕ) → n ≢ Single k v) → ((g : ℕ) (word : Ref) → n ≢ Indirection g word) → reach (suc levels) r ≡ []
+  pub reach-other : (levels : ℕ) (r : Ref) (n : Node) → trie.node r ≡ n → ((k v : ℕ) → n ≢ Single k v) → ((g : ℕ) (word : Ref) → n ≢ Indirection g word) → reach (suc levels) r ≡ []
   unfolding pairs_from
   reach-other levels r (Indirection g word) is a b = absurd (b g word refl)
   reach-other levels r (Single k v) is a b = absurd (a k v refl)
