@@ -1,5 +1,5 @@
 -- The content of a generation has the value of each key.
-use Rattle.std.proofs.Common.{◌≡◌, ◌≢◌, ℕ, zero, suc, ◌+◌, ◌<◌, ◌≤◌, ◌==◌, Bool, true, false, cond, List, [], ◌∷◌, slice_index_or, Contains, Option, Some, None, ◌⊎◌, inl, inr, refl, sym, ap, ap₂, subst, ◌∙◌, arith, eqb-true}
+use Rattle.std.proofs.Common.{◌≡◌, ℕ, zero, suc, ◌==◌, Bool, true, false, cond, List, [], ◌∷◌, slice_index_or, Contains, Option, Some, None, ◌⊎◌, inl, inr, refl, sym, ap, ap₂, ◌∙◌, eqb-true}
 use Rattle.std.specs.FinMap.{get}
 use Rattle.ctrie_base.specs.Hashes.{hash_of}
 use Rattle.ctrie_base.specs.Paths.{position_of}
@@ -13,7 +13,7 @@ use Rattle.node_contents.specs.Changing.{look}
 use Rattle.content_laws.specs.Tries.{Trie, assigned, value_at, content, map_of, put_value, most_levels}
 use Rattle.content_laws.specs.Steps.{IsTrie}
 use Rattle.content_laws.proofs.Maps.{get-map_of}
-use Rattle.content_laws.proofs.Values.{found_below, found_nothing, Agrees, AgreesIfBelow, agrees}
+use Rattle.content_laws.proofs.Values.{found_below, found_nothing, AgreesIfBelow, agrees}
 
 -- a value is that of a single
 abbrev HasSingle : (Ref → Node) → ℕ → Type 0
@@ -25,6 +25,7 @@ entry_value node q value entry e = by_node (node entry) refl e
     by_key : (k v : ℕ) → node entry ≡ Single k v → (b : Bool) → (k == q) ≡ b → cond b (Has v) Absent ≡ Has value → HasSingle node q
     by_key k v is true same e = (entry, v, is ∙ ap (λ n. Single n v) (eqb-true k q same))
     by_key k v is false apart e = absurd (let bad : Absent ≡ Has value = e in cc)
+
     by_node : (n : Node) → node entry ≡ n → look_at q entry n ≡ Has value → HasSingle node q
     by_node (Indirection g word) is e = absurd (let bad : Below entry ≡ Has value = e in cc)
     by_node (Single k v) is e = by_key k v is (k == q) refl e
@@ -46,6 +47,7 @@ looked_value node flag q value (Branch bitmap entries) e = by_flag (has_flag bit
   where
     entry : Ref
     entry = slice_index_or entries.items (position_of flag bitmap) no_ref
+
     by_flag : (b : Bool) → cond b (look_at q entry (node entry)) Absent ≡ Has value → HasSingle node q
     by_flag true e = entry_value node q value entry e
     by_flag false e = absurd (let bad : Absent ≡ Has value = e in cc)

@@ -1,15 +1,15 @@
 -- How many other keys of a hash a content has, counted by look-ups.
-use Rattle.std.proofs.Common.{◌≡◌, ◌≢◌, ℕ, zero, suc, ◌+◌, ◌<◌, ◌≤◌, ◌==◌, ◌&&◌, Bool, true, false, cond, not, T, List, [], ◌∷◌, map, length, filter, count_by, Option, Some, None, is_some, IsSome, Ordering, nat_cmp, is_eq, is_lt, Less, Equal, Greater, refl, sym, ap, ap₂, subst, ◌∙◌, arith, eqb-true, eq-eqb, ne_eqb}
+use Rattle.std.proofs.Common.{◌≡◌, ◌≢◌, ℕ, ◌≤◌, ◌==◌, ◌&&◌, Bool, true, false, cond, not, T, List, [], ◌∷◌, map, length, filter, is_some, Ordering, nat_cmp, is_eq, is_lt, Less, Equal, Greater, refl, sym, ap, ap₂, subst, ◌∙◌, eqb-true, eq-eqb, ne_eqb}
 use Rattle.std.specs.Cmp.{nat_cmp_total, eq_by_cmp_equiv, unsigned_tied}
 use Rattle.std.specs.Ordering.{eq_by_cmp}
 use Rattle.std.specs.List.{list_any, IsDistinct, AllByRecursion}
-use Rattle.std.specs.FinMap.{FinMap, get, keys, entries, entries_sorted, is_sorted, contains_key, contains_key-keys}
+use Rattle.std.specs.FinMap.{get, keys, entries, entries_sorted, is_sorted, contains_key, contains_key-keys}
 use Rattle.std.specs.FinMap.Entries.{below_all}
 use Rattle.std.proofs.lemmas.Map.Made.{length-from_same_keys, length-le_from_is_member}
 use Rattle.std.proofs.lemmas.Map.Views.{any-filter_same}
 use Rattle.std.proofs.lemmas.List.Sums.{length-filter}
 use Rattle.history.specs.Worlds.{KeyMap}
-use Rattle.history.specs.Effects.{others, is_crowded}
+use Rattle.history.specs.Effects.{others}
 
 -- a key stands in a list
 abbrev pub is_among : List ℕ → ℕ → Bool

@@ -1,14 +1,14 @@
 -- What RENEW, CLEAN and CLIMB have done to a branch's entries makes a repair.
-use Rattle.std.proofs.Common.{◌≡◌, ◌≢◌, ℕ, zero, suc, ◌+◌, ◌<◌, ◌≤◌, ◌==◌, Bool, true, false, cond, List, [], ◌∷◌, length, set, slice_index_or, slice_set, Option, Some, None, refl, sym, ap, ap₂, subst, subst₂, ◌∙◌, arith, length-set, eqb-true}
+use Rattle.std.proofs.Common.{◌≡◌, ◌≢◌, ℕ, ◌<◌, ◌≤◌, ◌==◌, Bool, true, false, cond, List, [], ◌∷◌, length, set, slice_index_or, slice_set, refl, sym, ap, subst₂, ◌∙◌, arith, length-set, eqb-true}
 use Rattle.std.proofs.lemmas.List.{get_or-set_same, get_or-set_other}
 use Rattle.arrayvec.specs.ArrayVec.{ArrayVec}
 use Rattle.slot_arena.specs.declared.refs.Ref.{Ref}
 use Rattle.slot_arena.specs.declared.nodes.Node.{Node}
-use Rattle.slot_arena.specs.declared.nodes.Node.TheVariants.{Indirection, Branch, Single, Tomb}
+use Rattle.slot_arena.specs.declared.nodes.Node.TheVariants.{Indirection, Branch, Tomb}
 use Rattle.slot_arena.specs.Heaps.{no_ref}
 use Rattle.nodes.specs.Builders.{renewed, contracted}
 use Rattle.node_contents.proofs.Branches.{differ}
-use Rattle.content_laws.specs.Tries.{Trie, generation, node_in, assigned}
+use Rattle.content_laws.specs.Tries.{Trie, generation, node_in}
 use Rattle.content_laws.specs.Steps.{Stays, kept, renewed_by, untombed, IsRepair, refills, entombs, IsTrie}
 use Rattle.content_laws.proofs.Paths.{tomb_lasts}
 
@@ -20,6 +20,7 @@ module _ (trie : Trie) (ok : IsTrie trie) (g t : ℕ) where
     where
       at_once : node_in trie u entry ≡ Tomb single
       at_once = ap trie.node given ∙ tomb
+
       by_test : (b : Bool) → trie.node (cond b (trie.main t entry) (trie.main trie.last entry)) ≡ Tomb single
       by_test true = ap trie.node (tomb_lasts trie ok u t entry single le lt at_once) ∙ at_once
       by_test false = ap trie.node (tomb_lasts trie ok u trie.last entry single (omega arith) (omega arith) at_once) ∙ at_once

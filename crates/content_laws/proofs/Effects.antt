@@ -1,17 +1,17 @@
 -- What calls answer and make of a map, by what it has at their key.
-use Rattle.std.proofs.Common.{◌≡◌, ◌≢◌, ℕ, zero, suc, ◌<◌, ◌==◌, ◌&&◌, Bool, true, false, cond, not, Option, Some, None, is_some, nat_eq, refl, sym, ap, ap₂, subst, ◌∙◌, arith, eqb-true, eq-eqb}
+use Rattle.std.proofs.Common.{◌≡◌, ◌≢◌, ℕ, ◌==◌, ◌&&◌, Bool, true, false, cond, not, Option, Some, None, is_some, nat_eq, refl, sym, ap, ap₂, ◌∙◌, eqb-true}
 use Rattle.std.specs.Option.{option_eq}
-use Rattle.std.specs.FinMap.{get, insert, remove, contains_key}
+use Rattle.std.specs.FinMap.{get, insert, remove}
 use Rattle.history.specs.declared.calls.Access.TheVariants.{Writable, ReadOnly}
 use Rattle.history.specs.declared.calls.Call.{Call}
-use Rattle.history.specs.declared.calls.Call.TheVariants.{Get, Put, PutIfAbsent, Replace, ReplaceIf, Remove, RemoveIf, Clear, Snapshot, Freeze, Close, Entries, Count}
+use Rattle.history.specs.declared.calls.Call.TheVariants.{Get, Put, PutIfAbsent, Replace, ReplaceIf, Remove, RemoveIf}
 use Rattle.history.specs.declared.replies.Reply.{Reply}
 use Rattle.history.specs.declared.replies.Reply.TheVariants as reply
 use Rattle.history.specs.Worlds.{KeyMap}
-use Rattle.history.specs.Effects.{others, is_crowded, has_value, put_in, put_if_absent_in, replace_in, replace_if_in, remove_in, remove_if_in}
+use Rattle.history.specs.Effects.{others, is_crowded, has_value, put_in}
 use Rattle.machine_model.specs.declared.finding.WhenFound.{WhenFound}
 use Rattle.machine_model.specs.declared.finding.WhenFound.TheVariants.{Answers, Sets, Removes}
-use Rattle.machine_model.specs.Calls.{key_of, value_of, inserts, absent_reply, changed_reply, when_found, answers_unless}
+use Rattle.machine_model.specs.Calls.{key_of, inserts, absent_reply, changed_reply, when_found, answers_unless}
 use Rattle.node_contents.proofs.Branches.{differ}
 use Rattle.content_laws.specs.Steps.{Asks, to_insert, to_set, to_remove}
 use Rattle.content_laws.specs.Effects.{act_in, IsKeyed, ChangesKey}

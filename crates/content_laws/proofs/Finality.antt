@@ -1,5 +1,5 @@
 -- A main node that stood decided after its indirection's generation was closed is the last one.
-use Rattle.std.proofs.Common.{◌≡◌, ◌≢◌, ℕ, zero, suc, ◌<◌, ◌≤◌, ◌==◌, Bool, true, false, refl, sym, ap, subst, ◌∙◌, arith, eqb-true}
+use Rattle.std.proofs.Common.{◌≡◌, ℕ, zero, suc, ◌<◌, ◌≤◌, ◌==◌, Bool, true, false, refl, sym, ap, ◌∙◌, arith, eqb-true}
 use Rattle.slot_arena.specs.declared.refs.Ref.{Ref}
 use Rattle.node_contents.proofs.Branches.{differ}
 use Rattle.content_laws.specs.Tries.{Trie}
@@ -39,6 +39,7 @@ module _ (trie : Trie) (i : Ref) (c : ℕ) (word : ℕ → Ref) (is_pending : �
           let pending = ap (is_pending u) licence.2 ∙ licence.3 in
           let there = stood licence.0 s u (omega (arith, licence.1)) le (omega arith) pending in
           absurd (let bad : true ≡ false = sym (was_pending licence.0 s u (omega (arith, licence.1)) le (omega arith) pending) ∙ ap (is_pending s) (sym there) ∙ clear in cc)
+
       by_time : (c < s → s ≤ u → u ≤ trie.last → is_pending s (word s) ≡ false → trie.main u i ≡ trie.main s i) → (b : Bool) → (s == suc u) ≡ b →
           trie.main (suc u) i ≡ trie.main s i
       by_time rest true same = ap (λ n. trie.main n i) (sym (eqb-true s (suc u) same))

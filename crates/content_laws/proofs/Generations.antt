@@ -1,5 +1,5 @@
 -- What a step does to the contents of generations.
-use Rattle.std.proofs.Common.{◌≡◌, ◌≢◌, ℕ, zero, suc, ◌<◌, ◌≤◌, ◌==◌, ◌&&◌, Bool, true, false, not, Option, Some, None, is_some, refl, sym, ap, ap₂, subst, ◌∙◌, arith, ◌⊎◌, inl, inr, ne_eqb, eqb-true}
+use Rattle.std.proofs.Common.{◌≡◌, ◌≢◌, ℕ, suc, ◌<◌, ◌==◌, ◌&&◌, Bool, true, false, not, Option, Some, None, is_some, refl, sym, ap, subst, ◌∙◌, arith, ◌⊎◌, inl, inr, ne_eqb, eqb-true}
 use Rattle.node_contents.proofs.Branches.{differ}
 use Rattle.std.specs.FinMap.{get}
 use Rattle.ctrie_base.specs.Hashes.{hash_of}
@@ -8,7 +8,7 @@ use Rattle.history.specs.declared.calls.Access.TheVariants.{Writable}
 use Rattle.history.specs.declared.calls.Call.{Call}
 use Rattle.slot_arena.specs.declared.refs.Ref.{Ref}
 use Rattle.machine_model.specs.Calls.{key_of, changed_reply}
-use Rattle.content_laws.specs.Tries.{Trie, generation, node_in, assigned, value_at, content, On, IsTombed}
+use Rattle.content_laws.specs.Tries.{Trie, generation, node_in, assigned, content, On, IsTombed}
 use Rattle.content_laws.specs.Steps.{IsRepair, IsOwnUpdate, LeavesOthers, IsTrie, Updates}
 use Rattle.content_laws.specs.Effects.{act_in, ChangesKey}
 use Rattle.content_laws.proofs.Values.{assigned-still}
@@ -24,7 +24,7 @@ module _ (trie : Trie) (ok : IsTrie trie) where
   pub nothing_still : (t g : ℕ) → t < trie.last → ((i : Ref) → trie.main (suc t) i ≡ trie.main t i) → content trie g (suc t) ≡ content trie g t
   nothing_still t g lt same =
       same_content trie g g (suc t) t (λ q. same_values trie ok g (suc t) t q (λ levels i sum below.
-          same_assigned trie ok (assigned trie g (suc t)) (assigned trie g t) q levels i (shaped_assigned trie ok g t i (omega arith)) (assigned-still trie g (suc t) t i (same i)) below))
+      same_assigned trie ok (assigned trie g (suc t)) (assigned trie g t) q levels i (shaped_assigned trie ok g t i (omega arith)) (assigned-still trie g (suc t) t i (same i)) below))
 
   -- a change of a main node in one generation leaves the contents of all others
   pub others_still : (t g : ℕ) (i : Ref) → t < trie.last → LeavesOthers trie t i → g ≢ generation trie i → content trie g (suc t) ≡ content trie g t
@@ -37,6 +37,7 @@ module _ (trie : Trie) (ok : IsTrie trie) where
     where
       own : content trie (generation trie i) (suc t) ≡ content trie (generation trie i) t
       own = same_content trie (generation trie i) (generation trie i) (suc t) t (λ q. same_values trie ok (generation trie i) (suc t) t q (repair_stays trie ok t i lt others q r))
+
       by_test : (b : Bool) → (g == generation trie i) ≡ b → content trie g (suc t) ≡ content trie g t
       by_test true same = subst (λ h. content trie h (suc t) ≡ content trie h t) (sym (eqb-true g (generation trie i) same)) own
       by_test false apart = others_still t g i lt others (differ g (generation trie i) apart)
@@ -71,6 +72,7 @@ module _ (trie : Trie) (ok : IsTrie trie) where
         and-false : (b : Bool) → (b && false) ≡ false
         and-false true = refl
         and-false false = refl
+
         by_path : On trie t g (key_of call) (trie.depth u.indirection) u.indirection ⊎ IsTombed trie t u.indirection → is_crowded (hash_of trie.kind) (content trie g t) (key_of call) ≡ false
         by_path (inl on) =
             let room = has_room trie ok t g (key_of call) u.indirection (omega arith) on (node_in trie (suc t) u.indirection) former u.now u.fits none u.updates in

@@ -1,5 +1,5 @@
 -- The content of a handle in the last state is that of its root's generation.
-use Rattle.std.proofs.Common.{◌≡◌, ℕ, zero, suc, ◌<◌, ◌==◌, Bool, true, false, cond, List, [], ◌∷◌, ◌++◌, flat_map, Contains, Option, Some, None, refl, sym, ap, ap₂, subst, ◌∙◌, arith}
+use Rattle.std.proofs.Common.{◌≡◌, ℕ, zero, suc, ◌==◌, Bool, true, false, cond, List, [], ◌∷◌, ◌++◌, flat_map, Contains, Option, Some, None, refl, sym, ap, ap₂, subst, ◌∙◌, arith}
 use Rattle.std.proofs.lemmas.List.Elements.{Contains-append_left, Contains-append_right}
 use Rattle.std.specs.FinMap.{entries}
 use Rattle.slot_arena.specs.Refs.{birth_of}
@@ -20,7 +20,7 @@ use Rattle.machine_model.specs.Counting.{refs_of_word, refs_of_root}
 use Rattle.machine_model.specs.Contents.{pairs_at, pairs_below, most_levels, content_at, IsReached, from_root, from_slot}
 use Rattle.machine_model.specs.Pairs.{by_key}
 use Rattle.machine_model.proofs.Grown.{standing, of_birth, or_before, grown, node_under, prev_word, main_word, main_before}
-use Rattle.content_laws.specs.Tries.{Trie, content}
+use Rattle.content_laws.specs.Tries.{content}
 use Rattle.content_laws.specs.Steps.{IsTrie}
 use Rattle.content_laws.specs.Pairs.{pairs_of, pairs_from}
 use Rattle.content_laws.specs.Runs as run
@@ -37,6 +37,7 @@ stored-standing heap r slot e = by_slot (stored heap r) refl e
     by_birth : (s : Slot) (b : Bool) → cond b (Some s) None ≡ Some slot → Some s ≡ Some slot
     by_birth s true e = e
     by_birth s false e = absurd (let bad : None ≡ Some slot = e in cc)
+
     by_slot : (o : Option Slot) → stored heap r ≡ o → of_birth (birth_of r) o ≡ Some slot → stored heap r ≡ Some slot
     by_slot None at e = absurd (let bad : None ≡ Some slot = e in cc)
     by_slot (Some s) at e = at ∙ by_birth s (s.birth == birth_of r) e
@@ -101,6 +102,7 @@ module _ (states : ℕ → State) (last : ℕ) (reaches : ReachesInUse (states l
     where
       main_reached : Reached m
       main_reached = of_node r m reached (subst (λ n. Contains (refs_of_node n) m) (sym is) (0, omega arith, refl))
+
       by_prev : (p : Prev) → prev_at heap m ≡ p → Reached (logical m p)
       by_prev prev.None e = main_reached
       by_prev (prev.Pending p) e = of_prev m p main_reached (subst (λ w. Contains (refs_of_prev w) p) (sym e) (0, omega arith, refl))

@@ -1,23 +1,21 @@
 -- The builders keep the shape of lists; and a main node keeps its shape for an indirection that stands for another.
-use Rattle.std.proofs.Common.{◌≡◌, ◌≢◌, ℕ, zero, suc, ◌+◌, ◌-◌, ◌*◌, ◌%◌, ◌^◌, ◌<◌, ◌≤◌, ◌==◌, Bool, true, false, List, [], ◌∷◌, ◌++◌, length, take, get_or, set, remove, slice_index_or, Option, Some, None, refl, sym, ap, ap₂, subst, ◌∙◌, arith, eqb-true, mod-eq_of_lt, take_all, length-append, length-set}
+use Rattle.std.proofs.Common.{◌≡◌, ◌≢◌, ℕ, zero, suc, ◌+◌, ◌*◌, ◌%◌, ◌^◌, ◌<◌, ◌==◌, Bool, true, false, List, [], ◌∷◌, ◌++◌, length, take, get_or, set, remove, slice_index_or, refl, sym, ap, ap₂, subst, ◌∙◌, arith, eqb-true, mod-eq_of_lt, take_all, length-append, length-set}
 use Rattle.std.proofs.lemmas.List.Edits.{length-remove}
 use Rattle.arrayvec.specs.ArrayVec.{ArrayVec}
 use Rattle.ctrie_base.specs.Hashes.{hash_of}
 use Rattle.slot_arena.specs.declared.refs.Ref.{Ref}
 use Rattle.slot_arena.specs.declared.nodes.Node.{Node}
-use Rattle.slot_arena.specs.declared.nodes.Node.TheVariants.{Indirection, Branch, Single, Tomb, List as Listed}
+use Rattle.slot_arena.specs.declared.nodes.Node.TheVariants.{Single, Tomb, List as Listed}
 use Rattle.slot_arena.specs.Heaps.{no_ref, entries_from}
-use Rattle.nodes.specs.Levels.{list_depth, index_in}
+use Rattle.nodes.specs.Levels.{index_in}
 use Rattle.nodes.specs.Builders.{list_inserted, list_updated, list_removed}
-use Rattle.node_contents.specs.Branches.{HasPlaces, at_place}
 use Rattle.node_contents.specs.Looking.{Found, Absent, Has, Below, look_at, look_among, or_else}
 use Rattle.node_contents.specs.Lists.{IsNew, AreSingles}
-use Rattle.node_contents.specs.Changing.{AreInPlace}
 use Rattle.node_contents.proofs.Branches.{differ}
 use Rattle.node_contents.proofs.Changes.{look-same, look-other}
-use Rattle.node_contents.proofs.ListChanges.{or_else-absent, look_among-append, listed_at, set_same, set_others, remove_same, remove_others}
-use Rattle.content_laws.specs.Tries.{Trie, generation, IsChild, IsShaped, branch, list, tomb}
-use Rattle.content_laws.specs.Shapes.{LeadsTo, StandsFor}
+use Rattle.node_contents.proofs.ListChanges.{or_else-absent, look_among-append, listed_at, set_others, remove_others}
+use Rattle.content_laws.specs.Tries.{Trie, IsShaped, branch, list, tomb}
+use Rattle.content_laws.specs.Shapes.{StandsFor}
 use Rattle.content_laws.proofs.Shapes.{IsList, list_shape}
 
 -- nothing is found in two where nothing is in either
@@ -41,14 +39,16 @@ module _ (node : Ref → Node) where
   pub singles-append : (key value : ℕ) (new : Ref) (singles : List Ref) → AreSingles node singles → look_among node key singles ≡ Absent → node new ≡ Single key value →
       AreSingles node (singles ++ new ∷ [])
   singles-append key value new [] are none is = (record { key = key; value = value; is = is; none = refl }, tt)
-  singles-append key value new (s ∷ singles) are none is =
-      (record {
-        key = are.0.key;
-        value = are.0.value;
-        is = are.0.is;
-        none = look_among-append node are.0.key singles (new ∷ []) ∙ ap₂ or_else are.0.none
-            (ap (λ f. or_else f Absent) (look-other node are.0.key key value new is (none_apart key s singles are.0 none)));
-      }, singles-append key value new singles are.1 (none_later (look_at key s (node s)) (look_among node key singles) none) is)
+  singles-append key value new (s ∷ singles) are none is = (
+    record {
+      key = are.0.key;
+      value = are.0.value;
+      is = are.0.is;
+      none = look_among-append node are.0.key singles (new ∷ []) ∙ ap₂ or_else are.0.none
+          (ap (λ f. or_else f Absent) (look-other node are.0.key key value new is (none_apart key s singles are.0 none)));
+    },
+    singles-append key value new singles are.1 (none_later (look_at key s (node s)) (look_among node key singles) none) is,
+  )
 
   -- a key that is found later isn't the first one's
   found_apart : (key v : ℕ) (s : Ref) (singles : List Ref) → (new : IsNew node s singles) → look_among node key singles ≡ Has v → new.key ≢ key
@@ -62,26 +62,30 @@ module _ (node : Ref → Node) where
       let key_is : are.0.key ≡ key = cc in
       (record { key = key; value = value; is = is; none = ap (λ k. look_among node k singles) (sym key_is) ∙ are.0.none }, are.1)
   singles-set (suc p) key former value d new (s ∷ singles) are lt was is =
-      let apart = found_apart key former s singles are.0 (listed_at node singles p key former d are.1 (omega arith) was) in
-      (record {
-        key = are.0.key;
-        value = are.0.value;
-        is = are.0.is;
-        none = set_others node singles p key former value are.0.key d new (omega arith) was is apart ∙ are.0.none;
-      }, singles-set p key former value d new singles are.1 (omega arith) was is)
+      let apart = found_apart key former s singles are.0 (listed_at node singles p key former d are.1 (omega arith) was) in (
+        record {
+          key = are.0.key;
+          value = are.0.value;
+          is = are.0.is;
+          none = set_others node singles p key former value are.0.key d new (omega arith) was is apart ∙ are.0.none;
+        },
+        singles-set p key former value d new singles are.1 (omega arith) was is,
+      )
 
   pub singles-remove : (p key former : ℕ) (d : Ref) (singles : List Ref) → AreSingles node singles → p < length singles → node (get_or singles p d) ≡ Single key former →
       AreSingles node (remove singles p)
   singles-remove p key former d [] are lt was = absurd (omega arith)
   singles-remove zero key former d (s ∷ singles) are lt was = are.1
   singles-remove (suc p) key former d (s ∷ singles) are lt was =
-      let apart = found_apart key former s singles are.0 (listed_at node singles p key former d are.1 (omega arith) was) in
-      (record {
-        key = are.0.key;
-        value = are.0.value;
-        is = are.0.is;
-        none = remove_others node singles p key former are.0.key d (omega arith) was apart ∙ are.0.none;
-      }, singles-remove p key former d singles are.1 (omega arith) was)
+      let apart = found_apart key former s singles are.0 (listed_at node singles p key former d are.1 (omega arith) was) in (
+        record {
+          key = are.0.key;
+          value = are.0.value;
+          is = are.0.is;
+          none = remove_others node singles p key former are.0.key d (omega arith) was apart ∙ are.0.none;
+        },
+        singles-remove p key former d singles are.1 (omega arith) was,
+      )
 
 module _ (trie : Trie) (i : Ref) where
   module _ (singles : ArrayVec Ref) (shape : IsShaped trie i (Listed singles)) (key : ℕ) where
@@ -98,8 +102,10 @@ module _ (trie : Trie) (i : Ref) where
       where
         size : length (singles.items ++ new ∷ []) ≡ length singles.items + 1
         size = length-append singles.items (new ∷ [])
+
         whole : take 32 (singles.items ++ new ∷ []) ≡ singles.items ++ new ∷ []
         whole = take_all 32 (singles.items ++ new ∷ []) (omega (arith, size))
+
         by_key : (k v : ℕ) → (b : Bool) → (k == key) ≡ b → or_else (look_among trie.node k singles.items) (or_else (look_at k new (trie.node new)) Absent) ≡ Has v → hash_of trie.kind k ≡ trie.path i
         by_key k v true same e = ap (hash_of trie.kind) (eqb-true k key same) ∙ led
         by_key k v false apart e =
@@ -120,8 +126,10 @@ module _ (trie : Trie) (i : Ref) where
         where
           size : length (set singles.items p new) ≡ length singles.items
           size = length-set singles.items p new
+
           whole : take 32 (set singles.items p new) ≡ set singles.items p new
           whole = take_all 32 (set singles.items p new) (omega (arith, size, s.most))
+
           by_key : (k v : ℕ) → (b : Bool) → (k == key) ≡ b → look_among trie.node k (set singles.items p new) ≡ Has v → hash_of trie.kind k ≡ trie.path i
           by_key k v true same e = ap (hash_of trie.kind) (eqb-true k key same) ∙ its_hash
           by_key k v false apart e = s.one_hash k v (sym (set_others trie.node singles.items p key former value k no_ref new lt was is (differ k key apart)) ∙ e)
@@ -135,8 +143,10 @@ module _ (trie : Trie) (i : Ref) where
         where
           size : length (remove singles.items p) + 1 ≡ length singles.items
           size = length-remove singles.items p lt
+
           whole : take 32 (remove singles.items p) ≡ remove singles.items p
           whole = take_all 32 (remove singles.items p) (omega (arith, size, s.most))
+
           by_key : (k v : ℕ) → (b : Bool) → (k == key) ≡ b → look_among trie.node k (remove singles.items p) ≡ Has v → hash_of trie.kind k ≡ trie.path i
           by_key k v true same e = ap (hash_of trie.kind) (eqb-true k key same) ∙ its_hash
           by_key k v false apart e = s.one_hash k v (sym (remove_others trie.node singles.items p key former k no_ref lt was (differ k key apart)) ∙ e)
@@ -152,12 +162,12 @@ module _ (trie : Trie) (i : Ref) where
       branch bitmap entries places is has (λ x k v e at single. ap (λ d. index_in (hash_of trie.kind k) d) for.deep ∙ in_place x k v e at single)
       (λ x k v e at single. ap (λ d. hash_of trie.kind k % 2 ^ (5 * d)) for.deep ∙ led x k v e at single ∙ sym for.led)
       (λ x g child word at ind.
-          let c = children x g child word at ind in
-          record {
-            deeper = c.deeper ∙ ap suc (sym for.deep);
-            within = c.within;
-            led = c.led ∙ ap₂ (λ p d. p + x * 2 ^ (5 * d)) (sym for.led) (sym for.deep);
-            older = omega (arith, c.older, for.newer);
-          })
+      let c = children x g child word at ind in
+      record {
+        deeper = c.deeper ∙ ap suc (sym for.deep);
+        within = c.within;
+        led = c.led ∙ ap₂ (λ p d. p + x * 2 ^ (5 * d)) (sym for.led) (sym for.deep);
+        older = omega (arith, c.older, for.newer);
+      })
   shape_moves j n for (list singles is are most deep one_hash) = list singles is are most (for.deep ∙ deep) (λ k v e. one_hash k v e ∙ sym for.led)
   shape_moves j n for (tomb single k v is own led) = tomb single k v is own (ap (λ d. hash_of trie.kind k % 2 ^ (5 * d)) for.deep ∙ led ∙ sym for.led)

@@ -1,31 +1,30 @@
 -- The keys of a list's singles, and how many other keys a key's hash has where its path ends.
-use Rattle.std.proofs.Common.{◌≡◌, ◌≢◌, ℕ, zero, suc, ◌+◌, ◌*◌, ◌-◌, ◌/◌, ◌%◌, ◌^◌, ◌<◌, ◌≤◌, ◌==◌, ◌||◌, Bool, true, false, cond, not, List, [], ◌∷◌, map, length, slice_index_or, Option, Some, None, is_some, nat_cmp, ◌⊎◌, inl, inr, refl, sym, ap, ap₂, subst, ◌∙◌, arith, eqb-true, eq-eqb, ne_eqb, mod-eq_of_lt}
+use Rattle.std.proofs.Common.{◌≡◌, ◌≢◌, ℕ, suc, ◌*◌, ◌-◌, ◌%◌, ◌^◌, ◌<◌, ◌≤◌, ◌==◌, ◌||◌, Bool, true, false, cond, List, [], ◌∷◌, map, length, slice_index_or, Option, Some, None, is_some, nat_cmp, refl, sym, ap, ap₂, subst, ◌∙◌, arith, eqb-true, mod-eq_of_lt}
 use Rattle.std.specs.Cmp.{unsigned_tied}
 use Rattle.std.specs.Ordering.{eq_by_cmp}
 use Rattle.std.specs.List.{IsDistinct, AllByRecursion}
 use Rattle.std.specs.FinMap.{get}
 use Rattle.arrayvec.specs.ArrayVec.{ArrayVec}
-use Rattle.ctrie_base.specs.Hashes.{hash_of, bits_of, low_hash-lt, fold_hash-lt, block_hash-lt}
+use Rattle.ctrie_base.specs.Hashes.{hash_of, low_hash-lt, fold_hash-lt, block_hash-lt}
 use Rattle.ctrie_base.specs.declared.hashes.HashKind.{HashKind}
 use Rattle.ctrie_base.specs.declared.hashes.HashKind.TheVariants.{Low, Fold, Wide, Block}
 use Rattle.history.specs.Effects.{others}
 use Rattle.slot_arena.specs.declared.refs.Ref.{Ref}
 use Rattle.slot_arena.specs.declared.nodes.Node.{Node}
-use Rattle.slot_arena.specs.declared.nodes.Node.TheVariants.{Indirection, Branch, Single, Tomb, List as Listed}
+use Rattle.slot_arena.specs.declared.nodes.Node.TheVariants.{Branch, Single, List as Listed}
 use Rattle.slot_arena.specs.Heaps.{no_ref}
 use Rattle.ctrie_base.specs.Paths.{position_of}
-use Rattle.nodes.specs.Levels.{list_depth, has_flag, flag_of, index_in}
+use Rattle.nodes.specs.Levels.{list_depth, has_flag, flag_of}
 use Rattle.machine_model.specs.Building.{key_in}
-use Rattle.node_contents.specs.Looking.{Found, Absent, Has, Below, look_at, look_among, look_in, or_else, value_by, find_at, value_in}
-use Rattle.node_contents.specs.Lists.{IsNew, AreSingles}
+use Rattle.node_contents.specs.Looking.{Found, Absent, Has, Below, look_at, look_among, look_in, or_else, value_by, find_at}
+use Rattle.node_contents.specs.Lists.{AreSingles}
 use Rattle.node_contents.specs.Changing.{look}
 use Rattle.node_contents.proofs.Branches.{differ}
 use Rattle.node_contents.proofs.Changes.{look-same, look-other}
-use Rattle.content_laws.specs.Tries.{Trie, generation, node_in, value_at, content, assigned, On, IsShaped, most_levels}
+use Rattle.content_laws.specs.Tries.{Trie, node_in, value_at, content, assigned, On}
 use Rattle.content_laws.specs.Steps.{IsTrie, IsOwnUpdate, branch_inserts, branch_updates, branch_removes, branch_entombs, goes_beside, list_inserts, list_updates, list_removes, list_entombs}
-use Rattle.content_laws.proofs.Shapes.{IsList, list_shape, singles_end, single_ends}
-use Rattle.content_laws.proofs.Updating.{HasUpdated, changes, beside, IsBeside, has_updated}
-use Rattle.content_laws.proofs.Paths.{on-path, on-depth, on-within, on-alike, on-generation}
+use Rattle.content_laws.proofs.Shapes.{IsList, list_shape, singles_end}
+use Rattle.content_laws.proofs.Paths.{on-path, on-within, on-alike}
 use Rattle.content_laws.proofs.Contents.{get-content}
 use Rattle.content_laws.proofs.Updates.{value-on}
 use Rattle.content_laws.proofs.Crowds.{is_among, AreDistinct, others_le, others_are}
@@ -46,6 +45,7 @@ among_found node q (s ∷ singles) are e = by_first (among_found node q singles 
   where
     first_is : key_in (node s) ≡ are.0.key
     first_is = ap key_in are.0.is
+
     by_first : (is_among (keys_in node singles) q ≡ true → (v : ℕ) × (look_among node q singles ≡ Has v)) → (b : Bool) → (q == are.0.key) ≡ b →
         (v : ℕ) × (or_else (look_at q s (node s)) (look_among node q singles) ≡ Has v)
     by_first rest true same =
@@ -63,9 +63,11 @@ found_among node q v (s ∷ singles) are e = by_first (found_among node q v sing
   where
     first_is : eq_by_cmp nat_cmp q (key_in (node s)) ≡ (q == are.0.key)
     first_is = unsigned_tied q (key_in (node s)) ∙ ap (λ k. q == k) (ap key_in are.0.is)
+
     or_true : (b : Bool) → (b || true) ≡ true
     or_true true = refl
     or_true false = refl
+
     by_first : (look_among node q singles ≡ Has v → is_among (keys_in node singles) q ≡ true) → (b : Bool) → (q == are.0.key) ≡ b →
         (eq_by_cmp nat_cmp q (key_in (node s)) || is_among (keys_in node singles) q) ≡ true
     by_first rest true same = ap (λ b. b || is_among (keys_in node singles) q) (first_is ∙ same)
@@ -82,6 +84,7 @@ absent_apart node k (s ∷ singles) are none = by_first (absent_apart node k sin
   where
     first_is : eq_by_cmp nat_cmp k (key_in (node s)) ≡ (k == are.0.key)
     first_is = unsigned_tied k (key_in (node s)) ∙ ap (λ y. k == y) (ap key_in are.0.is)
+
     by_first : (look_among node k singles ≡ Absent → AllByRecursion (λ y. eq_by_cmp nat_cmp k y ≡ false) (keys_in node singles)) → (b : Bool) → (k == are.0.key) ≡ b →
         AllByRecursion (λ y. eq_by_cmp nat_cmp k y ≡ false) (keys_in node (s ∷ singles))
     by_first rest true same =
@@ -93,9 +96,10 @@ absent_apart node k (s ∷ singles) are none = by_first (absent_apart node k sin
 singles_distinct : (node : Ref → Node) (singles : List Ref) → AreSingles node singles → AreDistinct (keys_in node singles)
 unfolding IsDistinct
 singles_distinct node [] are = tt
-singles_distinct node (s ∷ singles) are =
-    (subst (λ k. AllByRecursion (λ y. eq_by_cmp nat_cmp k y ≡ false) (keys_in node singles)) (sym (ap key_in are.0.is)) (absent_apart node are.0.key singles are.1 are.0.none),
-    singles_distinct node singles are.1)
+singles_distinct node (s ∷ singles) are = (
+  subst (λ k. AllByRecursion (λ y. eq_by_cmp nat_cmp k y ≡ false) (keys_in node singles)) (sym (ap key_in are.0.is)) (absent_apart node are.0.key singles are.1 are.0.none),
+  singles_distinct node singles are.1,
+)
 
 -- ---- hashes in lists
 
@@ -121,9 +125,9 @@ module _ (trie : Trie) (ok : IsTrie trie) (t g key : ℕ) (i : Ref) (lt : t ≤ 
       others (hash_of trie.kind) (content trie g t) key ≤ length ks
   others_at ks each =
       others_le (hash_of trie.kind) (content trie g t) key ks (λ q same apart has. each q same apart (λ absent.
-          let none : get (content trie g t) q ≡ None =
-          get-content trie ok g t q ∙ alike_value q same ∙ ap (value_by (find_at trie.node (assigned trie g t) (hash_of trie.kind) q (14 - trie.depth i) (suc (trie.depth i)))) absent in
-          let bad : false ≡ true = sym (ap is_some none) ∙ has in cc))
+      let none : get (content trie g t) q ≡ None =
+      get-content trie ok g t q ∙ alike_value q same ∙ ap (value_by (find_at trie.node (assigned trie g t) (hash_of trie.kind) q (14 - trie.depth i) (suc (trie.depth i)))) absent in
+      let bad : false ≡ true = sym (ap is_some none) ∙ has in cc))
 
   -- ---- at a list
 
@@ -147,22 +151,26 @@ module _ (trie : Trie) (ok : IsTrie trie) (t g key : ℕ) (i : Ref) (lt : t ≤ 
         listed_value q same =
             get-content trie ok g t q ∙ alike_value q same
             ∙ ap (λ n. value_by (find_at trie.node (assigned trie g t) (hash_of trie.kind) q (14 - trie.depth i) (suc (trie.depth i))) (look trie.node (hash_of trie.kind) (trie.depth i) q n)) is
+
         by_found : (q : ℕ) → (f : Found) → look_among trie.node q singles.items ≡ f →
             is_some (value_by (find_at trie.node (assigned trie g t) (hash_of trie.kind) q (14 - trie.depth i) (suc (trie.depth i))) f) ≡ true →
             is_among (keys_in trie.node singles.items) q ≡ true
         by_found q Absent e has = absurd (let bad : false ≡ true = has in cc)
         by_found q (Has v) e has = found_among trie.node q v singles.items s.are e
         by_found q (Below j) e has = absurd (singles_end trie.node q j singles.items s.are e)
+
         each : (q : ℕ) → hash_of trie.kind q ≡ hash_of trie.kind key → q ≢ key → is_some (get (content trie g t) q) ≡ true → is_among (keys_in trie.node singles.items) q ≡ true
         each q same apart has = by_found q (look_among trie.node q singles.items) refl (sym (ap is_some (listed_value q same)) ∙ has)
+
         none_else : (q : ℕ) → is_among (keys_in trie.node singles.items) q ≡ true →
             hash_of trie.kind q ≡ hash_of trie.kind key × q ≢ key × is_some (get (content trie g t) q) ≡ true
         none_else q e =
             let found = among_found trie.node q singles.items s.are e in
-            let same = same_hash q found.0 found.1 in
-            (same,
-            (λ k. let bad : Absent ≡ Has found.0 = sym none ∙ ap (λ n. look_among trie.node n singles.items) (sym k) ∙ found.1 in cc),
-            ap is_some (listed_value q same ∙ ap (value_by (find_at trie.node (assigned trie g t) (hash_of trie.kind) q (14 - trie.depth i) (suc (trie.depth i)))) found.1))
+            let same = same_hash q found.0 found.1 in (
+              same,
+              (λ k. let bad : Absent ≡ Has found.0 = sym none ∙ ap (λ n. look_among trie.node n singles.items) (sym k) ∙ found.1 in cc),
+              ap is_some (listed_value q same ∙ ap (value_by (find_at trie.node (assigned trie g t) (hash_of trie.kind) q (14 - trie.depth i) (suc (trie.depth i)))) found.1),
+            )
 
   -- ---- where a key is inserted
 

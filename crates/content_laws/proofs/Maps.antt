@@ -1,8 +1,7 @@
 -- The map of the values of a list of keys.
-use Rattle.std.proofs.Common.{◌≡◌, ◌≢◌, ℕ, zero, suc, ◌<◌, ◌==◌, Bool, true, false, cond, List, [], ◌∷◌, length, Contains, Option, Some, None, ◌⊎◌, inl, inr, nat_cmp, refl, sym, ap, ◌∙◌, arith, eqb-true, eq-eqb}
-use Rattle.std.specs.Ordering.{eq_by_cmp}
-use Rattle.std.specs.Cmp.{nat_cmp_total, unsigned_tied}
-use Rattle.std.specs.FinMap.{FinMap, get, insert, remove, empty, get-empty, same_map, nat_cmp-IsAntisymmetric}
+use Rattle.std.proofs.Common.{◌≡◌, ◌≢◌, ℕ, zero, suc, ◌==◌, Bool, true, false, cond, List, [], ◌∷◌, Contains, Option, Some, None, ◌⊎◌, inl, inr, nat_cmp, refl, sym, ap, ◌∙◌, arith, eqb-true}
+use Rattle.std.specs.Cmp.{nat_cmp_total}
+use Rattle.std.specs.FinMap.{get, get-empty, same_map, nat_cmp-IsAntisymmetric}
 use Rattle.history.specs.Worlds.{KeyMap}
 use Rattle.node_contents.proofs.Branches.{differ}
 use Rattle.node_contents.proofs.Maps.{get-inserted}
@@ -29,6 +28,7 @@ get-map_of (key ∷ keys) value q known = by_value (get-map_of keys value q) (va
     rest : (value q ≡ None) ⊎ Contains (key ∷ keys) q → q ≢ key → (value q ≡ None) ⊎ Contains keys q
     rest (inl none) apart = inl none
     rest (inr has) apart = inr (in_rest key q keys apart has)
+
     by_value : ((value q ≡ None) ⊎ Contains keys q → get (map_of keys value) q ≡ value q) → (o : Option ℕ) → value key ≡ o → (b : Bool) → (q == key) ≡ b →
         get (put_value key o (map_of keys value)) q ≡ value q
     by_value ih None e true at = ih (inl (ap value (eqb-true q key at) ∙ e))

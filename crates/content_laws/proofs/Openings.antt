@@ -1,5 +1,5 @@
 -- What a new root shows when it is opened.
-use Rattle.std.proofs.Common.{◌≡◌, ◌≢◌, ℕ, zero, suc, ◌+◌, ◌<◌, ◌≤◌, ◌==◌, Bool, true, false, cond, not, List, [], slice_index_or, Option, Some, None, refl, sym, ap, subst, ◌∙◌, arith}
+use Rattle.std.proofs.Common.{◌≡◌, ℕ, zero, suc, ◌<◌, ◌≤◌, ◌==◌, cond, not, [], slice_index_or, sym, ap, subst, ◌∙◌, arith}
 use Rattle.std.specs.Int.Bits.{and_zero_l}
 use Rattle.std.specs.FinMap as map
 use Rattle.std.specs.FinMap.{get-empty}
@@ -10,10 +10,9 @@ use Rattle.slot_arena.specs.declared.nodes.Node.{Node}
 use Rattle.slot_arena.specs.Heaps.{empty_branch, no_ref}
 use Rattle.ctrie_base.specs.Paths.{position_of}
 use Rattle.nodes.specs.Levels.{has_flag, flag_of}
-use Rattle.node_contents.specs.Looking.{Found, Absent, Below, look_at, look_in, value_by, find_at, value_in}
+use Rattle.node_contents.specs.Looking.{Absent, Below, look_at, look_in, value_by, find_at, value_in}
 use Rattle.node_contents.specs.Changing.{look}
-use Rattle.node_contents.proofs.Changes.{look_branch}
-use Rattle.content_laws.specs.Tries.{Trie, generation, node_in, assigned, value_at, content, IsShaped, most_levels}
+use Rattle.content_laws.specs.Tries.{Trie, generation, node_in, assigned, value_at, content}
 use Rattle.content_laws.specs.Steps.{IsTrie, Opens}
 use Rattle.content_laws.proofs.Maps.{same_answers}
 use Rattle.content_laws.proofs.Values.{value_by-same, assigned-own, assigned-other, assigned-last, found_below, found_nothing}

@@ -1,12 +1,11 @@
 -- Lists of pairs of different keys: what is found in them, and that sorted by key they are the entries of a map.
-use Rattle.std.proofs.Common.{◌≡◌, ◌≢◌, ℕ, zero, suc, ◌<◌, ◌≤◌, ◌==◌, ◌&&◌, Bool, true, false, cond, T, nat_lt, List, [], ◌∷◌, ◌++◌, length, Option, Some, None, Ordering, nat_cmp, is_lt, Less, Equal, Greater, refl, sym, ap, ap₂, subst, ◌∙◌, arith, eqb-true, eq-eqb, ne_eqb, lt-ltb, ltb-true, ltb-false, ◌⊎◌, inl, inr}
+use Rattle.std.proofs.Common.{◌≡◌, ◌≢◌, ℕ, suc, ◌<◌, ◌≤◌, ◌==◌, ◌&&◌, Bool, true, false, cond, T, nat_lt, List, [], ◌∷◌, ◌++◌, length, Option, Some, None, nat_cmp, is_lt, Less, Equal, Greater, refl, sym, ap, subst, ◌∙◌, arith, eqb-true, eq-eqb, ne_eqb, lt-ltb, ltb-true, ltb-false}
 use Rattle.std.specs.Cmp.{unsigned_tied}
 use Rattle.std.specs.Ordering.{eq_by_cmp}
-use Rattle.std.specs.FinMap.{FinMap, get, entries, len, len-entries, from_sorted, find, is_sorted, get-from_sorted, entries-from_sorted}
+use Rattle.std.specs.FinMap.{get, entries, len, len-entries, from_sorted, find, is_sorted, get-from_sorted, entries-from_sorted}
 use Rattle.std.specs.FinMap.Entries.{below_all}
 use Rattle.history.specs.Worlds.{KeyMap}
 use Rattle.machine_model.specs.Pairs.{comes_before, put_pair, by_key}
-use Rattle.node_contents.proofs.Branches.{differ}
 use Rattle.content_laws.proofs.Maps.{same_answers}
 
 abbrev pub Pairs : Type 0
@@ -97,8 +96,10 @@ put_found q p (r ∷ ps) a = by_test (comes_before p r) (put_found q p ps a.1)
     swapped true true x y z no_both = absurd (no_both refl refl)
     swapped true false x y z no_both = refl
     swapped false c x y z no_both = refl
+
     tie : (k : ℕ) → eq_by_cmp nat_cmp q k ≡ true → q ≡ k
     tie k e = eqb-true q k (sym (unsigned_tied q k) ∙ e)
+
     by_test : (t : Bool) → found_in q (put_pair p ps) ≡ found_in q (p ∷ ps) → found_in q (cond t (p ∷ r ∷ ps) (r ∷ put_pair p ps)) ≡ found_in q (p ∷ r ∷ ps)
     by_test true rest = refl
     by_test false rest =
@@ -121,6 +122,7 @@ put_rises p (q ∷ ps) a r = by_test (nat_lt p.0 q.0) refl (put_rises p ps a.1 r
   where
     test_is : comes_before p q ≡ nat_lt p.0 q.0
     test_is = comes_by_key p q (λ e. a.0 (sym e))
+
     by_test : (t : Bool) → nat_lt p.0 q.0 ≡ t → Rise (put_pair p ps) → Rise (put_pair p (q ∷ ps))
     by_test true e rest =
         let lt : p.0 < q.0 = ltb-true p.0 q.0 e in

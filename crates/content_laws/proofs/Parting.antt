@@ -1,5 +1,5 @@
 -- The path to a child parts into that to its parent and its index.
-use Rattle.std.proofs.Common.{◌≡◌, ℕ, suc, ◌+◌, ◌*◌, ◌%◌, ◌^◌, ◌<◌, refl, sym, ap, ◌∙◌, arith, pow_pos, mod-lt, add_comm}
+use Rattle.std.proofs.Common.{◌≡◌, ℕ, ◌+◌, ◌*◌, ◌%◌, ◌^◌, ◌<◌, sym, ap, ◌∙◌, arith, pow_pos, mod-lt, add_comm}
 use Rattle.std.proofs.lemmas.Nat.{mod-pow-add, mod-mul-add}
 use Rattle.ctrie_base.specs.Hashes.{hash_of}
 use Rattle.slot_arena.specs.declared.refs.Ref.{Ref}
@@ -15,14 +15,19 @@ module _ (trie : Trie) (fits : (i : Ref) → trie.path i < 2 ^ (5 * trie.depth i
     where
       h : ℕ
       h = hash_of trie.kind k
+
       P : ℕ
       P = 2 ^ (5 * trie.depth i)
+
       pos : 0 < P
       pos = pow_pos (5 * trie.depth i)
+
       five : 5 * trie.depth child ≡ 5 + 5 * trie.depth i
       five = omega (arith, c.deeper)
+
       whole : index_in h (trie.depth i) * P + h % P ≡ x * P + trie.path i
       whole = sym (mod-pow-add h 5 (5 * trie.depth i)) ∙ ap (λ n. h % 2 ^ n) (sym five) ∙ led ∙ c.led ∙ add_comm (trie.path i) (x * P)
+
       low : h % P ≡ trie.path i
       low = sym (mod-mul-add (index_in h (trie.depth i)) P (h % P) (mod-lt h pos)) ∙ ap (λ n. n % P) whole ∙ mod-mul-add x P (trie.path i) (fits i)
 

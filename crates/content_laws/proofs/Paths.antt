@@ -1,23 +1,23 @@
 -- Paths last: what was once reached through a generation alone is so until its main node is a tomb, and a tomb stays.
-use Rattle.std.proofs.Common.{◌≡◌, ◌≢◌, ℕ, zero, suc, ◌+◌, ◌-◌, ◌*◌, ◌/◌, ◌%◌, ◌^◌, ◌<◌, ◌≤◌, ◌==◌, Bool, true, false, cond, List, [], ◌∷◌, length, slice_index_or, Option, Some, None, ◌⊎◌, inl, inr, ⊎_elim, refl, sym, ap, ap₂, subst, ◌∙◌, arith, eqb-true, add_comm}
+use Rattle.std.proofs.Common.{◌≡◌, ◌≢◌, ℕ, zero, suc, ◌+◌, ◌*◌, ◌/◌, ◌%◌, ◌^◌, ◌<◌, ◌≤◌, ◌==◌, Bool, true, false, List, [], ◌∷◌, length, slice_index_or, Option, Some, None, ◌⊎◌, inl, inr, ⊎_elim, refl, sym, ap, ap₂, subst, ◌∙◌, arith, eqb-true, add_comm}
 use Rattle.std.proofs.Math.Nat.{mod-one}
 use Rattle.std.proofs.lemmas.Nat.{mod-pow-add}
 use Rattle.arrayvec.specs.ArrayVec.{ArrayVec}
 use Rattle.ctrie_base.specs.Hashes.{hash_of}
 use Rattle.slot_arena.specs.declared.refs.Ref.{Ref}
 use Rattle.slot_arena.specs.declared.nodes.Node.{Node}
-use Rattle.slot_arena.specs.declared.nodes.Node.TheVariants.{Indirection, Branch, Single, Tomb, List as Listed}
+use Rattle.slot_arena.specs.declared.nodes.Node.TheVariants.{Branch, Tomb, List as Listed}
 use Rattle.slot_arena.specs.Heaps.{no_ref, generation_of, entries_from}
 use Rattle.nodes.specs.Levels.{index_in}
 use Rattle.nodes.specs.Builders.{renewed}
 use Rattle.node_contents.specs.Branches.{standing, HasPlaces, at_place}
-use Rattle.node_contents.specs.Looking.{Found, Absent, Has, Below, look_at}
+use Rattle.node_contents.specs.Looking.{Absent, Has, Below, look_at}
 use Rattle.node_contents.specs.Changing.{Changes, look}
 use Rattle.node_contents.proofs.Branches.{before, standing_at, differ}
 use Rattle.node_contents.proofs.Changes.{look_place, look_branch}
 use Rattle.node_contents.proofs.Tombs.{before-lt}
 use Rattle.node_contents.proofs.Refilling.{refilled, refilled-places, refilled-none, refilled-some}
-use Rattle.content_laws.specs.Tries.{Trie, generation, node_in, says, assigned, On, at_root, at_below, IsTombed, IsShaped, most_levels}
+use Rattle.content_laws.specs.Tries.{Trie, generation, node_in, says, assigned, On, at_root, at_below, IsTombed, IsShaped}
 use Rattle.content_laws.specs.Steps.{Stays, kept, renewed_by, untombed, IsRepair, refills, entombs, IsOwnUpdate, branch_inserts, branch_updates, branch_removes, branch_entombs, goes_beside, list_inserts, list_updates, list_removes, list_entombs, Does, nothing, a_repair, an_update, LeavesOthers, IsTrie}
 use Rattle.content_laws.proofs.Values.{assigned-own}
 use Rattle.content_laws.proofs.Shapes.{IsBranch, child-depth, branch_shape, tomb_shape, LeadsBelow, leads_below, below_is, single_ends, leads}
@@ -98,18 +98,25 @@ module _ (trie : Trie) (ok : IsTrie trie) where
     where
       x : ℕ
       x = index_in (hash_of trie.kind q) (trie.depth i)
+
       s : IsBranch trie i bitmap entries
       s = branch_shape trie i old bitmap entries shape o
+
       places : List (Option Ref)
       places = s.places
+
       whole : length entries.items ≡ length (standing places)
       whole = ap length s.has.stand
+
       new-has : HasPlaces bitmap (entries_from others).items (refilled places others)
       new-has = refilled-places bitmap entries.items others places s.has count
+
       old_is : look trie.node (hash_of trie.kind) (trie.depth i) q old ≡ look_place trie.node q (at_place places x)
       old_is = ap (look trie.node (hash_of trie.kind) (trie.depth i) q) o ∙ look_branch trie.node q bitmap x entries places s.has
+
       new_is : look trie.node (hash_of trie.kind) (trie.depth i) q new ≡ look_place trie.node q (at_place (refilled places others) x)
       new_is = ap (look trie.node (hash_of trie.kind) (trie.depth i) q) n ∙ look_branch trie.node q bitmap x (entries_from others) (refilled places others) new-has
+
       by_place : (found : Option Ref) → at_place places x ≡ found → LooksUp g t q i old new
       by_place None at = in_none (old_is ∙ ap (look_place trie.node q) at) (new_is ∙ ap (look_place trie.node q) (refilled-none places others x at))
       by_place (Some entry) at =
@@ -130,12 +137,16 @@ module _ (trie : Trie) (ok : IsTrie trie) where
     where
       x : ℕ
       x = index_in (hash_of trie.kind q) (trie.depth i)
+
       s : IsBranch trie i bitmap entries
       s = branch_shape trie i old bitmap entries shape o
+
       places : List (Option Ref)
       places = s.places
+
       old_is : look trie.node (hash_of trie.kind) (trie.depth i) q old ≡ look_place trie.node q (at_place places x)
       old_is = ap (look trie.node (hash_of trie.kind) (trie.depth i) q) o ∙ look_branch trie.node q bitmap x entries places s.has
+
       by_place : (found : Option Ref) → at_place places x ≡ found → LooksUpOne q i entry old
       by_place None at = one_none (old_is ∙ ap (look_place trie.node q) at)
       by_place (Some e) at =
@@ -167,16 +178,20 @@ module _ (trie : Trie) (ok : IsTrie trie) where
       value_ends : (o : Option ℕ) → found_of o ≢ Below j
       value_ends None bad = let worse : Absent ≡ Below j = bad in cc
       value_ends (Some v) bad = let worse : Has v ≡ Below j = bad in cc
+
       index : ℕ → ℕ
       index p = index_in (hash_of trie.kind p) (trie.depth i)
+
       by_key : Changes trie.node (hash_of trie.kind) (trie.depth i) key old new (found_of former) (found_of now) → (b : Bool) → (q == key) ≡ b →
           look trie.node (hash_of trie.kind) (trie.depth i) q new ≡ Below j
       by_key c true same = absurd (value_ends former (sym c.before ∙ ap (λ k. look trie.node (hash_of trie.kind) (trie.depth i) k old) (sym (eqb-true q key same)) ∙ e))
       by_key c false apart = c.others q (differ q key apart) ∙ e
+
       by_index : (value : ℕ) → IsBeside trie g t i key old new value → (b : Bool) → (index q == index key) ≡ b → look trie.node (hash_of trie.kind) (trie.depth i) q new ≡ Below j
       by_index value c true same =
           absurd (single_ends trie.node q c.other c.own c.entry j c.entry_is (sym (c.was q (eqb-true (index q) (index key) same)) ∙ e))
       by_index value c false apart = c.elsewhere q (differ (index q) (index key) apart) ∙ e
+
       by_change : HasUpdated trie g t i key old new former now → look trie.node (hash_of trie.kind) (trie.depth i) q new ≡ Below j
       by_change (changes c) = by_key c (q == key) refl
       by_change (beside value f n c) = by_index value c (index q == index key) refl
@@ -206,11 +221,13 @@ module _ (trie : Trie) (ok : IsTrie trie) where
           trie.main (suc t) i ≡ trie.main t i
       in_repair j others r true same = absurd (repair_of_tomb (generation trie j) t single (node_in trie t j) (node_in trie (suc t) j) r (ap (node_in trie t) (sym (eqb-true i j same)) ∙ is))
       in_repair j others r false apart = others i (differ i j apart)
+
       in_update : (j : Ref) (key : ℕ) (former now : Option ℕ) → LeavesOthers trie t j →
           IsOwnUpdate trie (generation trie j) t j key (node_in trie t j) (node_in trie (suc t) j) former now → (b : Bool) → (i == j) ≡ b → trie.main (suc t) i ≡ trie.main t i
       in_update j key former now others u true same =
           absurd (update_of_tomb (generation trie j) t key j single (node_in trie t j) (node_in trie (suc t) j) former now u (ap (node_in trie t) (sym (eqb-true i j same)) ∙ is))
       in_update j key former now others u false apart = others i (differ i j apart)
+
       by_step : Does trie t → trie.main (suc t) i ≡ trie.main t i
       by_step (nothing same) = same i
       by_step (a_repair j others r) = in_repair j others r (i == j) refl
@@ -223,10 +240,13 @@ module _ (trie : Trie) (ok : IsTrie trie) where
     where
       before_step : t ≤ trie.last
       before_step = omega arith
+
       same_main : trie.main (suc t) i ≡ trie.main t i → says trie (suc t) q (trie.depth i) i ≡ Below j
       same_main m = ap (λ r. look trie.node (hash_of trie.kind) (trie.depth i) q (trie.node r)) m ∙ e
+
       tombed_on : IsTombed trie t j → IsTombed trie (suc t) j
       tombed_on (single, is) = (single, ap trie.node (tomb_stays t j single lt is) ∙ is)
+
       in_repair : (k : Ref) → LeavesOthers trie t k → IsRepair trie (generation trie k) t (node_in trie t k) (node_in trie (suc t) k) → (b : Bool) → (i == k) ≡ b →
           (says trie (suc t) q (trie.depth i) i ≡ Below j) ⊎ IsTombed trie (suc t) j
       in_repair k others r true same =
@@ -234,6 +254,7 @@ module _ (trie : Trie) (ok : IsTrie trie) where
           (repair_leads (generation trie i) t q i j (node_in trie t i) (node_in trie (suc t) i) (ok.shaped t i before_step)
           (subst (λ n. IsRepair trie (generation trie n) t (node_in trie t n) (node_in trie (suc t) n)) (sym (eqb-true i k same)) r) e own)
       in_repair k others r false apart = inl (same_main (others i (differ i k apart)))
+
       in_update : (k : Ref) (key : ℕ) (former now : Option ℕ) → LeavesOthers trie t k →
           IsOwnUpdate trie (generation trie k) t k key (node_in trie t k) (node_in trie (suc t) k) former now → (b : Bool) → (i == k) ≡ b →
           says trie (suc t) q (trie.depth i) i ≡ Below j
@@ -241,6 +262,7 @@ module _ (trie : Trie) (ok : IsTrie trie) where
           update_leads (generation trie i) t q key i j (node_in trie t i) (node_in trie (suc t) i) former now (ok.shaped t i before_step)
           (subst (λ n. IsOwnUpdate trie (generation trie n) t n key (node_in trie t n) (node_in trie (suc t) n) former now) (sym (eqb-true i k same)) u) e
       in_update k key former now others u false apart = same_main (others i (differ i k apart))
+
       by_step : Does trie t → (says trie (suc t) q (trie.depth i) i ≡ Below j) ⊎ IsTombed trie (suc t) j
       by_step (nothing same) = inl (same_main (same i))
       by_step (a_repair k others r) = in_repair k others r (i == k) refl
@@ -254,10 +276,13 @@ module _ (trie : Trie) (ok : IsTrie trie) where
     where
       at : trie.depth above ≡ depth'
       at = on-depth t g q depth' above (omega arith) on
+
       at_depth : says trie t q (trie.depth above) above ≡ Below below
       at_depth = subst (λ d. says trie t q d above ≡ Below below) (sym at) led
+
       own : generation trie below ≡ generation trie above
       own = e ∙ sym (on-generation t g q depth' above on)
+
       by_link : (says trie (suc t) q (trie.depth above) above ≡ Below below) ⊎ IsTombed trie (suc t) below → On trie (suc t) g q depth' above ⊎ IsTombed trie (suc t) above →
           On trie (suc t) g q (suc depth') below ⊎ IsTombed trie (suc t) below
       by_link (inl leads') (inl on') = inl (at_below depth' above below on' (subst (λ d. says trie (suc t) q d above ≡ Below below) at leads') e)
@@ -282,6 +307,7 @@ module _ (trie : Trie) (ok : IsTrie trie) where
       goes_on : On trie u g q depth i ⊎ IsTombed trie u i → On trie (suc u) g q depth i ⊎ IsTombed trie (suc u) i
       goes_on (inl on') = on_step u g q depth i lt on'
       goes_on (inr (single, is)) = inr (single, ap trie.node (tomb_stays u i single lt is) ∙ is)
+
       by_time : (t ≤ u → u ≤ trie.last → On trie t g q depth i → On trie u g q depth i ⊎ IsTombed trie u i) → (b : Bool) → (t == suc u) ≡ b →
           On trie (suc u) g q depth i ⊎ IsTombed trie (suc u) i
       by_time rest true same = inl (subst (λ n. On trie n g q depth i) (eqb-true t (suc u) same) on)

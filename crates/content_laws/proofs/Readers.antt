@@ -1,29 +1,27 @@
 -- What operations that look for their key find out of the content.
-use Rattle.std.proofs.Common.{◌≡◌, ◌≢◌, ℕ, zero, suc, ◌+◌, ◌-◌, ◌^◌, ◌<◌, ◌≤◌, Bool, true, false, List, length, Option, Some, None, ◌⊎◌, inl, inr, refl, sym, ap, ap₂, subst, ◌∙◌, arith}
+use Rattle.std.proofs.Common.{◌≡◌, ◌≢◌, ℕ, suc, ◌+◌, ◌-◌, ◌^◌, ◌<◌, ◌≤◌, true, false, length, Option, Some, None, ◌⊎◌, inl, inr, sym, ap, subst, ◌∙◌, arith}
 use Rattle.std.specs.FinMap.{get}
 use Rattle.arrayvec.specs.ArrayVec.{ArrayVec}
 use Rattle.ctrie_base.specs.Hashes.{hash_of}
-use Rattle.history.specs.Effects.{others}
 use Rattle.history.specs.declared.calls.Access.TheVariants.{Writable, ReadOnly}
 use Rattle.history.specs.declared.calls.Call.{Call}
 use Rattle.history.specs.declared.calls.Call.TheVariants.{Get}
 use Rattle.history.specs.declared.replies.Reply.{Reply}
 use Rattle.history.specs.declared.replies.Reply.TheVariants as reply
 use Rattle.slot_arena.specs.declared.refs.Ref.{Ref}
-use Rattle.slot_arena.specs.declared.nodes.Node.{Node}
 use Rattle.slot_arena.specs.declared.nodes.Node.TheVariants.{Tomb, List as Listed}
 use Rattle.machine_model.specs.declared.finding.WhenFound.TheVariants.{Answers}
 use Rattle.machine_model.specs.Calls.{key_of, inserts, absent_reply, when_found}
-use Rattle.node_contents.specs.Looking.{Found, Absent, Has, Below, look_among, value_by, find_at, value_in}
+use Rattle.node_contents.specs.Looking.{Absent, Has, Below, look_among, value_by, find_at, value_in}
 use Rattle.node_contents.specs.Changing.{look}
-use Rattle.content_laws.specs.Tries.{Trie, generation, node_in, says, assigned, value_at, content, On, at_root, at_below, IsTombed, most_levels}
+use Rattle.content_laws.specs.Tries.{Trie, generation, node_in, says, assigned, value_at, content, On, at_below, IsTombed, most_levels}
 use Rattle.content_laws.specs.Steps.{IsTrie, Looks, IsReached, root_is, below_is}
 use Rattle.content_laws.specs.Effects.{act_in, IsKeyed}
 use Rattle.content_laws.proofs.Values.{assigned-last, found_below}
 use Rattle.content_laws.proofs.Shapes.{leads_below, child-depth}
 use Rattle.nodes.specs.Levels.{index_in}
 use Rattle.content_laws.proofs.Updating.{found_of}
-use Rattle.content_laws.proofs.Paths.{on-generation, on-depth, on-within, path_lasts, tomb_ends}
+use Rattle.content_laws.proofs.Paths.{on-within, path_lasts, tomb_ends}
 use Rattle.content_laws.proofs.Contents.{get-content}
 use Rattle.content_laws.proofs.Updates.{value-on, value_of-found}
 use Rattle.content_laws.proofs.Listed.{others-list}
@@ -44,6 +42,7 @@ module _ (trie : Trie) (ok : IsTrie trie) where
       where
         led' : says trie t key (trie.depth i) i ≡ Below below
         led' = ap (λ m. look trie.node (hash_of trie.kind) (trie.depth i) key (trie.node m)) looks.given ∙ led
+
         by_path : On trie t g key (trie.depth i) i ⊎ IsTombed trie t i → On trie t g key (suc (trie.depth i)) below
         by_path (inl on) = at_below (trie.depth i) i below on led' own
         by_path (inr tomb) = absurd (tomb_ends trie ok t key i below looks.in_range tomb led')

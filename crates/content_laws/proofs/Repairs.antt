@@ -1,26 +1,24 @@
 -- A repair leaves the value of every key alone, in every generation.
-use Rattle.std.proofs.Common.{◌≡◌, ◌≢◌, ℕ, zero, suc, ◌+◌, ◌*◌, ◌/◌, ◌%◌, ◌^◌, ◌<◌, ◌≤◌, ◌==◌, Bool, true, false, cond, List, [], ◌∷◌, length, slice_index_or, Option, Some, None, ◌⊎◌, inl, inr, refl, sym, ap, ap₂, subst, ◌∙◌, arith, eqb-true, pow_pos, add_comm}
+use Rattle.std.proofs.Common.{◌≡◌, ◌≢◌, ℕ, zero, suc, ◌+◌, ◌*◌, ◌/◌, ◌%◌, ◌^◌, ◌<◌, ◌≤◌, ◌==◌, Bool, true, false, cond, [], ◌∷◌, length, slice_index_or, Some, refl, sym, ap, subst, ◌∙◌, arith, eqb-true, pow_pos}
 use Rattle.std.proofs.lemmas.Nat.{mod-pow-add}
 use Rattle.std.proofs.Math.Nat.{mul-div_cancel}
-use Rattle.arrayvec.specs.ArrayVec.{ArrayVec}
 use Rattle.ctrie_base.specs.Hashes.{hash_of}
 use Rattle.slot_arena.specs.declared.refs.Ref.{Ref}
 use Rattle.slot_arena.specs.declared.nodes.Node.{Node}
-use Rattle.slot_arena.specs.declared.nodes.Node.TheVariants.{Indirection, Branch, Single, Tomb}
+use Rattle.slot_arena.specs.declared.nodes.Node.TheVariants.{Indirection, Single}
 use Rattle.slot_arena.specs.Heaps.{no_ref, generation_of}
 use Rattle.nodes.specs.Levels.{index_in}
 use Rattle.node_contents.specs.Branches.{standing, at_place}
-use Rattle.node_contents.specs.Looking.{Found, Absent, Has, Below, look_at, value_by, find_at, value_in}
+use Rattle.node_contents.specs.Looking.{Absent, Has, Below, look_at, value_by, find_at, value_in}
 use Rattle.node_contents.specs.Changing.{look}
 use Rattle.node_contents.proofs.Branches.{before, differ}
 use Rattle.node_contents.proofs.Changes.{look_place, look_branch, look-same, look-other}
 use Rattle.node_contents.proofs.Tombs.{place_of}
-use Rattle.content_laws.specs.Tries.{Trie, generation, node_in, assigned, IsShaped, IsChild, most_levels, content}
+use Rattle.content_laws.specs.Tries.{Trie, generation, node_in, assigned, IsShaped, most_levels}
 use Rattle.content_laws.specs.Steps.{Stays, kept, renewed_by, untombed, IsRepair, refills, entombs, LeavesOthers, IsTrie}
 use Rattle.content_laws.proofs.Values.{value_by-same, assigned-own, assigned-other, assigned-still, found_below, found_nothing, Agrees, AgreesIfBelow}
-use Rattle.content_laws.proofs.Shapes.{IsBranch, child-depth, branch_shape, IsTomb, tomb_shape, LeadsBelow, leads_below, below_is, single_ends, leads}
+use Rattle.content_laws.proofs.Shapes.{IsBranch, child-depth, branch_shape, IsTomb, tomb_shape, leads_below, below_is, single_ends, leads}
 use Rattle.content_laws.proofs.Paths.{LooksUp, in_none, in_entry, refilled_looks, LooksUpOne, one_none, one_entry, one_looks}
-use Rattle.content_laws.proofs.Contents.{same_values, same_content}
 
 pub same_factor : (x y p : ℕ) → 0 < p → x * p ≡ y * p → x ≡ y
 same_factor x y p pos e = sym (mul-div_cancel x pos) ∙ ap (λ n. n / p) e ∙ mul-div_cancel y pos
@@ -75,8 +73,10 @@ module _ (trie : Trie) (ok : IsTrie trie) where
   module _ (t : ℕ) (i : Ref) (lt : t < trie.last) (others : LeavesOthers trie t i) (q : ℕ) where
     abbrev g : ℕ
     g = generation trie i
+
     abbrev A : Ref → Ref
     A = assigned trie g (suc t)
+
     abbrev B : Ref → Ref
     B = assigned trie g t
 
@@ -102,6 +102,7 @@ module _ (trie : Trie) (ok : IsTrie trie) where
       where
         not_i : other ≢ i
         not_i e = omega (arith, sym (deep' g word' fresh) ∙ ap trie.depth e)
+
         same : A other ≡ A entry
         same = assigned-own trie g (suc t) other (ap generation_of fresh) ∙ others other not_i ∙ main
             ∙ sym (assigned-other trie g (suc t) entry (λ e. apart (sym (ap generation_of is) ∙ e)))
@@ -109,11 +110,13 @@ module _ (trie : Trie) (ok : IsTrie trie) where
       where
         s : IsTomb trie entry other
         s = tomb_shape trie entry (trie.node (B entry)) other (shaped_assigned g t entry (omega arith)) tomb
+
         ends : (levels levels' : ℕ) → value_by (find_at trie.node A (hash_of trie.kind) q levels (suc (trie.depth i))) (look_at q other (trie.node other))
             ≡ value_by (find_at trie.node B (hash_of trie.kind) q levels' (suc (suc (trie.depth i)))) (look_at q other (trie.node other))
         ends levels levels' =
             value_by-same (find_at trie.node A (hash_of trie.kind) q levels (suc (trie.depth i))) (find_at trie.node B (hash_of trie.kind) q levels' (suc (suc (trie.depth i))))
             (look_at q other (trie.node other)) (λ j e. absurd (single_ends trie.node q s.key s.value other j s.is e))
+
         by_levels : (levels : ℕ) → suc levels + trie.depth i ≡ most_levels →
             value_by (find_at trie.node A (hash_of trie.kind) q levels (suc (trie.depth i))) (look_at q other (trie.node other))
             ≡ value_by (find_at trie.node B (hash_of trie.kind) q levels (suc (trie.depth i))) (look_at q entry (trie.node entry))
@@ -135,9 +138,11 @@ module _ (trie : Trie) (ok : IsTrie trie) where
             (h : ℕ) (word : Ref) → trie.node entry ≡ Indirection h word → trie.depth entry ≡ suc (trie.depth i) × trie.depth entry ≤ 13
         deep entry a h word is =
             let child = (leads_below trie i q (node_in trie t i) entry (ok.shaped t i (omega arith)) (a ∙ leads trie.node q h entry word is)).child in (child.deeper, child-depth trie i (index_in (hash_of trie.kind q) (trie.depth i)) entry child)
+
         deep' : (other : Ref) → look trie.node (hash_of trie.kind) (trie.depth i) q (node_in trie (suc t) i) ≡ look_at q other (trie.node other) →
             (h : ℕ) (word : Ref) → trie.node other ≡ Indirection h word → trie.depth other ≡ suc (trie.depth i)
         deep' other b h word is = (leads_below trie i q (node_in trie (suc t) i) other (ok.shaped (suc t) i lt) (b ∙ leads trie.node q h other word is)).child.deeper
+
         by_look : LooksUp trie ok g t q i (node_in trie t i) (node_in trie (suc t) i) →
             value_in trie.node A (hash_of trie.kind) q levels (trie.depth i) (node_in trie (suc t) i) ≡ value_in trie.node B (hash_of trie.kind) q levels (trie.depth i) (node_in trie t i)
         by_look (in_none a b) =
@@ -152,20 +157,28 @@ module _ (trie : Trie) (ok : IsTrie trie) where
       where
         s : IsTomb trie i single
         s = tomb_shape trie i (node_in trie (suc t) i) single (ok.shaped (suc t) i lt) n
+
         br : IsBranch trie i bitmap entries
         br = branch_shape trie i (node_in trie t i) bitmap entries (ok.shaped t i (omega arith)) o
+
         list : standing br.places ≡ entry ∷ []
         list = sym br.has.stand ∙ one
+
         found : (z : ℕ) × (at_place br.places z ≡ Some (slice_index_or (standing br.places) 0 no_ref)) × (before br.places z ≡ 0)
         found = place_of br.places 0 no_ref (omega (arith, ap length list))
+
         z : ℕ
         z = found.0
+
         at_z : at_place br.places z ≡ Some entry
         at_z = found.1 ∙ ap (λ es. Some (slice_index_or es 0 no_ref)) list
+
         P : ℕ
         P = 2 ^ (5 * trie.depth i)
+
         h : ℕ
         h = hash_of trie.kind s.key
+
         -- the single's key has the entry's place
         placed : Stays trie g t entry single → index_in h (trie.depth i) ≡ z
         placed (kept same) = br.in_place z s.key s.value entry at_z (ap trie.node same ∙ s.is)
@@ -180,6 +193,7 @@ module _ (trie : Trie) (ok : IsTrie trie) where
             let whole : index_in h (trie.depth i) * P + h % P ≡ trie.path i + z * P =
             sym (mod-pow-add h 5 (5 * trie.depth i)) ∙ ap (λ n. h % 2 ^ n) (sym five) ∙ led ∙ child.led in
             same_factor (index_in h (trie.depth i)) z P (pow_pos (5 * trie.depth i)) (omega (arith, whole, s.led))
+
         -- and no other key is found
         absent : look trie.node (hash_of trie.kind) (trie.depth i) q (node_in trie t i) ≡ Absent → q ≢ s.key
         absent a same =
@@ -191,10 +205,12 @@ module _ (trie : Trie) (ok : IsTrie trie) where
             not_absent (kept e) none = let bad : Has s.value ≡ Absent = sym (look-same trie.node q s.value entry (ap trie.node e ∙ s.is ∙ ap (λ k. Single k s.value) (sym same))) ∙ none in cc
             not_absent (renewed_by h' word word' is apart fresh main) none = let bad : Indirection g word' ≡ Single s.key s.value = sym fresh ∙ s.is in cc
             not_absent (untombed h' word is tomb) none = let bad : Below entry ≡ Absent = sym (leads trie.node q h' entry word is) ∙ none in cc
+
         deep : look trie.node (hash_of trie.kind) (trie.depth i) q (node_in trie t i) ≡ look_at q entry (trie.node entry) →
             (h : ℕ) (word : Ref) → trie.node entry ≡ Indirection h word → trie.depth entry ≡ suc (trie.depth i) × trie.depth entry ≤ 13
         deep a h word is =
             let child = (leads_below trie i q (node_in trie t i) entry (ok.shaped t i (omega arith)) (a ∙ leads trie.node q h entry word is)).child in (child.deeper, child-depth trie i (index_in (hash_of trie.kind q) (trie.depth i)) entry child)
+
         by_look : LooksUpOne trie ok q i entry (node_in trie t i) →
             value_in trie.node A (hash_of trie.kind) q levels (trie.depth i) (node_in trie (suc t) i) ≡ value_in trie.node B (hash_of trie.kind) q levels (trie.depth i) (node_in trie t i)
         by_look (one_none a) =

@@ -1,10 +1,9 @@
 -- The trie of a run: its main nodes are those of the states, whatever is made; each single's key is one of the keys.
-use Rattle.std.proofs.Common.{◌≡◌, ◌≢◌, ℕ, zero, suc, ◌+◌, ◌-◌, ◌<◌, ◌≤◌, ◌==◌, Bool, true, false, cond, List, [], ◌∷◌, ◌++◌, length, slice_index_or, flat_map, Contains, Option, Some, None, is_some, ◌⊎◌, inl, inr, ⊎_elim, refl, sym, ap, ap₂, subst, ◌∙◌, arith, eqb-true, get_or, length-append}
+use Rattle.std.proofs.Common.{◌≡◌, ℕ, zero, suc, ◌-◌, ◌<◌, ◌==◌, Bool, true, false, cond, List, [], ◌∷◌, ◌++◌, slice_index_or, flat_map, Contains, Option, Some, None, is_some, refl, sym, ap, subst, ◌∙◌, arith}
 use Rattle.std.proofs.lemmas.List.Elements.{Contains-append_left, Contains-append_right}
 use Rattle.slot_arena.specs.Refs.{slot_of, birth_of}
 use Rattle.slot_arena.specs.declared.refs.Ref.{Ref}
-use Rattle.slot_arena.specs.declared.nodes.Node.{Node}
-use Rattle.slot_arena.specs.declared.nodes.Node.TheVariants.{Single, Branch}
+use Rattle.slot_arena.specs.declared.nodes.Node.TheVariants.{Single}
 use Rattle.slot_arena.specs.declared.nodes.Slot.{Slot}
 use Rattle.slot_arena.specs.Heaps.{Heap, stored, node_of, empty_branch}
 use Rattle.machine_model.specs.States.{State}
@@ -30,6 +29,7 @@ standing_key heap r key value is = by_slot (stored heap r) refl is
     by_birth : (slot : Slot) → stored heap r ≡ Some slot → (b : Bool) → node_of (cond b (Some slot) None) ≡ Single key value → Contains (flat_map keys_of_slot heap.slots) key
     by_birth slot at true is = key_in_slots key value heap.slots (slot_of r) slot at is
     by_birth slot at false is = absurd (let bad : empty_branch ≡ Single key value = is in cc)
+
     by_slot : (o : Option Slot) → stored heap r ≡ o → node_of (of_birth (birth_of r) o) ≡ Single key value → Contains (flat_map keys_of_slot heap.slots) key
     by_slot None at is = absurd (let bad : empty_branch ≡ Single key value = is in cc)
     by_slot (Some slot) at is = by_birth slot at (slot.birth == birth_of r) is
@@ -64,6 +64,7 @@ module _ (states : ℕ → State) where
       where
         before : last - t ≡ suc (last - suc t)
         before = omega arith
+
         once : main_within states t (suc (last - suc t)) i ≡ main_within states (suc t) (last - suc t) i
         once = ap (λ b. cond b (main_before states t i) (main_within states (suc t) (last - suc t) i)) e
 

@@ -1,5 +1,5 @@
 -- What the shape of a main node gives.
-use Rattle.std.proofs.Common.{◌≡◌, ◌≢◌, ℕ, zero, suc, ◌+◌, ◌*◌, ◌^◌, ◌%◌, ◌<◌, ◌≤◌, ◌==◌, Bool, true, false, cond, List, [], ◌∷◌, length, Option, Some, None, refl, sym, ap, ap₂, subst, subst₂, ◌∙◌, arith}
+use Rattle.std.proofs.Common.{◌≡◌, ◌≢◌, ℕ, ◌*◌, ◌^◌, ◌%◌, ◌≤◌, ◌==◌, Bool, true, false, cond, List, [], ◌∷◌, length, Option, Some, None, refl, sym, ap, subst, subst₂, ◌∙◌, arith}
 use Rattle.arrayvec.specs.ArrayVec.{ArrayVec}
 use Rattle.ctrie_base.specs.Hashes.{hash_of}
 use Rattle.ctrie_base.specs.declared.hashes.HashKind.{HashKind}
@@ -12,8 +12,8 @@ use Rattle.node_contents.specs.Branches.{HasPlaces, at_place}
 use Rattle.node_contents.specs.Looking.{Found, Absent, Has, Below, look_at, look_among, or_else}
 use Rattle.node_contents.specs.Lists.{AreSingles}
 use Rattle.node_contents.specs.Changing.{AreInPlace, look}
-use Rattle.node_contents.proofs.Changes.{look_place, look_branch, look-same, look-other}
-use Rattle.content_laws.specs.Tries.{Trie, IsShaped, branch, list, tomb, IsChild, most_levels}
+use Rattle.node_contents.proofs.Changes.{look_place, look_branch}
+use Rattle.content_laws.specs.Tries.{Trie, IsShaped, branch, list, tomb, IsChild}
 
 -- an entry leads below where it is an indirection, to itself
 pub below_is : (node : Ref → Node) (q : ℕ) (entry j : Ref) → look_at q entry (node entry) ≡ Below j → (entry ≡ j) × ((g : ℕ) × (word : Ref) × (node entry ≡ Indirection g word))
@@ -22,6 +22,7 @@ below_is node q entry j e = by_node (node entry) refl e
     by_test : (k v : ℕ) (b : Bool) → cond b (Has v) Absent ≡ Below j → ⊥
     by_test k v true e = let bad : Has v ≡ Below j = e in cc
     by_test k v false e = let bad : Absent ≡ Below j = e in cc
+
     by_node : (n : Node) → node entry ≡ n → look_at q entry n ≡ Below j → (entry ≡ j) × ((g : ℕ) × (word : Ref) × (node entry ≡ Indirection g word))
     by_node (Indirection g word) is e = ((let same : Below entry ≡ Below j = e in cc), (g, word, is))
     by_node (Single k v) is e = absurd (by_test k v (k == q) e)
@@ -127,6 +128,7 @@ module _ (trie : Trie) (i : Ref) where
     where
       x : ℕ
       x = index_in (hash_of trie.kind q) (trie.depth i)
+
       by_place : (o : Option Ref) → at_place places x ≡ o → look_place trie.node q o ≡ Below j → LeadsBelow q n j
       by_place None at e = absurd (let bad : Absent ≡ Below j = e in cc)
       by_place (Some entry) at e =

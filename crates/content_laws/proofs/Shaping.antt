@@ -1,7 +1,6 @@
 -- The builders keep the shape of main nodes.
-use Rattle.std.proofs.Common.{◌≡◌, ◌≢◌, ℕ, zero, suc, ◌+◌, ◌-◌, ◌*◌, ◌%◌, ◌^◌, ◌<◌, ◌≤◌, ◌==◌, Bool, true, false, cond, List, [], ◌∷◌, ◌++◌, length, take, get_or, set, remove, slice_index_or, Option, Some, None, bit_or, ◌⊎◌, inl, inr, ⊎_elim, refl, sym, ap, ap₂, subst, ◌∙◌, arith, eqb-true, mod-eq_of_lt, take_all, length-append, length-set}
+use Rattle.std.proofs.Common.{◌≡◌, ◌≢◌, ℕ, ◌*◌, ◌^◌, ◌<◌, ◌==◌, Bool, true, false, cond, List, [], ◌∷◌, length, set, slice_index_or, Option, Some, None, bit_or, ⊎_elim, refl, sym, ap, ap₂, subst, ◌∙◌, arith, eqb-true, length-set}
 use Rattle.std.proofs.lemmas.List.{get_or-set_same, get_or-set_other}
-use Rattle.std.proofs.lemmas.List.Edits.{length-remove}
 use Rattle.arrayvec.specs.ArrayVec.{ArrayVec}
 use Rattle.ctrie_base.specs.Hashes.{hash_of}
 use Rattle.ctrie_base.specs.Paths.{position_of}
@@ -10,21 +9,19 @@ use Rattle.slot_arena.specs.declared.nodes.Node.{Node}
 use Rattle.slot_arena.specs.declared.nodes.Node.TheVariants.{Indirection, Branch, Single, Tomb, List as Listed}
 use Rattle.slot_arena.specs.Heaps.{no_ref, empty_branch, entries_from}
 use Rattle.nodes.specs.Levels.{list_depth, index_in, flag_of, has_flag}
-use Rattle.nodes.specs.Builders.{inserted, updated, removed, renewed, list_inserted, list_updated, list_removed, pair, rung, by_index}
+use Rattle.nodes.specs.Builders.{inserted, updated, removed, renewed, pair, rung, by_index}
 use Rattle.node_contents.specs.Branches.{standing, HasPlaces, at_place}
-use Rattle.node_contents.specs.Looking.{Found, Absent, Has, Below, look_at, look_among, or_else}
-use Rattle.node_contents.specs.Lists.{IsNew, AreSingles}
-use Rattle.node_contents.specs.Changing.{AreInPlace}
+use Rattle.node_contents.specs.Looking.{Absent, Has, look_among, or_else}
+use Rattle.node_contents.specs.Lists.{AreSingles}
 use Rattle.node_contents.specs.Chains.{Parts}
 use Rattle.node_contents.proofs.Branches.{before, standing_at, flagged, unflagged, inserted-places, updated-places, removed-places, differ}
-use Rattle.node_contents.proofs.Changes.{index-lt, look-same, look-other}
-use Rattle.node_contents.proofs.ListChanges.{or_else-absent, look_among-append, listed_at, set_same, set_others, remove_same, remove_others}
+use Rattle.node_contents.proofs.Changes.{index-lt, look-other}
 use Rattle.node_contents.proofs.Tombs.{before-lt, place_of}
 use Rattle.node_contents.proofs.Refilling.{refilled, refilled-places, refilled-none, refilled-some}
 use Rattle.node_contents.proofs.Chains.{empty_places, nothing, none_at, one-places, two-places, one_length}
-use Rattle.content_laws.specs.Tries.{Trie, generation, IsChild, IsShaped, branch, list, tomb}
-use Rattle.content_laws.specs.Shapes.{LeadsTo, StandsFor, Fits, unchanged, stands_for, becomes_single}
-use Rattle.content_laws.proofs.Shapes.{IsBranch, IsList, branch_shape, list_shape}
+use Rattle.content_laws.specs.Tries.{Trie, IsChild, IsShaped, branch, list, tomb}
+use Rattle.content_laws.specs.Shapes.{LeadsTo, Fits, unchanged, stands_for, becomes_single}
+use Rattle.content_laws.proofs.Shapes.{IsBranch, branch_shape}
 use Rattle.content_laws.proofs.Parting.{parted}
 
 module _ (trie : Trie) (fits : (i : Ref) → trie.path i < 2 ^ (5 * trie.depth i)) (i : Ref) where
@@ -82,8 +79,10 @@ module _ (trie : Trie) (fits : (i : Ref) → trie.path i < 2 ^ (5 * trie.depth i
   module _ (bitmap : ℕ) (entries : ArrayVec Ref) (shape : IsShaped trie i (Branch bitmap entries)) (key : ℕ) where
     s : IsBranch trie i bitmap entries
     s = branch_shape trie i (Branch bitmap entries) bitmap entries shape refl
+
     abbrev x : ℕ
     x = index_in (hash_of trie.kind key) (trie.depth i)
+
     x-lt : x < length s.places
     x-lt = omega (arith, s.has.size, index-lt (hash_of trie.kind key) (trie.depth i))
 
@@ -152,8 +151,10 @@ module _ (trie : Trie) (fits : (i : Ref) → trie.path i < 2 ^ (5 * trie.depth i
     where
       s : IsBranch trie i bitmap entries
       s = branch_shape trie i (Branch bitmap entries) bitmap entries shape refl
+
       whole : length entries.items ≡ length (standing s.places)
       whole = ap length s.has.stand
+
       may : (x : ℕ) (entry : Ref) → at_place (refilled s.places others) x ≡ Some entry → MayStand x entry
       may x entry at = by_place (at_place s.places x) refl
         where
@@ -202,12 +203,16 @@ module _ (trie : Trie) (fits : (i : Ref) → trie.path i < 2 ^ (5 * trie.depth i
     where
       a : ℕ
       a = index_in (hash_of trie.kind former) (trie.depth i)
+
       b : ℕ
       b = index_in (hash_of trie.kind key) (trie.depth i)
+
       singles_of : AreSingles trie.node (old ∷ new ∷ [])
-      singles_of =
-          (record { key = former; value = own; is = is_old; none = ap (λ f. or_else f Absent) (look-other trie.node former key value new is_new apart) },
-          (record { key = key; value = value; is = is_new; none = refl }, tt))
+      singles_of = (
+        record { key = former; value = own; is = is_old; none = ap (λ f. or_else f Absent) (look-other trie.node former key value new is_new apart) },
+        (record { key = key; value = value; is = is_new; none = refl }, tt),
+      )
+
       one_hash : (hash_of trie.kind former ≡ trie.path i) × (hash_of trie.kind key ≡ trie.path i) → (k v : ℕ) → look_among trie.node k (old ∷ new ∷ []) ≡ Has v → hash_of trie.kind k ≡ trie.path i
       one_hash ends k v e = by_former (k == former) refl
         where
@@ -216,9 +221,11 @@ module _ (trie : Trie) (fits : (i : Ref) → trie.path i < 2 ^ (5 * trie.depth i
           by_key away false other =
               absurd (let bad : Absent ≡ Has v =
               sym (ap₂ or_else (look-other trie.node k former own old is_old away) (ap (λ f. or_else f Absent) (look-other trie.node k key value new is_new (differ k key other)))) ∙ e in cc)
+
           by_former : (t : Bool) → (k == former) ≡ t → hash_of trie.kind k ≡ trie.path i
           by_former true same = ap (hash_of trie.kind) (eqb-true k former same) ∙ ends.0
           by_former false away = by_key (differ k former away) (k == key) refl
+
       as_branch : a ≢ b → IsShaped trie i (Branch (bit_or (2 ^ a) (2 ^ b)) (entries_from (by_index a b old new)))
       as_branch split =
           branch_of (bit_or (2 ^ a) (2 ^ b)) (entries_from (by_index a b old new)) (set (set (empty_places 32) a (Some old)) b (Some new))
@@ -228,6 +235,7 @@ module _ (trie : Trie) (fits : (i : Ref) → trie.path i < 2 ^ (5 * trie.depth i
           (λ y e at. absurd (let bad : None ≡ Some e = sym (none_at 32 y) ∙ at in cc))
           (λ e at. let same : Some old ≡ Some e = at in let e_is : old ≡ e = cc in subst (λ r. MayStand a r) e_is (a_single former own is_old refl led_old)))
           (λ e at. let same : Some new ≡ Some e = at in let e_is : new ≡ e = cc in subst (λ r. MayStand b r) e_is (a_single key value is_new refl led_new)))
+
       by_test : (t : Bool) → (trie.depth i == list_depth trie.kind) ≡ t →
           IsShaped trie i (cond t (Listed (entries_from (old ∷ new ∷ []))) (Branch (bit_or (2 ^ a) (2 ^ b)) (entries_from (by_index a b old new))))
       by_test true e =

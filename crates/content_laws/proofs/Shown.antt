@@ -1,6 +1,5 @@
 -- The pairs that are reached from a root in the end are the entries of its generation's content.
-use Rattle.std.proofs.Common.{◌≡◌, ◌≢◌, ℕ, zero, suc, ◌+◌, ◌*◌, ◌-◌, ◌/◌, ◌%◌, ◌^◌, ◌<◌, ◌≤◌, ◌==◌, Bool, true, false, cond, List, [], ◌∷◌, ◌++◌, length, flat_map, Option, Some, None, refl, sym, ap, ap₂, subst, ◌∙◌, arith, eqb-true, pow_pos, mod-eq_of_lt, mod-lt, add_comm}
-use Rattle.std.proofs.lemmas.Nat.{mod-pow-add, mod-mul-add}
+use Rattle.std.proofs.Common.{◌≡◌, ◌≢◌, ℕ, zero, suc, ◌+◌, ◌*◌, ◌%◌, ◌^◌, ◌≤◌, ◌==◌, Bool, true, false, List, [], ◌∷◌, ◌++◌, length, flat_map, Option, Some, None, refl, sym, ap, subst, ◌∙◌, arith, eqb-true, mod-eq_of_lt}
 use Rattle.std.specs.FinMap.{get, entries, len}
 use Rattle.ctrie_base.specs.Hashes.{hash_of}
 use Rattle.slot_arena.specs.declared.refs.Ref.{Ref}
@@ -9,22 +8,22 @@ use Rattle.slot_arena.specs.declared.nodes.Node.TheVariants.{Indirection, Branch
 use Rattle.slot_arena.specs.Heaps.{entries_of}
 use Rattle.nodes.specs.Levels.{index_in}
 use Rattle.machine_model.specs.Pairs.{by_key}
-use Rattle.node_contents.specs.Branches.{standing, HasPlaces, at_place}
-use Rattle.node_contents.specs.Looking.{Found, Absent, Has, Below, look_at, look_among, or_else, value_by, find_at, value_in}
+use Rattle.node_contents.specs.Branches.{standing, at_place}
+use Rattle.node_contents.specs.Looking.{Absent, Has, look_at, look_among, or_else, value_by, find_at}
 use Rattle.node_contents.specs.Lists.{IsNew, AreSingles}
 use Rattle.node_contents.specs.Changing.{look}
 use Rattle.node_contents.proofs.Branches.{differ}
 use Rattle.node_contents.proofs.Changes.{look_place, look_branch, look-same, look-other}
-use Rattle.content_laws.specs.Tries.{Trie, IsShaped, branch, list, tomb, IsChild, node_in, assigned, content, value_at, most_levels}
+use Rattle.content_laws.specs.Tries.{Trie, IsShaped, branch, list, tomb, node_in, assigned, content, value_at, most_levels}
 use Rattle.content_laws.specs.Steps.{IsTrie}
 use Rattle.content_laws.specs.Pairs.{pairs_of, pairs_from}
-use Rattle.content_laws.proofs.PairLists.{Pairs, found_in, EachKey, AreApart, each-append, each-weaker, found-first, found-later, found-none, entries_are, count_is}
+use Rattle.content_laws.proofs.PairLists.{Pairs, found_in, EachKey, AreApart, each-append, each-weaker, found-first, found-later, entries_are, count_is}
 use Rattle.content_laws.proofs.Spreads.{HaveIndex, found_at, spread-found, spread-apart, spread-each}
-use Rattle.content_laws.proofs.Values.{assigned-last, found_below, found_nothing, Agrees, AgreesIfBelow, agrees}
+use Rattle.content_laws.proofs.Values.{assigned-last, found_below, agrees}
 use Rattle.content_laws.proofs.Parting.{parted}
 use Rattle.content_laws.proofs.Shapes.{child-depth}
 use Rattle.content_laws.proofs.Contents.{get-content}
-use Rattle.content_laws.proofs.Repairs.{shaped_assigned, same_assigned, same_factor}
+use Rattle.content_laws.proofs.Repairs.{shaped_assigned, same_assigned}
 
 module _ (trie : Trie) (ok : IsTrie trie) where
   abbrev pub last_main : Ref → Ref
@@ -84,6 +83,7 @@ module _ (trie : Trie) (ok : IsTrie trie) where
     where
       rest : Pairs
       rest = flat_map (reach (suc levels)) singles
+
       by_test : found_in q rest ≡ value_by f (look_among trie.node q singles) → (b : Bool) → (q == are.0.key) ≡ b →
           found_in q ((are.0.key, are.0.value) ∷ rest) ≡ value_by f (or_else (look_at q s (trie.node s)) (look_among trie.node q singles))
       by_test later true e =
@@ -105,7 +105,7 @@ module _ (trie : Trie) (ok : IsTrie trie) where
       (subst (λ ps. EachKey P ps) (sym (reach-single levels are.0.key are.0.value s are.0.is))
       (h are.0.key are.0.value (ap (λ n. or_else n (look_among trie.node are.0.key singles)) (look-same trie.node are.0.key are.0.value s are.0.is)), tt))
       (listed_each levels P singles are.1 (λ k v e. h k v
-          (ap (λ n. or_else n (look_among trie.node k singles)) (look-other trie.node k are.0.key are.0.value s are.0.is (later_apart s singles k v are.0 e)) ∙ e)))
+      (ap (λ n. or_else n (look_among trie.node k singles)) (look-other trie.node k are.0.key are.0.value s are.0.is (later_apart s singles k v are.0 e)) ∙ e)))
 
   listed_apart : (levels : ℕ) (singles : List Ref) → AreSingles trie.node singles → AreApart (flat_map (reach (suc levels)) singles)
   listed_apart levels [] are = tt
@@ -121,10 +121,13 @@ module _ (trie : Trie) (ok : IsTrie trie) where
     where
       n : Node
       n = node_in trie trie.last i
+
       d : ℕ
       d = trie.depth i
+
       index : ℕ → ℕ
       index q = index_in (hash_of trie.kind q) d
+
       -- in terms of the main node's entries
       of_entries : (es : List Ref) → entries_of n ≡ es → ((q : ℕ) → found_in q (flat_map (reach (suc levels)) es) ≡ value_by (below_of q (suc levels) (suc d)) (look trie.node (hash_of trie.kind) d q n)) →
           AreApart (flat_map (reach (suc levels)) es) → EachKey (λ k. hash_of trie.kind k % 2 ^ (5 * d) ≡ trie.path i) (flat_map (reach (suc levels)) es) →
@@ -136,6 +139,7 @@ module _ (trie : Trie) (ok : IsTrie trie) where
             apart = subst (λ l. AreApart l) (sym ps) apart;
             led = subst (λ l. EachKey (λ k. hash_of trie.kind k % 2 ^ (5 * d) ≡ trie.path i) l) (sym ps) led;
           }
+
       by_shape : ((child : Ref) (h : ℕ) (w : Ref) → suc levels + trie.depth child ≡ most_levels → trie.depth child ≤ 13 → trie.node child ≡ Indirection h w →
           Shows (suc levels) child (reach (suc levels) child)) → IsShaped trie i n → Shows (suc (suc levels)) i (reach (suc (suc levels)) i)
       by_shape rest (branch b es places n_is has in_place leads_to children) =
@@ -155,6 +159,7 @@ module _ (trie : Trie) (ok : IsTrie trie) where
                     apart = subst (λ l. AreApart l) (sym ps) tt;
                     led = subst (λ l. EachKey (λ k. (index_in (hash_of trie.kind k) d ≡ x) × (hash_of trie.kind k % 2 ^ (5 * d) ≡ trie.path i)) l) (sym ps) tt;
                   }
+
               by_node : (m : Node) → trie.node e ≡ m → EntryShows (suc levels) i x e
               by_node (Single k v) is_m =
                   let ps = reach-single levels k v e is_m in
@@ -175,10 +180,12 @@ module _ (trie : Trie) (ok : IsTrie trie) where
               by_node (Branch bitmap es) is_m = other (Branch bitmap es) is_m (λ k v bad. cc) (λ h w bad. cc) (λ q. refl)
               by_node (Tomb single) is_m = other (Tomb single) is_m (λ k v bad. cc) (λ h w bad. cc) (λ q. refl)
               by_node (Listed singles) is_m = other (Listed singles) is_m (λ k v bad. cc) (λ h w bad. cc) (λ q. refl)
+
           have : HaveIndex (reach (suc levels)) index 0 places
           have x e at =
               each-weaker (λ k. (index_in (hash_of trie.kind k) d ≡ x) × (hash_of trie.kind k % 2 ^ (5 * d) ≡ trie.path i)) (λ k. index k ≡ 0 + x) (λ k both. omega (arith, both.0))
               (reach (suc levels) e) (entry x e at).led
+
           found : (q : ℕ) → found_in q (flat_map (reach (suc levels)) (standing places)) ≡ value_by (below_of q (suc levels) (suc d)) (look trie.node (hash_of trie.kind) d q n)
           found q =
               spread-found (reach (suc levels)) index 0 q (index q) places have (omega arith) ∙ by_place (at_place places (index q)) refl
@@ -192,8 +199,8 @@ module _ (trie : Trie) (ok : IsTrie trie) where
           (λ q. listed_found levels q (below_of q (suc levels) (suc d)) singles.items are ∙ sym (ap (λ m. value_by (below_of q (suc levels) (suc d)) (look trie.node (hash_of trie.kind) d q m)) n_is))
           (listed_apart levels singles.items are)
           (listed_each levels (λ k. hash_of trie.kind k % 2 ^ (5 * d) ≡ trie.path i) singles.items are (λ k v e.
-              let same = one_hash k v e in
-              ap (λ h. h % 2 ^ (5 * d)) same ∙ mod-eq_of_lt (ok.path_fits i) ))
+          let same = one_hash k v e in
+          ap (λ h. h % 2 ^ (5 * d)) same ∙ mod-eq_of_lt (ok.path_fits i)))
       by_shape rest (tomb single k v n_is own led) =
           of_entries (single ∷ []) (ap entries_of n_is)
           (λ q. ap (λ ps. found_in q (ps ++ [])) (reach-single levels k v single own) ∙ single_shows levels k v q single (below_of q (suc levels) (suc d)) own

@@ -1,5 +1,5 @@
 -- The pairs of entries that stand at places, where the pairs at a place have its index.
-use Rattle.std.proofs.Common.{◌≡◌, ◌≢◌, ℕ, zero, suc, ◌+◌, ◌<◌, ◌≤◌, List, [], ◌∷◌, ◌++◌, flat_map, Option, Some, None, refl, sym, ap, ◌∙◌, arith}
+use Rattle.std.proofs.Common.{◌≡◌, ◌≢◌, ℕ, zero, suc, ◌+◌, ◌≤◌, List, [], ◌∷◌, flat_map, Option, Some, None, refl, ap, ◌∙◌, arith}
 use Rattle.slot_arena.specs.declared.refs.Ref.{Ref}
 use Rattle.node_contents.specs.Branches.{standing, at_place}
 use Rattle.content_laws.proofs.PairLists.{Pairs, found_in, EachKey, AreApart, each-append, each-weaker, apart-append, found-none, found-append_left, found-append_right}

@@ -1,26 +1,22 @@
 -- An own update of a key changes the value of that key in its generation, and nothing else.
-use Rattle.std.proofs.Common.{◌≡◌, ◌≢◌, ℕ, zero, suc, ◌+◌, ◌-◌, ◌<◌, ◌≤◌, ◌==◌, Bool, true, false, cond, List, Option, Some, None, ◌⊎◌, inl, inr, ⊎_elim, refl, sym, ap, ap₂, subst, ◌∙◌, arith, eqb-true, eq-eqb, ne_eqb}
-use Rattle.std.specs.FinMap.{get, insert, remove}
+use Rattle.std.proofs.Common.{◌≡◌, ◌≢◌, ℕ, suc, ◌+◌, ◌-◌, ◌<◌, ◌≤◌, ◌==◌, Bool, true, false, Option, Some, None, ◌⊎◌, inl, inr, refl, sym, ap, ap₂, subst, ◌∙◌, arith, eqb-true}
 use Rattle.ctrie_base.specs.Hashes.{hash_of}
 use Rattle.slot_arena.specs.declared.refs.Ref.{Ref}
 use Rattle.slot_arena.specs.declared.nodes.Node.{Node}
-use Rattle.slot_arena.specs.declared.nodes.Node.TheVariants.{Single, Tomb}
 use Rattle.nodes.specs.Levels.{index_in}
-use Rattle.node_contents.specs.Looking.{Found, Absent, Has, Below, look_at, or_else, value_by, find_at, value_in}
-use Rattle.node_contents.specs.Changing.{Changes, look}
+use Rattle.node_contents.specs.Looking.{look_at, or_else, value_by, find_at, value_in}
+use Rattle.node_contents.specs.Changing.{look}
 use Rattle.node_contents.proofs.Branches.{differ}
 use Rattle.node_contents.proofs.Changes.{look-same, look-other}
 use Rattle.node_contents.proofs.ListChanges.{or_else-absent}
 use Rattle.node_contents.proofs.Chains.{chain_says}
-use Rattle.content_laws.specs.Tries.{Trie, generation, node_in, says, assigned, value_at, content, On, at_root, at_below, IsTombed, IsShaped, most_levels}
+use Rattle.content_laws.specs.Tries.{Trie, generation, node_in, assigned, value_at, On, at_root, at_below, IsTombed, most_levels}
 use Rattle.content_laws.specs.Steps.{IsOwnUpdate, LeavesOthers, IsTrie}
-use Rattle.node_contents.proofs.Maps.{get-inserted, get-removed}
-use Rattle.content_laws.proofs.Maps.{same_answers}
 use Rattle.content_laws.proofs.Values.{value_by-same, assigned-own, assigned-still, found_below, Agrees, AgreesIfBelow}
 use Rattle.content_laws.proofs.Shapes.{single_ends}
 use Rattle.content_laws.proofs.Updating.{HasUpdated, changes, beside, IsBeside, has_updated, found_of}
 use Rattle.content_laws.proofs.Paths.{on-generation, on-depth, on-within, path_lasts, update_of_tomb}
-use Rattle.content_laws.proofs.Contents.{get-content, same_values}
+use Rattle.content_laws.proofs.Contents.{same_values}
 use Rattle.content_laws.proofs.Repairs.{shaped_assigned, same_node, same_assigned}
 
 -- a value that is found is the value, whatever is below
@@ -58,12 +54,16 @@ module _ (trie : Trie) (ok : IsTrie trie) where
   module _ (t : ℕ) (i : Ref) (key : ℕ) (former now : Option ℕ) (lt : t < trie.last) (others : LeavesOthers trie t i) where
     abbrev g : ℕ
     g = generation trie i
+
     abbrev A : Ref → Ref
     A = assigned trie g (suc t)
+
     abbrev B : Ref → Ref
     B = assigned trie g t
+
     abbrev old : Node
     old = node_in trie t i
+
     abbrev new : Node
     new = node_in trie (suc t) i
 
@@ -82,6 +82,7 @@ module _ (trie : Trie) (ok : IsTrie trie) where
       where
         index : ℕ → ℕ
         index p = index_in (hash_of trie.kind p) (trie.depth i)
+
         by_index : (b : Bool) → (index q == index key) ≡ b →
             value_in trie.node A (hash_of trie.kind) q levels (trie.depth i) new ≡ value_in trie.node B (hash_of trie.kind) q levels (trie.depth i) old
         by_index true same =
@@ -139,7 +140,6 @@ module _ (trie : Trie) (ok : IsTrie trie) where
       pub had : value_at trie g t key ≡ former
       pub has : value_at trie g (suc t) key ≡ now
       pub stay : (q : ℕ) → q ≢ key → value_at trie g (suc t) q ≡ value_at trie g t q
-
 
     pub update_changes : (u : ℕ) → u ≤ t → On trie u g key (trie.depth i) i → IsOwnUpdate trie g t i key old new former now → ChangesValue
     update_changes u le on is = by_path (path_lasts trie ok u t g key (trie.depth i) i le (omega arith) on)

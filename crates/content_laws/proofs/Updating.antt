@@ -1,27 +1,23 @@
 -- An own update changes what its main node says of one key, or leads below where another key's single stood.
-use Rattle.std.proofs.Common.{◌≡◌, ◌≢◌, ℕ, zero, suc, ◌+◌, ◌-◌, ◌*◌, ◌^◌, ◌<◌, ◌≤◌, ◌==◌, Bool, true, false, List, [], ◌∷◌, length, slice_index_or, Option, Some, None, set, refl, sym, ap, ap₂, subst, subst₂, ◌∙◌, arith, eqb-true}
-use Rattle.std.proofs.lemmas.List.{get_or-set_same, get_or-set_other}
-use Rattle.arrayvec.specs.ArrayVec.{ArrayVec}
+use Rattle.std.proofs.Common.{◌≡◌, ◌≢◌, ℕ, suc, ◌+◌, ◌^◌, slice_index_or, Option, Some, None, refl, sym, ap, subst₂, ◌∙◌}
 use Rattle.ctrie_base.specs.Hashes.{hash_of}
 use Rattle.ctrie_base.specs.Paths.{position_of}
 use Rattle.slot_arena.specs.declared.refs.Ref.{Ref}
 use Rattle.slot_arena.specs.declared.nodes.Node.{Node}
-use Rattle.slot_arena.specs.declared.nodes.Node.TheVariants.{Indirection, Branch, Single, Tomb, List as Listed}
-use Rattle.slot_arena.specs.Heaps.{no_ref, entries_from}
-use Rattle.nodes.specs.Levels.{index_in, flag_of}
-use Rattle.nodes.specs.Builders.{updated}
-use Rattle.node_contents.specs.Branches.{HasPlaces, at_place}
-use Rattle.node_contents.specs.Looking.{Found, Absent, Has, Below, look_at, look_among}
+use Rattle.slot_arena.specs.declared.nodes.Node.TheVariants.{Single}
+use Rattle.slot_arena.specs.Heaps.{no_ref}
+use Rattle.nodes.specs.Levels.{index_in}
+use Rattle.node_contents.specs.Looking.{Found, Absent, Has, Below, look_at}
 use Rattle.node_contents.specs.Changing.{Changes, look}
 use Rattle.node_contents.specs.Chains.{LeadsToPair}
-use Rattle.node_contents.proofs.Branches.{flagged, unflagged, updated-places, differ}
-use Rattle.node_contents.proofs.Changes.{index-lt, look_place, look_branch, look-same, look-other, inserted_changes, updated_changes, removed_changes}
+use Rattle.node_contents.proofs.Branches.{flagged, unflagged}
+use Rattle.node_contents.proofs.Changes.{look-other, inserted_changes, updated_changes, removed_changes}
 use Rattle.node_contents.proofs.Beside.{beside-was, beside-is, beside-elsewhere}
 use Rattle.node_contents.proofs.ListChanges.{list_inserted_changes, list_updated_changes, list_removed_changes, list_entombed_changes}
 use Rattle.node_contents.proofs.Tombs.{entombed_changes}
 use Rattle.content_laws.specs.Tries.{Trie, IsShaped, assigned, most_levels}
 use Rattle.content_laws.specs.Steps.{IsOwnUpdate, branch_inserts, branch_updates, branch_removes, branch_entombs, goes_beside, list_inserts, list_updates, list_removes, list_entombs}
-use Rattle.content_laws.proofs.Shapes.{IsBranch, IsList, branch_shape, list_shape, leads}
+use Rattle.content_laws.proofs.Shapes.{branch_shape, list_shape}
 
 -- what is found where this is the value
 abbrev pub found_of : Option ℕ → Found

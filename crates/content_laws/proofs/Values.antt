@@ -1,10 +1,8 @@
 -- How values are found, and when two assignments of main nodes give the same ones.
-use Rattle.std.proofs.Common.{◌≡◌, ◌≢◌, ℕ, zero, suc, ◌+◌, ◌<◌, ◌≤◌, ◌==◌, Bool, true, false, cond, List, Option, Some, None, refl, sym, ap, ap₂, subst, ◌∙◌, arith, eqb-true, eq-eqb, ne_eqb}
+use Rattle.std.proofs.Common.{◌≡◌, ◌≢◌, ℕ, zero, suc, ◌+◌, ◌==◌, Bool, true, false, cond, Option, None, refl, sym, ap, subst, ◌∙◌, arith, eq-eqb, ne_eqb}
 use Rattle.ctrie_base.specs.Hashes.{hash_of}
 use Rattle.slot_arena.specs.declared.refs.Ref.{Ref}
-use Rattle.slot_arena.specs.declared.nodes.Node.{Node}
 use Rattle.node_contents.specs.Looking.{Found, Absent, Has, Below, value_by, find_at, value_in}
-use Rattle.node_contents.specs.Changing.{look}
 use Rattle.content_laws.specs.Tries.{Trie, generation, assigned, most_levels}
 
 -- a value by what is below depends on the indirection below alone

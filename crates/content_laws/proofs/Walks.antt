@@ -1,6 +1,5 @@
 -- What a walk finds: the pairs below each entry, whatever number of levels is allowed, make up the content.
-use Rattle.std.proofs.Common.{◌≡◌, ℕ, zero, suc, ◌+◌, ◌<◌, ◌≤◌, List, [], ◌∷◌, ◌++◌, length, slice_index_or, flat_map, Contains, Option, Some, None, refl, sym, ap, ap₂, subst, ◌∙◌, arith}
-use Rattle.std.specs.FinMap.{entries, len}
+use Rattle.std.proofs.Common.{◌≡◌, ℕ, zero, suc, ◌+◌, ◌<◌, ◌≤◌, List, [], ◌∷◌, length, flat_map, Contains, Some, refl, sym, ap, subst, ◌∙◌, arith}
 use Rattle.ctrie_base.specs.Hashes.{hash_of}
 use Rattle.history.specs.declared.calls.Access.TheVariants.{ReadOnly}
 use Rattle.history.specs.declared.calls.Call.TheVariants.{Entries, Count}
@@ -8,15 +7,14 @@ use Rattle.history.specs.declared.replies.Reply.TheVariants as reply
 use Rattle.slot_arena.specs.declared.refs.Ref.{Ref}
 use Rattle.slot_arena.specs.declared.nodes.Node.{Node}
 use Rattle.slot_arena.specs.declared.nodes.Node.TheVariants.{Indirection, Branch, Single, Tomb, List as Listed}
-use Rattle.slot_arena.specs.Heaps.{entries_of, no_ref}
+use Rattle.slot_arena.specs.Heaps.{entries_of}
 use Rattle.machine_model.specs.Pairs.{by_key}
-use Rattle.node_contents.specs.Branches.{standing, at_place}
 use Rattle.node_contents.specs.Lists.{AreSingles}
 use Rattle.node_contents.proofs.Tombs.{place_of}
-use Rattle.content_laws.specs.Tries.{Trie, IsShaped, branch, list, tomb, IsChild, node_in, content, most_levels}
+use Rattle.content_laws.specs.Tries.{Trie, IsShaped, branch, list, tomb, node_in, content, most_levels}
 use Rattle.content_laws.specs.Steps.{IsTrie}
 use Rattle.content_laws.specs.Effects.{act_in}
-use Rattle.content_laws.specs.Pairs.{pairs_of, pairs_from}
+use Rattle.content_laws.specs.Pairs.{pairs_from}
 use Rattle.content_laws.proofs.PairLists.{Pairs}
 use Rattle.content_laws.proofs.Shapes.{child-depth}
 use Rattle.content_laws.proofs.Shown.{reach, reach-single, reach-below, reach-other, reached_entries, reached_count}
@@ -30,10 +28,12 @@ module _ (trie : Trie) (ok : IsTrie trie) where
     where
       of_single : (k v : ℕ) → trie.node r ≡ Single k v → (trie.depth r ≡ suc (trie.depth i)) × (trie.depth r ≤ 13)
       of_single k v e = absurd (let bad : Indirection g word ≡ Single k v = sym is ∙ e in cc)
+
       listed : (singles : List Ref) → AreSingles trie.node singles → Contains singles r → (trie.depth r ≡ suc (trie.depth i)) × (trie.depth r ≤ 13)
       listed [] are c = absurd (omega (arith, c.1))
       listed (s ∷ singles) are (zero, lt, e) = of_single are.0.key are.0.value (ap trie.node (sym e) ∙ are.0.is)
       listed (s ∷ singles) are (suc n, lt, e) = listed singles are.1 (n, omega arith, e)
+
       by_shape : IsShaped trie i (node_in trie trie.last i) → (trie.depth r ≡ suc (trie.depth i)) × (trie.depth r ≤ 13)
       by_shape (branch b es places n_is has in_place led children) =
           let c' = subst (λ (l : List Ref). Contains l r) (ap entries_of n_is ∙ has.stand) c in
@@ -63,7 +63,7 @@ module _ (trie : Trie) (ok : IsTrie trie) where
           reach-below trie ok levels g r word is
           ∙ flat_map-same (reach trie ok levels) (reach trie ok more) (entries_of (node_in trie trie.last r))
           (λ q c. rest q (omega (arith, d.0, d.2)) (omega (arith, d.1, d.2))
-              (λ h w ind. let e = entry_deep r q h w c ind in (omega (arith, d.0, e.0), omega (arith, d.1, e.0), e.1)))
+          (λ h w ind. let e = entry_deep r q h w c ind in (omega (arith, d.0, e.0), omega (arith, d.1, e.0), e.1)))
           ∙ sym (reach-below trie ok more g r word is)
       by_node rest (Single k v) is = reach-single trie ok levels k v r is ∙ sym (reach-single trie ok more k v r is)
       by_node rest (Branch b es) is = reach-other trie ok levels r (Branch b es) is (λ k v e. cc) (λ g w e. cc) ∙ sym (reach-other trie ok more r (Branch b es) is (λ k v e. cc) (λ g w e. cc))

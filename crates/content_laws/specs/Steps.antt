@@ -1,5 +1,5 @@
 -- What a step may do to the main nodes of a trie.
-use Rattle.std.specs.Prelude.{◌≡◌, ◌≢◌, ℕ, suc, ◌+◌, ◌-◌, ◌*◌, ◌^◌, ◌<◌, ◌≤◌, Bool, true, false, List, [], ◌∷◌, length, slice_index_or, Contains, Option, Some, None}
+use Rattle.std.specs.Prelude.{◌≡◌, ◌≢◌, ℕ, suc, ◌+◌, ◌-◌, ◌*◌, ◌^◌, ◌<◌, ◌≤◌, true, false, List, [], ◌∷◌, length, slice_index_or, Contains, Option, Some, None}
 use Rattle.arrayvec.specs.ArrayVec.{ArrayVec}
 use Rattle.ctrie_base.specs.Hashes.{hash_of}
 use Rattle.ctrie_base.specs.Paths.{position_of}
@@ -7,7 +7,7 @@ use Rattle.history.specs.declared.calls.Call.{Call}
 use Rattle.slot_arena.specs.declared.refs.Ref.{Ref}
 use Rattle.slot_arena.specs.declared.nodes.Node.{Node}
 use Rattle.slot_arena.specs.declared.nodes.Node.TheVariants.{Indirection, Branch, Single, Tomb, List as Listed}
-use Rattle.slot_arena.specs.Heaps.{no_ref, entries_from}
+use Rattle.slot_arena.specs.Heaps.{no_ref}
 use Rattle.nodes.specs.Levels.{flag_of, has_flag}
 use Rattle.nodes.specs.Builders.{inserted, updated, removed, renewed, list_inserted, list_updated, list_removed}
 use Rattle.node_contents.specs.Looking.{Absent, Below, look_among}

@@ -1,22 +1,21 @@
 -- What the builders do to the map that is a node's content.
-use Rattle.std.proofs.Common.{◌≡◌, ◌≢◌, ℕ, zero, suc, ◌+◌, ◌-◌, ◌<◌, ◌≤◌, ◌==◌, Bool, true, false, cond, List, [], ◌∷◌, length, slice_index_or, Option, Some, None, refl, sym, ap, ap₂, subst, ◌∙◌, arith, eqb-true}
-use Rattle.std.specs.FinMap.{get, insert, remove}
-use Rattle.arrayvec.specs.ArrayVec.{ArrayVec}
+use Rattle.std.proofs.Common.{◌≡◌, ◌≢◌, ℕ, suc, ◌==◌, Bool, true, false, cond, [], ◌∷◌, length, slice_index_or, Option, Some, None, refl, sym, ap, ap₂, subst, ◌∙◌, arith, eqb-true}
+use Rattle.std.specs.FinMap.{get}
 use Rattle.ctrie_base.specs.Hashes.{hash_of}
 use Rattle.slot_arena.specs.declared.refs.Ref.{Ref}
 use Rattle.slot_arena.specs.declared.nodes.Node.{Node}
-use Rattle.slot_arena.specs.declared.nodes.Node.TheVariants.{Indirection, Branch, Single, Tomb, List as Listed}
+use Rattle.slot_arena.specs.declared.nodes.Node.TheVariants.{Branch, Single}
 use Rattle.slot_arena.specs.Heaps.{no_ref, entries_from}
-use Rattle.nodes.specs.Levels.{index_in, flag_of}
+use Rattle.nodes.specs.Levels.{index_in}
 use Rattle.nodes.specs.Builders.{updated, renewed}
-use Rattle.node_contents.specs.Branches.{standing, HasPlaces, at_place}
+use Rattle.node_contents.specs.Branches.{standing, at_place}
 use Rattle.node_contents.specs.Looking.{Found, Absent, Has, Below, look_at, or_else, value_by, find_at, value_in}
 use Rattle.node_contents.specs.Changing.{Changes, look}
-use Rattle.node_contents.specs.Laws.{Place, Puts, Removes, Keeps, BranchInserts, BranchUpdates, BranchRemoves, BranchEntombs, PairsPut, ListInserts, ListUpdates, ListRemoves, ListEntombs, Replaces, kept, renews, cleans, RenewedKeeps, ContractedKeeps, entry_there, position_there}
+use Rattle.node_contents.specs.Laws.{Place, Puts, Removes, BranchInserts, BranchUpdates, BranchRemoves, BranchEntombs, PairsPut, ListInserts, ListUpdates, ListRemoves, ListEntombs, Replaces, kept, renews, cleans, RenewedKeeps, ContractedKeeps, entry_there, position_there}
 use Rattle.node_contents.proofs.Branches.{before, standing_at, flagged, unflagged, differ}
 use Rattle.node_contents.proofs.Changes.{look_place, look_branch, look-same, look-other, inserted_changes, updated_changes, removed_changes}
 use Rattle.node_contents.proofs.ListChanges.{or_else-absent, list_inserted_changes, list_updated_changes, list_removed_changes, list_entombed_changes}
-use Rattle.node_contents.proofs.Tombs.{before-lt, entombed_changes, tomb_agrees}
+use Rattle.node_contents.proofs.Tombs.{before-lt, entombed_changes}
 use Rattle.node_contents.proofs.Refilling.{refilled, refilled-places, refilled-none, refilled-some}
 use Rattle.node_contents.proofs.Beside.{beside-was, beside-is, beside-elsewhere}
 use Rattle.node_contents.proofs.Chains.{chain_says}
@@ -102,13 +101,17 @@ pairs_put place bitmap key value other own generation entries single link word f
   where
     index : ℕ → ℕ
     index k = index_in (hash_of place.kind k) place.depth
+
     old_entry : Ref
     old_entry = entry_there place key bitmap entries
+
     at : at_place f.0.0 (index key) ≡ Some old_entry
     at = flagged bitmap entries.items f.0.0 f.0.1 (index key) no_ref f.1
+
     through : value_by (below place q) (Below link) ≡ value_by (λ r. None) (or_else (look_at q old_entry (place.node old_entry)) (look_at q single (place.node single)))
     through =
         chain_says place.node place.kind other key old_entry single own value entry is place.main place.levels (suc place.depth) link q apart chain
+
     at_key : (b : Bool) → (q == key) ≡ b → index q ≡ index key →
         value_by (λ r. None) (or_else (look_at q old_entry (place.node old_entry)) (look_at q single (place.node single))) ≡ cond b (Some value) (get m q)
     at_key true same here =
@@ -120,9 +123,11 @@ pairs_put place bitmap key value other own generation entries single link word f
         ∙ or_else-absent (look_at q old_entry (place.node old_entry)))
         ∙ single_value place.node q other own old_entry (λ r. None) (below place q) entry
         ∙ sym (ap (value_by (below place q)) (beside-was place.node (hash_of place.kind) place.depth bitmap entries f.0.0 f.0.1 key old_entry link at q here)) ∙ holds q
+
     not_key : (b : Bool) → (q == key) ≡ b → index q ≢ index key → get m q ≡ cond b (Some value) (get m q)
     not_key true same away = absurd (away (ap index (eqb-true q key same)))
     not_key false apart' away = refl
+
     by_index : (b : Bool) → (index q == index key) ≡ b →
         value_in place.node place.main (hash_of place.kind) q place.levels place.depth (updated bitmap entries.items (position_there place key bitmap) link) ≡ cond (q == key) (Some value) (get m q)
     by_index true same =
@@ -158,12 +163,16 @@ renewed_keeps place bitmap levels entries others places left h count replaces m 
   where
     x : ℕ
     x = index_in (hash_of place.kind q) place.depth
+
     whole : length entries.items ≡ length (standing places)
     whole = ap length h.stand
+
     old_is : says place q (Branch bitmap entries) ≡ look_place place.node q (at_place places x)
     old_is = look_branch place.node q bitmap x entries places h
+
     new_is : says place q (renewed bitmap others) ≡ look_place place.node q (at_place (refilled places others) x)
     new_is = look_branch place.node q bitmap x (entries_from others) (refilled places others) (refilled-places bitmap entries.items others places h count)
+
     by_place : (found : Option Ref) → at_place places x ≡ found → value_by (below place q) (says place q (renewed bitmap others)) ≡ value_by (below place q) (says place q (Branch bitmap entries))
     by_place None at =
         ap (value_by (below place q)) (new_is ∙ ap (look_place place.node q) (refilled-none places others x at) ∙ sym (old_is ∙ ap (look_place place.node q) at))
@@ -179,10 +188,13 @@ contracted_keeps place bitmap levels x key value entries entry single places lef
   where
     z : ℕ
     z = index_in (hash_of place.kind q) place.depth
+
     old_is : says place q (Branch bitmap entries) ≡ look_place place.node q (at_place places z)
     old_is = look_branch place.node q bitmap z entries places h
+
     list : standing places ≡ entry ∷ []
     list = sym h.stand ∙ one
+
     by_place : (found : Option Ref) → at_place places z ≡ found → value_by (below place q) (look_at q single (place.node single)) ≡ value_by (below place q) (says place q (Branch bitmap entries))
     by_place None none =
         ap (value_by (below place q)) (look-other place.node q key value single is (λ same. absurd (let bad : Some entry ≡ None =

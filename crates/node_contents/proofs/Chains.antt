@@ -1,5 +1,5 @@
 -- What is found through the chain to a pair of singles: their values alone.
-use Rattle.std.proofs.Common.{◌≡◌, ◌≢◌, ℕ, zero, suc, ◌+◌, ◌-◌, ◌^◌, ◌<◌, ◌≤◌, Bool, true, false, cond, ◌==◌, nat_lt, List, [], ◌∷◌, ◌++◌, length, take, drop, get_or, set, replicate, insert, Option, Some, None, bit_or, ◌⊎◌, inl, inr, ⊎_elim, refl, sym, ap, ap₂, subst, subst₂, ◌∙◌, arith, eqb-true, eq-eqb, ne_eqb, lt-ltb, le-ltb, length-set}
+use Rattle.std.proofs.Common.{◌≡◌, ◌≢◌, ℕ, zero, suc, ◌^◌, ◌<◌, Bool, true, false, cond, ◌==◌, nat_lt, List, [], ◌∷◌, length, take, set, replicate, insert, Option, Some, None, bit_or, ⊎_elim, refl, sym, ap, ap₂, subst, subst₂, ◌∙◌, arith, eqb-true, lt-ltb, le-ltb, length-set}
 use Rattle.std.proofs.lemmas.List.{get_or-set_same, get_or-set_other, length-replicate}
 use Rattle.std.specs.Int.Bits.{or_zero_l}
 use Rattle.std.proofs.lemmas.Bool.Decides.{nat_tests}
@@ -8,16 +8,16 @@ use Rattle.ctrie_base.specs.Paths.{position_of}
 use Rattle.ctrie_base.specs.declared.hashes.HashKind.{HashKind}
 use Rattle.slot_arena.specs.declared.refs.Ref.{Ref}
 use Rattle.slot_arena.specs.declared.nodes.Node.{Node}
-use Rattle.slot_arena.specs.declared.nodes.Node.TheVariants.{Indirection, Branch, Single, List as Listed}
+use Rattle.slot_arena.specs.declared.nodes.Node.TheVariants.{Branch, Single, List as Listed}
 use Rattle.slot_arena.specs.Heaps.{entries_from}
-use Rattle.nodes.specs.Levels.{list_depth, index_in, flag_of}
-use Rattle.nodes.specs.Builders.{by_index, pair, rung}
+use Rattle.nodes.specs.Levels.{list_depth, index_in}
+use Rattle.nodes.specs.Builders.{by_index, pair}
 use Rattle.node_contents.specs.Branches.{HasPlaces, at_place}
-use Rattle.node_contents.specs.Looking.{Found, Absent, Has, Below, look_at, or_else, look_among, look_in, value_by, find_at}
+use Rattle.node_contents.specs.Looking.{Found, Absent, Has, look_at, or_else, value_by, find_at}
 use Rattle.node_contents.specs.Changing.{look}
 use Rattle.node_contents.specs.Chains.{Parts, LeadsToPair, at_pair, by_rung}
 use Rattle.node_contents.proofs.Branches.{before, position-before, inserted-places, differ}
-use Rattle.node_contents.proofs.Changes.{index-lt, look_place, look_branch, look-same, look-other}
+use Rattle.node_contents.proofs.Changes.{index-lt, look_place, look_branch, look-other}
 use Rattle.node_contents.proofs.ListChanges.{or_else-absent}
 
 -- places with nothing
@@ -99,12 +99,16 @@ module _ (node : Ref → Node) (kind : HashKind) (former key : ℕ) (old single 
     where
       hash : ℕ → ℕ
       hash k = hash_of kind k
+
       x : ℕ
       x = index_in (hash former) depth
+
       y : ℕ
       y = index_in (hash key) depth
+
       z : ℕ
       z = index_in (hash q) depth
+
       as_branch : x ≢ y → look node (hash_of kind) depth q (Branch (bit_or (2 ^ x) (2 ^ y)) (entries_from (by_index x y old single))) ≡ both q
       as_branch parted =
           look_branch node q (bit_or (2 ^ x) (2 ^ y)) z (entries_from (by_index x y old single)) places (two-places x y old single (index-lt (hash former) depth) (index-lt (hash key) depth) parted)
@@ -112,10 +116,13 @@ module _ (node : Ref → Node) (kind : HashKind) (former key : ℕ) (old single 
         where
           first : List (Option Ref)
           first = set (empty_places 32) x (Some old)
+
           places : List (Option Ref)
           places = set first y (Some single)
+
           size : length first ≡ 32
           size = length-set (empty_places 32) x (Some old) ∙ one_length 32
+
           at_former : z ≢ y → (b : Bool) → (z == x) ≡ b → look_place node q (at_place first z) ≡ both q
           at_former other true e =
               ap (λ n. look_place node q (at_place first n)) (eqb-true z x e) ∙ ap (look_place node q) (get_or-set_same (empty_places 32) x (Some old) None (omega (arith, one_length 32, index-lt (hash former) depth)))
@@ -123,11 +130,13 @@ module _ (node : Ref → Node) (kind : HashKind) (former key : ℕ) (old single 
           at_former other false e =
               ap (look_place node q) (get_or-set_other (empty_places 32) x z (Some old) None (differ z x e) ∙ none_at 32 z)
               ∙ sym (neither q (λ same. differ z x e (ap (λ k. index_in (hash k) depth) same)) (λ same. other (ap (λ k. index_in (hash k) depth) same)))
+
           at_key : (b : Bool) → (z == y) ≡ b → look_place node q (at_place places z) ≡ both q
           at_key true e =
               ap (λ n. look_place node q (at_place places n)) (eqb-true z y e) ∙ ap (look_place node q) (get_or-set_same first y (Some single) None (omega (arith, size, index-lt (hash key) depth)))
               ∙ sym (ap (λ f. or_else f (look_at q single (node single))) (look-other node q former w old is_old (λ same. parted (sym (ap (λ k. index_in (hash k) depth) same) ∙ eqb-true z y e))))
           at_key false e = ap (look_place node q) (get_or-set_other first y z (Some single) None (differ z y e)) ∙ at_former (differ z y e) (z == x) refl
+
       by_test : (b : Bool) → (depth == list_depth kind) ≡ b → look node (hash_of kind) depth q
           (cond b (Listed (entries_from (old ∷ single ∷ []))) (Branch (bit_or (2 ^ x) (2 ^ y)) (entries_from (by_index x y old single)))) ≡ both q
       by_test true e = ap (or_else (look_at q old (node old))) (or_else-absent (look_at q single (node single)))
@@ -153,12 +162,16 @@ module _ (node : Ref → Node) (kind : HashKind) (former key : ℕ) (old single 
     where
       next : Ref → Option ℕ
       next = find_at node main (hash_of kind) q left (suc depth)
+
       y : ℕ
       y = index_in (hash_of kind key) depth
+
       z : ℕ
       z = index_in (hash_of kind q) depth
+
       places : List (Option Ref)
       places = set (empty_places 32) y (Some below)
+
       at_key : next below ≡ value_by (λ r. None) (both q) → (b : Bool) → (z == y) ≡ b →
           value_by next (look_place node q (at_place places z)) ≡ value_by (λ r. None) (both q)
       at_key rest true e =

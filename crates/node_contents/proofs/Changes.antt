@@ -1,17 +1,17 @@
 -- Own updates of a key in a branch.
-use Rattle.std.proofs.Common.{◌≡◌, ◌≢◌, ℕ, zero, suc, ◌+◌, ◌-◌, ◌^◌, ◌%◌, ◌<◌, ◌≤◌, Bool, true, false, cond, ◌==◌, List, [], ◌∷◌, map, length, take, get_or, set, slice_index_or, Option, Some, None, is_some, ◌⊎◌, inl, inr, refl, sym, ap, ap₂, subst, ◌∙◌, arith, eq-eqb, eqb-true, ne_eqb, mod-lt, if◌then◌else◌}
+use Rattle.std.proofs.Common.{◌≡◌, ◌≢◌, ℕ, ◌^◌, ◌<◌, Bool, true, false, cond, ◌==◌, List, length, set, slice_index_or, Option, Some, None, is_some, refl, sym, ap, ap₂, ◌∙◌, arith, eq-eqb, eqb-true, ne_eqb, mod-lt}
 use Rattle.std.proofs.lemmas.List.{get_or-set_same, get_or-set_other}
 use Rattle.arrayvec.specs.ArrayVec.{ArrayVec}
 use Rattle.ctrie_base.specs.Paths.{position_of}
 use Rattle.slot_arena.specs.declared.refs.Ref.{Ref}
 use Rattle.slot_arena.specs.declared.nodes.Node.{Node}
-use Rattle.slot_arena.specs.declared.nodes.Node.TheVariants.{Branch, Single, Tomb}
-use Rattle.slot_arena.specs.Heaps.{no_ref, entries_from}
-use Rattle.nodes.specs.Levels.{index_in, flag_of, has_flag}
+use Rattle.slot_arena.specs.declared.nodes.Node.TheVariants.{Branch, Single}
+use Rattle.slot_arena.specs.Heaps.{no_ref}
+use Rattle.nodes.specs.Levels.{index_in, flag_of}
 use Rattle.nodes.specs.Builders.{inserted, updated, removed}
-use Rattle.node_contents.specs.Branches.{standing, HasPlaces, at_place}
-use Rattle.node_contents.specs.Looking.{Found, Absent, Has, Below, look_at, look_in}
-use Rattle.node_contents.specs.Changing.{look, Changes, AreInPlace}
+use Rattle.node_contents.specs.Branches.{HasPlaces, at_place}
+use Rattle.node_contents.specs.Looking.{Found, Absent, Has, look_at, look_in}
+use Rattle.node_contents.specs.Changing.{Changes}
 use Rattle.node_contents.proofs.Branches.{has_flag-place, entry-place, inserted-places, updated-places, removed-places, differ}
 
 -- an index is one of 32
@@ -59,6 +59,7 @@ module _ (node : Ref → Node) where
       where
         lt' : x < length places
         lt' = omega (arith, h.size)
+
         at_index : (q : ℕ) → q ≢ key → (y : ℕ) (b : Bool) → (y == x) ≡ b → look_place node q (at_place (set places x o) y) ≡ look_place node q (at_place places y)
         at_index q apart y true e =
             rw (eqb-true y x e) (ap (look_place node q) (get_or-set_same places x o None lt') ∙ sym (others q apart))

@@ -1,12 +1,11 @@
 -- Own updates of a key in a list.
-use Rattle.std.proofs.Common.{◌≡◌, ◌≢◌, ℕ, zero, suc, ◌+◌, ◌-◌, ◌<◌, ◌≤◌, Bool, true, false, cond, ◌==◌, List, [], ◌∷◌, ◌++◌, length, take, drop, get_or, set, remove, slice_index_or, refl, sym, ap, ap₂, subst, ◌∙◌, arith, eq-eqb, ne_eqb, take_all, length-append, length-set}
+use Rattle.std.proofs.Common.{◌≡◌, ◌≢◌, ℕ, zero, suc, ◌-◌, ◌<◌, ◌≤◌, List, [], ◌∷◌, ◌++◌, length, take, get_or, set, remove, slice_index_or, refl, sym, ap, ap₂, ◌∙◌, arith, take_all, length-append, length-set}
 use Rattle.std.proofs.lemmas.List.Edits.{length-remove}
-use Rattle.std.proofs.lemmas.List.{get_or-set_same}
 use Rattle.arrayvec.specs.ArrayVec.{ArrayVec}
 use Rattle.slot_arena.specs.declared.refs.Ref.{Ref}
 use Rattle.slot_arena.specs.declared.nodes.Node.{Node}
 use Rattle.slot_arena.specs.declared.nodes.Node.TheVariants.{Single, Tomb, List as Listed}
-use Rattle.slot_arena.specs.Heaps.{no_ref, entries_from}
+use Rattle.slot_arena.specs.Heaps.{no_ref}
 use Rattle.nodes.specs.Builders.{list_inserted, list_updated, list_removed}
 use Rattle.node_contents.specs.Looking.{Found, Absent, Has, Below, look_at, or_else, look_among}
 use Rattle.node_contents.specs.Lists.{IsNew, AreSingles}

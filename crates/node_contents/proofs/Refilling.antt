@@ -1,5 +1,5 @@
 -- A branch with other entries in the same places.
-use Rattle.std.proofs.Common.{◌≡◌, ℕ, zero, suc, ◌<◌, ◌≤◌, Bool, true, false, List, [], ◌∷◌, map, length, take, get_or, Option, Some, None, is_some, refl, sym, ap, ap₂, ◌∙◌, arith, take_all}
+use Rattle.std.proofs.Common.{◌≡◌, ℕ, zero, suc, true, false, List, [], ◌∷◌, map, length, take, get_or, Option, Some, None, is_some, refl, sym, ap, ◌∙◌, arith, take_all}
 use Rattle.slot_arena.specs.declared.refs.Ref.{Ref}
 use lib.Lanes.{mask_l}
 use Rattle.node_contents.specs.Branches.{standing, HasPlaces, at_place}

@@ -1,5 +1,5 @@
 -- A branch whose keys but one are gone, and the tomb of that one's single.
-use Rattle.std.proofs.Common.{◌≡◌, ◌≢◌, ℕ, zero, suc, ◌+◌, ◌-◌, ◌^◌, ◌<◌, ◌≤◌, Bool, true, false, cond, ◌==◌, List, [], ◌∷◌, length, get_or, slice_index_or, Option, Some, None, ◌⊎◌, inl, inr, ⊎_elim, refl, sym, ap, ap₂, subst, ◌∙◌, arith, eqb-true}
+use Rattle.std.proofs.Common.{◌≡◌, ◌≢◌, ℕ, zero, suc, ◌-◌, ◌<◌, Bool, true, false, ◌==◌, List, [], ◌∷◌, length, get_or, slice_index_or, Option, Some, None, ◌⊎◌, inl, inr, ⊎_elim, refl, sym, ap, ap₂, ◌∙◌, arith, eqb-true}
 use Rattle.arrayvec.specs.ArrayVec.{ArrayVec}
 use Rattle.ctrie_base.specs.Paths.{position_of}
 use Rattle.slot_arena.specs.declared.refs.Ref.{Ref}
@@ -38,6 +38,7 @@ module _ (node : Ref → Node) (hash : ℕ → ℕ) (depth bitmap : ℕ) (entrie
       by_place : (y : ℕ) → q ≢ own → (o : Option Ref) → at_place places y ≡ o → Absent ≡ look_place node q o
       by_place y apart None e = refl
       by_place y apart (Some entry) e = ⊎_elim (λ same. sym (ap (λ r. look_at q r (node r)) same ∙ look-other node q own value single is apart)) (λ absent. sym absent) (alone y entry e)
+
       by_key : (b : Bool) → (q == own) ≡ b → look_at q single (node single) ≡ look_place node q (at_place places (index_in (hash q) depth))
       by_key true e = sym (ap (look_place node q) (ap (λ k. at_place places (index_in (hash k) depth)) (eqb-true q own e) ∙ ap (at_place places) placed ∙ at))
       by_key false e =
@@ -56,29 +57,40 @@ module _ (node : Ref → Node) (hash : ℕ → ℕ) (depth bitmap : ℕ) (entrie
     where
       x : ℕ
       x = index_in (hash key) depth
+
       p : ℕ
       p = position_of (flag_of (hash key) depth) bitmap
+
       single : Ref
       single = slice_index_or entries.items (1 - p) no_ref
+
       p_is : p ≡ before places x
       p_is = position-before bitmap entries.items places h x
+
       count : length (standing places) ≡ 2
       count = ap length (sym h.stand) ∙ two
+
       p-lt : p < 2
       p-lt = omega (arith, p_is, before-lt places x entry at, count)
+
       found : (z : ℕ) × (at_place places z ≡ Some (get_or (standing places) (1 - p) no_ref)) × (before places z ≡ 1 - p)
       found = place_of places (1 - p) no_ref (omega (arith, count))
+
       z : ℕ
       z = found.0
+
       at_z : at_place places z ≡ Some single
       at_z = found.1 ∙ ap Some (ap (λ es. get_or es (1 - p) no_ref) (sym h.stand))
+
       own_place : index_in (hash own) depth ≡ z
       own_place = in_place z own value single at_z is
+
       differs : key ≢ own
       differs same =
           let met : x ≡ z = ap (λ k. index_in (hash k) depth) same ∙ own_place in
           let bad : before places x ≡ 1 - p = ap (before places) met ∙ found.2 in
           omega (arith, p_is, p-lt, bad)
+
       alone : (q : ℕ) → q ≢ key → (y : ℕ) (e : Ref) → at_place places y ≡ Some e → (b : Bool) → (before places y == p) ≡ b → (e ≡ single) ⊎ (look_at q e (node e) ≡ Absent)
       alone q apart y e at_y true same =
           let is_entry : e ≡ entry =
