@@ -7,3 +7,4 @@ pub mod Chains
 pub mod Beside
 pub mod Maps
 pub mod Builders
+pub mod Partings
