@@ -158,14 +158,13 @@ module _ (trie : Trie) (i : Ref) where
 
   -- a main node keeps its shape for an indirection that stands for another
   pub shape_moves : (j : Ref) (n : Node) → StandsFor trie i j → IsShaped trie i n → IsShaped trie j n
-  shape_moves j n for (branch bitmap entries places is has in_place led children) =
-      branch bitmap entries places is has (λ x k v e at single. ap (λ d. index_in (hash_of trie.kind k) d) for.deep ∙ in_place x k v e at single)
+  shape_moves j n for (branch bitmap entries places is has shallow in_place led children) =
+      branch bitmap entries places is has (omega (arith, for.deep, shallow)) (λ x k v e at single. ap (λ d. index_in (hash_of trie.kind k) d) for.deep ∙ in_place x k v e at single)
       (λ x k v e at single. ap (λ d. hash_of trie.kind k % 2 ^ (5 * d)) for.deep ∙ led x k v e at single ∙ sym for.led)
       (λ x g child word at ind.
       let c = children x g child word at ind in
       record {
         deeper = c.deeper ∙ ap suc (sym for.deep);
-        within = c.within;
         led = c.led ∙ ap₂ (λ p d. p + x * 2 ^ (5 * d)) (sym for.led) (sym for.deep);
         older = omega (arith, c.older, for.newer);
       })

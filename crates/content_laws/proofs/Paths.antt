@@ -20,7 +20,7 @@ use Rattle.node_contents.proofs.Refilling.{refilled, refilled-places, refilled-n
 use Rattle.content_laws.specs.Tries.{Trie, generation, node_in, says, assigned, On, at_root, at_below, IsTombed, IsShaped}
 use Rattle.content_laws.specs.Steps.{Stays, kept, renewed_by, untombed, IsRepair, refills, entombs, IsOwnUpdate, branch_inserts, branch_updates, branch_removes, branch_entombs, goes_beside, list_inserts, list_updates, list_removes, list_entombs, Does, nothing, a_repair, an_update, LeavesOthers, IsTrie}
 use Rattle.content_laws.proofs.Values.{assigned-own}
-use Rattle.content_laws.proofs.Shapes.{IsBranch, child-depth, branch_shape, tomb_shape, LeadsBelow, leads_below, below_is, single_ends, leads}
+use Rattle.content_laws.proofs.Shapes.{IsBranch, branch_shape, tomb_shape, LeadsBelow, leads_below, below_is, single_ends, leads}
 use Rattle.content_laws.proofs.Updating.{HasUpdated, changes, beside, IsBeside, has_updated, found_of}
 
 module _ (trie : Trie) (ok : IsTrie trie) where
@@ -44,7 +44,7 @@ module _ (trie : Trie) (ok : IsTrie trie) where
   on-within t g q depth i lt (at_root e) = omega (arith, ok.root_depth g)
   on-within t g q depth i lt (at_below depth' above below on leads e) =
       let at = on-depth t g q depth' above lt on in
-      child-depth trie above (index_in (hash_of trie.kind q) (trie.depth above)) below (led_below t q above below lt (subst (λ d. says trie t q d above ≡ Below below) (sym at) leads)).child
+      (led_below t q above below lt (subst (λ d. says trie t q d above ≡ Below below) (sym at) leads)).deep
 
   pub on-path : (t g q depth : ℕ) (i : Ref) → t ≤ trie.last → On trie t g q depth i → trie.path i ≡ hash_of trie.kind q % 2 ^ (5 * depth)
   on-path t g q depth i lt (at_root e) = ok.root_path g ∙ sym (mod-one (hash_of trie.kind q))

@@ -18,7 +18,7 @@ use Rattle.content_laws.specs.Tries.{Trie, generation, node_in, says, assigned, 
 use Rattle.content_laws.specs.Steps.{IsTrie, Looks, IsReached, root_is, below_is}
 use Rattle.content_laws.specs.Effects.{act_in, IsKeyed}
 use Rattle.content_laws.proofs.Values.{assigned-last, found_below}
-use Rattle.content_laws.proofs.Shapes.{leads_below, child-depth}
+use Rattle.content_laws.proofs.Shapes.{leads_below}
 use Rattle.nodes.specs.Levels.{index_in}
 use Rattle.content_laws.proofs.Updating.{found_of}
 use Rattle.content_laws.proofs.Paths.{on-within, path_lasts, tomb_ends}
@@ -98,9 +98,9 @@ module _ (trie : Trie) (ok : IsTrie trie) where
   reached-within g key depth i root_is = omega arith
   reached-within g key depth i (below_is depth' above below reached led) =
       let at = reached-depth g key depth' above reached in
-      let child = (leads_below trie above key (node_in trie trie.last above) below (ok.shaped trie.last above (omega arith))
-      (subst (λ d. says trie trie.last key d above ≡ Below below) (sym at) led)).child in
-      omega (arith, child-depth trie above (index_in (hash_of trie.kind key) (trie.depth above)) below child, child.deeper, at)
+      let led_ = (leads_below trie above key (node_in trie trie.last above) below (ok.shaped trie.last above (omega arith))
+      (subst (λ d. says trie trie.last key d above ≡ Below below) (sym at) led)) in
+      omega (arith, led_.deep, led_.child.deeper, at)
 
   found-reached : (g key levels depth : ℕ) (i : Ref) → IsReached trie g key depth i → levels + depth ≡ most_levels →
       value_at trie g trie.last key ≡ find_at trie.node (assigned trie g trie.last) (hash_of trie.kind) key levels depth i

@@ -17,7 +17,7 @@ use Rattle.node_contents.proofs.Tombs.{place_of}
 use Rattle.content_laws.specs.Tries.{Trie, generation, node_in, assigned, IsShaped, most_levels}
 use Rattle.content_laws.specs.Steps.{Stays, kept, renewed_by, untombed, IsRepair, refills, entombs, LeavesOthers, IsTrie}
 use Rattle.content_laws.proofs.Values.{value_by-same, assigned-own, assigned-other, assigned-still, found_below, found_nothing, Agrees, AgreesIfBelow}
-use Rattle.content_laws.proofs.Shapes.{IsBranch, child-depth, branch_shape, IsTomb, tomb_shape, leads_below, below_is, single_ends, leads}
+use Rattle.content_laws.proofs.Shapes.{IsBranch, branch_shape, IsTomb, tomb_shape, leads_below, below_is, single_ends, leads}
 use Rattle.content_laws.proofs.Paths.{LooksUp, in_none, in_entry, refilled_looks, LooksUpOne, one_none, one_entry, one_looks}
 
 pub same_factor : (x y p : ℕ) → 0 < p → x * p ≡ y * p → x ≡ y
@@ -137,7 +137,7 @@ module _ (trie : Trie) (ok : IsTrie trie) where
         deep : (entry : Ref) → look trie.node (hash_of trie.kind) (trie.depth i) q (node_in trie t i) ≡ look_at q entry (trie.node entry) →
             (h : ℕ) (word : Ref) → trie.node entry ≡ Indirection h word → trie.depth entry ≡ suc (trie.depth i) × trie.depth entry ≤ 13
         deep entry a h word is =
-            let child = (leads_below trie i q (node_in trie t i) entry (ok.shaped t i (omega arith)) (a ∙ leads trie.node q h entry word is)).child in (child.deeper, child-depth trie i (index_in (hash_of trie.kind q) (trie.depth i)) entry child)
+            let led = leads_below trie i q (node_in trie t i) entry (ok.shaped t i (omega arith)) (a ∙ leads trie.node q h entry word is) in (led.child.deeper, led.deep)
 
         deep' : (other : Ref) → look trie.node (hash_of trie.kind) (trie.depth i) q (node_in trie (suc t) i) ≡ look_at q other (trie.node other) →
             (h : ℕ) (word : Ref) → trie.node other ≡ Indirection h word → trie.depth other ≡ suc (trie.depth i)
@@ -209,7 +209,7 @@ module _ (trie : Trie) (ok : IsTrie trie) where
         deep : look trie.node (hash_of trie.kind) (trie.depth i) q (node_in trie t i) ≡ look_at q entry (trie.node entry) →
             (h : ℕ) (word : Ref) → trie.node entry ≡ Indirection h word → trie.depth entry ≡ suc (trie.depth i) × trie.depth entry ≤ 13
         deep a h word is =
-            let child = (leads_below trie i q (node_in trie t i) entry (ok.shaped t i (omega arith)) (a ∙ leads trie.node q h entry word is)).child in (child.deeper, child-depth trie i (index_in (hash_of trie.kind q) (trie.depth i)) entry child)
+            let led = leads_below trie i q (node_in trie t i) entry (ok.shaped t i (omega arith)) (a ∙ leads trie.node q h entry word is) in (led.child.deeper, led.deep)
 
         by_look : LooksUpOne trie ok q i entry (node_in trie t i) →
             value_in trie.node A (hash_of trie.kind) q levels (trie.depth i) (node_in trie (suc t) i) ≡ value_in trie.node B (hash_of trie.kind) q levels (trie.depth i) (node_in trie t i)

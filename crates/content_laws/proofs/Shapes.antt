@@ -1,5 +1,5 @@
 -- What the shape of a main node gives.
-use Rattle.std.proofs.Common.{◌≡◌, ◌≢◌, ℕ, ◌*◌, ◌^◌, ◌%◌, ◌≤◌, ◌==◌, Bool, true, false, cond, List, [], ◌∷◌, length, Option, Some, None, refl, sym, ap, subst, subst₂, ◌∙◌, arith}
+use Rattle.std.proofs.Common.{◌<◌, ◌≡◌, ◌≢◌, ℕ, ◌*◌, ◌^◌, ◌%◌, ◌≤◌, ◌==◌, Bool, true, false, cond, List, [], ◌∷◌, length, Option, Some, None, refl, sym, ap, subst, subst₂, ◌∙◌, arith}
 use Rattle.arrayvec.specs.ArrayVec.{ArrayVec}
 use Rattle.ctrie_base.specs.Hashes.{hash_of}
 use Rattle.ctrie_base.specs.declared.hashes.HashKind.{HashKind}
@@ -58,13 +58,14 @@ list_depth-le Wide = omega arith
 list_depth-le Block = omega arith
 
 module _ (trie : Trie) (i : Ref) where
-  -- a child stands no deeper
-  pub child-depth : (x : ℕ) (child : Ref) → IsChild trie i x child → trie.depth child ≤ 13
-  child-depth x child c = omega (arith, c.within, list_depth-le trie.kind)
+  -- a branch's child stands no deeper
+  pub child-depth : (x : ℕ) (child : Ref) → IsChild trie i x child → trie.depth i < list_depth trie.kind → trie.depth child ≤ 13
+  child-depth x child c shallow = omega (arith, c.deeper, list_depth-le trie.kind)
 
   pub record IsBranch (bitmap : ℕ) (entries : ArrayVec Ref) : Type 0 where
     pub places : List (Option Ref)
     pub has : HasPlaces bitmap entries.items places
+    pub shallow : trie.depth i < list_depth trie.kind
     pub in_place : AreInPlace trie.node (hash_of trie.kind) (trie.depth i) places
     pub led : (x key value : ℕ) (single : Ref) → at_place places x ≡ Some single → trie.node single ≡ Single key value →
         hash_of trie.kind key % 2 ^ (5 * trie.depth i) ≡ trie.path i
@@ -84,13 +85,14 @@ module _ (trie : Trie) (i : Ref) where
 
   -- by what the node is
   pub branch_shape : (n : Node) (bitmap : ℕ) (entries : ArrayVec Ref) → IsShaped trie i n → n ≡ Branch bitmap entries → IsBranch bitmap entries
-  branch_shape n bitmap entries (branch b es places is has in_place led children) e =
+  branch_shape n bitmap entries (branch b es places is has shallow in_place led children) e =
       let same : Branch b es ≡ Branch bitmap entries = sym is ∙ e in
       let b_is : b ≡ bitmap = cc in
       let es_is : es ≡ entries = cc in
       record {
         places = places;
         has = subst₂ (λ (b : ℕ) (es : ArrayVec Ref). HasPlaces b es.items places) b_is es_is has;
+        shallow = shallow;
         in_place = in_place;
         led = led;
         children = children;
@@ -99,7 +101,7 @@ module _ (trie : Trie) (i : Ref) where
   branch_shape n bitmap entries (tomb single key value is own led) e = absurd (let bad : Tomb single ≡ Branch bitmap entries = sym is ∙ e in cc)
 
   pub list_shape : (n : Node) (singles : ArrayVec Ref) → IsShaped trie i n → n ≡ Listed singles → IsList singles
-  list_shape n singles (branch b es places is has in_place led children) e = absurd (let bad : Branch b es ≡ Listed singles = sym is ∙ e in cc)
+  list_shape n singles (branch b es places is has shallow in_place led children) e = absurd (let bad : Branch b es ≡ Listed singles = sym is ∙ e in cc)
   list_shape n singles (list others is are most deep one_hash) e =
       let same : Listed others ≡ Listed singles = sym is ∙ e in
       let s_is : others ≡ singles = cc in
@@ -107,7 +109,7 @@ module _ (trie : Trie) (i : Ref) where
   list_shape n singles (tomb single key value is own led) e = absurd (let bad : Tomb single ≡ Listed singles = sym is ∙ e in cc)
 
   pub tomb_shape : (n : Node) (single : Ref) → IsShaped trie i n → n ≡ Tomb single → IsTomb single
-  tomb_shape n single (branch b es places is has in_place led children) e = absurd (let bad : Branch b es ≡ Tomb single = sym is ∙ e in cc)
+  tomb_shape n single (branch b es places is has shallow in_place led children) e = absurd (let bad : Branch b es ≡ Tomb single = sym is ∙ e in cc)
   tomb_shape n single (list singles is are most deep one_hash) e = absurd (let bad : Listed singles ≡ Tomb single = sym is ∙ e in cc)
   tomb_shape n single (tomb other key value is own led) e =
       let same : Tomb other ≡ Tomb single = sym is ∙ e in
@@ -120,10 +122,11 @@ module _ (trie : Trie) (i : Ref) where
     pub word : Ref
     pub is : trie.node j ≡ Indirection generation_ word
     pub child : IsChild trie i (index_in (hash_of trie.kind q) (trie.depth i)) j
+    pub deep : trie.depth j ≤ 13
     pub alike : (p : ℕ) → index_in (hash_of trie.kind p) (trie.depth i) ≡ index_in (hash_of trie.kind q) (trie.depth i) → look trie.node (hash_of trie.kind) (trie.depth i) p n ≡ Below j
 
   pub leads_below : (q : ℕ) (n : Node) (j : Ref) → IsShaped trie i n → look trie.node (hash_of trie.kind) (trie.depth i) q n ≡ Below j → LeadsBelow q n j
-  leads_below q n j (branch b es places is has in_place led children) e = by_place (at_place places x) refl
+  leads_below q n j (branch b es places is has shallow in_place led children) e = by_place (at_place places x) refl
       (sym (look_branch trie.node q b x es places has) ∙ sym (ap (look trie.node (hash_of trie.kind) (trie.depth i) q) is) ∙ e)
     where
       x : ℕ
@@ -140,6 +143,7 @@ module _ (trie : Trie) (i : Ref) where
             word = found.1.1;
             is = node_is;
             child = children x found.1.0 j found.1.1 at_j node_is;
+            deep = child-depth x j (children x found.1.0 j found.1.1 at_j node_is) shallow;
             alike = λ p same. ap (look trie.node (hash_of trie.kind) (trie.depth i) p) is ∙ look_branch trie.node p b (index_in (hash_of trie.kind p) (trie.depth i)) es places has
                 ∙ ap (λ y. look_place trie.node p (at_place places y)) same ∙ ap (look_place trie.node p) at_j ∙ leads trie.node p found.1.0 j found.1.1 node_is;
           }

@@ -1,5 +1,5 @@
 -- The builders keep the shape of main nodes.
-use Rattle.std.proofs.Common.{◌≡◌, ◌≢◌, ℕ, ◌*◌, ◌^◌, ◌<◌, ◌==◌, Bool, true, false, cond, List, [], ◌∷◌, length, set, slice_index_or, Option, Some, None, bit_or, ⊎_elim, refl, sym, ap, ap₂, subst, ◌∙◌, arith, eqb-true, length-set}
+use Rattle.std.proofs.Common.{◌≤◌, ◌≡◌, ◌≢◌, ℕ, ◌*◌, ◌^◌, ◌<◌, ◌==◌, Bool, true, false, cond, List, [], ◌∷◌, length, set, slice_index_or, Option, Some, None, bit_or, ⊎_elim, refl, sym, ap, ap₂, subst, ◌∙◌, arith, eqb-true, length-set}
 use Rattle.std.proofs.lemmas.List.{get_or-set_same, get_or-set_other}
 use Rattle.arrayvec.specs.ArrayVec.{ArrayVec}
 use Rattle.ctrie_base.specs.Hashes.{hash_of}
@@ -48,10 +48,10 @@ module _ (trie : Trie) (fits : (i : Ref) → trie.path i < 2 ^ (5 * trie.depth i
   child_stands x g entry word (another a b) e = absurd (b g word e)
 
   -- a branch of such entries
-  pub branch_of : (bitmap : ℕ) (entries : ArrayVec Ref) (places : List (Option Ref)) → HasPlaces bitmap entries.items places →
+  pub branch_of : (bitmap : ℕ) (entries : ArrayVec Ref) (places : List (Option Ref)) → HasPlaces bitmap entries.items places → trie.depth i < list_depth trie.kind →
       ((x : ℕ) (entry : Ref) → at_place places x ≡ Some entry → MayStand x entry) → IsShaped trie i (Branch bitmap entries)
-  branch_of bitmap entries places has may =
-      branch bitmap entries places refl has (λ x k v e at is. (single_stands x k v e (may x e at) is).0) (λ x k v e at is. (single_stands x k v e (may x e at) is).1)
+  branch_of bitmap entries places has shallow may =
+      branch bitmap entries places refl has shallow (λ x k v e at is. (single_stands x k v e (may x e at) is).0) (λ x k v e at is. (single_stands x k v e (may x e at) is).1)
       (λ x g e w at is. child_stands x g e w (may x e at) is)
 
   -- what stands in a branch of the shape may stand there
@@ -91,7 +91,7 @@ module _ (trie : Trie) (fits : (i : Ref) → trie.path i < 2 ^ (5 * trie.depth i
         IsShaped trie i (inserted (flag_of (hash_of trie.kind key) (trie.depth i)) bitmap entries.items new)
     inserted_shaped value new no_flag is led =
         branch_of _ _ (set s.places x (Some new))
-        (inserted-places bitmap entries.items s.places s.has x new (index-lt (hash_of trie.kind key) (trie.depth i)) (unflagged bitmap entries.items s.places s.has x no_flag))
+        (inserted-places bitmap entries.items s.places s.has x new (index-lt (hash_of trie.kind key) (trie.depth i)) (unflagged bitmap entries.items s.places s.has x no_flag)) s.shallow
         (written s.places x (Some new) x-lt (stood bitmap entries s)
         (λ e at. let same : Some new ≡ Some e = at in let e_is : new ≡ e = cc in subst (λ r. MayStand x r) e_is (a_single key value is refl led)))
 
@@ -100,7 +100,7 @@ module _ (trie : Trie) (fits : (i : Ref) → trie.path i < 2 ^ (5 * trie.depth i
         IsShaped trie i (updated bitmap entries.items (position_of (flag_of (hash_of trie.kind key) (trie.depth i)) bitmap) new)
     updated_by new flag may =
         branch_of _ _ (set s.places x (Some new))
-        (updated-places bitmap entries.items s.places s.has x _ new (flagged bitmap entries.items s.places s.has x no_ref flag))
+        (updated-places bitmap entries.items s.places s.has x _ new (flagged bitmap entries.items s.places s.has x no_ref flag)) s.shallow
         (written s.places x (Some new) x-lt (stood bitmap entries s) (λ e at. let same : Some new ≡ Some e = at in let e_is : new ≡ e = cc in subst (λ r. MayStand x r) e_is may))
 
     pub updated_shaped : (value : ℕ) (new : Ref) → has_flag bitmap (flag_of (hash_of trie.kind key) (trie.depth i)) ≡ true → trie.node new ≡ Single key value → LeadsTo trie i key →
@@ -116,7 +116,7 @@ module _ (trie : Trie) (fits : (i : Ref) → trie.path i < 2 ^ (5 * trie.depth i
     pub removed_shaped : has_flag bitmap (flag_of (hash_of trie.kind key) (trie.depth i)) ≡ true →
         IsShaped trie i (removed (flag_of (hash_of trie.kind key) (trie.depth i)) bitmap entries.items (position_of (flag_of (hash_of trie.kind key) (trie.depth i)) bitmap))
     removed_shaped flag =
-        branch_of _ _ (set s.places x None) (removed-places bitmap entries.items s.places s.has x _ (flagged bitmap entries.items s.places s.has x no_ref flag))
+        branch_of _ _ (set s.places x None) (removed-places bitmap entries.items s.places s.has x _ (flagged bitmap entries.items s.places s.has x no_ref flag)) s.shallow
         (written s.places x None x-lt (stood bitmap entries s) (λ e at. absurd (let bad : None ≡ Some e = at in cc)))
 
   -- a single entry of a branch is fit for a tomb
@@ -135,7 +135,6 @@ module _ (trie : Trie) (fits : (i : Ref) → trie.path i < 2 ^ (5 * trie.depth i
       let c = child_stands x g entry word may is in
       a_child h word' new (record {
         deeper = for.deep ∙ c.deeper;
-        within = omega (arith, for.deep, c.within);
         led = for.led ∙ c.led;
         older = own;
       })
@@ -147,7 +146,7 @@ module _ (trie : Trie) (fits : (i : Ref) → trie.path i < 2 ^ (5 * trie.depth i
   -- entries that fit one by one
   pub refilled_shaped : (bitmap : ℕ) (entries : ArrayVec Ref) (others : List Ref) → IsShaped trie i (Branch bitmap entries) → length others ≡ length entries.items →
       ((n : ℕ) → n < length entries.items → Fits trie i (slice_index_or entries.items n no_ref) (slice_index_or others n no_ref)) → IsShaped trie i (renewed bitmap others)
-  refilled_shaped bitmap entries others shape count fit = branch_of bitmap (entries_from others) (refilled s.places others) (refilled-places bitmap entries.items others s.places s.has count) may
+  refilled_shaped bitmap entries others shape count fit = branch_of bitmap (entries_from others) (refilled s.places others) (refilled-places bitmap entries.items others s.places s.has count) s.shallow may
     where
       s : IsBranch trie i bitmap entries
       s = branch_shape trie i (Branch bitmap entries) bitmap entries shape refl
@@ -179,27 +178,27 @@ module _ (trie : Trie) (fits : (i : Ref) → trie.path i < 2 ^ (5 * trie.depth i
       tomb left own value refl is (single_stands found.0 own value left (fit_stands found.0 entry left (stood bitmap entries s found.0 entry at) fit) is).1
 
   -- nothing stands in an empty branch
-  pub empty_shaped : IsShaped trie i empty_branch
-  empty_shaped = branch_of 0 (entries_from []) (empty_places 32) nothing (λ x e at. absurd (let bad : None ≡ Some e = sym (none_at 32 x) ∙ at in cc))
+  pub empty_shaped : trie.depth i < list_depth trie.kind → IsShaped trie i empty_branch
+  empty_shaped shallow = branch_of 0 (entries_from []) (empty_places 32) nothing shallow (λ x e at. absurd (let bad : None ≡ Some e = sym (none_at 32 x) ∙ at in cc))
 
   -- ---- chains
 
   -- the branch of one entry on the way down
-  pub rung_shaped : (key g : ℕ) (below word : Ref) → trie.node below ≡ Indirection g word → IsChild trie i (index_in (hash_of trie.kind key) (trie.depth i)) below →
+  pub rung_shaped : (key g : ℕ) (below word : Ref) → trie.depth i < list_depth trie.kind → trie.node below ≡ Indirection g word → IsChild trie i (index_in (hash_of trie.kind key) (trie.depth i)) below →
       IsShaped trie i (rung (hash_of trie.kind key) (trie.depth i) below)
-  rung_shaped key g below word is child =
+  rung_shaped key g below word shallow is child =
       let x = index_in (hash_of trie.kind key) (trie.depth i) in
-      branch_of (2 ^ x) (entries_from (below ∷ [])) (set (empty_places 32) x (Some below)) (one-places x below (index-lt (hash_of trie.kind key) (trie.depth i)))
+      branch_of (2 ^ x) (entries_from (below ∷ [])) (set (empty_places 32) x (Some below)) (one-places x below (index-lt (hash_of trie.kind key) (trie.depth i))) shallow
       (written (empty_places 32) x (Some below) (omega (arith, one_length 32, index-lt (hash_of trie.kind key) (trie.depth i)))
       (λ y e at. absurd (let bad : None ≡ Some e = sym (none_at 32 y) ∙ at in cc))
       (λ e at. let same : Some below ≡ Some e = at in let e_is : below ≡ e = cc in subst (λ r. MayStand x r) e_is (a_child g word is child)))
 
   -- the main node of two singles
   pub pair_shaped : (former key own value : ℕ) (old new : Ref) → trie.node old ≡ Single former own → trie.node new ≡ Single key value → former ≢ key →
-      Parts trie.kind former key (trie.depth i) → LeadsTo trie i former → LeadsTo trie i key →
+      trie.depth i ≤ list_depth trie.kind → Parts trie.kind former key (trie.depth i) → LeadsTo trie i former → LeadsTo trie i key →
       (trie.depth i ≡ list_depth trie.kind → (hash_of trie.kind former ≡ trie.path i) × (hash_of trie.kind key ≡ trie.path i)) →
       IsShaped trie i (pair trie.kind (trie.depth i) (hash_of trie.kind former) (hash_of trie.kind key) old new)
-  pair_shaped former key own value old new is_old is_new apart parts led_old led_new at_end = by_test (trie.depth i == list_depth trie.kind) refl
+  pair_shaped former key own value old new is_old is_new apart most parts led_old led_new at_end = by_test (trie.depth i == list_depth trie.kind) refl
     where
       a : ℕ
       a = index_in (hash_of trie.kind former) (trie.depth i)
@@ -226,10 +225,10 @@ module _ (trie : Trie) (fits : (i : Ref) → trie.path i < 2 ^ (5 * trie.depth i
           by_former true same = ap (hash_of trie.kind) (eqb-true k former same) ∙ ends.0
           by_former false away = by_key (differ k former away) (k == key) refl
 
-      as_branch : a ≢ b → IsShaped trie i (Branch (bit_or (2 ^ a) (2 ^ b)) (entries_from (by_index a b old new)))
-      as_branch split =
+      as_branch : trie.depth i < list_depth trie.kind → a ≢ b → IsShaped trie i (Branch (bit_or (2 ^ a) (2 ^ b)) (entries_from (by_index a b old new)))
+      as_branch shallow split =
           branch_of (bit_or (2 ^ a) (2 ^ b)) (entries_from (by_index a b old new)) (set (set (empty_places 32) a (Some old)) b (Some new))
-          (two-places a b old new (index-lt (hash_of trie.kind former) (trie.depth i)) (index-lt (hash_of trie.kind key) (trie.depth i)) split)
+          (two-places a b old new (index-lt (hash_of trie.kind former) (trie.depth i)) (index-lt (hash_of trie.kind key) (trie.depth i)) split) shallow
           (written (set (empty_places 32) a (Some old)) b (Some new) (omega (arith, length-set (empty_places 32) a (Some old), one_length 32, index-lt (hash_of trie.kind key) (trie.depth i)))
           (written (empty_places 32) a (Some old) (omega (arith, one_length 32, index-lt (hash_of trie.kind former) (trie.depth i)))
           (λ y e at. absurd (let bad : None ≡ Some e = sym (none_at 32 y) ∙ at in cc))
@@ -241,4 +240,4 @@ module _ (trie : Trie) (fits : (i : Ref) → trie.path i < 2 ^ (5 * trie.depth i
       by_test true e =
           let deep = eqb-true (trie.depth i) (list_depth trie.kind) e in
           list (entries_from (old ∷ new ∷ [])) refl singles_of (omega arith) deep (one_hash (at_end deep))
-      by_test false e = as_branch (⊎_elim (λ same. absurd (differ _ _ e same)) (λ split. split) parts)
+      by_test false e = as_branch (let away = differ (trie.depth i) (list_depth trie.kind) e in omega arith) (⊎_elim (λ same. absurd (differ _ _ e same)) (λ split. split) parts)

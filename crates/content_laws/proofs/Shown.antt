@@ -142,7 +142,7 @@ module _ (trie : Trie) (ok : IsTrie trie) where
 
       by_shape : ((child : Ref) (h : ℕ) (w : Ref) → suc levels + trie.depth child ≡ most_levels → trie.depth child ≤ 13 → trie.node child ≡ Indirection h w →
           Shows (suc levels) child (reach (suc levels) child)) → IsShaped trie i n → Shows (suc (suc levels)) i (reach (suc (suc levels)) i)
-      by_shape rest (branch b es places n_is has in_place leads_to children) =
+      by_shape rest (branch b es places n_is has shallow in_place leads_to children) =
           of_entries (standing places) (ap entries_of n_is ∙ has.stand) found (spread-apart (reach (suc levels)) index 0 places have (λ x e at. (entry x e at).apart))
           (spread-each (reach (suc levels)) index (λ k. hash_of trie.kind k % 2 ^ (5 * d) ≡ trie.path i) places
           (λ x e at. each-weaker (λ k. (index_in (hash_of trie.kind k) d ≡ x) × (hash_of trie.kind k % 2 ^ (5 * d) ≡ trie.path i)) (λ k. hash_of trie.kind k % 2 ^ (5 * d) ≡ trie.path i)
@@ -170,7 +170,7 @@ module _ (trie : Trie) (ok : IsTrie trie) where
                   }
               by_node (Indirection h w) is_m =
                   let c = children x h e w at is_m in
-                  let s = rest e h w (omega (arith, c.deeper)) (child-depth trie i x e c) is_m in
+                  let s = rest e h w (omega (arith, c.deeper)) (child-depth trie i x e c shallow) is_m in
                   record {
                     found = λ q. s.found q ∙ ap (λ n. below_of q (suc levels) n e) c.deeper ∙ sym (ap (value_by (below_of q (suc levels) (suc d))) (ap (look_at q e) is_m));
                     apart = s.apart;

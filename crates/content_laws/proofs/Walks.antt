@@ -35,11 +35,11 @@ module _ (trie : Trie) (ok : IsTrie trie) where
       listed (s ∷ singles) are (suc n, lt, e) = listed singles are.1 (n, omega arith, e)
 
       by_shape : IsShaped trie i (node_in trie trie.last i) → (trie.depth r ≡ suc (trie.depth i)) × (trie.depth r ≤ 13)
-      by_shape (branch b es places n_is has in_place led children) =
+      by_shape (branch b es places n_is has shallow in_place led children) =
           let c' = subst (λ (l : List Ref). Contains l r) (ap entries_of n_is ∙ has.stand) c in
           let found = place_of places c'.0 r c'.1 in
           let child = children found.0 g r word (found.1 ∙ ap Some c'.2) is in
-          (child.deeper, child-depth trie i found.0 r child)
+          (child.deeper, child-depth trie i found.0 r child shallow)
       by_shape (list singles n_is are most deep one_hash) = listed singles.items are (subst (λ (l : List Ref). Contains l r) (ap entries_of n_is) c)
       by_shape (tomb single k v n_is own led) = by_place (subst (λ (l : List Ref). Contains l r) (ap entries_of n_is) c)
         where

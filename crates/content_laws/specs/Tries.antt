@@ -1,6 +1,6 @@
 -- The trie of a run, with all nodes that were ever made and the main nodes as they change, and the content of a generation
 -- before each step, as it looks from the end of the run.
-use Rattle.std.specs.Prelude.{◌≡◌, ℕ, suc, ◌+◌, ◌*◌, ◌%◌, ◌^◌, ◌≤◌, ◌==◌, List, [], ◌∷◌, length, Option, Some, None, if◌then◌else◌}
+use Rattle.std.specs.Prelude.{◌≡◌, ◌<◌, ℕ, suc, ◌+◌, ◌*◌, ◌%◌, ◌^◌, ◌≤◌, ◌==◌, List, [], ◌∷◌, length, Option, Some, None, if◌then◌else◌}
 use Rattle.std.specs.FinMap as map
 use Rattle.arrayvec.specs.ArrayVec.{ArrayVec}
 use Rattle.ctrie_base.specs.declared.hashes.HashKind.{HashKind}
@@ -74,14 +74,13 @@ content trie g t = map_of trie.keys (value_at trie g t)
 -- an indirection at this place of a branch of an indirection i
 pub record IsChild (trie : Trie) (i : Ref) (x : ℕ) (child : Ref) : Type 0 where
   pub deeper : trie.depth child ≡ suc (trie.depth i)
-  pub within : trie.depth child ≤ list_depth trie.kind
   pub led : trie.path child ≡ trie.path i + x * 2 ^ (5 * trie.depth i)
   pub older : generation trie child ≤ generation trie i
 
 -- a main node of an indirection i
 pub data IsShaped (trie : Trie) (i : Ref) (n : Node) : Type 0 where
-  -- each entry stands at its place, and the path leads to it
-  branch : (bitmap : ℕ) (entries : ArrayVec Ref) (places : List (Option Ref)) → n ≡ Branch bitmap entries → HasPlaces bitmap entries.items places →
+  -- above the lists; each entry stands at its place, and the path leads to it
+  branch : (bitmap : ℕ) (entries : ArrayVec Ref) (places : List (Option Ref)) → n ≡ Branch bitmap entries → HasPlaces bitmap entries.items places → trie.depth i < list_depth trie.kind →
       AreInPlace trie.node (hash_of trie.kind) (trie.depth i) places →
       ((x key value : ℕ) (single : Ref) → at_place places x ≡ Some single → trie.node single ≡ Single key value →
       hash_of trie.kind key % 2 ^ (5 * trie.depth i) ≡ trie.path i) →
