@@ -23,3 +23,4 @@ pub mod Shaping
 pub mod ListShaping
 pub mod HeapPairs
 pub mod Walks
+pub mod Started

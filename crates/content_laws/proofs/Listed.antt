@@ -104,7 +104,7 @@ singles_distinct node (s ∷ singles) are = (
 -- ---- hashes in lists
 
 -- a hash has no more than the bits of all levels
-hash-lt : (kind : HashKind) (key : ℕ) → key < 2 ^ 64 → hash_of kind key < 2 ^ (5 * list_depth kind)
+pub hash-lt : (kind : HashKind) (key : ℕ) → key < 2 ^ 64 → hash_of kind key < 2 ^ (5 * list_depth kind)
 hash-lt Low key fits = omega (arith, low_hash-lt key fits)
 hash-lt Fold key fits = omega (arith, fold_hash-lt key fits)
 hash-lt Wide key fits = omega arith

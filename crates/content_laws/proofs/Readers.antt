@@ -19,7 +19,6 @@ use Rattle.content_laws.specs.Steps.{IsTrie, Looks, IsReached, root_is, below_is
 use Rattle.content_laws.specs.Effects.{act_in, IsKeyed}
 use Rattle.content_laws.proofs.Values.{assigned-last, found_below}
 use Rattle.content_laws.proofs.Shapes.{leads_below}
-use Rattle.nodes.specs.Levels.{index_in}
 use Rattle.content_laws.proofs.Updating.{found_of}
 use Rattle.content_laws.proofs.Paths.{on-within, path_lasts, tomb_ends}
 use Rattle.content_laws.proofs.Contents.{get-content}

@@ -6,3 +6,4 @@ pub mod Runs
 pub mod Pairs
 pub mod Shapes
 pub mod InUse
+pub mod Grows
