@@ -1,0 +1,2 @@
+//! Laws of the contents of generations over a run.
+#![tactic(auto)]
