@@ -1,0 +1,5 @@
+pub mod Boards
+pub mod Plays
+pub mod Gate
+pub mod Seats
+pub mod Holds

@@ -1,0 +1,12 @@
+//! The machine behind a gate: many threads, each step one hold of the gate, and at the end one record of
+//! all steps.
+#![tactic(auto)]
+
+mod gate;
+mod holding;
+mod runner;
+mod seats;
+
+pub use actor_history::{Answer, Running};
+pub use runner::Runner;
+pub use seats::{Seat, Stop};
