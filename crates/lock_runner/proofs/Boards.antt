@@ -32,3 +32,9 @@ sweeps_append xs ys = sum_by-append (λ s. cond (is_sweep s) 1 0) xs ys
 
 pub sweeps_grow : (board now : Taken) → GoesOn board.steps now.steps → sweeps_in board ≤ sweeps_in now
 sweeps_grow board now on = omega (arith, ap (λ xs. count_by is_sweep xs) on.1, sweeps_append board.steps on.0)
+
+count_one : (s : Step) → count_by is_sweep (s ∷ []) ≡ cond (is_sweep s) 1 0
+count_one s = grind arith
+
+pub sweeps_push : (board now : Taken) (s : Step) → now ≡ with_step board s → sweeps_in now ≡ sweeps_in board + cond (is_sweep s) 1 0
+sweeps_push board now s with_it = ap sweeps_in with_it ∙ sweeps_append board.steps (s ∷ []) ∙ ap (λ n. sweeps_in board + n) (count_one s)

@@ -5,3 +5,7 @@ pub mod Crews
 pub mod Closing
 pub mod Calls
 pub mod Holds
+pub mod Growing
+pub mod Seating
+pub mod Idle
+pub mod Steps

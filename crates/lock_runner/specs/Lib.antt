@@ -3,3 +3,4 @@ pub mod Plays
 pub mod Gate
 pub mod Seats
 pub mod Holds
+pub mod Stepping

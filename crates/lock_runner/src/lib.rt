@@ -2,11 +2,14 @@
 //! all steps.
 #![tactic(auto)]
 
+mod between;
 mod gate;
 mod holding;
 mod runner;
 mod seats;
+mod stepping;
 
 pub use actor_history::{Answer, Running};
+pub use between::Between;
 pub use runner::Runner;
 pub use seats::{Seat, Stop};
