@@ -1,5 +1,5 @@
 -- Where a step of an actor's operation is denied since it runs none.
-use Rattle.std.specs.Prelude.{◌≡◌, ℕ, ◌≤◌, ◌↔◌, ◌&&◌, Bool, true, false, not, is_some, nat_lt, nat_le, [], ◌∷◌, Option, Some, None, Ok, Err}
+use Rattle.std.specs.Prelude.{◌≡◌, ℕ, ◌≤◌, ◌↔◌, ◌&&◌, Bool, true, false, not, is_some, nat_lt, nat_le, MatchOption, [], ◌∷◌, Option, Some, None, Ok, Err}
 use Rattle.std.proofs.Common.{refl, sym, ap, subst, ◌∙◌, lt-ltb, le-leb, arith}
 use Rattle.std.proofs.lemmas.Option.{none-some}
 use Rattle.ctrie_base.specs.declared.refusals.Refusal.{Refusal}
@@ -51,22 +51,27 @@ going state actor refusal (Some operation) runs e = not_denied state actor opera
 actor_by : (actor most : ℕ) → 1 ≤ actor → actor ≤ most → (nat_lt 0 actor && nat_le actor most) ≡ true
 actor_by actor most low high = grind (arith, low, high, lt-ltb, le-leb)
 
--- where it runs nothing it is idle
+-- where it runs nothing it is idle, else all steps are taken
 pub idle_denied : (state : State) (actor : ℕ) (refusal : Refusal) (a r s : Bool) → a ≡ true → is_some (operation_of state actor) ≡ r →
     go_unless state actor (first_reason ((not a, refuse.NoActor) ∷ (not r, refuse.Idle) ∷ (s, refuse.Spent) ∷ [])) ≡ Err refusal →
-    (refusal ≡ refuse.Idle) ↔ (operation_of state actor ≡ None)
-idle_denied state actor refusal true false s own runs e = ((λ idle. none_some _ runs), (λ none. grind (arith, e)))
-idle_denied state actor refusal true true true own runs e = ((λ idle. absurd (grind (arith, e, idle))), (λ none. absurd (grind (arith, runs, none))))
+    (operation_of state actor ≡ None → refusal ≡ refuse.Idle) × ((operation_of state actor ≡ None → ⊥) → refusal ≡ refuse.Spent)
+idle_denied state actor refusal true false s own runs e = ((λ none. grind (arith, e)), (λ some. absurd (some (none_some _ runs))))
+idle_denied state actor refusal true true true own runs e = ((λ none. absurd (grind (arith, runs, none))), (λ some. grind (arith, e)))
 idle_denied state actor refusal true true false own runs e = absurd (going state actor refusal (operation_of state actor) runs e)
 idle_denied state actor refusal false r s own runs e = absurd (grind (arith, own))
 
--- it is idle exactly where the account runs nothing
+by_running : (refusal : Refusal) (r : Option Running) → (r ≡ None → refusal ≡ refuse.Idle) → ((r ≡ None → ⊥) → refusal ≡ refuse.Spent) →
+    MatchOption r (refusal ≡ refuse.Idle) (λ operation. refusal ≡ refuse.Spent)
+by_running refusal None idle spent = idle refl
+by_running refusal (Some r) idle spent = spent (λ none. none-some r (sym none))
+
+-- the same by what the account runs
 pub idle_only : (actor : ℕ) (board : Taken) (refusal : Refusal) → 1 ≤ actor → actor ≤ board.limits.actors → next (state_of board) (step.Go actor) ≡ Err refusal →
-    (refusal ≡ refuse.Idle) ↔ ((account_in actor board).running ≡ None)
+    MatchOption (account_in actor board).running (refusal ≡ refuse.Idle) (λ operation. refusal ≡ refuse.Spent)
 unfolding next
 idle_only actor board refusal low high e =
     let within : actor ≤ (state_of board).limits.actors = omega (arith, high, ap (λ l. l.actors) (run_limits board.limits board.steps)) in
     let own : is_actor (state_of board) actor ≡ true = actor_by actor (state_of board).limits.actors low within in
     let alike = idle_alike actor board in
-    let idle = idle_denied (state_of board) actor refusal (is_actor (state_of board) actor) (is_running (state_of board) actor) (is_spent (state_of board)) own refl e in
-    ((λ is. alike.0 (idle.0 is)), (λ none. idle.1 (alike.1 none)))
+    let why = idle_denied (state_of board) actor refusal (is_actor (state_of board) actor) (is_running (state_of board) actor) (is_spent (state_of board)) own refl e in
+    by_running refusal (account_in actor board).running (λ none. why.0 (alike.1 none)) (λ some. why.1 (λ none. some (alike.0 none)))

@@ -9,3 +9,4 @@ pub mod Growing
 pub mod Seating
 pub mod Idle
 pub mod Steps
+pub mod Whole

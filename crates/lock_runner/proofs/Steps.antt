@@ -1,5 +1,5 @@
 -- What one step makes of a seat: the facts of the hold, told of the seat.
-use Rattle.std.specs.Prelude.{◌≡◌, ℕ, ◌+◌, ◌<◌, ◌≤◌, ◌^◌, ◌↔◌, Bool, true, false, not, is_some, List, [], ◌∷◌, ◌++◌, Option, Some, None, Result, Ok, Err, length}
+use Rattle.std.specs.Prelude.{◌≡◌, ℕ, ◌+◌, ◌<◌, ◌≤◌, ◌^◌, Bool, true, false, not, is_some, MatchOption, List, [], ◌∷◌, ◌++◌, Option, Some, None, Result, Ok, Err, length}
 use Rattle.std.proofs.Common.{refl, sym, ap, subst, ◌∙◌, arith}
 use Rattle.std.proofs.lemmas.Option.{none-some, same_Some}
 use Rattle.ctrie_base.specs.declared.refusals.Refusal.{Refusal}
@@ -128,9 +128,8 @@ not_taken id me after actor heard items running sweeps Ahead seat h = absurd (om
 not_taken id me after actor heard items running sweeps Memory seat h = tt
 not_taken id me after actor heard items running sweeps (Denied refusal) seat h =
     let denied = subst (λ b. next (state_of b) (step.Go actor) ≡ Err refusal) (sym h.worked.0) h.worked.2 in
-    let idle = idle_only actor (seen_in after) refusal seat.low seat.high denied in
-    let same = ap (λ a. a.running) seat.told in
-    (denied, ((λ is. sym same ∙ idle.0 is), (λ none. idle.1 (same ∙ none))))
+    (denied, subst (λ r. MatchOption r (refusal ≡ refuse.Idle) (λ operation. refusal ≡ refuse.Spent)) (ap (λ a. a.running) seat.told)
+      (idle_only actor (seen_in after) refusal seat.low seat.high denied))
 
 pub go_stops : (id other : TableId) (before : Seated) (me after : Me Taken View) (actor heard : ℕ) (answers items : List Answer) (running : Option Running) (sweeps : ℕ) (stop : Stop) →
     seated id me actor answers running sweeps heard ≡ before → other ≡ id → items ≡ answers → IsSeated me actor answers running sweeps →

@@ -4,3 +4,4 @@ pub mod Gate
 pub mod Seats
 pub mod Holds
 pub mod Stepping
+pub mod Performing

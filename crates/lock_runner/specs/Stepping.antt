@@ -1,7 +1,7 @@
 -- What one step makes of a seat.
-use Rattle.std.specs.Prelude.{◌≡◌, ℕ, ◌+◌, ◌<◌, ◌≤◌, ◌↔◌, Bool, true, false, List, [], ◌∷◌, ◌++◌, Option, Some, None, Result, Ok, Err}
+use Rattle.std.specs.Prelude.{◌≡◌, ℕ, ◌+◌, ◌<◌, ◌≤◌, Bool, true, false, MatchOption, List, [], ◌∷◌, ◌++◌, Option, Some, None, Result, Ok, Err}
 use Rattle.ctrie_base.specs.declared.refusals.Refusal.{Refusal}
-use Rattle.ctrie_base.specs.declared.refusals.Refusal.TheVariants.{Idle}
+use Rattle.ctrie_base.specs.declared.refusals.Refusal.TheVariants.{Idle, Spent}
 use Rattle.history.specs.declared.calls.Call.{Call}
 use Rattle.machine_model.specs.declared.steps.Step.{Step}
 use Rattle.machine_model.specs.declared.steps.Step.TheVariants as step
@@ -65,11 +65,11 @@ pub record IsAnswered (operation : Running) (before after : Seated) : Type 0 whe
   pub call : answer.call ≡ operation.call
   pub began : answer.began ≡ operation.began
 
--- why no step was taken; the actor is idle exactly where the seat has no operation
+-- why no step was taken: without an operation the seat is idle, else the machine has taken all its steps
 abbrev pub IsNotTaken : Stop → Seated → Type 0
 IsNotTaken Ahead seat = ⊥
 IsNotTaken Memory seat = Unit {0}
-IsNotTaken (Denied refusal) seat = IsDenied seat (step.Go seat.actor) refusal × ((refusal ≡ Idle) ↔ (seat.running ≡ None))
+IsNotTaken (Denied refusal) seat = IsDenied seat (step.Go seat.actor) refusal × MatchOption seat.running (refusal ≡ Idle) (λ operation. refusal ≡ Spent)
 
 abbrev pub Goes : Result Bool Stop → Seated → Seated → Type 0
 Goes (Ok true) before after = (operation : Running) × IsAnswered operation before after

@@ -5,6 +5,8 @@
 mod between;
 mod gate;
 mod holding;
+mod lending;
+mod performing;
 mod runner;
 mod seats;
 mod stepping;
