@@ -4,15 +4,15 @@ use Rattle.std.proofs.Common.{refl, sym, ap, subst, ◌∙◌, inl, inr, eq-eqb,
 use Rattle.std.proofs.lemmas.List.{length-set}
 use Rattle.std.proofs.lemmas.List.Sums.{sum_by-cons, sum_by-append}
 use Rattle.std.proofs.lemmas.Bool.{cases_eq}
-use mathlib.Core.Option.{some, some-injective, some-ne-none}
+use mathlib.Core.Option.{none, some, some-injective, some-ne-none}
 use lib.ListN.{get_elem?}
-use Rattle.atomic_table.specs.Table.{State, Splits, Joins, opening}
+use Rattle.atomic_table.specs.Table.{State, Splits, Joins, Enters, opening, step}
 use Rattle.atomic_table.proofs.Lists.{at_set, set_else, at_longer}
 use Rattle.step_machine.specs.Machines.{Taken, fresh}
 use Rattle.lock_runner.specs.declared.gate.Terms.{Terms}
 use Rattle.lock_runner.specs.declared.gate.Entry.{Entry}
 use Rattle.lock_runner.specs.declared.gate.View.{View}
-use Rattle.lock_runner.specs.Plays.{entry, crew_view, gathered}
+use Rattle.lock_runner.specs.Plays.{entry, crew_view, gathered, has_sat}
 use Rattle.lock_runner.specs.Gate.{IsKept, Stands, EachStands, HasSeen, all_sweeps, sweeps_of, crew, first_view}
 use Rattle.lock_runner.proofs.Lists.{sum_set}
 use Rattle.lock_runner.proofs.Boards.{has_followed_same}
@@ -271,3 +271,41 @@ opening_kept terms = record {
 pub crew_others : (start : Taken) (n actor first : ℕ) → first < actor → AreOthers first (crew start actor n)
 crew_others start zero actor first low = tt
 crew_others start (suc n) actor first low = ((λ same. absurd (omega (arith, same, low))), crew_others start n (actor + 1) first (omega (arith, low)))
+
+-- ---- a seat without an actor
+
+module _ (terms : Terms) (s : State Taken View) (kept : IsKept terms s) where
+  abbrev with_one : List View
+  with_one = s.views ++ crew_view [] ∷ []
+
+  sit_holder : (kept.word ≡ 0 → ⊥) → (seat : ℕ) × (view : View) × (get_elem? with_one seat ≡ some view) × (view.inside ≡ kept.word)
+  sit_holder busy = let h = kept.holder busy in (h.0, h.1, at_longer s.views _ h.0 h.1 h.2, h.3)
+
+  sit_insides : (seat : ℕ) (view : View) → get_elem? with_one seat ≡ some view → (view.inside ≡ 0 → ⊥) → (view.inside ≡ kept.word) × HasSeen view.inside kept.board view.entries
+  sit_insides seat view at busy = elim (at_push s.views (crew_view []) view seat at) [
+    | inl h ↦ kept.insides seat view h.1 busy
+    | inr h ↦ absurd (busy (ap (λ (v : View). v.inside) (sym h.1)))
+  ]
+
+  sit_entries : (seat : ℕ) (view : View) → get_elem? with_one seat ≡ some view → EachStands terms kept.board kept.owner seat view.entries
+  sit_entries seat view at = elim (at_push s.views (crew_view []) view seat at) [
+    | inl h ↦ kept.entries seat view h.1
+    | inr h ↦ subst (λ (v : View). EachStands terms kept.board kept.owner seat v.entries) h.1 tt
+  ]
+
+  sit_kept : IsKept terms (record { words = s.words; homes = s.homes; views = with_one })
+  sit_kept = record {
+    word = kept.word;
+    board = kept.board;
+    owner = kept.owner;
+    words = kept.words;
+    limits = kept.limits;
+    home = kept.home;
+    holder = sit_holder;
+    insides = sit_insides;
+    entries = sit_entries;
+    sweeps = omega (arith, sum_by-append sweeps_of s.views (crew_view [] ∷ []), kept.sweeps);
+  }
+
+pub sit_allowed : (terms : Terms) (slots : ℕ) → Enters (IsKept terms) slots 0 (λ n w. has_sat (step slots 0 0 0 none) (first_view terms, []) n (w, []))
+sit_allowed terms slots s kept size low = (crew_view [], sit_kept terms s kept, refl)

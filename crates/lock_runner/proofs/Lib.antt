@@ -10,3 +10,5 @@ pub mod Seating
 pub mod Idle
 pub mod Steps
 pub mod Whole
+pub mod Making
+pub mod Ends

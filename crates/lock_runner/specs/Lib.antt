@@ -5,3 +5,5 @@ pub mod Seats
 pub mod Holds
 pub mod Stepping
 pub mod Performing
+pub mod Opening
+pub mod Finishing

@@ -58,6 +58,10 @@ has_left step before stored after = after ≡ outside_of before.0 before.1
 
 -- ---- crews
 
+-- the seat has no actor
+abbrev pub has_sat : Step Taken → Me Taken View → ℕ → Me Taken View → Type 0
+has_sat step before found after = after ≡ (crew_view [], [])
+
 abbrev pub first_of : View → View
 first_of view = crew_view (take 1 view.entries)
 

@@ -3,7 +3,7 @@
 //! The table has one word and one slot. The word is 0, or the number of the actor whose seat is inside; the
 //! slot holds the machine, the board, which a seat that is inside works on in place.
 ghost use Rattle.lock_runner.specs.Gate.{IsKept, first_view};
-ghost use Rattle.lock_runner.specs.Plays.{entered, has_left, rest_of, first_of, gathered, crew_view};
+ghost use Rattle.lock_runner.specs.Plays.{entered, has_left, has_sat, rest_of, first_of, gathered, crew_view};
 ghost use Rattle.std.specs.Prelude.{[]};
 
 use atomic_table::{Join, Play, Split, TableRule};
@@ -55,6 +55,13 @@ pub struct Leave;
 
 impl Play<Machine, View> for Leave {
     ghost then = { has_left };
+}
+
+/// A seat without an actor comes to the table.
+pub struct Sit;
+
+impl Play<Machine, View> for Sit {
+    ghost then = { has_sat };
 }
 
 /// The first actor of a crew gets a seat of its own.

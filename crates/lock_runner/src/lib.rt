@@ -3,9 +3,11 @@
 #![tactic(auto)]
 
 mod between;
+mod finishing;
 mod gate;
 mod holding;
 mod lending;
+mod opening;
 mod performing;
 mod runner;
 mod seats;
@@ -13,5 +15,6 @@ mod stepping;
 
 pub use actor_history::{Answer, Running};
 pub use between::Between;
+pub use finishing::Unfinished;
 pub use runner::Runner;
 pub use seats::{Seat, Stop};
