@@ -173,9 +173,9 @@ module _ (terms : Terms) (s : State Taken View) (kept : IsKept terms s) (id othe
   joined_at seat view at = elim (at_set grown other seat (crew_view []) view at) [
     | inl h ↦ inr (inl h)
     | inr h ↦ elim (at_set s.views id seat (crew_view (es ++ fs)) view h.1) [
-        | inl g ↦ inl g
-        | inr g ↦ inr (inr (g.0, h.0, g.1))
-      ]
+      | inl g ↦ inl g
+      | inr g ↦ inr (inr (g.0, h.0, g.1))
+    ]
   ]
 
   outside_here : (seat : ℕ) (view : View) (n : ℕ) (entries : List Entry) → get_elem? s.views seat ≡ some view → get_elem? s.views n ≡ some (crew_view entries) → seat ≡ n → view.inside ≡ 0
@@ -192,9 +192,9 @@ module _ (terms : Terms) (s : State Taken View) (kept : IsKept terms s) (id othe
   join_insides seat view at busy = elim (joined_at seat view at) [
     | inl h ↦ absurd (busy (ap (λ (v : View). v.inside) (sym h.1)))
     | inr g ↦ elim g [
-        | inl h ↦ absurd (busy (ap (λ (v : View). v.inside) (sym h.1)))
-        | inr h ↦ kept.insides seat view h.2 busy
-      ]
+      | inl h ↦ absurd (busy (ap (λ (v : View). v.inside) (sym h.1)))
+      | inr h ↦ kept.insides seat view h.2 busy
+    ]
   ]
 
   join_both : EachStands terms kept.board owned id (es ++ fs)
@@ -206,9 +206,9 @@ module _ (terms : Terms) (s : State Taken View) (kept : IsKept terms s) (id othe
   join_entries seat view at = elim (joined_at seat view at) [
     | inl h ↦ subst (λ (v : View). EachStands terms kept.board owned seat v.entries) h.1 (subst (λ n. EachStands terms kept.board owned n (es ++ fs)) (sym h.0) join_both)
     | inr g ↦ elim g [
-        | inl h ↦ subst (λ (v : View). EachStands terms kept.board owned seat v.entries) h.1 tt
-        | inr h ↦ each_with terms kept.board kept.owner owned seat seat view.entries (kept.entries seat view h.2) (λ actor own. merged_else other id kept.owner actor seat own h.1)
-      ]
+      | inl h ↦ subst (λ (v : View). EachStands terms kept.board owned seat v.entries) h.1 tt
+      | inr h ↦ each_with terms kept.board kept.owner owned seat seat view.entries (kept.entries seat view h.2) (λ actor own. merged_else other id kept.owner actor seat own h.1)
+    ]
   ]
 
   join_sweeps : all_sweeps joined ≡ all_sweeps s.views

@@ -1,9 +1,9 @@
 -- The end of a runner.
-use Rattle.std.specs.Prelude.{◌≡◌, ℕ, zero, suc, ◌+◌, ◌<◌, ◌≤◌, List, [], ◌∷◌, ◌++◌, map, Option, Some, None, slice_get, sum_by, length, Result, Ok, Err, IfOk, IfErr, Vec}
+use Rattle.std.specs.Prelude.{◌≡◌, ℕ, zero, suc, ◌+◌, ◌<◌, ◌≤◌, List, [], ◌∷◌, ◌++◌, map, Option, Some, None, slice_get, slice_index_or, unwrap_or, All, sum_by, length, Result, Ok, Err, IfOk, IfErr, Vec}
 use Rattle.std.proofs.Common.{refl, sym, ap, subst, ◌∙◌, inl, inr, append_assoc, arith}
 use Rattle.std.proofs.lemmas.List.{map-append}
 use Rattle.std.proofs.lemmas.List.Sums.{sum_by-cons}
-use Rattle.std.proofs.lemmas.Option.{none-some, same_Some}
+use Rattle.std.proofs.lemmas.Option.{none-some, same_Some, slice_get_within, unwrap_or-slice_get}
 use mathlib.Core.Option.{some, some-injective}
 use lib.ListN.{get_elem?}
 use Rattle.atomic_table.specs.Table.{Me, Joins, Final, Seen}
@@ -44,6 +44,12 @@ at_seam (s ∷ before) seat later = at_seam before seat later
 pub next_at : (all before rest later : List Seated) (seat : Seated) → all ≡ before ++ rest → rest ≡ seat ∷ later → slice_get all (length before) ≡ Some seat
 next_at all before rest later seat is next =
     ap (λ xs. slice_get xs (length before)) (is ∙ ap (λ ys. before ++ ys) next) ∙ at_seam before seat later
+
+-- what holds of each holds of this one
+pub of_each : (P : Seated → Type 0) (seats : List Seated) (k : ℕ) (seat : Seated) → All P seats → slice_get seats k ≡ Some seat → P seat
+of_each P seats k seat all at =
+    let here : slice_index_or seats k seat ≡ seat = sym (unwrap_or-slice_get seats k seat) ∙ ap (λ o. unwrap_or o seat) at in
+    subst P here (all k seat (slice_get_within seats k seat at))
 
 pub moved_on : (all before rest later : List Seated) (seat : Seated) → all ≡ before ++ rest → rest ≡ seat ∷ later → all ≡ (before ++ seat ∷ []) ++ later
 moved_on all before rest later seat is next = is ∙ ap (λ ys. before ++ ys) next ∙ sym (append_assoc before (seat ∷ []) later)

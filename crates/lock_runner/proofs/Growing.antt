@@ -25,8 +25,8 @@ pub steps_grow : (actor : ℕ) (seen board : Taken) → HasFollowed actor seen b
 steps_grow actor seen board followed =
     let more = grows (state_of seen).steps (state_of seen) followed.steps.0 (omega arith) in
     let whole : run_from (state_of seen) followed.steps.0 ≡ state_of board =
-      sym (run-append (first_state seen.limits) seen.steps followed.steps.0) ∙ ap (λ xs. run seen.limits xs) (sym followed.steps.1)
-      ∙ ap (λ l. run l board.steps) (sym followed.limits) in
+    sym (run-append (first_state seen.limits) seen.steps followed.steps.0) ∙ ap (λ xs. run seen.limits xs) (sym followed.steps.1)
+    ∙ ap (λ l. run l board.steps) (sym followed.limits) in
     subst (λ t. (state_of seen).steps ≤ t.steps) whole more
 
 pub one_step : (board now : Taken) (s : Step) (o : Outcome) → next (state_of board) s ≡ Ok (o, state_of now) → (state_of now).steps ≡ (state_of board).steps + 1

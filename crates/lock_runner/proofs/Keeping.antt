@@ -131,13 +131,15 @@ owner_of terms board owner seat actor seen (e ∷ es) stand (inr h) = owner_of t
 each_still : (terms : Terms) (board now : Taken) (owner : ℕ → ℕ) (actor id seat : ℕ) → HasWorked actor board now → owner actor ≡ id → (seat ≡ id → ⊥) →
     (es : List Entry) → EachStands terms board owner seat es → EachStands terms now owner seat es
 each_still terms board now owner actor id seat worked own other [] stand = tt
-each_still terms board now owner actor id seat worked own other (e ∷ es) stand =
-    (record {
-      owned = stand.0.owned;
-      low = stand.0.low;
-      high = stand.0.high;
-      followed = still_followed actor e.actor e.seen board now (λ same. other (sym stand.0.owned ∙ ap owner same ∙ own)) stand.0.followed worked;
-    }, each_still terms board now owner actor id seat worked own other es stand.1)
+each_still terms board now owner actor id seat worked own other (e ∷ es) stand = (
+  record {
+    owned = stand.0.owned;
+    low = stand.0.low;
+    high = stand.0.high;
+    followed = still_followed actor e.actor e.seen board now (λ same. other (sym stand.0.owned ∙ ap owner same ∙ own)) stand.0.followed worked;
+  },
+  each_still terms board now owner actor id seat worked own other es stand.1,
+)
 
 module _ (terms : Terms) (s : State Taken View) (kept : IsKept terms s) (id actor : ℕ) (board now : Taken) (sweeps : ℕ)
     (size : length s.homes ≡ 1) (at_seat : get_elem? s.views id ≡ some (inside actor board sweeps)) (worked : HasWorked actor board now) where

@@ -1,7 +1,8 @@
 -- Seats that are made, and seats that are looked for.
-use Rattle.std.specs.Prelude.{◌≡◌, ℕ, zero, suc, ◌+◌, ◌-◌, ◌<◌, ◌≤◌, ◌⊎◌, Bool, true, false, IsTrue, List, [], ◌∷◌, ◌++◌, None}
+use Rattle.std.specs.Prelude.{◌≡◌, ℕ, zero, suc, ◌+◌, ◌-◌, ◌<◌, ◌≤◌, ◌⊎◌, Bool, true, false, IsTrue, All, List, [], ◌∷◌, ◌++◌, None}
 use Rattle.std.proofs.Common.{refl, sym, ap, subst, ◌∙◌, inl, inr, arith}
 use Rattle.std.proofs.lemmas.Bool.{cases_eq}
+use Rattle.std.proofs.lemmas.List.Elements.{All-nil, All-cons}
 use Rattle.machine_model.specs.declared.steps.Limits.{Limits}
 use Rattle.machine_model.specs.States.{first_state}
 use Rattle.machine_model.specs.Machine.{run_from}
@@ -93,3 +94,7 @@ one_more_fresh id limits n seats more seat is pushed same =
     let count : suc n ≡ n + 1 = omega arith in
     pushed ∙ ap (λ s. seats ++ s ∷ []) (same ∙ ap (λ a. fresh_seat id limits a) last) ∙ ap (λ xs. xs ++ fresh_seat id limits (1 + n) ∷ []) is
     ∙ sym (fresh_push id limits 1 n) ∙ ap (λ k. fresh_seats id limits 1 k) count
+
+pub all_fresh : (id : TableId) (limits : Limits) (from n : ℕ) → All (λ (seat : Seated). seat.runner ≡ id) (fresh_seats id limits from n)
+all_fresh id limits from zero = All-nil (λ (seat : Seated). seat.runner ≡ id)
+all_fresh id limits from (suc n) = All-cons (λ (seat : Seated). seat.runner ≡ id) (fresh_seat id limits from) (fresh_seats id limits (from + 1) n) refl (all_fresh id limits (from + 1) n)

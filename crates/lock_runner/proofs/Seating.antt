@@ -73,11 +73,12 @@ module _ (me after : Me Taken View) (actor : ℕ) (answers : List Answer) (runni
   seated_sweep o is with_it taken =
       let its : is_sweep s ≡ true = ap is_sweep is in
       let near = nearer h.board now (o, (subst (λ x. now ≡ with_step h.board x) is with_it, subst (λ x. next (state_of h.board) x ≡ Ok (o, state_of now)) is taken)) in
-      let not_own : IsStepOf actor s → ⊥ = subst (λ x. IsStepOf actor x → ⊥) (sym is) (λ own. own) in
-      (sits (ap (λ b. b.limits) with_it) answers running (sweeps + 1)
-        (others_leave_the_account h.board.limits h.board.steps s o (state_of now) taken actor not_own ∙ found)
-        (omega (arith, sweeps_push h.board now s with_it, ap {B = ℕ} (λ b. cond b 1 0) its)) (omega (arith, enough, near.1)),
-        omega (arith, enough, near.0))
+      let not_own : IsStepOf actor s → ⊥ = subst (λ x. IsStepOf actor x → ⊥) (sym is) (λ own. own) in (
+        sits (ap (λ b. b.limits) with_it) answers running (sweeps + 1)
+            (others_leave_the_account h.board.limits h.board.steps s o (state_of now) taken actor not_own ∙ found)
+            (omega (arith, sweeps_push h.board now s with_it, ap {B = ℕ} (λ b. cond b 1 0) its)) (omega (arith, enough, near.1)),
+        omega (arith, enough, near.0),
+      )
 
   -- what the actor's own step makes of its account
   pub own_step : (o : Outcome) → IsStepOf actor s → next (state_of h.board) s ≡ Ok (o, state_of now) →

@@ -83,9 +83,11 @@ pub begin_stops : (id other : TableId) (before : Seated) (me after : Me Taken Vi
     (call : Call) → seated id me actor answers running sweeps heard ≡ before → other ≡ id → items ≡ answers → Held (Err stop) actor (step.Begin actor call) heard me after →
     Begins (Err stop) before call (seated other after actor items running sweeps heard)
 begin_stops id other before me after actor heard answers items running sweeps stop call is its same h =
-    subst (λ b. Begins (Err stop) b call (seated other after actor items running sweeps heard)) is
-    (untold id other me after actor heard heard answers items running running sweeps (Err stop) (step.Begin actor call) its same refl h, refl,
-      not_begun other me after actor heard items running sweeps stop call h)
+    subst (λ b. Begins (Err stop) b call (seated other after actor items running sweeps heard)) is (
+      untold id other me after actor heard heard answers items running running sweeps (Err stop) (step.Begin actor call) its same refl h,
+      refl,
+      not_begun other me after actor heard items running sweeps stop call h,
+    )
 
 -- only a begin's outcome is told of one
 began_by : (state : _) (actor : ℕ) (before after : Account) (call : Call) (o : Outcome) → IsMadeBy state actor before (step.Begin actor call) o after →
@@ -106,7 +108,7 @@ pub begun : (me after : Me Taken View) (actor heard : ℕ) (answers items : List
     IsSeated after actor items (Some (begun_at done.0 id call)) sweeps
 begun me after actor heard answers items running sweeps call done id seat same h is =
     let made = subst (λ o. IsMadeBy (state_of h.board) actor (record { answers = answers; running = running }) (step.Begin actor call) o (account_in actor (seen_in after))) is
-      (own_step me after actor answers running sweeps seat (Ok done) (step.Begin actor call) heard h done.1 refl h.worked.3) in
+    (own_step me after actor answers running sweeps seat (Ok done) (step.Begin actor call) heard h done.1 refl h.worked.3) in
     subst (λ xs. IsSeated after actor xs (Some (begun_at done.0 id call)) sweeps) (sym same)
     (seated_step me after actor answers running sweeps seat (Ok done) (step.Begin actor call) heard h done.1 h.worked.2 refl h.worked.3 answers
     (Some (begun_at done.0 id call)) (made.1 ∙ ap (λ p. record { answers = answers; running = Some (begun_at p id call) }) (sym h.worked.1)))
@@ -116,9 +118,10 @@ pub begin_goes : (id other : TableId) (before : Seated) (me after : Me Taken Vie
     Held (Ok done) actor (step.Begin actor call) heard me after →
     Begins (Ok tt) before call (seated other after actor items (Some (begun_at done.0 n call)) sweeps heard)
 begin_goes id other before me after actor heard answers items running sweeps call done n is its same h =
-    subst (λ b. Begins (Ok tt) b call (seated other after actor items (Some (begun_at done.0 n call)) sweeps heard)) is
-    (untold id other me after actor heard heard answers items running (Some (begun_at done.0 n call)) sweeps (Ok done) (step.Begin actor call) its same refl h,
-      (begun_at done.0 n call, refl, refl, h.worked.0))
+    subst (λ b. Begins (Ok tt) b call (seated other after actor items (Some (begun_at done.0 n call)) sweeps heard)) is (
+      untold id other me after actor heard heard answers items running (Some (begun_at done.0 n call)) sweeps (Ok done) (step.Begin actor call) its same refl h,
+      (begun_at done.0 n call, refl, refl, h.worked.0),
+    )
 
 -- ---- a step of the operation
 
@@ -127,17 +130,21 @@ not_taken : (id : TableId) (me after : Me Taken View) (actor heard : ℕ) (items
 not_taken id me after actor heard items running sweeps Ahead seat h = absurd (omega (arith, h.worked.1))
 not_taken id me after actor heard items running sweeps Memory seat h = tt
 not_taken id me after actor heard items running sweeps (Denied refusal) seat h =
-    let denied = subst (λ b. next (state_of b) (step.Go actor) ≡ Err refusal) (sym h.worked.0) h.worked.2 in
-    (denied, subst (λ r. MatchOption r (refusal ≡ refuse.Idle) (λ operation. refusal ≡ refuse.Spent)) (ap (λ a. a.running) seat.told)
-      (idle_only actor (seen_in after) refusal seat.low seat.high denied))
+    let denied = subst (λ b. next (state_of b) (step.Go actor) ≡ Err refusal) (sym h.worked.0) h.worked.2 in (
+      denied,
+      subst (λ r. MatchOption r (refusal ≡ refuse.Idle) (λ operation. refusal ≡ refuse.Spent)) (ap (λ a. a.running) seat.told)
+          (idle_only actor (seen_in after) refusal seat.low seat.high denied),
+    )
 
 pub go_stops : (id other : TableId) (before : Seated) (me after : Me Taken View) (actor heard : ℕ) (answers items : List Answer) (running : Option Running) (sweeps : ℕ) (stop : Stop) →
     seated id me actor answers running sweeps heard ≡ before → other ≡ id → items ≡ answers → IsSeated me actor answers running sweeps →
     Held (Err stop) actor (step.Go actor) 0 me after → Goes (Err stop) before (seated other after actor items running sweeps heard)
 go_stops id other before me after actor heard answers items running sweeps stop is its same seat h =
-    subst (λ b. Goes (Err stop) b (seated other after actor items running sweeps heard)) is
-    (untold id other me after actor heard 0 answers items running running sweeps (Err stop) (step.Go actor) its same refl h, refl,
-      not_taken other me after actor heard items running sweeps stop (stopped me after actor 0 answers items running sweeps stop (step.Go actor) seat same h) h)
+    subst (λ b. Goes (Err stop) b (seated other after actor items running sweeps heard)) is (
+      untold id other me after actor heard 0 answers items running running sweeps (Err stop) (step.Go actor) its same refl h,
+      refl,
+      not_taken other me after actor heard items running sweeps stop (stopped me after actor 0 answers items running sweeps stop (step.Go actor) seat same h) h,
+    )
 
 -- a step that isn't the end
 went_by : (state : _) (actor : ℕ) (before after : Account) (o : Outcome) → IsMadeBy state actor before (step.Go actor) o after →
@@ -188,27 +195,31 @@ pub go_goes : (id other : TableId) (before : Seated) (me after : Me Taken View) 
     Held (Ok done) actor (step.Go actor) 0 me after → ((n : ℕ) (reply : Reply) → done.1 ≡ outcome.Ended n reply → ⊥) →
     Goes (Ok false) before (seated other after actor items running sweeps heard)
 go_goes id other before me after actor heard answers items running sweeps done is its same seat h going =
-    subst (λ b. Goes (Ok false) b (seated other after actor items running sweeps heard)) is
-    (untold id other me after actor heard 0 answers items running running sweeps (Ok done) (step.Go actor) its same refl h, refl,
-      went_busy me after actor answers items running sweeps done seat same h going)
+    subst (λ b. Goes (Ok false) b (seated other after actor items running sweeps heard)) is (
+      untold id other me after actor heard 0 answers items running running sweeps (Ok done) (step.Go actor) its same refl h,
+      refl,
+      went_busy me after actor answers items running sweeps done seat same h going,
+    )
 
 pub go_ends : (id other : TableId) (before : Seated) (me after : Me Taken View) (actor heard : ℕ) (answers items more : List Answer) (running : Option Running) (sweeps : ℕ) (done : ℕ × Outcome)
     (reply : Reply) (operation : Running) → seated id me actor answers running sweeps heard ≡ before → other ≡ id → items ≡ answers →
     Held (Ok done) actor (step.Go actor) 0 me after → running ≡ Some operation → more ≡ items ++ answered_at operation done.0 reply ∷ [] →
     Goes (Ok true) before (seated other after actor more None sweeps heard)
 go_ends id other before me after actor heard answers items more running sweeps done reply operation is its same h ran pushed =
-    subst (λ b. Goes (Ok true) b (seated other after actor more None sweeps heard)) is
-    (operation, record {
-      on = gone_on id other me after actor heard 0 answers more running None sweeps sweeps (Ok done) (step.Go actor) its refl h;
-      sweeps = refl;
-      ran = ran;
-      idle = refl;
-      answer = answered_at operation done.0 reply;
-      last = pushed ∙ ap (λ xs. xs ++ answered_at operation done.0 reply ∷ []) same;
-      id = refl;
-      call = refl;
-      began = refl;
-    })
+    subst (λ b. Goes (Ok true) b (seated other after actor more None sweeps heard)) is (
+      operation,
+      record {
+        on = gone_on id other me after actor heard 0 answers more running None sweeps sweeps (Ok done) (step.Go actor) its refl h;
+        sweeps = refl;
+        ran = ran;
+        idle = refl;
+        answer = answered_at operation done.0 reply;
+        last = pushed ∙ ap (λ xs. xs ++ answered_at operation done.0 reply ∷ []) same;
+        id = refl;
+        call = refl;
+        began = refl;
+      },
+    )
 
 -- ---- a step of the sweep
 
@@ -239,9 +250,11 @@ pub sweep_stops : (id other : TableId) (before : Seated) (me after : Me Taken Vi
     seated id me actor answers running sweeps heard ≡ before → other ≡ id → Held (Err stop) actor step.Sweep 0 me after →
     Sweeps (Err stop) before (seated other after actor answers running sweeps heard)
 sweep_stops id other before me after actor heard answers running sweeps stop is its h =
-    subst (λ b. Sweeps (Err stop) b (seated other after actor answers running sweeps heard)) is
-    (untold id other me after actor heard 0 answers answers running running sweeps (Err stop) step.Sweep its refl tt h, refl,
-      not_swept other me after actor heard answers running sweeps stop h)
+    subst (λ b. Sweeps (Err stop) b (seated other after actor answers running sweeps heard)) is (
+      untold id other me after actor heard 0 answers answers running running sweeps (Err stop) step.Sweep its refl tt h,
+      refl,
+      not_swept other me after actor heard answers running sweeps stop h,
+    )
 
 pub sweep_goes : (id other : TableId) (before : Seated) (me after : Me Taken View) (actor heard : ℕ) (answers : List Answer) (running : Option Running) (sweeps : ℕ) (done : ℕ × Outcome)
     (told : Swept) → seated id me actor answers running sweeps heard ≡ before → other ≡ id → Held (Ok done) actor step.Sweep 0 me after → done.1 ≡ outcome.Swept told →

@@ -7,11 +7,7 @@ use Rattle.actor_history.specs.Answers.{AreAnswersOf}
 use Rattle.lock_runner.specs.declared.finishing.Unfinished.{Unfinished}
 use Rattle.lock_runner.specs.declared.finishing.Unfinished.TheVariants.{Missing, Memory}
 use Rattle.lock_runner.specs.Boards.{sweeps_in, GoesOn}
-use Rattle.lock_runner.specs.Seats.{Room, Seated, IsSeatOf}
-
--- each of these is one of the runner's seats
-abbrev pub AreSeatsOf : Room → List Seated → Type 0
-AreSeatsOf runner seats = (k : ℕ) (seat : Seated) → slice_get seats k ≡ Some seat → IsSeatOf runner seat
+use Rattle.lock_runner.specs.Seats.{Room, Seated}
 
 -- the actor's seat is among these
 abbrev pub IsHere : ℕ → List Seated → Type 0

@@ -1,5 +1,5 @@
 -- What contracts see of a runner and of a seat.
-use Rattle.std.specs.Prelude.{◌≡◌, ℕ, ◌≤◌, List, [], ◌∷◌, Option, if◌then◌else◌}
+use Rattle.std.specs.Prelude.{◌≡◌, ℕ, ◌≤◌, List, [], ◌∷◌, Option, All}
 use Rattle.ctrie_base.specs.declared.hashes.HashKind.TheVariants.{Low}
 use Rattle.machine_model.specs.declared.steps.Limits.{Limits}
 use Rattle.atomic_table.specs.Table.{Me}
@@ -35,6 +35,10 @@ pub record Seated : Type 0 where
 -- the seat is one of this runner's
 abbrev pub IsSeatOf : Room → Seated → Type 0
 IsSeatOf runner seat = seat.runner ≡ runner.id
+
+-- each of these is
+abbrev pub AreSeatsOf : Room → List Seated → Type 0
+AreSeatsOf runner seats = All (λ seat. IsSeatOf runner seat) seats
 
 -- ---- what a seat keeps
 

@@ -3,7 +3,8 @@ ghost use Rattle.std.specs.Prelude.{◌≡◌, ◌↔◌, [], false, IsTrue, IfO
 ghost use Rattle.step_machine.specs.Records.{IsRecordOf};
 ghost use Rattle.lock_runner.specs.Boards.{account_in};
 ghost use Rattle.lock_runner.specs.Plays.{outside};
-ghost use Rattle.lock_runner.specs.Finishing.{AreSeatsOf, AreHere, IsHere, IsMissing, IsGathered, IsFinished};
+ghost use Rattle.lock_runner.specs.Seats.{AreSeatsOf};
+ghost use Rattle.lock_runner.specs.Finishing.{AreHere, IsHere, IsMissing, IsGathered, IsFinished};
 
 use crate::gate::{Gather, Sit};
 use crate::runner::Runner;

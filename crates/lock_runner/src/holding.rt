@@ -61,7 +61,9 @@ impl Runner {
                 tries += 1;
                 std::hint::spin_loop();
             } else {
-                self.table.shared.park_timeout(rt, 0, actor as u32, Duration::from_micros(NAP));
+                self.table
+                    .shared
+                    .park_timeout(rt, 0, actor as u32, Duration::from_micros(NAP));
             }
         }
         unreachable!()

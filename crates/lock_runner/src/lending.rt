@@ -14,8 +14,12 @@ use history::{Call, Reply};
 use std::sync::Wait;
 
 impl Seat {
-    /// The same as `Runner::perform`, whose work it does.
-    pub(crate) fn perform<R: Wait, B: Between>(
+    /// Performs a call of the seat's actor on the runner: begins it, and takes its steps until it ends, each
+    /// by one hold of the gate. The reply is lent from the seat's answers, where it stands last. Nothing is
+    /// answered where it stops: after `Ahead` nothing began; after `Memory`, and after `Denied(Spent)`, the
+    /// operation may have begun and run still, which `resume` tells. `Memory` may stand in the place of
+    /// `Ahead` or a denial.
+    pub fn perform<R: Wait, B: Between>(
         &mut self,
         rt: &R,
         runner: &Runner,
@@ -29,8 +33,9 @@ impl Seat {
         Ok(self.last_reply())
     }
 
-    /// The same as `Runner::resume`, whose work it does.
-    pub(crate) fn resume<R: Wait, B: Between>(
+    /// Goes on with the operation that the seat's actor runs, until it ends. `Denied(Idle)` where it runs
+    /// none; after `Memory` and `Denied(Spent)` it runs still.
+    pub fn resume<R: Wait, B: Between>(
         &mut self,
         rt: &R,
         runner: &Runner,

@@ -1,6 +1,7 @@
 //! A runner and its seats.
-ghost use Rattle.std.specs.Prelude.{◌≡◌, ◌≤◌, ◌<◌, IfOk, IfErr, OnOk, []};
+ghost use Rattle.std.specs.Prelude.{◌≡◌, All, IfOk, IfErr, OnOk, []};
 ghost use Rattle.lock_runner.specs.Gate.{first_view};
+ghost use Rattle.lock_runner.specs.Seats.{AreSeatsOf};
 ghost use Rattle.lock_runner.specs.Opening.{AreTerms, RefusesTerms, IsMade, fresh_seats};
 
 use crate::gate::{Cut, Gate, Terms, View};
@@ -18,6 +19,7 @@ impl Runner {
     /// to the number of actors; and else only `Memory`. Nothing is made then.
     pub fn new(alloc: Global, limits: Limits, seats: u8) -> Result<(Runner, Vec<Seat>), Refusal>
         ensures made { IfOk result (λ made. IsMade limits seats made.0 made.1.items) }
+        ensures seats { IfOk result (λ made. AreSeatsOf made.0 made.1.items) }
         ensures in_range { OnOk result (AreTerms limits seats) }
         ensures refused { IfErr result (λ refusal. RefusesTerms limits seats refusal) }
     {
@@ -46,6 +48,7 @@ fn seats_of(
     requires crew { (crew.table_id ≡ table.now.shared.table_id) × (crew.me ≡ (first_view terms, [])) }
     requires in_range { AreTerms terms.limits terms.seats }
     ensures seats { IfOk result (λ seats. seats.items ≡ fresh_seats table.now.shared.table_id terms.limits 1 terms.seats) }
+    ensures each { IfOk result (λ seats. All (λ seat. seat.runner ≡ table.now.shared.table_id) seats.items) }
     ensures refused { IfErr result (λ refusal. RefusesTerms terms.limits terms.seats refusal) }
 {
     let mut seats = Vec::new(alloc);

@@ -14,7 +14,7 @@ leave-requires-clause-inside g c =
       now,
       counted _ c.args.actor _ e.0 now (middle me c.args.actor (count_in c.args.pass.now.me) e.0 now e.1),
       has_worked c.args.actor c.args.step c.work-done.result e.0 c.args.heard now c.requires.own
-      (subst (λ b. Worked c.work-done.result b c.args.step c.args.heard now) same c.work-done.ensures),
+          (subst (λ b. Worked c.work-done.result b c.args.step c.args.heard now) same c.work-done.ensures),
     )
 
 pub returns-clause-held : goal.returns-clause-held
