@@ -10,7 +10,7 @@ use Rattle.actor_history.specs.declared.accounts.Running.{Running}
 use Rattle.lock_runner.specs.declared.seats.Stop.{Stop}
 use Rattle.lock_runner.specs.Seats.{Seated}
 use Rattle.lock_runner.specs.Stepping.{HasGoneOn, IsUntold, IsAnswered, Runs, IsNotBegun, IsNotTaken, Begins, Goes}
-use Rattle.lock_runner.specs.Performing.{CarriesOn, CarriesOut, IsPerformed, IsStopped}
+use Rattle.lock_runner.specs.Performing.{CarriesOn, CarriesOut, IsPerformed}
 use Rattle.lock_runner.proofs.Boards.{goes_on_same, goes_on_more}
 
 pub gone_same : (a : Seated) → HasGoneOn a a
@@ -66,11 +66,11 @@ begun_and_ended call a b c begun ended =
       unheard = omega (arith, begun.1.3, its.began, ap (λ r. r.began) same);
     }
 
-pub begun_and_stopped : (call : Call) (stop : Stop) (a b c : Seated) → Begins (Ok tt) a call b → CarriesOn (Err stop) b c → IsStopped stop a call c
+pub begun_and_stopped : (call : Call) (stop : Stop) (a b c : Seated) → Begins (Ok tt) a call b → CarriesOn (Err stop) b c → CarriesOut (Err stop) a call c
 begun_and_stopped call stop a b c begun stopped =
     (untold_more a b c begun.0 stopped.0, inr ((begun.1.0, stopped.1 ∙ begun.1.1, begun.1.2, begun.1.3), stopped.2))
 
-pub stopped_at_once : (call : Call) (stop : Stop) (a b : Seated) → Begins (Err stop) a call b → IsStopped stop a call b
+pub stopped_at_once : (call : Call) (stop : Stop) (a b : Seated) → Begins (Err stop) a call b → CarriesOut (Err stop) a call b
 stopped_at_once call stop a b stopped = (stopped.0, inl (stopped.1, stopped.2))
 
 pub begun_and : (call : Call) (result : Result (Unit {0}) Stop) (a b c : Seated) → Begins (Ok tt) a call b → CarriesOn result b c → CarriesOut result a call c

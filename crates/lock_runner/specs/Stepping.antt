@@ -78,21 +78,22 @@ Goes (Err stop) before after = IsUntold before after × (after.running ≡ befor
 
 -- ---- a step of the sweep
 
--- the machine has gone on, and then took a step of the sweep
+-- the machine took a step of the sweep last
 pub record IsSwept (swept : Swept) (before after : Seated) : Type 0 where
-  pub on : HasGoneOn before after
-  pub answers : after.answers ≡ before.answers
-  pub running : after.running ≡ before.running
   pub sweeps : after.sweeps ≡ before.sweeps + 1
   pub board : Taken
   pub last : after.seen ≡ with_step board step.Sweep
   pub taken : next (state_of board) step.Sweep ≡ Ok (outcome.Swept swept, state_of after.seen)
 
+-- why none was taken: the machine's denial, or want of memory
 abbrev pub IsNotSwept : Stop → Seated → Type 0
 IsNotSwept Ahead seat = ⊥
 IsNotSwept Memory seat = Unit {0}
 IsNotSwept (Denied refusal) seat = IsDenied seat step.Sweep refusal
 
+abbrev pub SweepsOnce : Result Swept Stop → Seated → Seated → Type 0
+SweepsOnce (Ok swept) before after = IsSwept swept before after
+SweepsOnce (Err stop) before after = (after.sweeps ≡ before.sweeps) × IsNotSwept stop after
+
 abbrev pub Sweeps : Result Swept Stop → Seated → Seated → Type 0
-Sweeps (Ok swept) before after = IsSwept swept before after
-Sweeps (Err stop) before after = IsUntold before after × (after.running ≡ before.running) × IsNotSwept stop after
+Sweeps result before after = HasGoneOn before after × (after.answers ≡ before.answers) × (after.running ≡ before.running) × SweepsOnce result before after
