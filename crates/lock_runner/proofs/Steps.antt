@@ -250,18 +250,25 @@ pub sweep_stops : (id other : TableId) (before : Seated) (me after : Me Taken Vi
     seated id me actor answers running sweeps heard ≡ before → other ≡ id → Held (Err stop) actor step.Sweep 0 me after →
     Sweeps (Err stop) before (seated other after actor answers running sweeps heard)
 sweep_stops id other before me after actor heard answers running sweeps stop is its h =
-    subst (λ b. Sweeps (Err stop) b (seated other after actor answers running sweeps heard)) is
-    (gone_on id other me after actor heard 0 answers answers running running sweeps sweeps (Err stop) step.Sweep its tt h, refl, refl,
-      (refl, not_swept other me after actor heard answers running sweeps stop h))
+    subst (λ b. Sweeps (Err stop) b (seated other after actor answers running sweeps heard)) is (
+      gone_on id other me after actor heard 0 answers answers running running sweeps sweeps (Err stop) step.Sweep its tt h,
+      refl,
+      refl,
+      (refl, not_swept other me after actor heard answers running sweeps stop h),
+    )
 
 pub sweep_goes : (id other : TableId) (before : Seated) (me after : Me Taken View) (actor heard : ℕ) (answers : List Answer) (running : Option Running) (sweeps : ℕ) (done : ℕ × Outcome)
     (told : Swept) → seated id me actor answers running sweeps heard ≡ before → other ≡ id → Held (Ok done) actor step.Sweep 0 me after → done.1 ≡ outcome.Swept told →
     Sweeps (Ok told) before (seated other after actor answers running (sweeps + 1) heard)
 sweep_goes id other before me after actor heard answers running sweeps done told is its h was =
-    subst (λ b. Sweeps (Ok told) b (seated other after actor answers running (sweeps + 1) heard)) is
-    (gone_on id other me after actor heard 0 answers answers running running sweeps (sweeps + 1) (Ok done) step.Sweep its tt h, refl, refl, record {
-      sweeps = refl;
-      board = h.board;
-      last = h.worked.2;
-      taken = subst (λ o. next (state_of h.board) step.Sweep ≡ Ok (o, state_of (seen_in after))) was h.worked.3;
-    })
+    subst (λ b. Sweeps (Ok told) b (seated other after actor answers running (sweeps + 1) heard)) is (
+      gone_on id other me after actor heard 0 answers answers running running sweeps (sweeps + 1) (Ok done) step.Sweep its tt h,
+      refl,
+      refl,
+      record {
+        sweeps = refl;
+        board = h.board;
+        last = h.worked.2;
+        taken = subst (λ o. next (state_of h.board) step.Sweep ≡ Ok (o, state_of (seen_in after))) was h.worked.3;
+      },
+    )

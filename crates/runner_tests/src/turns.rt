@@ -28,6 +28,10 @@ fn other_seat_reads_back(rt: HostRuntime) -> Result<(), Fail> {
     }
     assert_eq!(rt; one.answers().len(), 2);
     assert_eq!(rt; two.answers().len(), 1);
-    assert!(rt; two.answers().iter().all(|answer| answer.began == 2 && answer.ended == 3));
+    assert!(rt;
+        two.answers()
+            .iter()
+            .all(|answer| answer.began == 2 && answer.ended == 3)
+    );
     Ok(())
 }
