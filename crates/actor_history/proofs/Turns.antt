@@ -1,0 +1,164 @@
+-- What a step does to the history and to the ids and calls of the running operations.
+use Rattle.std.specs.Prelude.{◌≡◌, ℕ, zero, suc, ◌-◌, ◌<◌, ◌==◌, Bool, true, false, List, [], ◌∷◌, ◌++◌, length, map, Option, Some, None, option_map, if◌then◌else◌}
+use Rattle.std.proofs.Common.{refl, sym, ap, subst, ◌∙◌, get_or, set, arith}
+use Rattle.std.proofs.Math.ListN.{get_or-map}
+use Rattle.std.proofs.lemmas.List.{get_or_past, get_or-set_same, get_or-set_other, length-set, length-map}
+use Rattle.std.proofs.lemmas.Bool.{cases_lt}
+use Rattle.std.proofs.Common.{inl, inr}
+use Rattle.history.specs.declared.calls.Call.{Call}
+use Rattle.history.specs.declared.replies.Reply.{Reply}
+use Rattle.history.specs.declared.events.Event.{Event}
+use Rattle.history.specs.declared.events.Event.TheVariants.{Begin, End}
+use Rattle.history.specs.Histories.{begun}
+use Rattle.machine_model.specs.declared.operations.Operation.{Operation}
+use Rattle.machine_model.specs.declared.steps.Step.{Step}
+use Rattle.machine_model.specs.declared.steps.Step.TheVariants as step
+use Rattle.machine_model.specs.declared.steps.Outcome.{Outcome}
+use Rattle.machine_model.specs.declared.steps.Outcome.TheVariants as outcome
+use Rattle.machine_model.specs.States.{State, operation_of}
+use Rattle.machine_model.specs.Acting.{marked, operation_after, gone, ended}
+use Rattle.std.specs.Prelude.{◌+◌, nat_le}
+use Rattle.std.proofs.Common.{leb-true}
+use Rattle.std.proofs.lemmas.Option.{none-some}
+use Rattle.machine_model.specs.Machine.{begin_denial, go_denial, with_begin, scanned, advanced, is_passed, sweep_by}
+use Rattle.machine_model.specs.Operations.{action_of}
+use Rattle.machine_model.proofs.Moves.{Moves, Begins, Goes, Ends, Sweeps, begun_operation}
+use Rattle.machine_model.proofs.Actors.{after_marks, marks_by, gone_actors, begin_actors, sweep_actors}
+use Rattle.machine_model.proofs.Frames.{acted_framed}
+
+-- the id and the call of an operation
+abbrev pub Shown : Type 0
+Shown = ℕ × Call
+
+abbrev pub shown : Option Operation → Option Shown
+shown None = None
+shown (Some operation) = Some (operation.id, operation.call)
+
+-- of the operation at this place of the list
+abbrev pub ran : List (Option Operation) → ℕ → Option Shown
+ran xs k = shown (get_or xs k None)
+
+-- a mark changes neither
+shown_marked : (id : ℕ) (o : Option Operation) → shown (marked id o) ≡ shown o
+shown_marked id None = refl
+shown_marked id (Some operation) = grind arith
+
+ran_marks : (m : Option ℕ) (xs : List (Option Operation)) (k : ℕ) → ran (after_marks m xs) k ≡ ran xs k
+ran_marks None xs k = refl
+ran_marks (Some id) xs k = ap shown (get_or-map (marked id) xs k None) ∙ shown_marked id (get_or xs k None)
+
+ran_set : (xs : List (Option Operation)) (k : ℕ) (put : Option Operation) → k < length xs → ran (set xs k put) k ≡ shown put
+ran_set xs k put within = ap shown (get_or-set_same xs k put None within)
+
+-- where nothing is written nothing is found, be the place in the list or not
+ran_set_none : (xs : List (Option Operation)) (k : ℕ) → ran (set xs k None) k ≡ None
+ran_set_none xs k = elim (cases_lt k (length xs)) [
+  | inl within ↦ ran_set xs k None within
+  | inr past ↦ ap shown (get_or_past (set xs k None) k None (rw length-set past))
+]
+
+ran_elsewhere : (xs : List (Option Operation)) (i k : ℕ) (put : Option Operation) → (k ≡ i → ⊥) → ran (set xs i put) k ≡ ran xs k
+ran_elsewhere xs i k put apart = ap shown (get_or-set_other xs i k put None apart)
+
+-- a write of what has the same id and call
+ran_same : (xs : List (Option Operation)) (i k : ℕ) (put : Option Operation) → shown put ≡ ran xs i → ran (set xs i put) k ≡ ran xs k
+ran_same xs i k put same = grind (arith, ran_set xs i put, ran_elsewhere xs i k put, get_or_past, length-set)
+
+-- how a step changes the history and what is run; the actor k + 1 has the place k
+pub data Turns (before after : State) : Step → Outcome → Type 0 where
+  Comes : (k : ℕ) (call : Call) (opens : Option ℕ) → k < length before.actors → ran before.actors k ≡ None →
+      ran after.actors k ≡ Some (begun before.events, call) → ((j : ℕ) → (j ≡ k → ⊥) → ran after.actors j ≡ ran before.actors j) →
+      after.events ≡ before.events ++ Begin (begun before.events) (suc k) call opens ∷ [] →
+      Turns before after (step.Begin (suc k) call) (outcome.Began (begun before.events))
+  Stays : (k : ℕ) (p : Shown) (kind : _) → ran before.actors k ≡ Some p → ((j : ℕ) → ran after.actors j ≡ ran before.actors j) →
+      after.events ≡ before.events → Turns before after (step.Go (suc k)) (outcome.Went kind)
+  Leaves : (k : ℕ) (p : Shown) (answer : Reply) → ran before.actors k ≡ Some p → ran after.actors k ≡ None →
+      ((j : ℕ) → (j ≡ k → ⊥) → ran after.actors j ≡ ran before.actors j) → after.events ≡ before.events ++ End p.0 answer ∷ [] →
+      Turns before after (step.Go (suc k)) (outcome.Ended p.0 answer)
+  Rests : (swept : _) → ((j : ℕ) → ran after.actors j ≡ ran before.actors j) → after.events ≡ before.events → Turns before after step.Sweep (outcome.Swept swept)
+
+back : (k : ℕ) → suc k - 1 ≡ k
+back k = omega arith
+
+-- ---- a begin
+
+-- an actor whose begin isn't denied is one of the machine's, and runs nothing
+begins_as : (state : State) (actor : ℕ) (call : Call) → begin_denial state actor call ≡ None →
+    (0 < actor) × (actor < state.limits.actors + 1) × (operation_of state actor ≡ None)
+begins_as state actor call d = (grind arith, grind (arith, leb-true), grind arith)
+
+begin_events : (state : State) (actor : ℕ) (call : Call) (operation : Operation) →
+    (with_begin state actor call operation).events ≡ state.events ++ Begin operation.id actor call operation.opens ∷ []
+begin_events state actor call operation = grind arith
+
+come : (state : State) (k : ℕ) (call : Call) → length state.actors ≡ state.limits.actors → begin_denial state (suc k) call ≡ None →
+    (after : State) → after.actors ≡ (with_begin state (suc k) call (begun_operation state call)).actors →
+    after.events ≡ (with_begin state (suc k) call (begun_operation state call)).events →
+    Turns state after (step.Begin (suc k) call) (outcome.Began (begun state.events))
+come state k call fits d after actors events =
+    let operation = begun_operation state call in
+    let was = begins_as state (suc k) call d in
+    let within : k < length state.actors = omega (arith, was.1) in
+    let put : after.actors ≡ set state.actors k (Some operation) =
+    actors ∙ begin_actors state (suc k) call operation ∙ ap (λ i. set state.actors i (Some operation)) (back k) in
+    Comes k call operation.opens within (ap shown was.2) (ap (λ xs. ran xs k) put ∙ ran_set state.actors k (Some operation) within)
+    (λ j apart. ap (λ xs. ran xs j) put ∙ ran_elsewhere state.actors k j (Some operation) apart)
+    (events ∙ begin_events state (suc k) call operation)
+
+-- ---- a step of an operation
+
+-- what goes on has the same id and call
+shown_after : (state : State) (operation : Operation) → shown (Some (operation_after state operation)) ≡ shown (Some operation)
+shown_after state operation = refl
+
+gone_ran : (state : State) (k : ℕ) (operation : Operation) → operation_of state (suc k) ≡ Some operation → (j : ℕ) →
+    ran (gone state (suc k) operation).actors j ≡ ran state.actors j
+gone_ran state k operation is j =
+    ap (λ xs. ran xs j) (gone_actors state (suc k) operation) ∙ ran_marks (marks_by state (Some operation)) _ j
+    ∙ ap (λ i. ran (set state.actors i (Some (operation_after state operation))) j) (back k)
+    ∙ ran_same state.actors k j (Some (operation_after state operation)) (shown_after state operation ∙ ap shown (sym is))
+
+gone_events : (state : State) (actor : ℕ) (operation : Operation) → (gone state actor operation).events ≡ state.events
+gone_events state actor operation = (acted_framed _ _ (action_of state operation)).events
+
+leave : (state : State) (k : ℕ) (operation : Operation) (answer : Reply) → operation_of state (suc k) ≡ Some operation → (after : State) →
+    after.actors ≡ (ended state (suc k) operation answer).actors → after.events ≡ (ended state (suc k) operation answer).events →
+    Turns state after (step.Go (suc k)) (outcome.Ended operation.id answer)
+leave state k operation answer is after actors events =
+    let put : after.actors ≡ set state.actors k None = actors ∙ ap (λ i. set state.actors i None) (back k) in
+    Leaves k (operation.id, operation.call) answer (ap shown is) (ap (λ xs. ran xs k) put ∙ ran_set_none state.actors k)
+    (λ j apart. ap (λ xs. ran xs j) put ∙ ran_elsewhere state.actors k j None apart) events
+
+-- ---- each step
+
+sweep_events : (state : State) (ripe : _) → (sweep_by state ripe).1.events ≡ state.events
+sweep_events state ripe = grind arith
+
+scan_tells : (state : State) (b passed : Bool) → (swept : _) × ((if b then scanned state passed else advanced state).0 ≡ outcome.Swept swept)
+scan_tells state true passed = (_, refl)
+scan_tells state false passed = (_, refl)
+
+sweep_tells : (state : State) (ripe : _) → (swept : _) × ((sweep_by state ripe).0 ≡ outcome.Swept swept)
+sweep_tells state None = scan_tells state (nat_le state.cursor state.limits.actors) (is_passed state.epoch (operation_of state state.cursor))
+sweep_tells state (Some r) = (_, refl)
+
+no_actor : {A : Type 0} → 0 < 0 → A
+no_actor h = absurd (omega arith)
+
+rest : (state : State) (ripe : _) (after : State) → after.actors ≡ (sweep_by state ripe).1.actors → after.events ≡ (sweep_by state ripe).1.events →
+    Turns state after step.Sweep (sweep_by state ripe).0
+rest state ripe after actors events =
+    let told = sweep_tells state ripe in
+    subst (λ o. Turns state after step.Sweep o) (sym told.1)
+    (Rests told.0 (λ j. ap (λ xs. ran xs j) (actors ∙ sweep_actors state ripe)) (events ∙ sweep_events state ripe))
+
+-- each step that is taken
+pub turns : (state : State) (s : Step) (o : Outcome) (after : State) → length state.actors ≡ state.limits.actors → Moves state s o after → Turns state after s o
+turns state s o after fits (Begins {actor = zero} {call = call} d) = no_actor (begins_as state zero call d).0
+turns state s o after fits (Begins {actor = suc k} {call = call} d) = come state k call fits d _ refl refl
+turns state s o after fits (Goes {actor = zero} {operation = operation} d is a g) = absurd (none-some operation is)
+turns state s o after fits (Goes {actor = suc k} {operation = operation} d is a g) =
+    Stays k (operation.id, operation.call) _ (ap shown is) (gone_ran state k operation is) (gone_events state (suc k) operation)
+turns state s o after fits (Ends {actor = zero} {operation = operation} d is a) = absurd (none-some operation is)
+turns state s o after fits (Ends {actor = suc k} {operation = operation} {answer = answer} d is a) = leave state k operation answer is _ refl refl
+turns state s o after fits (Sweeps spent) = rest state _ _ refl refl

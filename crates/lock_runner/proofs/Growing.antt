@@ -1,0 +1,41 @@
+-- Steps are counted.
+use Rattle.std.specs.Prelude.{◌≡◌, ℕ, ◌+◌, ◌≤◌, List, [], ◌∷◌, ◌++◌, Ok}
+use Rattle.std.proofs.Common.{refl, sym, ap, subst, ◌∙◌, arith}
+use Rattle.machine_model.specs.declared.steps.Limits.{Limits}
+use Rattle.machine_model.specs.declared.steps.Step.{Step}
+use Rattle.machine_model.specs.declared.steps.Outcome.{Outcome}
+use Rattle.machine_model.specs.States.{State, first_state}
+use Rattle.machine_model.specs.Machine.{next, next_state, run_from, run}
+use Rattle.machine_model.proofs.Moves.{moved}
+use Rattle.machine_model.proofs.Along.{run-append, kept_by_moves, along}
+use Rattle.machine_model.proofs.Frames.{steps_counted, limits_kept}
+use Rattle.step_machine.specs.Machines.{Taken, state_of}
+use Rattle.lock_runner.specs.Boards.{GoesOn, HasFollowed}
+
+-- one step more, or none
+step_grows : (base : ℕ) (state : State) (s : Step) → base ≤ state.steps → base ≤ (next_state state s).steps
+step_grows base state s low = kept_by_moves (λ t. base ≤ t.steps) state s low (λ o after m. omega (arith, low, steps_counted state s o after m))
+
+grows : (base : ℕ) (state : State) (steps : List Step) → base ≤ state.steps → base ≤ (run_from state steps).steps
+unfolding run_from
+grows base state [] low = low
+grows base state (s ∷ steps) low = grows base (next_state state s) steps (step_grows base state s low)
+
+pub steps_grow : (actor : ℕ) (seen board : Taken) → HasFollowed actor seen board → (state_of seen).steps ≤ (state_of board).steps
+steps_grow actor seen board followed =
+    let more = grows (state_of seen).steps (state_of seen) followed.steps.0 (omega arith) in
+    let whole : run_from (state_of seen) followed.steps.0 ≡ state_of board =
+    sym (run-append (first_state seen.limits) seen.steps followed.steps.0) ∙ ap (λ xs. run seen.limits xs) (sym followed.steps.1)
+    ∙ ap (λ l. run l board.steps) (sym followed.limits) in
+    subst (λ t. (state_of seen).steps ≤ t.steps) whole more
+
+pub one_step : (board now : Taken) (s : Step) (o : Outcome) → next (state_of board) s ≡ Ok (o, state_of now) → (state_of now).steps ≡ (state_of board).steps + 1
+one_step board now s o taken = steps_counted (state_of board) s o (state_of now) (moved (state_of board) s o (state_of now) taken)
+
+-- a run has the limits that it was begun with
+first_limits : (limits : Limits) → (first_state limits).limits ≡ limits
+unfolding first_state
+first_limits limits = refl
+
+pub run_limits : (limits : Limits) (steps : List Step) → (run limits steps).limits ≡ limits
+run_limits limits = along limits (λ state. state.limits ≡ limits) (first_limits limits) (λ steps s o after m h. limits_kept (run limits steps) s o after m ∙ h)

@@ -1,0 +1,77 @@
+-- Where a step of an actor's operation is denied since it runs none.
+use Rattle.std.specs.Prelude.{◌≡◌, ℕ, ◌≤◌, ◌↔◌, ◌&&◌, Bool, true, false, not, is_some, nat_lt, nat_le, MatchOption, [], ◌∷◌, Option, Some, None, Ok, Err}
+use Rattle.std.proofs.Common.{refl, sym, ap, subst, ◌∙◌, lt-ltb, le-leb, arith}
+use Rattle.std.proofs.lemmas.Option.{none-some}
+use Rattle.ctrie_base.specs.declared.refusals.Refusal.{Refusal}
+use Rattle.ctrie_base.specs.declared.refusals.Refusal.TheVariants as refuse
+use Rattle.machine_model.specs.declared.operations.Operation.{Operation}
+use Rattle.machine_model.specs.declared.steps.Step.TheVariants as step
+use Rattle.machine_model.specs.declared.steps.Outcome.{Outcome}
+use Rattle.machine_model.specs.States.{State, operation_of}
+use Rattle.machine_model.specs.Operations.{action_of}
+use Rattle.machine_model.specs.Machine.{next, go_unless, go_on, go_denial, first_reason, is_actor, is_running, is_spent, settled_after, went}
+use Rattle.step_machine.specs.Machines.{Taken, state_of}
+use Rattle.actor_history.specs.declared.accounts.Running.{Running}
+use Rattle.actor_history.proofs.Turns.{Shown, shown}
+use Rattle.actor_history.proofs.Sound.{told, sound_along}
+use Rattle.lock_runner.specs.Boards.{account_in}
+use Rattle.lock_runner.proofs.Growing.{run_limits}
+
+none_shown : (o : Option Operation) → shown o ≡ None → o ≡ None
+none_shown None e = refl
+none_shown (Some operation) e = absurd (none-some _ (sym e))
+
+none_told : (r : Option Running) → told r ≡ None → r ≡ None
+none_told None e = refl
+none_told (Some r) e = absurd (none-some _ (sym e))
+
+-- an account runs nothing exactly where the machine runs nothing of the actor
+idle_alike : (actor : ℕ) (board : Taken) → (operation_of (state_of board) actor ≡ None) ↔ ((account_in actor board).running ≡ None)
+idle_alike actor board =
+    let match = (sound_along board.limits board.steps).match actor in (
+      (λ none. none_told _ (sym match ∙ ap shown none)),
+      (λ none. none_shown _ (match ∙ ap told none)),
+    )
+
+ok_err : (state : State) (done : Outcome × State) (refusal : Refusal) → settled_after state done ≡ Err refusal → ⊥
+ok_err state done refusal e = grind (arith, e)
+
+-- a step of what runs is taken
+not_denied : (state : State) (actor : ℕ) (operation : Operation) (refusal : Refusal) → go_on state actor (Some operation) ≡ Err refusal → ⊥
+not_denied state actor operation refusal e = ok_err state (went state actor operation (action_of state operation)) refusal e
+
+none_some : (o : Option Operation) → is_some o ≡ false → o ≡ None
+none_some None e = refl
+none_some (Some operation) e = absurd (grind (arith, e))
+
+going : (state : State) (actor : ℕ) (refusal : Refusal) (o : Option Operation) → is_some o ≡ true → go_on state actor o ≡ Err refusal → ⊥
+going state actor refusal None runs e = grind (arith, runs)
+going state actor refusal (Some operation) runs e = not_denied state actor operation refusal e
+
+actor_by : (actor most : ℕ) → 1 ≤ actor → actor ≤ most → (nat_lt 0 actor && nat_le actor most) ≡ true
+actor_by actor most low high = grind (arith, low, high, lt-ltb, le-leb)
+
+-- where it runs nothing it is idle, else all steps are taken
+pub idle_denied : (state : State) (actor : ℕ) (refusal : Refusal) (a r s : Bool) → a ≡ true → is_some (operation_of state actor) ≡ r →
+    go_unless state actor (first_reason ((not a, refuse.NoActor) ∷ (not r, refuse.Idle) ∷ (s, refuse.Spent) ∷ [])) ≡ Err refusal →
+    (operation_of state actor ≡ None → refusal ≡ refuse.Idle) × ((operation_of state actor ≡ None → ⊥) → refusal ≡ refuse.Spent)
+idle_denied state actor refusal true false s own runs e = ((λ none. grind (arith, e)), (λ some. absurd (some (none_some _ runs))))
+idle_denied state actor refusal true true true own runs e = ((λ none. absurd (grind (arith, runs, none))), (λ some. grind (arith, e)))
+idle_denied state actor refusal true true false own runs e = absurd (going state actor refusal (operation_of state actor) runs e)
+idle_denied state actor refusal false r s own runs e = absurd (grind (arith, own))
+
+by_running : (refusal : Refusal) (r : Option Running) → (r ≡ None → refusal ≡ refuse.Idle) → ((r ≡ None → ⊥) → refusal ≡ refuse.Spent) →
+    MatchOption r (refusal ≡ refuse.Idle) (λ operation. refusal ≡ refuse.Spent)
+by_running refusal None idle spent = idle refl
+by_running refusal (Some r) idle spent = spent (λ none. none-some r (sym none))
+
+-- the same by what the account runs
+pub idle_only : (actor : ℕ) (board : Taken) (refusal : Refusal) → 1 ≤ actor → actor ≤ board.limits.actors → next (state_of board) (step.Go actor) ≡ Err refusal →
+    MatchOption (account_in actor board).running (refusal ≡ refuse.Idle) (λ operation. refusal ≡ refuse.Spent)
+unfolding next
+idle_only actor board refusal low high e =
+    let within : actor ≤ (state_of board).limits.actors = omega (arith, high, ap (λ l. l.actors) (run_limits board.limits board.steps)) in
+    let own : is_actor (state_of board) actor ≡ true = actor_by actor (state_of board).limits.actors low within in
+    let alike = idle_alike actor board in
+    let why = idle_denied (state_of board) actor refusal (is_actor (state_of board) actor) (is_running (state_of board) actor) (is_spent (state_of board)) own refl e in
+    by_running refusal (account_in actor board).running (λ none. why.0 (alike.1 none)) (λ some. why.1 (λ none. some (alike.0 none)))

@@ -1,0 +1,14 @@
+pub mod Lists
+pub mod Boards
+pub mod Keeping
+pub mod Crews
+pub mod Closing
+pub mod Calls
+pub mod Holds
+pub mod Growing
+pub mod Seating
+pub mod Idle
+pub mod Steps
+pub mod Whole
+pub mod Making
+pub mod Ends

@@ -1,0 +1,10 @@
+use Rattle.std.proofs.Common.{rules, ◌≡◌, ◌≤◌, ◌<◌, ap, sym, subst, ◌∙◌, arith}
+use Rattle.lock_runner.proofs.Making.{one_missing, one_more_here}
+use Rattle.lock_runner.proofs.runner.Runner.has_all.Goals as goal
+
+pub returns-then-not-has_seat-clause-missing : goal.returns-then-not-has_seat-clause-missing
+returns-then-not-has_seat-clause-missing c e =
+    one_missing c.loop-n.n _ _ c.has_seat.result (omega (arith, c.loop-n-test.true, ap (λ r. r.seats) c.self.view_is)) c.if-not-has_seat.true c.has_seat.ensures.1
+
+pub loop-n-preserved : goal.loop-n-preserved
+loop-n-preserved c = one_more_here c.loop-n.n _ c.loop-n.invariant (c.has_seat.ensures.0 (search (rules, c.if-not-has_seat.false)))

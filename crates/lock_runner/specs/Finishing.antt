@@ -1,0 +1,44 @@
+-- The end of a runner.
+use Rattle.std.specs.Prelude.{◌≡◌, ℕ, ◌≤◌, List, Some, slice_get, sum_by, Result, Ok, Err}
+use Rattle.step_machine.specs.declared.records.Record.{Record}
+use Rattle.step_machine.specs.Machines.{Taken, state_of}
+use Rattle.step_machine.specs.Records.{IsRecordOf}
+use Rattle.actor_history.specs.Answers.{AreAnswersOf}
+use Rattle.lock_runner.specs.declared.finishing.Unfinished.{Unfinished}
+use Rattle.lock_runner.specs.declared.finishing.Unfinished.TheVariants.{Missing, Memory}
+use Rattle.lock_runner.specs.Boards.{sweeps_in, GoesOn}
+use Rattle.lock_runner.specs.Seats.{Room, Seated}
+
+-- the actor's seat is among these
+abbrev pub IsHere : ℕ → List Seated → Type 0
+IsHere actor seats = (k : ℕ) × (seat : Seated) × (slice_get seats k ≡ Some seat) × (seat.actor ≡ actor)
+
+-- the seat of each of the actors up to this number is, or that of one of them isn't
+abbrev pub AreHere : ℕ → List Seated → Type 0
+AreHere number seats = (actor : ℕ) → 1 ≤ actor → actor ≤ number → IsHere actor seats
+
+abbrev pub IsMissing : ℕ → List Seated → Type 0
+IsMissing number seats = (actor : ℕ) × (1 ≤ actor) × (actor ≤ number) × ¬ IsHere actor seats
+
+-- how many steps of the sweep the seats have taken together
+abbrev pub all_swept : List Seated → ℕ
+all_swept seats = sum_by (λ seat. seat.sweeps) seats
+
+-- The machine has the runner's sizes and goes on from all that its seats have seen; what each was answered are all ended
+-- operations of its actor; and its steps of the sweep are those of the seats.
+pub record IsGathered (runner : Room) (seats : List Seated) (machine : Taken) : Type 0 where
+  pub limits : machine.limits ≡ runner.limits
+  pub steps : (k : ℕ) (seat : Seated) → slice_get seats k ≡ Some seat → GoesOn seat.seen.steps machine.steps
+  pub answers : (k : ℕ) (seat : Seated) → slice_get seats k ≡ Some seat → AreAnswersOf seat.actor (state_of machine).events seat.answers
+  pub sweeps : sweeps_in machine ≡ all_swept seats
+
+-- the machine that a record tells of
+abbrev pub recorded : Record → Taken
+recorded made = record { limits = made.limits; steps = made.steps.items }
+
+-- The record is that of the machine; where it found no memory the machine comes back, and where a seat isn't there all
+-- that was handed in.
+abbrev pub IsFinished : Room → List Seated → Result Record Unfinished → Type 0
+IsFinished runner seats (Ok made) = AreHere runner.seats seats × IsRecordOf (recorded made) made × IsGathered runner seats (recorded made)
+IsFinished runner seats (Err (Memory machine)) = AreHere runner.seats seats × IsGathered runner seats machine
+IsFinished runner seats (Err (Missing back handed)) = IsMissing runner.seats seats × (back ≡ runner) × (handed.items ≡ seats)

@@ -1,0 +1,9 @@
+pub mod Boards
+pub mod Plays
+pub mod Gate
+pub mod Seats
+pub mod Holds
+pub mod Stepping
+pub mod Performing
+pub mod Opening
+pub mod Finishing

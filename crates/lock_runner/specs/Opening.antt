@@ -1,0 +1,33 @@
+-- A new runner and its seats.
+use Rattle.std.specs.Prelude.{◌≡◌, ℕ, zero, suc, ◌+◌, ◌≤◌, ◌⊎◌, List, [], ◌∷◌, None}
+use Rattle.ctrie_base.specs.declared.refusals.Refusal.{Refusal}
+use Rattle.ctrie_base.specs.declared.refusals.Refusal.TheVariants.{BadLimits, Memory}
+use Rattle.machine_model.specs.declared.steps.Limits.{Limits}
+use Rattle.machine_model.specs.Machine.{AreLimits}
+use Rattle.atomic_table.specs.Seated.{TableId}
+use Rattle.step_machine.specs.Machines.{fresh}
+use Rattle.lock_runner.specs.Seats.{Room, Seated}
+
+-- the sizes are in range, and so is the number of seats
+abbrev pub AreTerms : Limits → ℕ → Type 0
+AreTerms limits seats = AreLimits limits × (1 ≤ seats) × (seats ≤ limits.actors)
+
+-- they are out of range, or memory was lacking for what is in range
+abbrev pub RefusesTerms : Limits → ℕ → Refusal → Type 0
+RefusesTerms limits seats refusal = ((¬ AreTerms limits seats) × (refusal ≡ BadLimits)) ⊎ (AreTerms limits seats × (refusal ≡ Memory))
+
+-- a seat that has taken no step
+abbrev pub fresh_seat : TableId → Limits → ℕ → Seated
+fresh_seat id limits actor =
+    record { runner = id; actor = actor; seen = fresh limits; answers = []; running = None; sweeps = 0; heard = 0 }
+
+-- so many of them, for the actors from this one on
+abbrev pub fresh_seats : TableId → Limits → ℕ → ℕ → List Seated
+fresh_seats id limits actor zero = []
+fresh_seats id limits actor (suc n) = fresh_seat id limits actor ∷ fresh_seats id limits (actor + 1) n
+
+-- the runner has these sizes, and a fresh seat for each of its actors
+pub record IsMade (limits : Limits) (seats : ℕ) (runner : Room) (made : List Seated) : Type 0 where
+  pub sizes : runner.limits ≡ limits
+  pub number : runner.seats ≡ seats
+  pub fresh : made ≡ fresh_seats runner.id limits 1 seats

@@ -1,0 +1,61 @@
+-- What the calls of a runner promise.
+use Rattle.std.specs.Prelude.{◌≡◌, ℕ, ◌≤◌, ◌⊎◌, List, [], ◌∷◌, ◌++◌, Option, Some, None, Result, Ok, Err}
+use denote.Ref.{Bor}
+use Rattle.history.specs.declared.calls.Call.{Call}
+use Rattle.history.specs.declared.replies.Reply.{Reply}
+use Rattle.actor_history.specs.declared.accounts.Answer.{Answer}
+use Rattle.actor_history.specs.declared.accounts.Running.{Running}
+use Rattle.lock_runner.specs.declared.seats.Stop.{Stop}
+use Rattle.lock_runner.specs.Seats.{Seated}
+use Rattle.lock_runner.specs.Stepping.{HasGoneOn, IsUntold, IsAnswered, Runs, IsNotBegun, IsNotTaken}
+
+-- ---- going on
+
+-- the operation that the seat has was answered; or it runs still, and it is told why
+abbrev pub CarriesOn : Result (Unit {0}) Stop → Seated → Seated → Type 0
+CarriesOn (Ok done) before after = (operation : Running) × IsAnswered operation before after
+CarriesOn (Err stop) before after = IsUntold before after × (after.running ≡ before.running) × IsNotTaken stop after
+
+-- one answer more stands last, which is that of the seat's operation, and its reply is lent; or there is none more, the
+-- operation runs still, and it is told why
+abbrev pub AnswersRunning : Result (Bor Reply) Stop → Seated → Seated → Type 0
+AnswersRunning (Ok reply) before after =
+    (operation : Running) × (before.running ≡ Some operation) × (after.running ≡ None)
+    × (answer : Answer) × (after.answers ≡ before.answers ++ answer ∷ []) × (answer.reply ≡ reply.now)
+    × (answer.id ≡ operation.id) × (answer.call ≡ operation.call) × (answer.began ≡ operation.began)
+AnswersRunning (Err stop) before after = (after.answers ≡ before.answers) × (after.running ≡ before.running) × IsNotTaken stop after
+
+abbrev pub Resumes : Result (Bor Reply) Stop → Seated → Seated → Type 0
+Resumes result before after = HasGoneOn before after × (after.sweeps ≡ before.sweeps) × AnswersRunning result before after
+
+-- ---- beginning and going on
+
+-- the call was answered, and began where no event was that the seat had heard of
+pub record IsPerformed (asked : Call) (before after : Seated) : Type 0 where
+  pub on : HasGoneOn before after
+  pub sweeps : after.sweeps ≡ before.sweeps
+  pub idle : after.running ≡ None
+  pub answer : Answer
+  pub last : after.answers ≡ before.answers ++ answer ∷ []
+  pub call : answer.call ≡ asked
+  pub unheard : before.heard ≤ answer.began
+
+-- either nothing began, or the call runs still; and it is told why
+abbrev pub HasStopped : Stop → Seated → Call → Seated → Type 0
+HasStopped stop before call after =
+    ((after.running ≡ before.running) × IsNotBegun stop call after) ⊎ (Runs call before.heard after × IsNotTaken stop after)
+
+abbrev pub CarriesOut : Result (Unit {0}) Stop → Seated → Call → Seated → Type 0
+CarriesOut (Ok done) before call after = IsPerformed call before after
+CarriesOut (Err stop) before call after = IsUntold before after × HasStopped stop before call after
+
+-- one answer more stands last, which is that of the call, and its reply is lent; it began where no event was that the seat
+-- had heard of. Or there is none more, and the call has stopped.
+abbrev pub AnswersCall : Result (Bor Reply) Stop → Seated → Call → Seated → Type 0
+AnswersCall (Ok reply) before call after =
+    (after.running ≡ None) × (answer : Answer) × (after.answers ≡ before.answers ++ answer ∷ []) × (answer.reply ≡ reply.now)
+    × (answer.call ≡ call) × (before.heard ≤ answer.began)
+AnswersCall (Err stop) before call after = (after.answers ≡ before.answers) × HasStopped stop before call after
+
+abbrev pub Performs : Result (Bor Reply) Stop → Seated → Call → Seated → Type 0
+Performs result before call after = HasGoneOn before after × (after.sweeps ≡ before.sweeps) × AnswersCall result before call after

@@ -1,0 +1,99 @@
+-- What one step makes of a seat.
+use Rattle.std.specs.Prelude.{◌≡◌, ℕ, ◌+◌, ◌<◌, ◌≤◌, Bool, true, false, MatchOption, List, [], ◌∷◌, ◌++◌, Option, Some, None, Result, Ok, Err}
+use Rattle.ctrie_base.specs.declared.refusals.Refusal.{Refusal}
+use Rattle.ctrie_base.specs.declared.refusals.Refusal.TheVariants.{Idle, Spent}
+use Rattle.history.specs.declared.calls.Call.{Call}
+use Rattle.machine_model.specs.declared.steps.Step.{Step}
+use Rattle.machine_model.specs.declared.steps.Step.TheVariants as step
+use Rattle.machine_model.specs.declared.steps.Swept.{Swept}
+use Rattle.machine_model.specs.declared.steps.Outcome.TheVariants as outcome
+use Rattle.machine_model.specs.Machine.{next}
+use Rattle.step_machine.specs.Machines.{Taken, state_of, with_step}
+use Rattle.actor_history.specs.declared.accounts.Answer.{Answer}
+use Rattle.actor_history.specs.declared.accounts.Running.{Running}
+use Rattle.lock_runner.specs.declared.seats.Stop.{Stop}
+use Rattle.lock_runner.specs.declared.seats.Stop.TheVariants.{Denied, Memory, Ahead}
+use Rattle.lock_runner.specs.Boards.{GoesOn}
+use Rattle.lock_runner.specs.Seats.{Seated}
+use Rattle.lock_runner.specs.Holds.{events_in}
+
+-- the seat is the same one, and its runner's machine has gone on
+pub record HasGoneOn (before after : Seated) : Type 0 where
+  pub runner : after.runner ≡ before.runner
+  pub actor : after.actor ≡ before.actor
+  pub heard : after.heard ≡ before.heard
+  pub limits : after.seen.limits ≡ before.seen.limits
+  pub steps : GoesOn before.seen.steps after.seen.steps
+
+-- nothing was answered or swept
+pub record IsUntold (before after : Seated) : Type 0 where
+  pub on : HasGoneOn before after
+  pub answers : after.answers ≡ before.answers
+  pub sweeps : after.sweeps ≡ before.sweeps
+
+-- the machine denies the step, as the seat sees it now
+abbrev pub IsDenied : Seated → Step → Refusal → Type 0
+IsDenied seat s refusal = next (state_of seat.seen) s ≡ Err refusal
+
+-- ---- a begin
+
+-- the actor runs this call, which began where no event was that the seat had heard of
+abbrev pub Runs : Call → ℕ → Seated → Type 0
+Runs call heard seat = (operation : Running) × (seat.running ≡ Some operation) × (operation.call ≡ call) × (heard ≤ operation.began)
+
+-- why nothing began: fewer events than were heard of, before all else the machine's denial, or want of memory
+abbrev pub IsNotBegun : Stop → Call → Seated → Type 0
+IsNotBegun Ahead call seat = events_in seat.seen < seat.heard
+IsNotBegun Memory call seat = Unit {0}
+IsNotBegun (Denied refusal) call seat = (seat.heard ≤ events_in seat.seen) × IsDenied seat (step.Begin seat.actor call) refusal
+
+abbrev pub Begins : Result (Unit {0}) Stop → Seated → Call → Seated → Type 0
+Begins (Ok done) before call after = IsUntold before after × Runs call before.heard after
+Begins (Err stop) before call after = IsUntold before after × (after.running ≡ before.running) × IsNotBegun stop call after
+
+-- ---- a step of the operation
+
+-- the operation was answered
+pub record IsAnswered (operation : Running) (before after : Seated) : Type 0 where
+  pub on : HasGoneOn before after
+  pub sweeps : after.sweeps ≡ before.sweeps
+  pub ran : before.running ≡ Some operation
+  pub idle : after.running ≡ None
+  pub answer : Answer
+  pub last : after.answers ≡ before.answers ++ answer ∷ []
+  pub id : answer.id ≡ operation.id
+  pub call : answer.call ≡ operation.call
+  pub began : answer.began ≡ operation.began
+
+-- why no step was taken: without an operation the seat is idle, else the machine has taken all its steps
+abbrev pub IsNotTaken : Stop → Seated → Type 0
+IsNotTaken Ahead seat = ⊥
+IsNotTaken Memory seat = Unit {0}
+IsNotTaken (Denied refusal) seat = IsDenied seat (step.Go seat.actor) refusal × MatchOption seat.running (refusal ≡ Idle) (λ operation. refusal ≡ Spent)
+
+abbrev pub Goes : Result Bool Stop → Seated → Seated → Type 0
+Goes (Ok true) before after = (operation : Running) × IsAnswered operation before after
+Goes (Ok false) before after = IsUntold before after × (after.running ≡ before.running) × ¬ (before.running ≡ None)
+Goes (Err stop) before after = IsUntold before after × (after.running ≡ before.running) × IsNotTaken stop after
+
+-- ---- a step of the sweep
+
+-- the machine took a step of the sweep last
+pub record IsSwept (swept : Swept) (before after : Seated) : Type 0 where
+  pub sweeps : after.sweeps ≡ before.sweeps + 1
+  pub board : Taken
+  pub last : after.seen ≡ with_step board step.Sweep
+  pub taken : next (state_of board) step.Sweep ≡ Ok (outcome.Swept swept, state_of after.seen)
+
+-- why none was taken: the machine's denial, or want of memory
+abbrev pub IsNotSwept : Stop → Seated → Type 0
+IsNotSwept Ahead seat = ⊥
+IsNotSwept Memory seat = Unit {0}
+IsNotSwept (Denied refusal) seat = IsDenied seat step.Sweep refusal
+
+abbrev pub SweepsOnce : Result Swept Stop → Seated → Seated → Type 0
+SweepsOnce (Ok swept) before after = IsSwept swept before after
+SweepsOnce (Err stop) before after = (after.sweeps ≡ before.sweeps) × IsNotSwept stop after
+
+abbrev pub Sweeps : Result Swept Stop → Seated → Seated → Type 0
+Sweeps result before after = HasGoneOn before after × (after.answers ≡ before.answers) × (after.running ≡ before.running) × SweepsOnce result before after

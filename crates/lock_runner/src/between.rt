@@ -1,0 +1,8 @@
+//! What may come between two steps.
+
+/// What a caller does between two steps of a call.
+pub trait Between {
+    /// Is called after each step of a call but its last, with the gate open: so many steps of this seat's
+    /// call were taken.
+    fn between(&self, seat: u8, taken: u64);
+}

@@ -1,0 +1,83 @@
+//! Seats: what each thread keeps of its own calls.
+ghost use Rattle.std.specs.Prelude.{◌≡◌, max};
+ghost use Rattle.lock_runner.specs.declared.seats.Stop.TheVariants.{Memory};
+
+use crate::gate::View;
+use actor_history::{Answer, Running};
+use ctrie_base::Refusal;
+use std::alloc::{AllocError, AllocFailed};
+use std::marker::Model;
+use step_machine::Machine;
+
+/// The seat at the table that the gate is.
+pub(crate) type Pass = atomic_table::Seat<Machine, View>;
+
+/// One actor's seat at a runner. A call that is made with it is that actor's.
+#[derive(Drop)]
+pub struct Seat {
+    pub(crate) pass: Pass,
+    pub(crate) actor: u8,
+    pub(crate) answers: Vec<Answer>,
+    pub(crate) running: Option<Running>,
+    pub(crate) sweeps: u64,
+    pub(crate) heard: u64,
+}
+
+impl Model for Seat {
+    ghost use Rattle.lock_runner.specs.Seats.{Seated, seated, IsSeated};
+
+    ghost Value = { Seated };
+
+    ghost view = { λ s. seated s.pass.table_id s.pass.me s.actor s.answers.items s.running s.sweeps s.heard };
+
+    ghost invariant = { λ s. IsSeated s.pass.me s.actor s.answers.items s.running s.sweeps };
+}
+
+/// Why a call stopped.
+#[derive(Clone, Copy, Debug, PartialEq, Eq)]
+pub enum Stop {
+    /// The machine denied the step.
+    Denied(Refusal),
+    /// A growth was refused.
+    Memory,
+    /// Fewer events are recorded than the seat has heard of.
+    Ahead,
+}
+
+impl From<AllocError> for Stop {
+    ghost from_gives = { λ _ s. s ≡ Memory };
+
+    fn from(_e: AllocError) -> Stop {
+        Stop::Memory
+    }
+}
+
+impl Seat {
+    /// The operations that the seat's calls ended, in the order of their ends.
+    pub fn answers(&self) -> &[Answer]
+        ensures { result.now ≡ self.now.answers }
+    {
+        self.answers.as_slice()
+    }
+
+    /// How many steps of the sweep were taken with this seat.
+    pub fn sweeps(&self) -> u64
+        ensures { result ≡ self.now.sweeps }
+    {
+        self.sweeps
+    }
+
+    /// Tells the seat that so many events are recorded. A call that finds fewer stops with `Ahead`.
+    pub fn hear(&mut self, events: u64)
+        ensures { self.new ≡ record self.old { heard = max self.old.heard events } }
+    {
+        self.heard = self.heard.max(events);
+    }
+
+    /// The greatest number of events of which the seat was told, 0 at first.
+    pub fn heard(&self) -> u64
+        ensures { result ≡ self.now.heard }
+    {
+        self.heard
+    }
+}

@@ -1,0 +1,59 @@
+//! What the tests share.
+
+ghost use Rattle.std.specs.Prelude.{IfOk};
+ghost use Rattle.lock_runner.specs.Seats.{IsSeatOf};
+
+use ctrie_base::{HashKind, Refusal};
+use history::{Call, Reply};
+use lock_runner::{Between, Runner, Seat};
+use machine_model::Limits;
+use std::alloc::Global;
+
+/// Nothing comes between two steps.
+pub(crate) struct Nothing;
+
+impl Between for Nothing {
+    fn between(&self, _seat: u8, _taken: u64) {}
+}
+
+pub(crate) fn limits(slots: u32, actors: u8) -> Limits {
+    Limits {
+        slots,
+        actors,
+        hash: HashKind::Low,
+    }
+}
+
+pub(crate) fn get(key: u64) -> Call {
+    Call::Get { handle: 0, key }
+}
+
+pub(crate) fn put(key: u64, value: u64) -> Call {
+    Call::Put {
+        handle: 0,
+        key,
+        value,
+    }
+}
+
+/// Whether the reply is the value that the key had.
+pub(crate) fn is_found(reply: &Reply, value: Option<u64>) -> bool {
+    match reply {
+        Reply::Found(found) => *found == value,
+        _ => false,
+    }
+}
+
+/// A runner of two actors, and their seats.
+pub(crate) fn two_seats(alloc: Global) -> Result<(Runner, Seat, Seat), Refusal>
+    ensures { IfOk result (λ made. IsSeatOf made.0 made.1 × IsSeatOf made.0 made.2) }
+{
+    let (runner, mut seats) = Runner::new(alloc, limits(64, 2), 2)?;
+    let Some(two) = seats.pop() else {
+        return Err(Refusal::BadLimits);
+    };
+    let Some(one) = seats.pop() else {
+        return Err(Refusal::BadLimits);
+    };
+    Ok((runner, one, two))
+}
