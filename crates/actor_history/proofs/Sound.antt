@@ -15,10 +15,10 @@ use Rattle.machine_model.specs.declared.steps.Limits.{Limits}
 use Rattle.machine_model.specs.declared.steps.Step.{Step}
 use Rattle.machine_model.specs.declared.steps.Outcome.{Outcome}
 use Rattle.machine_model.specs.States.{State, first_state, operation_of}
-use Rattle.machine_model.specs.Machine.{run, with_begin, sweep_by}
+use Rattle.machine_model.specs.Machine.{run, with_begin}
 use Rattle.machine_model.specs.Acting.{marked, gone}
 use Rattle.machine_model.proofs.Moves.{Moves, Begins, Goes, Ends, Sweeps, begun_operation}
-use Rattle.machine_model.proofs.Actors.{after_marks, marks_by, gone_actors, begin_actors, sweep_actors}
+use Rattle.machine_model.proofs.Actors.{after_marks, marks_by, gone_actors, begin_actors}
 use Rattle.machine_model.proofs.Frames.{limits_kept}
 use Rattle.machine_model.proofs.Found.{none_found}
 use Rattle.machine_model.proofs.Along.{along}
@@ -47,7 +47,7 @@ actors_length state s o after (Begins {actor = actor} {call = call} d) =
 actors_length state s o after (Goes {actor = actor} {operation = operation} d is a g) =
     ap (λ xs. length xs) (gone_actors state actor operation) ∙ marks_length (marks_by state (Some operation)) _ ∙ length-set state.actors _ _
 actors_length state s o after (Ends d is a) = length-set state.actors _ _
-actors_length state s o after (Sweeps spent) = ap (λ xs. length xs) (sweep_actors state _)
+actors_length state s o after (Sweeps spent) = refl
 
 -- ---- how many have begun
 

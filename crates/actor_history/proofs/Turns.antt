@@ -17,13 +17,13 @@ use Rattle.machine_model.specs.declared.steps.Outcome.{Outcome}
 use Rattle.machine_model.specs.declared.steps.Outcome.TheVariants as outcome
 use Rattle.machine_model.specs.States.{State, operation_of}
 use Rattle.machine_model.specs.Acting.{marked, operation_after, gone, ended}
-use Rattle.std.specs.Prelude.{◌+◌, nat_le}
+use Rattle.std.specs.Prelude.{◌+◌}
 use Rattle.std.proofs.Common.{leb-true}
 use Rattle.std.proofs.lemmas.Option.{none-some}
-use Rattle.machine_model.specs.Machine.{begin_denial, go_denial, with_begin, scanned, advanced, is_passed, sweep_by}
+use Rattle.machine_model.specs.Machine.{begin_denial, go_denial, with_begin, swept}
 use Rattle.machine_model.specs.Operations.{action_of}
 use Rattle.machine_model.proofs.Moves.{Moves, Begins, Goes, Ends, Sweeps, begun_operation}
-use Rattle.machine_model.proofs.Actors.{after_marks, marks_by, gone_actors, begin_actors, sweep_actors}
+use Rattle.machine_model.proofs.Actors.{after_marks, marks_by, gone_actors, begin_actors}
 use Rattle.machine_model.proofs.Frames.{acted_framed}
 
 -- the id and the call of an operation
@@ -131,26 +131,11 @@ leave state k operation answer is after actors events =
 
 -- ---- each step
 
-sweep_events : (state : State) (ripe : _) → (sweep_by state ripe).1.events ≡ state.events
-sweep_events state ripe = grind arith
-
-scan_tells : (state : State) (b passed : Bool) → (swept : _) × ((if b then scanned state passed else advanced state).0 ≡ outcome.Swept swept)
-scan_tells state true passed = (_, refl)
-scan_tells state false passed = (_, refl)
-
-sweep_tells : (state : State) (ripe : _) → (swept : _) × ((sweep_by state ripe).0 ≡ outcome.Swept swept)
-sweep_tells state None = scan_tells state (nat_le state.cursor state.limits.actors) (is_passed state.epoch (operation_of state state.cursor))
-sweep_tells state (Some r) = (_, refl)
-
 no_actor : {A : Type 0} → 0 < 0 → A
 no_actor h = absurd (omega arith)
 
-rest : (state : State) (ripe : _) (after : State) → after.actors ≡ (sweep_by state ripe).1.actors → after.events ≡ (sweep_by state ripe).1.events →
-    Turns state after step.Sweep (sweep_by state ripe).0
-rest state ripe after actors events =
-    let told = sweep_tells state ripe in
-    subst (λ o. Turns state after step.Sweep o) (sym told.1)
-    (Rests told.0 (λ j. ap (λ xs. ran xs j) (actors ∙ sweep_actors state ripe)) (events ∙ sweep_events state ripe))
+rest : (state after : State) → after.actors ≡ state.actors → after.events ≡ state.events → Turns state after step.Sweep (swept state).0
+rest state after actors events = Rests _ (λ j. ap (λ xs. ran xs j) actors) events
 
 -- each step that is taken
 pub turns : (state : State) (s : Step) (o : Outcome) (after : State) → length state.actors ≡ state.limits.actors → Moves state s o after → Turns state after s o
@@ -161,4 +146,4 @@ turns state s o after fits (Goes {actor = suc k} {operation = operation} d is a 
     Stays k (operation.id, operation.call) _ (ap shown is) (gone_ran state k operation is) (gone_events state (suc k) operation)
 turns state s o after fits (Ends {actor = zero} {operation = operation} d is a) = absurd (none-some operation is)
 turns state s o after fits (Ends {actor = suc k} {operation = operation} {answer = answer} d is a) = leave state k operation answer is _ refl refl
-turns state s o after fits (Sweeps spent) = rest state _ _ refl refl
+turns state s o after fits (Sweeps spent) = rest state _ refl refl

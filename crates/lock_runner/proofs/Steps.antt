@@ -10,7 +10,7 @@ use Rattle.machine_model.specs.declared.steps.Step.{Step}
 use Rattle.machine_model.specs.declared.steps.Step.TheVariants as step
 use Rattle.machine_model.specs.declared.steps.Outcome.{Outcome}
 use Rattle.machine_model.specs.declared.steps.Outcome.TheVariants as outcome
-use Rattle.machine_model.specs.declared.steps.Swept.{Swept}
+use Rattle.epochs.specs.declared.limbo.Swept.{Swept}
 use Rattle.machine_model.specs.States.{State}
 use Rattle.machine_model.proofs.Moves.{moved}
 use Rattle.actor_history.proofs.Turns.{Turns, Rests, turns}

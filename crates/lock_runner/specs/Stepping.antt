@@ -5,7 +5,7 @@ use Rattle.ctrie_base.specs.declared.refusals.Refusal.TheVariants.{Idle, Spent}
 use Rattle.history.specs.declared.calls.Call.{Call}
 use Rattle.machine_model.specs.declared.steps.Step.{Step}
 use Rattle.machine_model.specs.declared.steps.Step.TheVariants as step
-use Rattle.machine_model.specs.declared.steps.Swept.{Swept}
+use Rattle.epochs.specs.declared.limbo.Swept.{Swept}
 use Rattle.machine_model.specs.declared.steps.Outcome.TheVariants as outcome
 use Rattle.machine_model.specs.Machine.{next}
 use Rattle.step_machine.specs.Machines.{Taken, state_of, with_step}

@@ -6,8 +6,8 @@ ghost use Rattle.lock_runner.specs.Stepping.{Begins, Goes, Sweeps};
 use crate::runner::Runner;
 use crate::seats::{Seat, Stop};
 use actor_history::{Answer, Running};
+use epochs::Swept;
 use history::Call;
-use machine_model::Swept;
 use std::sync::Wait;
 use step_machine::{Outcome, Step};
 
