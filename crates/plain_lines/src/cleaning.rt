@@ -1,7 +1,6 @@
 //! CLEAN: below an indirection tombs give way to their singles.
 
-ghost use Rattle.std.specs.Prelude.{◌≡◌, ◌<◌, ◌-◌, ◌^◌, nat_eq, IfOk};
-ghost use lib.Pointwise.{pointwise};
+ghost use Rattle.std.specs.Prelude.{◌≡◌, ◌<◌, ◌-◌, ◌^◌, IfOk};
 ghost use Rattle.slot_arena.specs.Heaps.{node_at};
 ghost use Rattle.machine_model.specs.Cleaning.{clean_next, is_single, leaves_single, cleaned, clean_action, clean_after_read, clean_after_main, clean_after_entry, after_child, clean_after_tomb, clean_after_contracted, clean_after};
 ghost use Rattle.plain_state.specs.Seen.{seen};

@@ -10,8 +10,8 @@ ghost use Rattle.plain_state.specs.Seen.{seen};
 use crate::builders::{contracted, with_replaced};
 use machine_model::{Action, After, Climb, ClimbLine, Line, Operation, Purpose, Read, RootLine};
 use plain_reading::{
-    above, changed_reply, current, depth_of, flag_of, handle_of, has_flag, hash_in, is_below_root,
-    is_start, position_of, read_action, read_step, reading, root_action, root_after, swapping,
+    above, changed_reply, current, depth_of, flag_of, has_flag, hash_in, is_below_root, is_start,
+    position_of, read_action, read_step, reading, root_action, root_after, swapping, word_of,
 };
 use plain_state::Parts;
 use slot_arena::{Node, Ref, Refs};
@@ -227,7 +227,7 @@ pub fn climb_after(
             after_contracted(operation, climb, *main, parts.heap.next_ref())
         }
         ClimbLine::Root { climb, root } => {
-            let word = parts.word(handle_of(operation.call));
+            let word = word_of(parts, operation);
             let after = root_after(&parts.heap, operation.access, word, *root);
             after_root(parts, operation, climb, after)
         }

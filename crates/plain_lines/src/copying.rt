@@ -9,7 +9,7 @@ use arrayvec::ArrayVec;
 use history::{Call, Reply};
 use machine_model::{Action, After, Complete, CopyLine, Descriptor, Line, Operation, Read};
 use plain_reading::{
-    complete_action, complete_after, completing, handle_of, is_plain, read_action, read_step,
+    complete_action, complete_after, completing, is_plain, read_action, read_step, word_of,
 };
 use plain_state::Parts;
 use slot_arena::{Node, Ref};
@@ -173,11 +173,10 @@ pub fn copy_after(parts: &Parts, operation: &Operation, line: &CopyLine) -> Line
             after_read(operation, *root, read_step(parts, operation, *read))
         }
         CopyLine::Offer(offer) => {
-            let word = parts.word(handle_of(operation.call));
-            after_offer(*offer, is_plain(word, offer.root))
+            after_offer(*offer, is_plain(word_of(parts, operation), offer.root))
         }
         CopyLine::Complete(complete) => {
-            let word = parts.word(handle_of(operation.call));
+            let word = word_of(parts, operation);
             let after = complete_after(&parts.heap, operation.access, word, *complete);
             after_complete(operation, after)
         }

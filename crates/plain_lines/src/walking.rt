@@ -8,7 +8,7 @@ ghost use Rattle.plain_state.specs.Seen.{seen};
 use crate::pairs::pairs_by_key;
 use history::{Call, Pairs, Reply};
 use machine_model::{Action, After, Line, Operation, Read, WalkLine};
-use plain_reading::{handle_of, read_action, read_step, reading};
+use plain_reading::{read_action, read_step, reading, word_of};
 use plain_state::{Parts, root_of};
 use slot_arena::{Node, Ref, Refs};
 use std::alloc::AllocError;
@@ -97,7 +97,7 @@ fn after_entry(
 fn reading_root(parts: &Parts, operation: &Operation) -> Line
     ensures { result ≡ walk_after (seen parts.now) operation.now WalkLine.Root }
 {
-    let word = parts.word(handle_of(operation.call));
+    let word = word_of(parts, operation);
     Line::Walk(WalkLine::Read {
         read: reading(root_of(word)),
         todo: Refs::new(parts.alloc),

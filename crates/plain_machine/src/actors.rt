@@ -1,6 +1,6 @@
 //! Actors, and on which handles their operations run.
 
-ghost use Rattle.std.specs.Prelude.{◌≡◌, option_map};
+ghost use Rattle.std.specs.Prelude.{◌≡◌};
 ghost use Rattle.machine_model.specs.Machine.{is_actor, is_running, names, runs_on};
 ghost use Rattle.plain_state.specs.Seen.{seen};
 

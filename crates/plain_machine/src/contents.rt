@@ -2,7 +2,7 @@
 
 ghost use Rattle.std.specs.Prelude.{◌≡◌, ◌≤◌, ◌++◌, length, IfOk, OnOk};
 ghost use Rattle.std.specs.List.{flat_map};
-ghost use Rattle.slot_arena.specs.Heaps.{named_from, entries_of, node_at, logical_main};
+ghost use Rattle.slot_arena.specs.Heaps.{named_from, entries_of, node_at};
 ghost use Rattle.machine_model.specs.Contents.{pairs_below, content_at};
 ghost use Rattle.plain_state.specs.Seen.{seen};
 

@@ -1,6 +1,6 @@
 //! Which handle numbers are taken.
 
-ghost use Rattle.std.specs.Prelude.{◌≡◌, ◌+◌, ◌≤◌};
+ghost use Rattle.std.specs.Prelude.{◌≡◌};
 ghost use Rattle.std.specs.List.{list_any};
 ghost use Rattle.machine_model.specs.Machine.{reserved_by, is_number, is_taken, handles_taken, least_free};
 ghost use Rattle.plain_state.specs.Seen.{seen};

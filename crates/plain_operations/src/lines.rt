@@ -18,7 +18,7 @@ use plain_lines::{
     build_after, clean_after, climb_after, climbed, climbing, copy_after, copy_of_climb,
     going_down, higher, key_after, new_try, renew_after, walk_after,
 };
-use plain_reading::{current, handle_of, reading, root_after, swap_after};
+use plain_reading::{current, reading, root_after, swap_after, word_of};
 use plain_state::{Parts, PlainHeap};
 use slot_arena::{Node, Ref, Refs};
 use std::alloc::{AllocError, Global};
@@ -76,7 +76,7 @@ fn first_root_after(parts: &Parts, operation: &Operation, line: RootLine) -> Aft
     ensures { result ≡ root_after (seen parts.now).heap operation.now.access
         (word_at (seen parts.now) (handle_of operation.now.call)) line }
 {
-    let word = parts.word(handle_of(operation.call));
+    let word = word_of(parts, operation);
     root_after(&parts.heap, operation.access, word, line)
 }
 
@@ -182,7 +182,7 @@ fn after_swap(
     ensures { IfOk result
         (λ line. line ≡ line_after (seen parts.now) operation.now (lines.Swap purpose.now swap.now)) }
 {
-    let word = parts.word(handle_of(operation.call));
+    let word = word_of(parts, operation);
     match swap_after(&parts.heap, operation.access, word, swap) {
         After::Goes(next) => Ok(Line::Swap {
             purpose: same_purpose(purpose)?,

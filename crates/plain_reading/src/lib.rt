@@ -16,7 +16,7 @@ pub use paths::{
     above, current, depth_of, flag_in, flag_of, has_flag, hash_in, index_in, is_below_root,
     is_start, list_depth, position_of, start_of,
 };
-pub use reads::{committed_by, read_action, read_after, read_step, reading};
+pub use reads::{committed_by, read_action, read_after, read_step, reading, word_of};
 pub use swaps::{
     complete_action, complete_after, completing, is_plain, root_action, root_after, stands_in,
     swap_action, swap_after, swapping,

@@ -2,6 +2,8 @@
 
 ghost use Rattle.std.specs.Prelude.{◌≡◌};
 ghost use Rattle.machine_model.specs.Reading.{read_action, after_prev, after_ask, after_decide, after_restore, read_after, at_indirection, read_step, reading, committed_so, committed_by};
+ghost use Rattle.machine_model.specs.Calls.{handle_of};
+ghost use Rattle.machine_model.specs.States.{word_at};
 ghost use Rattle.slot_arena.specs.declared.nodes.Prev.TheVariants.{Pending};
 ghost use Rattle.machine_model.specs.declared.reading.After.TheVariants.{Goes};
 ghost use Rattle.plain_state.specs.Seen.{seen};
@@ -143,11 +145,18 @@ fn at_indirection(indirection: Ref, after: After<ReadLine, Ref>) -> After<Read, 
     }
 }
 
+/// The root word of the handle on which the operation was called.
+pub fn word_of(parts: &Parts, operation: &Operation) -> RootWord
+    ensures { result ≡ word_at (seen parts.now) (handle_of operation.now.call) }
+{
+    parts.word(handle_of(operation.call))
+}
+
 /// What comes after a step of a READ of this operation.
 pub fn read_step(parts: &Parts, operation: &Operation, read: Read) -> After<Read, Ref>
     ensures { result ≡ read_step (seen parts.now) operation.now read }
 {
-    let word = parts.word(handle_of(operation.call));
+    let word = word_of(parts, operation);
     let after = read_after(
         &parts.heap,
         operation.access,

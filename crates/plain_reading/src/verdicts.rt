@@ -1,8 +1,7 @@
 //! What a step that decides a main node comes to.
 
-ghost use Rattle.std.specs.Prelude.{◌≡◌, Some};
-ghost use Rattle.machine_model.specs.Reading.{is_licensed, is_pending, verdict, verdict_by, committed_so};
-ghost use Rattle.slot_arena.specs.Heaps.{prev_at};
+ghost use Rattle.std.specs.Prelude.{◌≡◌};
+ghost use Rattle.machine_model.specs.Reading.{is_licensed, is_pending, verdict, verdict_by};
 ghost use Rattle.plain_reading.specs.Verdicts.{meant};
 
 use plain_state::PlainHeap;
