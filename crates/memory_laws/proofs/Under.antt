@@ -1,7 +1,7 @@
 -- What stands under each reference after a write, a taking and a freeing: only what is written, taken or freed changes.
-use Rattle.std.proofs.Common.{◌≡◌, ℕ, zero, suc, ◌+◌, ◌*◌, ◌/◌, ◌%◌, ◌^◌, ◌<◌, ◌≤◌, ◌==◌, Bool, true, false, cond, is_some, List, [], ◌∷◌, length, get_or, set, Option, Some, None, option_map, refl, sym, ap, ◌∙◌, subst, ◌⊎◌, inl, inr, eqb-true, eq-eqb, ne_eqb, arith}
+use Rattle.std.proofs.Common.{◌≡◌, ℕ, zero, suc, ◌+◌, ◌*◌, ◌/◌, ◌%◌, ◌^◌, ◌<◌, ◌≤◌, ◌==◌, Bool, true, false, cond, is_some, List, [], ◌∷◌, length, map, get_or, set, Option, Some, None, option_map, refl, sym, ap, ◌∙◌, subst, ◌⊎◌, inl, inr, eqb-true, eq-eqb, ne_eqb, arith}
 use Rattle.std.proofs.lemmas.Bool.{cases_eq, cases_Bool, false≢true, eqb-false}
-use Rattle.std.proofs.lemmas.List.{get_or-set_same, get_or-set_other, get_or-map}
+use Rattle.std.proofs.lemmas.List.{get_or-set_same, get_or-set_other, get_or-map, length-map}
 use Rattle.std.proofs.lemmas.Option.{none-some, same_Some, cond_some}
 use Rattle.slot_arena.specs.Refs.{ref_to, slot_of, birth_of}
 use Rattle.slot_arena.specs.declared.refs.Ref.{Ref}
@@ -9,8 +9,10 @@ use Rattle.slot_arena.specs.declared.nodes.Node.{Node}
 use Rattle.slot_arena.specs.declared.nodes.Prev.{Prev}
 use Rattle.slot_arena.specs.declared.nodes.Prev.TheVariants as prev
 use Rattle.slot_arena.specs.declared.nodes.Slot.{Slot}
-use Rattle.slot_arena.specs.Heaps.{Heap, stored, node_at, node_of, prev_at, prev_of, written, with_main, with_prev, main_changed, prev_changed, taken, take_from, freed, next_ref}
+use Rattle.slot_arena.specs.Heaps.{Heap, stored, node_at, node_of, prev_at, prev_of, written, with_main, with_prev, main_changed, prev_changed, taken, take_from, freed, next_ref, ref_in}
 use Rattle.machine_model.proofs.Found.{found_within}
+use Rattle.machine_model.proofs.Rest.{first_free}
+use Rattle.machine_model.proofs.Slots.{AddsUp}
 use Rattle.machine_model.proofs.Grown.{of_birth, standing}
 
 -- a reference is its birth and its slot
@@ -191,3 +193,43 @@ module _ (heap : Heap) (node : Node) (slot : ℕ) (free : List ℕ) (first : IsF
     | inl s ↦ same_slot_other_birth r other s
     | inr s ↦ ap (of_birth (birth_of r)) (get_or-set_other heap.slots slot (slot_of r) _ None s)
   ]
+
+-- ---- by the reference that is drawn
+
+-- a slot that isn't flagged is empty
+empty_slot : (o : Option Slot) → is_some o ≡ false → o ≡ None
+empty_slot None e = refl
+empty_slot (Some slot) e = absurd (false≢true (sym e))
+
+first_is_free : (slots : ℕ) (heap : Heap) → AddsUp slots heap → slots ≤ 2 ^ 16 → (slot : ℕ) (free : List ℕ) → heap.free ≡ slot ∷ free → IsFree heap slot
+first_is_free slots heap h small slot free e =
+    let (flagged, unused) = first_free (map is_some heap.slots) slot free (rw e at (h.rest)) in
+    let within : slot < length heap.slots = rw length-map at flagged in
+    (within, empty_slot _ (sym (get_or-map is_some heap.slots slot None false within) ∙ unused), omega (arith, h.size))
+
+module _ (slots : ℕ) (heap : Heap) (sound : AddsUp slots heap) (small : slots ≤ 2 ^ 16) (node : Node) (made : Ref) where
+  -- by what is free
+  taken_by : (free : List ℕ) → heap.free ≡ free → ref_in heap.births free ≡ Some made →
+      (standing (take_from heap node free) made ≡ Some (fresh_slot heap node)) × (standing heap made ≡ None) × ((r : Ref) → (r ≡ made → ⊥) → standing (take_from heap node free) r ≡ standing heap r)
+      × (birth_of made ≡ heap.births + 1)
+  taken_by [] e is = absurd (none-some made is)
+  taken_by (slot ∷ free) e is =
+      let first = first_is_free slots heap sound small slot free e in
+      subst (λ q. (standing (take_from heap node (slot ∷ free)) q ≡ Some (fresh_slot heap node)) × (standing heap q ≡ None) × ((r : Ref) → (r ≡ q → ⊥) → standing (take_from heap node (slot ∷ free)) r ≡ standing heap r)
+        × (birth_of q ≡ heap.births + 1)) (same_Some _ _ is)
+      (from_here heap node slot free first, none_before heap node slot free first, from_other heap node slot free first, sym (its_birth heap node slot free first))
+
+  pub taken_all : next_ref heap ≡ Some made →
+      (standing (taken heap node) made ≡ Some (fresh_slot heap node)) × (standing heap made ≡ None) × ((r : Ref) → (r ≡ made → ⊥) → standing (taken heap node) r ≡ standing heap r)
+      × (birth_of made ≡ heap.births + 1)
+  unfolding taken
+  taken_all is = taken_by heap.free refl is
+
+-- where no slot is free nothing is taken
+pub none_taken : (heap : Heap) (node : Node) → next_ref heap ≡ None → taken heap node ≡ heap
+unfolding taken
+none_taken heap node e = by_free heap.free e
+  where
+    by_free : (free : List ℕ) → ref_in heap.births free ≡ None → take_from heap node free ≡ heap
+    by_free [] e = refl
+    by_free (slot ∷ free) e = absurd (none-some _ (sym e))

@@ -153,17 +153,17 @@ pub data Claim : Type 0 where
   So : (fact : Bool) → Claim
 
 -- the claim is true in the heap, where S says which references name what was made under them
-unfoldable pub holds : (Ref → Type 0) → Heap → Claim → Type 0
-holds S heap (Is r wanted) = S r × (meets wanted (node_at heap r) ≡ true)
-holds S heap (Each rs wanted) = All (λ r. S r × (meets wanted (node_at heap r) ≡ true)) rs
-holds S heap (EntryIs main position wanted) =
-    S main × (position < length (entries_of (node_at heap main))) × S (entry_at heap main position) × (meets wanted (node_at heap (entry_at heap main position)) ≡ true)
-holds S heap (So fact) = fact ≡ true
+pub data Holds (S : Ref → Type 0) (heap : Heap) : Claim → Type 0 where
+  is : {r : Ref} {wanted : Wanted} → S r → meets wanted (node_at heap r) ≡ true → Holds S heap (Is r wanted)
+  each : {rs : List Ref} {wanted : Wanted} → All (λ r. S r × (meets wanted (node_at heap r) ≡ true)) rs → Holds S heap (Each rs wanted)
+  entry_is : {main : Ref} {position : ℕ} {wanted : Wanted} → S main → position < length (entries_of (node_at heap main)) →
+      S (entry_at heap main position) → meets wanted (node_at heap (entry_at heap main position)) ≡ true → Holds S heap (EntryIs main position wanted)
+  so : {fact : Bool} → fact ≡ true → Holds S heap (So fact)
 
 -- each of the claims is true
 abbrev pub AllHold : (Ref → Type 0) → Heap → List Claim → Type 0
 AllHold S heap [] = Unit {0}
-AllHold S heap (claim ∷ claims) = holds S heap claim × AllHold S heap claims
+AllHold S heap (claim ∷ claims) = Holds S heap claim × AllHold S heap claims
 
 -- ---- words and nodes
 
