@@ -5,3 +5,5 @@ pub mod Nodes
 pub mod Rooting
 pub mod Lines
 pub mod Keys
+pub mod Repairs
+pub mod Others

@@ -55,6 +55,7 @@ use Rattle.machine_model.specs.declared.lines.Line.{Line}
 use Rattle.machine_model.specs.declared.lines.Line.TheVariants as line
 use Rattle.machine_model.specs.Calls.{key_of}
 use Rattle.machine_model.specs.Paths.{above, depth_of}
+use Rattle.machine_model.specs.Cleaning.{is_single}
 
 -- ---- what a node is taken for
 
@@ -111,10 +112,6 @@ is_entry (Indirection generation main) = true
 is_entry (Single key value) = true
 is_entry node = false
 
-abbrev pub is_a_single : Node → Bool
-is_a_single (Single key value) = true
-is_a_single node = false
-
 abbrev pub flags : ℕ → Node → Bool
 flags flag (Branch bitmap entries) = has_flag bitmap flag
 flags flag node = false
@@ -134,7 +131,7 @@ meets AList node = is_list node
 meets BranchOrList node = is_branch_or_list node
 meets TombOrList node = is_tomb_or_list node
 meets AnEntry node = is_entry node
-meets ASingle node = is_a_single node
+meets ASingle node = is_single node
 meets (WithEntry position) node = nat_lt position (length (entries_of node))
 meets (AtMost n) node = nat_le (length (entries_of node)) n
 meets (WithFlag flag) node = flags flag node
