@@ -7,3 +7,4 @@ pub mod Lines
 pub mod Keys
 pub mod Repairs
 pub mod Others
+pub mod Making

@@ -153,3 +153,7 @@ cleared_small bitmap i h flag = xor_lt 32 bitmap (2 ^ i) h (pow_below i 32 flag)
 pub ones_flag : (i : ℕ) → count_ones (2 ^ i) ≤ 1
 unfolding ones
 ones_flag i = omega (arith, ones_cat i 1 0 (pow_pos i), subst (λ n. count_ones (2 ^ i) ≡ count_ones n) (flag_is i 0 0 (pow_pos i)) refl)
+
+-- it is small
+pub flag_small : (i : ℕ) → i < 32 → 2 ^ i < 2 ^ 32
+flag_small i h = pow_below i 32 h
