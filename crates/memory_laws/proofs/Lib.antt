@@ -8,3 +8,4 @@ pub mod Keys
 pub mod Repairs
 pub mod Others
 pub mod Making
+pub mod Acts

@@ -3,7 +3,7 @@ use Rattle.std.proofs.Common.{◌≡◌, ℕ, zero, suc, ◌+◌, ◌-◌, ◌^�
 use Rattle.std.specs.Prelude.{bit_and, count_ones, is_some}
 use Rattle.std.proofs.lemmas.Bool.{false≢true, true≢false, and_parts, cond_both, not_from_true, le-leb, eqb-true, eqb-false}
 use Rattle.std.proofs.lemmas.List.{length-append, length-take-le}
-use Rattle.std.proofs.lemmas.List.Elements.{All-take, All-push, All-nil}
+use Rattle.std.proofs.lemmas.List.Elements.{All-take, All-push, All-nil, All-head}
 use Rattle.ctrie_base.specs.Paths.{position_of}
 use Rattle.slot_arena.specs.declared.refs.Ref.{Ref}
 use Rattle.slot_arena.specs.declared.nodes.Node.{Node}
@@ -11,6 +11,7 @@ use Rattle.slot_arena.specs.declared.nodes.Node.TheVariants.{Indirection, Branch
 use Rattle.slot_arena.specs.Heaps.{Heap, node_at, entries_of, bitmap_of, no_ref}
 use Rattle.nodes.specs.Levels.{has_flag}
 use Rattle.machine_model.specs.Paths.{current, above, is_below_root}
+use Rattle.machine_model.specs.Walking.{first_of}
 use Rattle.memory_laws.specs.Wants.{Wanted, Anything, AnIndirection, AMain, ABranch, AList, BranchOrList, TombOrList, AnEntry, ASingle, WithEntry, AtMost, WithFlag, ToSpare, meets, is_formed, flags, spares, Claim, Is, Each, EntryIs, So, Holds, is, each, entry_is, so, AllHold}
 use Rattle.memory_laws.proofs.Ones.{ones_below}
 use Rattle.memory_laws.proofs.Claims.{Meets, safe_of, meets_of, all_of, fact_of}
@@ -46,6 +47,11 @@ module _ (S : Ref → Type 0) (heap : Heap) where
 
   pub none_each : {wanted : Wanted} → Holds S heap (Each [] wanted)
   none_each {wanted} = each (All-nil (Meets S heap wanted))
+
+  -- the first entry of a walk's is safe
+  pub first_safe : {wanted : Wanted} (todo : List Ref) → Holds S heap (Each todo wanted) → nat_lt 0 (length todo) ≡ true → S (first_of todo)
+  first_safe [] t long = absurd (false≢true long)
+  first_safe {wanted} (entry ∷ todo) t long = (All-head (Meets S heap wanted) entry todo (all_of t)).0
 
 -- what is above an indirection below the root has one at least
 pub above_long : (path : List Ref) → is_below_root path ≡ true → nat_lt 0 (length (above path)) ≡ true

@@ -175,11 +175,6 @@ module _ (state : State) (operation : Operation) (S : Ref → Type 0) (H : Heape
   walk_entry_next (entry ∷ todo) pairs t long =
       entry_next entry todo pairs (node_at state.heap entry) refl ((All-head (Meets S state.heap AnEntry) entry todo (all_of t)).0) (each (All-tail (Meets S state.heap AnEntry) entry todo (all_of t)))
 
-  -- the first entry is safe
-  pub first_in : (todo : List Ref) → Holds S state.heap (Each todo AnEntry) → nat_lt 0 (length todo) ≡ true → S (first_of todo)
-  first_in [] t long = absurd (false≢true long)
-  first_in (entry ∷ todo) t long = (All-head (Meets S state.heap AnEntry) entry todo (all_of t)).0
-
   pub root_of_next : (word : RootWord) → AllHold S state.heap (word_wants word) → At (root_of word) AnIndirection
   root_of_next (Plain r) w = w.0
   root_of_next (Offer offer) w = w.0
