@@ -9,3 +9,4 @@ pub mod Repairs
 pub mod Others
 pub mod Making
 pub mod Acts
+pub mod Next
