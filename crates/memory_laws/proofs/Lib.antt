@@ -10,3 +10,5 @@ pub mod Others
 pub mod Making
 pub mod Acts
 pub mod Next
+pub mod Guards
+pub mod Effects

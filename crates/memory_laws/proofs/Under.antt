@@ -233,3 +233,12 @@ none_taken heap node e = by_free heap.free e
     by_free : (free : List ℕ) → ref_in heap.births free ≡ None → take_from heap node free ≡ heap
     by_free [] e = refl
     by_free (slot ∷ free) e = absurd (none-some _ (sym e))
+
+-- a birth is drawn
+pub births_taken : (heap : Heap) (node : Node) (made : Ref) → next_ref heap ≡ Some made → (taken heap node).births ≡ heap.births + 1
+unfolding taken
+births_taken heap node made e = by_free heap.free e
+  where
+    by_free : (free : List ℕ) → ref_in heap.births free ≡ Some made → (take_from heap node free).births ≡ heap.births + 1
+    by_free [] e = absurd (none-some made e)
+    by_free (slot ∷ free) e = refl
