@@ -12,3 +12,5 @@ pub mod Acts
 pub mod Next
 pub mod Guards
 pub mod Effects
+pub mod EachStep
+pub mod Base
