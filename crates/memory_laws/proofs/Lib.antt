@@ -14,3 +14,4 @@ pub mod Guards
 pub mod Effects
 pub mod EachStep
 pub mod Base
+pub mod Safety
