@@ -86,7 +86,7 @@ acted_heap state due handle (act.MakeRoot main) = root_taken_heap state due main
 acted_heap state due handle action = Stays
 
 -- a begin leaves the heap
-begin_heap : (state : State) (actor : ℕ) (call : Call) (operation : Operation) → (with_begin state actor call operation).heap ≡ state.heap
+pub begin_heap : (state : State) (actor : ℕ) (call : Call) (operation : Operation) → (with_begin state actor call operation).heap ≡ state.heap
 begin_heap state actor call operation = grind arith
 
 -- a sweep frees the ripe slot, if there is one

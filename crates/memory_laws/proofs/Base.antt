@@ -134,7 +134,7 @@ close_ends : (call : Call) → is_close call ≡ true → is_end (first_line cal
 close_ends (Close h) e = refl
 close_ends call e = absurd (false≢true e)
 
-goes_no_end : (state : State) (operation : Operation) (l : Line) → GoesOn (line_action state operation l) → is_end l ≡ true → ⊥
+pub goes_no_end : (state : State) (operation : Operation) (l : Line) → GoesOn (line_action state operation l) → is_end l ≡ true → ⊥
 goes_no_end state operation (line.End answer) g e = g
 goes_no_end state operation l g e = false≢true e
 
@@ -211,7 +211,7 @@ swept_recent pins r None k recorded within at_k h =
     (λ e. let present : recorded ≡ r.epoch = h.2 (omega (arith, leb-false r.cursor (length pins) e)) in (omega arith, omega arith, λ below. absurd (omega arith)))
 
 -- the epoch and the cursor after a begin
-begin_times : (state : State) (actor : ℕ) (call : Call) (operation : Operation) →
+pub begin_times : (state : State) (actor : ℕ) (call : Call) (operation : Operation) →
     ◌≡◌ {A = ℕ × ℕ} ((with_begin state actor call operation).epoch, (with_begin state actor call operation).cursor) (state.epoch, state.cursor)
 begin_times state actor call operation = grind arith
 

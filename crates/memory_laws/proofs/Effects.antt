@@ -41,14 +41,14 @@ pub data Effect (C : List Claim → Type 0) (f g : Ref → Option Slot) (b c : �
 -- ---- the effect of an action
 
 module _ (S : Ref → Type 0) (heap : Heap) (due : Option Ref) (used : (r : Ref) → S r → IsInUse heap r) where
-  abbrev Does : Heap → Type 0
+  abbrev pub Does : Heap → Type 0
   Does after = Effect (AllHold S heap) (standing heap) (standing after) heap.births after.births due
 
   -- nothing changes
-  same : Does heap
+  pub same : Does heap
   same = Keeps refl (λ r. refl)
 
-  same_as : (after : Heap) → after ≡ heap → Does after
+  pub same_as : (after : Heap) → after ≡ heap → Does after
   same_as after e = subst Does (sym e) same
 
   -- an indirection is no main node

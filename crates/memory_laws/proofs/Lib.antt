@@ -15,3 +15,5 @@ pub mod Effects
 pub mod EachStep
 pub mod Base
 pub mod Safety
+pub mod Words
+pub mod Invariant

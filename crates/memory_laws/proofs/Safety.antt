@@ -84,12 +84,12 @@ module _ (state : State) (I : IsSafe state) (epoch : ℕ) where
   in_slot : (q r : Ref) (slot : Slot) → standing state.heap q ≡ Some slot → Contains (refs_of_slot (Some slot)) r → IsInUse state.heap r → Safe state epoch r
   in_slot q r slot e c u = safe_counted r (counted_in_slot state q r slot e c) u
 
-  node_in : (q : Ref) (slot : Slot) → standing state.heap q ≡ Some slot → AllHold (Safe state epoch) state.heap (node_wants slot.node)
+  pub node_in : (q : Ref) (slot : Slot) → standing state.heap q ≡ Some slot → AllHold (Safe state epoch) state.heap (node_wants slot.node)
   node_in q slot e =
       node_safer (IsInUse state.heap) (Safe state epoch) state.heap slot.node (λ r c u. in_slot q r slot e (Contains-append_left (refs_of_node slot.node) (refs_of_prev slot.prev) r c) u)
       (first_hold (IsInUse state.heap) state.heap (node_wants slot.node) (prev_wants slot.prev) ((I.nodes q slot e).0))
 
-  prev_in : (q : Ref) (slot : Slot) → standing state.heap q ≡ Some slot → AllHold (Safe state epoch) state.heap (prev_wants slot.prev)
+  pub prev_in : (q : Ref) (slot : Slot) → standing state.heap q ≡ Some slot → AllHold (Safe state epoch) state.heap (prev_wants slot.prev)
   prev_in q slot e =
       prev_safer (IsInUse state.heap) (Safe state epoch) state.heap slot.prev (λ r c u. in_slot q r slot e (Contains-append_right (refs_of_node slot.node) (refs_of_prev slot.prev) r c) u)
       (last_hold (IsInUse state.heap) state.heap (node_wants slot.node) (prev_wants slot.prev) ((I.nodes q slot e).0))
