@@ -66,7 +66,7 @@ take_from_kept slots heap node (slot ∷ free) e h = record {
 }
 
 -- taking a slot
-taken_kept : (slots : ℕ) (heap : Heap) (node : Node) → AddsUp slots heap → AddsUp slots (taken heap node)
+pub taken_kept : (slots : ℕ) (heap : Heap) (node : Node) → AddsUp slots heap → AddsUp slots (taken heap node)
 unfolding taken
 taken_kept slots heap node h = take_from_kept slots heap node heap.free refl h
 
@@ -127,14 +127,18 @@ none_used_at_first : (n : ℕ) → map (is_some {T = Slot}) (replicate n None) �
 none_used_at_first zero = refl
 none_used_at_first (suc n) = ap (λ l. false ∷ l) (none_used_at_first n)
 
+-- the empty heap adds up
+pub empty_adds_up : (slots : ℕ) → AddsUp slots (empty_heap slots)
+empty_adds_up slots = record {
+  size = length-replicate slots None;
+  rest = rw none_used_at_first (all_free slots);
+}
+
 -- the first state is sound
 pub sound_at_first : (limits : Limits) → IsSound limits.slots (first_state limits)
 unfolding first_state
 sound_at_first limits = record {
-  heap = taken_kept limits.slots _ _ (taken_kept limits.slots (empty_heap limits.slots) _ (record {
-    size = length-replicate limits.slots None;
-    rest = rw none_used_at_first (all_free limits.slots);
-  }));
+  heap = taken_kept limits.slots _ _ (taken_kept limits.slots (empty_heap limits.slots) _ (empty_adds_up limits.slots));
   limbo = All-nil _;
 }
 

@@ -109,7 +109,7 @@ module _ (S : Ref → Type 0) (heap : Heap) (due : Option Ref) (used : (r : Ref)
         let (here, before, others, birth) = taken_all slots heap sound small node made e in
         Makes made (fresh_slot heap node) birth (births_taken heap node made e) h refl before here others
 
-    takes : (node : Node) → AllHold S heap (action_wants (act.Make node)) → Does (taken heap node)
+    pub takes : (node : Node) → AllHold S heap (action_wants (act.Make node)) → Does (taken heap node)
     takes node h = takes_by node h (next_ref heap) refl
 
     published_by : (i replaced fresh : Ref) (b : Bool) → (main_at heap i == replaced) ≡ b → AllHold S heap (action_wants (act.Publish i replaced fresh)) →

@@ -17,3 +17,4 @@ pub mod Base
 pub mod Safety
 pub mod Words
 pub mod Invariant
+pub mod First
