@@ -177,11 +177,11 @@ module _ (state : State) (I : IsSafe state) where
     grows : state.epoch ≤ next.epoch
     grows = omega (arith, gone_epoch state actor operation)
 
-    gone_carries : Carries (Safe state operation.epoch) state.heap (Safe next operation.epoch) next.heap
+    pub gone_carries : Carries (Safe state operation.epoch) state.heap (Safe next operation.epoch) next.heap
     gone_carries = carries state next operation.epoch its_epoch.0 its_epoch.1 grows refl _ (gone_effect actor k operation found)
 
     -- what it makes is safe
-    made_fresh : (node : Node) (made : Ref) → made_node state (action_of state operation) ≡ Some node → next_ref state.heap ≡ Some made →
+    pub made_fresh : (node : Node) (made : Ref) → made_node state (action_of state operation) ≡ Some node → next_ref state.heap ≡ Some made →
         Safe next operation.epoch made × (node_at next.heap made ≡ node)
     made_fresh node made is e =
         let (here, none, others, birth) = taken_all state.limits.slots state.heap (I.sound.heap) (I.small) node made e in
@@ -189,7 +189,7 @@ module _ (state : State) (I : IsSafe state) where
         (made_safe state next operation.epoch its_epoch.0 its_epoch.1 grows refl _ (gone_effect actor k operation found) (I.sound) (I.small) made (fresh_slot state.heap node) none stood,
         node_under next.heap made (fresh_slot state.heap node) stood)
 
-    its_word : GoesOn (action_of state operation) → AllHold (Safe state operation.epoch) state.heap (word_wants (word_at state (handle_of operation.call)))
+    pub its_word : GoesOn (action_of state operation) → AllHold (Safe state operation.epoch) state.heap (word_wants (word_at state (handle_of operation.call)))
     its_word g = open_word state I operation.epoch (handle_of operation.call) (elim (or_cases _ _ (I.handles k operation found)) [
       | inl ends ↦ absurd (goes_no_end state operation operation.line g ends)
       | inr is_open ↦ is_open

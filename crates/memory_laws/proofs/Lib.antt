@@ -18,3 +18,5 @@ pub mod Safety
 pub mod Words
 pub mod Invariant
 pub mod First
+pub mod AtEachTime
+pub mod Held
