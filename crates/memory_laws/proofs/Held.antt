@@ -3,6 +3,7 @@ use Rattle.std.proofs.Common.{◌≡◌, ℕ, zero, suc, ◌+◌, ◌≤◌, ◌
 use Rattle.std.proofs.lemmas.Bool.{cond_both, and_parts, false≢true}
 use Rattle.std.proofs.lemmas.Option.{none-some, same_Some}
 use Rattle.std.proofs.lemmas.List.Elements.{All-nil, All-cons, All-append, All-weaker, All-contains}
+use Rattle.ctrie_base.specs.declared.refusals.Refusal.{Refusal}
 use Rattle.history.specs.declared.calls.Call.{Call}
 use Rattle.slot_arena.specs.declared.refs.Ref.{Ref}
 use Rattle.slot_arena.specs.declared.nodes.Node.{Node}
@@ -140,3 +141,59 @@ module _ (state : State) (I : IsSafe state) (k : ℕ) (refs : List Ref) (h : Hol
           (λ e. subst (λ o. All (Safe after operation.epoch) (got_in state o)) (sym at_was) got) (λ e. All-nil (Safe after operation.epoch))))
   by_owner s o after (Ends {actor} d is a) (yes own) found at_k = absurd (of_end state actor k own found at_k)
   by_owner s o after (Sweeps spent) (yes own) found at_k = absurd own
+
+-- ---- along a run
+
+-- where an operation runs what it got so far is kept, and else nothing
+kept_while : (state : State) (k : ℕ) (refs : List Ref) (o : Option Operation) → get_or state.actors k None ≡ o →
+    ((operation : Operation) → get_or state.actors k None ≡ Some operation → All (Safe state operation.epoch) refs) → HoldsSafe state k (while_running o refs)
+kept_while state k refs None e f = record { safe = λ operation is. absurd (none-some operation (sym e ∙ is)); none = λ is. refl }
+kept_while state k refs (Some operation) e f = record { safe = f; none = λ is. absurd (none-some operation (sym is ∙ e)) }
+
+-- a denied step gives nothing
+denied_gives : (state : State) (k : ℕ) (s : Step) (why : Refusal) → next state s ≡ Err why → got_of state (suc k) s ≡ []
+denied_gives state k (step.Begin other call) why e = refl
+denied_gives state k (step.Go other) why e =
+    cond_both (other == suc k && is_taken_step (next state (step.Go other))) _ _ (λ (rs : List Ref). rs ≡ [])
+    (λ t. absurd (false≢true (sym (ap is_taken_step e) ∙ (and_parts (other == suc k) _ t).1))) (λ t. refl)
+denied_gives state k step.Sweep why e = refl
+
+held_by : (state : State) (I : IsSafe state) (k : ℕ) (refs : List Ref) → HoldsSafe state k refs → (s : Step) (answer : Answer) → next state s ≡ answer → MovesIfTaken state s answer →
+    HoldsSafe (state_after state answer) k (while_running (operation_of (state_after state answer) (suc k)) (refs ++ got_of state (suc k) s))
+held_by state I k refs h s (Ok done) e m = kept_while done.1 k (refs ++ got_of state (suc k) s) (operation_of done.1 (suc k)) refl (by_owner state I k refs h s done.0 done.1 m (is_of (suc k) s))
+held_by state I k refs h s (Err why) e m =
+    kept_while state k (refs ++ got_of state (suc k) s) (operation_of state (suc k)) refl
+    (λ operation found. subst (λ got. All (Safe state operation.epoch) (refs ++ got)) (sym (denied_gives state k s why e)) (subst (All (Safe state operation.epoch)) (sym (append-nil refs)) (h.safe operation found)))
+
+held_along : (steps : List Step) (state : State) → IsSafe state → (k : ℕ) (refs : List Ref) → HoldsSafe state k refs → HoldsSafe (run_from state steps) k (held_from state (suc k) refs steps)
+unfolding held_from run_from
+held_along [] state I k refs h = h
+held_along (s ∷ steps) state I k refs h =
+    held_along steps (next_state state s) (safe_next state I s) k (while_running (operation_of (next_state state s) (suc k)) (refs ++ got_of state (suc k) s))
+    (held_by state I k refs h s (next state s) refl (moves state s))
+
+-- there is no actor 0
+none_by_zero : (steps : List Step) (state : State) → held_from state zero [] steps ≡ []
+unfolding held_from
+none_by_zero [] state = refl
+none_by_zero (s ∷ steps) state = none_by_zero steps (next_state state s)
+
+first_holds : (limits : Limits) (k : ℕ) → HoldsSafe (first_state limits) k []
+unfolding first_state
+first_holds limits k = record { safe = λ operation found. absurd (none_found limits.actors k operation found); none = λ e. refl }
+
+-- what is held is in use
+in_use_by : (state : State) (k : ℕ) (refs : List Ref) → HoldsSafe state k refs → (o : Option Operation) → get_or state.actors k None ≡ o → (r : Ref) → Contains refs r → IsInUse state.heap r
+in_use_by state k refs h None e r c = none_contained r (subst (λ rs. Contains rs r) (h.none e) c)
+  where
+    none_contained : (r : Ref) → Contains [] r → IsInUse state.heap r
+    none_contained r (i, within, at_i) = absurd (omega arith)
+in_use_by state k refs h (Some operation) e r c = (All-contains (Safe state operation.epoch) refs r (h.safe operation e) c).used
+
+pub held_in_use : (limits : Limits) → AreLimits limits → (steps : List Step) (actor : ℕ) (r : Ref) → Contains (held limits steps actor) r → IsInUse (run limits steps).heap r
+held_in_use limits ok steps zero r c = none_contained (subst (λ rs. Contains rs r) (none_by_zero steps (first_state limits)) c)
+  where
+    none_contained : Contains [] r → IsInUse (run limits steps).heap r
+    none_contained (i, within, at_i) = absurd (omega arith)
+held_in_use limits ok steps (suc k) r c =
+    in_use_by (run limits steps) k (held limits steps (suc k)) (held_along steps (first_state limits) (safe_at_first limits ok) k [] (first_holds limits k)) (operation_of (run limits steps) (suc k)) refl r c

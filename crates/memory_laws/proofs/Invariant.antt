@@ -24,6 +24,7 @@ use Rattle.machine_model.specs.declared.roots.Root.{Root}
 use Rattle.machine_model.specs.declared.steps.Limits.{Limits}
 use Rattle.machine_model.specs.declared.steps.Outcome.{Outcome}
 use Rattle.machine_model.specs.declared.steps.Step.{Step}
+use Rattle.machine_model.specs.declared.steps.Step.TheVariants as step
 use Rattle.machine_model.specs.Calls.{handle_of}
 use Rattle.machine_model.specs.States.{State, first_state, root_at, word_at, operation_of}
 use Rattle.machine_model.specs.Operations.{action_of, line_action, line_after, first_line}
@@ -93,22 +94,32 @@ first_wants S heap kind access (Close h) = tt
 first_wants S heap kind access (Entries h) = tt
 first_wants S heap kind access call = tt
 
+-- the slot that a step is to free, if it is: only the sweep frees one
+abbrev pub due_in : State → Step → Option Ref
+due_in state step.Sweep = ripe state.epoch state.limbo
+due_in state s = None
+
+pub due_ripe : (state : State) (s : Step) (r : Ref) → due_in state s ≡ Some r → ripe state.epoch state.limbo ≡ Some r
+due_ripe state step.Sweep r e = e
+due_ripe state (step.Begin actor call) r e = absurd (none-some r e)
+due_ripe state (step.Go actor) r e = absurd (none-some r e)
+
 module _ (state : State) (I : IsSafe state) where
-  abbrev Effects : ℕ → State → Type 0
-  Effects epoch after = Effect (AllHold (Safe state epoch) state.heap) (standing state.heap) (standing after.heap) state.heap.births after.heap.births (ripe state.epoch state.limbo)
+  abbrev Effects : ℕ → Option Ref → State → Type 0
+  Effects epoch due after = Effect (AllHold (Safe state epoch) state.heap) (standing state.heap) (standing after.heap) state.heap.births after.heap.births due
 
   -- with the epoch of who takes it
-  abbrev IsEffect : State → Type 0
-  IsEffect after = (epoch : ℕ) × (epoch ≤ state.epoch) × (state.epoch ≤ epoch + 1) × Effects epoch after
+  abbrev pub IsEffect : Step → State → Type 0
+  IsEffect s after = (epoch : ℕ) × (epoch ≤ state.epoch) × (state.epoch ≤ epoch + 1) × Effects epoch (due_in state s) after
 
   -- what an operation's step wants
   pub step_claims : (k : ℕ) (operation : Operation) → get_or state.actors k None ≡ Some operation →
       AllHold (Safe state operation.epoch) state.heap (action_wants (action_of state operation))
   step_claims k operation e = line_acts state operation (Safe state operation.epoch) (heaped state I operation.epoch) operation.line (I.lines k operation e)
 
-  gone_effect : (actor k : ℕ) (operation : Operation) → get_or state.actors k None ≡ Some operation → Effects operation.epoch (settled state (gone state actor operation))
+  gone_effect : (actor k : ℕ) (operation : Operation) → get_or state.actors k None ≡ Some operation → Effects operation.epoch None (settled state (gone state actor operation))
   gone_effect actor k operation e =
-      acted_effect (Safe state operation.epoch) _ (ripe state.epoch state.limbo) (used_of state operation.epoch) state.limits.slots (I.sound.heap) (I.small) (handle_of operation.call)
+      acted_effect (Safe state operation.epoch) _ None (used_of state operation.epoch) state.limits.slots (I.sound.heap) (I.small) (handle_of operation.call)
       (action_of state operation) (step_claims k operation e)
 
   sweep_effect : (pins : List (Option ℕ)) (due : Option Ref) → ripe state.epoch state.limbo ≡ due →
@@ -121,14 +132,13 @@ module _ (state : State) (I : IsSafe state) where
       frees (Safe state state.epoch) state.heap (ripe state.epoch state.limbo) (used_of state state.epoch) q e
       (stands_in_use state.heap q (omega (arith, I.small, I.sound.heap.size)) (ripe_in_use (InUse state.heap) state.epoch state.limbo (I.sound.limbo) q e))
 
-  pub step_effect : (s : Step) (o : Outcome) (after : State) → Moves state s o after → IsEffect after
+  pub step_effect : (s : Step) (o : Outcome) (after : State) → Moves state s o after → IsEffect s after
   step_effect s o after (Begins {actor} {call} d) =
-      (state.epoch, omega arith, omega arith,
-      same_as (Safe state state.epoch) state.heap (ripe state.epoch state.limbo) (used_of state state.epoch) _ (begin_heap state actor call (begun_operation state call)))
+      (state.epoch, omega arith, omega arith, same_as (Safe state state.epoch) state.heap None (used_of state state.epoch) _ (begin_heap state actor call (begun_operation state call)))
   step_effect s o after (Goes {actor} {operation} d is a g) =
       let (k, recent) = of_actor state (λ k operation. IsRecent state k operation × (get_or state.actors k None ≡ Some operation)) (λ k operation e. (I.recent k operation e, e)) actor operation is in
       (operation.epoch, recent.0.0, recent.0.1, gone_effect actor k operation recent.1)
-  step_effect s o after (Ends d is a) = (state.epoch, omega arith, omega arith, same (Safe state state.epoch) state.heap (ripe state.epoch state.limbo) (used_of state state.epoch))
+  step_effect s o after (Ends d is a) = (state.epoch, omega arith, omega arith, same (Safe state state.epoch) state.heap None (used_of state state.epoch))
   step_effect s o after (Sweeps spent) = (state.epoch, omega arith, omega arith, sweep_effect (map pin_of state.actors) (ripe state.epoch state.limbo) refl)
 
   -- ---- what a step carries over
@@ -136,7 +146,8 @@ module _ (state : State) (I : IsSafe state) where
   module _ (s : Step) (o : Outcome) (after : State) (m : Moves state s o after) where
     -- for any recent epoch
     pub step_carries : (epoch : ℕ) → epoch ≤ state.epoch → state.epoch ≤ epoch + 1 → Carries (Safe state epoch) state.heap (Safe after epoch) after.heap
-    step_carries epoch low high = carries state after epoch low high (epoch_grows state s o after m) (limbo_is state s o after m) _ ((step_effect s o after m).3)
+    step_carries epoch low high =
+        carries state after epoch low high (epoch_grows state s o after m) (limbo_is state s o after m) (due_in state s) (due_ripe state s) _ ((step_effect s o after m).3)
 
     used_carries : (epoch : ℕ) → epoch ≤ state.epoch → state.epoch ≤ epoch + 1 → Carries (Safe state epoch) state.heap (IsInUse after.heap) after.heap
     used_carries epoch low high r h = let x = step_carries epoch low high r h in (x.0.used, x.1)
@@ -178,7 +189,7 @@ module _ (state : State) (I : IsSafe state) where
     grows = omega (arith, gone_epoch state actor operation)
 
     pub gone_carries : Carries (Safe state operation.epoch) state.heap (Safe next operation.epoch) next.heap
-    gone_carries = carries state next operation.epoch its_epoch.0 its_epoch.1 grows refl _ (gone_effect actor k operation found)
+    gone_carries = carries state next operation.epoch its_epoch.0 its_epoch.1 grows refl None (λ r e. absurd (none-some r e)) _ (gone_effect actor k operation found)
 
     -- what it makes is safe
     pub made_fresh : (node : Node) (made : Ref) → made_node state (action_of state operation) ≡ Some node → next_ref state.heap ≡ Some made →
@@ -186,7 +197,7 @@ module _ (state : State) (I : IsSafe state) where
     made_fresh node made is e =
         let (here, none, others, birth) = taken_all state.limits.slots state.heap (I.sound.heap) (I.small) node made e in
         let stood = ap (λ heap. standing heap made) (made_heap _ (handle_of operation.call) (action_of state operation) node made is e) ∙ here in
-        (made_safe state next operation.epoch its_epoch.0 its_epoch.1 grows refl _ (gone_effect actor k operation found) (I.sound) (I.small) made (fresh_slot state.heap node) none stood,
+        (made_safe state next operation.epoch its_epoch.0 its_epoch.1 grows refl None (λ r e. absurd (none-some r e)) _ (gone_effect actor k operation found) (I.sound) (I.small) made (fresh_slot state.heap node) none stood,
         node_under next.heap made (fresh_slot state.heap node) stood)
 
     pub its_word : GoesOn (action_of state operation) → AllHold (Safe state operation.epoch) state.heap (word_wants (word_at state (handle_of operation.call)))

@@ -143,7 +143,8 @@ stands_in_use heap r small (k, slot, at_k, e) =
 
 module _ (state after : State) (epoch : ℕ) (low : epoch ≤ state.epoch) (high : state.epoch ≤ epoch + 1) (grows : state.epoch ≤ after.epoch)
     (limbo : after.limbo ≡ limbo_after after.heap (outside after) after.epoch state.limbo)
-    (C : List Claim → Type 0) (effect : Effect C (standing state.heap) (standing after.heap) state.heap.births after.heap.births (ripe state.epoch state.limbo)) where
+    (due : Option Ref) (is_ripe : (r : Ref) → due ≡ Some r → ripe state.epoch state.limbo ≡ Some r)
+    (C : List Claim → Type 0) (effect : Effect C (standing state.heap) (standing after.heap) state.heap.births after.heap.births due) where
   guard_kept : (r : Ref) → Guarded state.limbo epoch r → Guarded after.limbo epoch r
   guard_kept r g = subst (λ l. Guarded l epoch r) (sym limbo) (guarded_after after.heap (outside after) after.epoch epoch state.limbo r (omega arith) g)
 
@@ -151,8 +152,8 @@ module _ (state after : State) (epoch : ℕ) (low : epoch ≤ state.epoch) (high
   pub carries : Carries (Safe state epoch) state.heap (Safe after epoch) after.heap
   carries r s =
       let (was, found) = s.used in
-      let (now, found_now, same) = stays C (standing state.heap) (standing after.heap) state.heap.births after.heap.births (ripe state.epoch state.limbo) effect r was found
-          (λ due. ripe_old state.limbo state.epoch epoch r due (s.guarded) high) in
+      let (now, found_now, same) = stays C (standing state.heap) (standing after.heap) state.heap.births after.heap.births due effect r was found
+          (λ is_due. ripe_old state.limbo state.epoch epoch r (is_ripe r is_due) (s.guarded) high) in
       (record { used = (now, found_now); guarded = guard_kept r (s.guarded) },
       subst (λ n. SameNode n (node_at after.heap r)) (sym (node_under state.heap r was found))
         (subst (λ n. SameNode was.node n) (sym (node_under after.heap r now found_now)) same.0))
