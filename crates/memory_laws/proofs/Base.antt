@@ -35,6 +35,7 @@ use Rattle.machine_model.proofs.Moves.{Moves, Begins, Goes, Ends, Sweeps, GoesOn
 use Rattle.machine_model.proofs.Actors.{IsOf, mark_one, mark_only, marks_in, marks_by}
 use Rattle.machine_model.proofs.Frames.{IsFramed, acted_framed}
 use Rattle.machine_model.proofs.Found.{found_elsewhere, found_here, none_found, found_within}
+use Rattle.memory_laws.specs.Laws.{is_end}
 use Rattle.memory_laws.proofs.EachStep.{each_after}
 
 -- ---- a reader's call changes nothing
@@ -50,11 +51,6 @@ marked_fits m operation h = rw (mark_only m operation) h
 
 
 -- ---- open handles
-
--- the line isn't the end of an operation
-abbrev pub is_end : Line → Bool
-is_end (line.End answer) = true
-is_end l = false
 
 -- an operation's handle is open, until it is to end
 abbrev pub HasHandle : State → Operation → Type 0

@@ -5,6 +5,7 @@ use Rattle.slot_arena.specs.declared.refs.Ref.{Ref}
 use Rattle.slot_arena.specs.declared.nodes.Node.{Node}
 use Rattle.slot_arena.specs.declared.nodes.Node.TheVariants.{Indirection, Branch, Single, Tomb, List as Listed}
 use Rattle.slot_arena.specs.Heaps.{Heap, node_at, entry_at, entries_of, with_main_word, no_ref}
+use Rattle.memory_laws.specs.Laws.{SameNode}
 use Rattle.memory_laws.specs.Wants.{Wanted, Anything, AnIndirection, AMain, ABranch, AList, BranchOrList, TombOrList, AnEntry, ASingle, WithEntry, AtMost, WithFlag, ToSpare, meets, Claim, Is, Each, EntryIs, So, Holds, is, each, entry_is, so, AllHold}
 
 -- ---- made and used
@@ -54,9 +55,6 @@ last_hold S heap [] ys h = h
 last_hold S heap (x ∷ xs) ys h = last_hold S heap xs ys h.1
 
 -- ---- a node is the same but for its main word
-
-abbrev pub SameNode : Node → Node → Type 0
-SameNode before after = (m : Ref) × (after ≡ with_main_word m before)
 
 pub same_node : (node : Node) → SameNode node node
 same_node (Indirection generation main) = (main, refl)

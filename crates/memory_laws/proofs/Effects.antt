@@ -19,8 +19,8 @@ use Rattle.machine_model.proofs.Grown.{standing}
 use Rattle.machine_model.proofs.Slots.{AddsUp}
 use Rattle.machine_model.proofs.HeapMoves.{aborted_heap, offered_heap, completed_heap}
 use Rattle.memory_laws.specs.Wants.{Wanted, AnIndirection, AMain, meets, is_formed, Claim, Is, So, Holds, is, so, AllHold, node_wants, prev_wants, action_wants}
-use Rattle.memory_laws.specs.Laws.{IsInUse}
-use Rattle.memory_laws.proofs.Claims.{SameNode, same_node, safe_of, meets_of}
+use Rattle.memory_laws.specs.Laws.{SameNode, IsInUse}
+use Rattle.memory_laws.proofs.Claims.{same_node, safe_of, meets_of}
 use Rattle.memory_laws.proofs.Under.{node_under, main_here, main_other, prev_here, prev_other, freed_here, freed_other, fresh_slot, taken_all, none_taken, births_taken}
 
 -- the effects of a step: under which references what stands changes. What is written is claimed by C; b and c are how many births were drawn before and

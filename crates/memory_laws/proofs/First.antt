@@ -22,8 +22,8 @@ use Rattle.machine_model.proofs.Found.{none_found, found_here, found_elsewhere}
 use Rattle.machine_model.proofs.Grown.{standing, of_birth}
 use Rattle.machine_model.proofs.Slots.{AddsUp, empty_adds_up, taken_kept, sound_at_first}
 use Rattle.memory_laws.specs.Wants.{AnIndirection, AMain, meets, Is, So, Holds, is, so, AllHold, action_wants, word_wants}
-use Rattle.memory_laws.specs.Laws.{IsInUse}
-use Rattle.memory_laws.proofs.Claims.{SameNode, Carries, all_carried}
+use Rattle.memory_laws.specs.Laws.{SameNode, IsInUse}
+use Rattle.memory_laws.proofs.Claims.{Carries, all_carried}
 use Rattle.memory_laws.proofs.Lines.{none_each}
 use Rattle.memory_laws.proofs.Under.{node_under, taken_all, fresh_slot}
 use Rattle.memory_laws.proofs.Effects.{Effect, takes, stays}

@@ -39,13 +39,13 @@ use Rattle.machine_model.proofs.Slots.{IsSound, sound_after, ripe_in_use}
 use Rattle.machine_model.proofs.InUse.{InUse}
 use Rattle.machine_model.proofs.Grown.{standing}
 use Rattle.memory_laws.specs.Wants.{is_formed, Claim, Holds, AllHold, node_wants, prev_wants, word_wants, action_wants, line_wants}
-use Rattle.memory_laws.specs.Laws.{IsInUse}
+use Rattle.memory_laws.specs.Laws.{is_end, IsInUse}
 use Rattle.memory_laws.proofs.Claims.{Meets, Carries, all_carried, both_hold}
 use Rattle.memory_laws.proofs.Under.{node_under, fresh_slot, taken_all}
 use Rattle.memory_laws.proofs.Guards.{Safe, zero_after, AllZero}
 use Rattle.memory_laws.proofs.Effects.{Effect, Keeps, Does, same, same_as, frees, acted_effect}
 use Rattle.memory_laws.proofs.EachStep.{at_place, each_after}
-use Rattle.memory_laws.proofs.Base.{is_end, IsRecent, HasHandle, handles_after, fits_after, recent_after, goes_no_end, begin_times}
+use Rattle.memory_laws.proofs.Base.{IsRecent, HasHandle, handles_after, fits_after, recent_after, goes_no_end, begin_times}
 use Rattle.memory_laws.proofs.Words.{WordsHold, acted_words, begun_words}
 use Rattle.memory_laws.proofs.Acts.{line_acts}
 use Rattle.memory_laws.proofs.Next.{made_node, line_next}

@@ -27,8 +27,8 @@ use Rattle.machine_model.proofs.InUse.{InUse}
 use Rattle.machine_model.proofs.Slots.{IsSound}
 use Rattle.machine_model.proofs.Grown.{standing}
 use Rattle.memory_laws.specs.Wants.{Wanted, AnIndirection, AMain, meets, is_formed, Claim, Is, Each, So, Holds, is, each, so, AllHold, node_wants, prev_wants, word_wants, line_wants}
-use Rattle.memory_laws.specs.Laws.{IsInUse}
-use Rattle.memory_laws.proofs.Claims.{Meets, SameNode, safe_of, meets_of, fact_of, safer, refs_of_claim, both_hold, first_hold, last_hold, Carries, all_carried}
+use Rattle.memory_laws.specs.Laws.{SameNode, IsInUse}
+use Rattle.memory_laws.proofs.Claims.{Meets, safe_of, meets_of, fact_of, safer, refs_of_claim, both_hold, first_hold, last_hold, Carries, all_carried}
 use Rattle.memory_laws.proofs.Nodes.{Heaped}
 use Rattle.memory_laws.proofs.Under.{node_under, prev_under, standing_from, slot_of-ref_to, birth_of-ref_to}
 use Rattle.memory_laws.proofs.Guards.{Guarded, Safe, AllZero, guarded_after, zero_after, guarded_if_counted, counted_in_slot, counted_in_root, counted_in_private}
