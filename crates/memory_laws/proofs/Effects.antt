@@ -52,7 +52,7 @@ module _ (S : Ref → Type 0) (heap : Heap) (due : Option Ref) (used : (r : Ref)
   same_as after e = subst Does (sym e) same
 
   -- an indirection is no main node
-  apart : {i fresh : Ref} → Holds S heap (Is i AnIndirection) → Holds S heap (Is fresh AMain) → i ≡ fresh → ⊥
+  pub apart : {i fresh : Ref} → Holds S heap (Is i AnIndirection) → Holds S heap (Is fresh AMain) → i ≡ fresh → ⊥
   apart {i} {fresh} h m e = by_node (node_at heap fresh) (subst (λ r. meets AnIndirection (node_at heap r) ≡ true) e (meets_of h)) (meets_of m)
     where
       by_node : (node : Node) → meets AnIndirection node ≡ true → meets AMain node ≡ true → ⊥
@@ -60,7 +60,7 @@ module _ (S : Ref → Type 0) (heap : Heap) (due : Option Ref) (used : (r : Ref)
       by_node node a b = false≢true a
 
   -- where the main word is read
-  main_is : (r : Ref) (slot : Slot) → standing heap r ≡ Some slot → main_of slot.node ≡ main_at heap r
+  pub main_is : (r : Ref) (slot : Slot) → standing heap r ≡ Some slot → main_of slot.node ≡ main_at heap r
   main_is r slot e = ap main_of (sym (node_under heap r slot e))
 
   births_main : (r m : Ref) → (with_main heap r m).births ≡ heap.births
@@ -151,7 +151,7 @@ module _ (S : Ref → Type 0) (state : State) (due : Option Ref) (used : (r : Re
 abbrev pub SameSlot : Slot → Slot → Type 0
 SameSlot before after = SameNode before.node after.node × (after.birth ≡ before.birth)
 
-same_slot : (slot : Slot) → SameSlot slot slot
+pub same_slot : (slot : Slot) → SameSlot slot slot
 same_slot slot = (same_node slot.node, refl)
 
 -- what stood and isn't freed stands, with its node

@@ -75,13 +75,13 @@ epoch_grows state s o after (Sweeps spent) = swept_grows (map pin_of state.actor
 -- ---- the effect of a step
 
 -- the claims of the lines of what runs
-of_actor : (state : State) (P : ℕ → Operation → Type 0) → ((k : ℕ) (operation : Operation) → get_or state.actors k None ≡ Some operation → P k operation) →
+pub of_actor : (state : State) (P : ℕ → Operation → Type 0) → ((k : ℕ) (operation : Operation) → get_or state.actors k None ≡ Some operation → P k operation) →
     (actor : ℕ) (operation : Operation) → operation_of state actor ≡ Some operation → (k : ℕ) × P k operation
 of_actor state P all zero operation e = absurd (none-some operation e)
 of_actor state P all (suc k) operation e = (k, all k operation e)
 
 -- the heap after a node was made
-made_heap : (state : State) (handle : ℕ) (action : Action) (node : Node) (made : Ref) → made_node state action ≡ Some node → next_ref state.heap ≡ Some made →
+pub made_heap : (state : State) (handle : ℕ) (action : Action) (node : Node) (made : Ref) → made_node state action ≡ Some node → next_ref state.heap ≡ Some made →
     (acted state handle action).heap ≡ taken state.heap node
 made_heap state handle (act.Make other) node made is e = ap (taken state.heap) (same_Some _ _ is)
 made_heap state handle (act.MakeRoot main) node made is e =

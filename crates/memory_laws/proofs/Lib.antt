@@ -20,3 +20,4 @@ pub mod Invariant
 pub mod First
 pub mod AtEachTime
 pub mod Held
+pub mod WordMoves
