@@ -154,6 +154,17 @@ SameSlot before after = SameNode before.node after.node × (after.birth ≡ befo
 pub same_slot : (slot : Slot) → SameSlot slot slot
 same_slot slot = (same_node slot.node, refl)
 
+-- twice another main word is another main word
+nodes_joined : (a b : Ref) (node : Node) → with_main_word b (with_main_word a node) ≡ with_main_word b node
+nodes_joined a b (Indirection generation main) = refl
+nodes_joined a b (Branch bitmap entries) = refl
+nodes_joined a b (Single key value) = refl
+nodes_joined a b (Tomb single) = refl
+nodes_joined a b (Listed singles) = refl
+
+pub slots_joined : (first second third : Slot) → SameSlot first second → SameSlot second third → SameSlot first third
+slots_joined first second third ((a, e), b) ((c, f), d) = ((c, f ∙ ap (with_main_word c) e ∙ nodes_joined a c first.node), d ∙ b)
+
 -- what stood and isn't freed stands, with its node
 pub stays : (C : List Claim → Type 0) (f g : Ref → Option Slot) (b c : ℕ) (due : Option Ref) → Effect C f g b c due → (r : Ref) (was : Slot) → f r ≡ Some was → (due ≡ Some r → ⊥) →
     (now : Slot) × (g r ≡ Some now) × SameSlot was now
