@@ -133,6 +133,7 @@ safe_at_first limits ok =
       recent = λ k operation found. absurd (none_found limits.actors k operation found);
       handles = λ k operation found. absurd (none_found limits.actors k operation found);
       fits = λ k operation found. absurd (none_found limits.actors k operation found);
+      known = λ k operation found. absurd (none_found limits.actors k operation found);
       nodes = right.nodes;
       words = first_words _ _ _ (root, tt);
       lines = λ k operation found. absurd (none_found limits.actors k operation found);

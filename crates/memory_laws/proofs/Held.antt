@@ -51,19 +51,19 @@ module _ (S : Ref → Type 0) (heap : Heap) where
   each_safe : {wanted : Wanted} (rs : List Ref) → Holds S heap (Each rs wanted) → All S rs
   each_safe {wanted} rs h = All-weaker (Meets S heap wanted) S (λ r m. m.0) rs (all_of h)
 
-  node_refs : (node : Node) → AllHold S heap (node_wants node) → All S (refs_of_node node)
+  pub node_refs : (node : Node) → AllHold S heap (node_wants node) → All S (refs_of_node node)
   node_refs (Indirection generation main) h = one_safe main h.0
   node_refs (Branch bitmap entries) h = each_safe entries.items h.0
   node_refs (Single key value) h = All-nil S
   node_refs (Tomb single) h = one_safe single h.0
   node_refs (Listed singles) h = each_safe singles.items h.0
 
-  prev_refs : (p : Prev) → AllHold S heap (prev_wants p) → All S (refs_of_prev p)
+  pub prev_refs : (p : Prev) → AllHold S heap (prev_wants p) → All S (refs_of_prev p)
   prev_refs prev.None h = All-nil S
   prev_refs (prev.Pending p) h = one_safe p h.0
   prev_refs (prev.Failed p) h = one_safe p h.0
 
-  word_refs : (word : RootWord) → AllHold S heap (word_wants word) → All S (refs_of_word word)
+  pub word_refs : (word : RootWord) → AllHold S heap (word_wants word) → All S (refs_of_word word)
   word_refs (Plain r) h = one_safe r h.0
   word_refs (Offer offer) h =
       All-cons S offer.root (offer.expected ∷ offer.successor ∷ refs_of_option offer.second) (safe_of h.0)

@@ -46,6 +46,7 @@ use Rattle.memory_laws.proofs.Guards.{Safe, zero_after, AllZero}
 use Rattle.memory_laws.proofs.Effects.{Effect, Keeps, Does, same, same_as, frees, acted_effect}
 use Rattle.memory_laws.proofs.EachStep.{at_place, each_after}
 use Rattle.memory_laws.proofs.Base.{IsRecent, HasHandle, handles_after, fits_after, recent_after, goes_no_end, begin_times}
+use Rattle.memory_laws.proofs.Started.{known_after}
 use Rattle.memory_laws.proofs.Words.{WordsHold, acted_words, begun_words}
 use Rattle.memory_laws.proofs.Acts.{line_acts}
 use Rattle.memory_laws.proofs.Next.{made_node, line_next}
@@ -289,6 +290,7 @@ module _ (state : State) (I : IsSafe state) where
     recent = recent_after state (I.recent) s o after m;
     handles = handles_after state (I.handles) s o after m;
     fits = fits_after state (I.fits) s o after m;
+    known = known_after state (I.known) s o after m;
     nodes = nodes_after s o after m;
     words = words_after s o after m;
     lines = lines_after s o after m;

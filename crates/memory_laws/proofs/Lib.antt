@@ -14,6 +14,7 @@ pub mod Guards
 pub mod Effects
 pub mod EachStep
 pub mod Base
+pub mod Started
 pub mod Safety
 pub mod Words
 pub mod Invariant
@@ -21,3 +22,6 @@ pub mod First
 pub mod AtEachTime
 pub mod Held
 pub mod WordMoves
+pub mod AtTimes
+pub mod Standing
+pub mod Later

@@ -34,6 +34,7 @@ use Rattle.memory_laws.proofs.Under.{node_under, prev_under, standing_from, slot
 use Rattle.memory_laws.proofs.Guards.{Guarded, Safe, AllZero, guarded_after, zero_after, guarded_if_counted, counted_in_slot, counted_in_root, counted_in_private}
 use Rattle.memory_laws.proofs.Effects.{Effect, Keeps, Makes, Publishes, Restores, Decides, Frees, stays}
 use Rattle.memory_laws.proofs.Base.{IsRecent, HasHandle, Fits}
+use Rattle.memory_laws.proofs.Started.{KnowsRoot}
 
 pub record IsSafe (state : State) : Type 0 where
   pub sound : IsSound state.limits.slots state
@@ -44,6 +45,7 @@ pub record IsSafe (state : State) : Type 0 where
   pub recent : (k : ℕ) (operation : Operation) → get_or state.actors k None ≡ Some operation → IsRecent state k operation
   pub handles : (k : ℕ) (operation : Operation) → get_or state.actors k None ≡ Some operation → HasHandle state operation
   pub fits : (k : ℕ) (operation : Operation) → get_or state.actors k None ≡ Some operation → Fits operation
+  pub known : (k : ℕ) (operation : Operation) → get_or state.actors k None ≡ Some operation → KnowsRoot operation
   pub nodes : (r : Ref) (slot : Slot) → standing state.heap r ≡ Some slot →
       AllHold (IsInUse state.heap) state.heap (node_wants slot.node ++ prev_wants slot.prev) × (is_formed slot.node ≡ true)
   pub words : (handle : ℕ) (root : Root) → root_at state handle ≡ Some root → AllHold (IsInUse state.heap) state.heap (word_wants root.word)
