@@ -1,7 +1,7 @@
 -- The first state's memory is safe.
-use Rattle.std.proofs.Common.{◌≡◌, ℕ, zero, suc, ◌+◌, ◌^◌, ◌<◌, ◌≤◌, Bool, true, List, [], ◌∷◌, ◌++◌, All, length, get_or, set, replicate, Option, Some, None, refl, sym, ap, ◌∙◌, subst, inl, inr, arith}
+use Rattle.std.proofs.Common.{◌≡◌, ℕ, zero, suc, ◌+◌, ◌^◌, ◌<◌, ◌≤◌, Bool, true, List, [], ◌∷◌, ◌++◌, All, Contains, length, get_or, set, replicate, Option, Some, None, refl, sym, ap, ◌∙◌, subst, inl, inr, eq-eqb, arith}
 use Rattle.std.specs.Prelude.{count_ones}
-use Rattle.std.proofs.lemmas.Bool.{cases_eq, le-leb}
+use Rattle.std.proofs.lemmas.Bool.{cases_eq, le-leb, false≢true}
 use Rattle.std.proofs.lemmas.Nat.{ones_le_self}
 use Rattle.std.proofs.lemmas.Option.{none-some, same_Some}
 use Rattle.std.proofs.lemmas.List.{get_or-set_same, length-replicate}
@@ -11,7 +11,9 @@ use Rattle.slot_arena.specs.declared.refs.Ref.{Ref}
 use Rattle.slot_arena.specs.declared.nodes.Node.{Node}
 use Rattle.slot_arena.specs.declared.nodes.Node.TheVariants.{Indirection}
 use Rattle.slot_arena.specs.declared.nodes.Slot.{Slot}
-use Rattle.slot_arena.specs.Heaps.{Heap, stored, node_at, taken, take_from, empty_branch, next_ref}
+use Rattle.slot_arena.specs.Heaps.{Heap, stored, node_at, taken, take_from, empty_branch, next_ref, heap_refs}
+use Rattle.slot_arena.specs.Counts.{count_of}
+use Rattle.machine_model.specs.Counting.{outside, refs_of_root}
 use Rattle.machine_model.specs.declared.actions.Action.TheVariants as act
 use Rattle.machine_model.specs.declared.roots.Root.{Root}
 use Rattle.machine_model.specs.declared.operations.Operation.{Operation}
@@ -27,6 +29,8 @@ use Rattle.memory_laws.proofs.Claims.{Carries, all_carried}
 use Rattle.memory_laws.proofs.Lines.{none_each}
 use Rattle.memory_laws.proofs.Under.{node_under, taken_all, fresh_slot}
 use Rattle.memory_laws.proofs.Effects.{Effect, takes, stays}
+use Rattle.memory_laws.proofs.Guards.{counted, counted_in_slot, counted_in_root}
+use Rattle.memory_laws.proofs.Exact.{HasZeros}
 use Rattle.memory_laws.proofs.Safety.{IsSafe, SlotHolds, slots_after, births_after}
 
 -- what is known of a heap
@@ -139,3 +143,36 @@ safe_at_first limits ok =
       lines = λ k operation found. absurd (none_found limits.actors k operation found);
       privates = λ k operation found. absurd (none_found limits.actors k operation found);
     }
+
+-- ---- each of the two slots is referred to
+
+first_counted : (n : ℕ) → suc (suc n) ≤ 2 ^ 16 → (state : State) → state.heap ≡ first_heap (suc (suc n)) → (root : Root) → root_at state 0 ≡ Some root →
+    Contains (refs_of_root (Some root)) (ref_to 2 1) → (r : Ref) → IsInUse state.heap r → Contains (heap_refs state.heap ++ outside state) r
+first_counted n small state heap root word holds r (slot, found) = elim (cases_eq r (ref_to 2 1)) [
+  | inl is_root ↦ counted_in_root state 0 r root word (subst (Contains (refs_of_root (Some root))) (sym is_root) holds)
+  | inr other ↦
+      let before = sym (one_other r other) ∙ ap (λ h. standing h r) (sym heap) ∙ found in
+      elim (cases_eq r (ref_to 1 0)) [
+      | inl is_branch ↦ counted_in_slot state (ref_to 2 1) r (fresh_slot (one_taken n small) (Indirection 0 (ref_to 1 0))) (ap (λ h. standing h (ref_to 2 1)) heap ∙ root_stands n small)
+          (zero, omega arith, sym is_branch)
+      | inr another ↦ absurd (none_stands (suc (suc n)) r slot (sym (empty_other r another) ∙ before))
+      ]
+]
+  where
+    one_other : (r : Ref) → (r ≡ ref_to 2 1 → ⊥) → standing (first_heap (suc (suc n))) r ≡ standing (one_taken n small) r
+    one_other = (taken_all (suc (suc n)) (one_taken n small) (taken_kept (suc (suc n)) (empty_heap (suc (suc n))) empty_branch (empty_adds_up (suc (suc n)))) small (Indirection 0 (ref_to 1 0)) (ref_to 2 1) (second_ref n small)).2
+    empty_other : (r : Ref) → (r ≡ ref_to 1 0 → ⊥) → standing (one_taken n small) r ≡ standing (empty_heap (suc (suc n))) r
+    empty_other = (taken_all (suc (suc n)) (empty_heap (suc (suc n))) (empty_adds_up (suc (suc n))) small empty_branch (ref_to 1 0) refl).2
+
+first_counted_by : (slots : ℕ) → 2 ≤ slots → slots ≤ 2 ^ 16 → (state : State) → state.heap ≡ first_heap slots → (root : Root) → root_at state 0 ≡ Some root →
+    Contains (refs_of_root (Some root)) (ref_to 2 1) → (r : Ref) → IsInUse state.heap r → Contains (heap_refs state.heap ++ outside state) r
+first_counted_by zero low small = absurd (omega arith)
+first_counted_by (suc zero) low small = absurd (omega arith)
+first_counted_by (suc (suc n)) low small = first_counted n small
+
+-- so limbo has all with none, which it is to have
+pub first_zeros : (limits : Limits) → AreLimits limits → HasZeros (first_state limits)
+unfolding first_state
+first_zeros limits ok r (used, zeros) =
+    let is_counted = first_counted_by limits.slots ok.0 ok.1 (first_state limits) refl _ refl (zero, omega arith, refl) r used in
+    absurd (false≢true (sym (counted (first_state limits).heap (outside (first_state limits)) r is_counted) ∙ eq-eqb (count_of (first_state limits).heap (outside (first_state limits)) r) 0 zeros))

@@ -64,7 +64,7 @@ swept_grows : (pins : List (Option ℕ)) (r : Reclaimer) (due : Option Ref) → 
 swept_grows pins r (Some at) = omega arith
 swept_grows pins r None = cond_both (nat_le r.cursor (length pins)) _ _ (λ (done : Swept × Reclaimer). r.epoch ≤ done.1.epoch) (λ e. omega arith) (λ e. omega arith)
 
-gone_epoch : (state : State) (actor : ℕ) (operation : Operation) → (gone state actor operation).epoch ≡ state.epoch
+pub gone_epoch : (state : State) (actor : ℕ) (operation : Operation) → (gone state actor operation).epoch ≡ state.epoch
 gone_epoch state actor operation = (acted_framed _ (handle_of operation.call) (action_of state operation)).epoch
 
 pub epoch_grows : (state : State) (s : Step) (o : Outcome) (after : State) → Moves state s o after → state.epoch ≤ after.epoch

@@ -25,3 +25,6 @@ pub mod WordMoves
 pub mod AtTimes
 pub mod Standing
 pub mod Later
+pub mod Epochs
+pub mod Exact
+pub mod Zeros
