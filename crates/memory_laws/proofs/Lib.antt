@@ -28,3 +28,4 @@ pub mod Later
 pub mod Epochs
 pub mod Exact
 pub mod Zeros
+pub mod Sweeps

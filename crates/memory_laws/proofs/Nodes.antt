@@ -62,7 +62,7 @@ module _ (S : Ref → Type 0) (heap : Heap) where
   listed_in node e h = absurd (false≢true e)
 
   -- the entries of any main node
-  all_in : (node : Node) → AllHold S heap (node_wants node) → All (Meets S heap AnEntry) (entries_of node)
+  pub all_in : (node : Node) → AllHold S heap (node_wants node) → All (Meets S heap AnEntry) (entries_of node)
   all_in (Indirection generation main) h = All-nil (Meets S heap AnEntry)
   all_in (Branch bitmap entries) h = all_of h.0
   all_in (Single key value) h = All-nil (Meets S heap AnEntry)

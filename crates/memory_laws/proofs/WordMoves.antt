@@ -188,7 +188,7 @@ module _ (states : ℕ → State) (t : ℕ) where
 abbrev OnlyGoes : (Ref → Option Slot) → (Ref → Option Slot) → Type 0
 OnlyGoes f g = (r : Ref) → (g r ≡ f r) ⊎ (g r ≡ None)
 
-sweep_goes : (state : State) (I : IsSafe state) (pins : List (Option ℕ)) (due : Option Ref) → ((q : Ref) → due ≡ Some q → IsInUse state.heap q) →
+pub sweep_goes : (state : State) (I : IsSafe state) (pins : List (Option ℕ)) (due : Option Ref) → ((q : Ref) → due ≡ Some q → IsInUse state.heap q) →
     OnlyGoes (standing state.heap) (standing (sweep_by pins (reclaimer_of state) due).1.heap)
 sweep_goes state I pins None used r =
     cond_both (nat_le state.cursor (length pins)) _ _ (λ (done : Swept × Reclaimer). (standing done.1.heap r ≡ standing state.heap r) ⊎ (standing done.1.heap r ≡ None)) (λ e. inl refl) (λ e. inl refl)
