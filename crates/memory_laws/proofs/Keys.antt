@@ -33,12 +33,12 @@ use Rattle.memory_laws.proofs.Rooting.{step_wants, read_acts, read_next, indirec
 use Rattle.memory_laws.proofs.Lines.{position_within, this, current_is, above_each, above_long, pushed_each, pushed_long, none_each, flag_spares, formed_ones, at_most, other_of_two, three, first_of_two}
 
 -- the call changes the map
-abbrev Changes : WhenFound → Type 0
+abbrev pub Changes : WhenFound → Type 0
 Changes (Answers answer) = ⊥
 Changes todo = Unit {0}
 
 -- a call that needs no writable handle doesn't
-reader_changes : (call : Call) (value : ℕ) → needs_writable call ≡ false → Changes (when_found call value) → ⊥
+pub reader_changes : (call : Call) (value : ℕ) → needs_writable call ≡ false → Changes (when_found call value) → ⊥
 reader_changes (Get h k) value n c = c
 reader_changes (Close h) value n c = c
 reader_changes (Entries h) value n c = c
@@ -59,7 +59,7 @@ list_listed ReadOnly (Listed singles) e = refl
 list_listed ReadOnly node e = absurd (false≢true e)
 
 -- what is listed is a list or a tomb
-listed_either : (access : Access) (node : Node) → meets (listed access) node ≡ true → meets TombOrList node ≡ true
+pub listed_either : (access : Access) (node : Node) → meets (listed access) node ≡ true → meets TombOrList node ≡ true
 listed_either Writable (Listed singles) e = refl
 listed_either Writable node e = absurd (false≢true e)
 listed_either ReadOnly node e = e
@@ -191,7 +191,7 @@ module _ (state : State) (operation : Operation) (S : Ref → Type 0) (H : Heape
 
   module _ (fits : operation.access ≡ ReadOnly → needs_writable operation.call ≡ false) where
     -- a list where its call changes something
-    changed_list : {main : Ref} → (needs_writable operation.call ≡ false → ⊥) → At main (listed operation.access) → At main AList
+    pub changed_list : {main : Ref} → (needs_writable operation.call ≡ false → ⊥) → At main (listed operation.access) → At main AList
     changed_list {main} writes m = is_also AList (λ node. writer_lists operation.access operation.call node fits writes) m
 
     listed_next : (path : List Ref) (main : Ref) (position : ℕ) (node : Node) → IsPath path → At main (listed operation.access) →

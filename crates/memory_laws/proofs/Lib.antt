@@ -29,3 +29,4 @@ pub mod Epochs
 pub mod Exact
 pub mod Zeros
 pub mod Sweeps
+pub mod Impossible
