@@ -30,3 +30,5 @@ pub mod Exact
 pub mod Zeros
 pub mod Sweeps
 pub mod Impossible
+pub mod Never
+pub mod Ranks

@@ -19,7 +19,7 @@ use Rattle.memory_laws.proofs.Held.{node_refs, prev_refs, word_refs}
 use Rattle.memory_laws.proofs.Safety.{IsSafe}
 use Rattle.memory_laws.proofs.Invariant.{of_actor}
 
-none_contained : {P : Type 0} (r : Ref) → Contains [] r → P
+pub none_contained : {P : Type 0} (r : Ref) → Contains [] r → P
 none_contained r (i, within, at_i) = absurd (omega arith)
 
 module _ (state : State) (I : IsSafe state) where
