@@ -32,3 +32,4 @@ pub mod Sweeps
 pub mod Impossible
 pub mod Never
 pub mod Ranks
+pub mod Levels
