@@ -33,3 +33,4 @@ pub mod Impossible
 pub mod Never
 pub mod Ranks
 pub mod Levels
+pub mod LevelSteps
