@@ -34,3 +34,4 @@ pub mod Never
 pub mod Ranks
 pub mod Levels
 pub mod LevelSteps
+pub mod LevelNext

@@ -32,10 +32,10 @@ length-inserted xs i x = omega (arith, length-append (take i xs) (x ∷ drop i x
 length-removed : (xs : List Ref) (i : ℕ) → length xs ≤ length (remove xs i) + 1
 length-removed xs i = omega (arith, length-append (take i xs) (drop (suc i) xs), length-take i xs, length-drop (suc i) xs)
 
-All-inserted : (P : Ref → Type 0) (xs : List Ref) (i : ℕ) (x : Ref) → All P xs → P x → All P (insert xs i x)
+pub All-inserted : (P : Ref → Type 0) (xs : List Ref) (i : ℕ) (x : Ref) → All P xs → P x → All P (insert xs i x)
 All-inserted P xs i x all h = All-append P (take i xs) (x ∷ drop i xs) (All-take P i xs all) (All-cons P x (drop i xs) h (All-drop P i xs all))
 
-All-removed : (P : Ref → Type 0) (xs : List Ref) (i : ℕ) → All P xs → All P (remove xs i)
+pub All-removed : (P : Ref → Type 0) (xs : List Ref) (i : ℕ) → All P xs → All P (remove xs i)
 All-removed P xs i all = All-append P (take i xs) (drop (suc i) xs) (All-take P i xs all) (All-drop P (suc i) xs all)
 
 -- ---- formed nodes
@@ -127,7 +127,7 @@ module _ (S : Ref → Type 0) (heap : Heap) where
   pair_all : (P : Ref → Type 0) (x y : Ref) → P x → P y → All P (x ∷ y ∷ [])
   pair_all P x y h g = All-cons P x (y ∷ []) h (All-cons P y [] g (All-nil P))
 
-  by_index_all : (P : Ref → Type 0) (a b : ℕ) (x y : Ref) → P x → P y → All P (by_index a b x y)
+  pub by_index_all : (P : Ref → Type 0) (a b : ℕ) (x y : Ref) → P x → P y → All P (by_index a b x y)
   by_index_all P a b x y h g = cond_both (nat_lt a b) _ _ (λ es. All P es) (λ e. pair_all P x y h g) (λ e. pair_all P y x g h)
 
   by_index_two : (a b : ℕ) (x y : Ref) → length (by_index a b x y) ≡ 2
