@@ -10,12 +10,14 @@ use Rattle.slot_arena.specs.Refs.{ref_to, slot_of, birth_of}
 use Rattle.slot_arena.specs.declared.refs.Ref.{Ref}
 use Rattle.slot_arena.specs.declared.nodes.Node.{Node}
 use Rattle.slot_arena.specs.declared.nodes.Node.TheVariants.{Indirection}
+use Rattle.slot_arena.specs.declared.nodes.Prev.TheVariants as prev
 use Rattle.slot_arena.specs.declared.nodes.Slot.{Slot}
 use Rattle.slot_arena.specs.Heaps.{Heap, stored, node_at, taken, take_from, empty_branch, next_ref, heap_refs}
 use Rattle.slot_arena.specs.Counts.{count_of}
 use Rattle.machine_model.specs.Counting.{outside, refs_of_root}
 use Rattle.machine_model.specs.declared.actions.Action.TheVariants as act
 use Rattle.machine_model.specs.declared.roots.Root.{Root}
+use Rattle.machine_model.specs.declared.roots.RootWord.{RootWord}
 use Rattle.machine_model.specs.declared.operations.Operation.{Operation}
 use Rattle.machine_model.specs.declared.steps.Limits.{Limits}
 use Rattle.machine_model.specs.States.{State, first_state, first_heap, empty_heap, handle_limit, root_at}
@@ -117,10 +119,9 @@ first_right (suc zero) low small = absurd (omega arith)
 first_right (suc (suc n)) low small = (right_two n small, root_right n small)
 
 -- the word of handle 0 alone
-first_words : (S : Ref → Type 0) (heap : Heap) (word : Root) → AllHold S heap (word_wants word.word) → (k : ℕ) (root : Root) →
-    get_or (set (replicate handle_limit None) 0 (Some word)) k None ≡ Some root → AllHold S heap (word_wants root.word)
-first_words S heap word h k root e = elim (cases_eq k 0) [
-  | inl same ↦ subst (λ (r : Root). AllHold S heap (word_wants r.word))
+pub first_words : (P : RootWord → Type 0) (word : Root) → P word.word → (k : ℕ) (root : Root) → get_or (set (replicate handle_limit None) 0 (Some word)) k None ≡ Some root → P root.word
+first_words P word h k root e = elim (cases_eq k 0) [
+  | inl same ↦ subst (λ (r : Root). P r.word)
       (same_Some _ _ (found_here (replicate handle_limit None) 0 (Some word) root (subst (λ i. get_or (set (replicate handle_limit None) 0 (Some word)) i None ≡ Some root) same e))) h
   | inr other ↦ absurd (none_found handle_limit k root (sym (found_elsewhere (replicate handle_limit None) 0 k (Some word) other) ∙ e))
 ]
@@ -139,10 +140,44 @@ safe_at_first limits ok =
       fits = λ k operation found. absurd (none_found limits.actors k operation found);
       known = λ k operation found. absurd (none_found limits.actors k operation found);
       nodes = right.nodes;
-      words = first_words _ _ _ (root, tt);
+      words = first_words (λ word. AllHold _ _ (word_wants word)) _ (root, tt);
       lines = λ k operation found. absurd (none_found limits.actors k operation found);
       privates = λ k operation found. absurd (none_found limits.actors k operation found);
     }
+
+first_stands_in : (P : Ref → Slot → Type 0) (n : ℕ) → suc (suc n) ≤ 2 ^ 16 →
+    ((birth : ℕ) → P (ref_to 2 1) (record { birth = birth; node = Indirection 0 (ref_to 1 0); prev = prev.None })) →
+    ((birth : ℕ) → P (ref_to 1 0) (record { birth = birth; node = empty_branch; prev = prev.None })) →
+    (r : Ref) (slot : Slot) → standing (first_heap (suc (suc n))) r ≡ Some slot → P r slot
+first_stands_in P n small at_root at_branch r slot found = elim (cases_eq r (ref_to 2 1)) [
+  | inl is_root ↦
+      subst (λ q. P q slot) (sym is_root)
+      (subst (P (ref_to 2 1)) (same_Some _ _ (sym (root_stands n small) ∙ ap (standing (first_heap (suc (suc n)))) (sym is_root) ∙ found)) (at_root ((one_taken n small).births + 1)))
+  | inr other ↦
+      let before = sym (one_other r other) ∙ found in
+      elim (cases_eq r (ref_to 1 0)) [
+      | inl is_branch ↦
+          subst (λ q. P q slot) (sym is_branch)
+          (subst (P (ref_to 1 0)) (same_Some _ _ (sym (branch_stands n small) ∙ ap (standing (one_taken n small)) (sym is_branch) ∙ before)) (at_branch ((empty_heap (suc (suc n))).births + 1)))
+      | inr another ↦ absurd (none_stands (suc (suc n)) r slot (sym (empty_other r another) ∙ before))
+      ]
+]
+  where
+    one_other : (r : Ref) → (r ≡ ref_to 2 1 → ⊥) → standing (first_heap (suc (suc n))) r ≡ standing (one_taken n small) r
+    one_other = (taken_all (suc (suc n)) (one_taken n small) (taken_kept (suc (suc n)) (empty_heap (suc (suc n))) empty_branch (empty_adds_up (suc (suc n)))) small (Indirection 0 (ref_to 1 0)) (ref_to 2 1) (second_ref n small)).2
+    empty_other : (r : Ref) → (r ≡ ref_to 1 0 → ⊥) → standing (one_taken n small) r ≡ standing (empty_heap (suc (suc n))) r
+    empty_other = (taken_all (suc (suc n)) (empty_heap (suc (suc n))) (empty_adds_up (suc (suc n))) small empty_branch (ref_to 1 0) refl).2
+
+-- ---- what stands at first
+
+-- P holds of the root and of its branch, and so of all
+pub first_stands : (P : Ref → Slot → Type 0) (slots : ℕ) → 2 ≤ slots → slots ≤ 2 ^ 16 →
+    ((birth : ℕ) → P (ref_to 2 1) (record { birth = birth; node = Indirection 0 (ref_to 1 0); prev = prev.None })) →
+    ((birth : ℕ) → P (ref_to 1 0) (record { birth = birth; node = empty_branch; prev = prev.None })) →
+    (r : Ref) (slot : Slot) → standing (first_heap slots) r ≡ Some slot → P r slot
+first_stands P zero low small = absurd (omega arith)
+first_stands P (suc zero) low small = absurd (omega arith)
+first_stands P (suc (suc n)) low small = first_stands_in P n small
 
 -- ---- each of the two slots is referred to
 

@@ -118,7 +118,7 @@ module _ (state : State) (I : IsSafe state) where
       AllHold (Safe state operation.epoch) state.heap (action_wants (action_of state operation))
   step_claims k operation e = line_acts state operation (Safe state operation.epoch) (heaped state I operation.epoch) operation.line (I.lines k operation e)
 
-  gone_effect : (actor k : ℕ) (operation : Operation) → get_or state.actors k None ≡ Some operation → Effects operation.epoch None (settled state (gone state actor operation))
+  pub gone_effect : (actor k : ℕ) (operation : Operation) → get_or state.actors k None ≡ Some operation → Effects operation.epoch None (settled state (gone state actor operation))
   gone_effect actor k operation e =
       acted_effect (Safe state operation.epoch) _ None (used_of state operation.epoch) state.limits.slots (I.sound.heap) (I.small) (handle_of operation.call)
       (action_of state operation) (step_claims k operation e)

@@ -67,6 +67,7 @@ use Rattle.memory_laws.specs.Wants.{Wanted, AnIndirection, AMain, ABranch, Branc
 use Rattle.memory_laws.proofs.Claims.{Meets, safe_of, meets_of, all_of, fact_of, entry_of, from_meets, is_also, first_hold, last_hold}
 use Rattle.memory_laws.proofs.Nodes.{Heaped, branch_entries, at_position}
 use Rattle.memory_laws.proofs.Lines.{above_long}
+use Rattle.memory_laws.proofs.Next.{made_node}
 use Rattle.memory_laws.proofs.Making.{All-inserted, All-removed, by_index_all}
 use Rattle.memory_laws.proofs.Levels.{EntryLevel, InsideLevel, KindLevel, NodeLevel, PrevLevel, OfferLevel, WordLevel, PairLevel, ReadLevel, CompleteLevel, RootLevel, PathLevel, PlaceLevel, UpdateLevel, ChangeLevel, BuildLevel, SwapLineLevel, SwapLevel, DoneLevel, LineLevel, ActionLevel, current_level, above_level, build_level, made_level}
 use Rattle.memory_laws.proofs.LevelSteps.{AfterLevel, SwappedLevel, RenewsPath, single_level, branch_level, read_next, complete_next, root_next, renew_next_level, more_done, key_read_level, key_main_level, key_entry_level, listed_level, sibling_level, renew_entry_level, renew_read_level, clean_read_level, clean_main_level, clean_entry_level, child_level, clean_tomb_level, climb_read_level, climb_main_level, climb_root_level, copy_read_level, copy_offer_level, copy_complete_level, walk_next_level, walk_read_level, walk_entry_level, root_line_level, publish_level, deciding_level, check_level, line_swap_level}
@@ -235,7 +236,7 @@ module _ (lv : Ref → ℕ) (state : State) (operation : Operation) (S : Ref →
   module _ (W : WordLevel lv (word_at state (handle_of operation.call))) (older : (r made : Ref) → S r → next_ref state.heap ≡ Some made → r < made) where
     -- the node that is made has its level
     abbrev Made : Line → Type 0
-    Made l = (made : Ref) → next_ref state.heap ≡ Some made → lv made ≡ made_level l
+    Made l = (node : SlotNode) (made : Ref) → made_node state (line_action state operation l) ≡ Some node → next_ref state.heap ≡ Some made → lv made ≡ made_level l
 
     swap_begun : (path : List Ref) (main made : Ref) → PathLevel lv path → nat_lt 0 (length path) ≡ true → lv main ≡ depth_of path + 1 → S main → lv made ≡ depth_of path + 1 → next_ref state.heap ≡ Some made →
         SwapLevel lv (current path) main made
@@ -268,12 +269,12 @@ module _ (lv : Ref → ℕ) (state : State) (operation : Operation) (S : Ref →
 
     build_next : (l : BuildLine) → Wants (line.Build l) → BuildLevel lv l → Made (line.Build l) → L (build_after state operation l)
     build_next (build.Single path main s former) h e m = build_by (build.Single path main s former) (λ made n. single_next path main former s made h.1.1.1 e) (next_ref state.heap) refl
-    build_next (build.Pair path main position single depth) h e m = build_by (build.Pair path main position single depth) (λ made n. (e.0, e.1, m made n)) (next_ref state.heap) refl
-    build_next (build.Link path main position below depth) h e m = build_by (build.Link path main position below depth) (λ made n. link_next path main position depth made e.0 e.1 (m made n)) (next_ref state.heap) refl
-    build_next (build.Rung path main position below depth) h e m = build_by (build.Rung path main position below depth) (λ made n. (e.0, e.1, m made n)) (next_ref state.heap) refl
+    build_next (build.Pair path main position single depth) h e m = build_by (build.Pair path main position single depth) (λ made n. (e.0, e.1, m _ made refl n)) (next_ref state.heap) refl
+    build_next (build.Link path main position below depth) h e m = build_by (build.Link path main position below depth) (λ made n. link_next path main position depth made e.0 e.1 (m _ made refl n)) (next_ref state.heap) refl
+    build_next (build.Rung path main position below depth) h e m = build_by (build.Rung path main position below depth) (λ made n. (e.0, e.1, m _ made refl n)) (next_ref state.heap) refl
     build_next (build.Main path main c former) h e m =
         build_by (build.Main path main c former)
-        (λ made n. (swap_begun path main made e.0.0 (fact_of h.1.0) e.0.1 (safe_of h.1.1.0) (m made n) n, tt, e.0.0)) (next_ref state.heap) refl
+        (λ made n. (swap_begun path main made e.0.0 (fact_of h.1.0) e.0.1 (safe_of h.1.1.0) (m _ made refl n) n, tt, e.0.0)) (next_ref state.heap) refl
 
     link_by : (path : List Ref) (main : Ref) (done : List Ref) → DoneLevel lv path main done → ((made : Ref) → next_ref state.heap ≡ Some made → lv made ≡ depth_of path + 2) → (o : Option Ref) → next_ref state.heap ≡ o →
         L (renew_after_link state path main done o)
@@ -344,8 +345,8 @@ module _ (lv : Ref → ℕ) (state : State) (operation : Operation) (S : Ref →
         renew_entry_level lv state operation S N path main done (next_entry state main done) (node_at state.heap (next_entry state main done)) refl
         ((at_position S state.heap AnEntry (length done) (branch_entries S state.heap H h.1.1.0) h.1.1.1.1.0).0) e (next_level path main done e h.1.1.0 h.1.1.1.1.0)
     line_level_next (line.Renew (renew.Read path main done r)) h e m = renew_read_level lv state operation S N path main done r.indirection _ e.0 e.1 (reads r.indirection r.line h.1.1.1.1.1 e.2)
-    line_level_next (line.Renew (renew.Link path main done child)) h e m = link_by path main done e.0 m (next_ref state.heap) refl
-    line_level_next (line.Renew (renew.Branch path main done)) h e m = branch_by path main e.0 (fact_of h.1.0) (safe_of h.1.1.0) m (next_ref state.heap) refl
+    line_level_next (line.Renew (renew.Link path main done child)) h e m = link_by path main done e.0 (λ made n. m _ made refl n) (next_ref state.heap) refl
+    line_level_next (line.Renew (renew.Branch path main done)) h e m = branch_by path main e.0 (fact_of h.1.0) (safe_of h.1.1.0) (λ made n. m _ made refl n) (next_ref state.heap) refl
     line_level_next (line.Clean (clean.Read path r)) h e m = clean_read_level lv state operation S N path r.indirection _ e.0 e.1 (reads r.indirection r.line h.1.1 e.2)
     line_level_next (line.Clean (clean.Main path main)) h e m = clean_main_level lv state operation S N path main (node_at state.heap main) e
     line_level_next (line.Clean (clean.Entry path main done)) h e m =
@@ -353,17 +354,17 @@ module _ (lv : Ref → ℕ) (state : State) (operation : Operation) (S : Ref →
     line_level_next (line.Clean (clean.Child path main done r)) h e m = child_level lv state operation S N path main done r.indirection _ e.0 (reads r.indirection r.line h.1.1.1.1.1 e.1)
     line_level_next (line.Clean (clean.Tomb path main done child)) h e m =
         clean_tomb_level lv state operation S N path main done (node_at state.heap child) (H.inside child (safe_of h.1.1.1.1.1.0)) e (next_level path main done e h.1.1.0 h.1.1.1.1.0)
-    line_level_next (line.Clean (clean.Contracted path main done)) h e m = clean_by path main e.0 (fact_of h.1.0) (safe_of h.1.1.0) m (next_ref state.heap) refl
+    line_level_next (line.Clean (clean.Contracted path main done)) h e m = clean_by path main e.0 (fact_of h.1.0) (safe_of h.1.1.0) (λ made n. m _ made refl n) (next_ref state.heap) refl
     line_level_next (line.Climb (climb.Read c r)) h e m = climb_read_level lv state operation S N c r.indirection _ e.0 e.1 (reads r.indirection r.line h.1.1.1 e.2)
     line_level_next (line.Climb (climb.Main c main)) h e m = climb_main_level lv state operation S N c main (node_at state.heap main) e.0 e.1
-    line_level_next (line.Climb (climb.Contracted c main)) h e m = climb_by c main e.0 (fact_of h.1.0) e.1 (safe_of h.1.1.1.0) m (next_ref state.heap) refl
+    line_level_next (line.Climb (climb.Contracted c main)) h e m = climb_by c main e.0 (fact_of h.1.0) e.1 (safe_of h.1.1.1.0) (λ made n. m _ made refl n) (next_ref state.heap) refl
     line_level_next (line.Climb (climb.Root c l)) h e m = climb_root_level lv state operation S N c _ e.0 (root_next lv state operation S N W l h.1.1.1 e.1)
     line_level_next (line.Copy (copy.Read r l)) h e m = copy_read_level lv state operation S N r l.indirection _ e.0 e.1 (reads l.indirection l.line h.1 e.2)
-    line_level_next (line.Copy (copy.Successor r main)) h e m = copy_by (copy.Successor r main) (λ made n. successor_next operation.call r main made e.0 e.1 (m made n)) (next_ref state.heap) refl
+    line_level_next (line.Copy (copy.Successor r main)) h e m = copy_by (copy.Successor r main) (λ made n. successor_next operation.call r main made e.0 e.1 (m _ made refl n)) (next_ref state.heap) refl
     line_level_next (line.Copy (copy.Second r main successor)) h e m =
-        copy_by (copy.Second r main successor) (λ made n. (e.0, e.1, e.2, All-cons (λ x. lv x ≡ 1) made [] (m made n) (All-nil (λ x. lv x ≡ 1)))) (next_ref state.heap) refl
-    line_level_next (line.Copy (copy.Empty r main)) h e m = copy_by (copy.Empty r main) (λ made n. (e.0, e.1, m made n)) (next_ref state.heap) refl
-    line_level_next (line.Copy (copy.Cleared r main branch)) h e m = copy_by (copy.Cleared r main branch) (λ made n. (e.0, e.1, m made n, All-nil (λ x. lv x ≡ 1))) (next_ref state.heap) refl
+        copy_by (copy.Second r main successor) (λ made n. (e.0, e.1, e.2, All-cons (λ x. lv x ≡ 1) made [] (m _ made refl n) (All-nil (λ x. lv x ≡ 1)))) (next_ref state.heap) refl
+    line_level_next (line.Copy (copy.Empty r main)) h e m = copy_by (copy.Empty r main) (λ made n. (e.0, e.1, m _ made refl n)) (next_ref state.heap) refl
+    line_level_next (line.Copy (copy.Cleared r main branch)) h e m = copy_by (copy.Cleared r main branch) (λ made n. (e.0, e.1, m _ made refl n, All-nil (λ x. lv x ≡ 1))) (next_ref state.heap) refl
     line_level_next (line.Copy (copy.Offer offer)) h e m = copy_offer_level lv state operation S N offer (is_plain (word_at state (handle_of operation.call)) offer.root) e
     line_level_next (line.Copy (copy.Complete c)) h e m = copy_complete_level lv state operation S N _ (complete_next lv state operation S N W c h e)
     line_level_next (line.Walk walk.Root) h e m = tt

@@ -35,3 +35,5 @@ pub mod Ranks
 pub mod Levels
 pub mod LevelSteps
 pub mod LevelNext
+pub mod LevelStates
+pub mod LevelRuns
