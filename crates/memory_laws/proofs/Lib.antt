@@ -37,3 +37,4 @@ pub mod LevelSteps
 pub mod LevelNext
 pub mod LevelStates
 pub mod LevelRuns
+pub mod Measure

@@ -16,10 +16,10 @@ use Rattle.machine_model.specs.declared.steps.Step.TheVariants.{Sweep}
 use Rattle.machine_model.specs.Calls.{handle_of}
 use Rattle.machine_model.specs.States.{State, root_at, operation_of}
 use Rattle.machine_model.specs.Counting.{outside, refs_of_root}
-use Rattle.machine_model.specs.Contents.{content_at, held}
+use Rattle.machine_model.specs.Contents.{IsReached, content_at, held}
 use Rattle.machine_model.specs.Operations.{action_of}
 use Rattle.machine_model.specs.Orders.{order_of}
-use Rattle.machine_model.specs.Machine.{AreLimits, run, next_state}
+use Rattle.machine_model.specs.Machine.{AreLimits, is_busy, run, next_state}
 use Rattle.machine_model.proofs.Grown.{standing}
 use Rattle.memory_laws.specs.Wants.{AllHold, is_formed, node_wants, prev_wants, word_wants, action_wants, line_wants}
 
@@ -139,3 +139,9 @@ SweepLeaves =
       (root_at (next_state (run limits steps) Sweep) handle ≡ Some root) × (content_at (next_state (run limits steps) Sweep) handle ≡ content_at (run limits steps) handle))
     × ((next_state (run limits steps) Sweep).events ≡ (run limits steps).events)
     × (order_of (next_state (run limits steps) Sweep) ≡ order_of (run limits steps))
+
+-- at rest, with limbo empty, the slots in use are exactly the reachable ones
+abbrev pub Reclaimed : Type 0
+Reclaimed =
+    (limits : Limits) (steps : List Step) (r : Ref) → AreLimits limits → is_busy (run limits steps) ≡ false → (run limits steps).limbo ≡ [] →
+    (IsInUse (run limits steps).heap r → IsReached (run limits steps) r) × (IsReached (run limits steps) r → IsInUse (run limits steps).heap r)

@@ -1,6 +1,6 @@
 //! Laws of memory, for every list of steps.
 
-ghost use Rattle.memory_laws.specs.Laws.{HeldInUse, StandingInUse, DrawnOnce, OneNodeForEver, LinesFind, NodesFind, RootsFind, LimboIsExact, LimboIsRecent, FreedLate, SweepLeaves};
+ghost use Rattle.memory_laws.specs.Laws.{HeldInUse, StandingInUse, DrawnOnce, OneNodeForEver, LinesFind, NodesFind, RootsFind, LimboIsExact, LimboIsRecent, FreedLate, SweepLeaves, Reclaimed};
 
 /// A law: each reference that a running operation has got since its begin (`held`), or that stands in a root
 /// word, a private list or a slot in use (`standing`), names a slot in use, under that very birth.
@@ -40,4 +40,9 @@ pub fn limbo_is_right()
 /// A law: a step of the sweep leaves the contents of all open handles, the history and the order alone.
 pub fn sweep_leaves()
     ensures { SweepLeaves }
+{}
+
+/// A law: where no operation runs and limbo is empty, the slots in use are exactly the reachable ones.
+pub fn reclaimed()
+    ensures { Reclaimed }
 {}
