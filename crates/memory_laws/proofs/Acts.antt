@@ -1,19 +1,18 @@
 -- What a line wants gives what its step wants.
-use Rattle.std.proofs.Common.{◌≡◌, ℕ, ◌+◌, ◌-◌, ◌^◌, ◌<◌, ◌≤◌, ◌&&◌, Bool, true, false, nat_lt, nat_le, List, [], ◌∷◌, ◌++◌, Option, Some, None, All, length, get_or, set, refl, sym, ap, ◌∙◌, subst, ltb-true, leb-true, arith}
-use Rattle.std.specs.Prelude.{bit_and, count_ones}
+use Rattle.std.proofs.Common.{◌≡◌, ℕ, ◌^◌, ◌<◌, ◌&&◌, true, nat_le, List, [], ◌∷◌, length, set, refl, sym, subst, ltb-true, leb-true, arith}
+use Rattle.std.specs.Prelude.{count_ones}
 use Rattle.std.proofs.lemmas.Bool.{false≢true, and_parts, le-leb}
 use Rattle.std.proofs.lemmas.Nat.{ones_le_self}
 use Rattle.std.proofs.lemmas.List.{length-set}
-use Rattle.std.proofs.lemmas.List.Elements.{All-set, All-nil, All-head}
+use Rattle.std.proofs.lemmas.List.Elements.{All-set, All-head}
 use Rattle.ctrie_base.specs.Paths.{position_of}
 use Rattle.slot_arena.specs.declared.refs.Ref.{Ref}
 use Rattle.slot_arena.specs.declared.nodes.Node.{Node}
-use Rattle.slot_arena.specs.declared.nodes.Node.TheVariants.{Indirection, Branch, Single, Tomb, List as Listed}
-use Rattle.slot_arena.specs.Heaps.{Heap, node_at, entry_at, entries_of, bitmap_of}
+use Rattle.slot_arena.specs.declared.nodes.Node.TheVariants.{Branch}
+use Rattle.slot_arena.specs.Heaps.{node_at, entry_at, entries_of, bitmap_of}
 use Rattle.nodes.specs.Levels.{index_in}
 use Rattle.machine_model.specs.declared.operations.Operation.{Operation}
 use Rattle.machine_model.specs.declared.actions.Action.TheVariants as act
-use Rattle.machine_model.specs.declared.reading.Read.{Read}
 use Rattle.machine_model.specs.declared.reading.Swap.{Swap}
 use Rattle.machine_model.specs.declared.reading.SwapLine.{SwapLine}
 use Rattle.machine_model.specs.declared.reading.SwapLine.TheVariants as swap
@@ -30,26 +29,24 @@ use Rattle.machine_model.specs.declared.copying.CopyLine.{CopyLine}
 use Rattle.machine_model.specs.declared.copying.CopyLine.TheVariants as copy
 use Rattle.machine_model.specs.declared.walking.WalkLine.{WalkLine}
 use Rattle.machine_model.specs.declared.walking.WalkLine.TheVariants as walk
-use Rattle.machine_model.specs.declared.lines.Purpose.{Purpose}
 use Rattle.machine_model.specs.declared.lines.Line.{Line}
 use Rattle.machine_model.specs.declared.lines.Line.TheVariants as line
 use Rattle.machine_model.specs.States.{State}
-use Rattle.machine_model.specs.Paths.{current, above, is_below_root, flag_in, hash_in, depth_of}
-use Rattle.machine_model.specs.Swapping.{swap_action, action_at}
-use Rattle.machine_model.specs.Renewing.{renew_action, next_entry}
-use Rattle.machine_model.specs.Building.{build_action, old_hash}
-use Rattle.machine_model.specs.Cleaning.{clean_action, cleaned, leaves_single}
-use Rattle.machine_model.specs.Climbing.{climb_action, place_in, climbed_node}
-use Rattle.machine_model.specs.Copying.{copy_action}
-use Rattle.machine_model.specs.Walking.{walk_action, first_of}
+use Rattle.machine_model.specs.Paths.{above, is_below_root, flag_in, hash_in, depth_of}
+use Rattle.machine_model.specs.Swapping.{action_at}
+use Rattle.machine_model.specs.Renewing.{next_entry}
+use Rattle.machine_model.specs.Building.{old_hash}
+use Rattle.machine_model.specs.Cleaning.{leaves_single}
+use Rattle.machine_model.specs.Climbing.{place_in, climbed_node}
+use Rattle.machine_model.specs.Walking.{first_of}
 use Rattle.machine_model.specs.Operations.{line_action}
-use Rattle.memory_laws.specs.Wants.{Wanted, Anything, AnIndirection, AMain, ABranch, BranchOrList, AnEntry, ASingle, WithEntry, AtMost, WithFlag, meets, is_formed, Claim, Is, Each, EntryIs, So, Holds, is, each, so, AllHold, node_wants, read_wants, action_wants, line_wants, build_wants, swap_wants, swap_line_wants, purpose_wants, renew_wants, clean_wants, climb_wants, copy_wants, walk_wants}
-use Rattle.memory_laws.proofs.Claims.{Meets, safe_of, meets_of, is_also, all_of, fact_of, entry_of, as_meets, from_meets, first_hold, last_hold}
-use Rattle.memory_laws.proofs.Nodes.{Heaped, branch_entries, at_position, single_entry, branch_both}
+use Rattle.memory_laws.specs.Wants.{Wanted, AnIndirection, AMain, ABranch, AnEntry, ASingle, WithEntry, WithFlag, meets, is_formed, Is, Each, Holds, is, so, AllHold, action_wants, line_wants, build_wants, swap_wants, swap_line_wants, purpose_wants, renew_wants, clean_wants, climb_wants, copy_wants, walk_wants}
+use Rattle.memory_laws.proofs.Claims.{Meets, safe_of, meets_of, all_of, fact_of, entry_of, as_meets, first_hold}
+use Rattle.memory_laws.proofs.Nodes.{Heaped, branch_entries, at_position, single_entry}
 use Rattle.memory_laws.proofs.Rooting.{read_acts, complete_acts, root_acts}
 use Rattle.memory_laws.proofs.Lines.{position_within, none_each, first_safe}
 use Rattle.memory_laws.proofs.Keys.{key_acts}
-use Rattle.memory_laws.proofs.Making.{index_below, small_of, changed_made, pair_made, rung_made, renewed_made, contracted_made, alone}
+use Rattle.memory_laws.proofs.Making.{index_below, changed_made, pair_made, rung_made, renewed_made, contracted_made, alone}
 
 -- the entry of a flag that a branch has lies within
 placed : (i : ℕ) (node : Node) → is_formed node ≡ true → meets (WithFlag (2 ^ i)) node ≡ true → position_of (2 ^ i) (bitmap_of node) < length (entries_of node)
@@ -115,7 +112,7 @@ module _ (state : State) (operation : Operation) (S : Ref → Type 0) (H : Heape
       contracted_made S state.heap (is_below_root (above c.path)) (bitmap_of (node_at state.heap main)) (set entries place c.single)
       (λ may single e. subst (λ r. At r ASingle) (sym (alone entries place single c.single within e)) s)
       (renewed_made S state.heap (node_at state.heap main) (set entries place c.single) (meets_of m) (H.formed main (safe_of m)) (omega (arith, length-set entries place c.single))
-        (All-set (Meets S state.heap AnEntry) entries place c.single (safe_of s, single_entry (node_at state.heap c.single) (meets_of s)) (branch_entries S state.heap H m)))
+      (All-set (Meets S state.heap AnEntry) entries place c.single (safe_of s, single_entry (node_at state.heap c.single) (meets_of s)) (branch_entries S state.heap H m)))
 
   climb_acts : (l : ClimbLine) → AllHold S state.heap (climb_wants state.limits.hash operation.call l) → Acts (line.Climb l)
   climb_acts (climb.Read c r) h = read_acts S state.heap r.indirection r.line h.1.1.1

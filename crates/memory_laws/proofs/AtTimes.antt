@@ -1,25 +1,23 @@
 -- What a run's times know of memory, in the words that the layers above use: what a running operation's line and action take their references for, and that what
 -- is looked up in the machine's heap is what stands in the heap that only grows.
-use Rattle.std.proofs.Common.{◌≡◌, ℕ, zero, suc, ◌≤◌, Bool, true, List, [], ◌∷◌, All, get_or, Option, Some, None, refl, sym, ap, ◌∙◌, subst}
-use Rattle.std.proofs.lemmas.Option.{none-some}
+use Rattle.std.proofs.Common.{◌≡◌, ℕ, ◌≤◌, true, Some, refl, sym, ap, ◌∙◌, subst}
 use Rattle.slot_arena.specs.declared.refs.Ref.{Ref}
 use Rattle.slot_arena.specs.declared.nodes.Slot.{Slot}
-use Rattle.slot_arena.specs.Heaps.{Heap, node_at, main_at, prev_at, main_of, node_of, prev_of, generation_at, generation_of}
+use Rattle.slot_arena.specs.Heaps.{node_at, main_at, prev_at, main_of, node_of, prev_of, generation_at, generation_of}
 use Rattle.machine_model.specs.declared.operations.Operation.{Operation}
 use Rattle.machine_model.specs.declared.steps.Limits.{Limits}
-use Rattle.machine_model.specs.Calls.{handle_of}
-use Rattle.machine_model.specs.States.{State, first_state, operation_of, root_at, word_at}
+use Rattle.machine_model.specs.States.{State, first_state, operation_of}
 use Rattle.machine_model.specs.Operations.{action_of}
 use Rattle.machine_model.proofs.Frames.{limits_kept}
 use Rattle.machine_model.proofs.Times.{IsRun, at_each_time}
-use Rattle.machine_model.proofs.Grown.{standing, grown, main_word, prev_word}
+use Rattle.machine_model.proofs.Grown.{grown, main_word, prev_word}
 use Rattle.machine_model.proofs.Grown.{node_under as grown_node}
-use Rattle.memory_laws.specs.Wants.{Wanted, meets, Claim, Is, Holds, is, AllHold, action_wants, line_wants, word_wants}
+use Rattle.memory_laws.specs.Wants.{Wanted, meets, Is, Holds, AllHold, action_wants, line_wants}
 use Rattle.memory_laws.specs.Laws.{IsInUse}
 use Rattle.memory_laws.proofs.Claims.{Carries, all_carried, same_node, safe_of, meets_of}
 use Rattle.memory_laws.proofs.Under.{node_under, prev_under}
 use Rattle.memory_laws.proofs.Guards.{Safe}
-use Rattle.memory_laws.proofs.Safety.{IsSafe, open_word}
+use Rattle.memory_laws.proofs.Safety.{IsSafe}
 use Rattle.memory_laws.proofs.Invariant.{of_actor, step_claims}
 use Rattle.memory_laws.proofs.AtEachTime.{safe_at}
 use Rattle.memory_laws.proofs.WordMoves.{grown_in_use}

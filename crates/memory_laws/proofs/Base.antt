@@ -1,10 +1,10 @@
 -- What holds of operations whatever stands in memory: their handle is open until they end, a reader changes nothing, and their epoch is the present one or the one
 -- before it; the present one where the sweep has passed their actor.
-use Rattle.std.proofs.Common.{◌≡◌, ℕ, zero, suc, ◌+◌, ◌-◌, ◌<◌, ◌≤◌, ◌==◌, ◌&&◌, ◌||◌, Bool, true, false, cond, not, nat_le, is_some, List, [], ◌∷◌, map, length, get_or, set, Option, Some, None, option_map, refl, sym, ap, ◌∙◌, subst, inl, inr, eqb-true, eq-eqb, ltb-true, leb-true, leb-false, arith}
-use Rattle.std.proofs.lemmas.Bool.{cases_eq, cases_lt, cases_Bool, false≢true, true≢false, cond_both, or_left, or_right, or_cases, and_from, eqb-false}
-use Rattle.std.proofs.lemmas.Option.{none-some, same_Some}
+use Rattle.std.proofs.Common.{◌≡◌, ℕ, zero, suc, ◌+◌, ◌-◌, ◌<◌, ◌≤◌, ◌==◌, ◌||◌, Bool, true, false, cond, nat_le, is_some, List, [], ◌∷◌, map, length, get_or, set, Option, Some, None, refl, sym, ap, ◌∙◌, subst, inl, inr, eqb-true, eq-eqb, leb-false, arith}
+use Rattle.std.proofs.lemmas.Bool.{cases_eq, cases_lt, cases_Bool, false≢true, cond_both, or_left, or_right, or_cases}
+use Rattle.std.proofs.lemmas.Option.{none-some}
 use Rattle.std.proofs.Math.ListN.{get_or-map}
-use Rattle.std.proofs.lemmas.List.{length-map, length-set, get_or_past, get_or-set_same}
+use Rattle.std.proofs.lemmas.List.{length-map, get_or_past, get_or-set_same}
 use Rattle.std.specs.List.{list_any}
 use Rattle.history.specs.declared.calls.Access.TheVariants.{ReadOnly}
 use Rattle.history.specs.declared.calls.Call.{Call}
@@ -21,20 +21,18 @@ use Rattle.machine_model.specs.declared.roots.Root.{Root}
 use Rattle.machine_model.specs.declared.roots.RootWord.{RootWord}
 use Rattle.machine_model.specs.declared.roots.RootWord.TheVariants.{Plain, Offer}
 use Rattle.machine_model.specs.declared.roots.Descriptor.{Descriptor}
-use Rattle.machine_model.specs.declared.steps.Limits.{Limits}
 use Rattle.machine_model.specs.declared.steps.Outcome.{Outcome}
 use Rattle.machine_model.specs.declared.steps.Step.{Step}
-use Rattle.machine_model.specs.declared.steps.Step.TheVariants as step
 use Rattle.machine_model.specs.Calls.{handle_of, needs_writable, is_close}
-use Rattle.machine_model.specs.States.{State, first_state, root_at, operation_of, with_word, with_root, rewritten}
+use Rattle.machine_model.specs.States.{State, root_at, operation_of, with_word, with_root, rewritten}
 use Rattle.machine_model.specs.Operations.{action_of, line_action, first_line}
-use Rattle.machine_model.specs.Acting.{operation_after, gone, acted, aborted, offered, completed, opened, opened_root, carried_out, new_root_taken, if_changed}
+use Rattle.machine_model.specs.Acting.{operation_after, gone, acted, opened, opened_root, carried_out, new_root_taken, if_changed}
 use Rattle.machine_model.specs.Counting.{settled}
-use Rattle.machine_model.specs.Machine.{begin_denial, with_begin, handle_closed, runs_on, names, swept, pin_of, reclaimer_of}
+use Rattle.machine_model.specs.Machine.{begin_denial, with_begin, handle_closed, runs_on, names, pin_of, reclaimer_of}
 use Rattle.machine_model.proofs.Moves.{Moves, Begins, Goes, Ends, Sweeps, GoesOn, begun_operation}
 use Rattle.machine_model.proofs.Actors.{IsOf, mark_one, mark_only, marks_in, marks_by}
 use Rattle.machine_model.proofs.Frames.{IsFramed, acted_framed}
-use Rattle.machine_model.proofs.Found.{found_elsewhere, found_here, none_found, found_within}
+use Rattle.machine_model.proofs.Found.{found_elsewhere, found_within}
 use Rattle.memory_laws.specs.Laws.{is_end}
 use Rattle.memory_laws.proofs.EachStep.{each_after}
 
@@ -48,7 +46,6 @@ begun_fits state actor call d a = grind arith
 
 marked_fits : (m : Option ℕ) (operation : Operation) → Fits operation → Fits (mark_one m operation)
 marked_fits m operation h = rw (mark_only m operation) h
-
 
 -- ---- open handles
 
@@ -161,7 +158,7 @@ module _ (state : State) (all : (k : ℕ) (operation : Operation) → get_or sta
   other_handle s o after (Begins {actor} {call} d) k other operation found h =
       kept_handle after operation
       (λ handle same open_now. ap is_some (closed_root state call (begun_operation state call).id handle
-          (λ c e. close_denied state actor call d c (subst (λ x. runs_on state x ≡ true) (sym same ∙ e) (running_on state.actors k operation found)))) ∙ open_now) h
+      (λ c e. close_denied state actor call d c (subst (λ x. runs_on state x ≡ true) (sym same ∙ e) (running_on state.actors k operation found)))) ∙ open_now) h
   other_handle s o after (Goes {actor} {operation = mover} d is a g) k other operation found h =
       rw (mark_only (marks_in state s) operation)
       (kept_handle after operation (λ handle same open_now. acted_open _ (handle_of mover.call) (action_of state mover) handle open_now) h)
@@ -193,10 +190,14 @@ IsRecent state k operation = Recent state.epoch state.cursor k operation.epoch
 scanned_recent : (pins : List (Option ℕ)) (now cursor k recorded : ℕ) (passed : Bool) → get_or pins k None ≡ Some recorded → is_passed now (get_or pins (cursor - 1) None) ≡ passed →
     Recent now cursor k recorded → Recent now (cursor + (cond passed 1 0)) k recorded
 scanned_recent pins now cursor k recorded false at_k e h = (h.0, h.1, λ below. h.2 (omega arith))
-scanned_recent pins now cursor k recorded true at_k e h = (h.0, h.1, λ below. elim (cases_eq k (cursor - 1)) [
-  | inl same ↦ eqb-true recorded now (sym (ap (is_passed now) (ap (λ i. get_or pins i None) (sym same) ∙ at_k)) ∙ e)
-  | inr other ↦ h.2 (omega arith)
-])
+scanned_recent pins now cursor k recorded true at_k e h = (
+  h.0,
+  h.1,
+  λ below. elim (cases_eq k (cursor - 1)) [
+    | inl same ↦ eqb-true recorded now (sym (ap (is_passed now) (ap (λ i. get_or pins i None) (sym same) ∙ at_k)) ∙ e)
+    | inr other ↦ h.2 (omega arith)
+  ],
+)
 
 swept_recent : (pins : List (Option ℕ)) (r : Reclaimer) (due : Option Ref) (k recorded : ℕ) → k < length pins → get_or pins k None ≡ Some recorded → Recent r.epoch r.cursor k recorded →
     Recent (sweep_by pins r due).1.epoch (sweep_by pins r due).1.cursor k recorded

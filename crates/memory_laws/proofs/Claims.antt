@@ -1,12 +1,12 @@
 -- Claims: how they are made and used, and that they stay true where what they speak of stays.
-use Rattle.std.proofs.Common.{◌≡◌, ℕ, ◌<◌, ◌≤◌, Bool, true, false, nat_lt, List, [], ◌∷◌, ◌++◌, All, Contains, length, get_or, refl, sym, ap, ◌∙◌, subst, ltb-true, arith}
-use Rattle.std.proofs.lemmas.List.Elements.{All-weaker, All-nil, All-cons, Contains-get_or}
+use Rattle.std.proofs.Common.{◌≡◌, ℕ, ◌<◌, Bool, true, List, [], ◌∷◌, ◌++◌, All, Contains, length, get_or, refl, sym, ap, ◌∙◌, subst, arith}
+use Rattle.std.proofs.lemmas.List.Elements.{All-weaker, Contains-get_or}
 use Rattle.slot_arena.specs.declared.refs.Ref.{Ref}
 use Rattle.slot_arena.specs.declared.nodes.Node.{Node}
 use Rattle.slot_arena.specs.declared.nodes.Node.TheVariants.{Indirection, Branch, Single, Tomb, List as Listed}
 use Rattle.slot_arena.specs.Heaps.{Heap, node_at, entry_at, entries_of, with_main_word, no_ref}
 use Rattle.memory_laws.specs.Laws.{SameNode}
-use Rattle.memory_laws.specs.Wants.{Wanted, Anything, AnIndirection, AMain, ABranch, AList, BranchOrList, TombOrList, AnEntry, ASingle, WithEntry, AtMost, WithFlag, ToSpare, meets, Claim, Is, Each, EntryIs, So, Holds, is, each, entry_is, so, AllHold}
+use Rattle.memory_laws.specs.Wants.{Wanted, AnIndirection, meets, Claim, Is, Each, EntryIs, So, Holds, is, each, entry_is, so, AllHold}
 
 -- ---- made and used
 

@@ -1,6 +1,5 @@
 -- What each running operation meets after one step, by what it met before: the operation that begins, the one that goes on, and all others.
-use Rattle.std.proofs.Common.{◌≡◌, ℕ, suc, ◌-◌, Some, None, List, get_or, refl, ap, ◌∙◌, sym, arith}
-use Rattle.std.proofs.lemmas.Option.{none-some}
+use Rattle.std.proofs.Common.{◌≡◌, ℕ, suc, Some, None, get_or, ap, ◌∙◌, sym}
 use Rattle.history.specs.declared.calls.Call.{Call}
 use Rattle.machine_model.specs.declared.operations.Operation.{Operation}
 use Rattle.machine_model.specs.declared.steps.Outcome.{Outcome}
@@ -20,11 +19,11 @@ at_place state actor k operation e is = sym (ap (λ a. operation_of state a) e) 
 module _ (state : State) (P : ℕ → Operation → Type 0) (Q : State → ℕ → Operation → Type 0)
     (before : (k : ℕ) (operation : Operation) → get_or state.actors k None ≡ Some operation → P k operation)
     (begins : (actor : ℕ) (call : Call) (k : ℕ) → actor ≡ suc k → begin_denial state actor call ≡ None →
-      Q (settled state (with_begin state actor call (begun_operation state call))) k (begun_operation state call))
+    Q (settled state (with_begin state actor call (begun_operation state call))) k (begun_operation state call))
     (goes : (actor : ℕ) (operation : Operation) (k : ℕ) → actor ≡ suc k → operation_of state actor ≡ Some operation → GoesOn (action_of state operation) → P k operation →
-      Q (settled state (gone state actor operation)) k (mark_one (marks_by state (Some operation)) (operation_after state operation)))
+    Q (settled state (gone state actor operation)) k (mark_one (marks_by state (Some operation)) (operation_after state operation)))
     (others : (s : Step) (o : Outcome) (after : State) → Moves state s o after → (k : ℕ) → (IsOf (suc k) s → ⊥) → (operation : Operation) → get_or state.actors k None ≡ Some operation →
-      P k operation → Q after k (mark_one (marks_in state s) operation)) where
+    P k operation → Q after k (mark_one (marks_in state s) operation)) where
   by_owner : (s : Step) (o : Outcome) (after : State) → Moves state s o after → (k : ℕ) → Dec (IsOf (suc k) s) → (found : Operation) → get_or after.actors k None ≡ Some found → Q after k found
   by_owner s o after m k (no other) found at_k =
       let (was, at_was, same) = of_others state s o after m k other found at_k in

@@ -1,5 +1,5 @@
 -- What a step does to what stands under references, and that all but what is freed stays, with its node but for the main word.
-use Rattle.std.proofs.Common.{◌≡◌, ℕ, ◌+◌, ◌^◌, ◌≤◌, ◌==◌, Bool, true, false, List, [], ◌∷◌, Option, Some, None, is_some, refl, sym, ap, ◌∙◌, subst, inl, inr, eqb-true, arith}
+use Rattle.std.proofs.Common.{◌≡◌, ℕ, ◌+◌, ◌^◌, ◌≤◌, ◌==◌, Bool, true, false, List, [], ◌∷◌, Option, Some, None, refl, sym, ap, ◌∙◌, subst, inl, inr, eqb-true}
 use Rattle.std.proofs.lemmas.Bool.{cases_eq, false≢true}
 use Rattle.std.proofs.lemmas.Option.{none-some, same_Some}
 use Rattle.slot_arena.specs.Refs.{birth_of}
@@ -13,12 +13,12 @@ use Rattle.slot_arena.specs.Heaps.{Heap, node_at, main_at, main_of, with_main, w
 use Rattle.machine_model.specs.declared.actions.Action.{Action}
 use Rattle.machine_model.specs.declared.actions.Action.TheVariants as act
 use Rattle.machine_model.specs.States.{State}
-use Rattle.machine_model.specs.Reading.{Verdict, Commits, Fails, Overtaken, verdict}
+use Rattle.machine_model.specs.Reading.{Verdict, Commits, Fails, Overtaken}
 use Rattle.machine_model.specs.Acting.{acted, decided, new_root_taken, if_changed}
 use Rattle.machine_model.proofs.Grown.{standing}
 use Rattle.machine_model.proofs.Slots.{AddsUp}
 use Rattle.machine_model.proofs.HeapMoves.{aborted_heap, offered_heap, completed_heap}
-use Rattle.memory_laws.specs.Wants.{Wanted, AnIndirection, AMain, meets, is_formed, Claim, Is, So, Holds, is, so, AllHold, node_wants, prev_wants, action_wants}
+use Rattle.memory_laws.specs.Wants.{AnIndirection, AMain, meets, is_formed, Claim, Is, So, Holds, so, AllHold, node_wants, prev_wants, action_wants}
 use Rattle.memory_laws.specs.Laws.{SameNode, IsInUse}
 use Rattle.memory_laws.proofs.Claims.{same_node, safe_of, meets_of}
 use Rattle.memory_laws.proofs.Under.{node_under, main_here, main_other, prev_here, prev_other, freed_here, freed_other, fresh_slot, taken_all, none_taken, births_taken}
@@ -171,30 +171,33 @@ pub stays : (C : List Claim → Type 0) (f g : Ref → Option Slot) (b c : ℕ) 
 stays C f g b c due (Keeps e k) r was h d = (was, k r ∙ h, same_slot was)
 stays C f g b c due (Makes made slot e e' w p none at_made others) r was h d =
     elim (cases_eq r made) [
-    | inl s ↦ absurd (none-some was (sym none ∙ ap f (sym s) ∙ h))
-    | inr other ↦ (was, others r other ∙ h, same_slot was)
+      | inl s ↦ absurd (none-some was (sym none ∙ ap f (sym s) ∙ h))
+      | inr other ↦ (was, others r other ∙ h, same_slot was)
     ]
 stays C f g b c due (Publishes i replaced fresh at_i at_fresh e w differ f_i m f_fresh g_i g_fresh others) r was h d =
     elim (cases_eq r i) [
-    | inl s ↦ (main_changed fresh was, subst (λ x. g r ≡ Some (main_changed fresh x)) (same_Some _ _ (sym f_i ∙ ap f (sym s) ∙ h)) (ap g s ∙ g_i), ((fresh, refl), refl))
-    | inr other ↦ elim (cases_eq r fresh) [
-      | inl s ↦ (prev_changed (prev.Pending replaced) was, subst (λ x. g r ≡ Some (prev_changed (prev.Pending replaced) x)) (same_Some _ _ (sym f_fresh ∙ ap f (sym s) ∙ h)) (ap g s ∙ g_fresh),
-          (same_node was.node, refl))
-      | inr another ↦ (was, others r other another ∙ h, same_slot was)
+      | inl s ↦ (main_changed fresh was, subst (λ x. g r ≡ Some (main_changed fresh x)) (same_Some _ _ (sym f_i ∙ ap f (sym s) ∙ h)) (ap g s ∙ g_i), ((fresh, refl), refl))
+      | inr other ↦ elim (cases_eq r fresh) [
+        | inl s ↦ (
+          prev_changed (prev.Pending replaced) was,
+          subst (λ x. g r ≡ Some (prev_changed (prev.Pending replaced) x)) (same_Some _ _ (sym f_fresh ∙ ap f (sym s) ∙ h)) (ap g s ∙ g_fresh),
+          (same_node was.node, refl),
+        )
+        | inr another ↦ (was, others r other another ∙ h, same_slot was)
       ]
     ]
 stays C f g b c due (Restores i main previous at_i e w f_i m g_i others) r was h d =
     elim (cases_eq r i) [
-    | inl s ↦ (main_changed previous was, subst (λ x. g r ≡ Some (main_changed previous x)) (same_Some _ _ (sym f_i ∙ ap f (sym s) ∙ h)) (ap g s ∙ g_i), ((previous, refl), refl))
-    | inr other ↦ (was, others r other ∙ h, same_slot was)
+      | inl s ↦ (main_changed previous was, subst (λ x. g r ≡ Some (main_changed previous x)) (same_Some _ _ (sym f_i ∙ ap f (sym s) ∙ h)) (ap g s ∙ g_i), ((previous, refl), refl))
+      | inr other ↦ (was, others r other ∙ h, same_slot was)
     ]
 stays C f g b c due (Decides main p at_main e w f_main g_main others) r was h d =
     elim (cases_eq r main) [
-    | inl s ↦ (prev_changed p was, subst (λ x. g r ≡ Some (prev_changed p x)) (same_Some _ _ (sym f_main ∙ ap f (sym s) ∙ h)) (ap g s ∙ g_main), (same_node was.node, refl))
-    | inr other ↦ (was, others r other ∙ h, same_slot was)
+      | inl s ↦ (prev_changed p was, subst (λ x. g r ≡ Some (prev_changed p x)) (same_Some _ _ (sym f_main ∙ ap f (sym s) ∙ h)) (ap g s ∙ g_main), (same_node was.node, refl))
+      | inr other ↦ (was, others r other ∙ h, same_slot was)
     ]
 stays C f g b c due (Frees q e is_due none others) r was h d =
     elim (cases_eq r q) [
-    | inl s ↦ absurd (d (is_due ∙ ap Some (sym s)))
-    | inr other ↦ (was, others r other ∙ h, same_slot was)
+      | inl s ↦ absurd (d (is_due ∙ ap Some (sym s)))
+      | inr other ↦ (was, others r other ∙ h, same_slot was)
     ]

@@ -1,5 +1,5 @@
 -- Limbo's epochs rise, and lie in the last three.
-use Rattle.std.proofs.Common.{◌≡◌, ℕ, ◌+◌, ◌<◌, ◌≤◌, ◌&&◌, Bool, true, false, cond, nat_le, List, [], ◌∷◌, ◌++◌, map, filter, length, get_or, All, Option, Some, None, refl, sym, ap, ◌∙◌, subst, ◌⊎◌, inl, inr, leb-false, arith}
+use Rattle.std.proofs.Common.{◌≡◌, ℕ, ◌+◌, ◌<◌, ◌≤◌, ◌&&◌, Bool, cond, nat_le, List, [], ◌∷◌, ◌++◌, map, filter, length, get_or, All, Option, Some, None, refl, sym, ap, ◌∙◌, subst, ◌⊎◌, inl, inr, leb-false, arith}
 use Rattle.std.proofs.lemmas.Bool.{cond_both, cases_Bool}
 use Rattle.std.proofs.lemmas.Option.{none-some}
 use Rattle.std.proofs.lemmas.List.Elements.{All-nil, All-cons, All-head, All-tail, All-append, All-filter, All-map, All-weaker}
@@ -37,9 +37,10 @@ rising_now now (r ∷ rs) = (All-map (λ y. now ≤ y.epoch) (zeroed_now now) rs
 rising_both : (now : ℕ) (limbo : List Zeroed) (rs : List Ref) → IsRising limbo → All (λ z. z.epoch ≤ now) limbo → IsRising (limbo ++ map (zeroed_now now) rs)
 rising_both now [] rs h all = rising_now now rs
 rising_both now (z ∷ limbo) rs h all =
-    let low : z.epoch ≤ now = All-head (λ z. z.epoch ≤ now) z limbo all in
-    (All-append (λ y. z.epoch ≤ y.epoch) limbo (map (zeroed_now now) rs) h.0 (All-map (λ y. z.epoch ≤ y.epoch) (zeroed_now now) rs (λ k d within. low)),
-    rising_both now limbo rs h.1 (All-tail (λ z. z.epoch ≤ now) z limbo all))
+    let low : z.epoch ≤ now = All-head (λ z. z.epoch ≤ now) z limbo all in (
+      All-append (λ y. z.epoch ≤ y.epoch) limbo (map (zeroed_now now) rs) h.0 (All-map (λ y. z.epoch ≤ y.epoch) (zeroed_now now) rs (λ k d within. low)),
+      rising_both now limbo rs h.1 (All-tail (λ z. z.epoch ≤ now) z limbo all),
+    )
 
 -- where none is ripe, none became zero two epochs ago
 none_ripe : (now : ℕ) (limbo : List Zeroed) → IsRising limbo → ripe now limbo ≡ None → All (λ z. now ≤ z.epoch + 1) limbo
@@ -53,6 +54,7 @@ none_ripe now (z ∷ limbo) h e = elim (cases_Bool (nat_le (z.epoch + 2) now)) [
   where
     young_by : now < z.epoch + 2 → now ≤ z.epoch + 1
     young_by h = omega arith
+
     more : (y : Zeroed) → now ≤ z.epoch + 1 → z.epoch ≤ y.epoch → now ≤ y.epoch + 1
     more y a b = omega arith
 
@@ -91,9 +93,10 @@ old_lie state now (inr (e, none)) h =
 lies_after : (heap : Heap) (outside : List Ref) (now : ℕ) (limbo : List Zeroed) → IsRising limbo → All (Lies now) limbo → IsRising (limbo_after heap outside now limbo) × All (Lies now) (limbo_after heap outside now limbo)
 lies_after heap outside now limbo rises all =
     let kept = filter (λ z. is_in_use heap z.at && is_zero heap outside z.at) limbo in
-    let lie = All-filter (λ z. is_in_use heap z.at && is_zero heap outside z.at) (Lies now) limbo all in
-    (rising_both now kept (newly_zero heap outside limbo) (rising_filter _ limbo rises) (All-weaker (Lies now) (λ z. z.epoch ≤ now) (λ z l. l.0) kept lie),
-    All-append (Lies now) kept (map (zeroed_now now) (newly_zero heap outside limbo)) lie (All-map (Lies now) (zeroed_now now) (newly_zero heap outside limbo) (λ k d within. (omega arith, omega arith))))
+    let lie = All-filter (λ z. is_in_use heap z.at && is_zero heap outside z.at) (Lies now) limbo all in (
+      rising_both now kept (newly_zero heap outside limbo) (rising_filter _ limbo rises) (All-weaker (Lies now) (λ z. z.epoch ≤ now) (λ z l. l.0) kept lie),
+      All-append (Lies now) kept (map (zeroed_now now) (newly_zero heap outside limbo)) lie (All-map (Lies now) (zeroed_now now) (newly_zero heap outside limbo) (λ k d within. (omega arith, omega arith))),
+    )
 
 lies_next : (state : State) (s : Step) (o : Outcome) (after : State) → Moves state s o after → LimboLies state → LimboLies after
 lies_next state s o after m h =

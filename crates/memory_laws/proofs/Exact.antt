@@ -1,9 +1,9 @@
 -- Limbo has exactly the slots in use to which nothing refers.
-use Rattle.std.proofs.Common.{◌≡◌, ℕ, zero, suc, ◌+◌, ◌^◌, ◌<◌, ◌≤◌, ◌==◌, ◌&&◌, ◌||◌, Bool, true, false, not, cond, nat_lt, List, [], ◌∷◌, ◌++◌, map, filter, length, get_or, All, Contains, Option, Some, None, refl, sym, ap, ◌∙◌, subst, ◌⊎◌, inl, inr, eqb-true, eq-eqb, arith}
+use Rattle.std.proofs.Common.{◌≡◌, ℕ, zero, suc, ◌+◌, ◌==◌, ◌&&◌, ◌||◌, Bool, true, not, cond, nat_lt, List, [], ◌∷◌, ◌++◌, map, filter, get_or, All, Contains, Option, Some, None, refl, sym, ap, ◌∙◌, subst, ◌⊎◌, inl, inr, eqb-true, eq-eqb, arith}
 use Rattle.std.specs.List.{list_any}
-use Rattle.std.proofs.lemmas.Bool.{cond_both, cases_Bool, or_cases, or_left, or_right, and_from, and_parts, false≢true, not_from_false}
+use Rattle.std.proofs.lemmas.Bool.{cond_both, cases_Bool, or_cases, or_left, or_right, and_from, false≢true, not_from_false}
 use Rattle.std.proofs.lemmas.Option.{none-some, same_Some}
-use Rattle.std.proofs.lemmas.List.Elements.{All-nil, All-map, All-weaker, All-contains, Contains-append_left, Contains-append_right, Contains-push}
+use Rattle.std.proofs.lemmas.List.Elements.{All-map, All-contains, Contains-append_left, Contains-append_right}
 use Rattle.slot_arena.specs.Refs.{ref_to, slot_of, birth_of}
 use Rattle.slot_arena.specs.declared.refs.Ref.{Ref}
 use Rattle.slot_arena.specs.declared.nodes.Slot.{Slot}
@@ -13,11 +13,8 @@ use Rattle.epochs.specs.declared.limbo.Zeroed.{Zeroed}
 use Rattle.epochs.specs.Limbo.{is_zero, is_in, is_in_use, newly_zero, by_birth, put_in, limbo_after}
 use Rattle.machine_model.specs.States.{State}
 use Rattle.machine_model.specs.Counting.{outside}
-use Rattle.machine_model.proofs.InUse.{limbo_in_use, InUse}
-use Rattle.machine_model.proofs.Grown.{standing}
 use Rattle.memory_laws.specs.Laws.{IsInUse, IsZero}
-use Rattle.memory_laws.proofs.Under.{standing_parts, same_ref}
-use Rattle.memory_laws.proofs.Guards.{zero_after}
+use Rattle.memory_laws.proofs.Under.{standing_parts}
 use Rattle.memory_laws.proofs.Safety.{IsSafe, stands_in_use}
 
 -- ---- membership by test
@@ -55,7 +52,7 @@ has_put x (q ∷ xs) r h = cond_both (nat_lt x q) _ _ (λ l. has l r ≡ true) (
   | inr later ↦ elim (or_cases (q == r) (has xs r) later) [
     | inl at_q ↦ or_left _ _ at_q
     | inr beyond ↦ or_right _ _ (has_put x xs r (or_right _ _ beyond))
-    ]
+  ]
 ])
 
 has_sorted : (xs : List Ref) (r : Ref) → has xs r ≡ true → has (by_birth xs) r ≡ true
@@ -125,7 +122,7 @@ module _ (heap : Heap) (outside : List Ref) (now : ℕ) (limbo : List Zeroed) (r
         | inl inside ↦ inl (has_kept (λ q. is_in_use heap q && is_zero heap outside q) limbo r inside (and_from _ _ used zeros))
         | inr out ↦ inr (subst (λ rs. has rs r ≡ true) (sym (refs_now now (newly_zero heap outside limbo)))
             (has_sorted (filter (λ q. is_zero heap outside q && not (is_in limbo q)) (in_use heap)) r
-              (has_filter (λ q. is_zero heap outside q && not (is_in limbo q)) (in_use heap) r used (and_from _ _ zeros (not_from_false (is_in limbo r) out)))))
+            (has_filter (λ q. is_zero heap outside q && not (is_in limbo q)) (in_use heap) r used (and_from _ _ zeros (not_from_false (is_in limbo r) out)))))
       ]))
 
 pub zeros_stand : (state : State) → IsSafe state → All (λ z. IsZero state z.at) state.limbo

@@ -1,10 +1,9 @@
 -- The first state's memory is safe.
-use Rattle.std.proofs.Common.{◌≡◌, ℕ, zero, suc, ◌+◌, ◌^◌, ◌<◌, ◌≤◌, Bool, true, List, [], ◌∷◌, ◌++◌, All, Contains, length, get_or, set, replicate, Option, Some, None, refl, sym, ap, ◌∙◌, subst, inl, inr, eq-eqb, arith}
+use Rattle.std.proofs.Common.{◌≡◌, ℕ, zero, suc, ◌+◌, ◌^◌, ◌≤◌, ◌++◌, Contains, get_or, set, replicate, Option, Some, None, refl, sym, ap, ◌∙◌, subst, inl, inr, eq-eqb, arith}
 use Rattle.std.specs.Prelude.{count_ones}
 use Rattle.std.proofs.lemmas.Bool.{cases_eq, le-leb, false≢true}
 use Rattle.std.proofs.lemmas.Nat.{ones_le_self}
 use Rattle.std.proofs.lemmas.Option.{none-some, same_Some}
-use Rattle.std.proofs.lemmas.List.{get_or-set_same, length-replicate}
 use Rattle.std.proofs.lemmas.List.Elements.{All-nil}
 use Rattle.slot_arena.specs.Refs.{ref_to, slot_of, birth_of}
 use Rattle.slot_arena.specs.declared.refs.Ref.{Ref}
@@ -12,20 +11,19 @@ use Rattle.slot_arena.specs.declared.nodes.Node.{Node}
 use Rattle.slot_arena.specs.declared.nodes.Node.TheVariants.{Indirection}
 use Rattle.slot_arena.specs.declared.nodes.Prev.TheVariants as prev
 use Rattle.slot_arena.specs.declared.nodes.Slot.{Slot}
-use Rattle.slot_arena.specs.Heaps.{Heap, stored, node_at, taken, take_from, empty_branch, next_ref, heap_refs}
+use Rattle.slot_arena.specs.Heaps.{Heap, stored, node_at, taken, empty_branch, next_ref, heap_refs}
 use Rattle.slot_arena.specs.Counts.{count_of}
 use Rattle.machine_model.specs.Counting.{outside, refs_of_root}
 use Rattle.machine_model.specs.declared.actions.Action.TheVariants as act
 use Rattle.machine_model.specs.declared.roots.Root.{Root}
 use Rattle.machine_model.specs.declared.roots.RootWord.{RootWord}
-use Rattle.machine_model.specs.declared.operations.Operation.{Operation}
 use Rattle.machine_model.specs.declared.steps.Limits.{Limits}
 use Rattle.machine_model.specs.States.{State, first_state, first_heap, empty_heap, handle_limit, root_at}
 use Rattle.machine_model.specs.Machine.{AreLimits}
 use Rattle.machine_model.proofs.Found.{none_found, found_here, found_elsewhere}
 use Rattle.machine_model.proofs.Grown.{standing, of_birth}
 use Rattle.machine_model.proofs.Slots.{AddsUp, empty_adds_up, taken_kept, sound_at_first}
-use Rattle.memory_laws.specs.Wants.{AnIndirection, AMain, meets, Is, So, Holds, is, so, AllHold, action_wants, word_wants}
+use Rattle.memory_laws.specs.Wants.{AnIndirection, AMain, meets, Is, Holds, is, so, AllHold, action_wants, word_wants}
 use Rattle.memory_laws.specs.Laws.{SameNode, IsInUse}
 use Rattle.memory_laws.proofs.Claims.{Carries, all_carried}
 use Rattle.memory_laws.proofs.Lines.{none_each}
@@ -49,16 +47,18 @@ module _ (slots : ℕ) (small : slots ≤ 2 ^ 16) (heap : Heap) (h : IsRight slo
   carry : Carries (IsInUse heap) heap (IsInUse (taken heap node)) (taken heap node)
   carry r u =
       let (was, found) = u in
-      let (now, found_now, same) = stays _ _ _ _ _ None effect r was found (none-some r) in
-      ((now, found_now), subst (λ n. SameNode n (node_at (taken heap node) r)) (sym (node_under heap r was found))
-        (subst (λ n. SameNode was.node n) (sym (node_under (taken heap node) r now found_now)) same.0))
+      let (now, found_now, same) = stays _ _ _ _ _ None effect r was found (none-some r) in (
+        (now, found_now),
+        subst (λ n. SameNode n (node_at (taken heap node) r)) (sym (node_under heap r was found))
+            (subst (λ n. SameNode was.node n) (sym (node_under (taken heap node) r now found_now)) same.0),
+      )
 
   right_taken : IsRight slots (taken heap node)
   right_taken = record {
     adds_up = taken_kept slots heap node (h.adds_up);
     births = births_after _ _ _ _ _ _ effect (h.births);
     nodes = λ r slot e. let (claims, formed) = slots_after (IsInUse heap) heap _ _ _ _ _ effect (h.nodes) r slot e in
-      (all_carried (IsInUse heap) heap (IsInUse (taken heap node)) (taken heap node) carry _ claims, formed);
+        (all_carried (IsInUse heap) heap (IsInUse (taken heap node)) (taken heap node) carry _ claims, formed);
   }
 
 -- nothing stands in the empty heap
@@ -156,15 +156,16 @@ first_stands_in P n small at_root at_branch r slot found = elim (cases_eq r (ref
   | inr other ↦
       let before = sym (one_other r other) ∙ found in
       elim (cases_eq r (ref_to 1 0)) [
-      | inl is_branch ↦
-          subst (λ q. P q slot) (sym is_branch)
-          (subst (P (ref_to 1 0)) (same_Some _ _ (sym (branch_stands n small) ∙ ap (standing (one_taken n small)) (sym is_branch) ∙ before)) (at_branch ((empty_heap (suc (suc n))).births + 1)))
-      | inr another ↦ absurd (none_stands (suc (suc n)) r slot (sym (empty_other r another) ∙ before))
+        | inl is_branch ↦
+            subst (λ q. P q slot) (sym is_branch)
+            (subst (P (ref_to 1 0)) (same_Some _ _ (sym (branch_stands n small) ∙ ap (standing (one_taken n small)) (sym is_branch) ∙ before)) (at_branch ((empty_heap (suc (suc n))).births + 1)))
+        | inr another ↦ absurd (none_stands (suc (suc n)) r slot (sym (empty_other r another) ∙ before))
       ]
 ]
   where
     one_other : (r : Ref) → (r ≡ ref_to 2 1 → ⊥) → standing (first_heap (suc (suc n))) r ≡ standing (one_taken n small) r
     one_other = (taken_all (suc (suc n)) (one_taken n small) (taken_kept (suc (suc n)) (empty_heap (suc (suc n))) empty_branch (empty_adds_up (suc (suc n)))) small (Indirection 0 (ref_to 1 0)) (ref_to 2 1) (second_ref n small)).2
+
     empty_other : (r : Ref) → (r ≡ ref_to 1 0 → ⊥) → standing (one_taken n small) r ≡ standing (empty_heap (suc (suc n))) r
     empty_other = (taken_all (suc (suc n)) (empty_heap (suc (suc n))) (empty_adds_up (suc (suc n))) small empty_branch (ref_to 1 0) refl).2
 
@@ -188,14 +189,15 @@ first_counted n small state heap root word holds r (slot, found) = elim (cases_e
   | inr other ↦
       let before = sym (one_other r other) ∙ ap (λ h. standing h r) (sym heap) ∙ found in
       elim (cases_eq r (ref_to 1 0)) [
-      | inl is_branch ↦ counted_in_slot state (ref_to 2 1) r (fresh_slot (one_taken n small) (Indirection 0 (ref_to 1 0))) (ap (λ h. standing h (ref_to 2 1)) heap ∙ root_stands n small)
-          (zero, omega arith, sym is_branch)
-      | inr another ↦ absurd (none_stands (suc (suc n)) r slot (sym (empty_other r another) ∙ before))
+        | inl is_branch ↦ counted_in_slot state (ref_to 2 1) r (fresh_slot (one_taken n small) (Indirection 0 (ref_to 1 0))) (ap (λ h. standing h (ref_to 2 1)) heap ∙ root_stands n small)
+            (zero, omega arith, sym is_branch)
+        | inr another ↦ absurd (none_stands (suc (suc n)) r slot (sym (empty_other r another) ∙ before))
       ]
 ]
   where
     one_other : (r : Ref) → (r ≡ ref_to 2 1 → ⊥) → standing (first_heap (suc (suc n))) r ≡ standing (one_taken n small) r
     one_other = (taken_all (suc (suc n)) (one_taken n small) (taken_kept (suc (suc n)) (empty_heap (suc (suc n))) empty_branch (empty_adds_up (suc (suc n)))) small (Indirection 0 (ref_to 1 0)) (ref_to 2 1) (second_ref n small)).2
+
     empty_other : (r : Ref) → (r ≡ ref_to 1 0 → ⊥) → standing (one_taken n small) r ≡ standing (empty_heap (suc (suc n))) r
     empty_other = (taken_all (suc (suc n)) (empty_heap (suc (suc n))) (empty_adds_up (suc (suc n))) small empty_branch (ref_to 1 0) refl).2
 

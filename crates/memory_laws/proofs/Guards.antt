@@ -1,5 +1,5 @@
 -- What is safe for an operation: in use, and guarded, which is: wherever it stands in limbo, its count became zero in the operation's epoch or later.
-use Rattle.std.proofs.Common.{◌≡◌, ℕ, zero, suc, ◌+◌, ◌<◌, ◌≤◌, ◌==◌, ◌&&◌, Bool, true, false, cond, not, List, [], ◌∷◌, ◌++◌, map, filter, flat_map, count_by, All, Contains, length, get_or, Option, Some, None, refl, sym, ap, ◌∙◌, subst, eq-eqb, ne_eqb, arith}
+use Rattle.std.proofs.Common.{◌≡◌, ℕ, zero, suc, ◌<◌, ◌≤◌, ◌==◌, ◌&&◌, Bool, true, false, cond, not, List, [], ◌∷◌, ◌++◌, filter, flat_map, count_by, All, Contains, get_or, Option, Some, None, sym, ap, ◌∙◌, subst, eq-eqb, ne_eqb, arith}
 use Rattle.std.proofs.lemmas.Bool.{and_parts, false≢true}
 use Rattle.std.proofs.lemmas.Option.{none-some}
 use Rattle.std.proofs.lemmas.List.Elements.{All-append, All-filter, All-map, All-weaker, filter_passes, Contains-append_left, Contains-append_right}
@@ -52,7 +52,7 @@ new_zeros heap outside limbo =
     let found = filter (λ r. is_zero heap outside r && not (is_in limbo r)) (in_use heap) in
     by_birth_all (λ r. is_zero heap outside r ≡ true) found
     (All-weaker (λ r. (is_zero heap outside r && not (is_in limbo r)) ≡ true) (λ r. is_zero heap outside r ≡ true) (zero_of_new heap outside limbo) found
-      (filter_passes (λ r. is_zero heap outside r && not (is_in limbo r)) (in_use heap)))
+    (filter_passes (λ r. is_zero heap outside r && not (is_in limbo r)) (in_use heap)))
 
 -- all of it has count zero
 pub zero_after : (heap : Heap) (outside : List Ref) (now : ℕ) (limbo : List Zeroed) → All (λ z. is_zero heap outside z.at ≡ true) (limbo_after heap outside now limbo)

@@ -1,7 +1,7 @@
 -- All that a running operation has got since its begin is safe.
-use Rattle.std.proofs.Common.{◌≡◌, ℕ, zero, suc, ◌+◌, ◌≤◌, ◌==◌, ◌&&◌, Bool, true, false, cond, List, [], ◌∷◌, ◌++◌, All, Contains, length, get_or, Option, Some, None, Ok, Err, refl, sym, ap, ◌∙◌, subst, inl, inr, eqb-true, append-nil, arith}
+use Rattle.std.proofs.Common.{◌≡◌, ℕ, zero, suc, ◌==◌, ◌&&◌, List, [], ◌∷◌, ◌++◌, All, Contains, get_or, Option, Some, None, Ok, Err, refl, sym, ap, ◌∙◌, subst, eqb-true, append-nil, arith}
 use Rattle.std.proofs.lemmas.Bool.{cond_both, and_parts, false≢true}
-use Rattle.std.proofs.lemmas.Option.{none-some, same_Some}
+use Rattle.std.proofs.lemmas.Option.{none-some}
 use Rattle.std.proofs.lemmas.List.Elements.{All-nil, All-cons, All-append, All-weaker, All-contains}
 use Rattle.ctrie_base.specs.declared.refusals.Refusal.{Refusal}
 use Rattle.history.specs.declared.calls.Call.{Call}
@@ -28,12 +28,12 @@ use Rattle.machine_model.specs.Counting.{settled, refs_of_word}
 use Rattle.machine_model.specs.Contents.{got_by, got_in, got_of, while_running, held_from, held}
 use Rattle.machine_model.specs.Machine.{Answer, AreLimits, begin_denial, next, next_state, state_after, is_taken_step, run_from, run}
 use Rattle.machine_model.proofs.Found.{none_found}
-use Rattle.machine_model.proofs.Moves.{Moves, Begins, Goes, Ends, Sweeps, GoesOn, MovesIfTaken, moves, begun_operation}
-use Rattle.machine_model.proofs.Actors.{IsOf, is_of, mark_one, mark_only, marks_in, marks_by, of_others, of_itself, of_begin, of_end}
-use Rattle.memory_laws.specs.Wants.{Wanted, AnIndirection, AMain, Is, Each, Holds, AllHold, node_wants, prev_wants, word_wants, action_wants}
+use Rattle.machine_model.proofs.Moves.{Moves, Begins, Goes, Ends, Sweeps, GoesOn, MovesIfTaken, moves}
+use Rattle.machine_model.proofs.Actors.{IsOf, is_of, mark_only, marks_in, marks_by, of_others, of_itself, of_end}
+use Rattle.memory_laws.specs.Wants.{Wanted, Is, Each, Holds, AllHold, node_wants, prev_wants, word_wants, action_wants}
 use Rattle.memory_laws.specs.Laws.{IsInUse}
 use Rattle.memory_laws.proofs.Claims.{Meets, safe_of, all_of}
-use Rattle.memory_laws.proofs.Nodes.{Heaped, main_read}
+use Rattle.memory_laws.proofs.Nodes.{main_read}
 use Rattle.memory_laws.proofs.Guards.{Safe}
 use Rattle.memory_laws.proofs.EachStep.{at_place}
 use Rattle.memory_laws.proofs.Next.{made_node}
@@ -137,8 +137,8 @@ module _ (state : State) (I : IsSafe state) (k : ℕ) (refs : List Ref) (h : Hol
       let got = got_safe state I actor k operation at_was goes_on (action_of state operation) refl (step_claims state I k operation at_was) in
       subst (λ (x : Operation). All (Safe after x.epoch) (refs ++ got_of state (suc k) (step.Go actor))) (sym (of_itself state actor operation k own found at_k ∙ mark_only (marks_by state (Some operation)) _))
       (All-append (Safe after operation.epoch) refs _ kept
-        (cond_both (actor == suc k && is_taken_step (next state (step.Go actor))) _ _ (All (Safe after operation.epoch))
-          (λ e. subst (λ o. All (Safe after operation.epoch) (got_in state o)) (sym at_was) got) (λ e. All-nil (Safe after operation.epoch))))
+      (cond_both (actor == suc k && is_taken_step (next state (step.Go actor))) _ _ (All (Safe after operation.epoch))
+      (λ e. subst (λ o. All (Safe after operation.epoch) (got_in state o)) (sym at_was) got) (λ e. All-nil (Safe after operation.epoch))))
   by_owner s o after (Ends {actor} d is a) (yes own) found at_k = absurd (of_end state actor k own found at_k)
   by_owner s o after (Sweeps spent) (yes own) found at_k = absurd own
 

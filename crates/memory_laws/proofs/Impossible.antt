@@ -1,8 +1,8 @@
 -- Which lines can lead to the impossible line: two alone, a tomb at the end of a path of one indirection and a list as the parent in CLIMB. That these don't come
 -- about is for the layer of levels, which cites `never_impossible`.
-use Rattle.std.proofs.Common.{◌≡◌, ℕ, zero, suc, ◌+◌, ◌-◌, ◌≤◌, ◌<◌, ◌==◌, ◌&&◌, ◌||◌, Bool, true, false, cond, nat_lt, nat_le, nat_eq, List, [], ◌∷◌, ◌++◌, Option, Some, None, length, get_or, refl, sym, ap, ◌∙◌, subst, arith}
+use Rattle.std.proofs.Common.{◌≡◌, ℕ, ◌+◌, ◌-◌, ◌==◌, ◌&&◌, Bool, true, false, nat_lt, nat_eq, List, [], ◌∷◌, ◌++◌, Option, Some, None, length, refl, ap, arith}
 use Rattle.std.specs.Cmp.Lexicographic.{pointwise}
-use Rattle.std.proofs.lemmas.Bool.{false≢true, true≢false, cond_both}
+use Rattle.std.proofs.lemmas.Bool.{false≢true, cond_both}
 use Rattle.std.proofs.lemmas.List.Elements.{All-head}
 use Rattle.history.specs.declared.calls.Access.{Access}
 use Rattle.history.specs.declared.calls.Access.TheVariants.{Writable, ReadOnly}
@@ -10,29 +10,23 @@ use Rattle.arrayvec.specs.ArrayVec.{ArrayVec}
 use Rattle.slot_arena.specs.declared.refs.Ref.{Ref}
 use Rattle.slot_arena.specs.declared.nodes.Node.{Node}
 use Rattle.slot_arena.specs.declared.nodes.Node.TheVariants.{Indirection, Branch, Single, Tomb, List as Listed}
-use Rattle.slot_arena.specs.Heaps.{Heap, node_at, entry_at, entries_of, next_ref}
+use Rattle.slot_arena.specs.Heaps.{node_at, entry_at, entries_of, next_ref}
 use Rattle.nodes.specs.Levels.{has_flag}
 use Rattle.machine_model.specs.declared.operations.Operation.{Operation}
-use Rattle.machine_model.specs.declared.reading.Read.{Read}
 use Rattle.machine_model.specs.declared.reading.Swap.{Swap}
 use Rattle.machine_model.specs.declared.lines.Purpose.{Purpose}
 use Rattle.machine_model.specs.declared.lines.Line.{Line}
 use Rattle.machine_model.specs.declared.lines.Line.TheVariants as line
 use Rattle.machine_model.specs.declared.roots.RootLine.{RootLine}
-use Rattle.machine_model.specs.declared.finding.KeyLine.{KeyLine}
 use Rattle.machine_model.specs.declared.finding.KeyLine.TheVariants as key
 use Rattle.machine_model.specs.declared.finding.WhenFound.{WhenFound}
 use Rattle.machine_model.specs.declared.finding.WhenFound.TheVariants.{Answers, Sets, Removes}
 use Rattle.machine_model.specs.declared.building.BuildLine.{BuildLine}
-use Rattle.machine_model.specs.declared.repairs.RenewLine.{RenewLine}
 use Rattle.machine_model.specs.declared.repairs.RenewLine.TheVariants as renew
-use Rattle.machine_model.specs.declared.repairs.CleanLine.{CleanLine}
 use Rattle.machine_model.specs.declared.repairs.CleanLine.TheVariants as clean
-use Rattle.machine_model.specs.declared.repairs.ClimbLine.{ClimbLine}
 use Rattle.machine_model.specs.declared.repairs.ClimbLine.TheVariants as climb
 use Rattle.machine_model.specs.declared.repairs.Climb.{Climb}
 use Rattle.machine_model.specs.declared.copying.CopyLine.{CopyLine}
-use Rattle.machine_model.specs.declared.walking.WalkLine.{WalkLine}
 use Rattle.machine_model.specs.declared.walking.WalkLine.TheVariants as walk
 use Rattle.machine_model.specs.Calls.{needs_writable, when_found, key_of}
 use Rattle.machine_model.specs.States.{State}
@@ -45,8 +39,8 @@ use Rattle.machine_model.specs.Cleaning.{clean_next, clean_after, clean_after_en
 use Rattle.machine_model.specs.Climbing.{climb_after, climb_after_main, climbing, higher, holds_it}
 use Rattle.machine_model.specs.Copying.{copy_after}
 use Rattle.machine_model.specs.Walking.{walk_after, walk_next, walk_after_entry, first_of, rest_of}
-use Rattle.memory_laws.specs.Wants.{Wanted, AnIndirection, AMain, ABranch, AList, TombOrList, AnEntry, ASingle, WithEntry, meets, is_list, Claim, Is, Each, Holds, AllHold, listed, key_wants, renew_wants, clean_wants, climb_wants, walk_wants, line_wants}
-use Rattle.memory_laws.proofs.Claims.{Meets, safe_of, meets_of, is_also, all_of, fact_of}
+use Rattle.memory_laws.specs.Wants.{AMain, ABranch, AList, TombOrList, AnEntry, ASingle, WithEntry, meets, is_list, Is, Each, Holds, AllHold, listed, line_wants}
+use Rattle.memory_laws.proofs.Claims.{Meets, meets_of, is_also, all_of, fact_of}
 use Rattle.memory_laws.proofs.Nodes.{Heaped, branch_entries, listed_entries, at_position}
 use Rattle.memory_laws.proofs.Keys.{Changes, reader_changes, listed_either, changed_list}
 
@@ -188,7 +182,7 @@ module _ (state : State) (operation : Operation) where
     single_never path main position (Single k v) e m =
         cond_both (k == key_of operation.call) _ _ (λ l. IsImpossible l → ⊥)
         (λ e. found_never path main position v (when_found operation.call v)
-          (λ c. removing_list_never path main position v (node_at state.heap main) (meets_of (changed_list state operation S H fits (λ n. reader_changes operation.call v n c) m))))
+        (λ c. removing_list_never path main position v (node_at state.heap main) (meets_of (changed_list state operation S H fits (λ n. reader_changes operation.call v n c) m))))
         (λ e. cond_both (nat_lt (position + 1) (length (entries_of (node_at state.heap main)))) _ _ (λ l. IsImpossible l → ⊥) (λ e h. h) (λ e. listed_never path main _))
     single_never path main position node e m = λ h. false≢true e
 
@@ -203,7 +197,7 @@ module _ (state : State) (operation : Operation) where
         absurd (entry_never path main position (node_at state.heap (entry_at state.heap main position)) (entry_meets main position h.1.1.0 h.1.1.1.0) (meets_of h.1.1.0) i)
     impossible_strange (line.Key (key.Listed path main position)) h n i =
         absurd (single_never path main position (node_at state.heap (entry_at state.heap main position))
-          ((at_position S state.heap ASingle position (listed_entries S state.heap H (is_also TombOrList (listed_either operation.access) h.1.1.0)) h.1.1.1.0).1) h.1.1.0 i)
+        ((at_position S state.heap ASingle position (listed_entries S state.heap H (is_also TombOrList (listed_either operation.access) h.1.1.0)) h.1.1.1.0).1) h.1.1.0 i)
     impossible_strange (line.Key (key.Sibling path main position former)) h n i =
         absurd (sibling_never path main position former _ (node_at state.heap (entry_at state.heap main (1 - position))) (entry_meets main (1 - position) h.1.1.0 h.1.1.1.0) i)
     impossible_strange (line.Build l) h n i = absurd (build_never state operation l i)

@@ -1,6 +1,6 @@
 -- Each step keeps memory safe, and the first state's memory is.
-use Rattle.std.proofs.Common.{◌≡◌, ℕ, zero, suc, ◌+◌, ◌-◌, ◌^◌, ◌<◌, ◌≤◌, ◌||◌, Bool, true, false, cond, nat_le, is_some, List, [], ◌∷◌, ◌++◌, map, All, length, get_or, Option, Some, None, refl, sym, ap, ◌∙◌, subst, inl, inr, arith}
-use Rattle.std.proofs.lemmas.Bool.{cond_both, or_cases, false≢true}
+use Rattle.std.proofs.Common.{◌≡◌, ℕ, zero, suc, ◌+◌, ◌^◌, ◌≤◌, true, nat_le, List, ◌++◌, map, All, length, get_or, Option, Some, None, refl, sym, ap, ◌∙◌, subst, inl, inr, arith}
+use Rattle.std.proofs.lemmas.Bool.{cond_both, or_cases}
 use Rattle.std.proofs.lemmas.Option.{none-some, same_Some}
 use Rattle.std.proofs.lemmas.List.Elements.{All-weaker, All-push, All-nil}
 use Rattle.ctrie_base.specs.declared.hashes.HashKind.{HashKind}
@@ -9,7 +9,6 @@ use Rattle.history.specs.declared.calls.Call.{Call}
 use Rattle.history.specs.declared.calls.Call.TheVariants.{Close, Entries}
 use Rattle.slot_arena.specs.declared.refs.Ref.{Ref}
 use Rattle.slot_arena.specs.declared.nodes.Node.{Node}
-use Rattle.slot_arena.specs.declared.nodes.Node.TheVariants.{Indirection}
 use Rattle.slot_arena.specs.declared.nodes.Slot.{Slot}
 use Rattle.slot_arena.specs.Heaps.{Heap, node_at, next_ref, taken}
 use Rattle.epochs.specs.declared.limbo.Swept.{Swept}
@@ -18,19 +17,16 @@ use Rattle.epochs.specs.Sweeping.{Reclaimer, ripe, sweep_by}
 use Rattle.machine_model.specs.declared.operations.Operation.{Operation}
 use Rattle.machine_model.specs.declared.actions.Action.{Action}
 use Rattle.machine_model.specs.declared.actions.Action.TheVariants as act
-use Rattle.machine_model.specs.declared.lines.Line.{Line}
-use Rattle.machine_model.specs.declared.lines.Line.TheVariants as line
-use Rattle.machine_model.specs.declared.roots.Root.{Root}
 use Rattle.machine_model.specs.declared.steps.Limits.{Limits}
 use Rattle.machine_model.specs.declared.steps.Outcome.{Outcome}
 use Rattle.machine_model.specs.declared.steps.Step.{Step}
 use Rattle.machine_model.specs.declared.steps.Step.TheVariants as step
 use Rattle.machine_model.specs.Calls.{handle_of}
-use Rattle.machine_model.specs.States.{State, first_state, root_at, word_at, operation_of}
-use Rattle.machine_model.specs.Operations.{action_of, line_action, line_after, first_line}
+use Rattle.machine_model.specs.States.{State, word_at, operation_of}
+use Rattle.machine_model.specs.Operations.{action_of, line_after, first_line}
 use Rattle.machine_model.specs.Acting.{gone, acted, operation_after, private_after, with_made, new_root_taken}
 use Rattle.machine_model.specs.Counting.{outside, settled}
-use Rattle.machine_model.specs.Machine.{begin_denial, with_begin, pin_of, reclaimer_of, swept, AreLimits}
+use Rattle.machine_model.specs.Machine.{begin_denial, with_begin, pin_of, reclaimer_of}
 use Rattle.machine_model.proofs.Moves.{Moves, Begins, Goes, Ends, Sweeps, GoesOn, begun_operation}
 use Rattle.machine_model.proofs.Actors.{IsOf, mark_one, mark_only, marks_in, marks_by}
 use Rattle.machine_model.proofs.Frames.{acted_framed, limits_kept}
@@ -38,14 +34,14 @@ use Rattle.machine_model.proofs.HeapMoves.{begin_heap}
 use Rattle.machine_model.proofs.Slots.{IsSound, sound_after, ripe_in_use}
 use Rattle.machine_model.proofs.InUse.{InUse}
 use Rattle.machine_model.proofs.Grown.{standing}
-use Rattle.memory_laws.specs.Wants.{is_formed, Claim, Holds, AllHold, node_wants, prev_wants, word_wants, action_wants, line_wants}
-use Rattle.memory_laws.specs.Laws.{is_end, IsInUse}
-use Rattle.memory_laws.proofs.Claims.{Meets, Carries, all_carried, both_hold}
+use Rattle.memory_laws.specs.Wants.{is_formed, AllHold, node_wants, prev_wants, word_wants, action_wants, line_wants}
+use Rattle.memory_laws.specs.Laws.{IsInUse}
+use Rattle.memory_laws.proofs.Claims.{Carries, all_carried, both_hold}
 use Rattle.memory_laws.proofs.Under.{node_under, fresh_slot, taken_all}
 use Rattle.memory_laws.proofs.Guards.{Safe, zero_after, AllZero}
-use Rattle.memory_laws.proofs.Effects.{Effect, Keeps, Does, same, same_as, frees, acted_effect}
-use Rattle.memory_laws.proofs.EachStep.{at_place, each_after}
-use Rattle.memory_laws.proofs.Base.{IsRecent, HasHandle, handles_after, fits_after, recent_after, goes_no_end, begin_times}
+use Rattle.memory_laws.proofs.Effects.{Effect, Does, same, same_as, frees, acted_effect}
+use Rattle.memory_laws.proofs.EachStep.{each_after}
+use Rattle.memory_laws.proofs.Base.{IsRecent, handles_after, fits_after, recent_after, goes_no_end, begin_times}
 use Rattle.memory_laws.proofs.Started.{known_after}
 use Rattle.memory_laws.proofs.Words.{WordsHold, acted_words, begun_words}
 use Rattle.memory_laws.proofs.Acts.{line_acts}
@@ -158,7 +154,7 @@ module _ (state : State) (I : IsSafe state) where
     nodes_after r slot h =
         let (epoch, low, high, effect) = step_effect s o after m in
         let (claims, formed) = slots_after (Safe state epoch) state.heap _ _ _ _ _ effect
-            (λ q was e. (both_hold (Safe state epoch) state.heap (node_wants was.node) (prev_wants was.prev) (node_in state I epoch q was e) (prev_in state I epoch q was e), (I.nodes q was e).1)) r slot h in
+        (λ q was e. (both_hold (Safe state epoch) state.heap (node_wants was.node) (prev_wants was.prev) (node_in state I epoch q was e) (prev_in state I epoch q was e), (I.nodes q was e).1)) r slot h in
         (all_carried (Safe state epoch) state.heap (IsInUse after.heap) after.heap (used_carries epoch low high) (node_wants slot.node ++ prev_wants slot.prev) claims, formed)
 
   -- root words, where what they want is still said of the state before
@@ -166,9 +162,12 @@ module _ (state : State) (I : IsSafe state) where
   words_between s o after (Begins {actor} {call} d) =
       (state.epoch, omega arith, omega arith, begun_words (Safe state state.epoch) state.heap state call (begun_operation state call).id (word_in state I state.epoch))
   words_between s o after (Goes {actor} {operation} d is a g) =
-      let (k, recent) = of_actor state (λ k operation. IsRecent state k operation × (get_or state.actors k None ≡ Some operation)) (λ k operation e. (I.recent k operation e, e)) actor operation is in
-      (operation.epoch, recent.0.0, recent.0.1,
-      acted_words (Safe state operation.epoch) state.heap _ (handle_of operation.call) (action_of state operation) (word_in state I operation.epoch) (step_claims k operation recent.1))
+      let (k, recent) = of_actor state (λ k operation. IsRecent state k operation × (get_or state.actors k None ≡ Some operation)) (λ k operation e. (I.recent k operation e, e)) actor operation is in (
+        operation.epoch,
+        recent.0.0,
+        recent.0.1,
+        acted_words (Safe state operation.epoch) state.heap _ (handle_of operation.call) (action_of state operation) (word_in state I operation.epoch) (step_claims k operation recent.1),
+      )
   words_between s o after (Ends d is a) = (state.epoch, omega arith, omega arith, word_in state I state.epoch)
   words_between s o after (Sweeps spent) = (state.epoch, omega arith, omega arith, word_in state I state.epoch)
 
@@ -197,9 +196,10 @@ module _ (state : State) (I : IsSafe state) where
         Safe next operation.epoch made × (node_at next.heap made ≡ node)
     made_fresh node made is e =
         let (here, none, others, birth) = taken_all state.limits.slots state.heap (I.sound.heap) (I.small) node made e in
-        let stood = ap (λ heap. standing heap made) (made_heap _ (handle_of operation.call) (action_of state operation) node made is e) ∙ here in
-        (made_safe state next operation.epoch its_epoch.0 its_epoch.1 grows refl None (λ r e. absurd (none-some r e)) _ (gone_effect actor k operation found) (I.sound) (I.small) made (fresh_slot state.heap node) none stood,
-        node_under next.heap made (fresh_slot state.heap node) stood)
+        let stood = ap (λ heap. standing heap made) (made_heap _ (handle_of operation.call) (action_of state operation) node made is e) ∙ here in (
+          made_safe state next operation.epoch its_epoch.0 its_epoch.1 grows refl None (λ r e. absurd (none-some r e)) _ (gone_effect actor k operation found) (I.sound) (I.small) made (fresh_slot state.heap node) none stood,
+          node_under next.heap made (fresh_slot state.heap node) stood,
+        )
 
     pub its_word : GoesOn (action_of state operation) → AllHold (Safe state operation.epoch) state.heap (word_wants (word_at state (handle_of operation.call)))
     its_word g = open_word state I operation.epoch (handle_of operation.call) (elim (or_cases _ _ (I.handles k operation found)) [
@@ -242,15 +242,15 @@ module _ (state : State) (I : IsSafe state) where
   own_line actor operation k own is g found =
       rw (mark_only (marks_by state (Some operation)) (operation_after state operation))
       (subst (λ (l : Limits). AllHold (Safe (settled state (gone state actor operation)) operation.epoch) (gone state actor operation).heap (line_wants l.hash operation.call operation.access (line_after state operation operation.line)))
-        (sym (acted_framed _ (handle_of operation.call) (action_of state operation)).limits) (gone_line actor k operation found g))
+      (sym (acted_framed _ (handle_of operation.call) (action_of state operation)).limits) (gone_line actor k operation found g))
 
   other_line : (s : Step) (o : Outcome) (after : State) → Moves state s o after → (k : ℕ) → (IsOf (suc k) s → ⊥) → (operation : Operation) → get_or state.actors k None ≡ Some operation →
       get_or state.actors k None ≡ Some operation → Lines after k (mark_one (marks_in state s) operation)
   other_line s o after m k other operation found e =
       rw (mark_only (marks_in state s) operation)
       (all_carried (Safe state operation.epoch) state.heap (Safe after operation.epoch) after.heap
-        (step_carries s o after m operation.epoch (I.recent k operation found).0 (I.recent k operation found).1) _
-        (subst (λ (l : Limits). AllHold (Safe state operation.epoch) state.heap (line_wants l.hash operation.call operation.access operation.line)) (sym (limits_kept state s o after m)) (I.lines k operation found)))
+      (step_carries s o after m operation.epoch (I.recent k operation found).0 (I.recent k operation found).1) _
+      (subst (λ (l : Limits). AllHold (Safe state operation.epoch) state.heap (line_wants l.hash operation.call operation.access operation.line)) (sym (limits_kept state s o after m)) (I.lines k operation found)))
 
   lines_after : (s : Step) (o : Outcome) (after : State) → Moves state s o after → (k : ℕ) (operation : Operation) → get_or after.actors k None ≡ Some operation → Lines after k operation
   lines_after = each_after state (λ k operation. get_or state.actors k None ≡ Some operation) Lines (λ k operation e. e) begun_line own_line other_line
@@ -268,8 +268,8 @@ module _ (state : State) (I : IsSafe state) where
   other_private s o after m k other operation found e =
       rw (mark_only (marks_in state s) operation)
       (All-weaker (Safe state operation.epoch) (IsInUse after.heap)
-        (λ r h. (step_carries s o after m operation.epoch (I.recent k operation found).0 (I.recent k operation found).1 r h).0.used) operation.private
-        (in_private state I operation.epoch k operation found))
+      (λ r h. (step_carries s o after m operation.epoch (I.recent k operation found).0 (I.recent k operation found).1 r h).0.used) operation.private
+      (in_private state I operation.epoch k operation found))
 
   privates_after : (s : Step) (o : Outcome) (after : State) → Moves state s o after → (k : ℕ) (operation : Operation) → get_or after.actors k None ≡ Some operation → Privates after k operation
   privates_after =

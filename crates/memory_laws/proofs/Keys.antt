@@ -1,15 +1,15 @@
 -- KEY: what its lines want gives what their steps want, and what the lines after them do.
-use Rattle.std.proofs.Common.{◌≡◌, ℕ, zero, suc, ◌+◌, ◌-◌, ◌==◌, ◌&&◌, Bool, true, false, cond, nat_lt, nat_le, List, [], ◌∷◌, ◌++◌, Option, Some, None, All, length, refl, sym, ap, ◌∙◌}
+use Rattle.std.proofs.Common.{◌≡◌, ℕ, ◌+◌, ◌-◌, ◌==◌, ◌&&◌, true, false, nat_lt, nat_le, List, [], length, refl, sym, ap, ◌∙◌}
 use Rattle.std.proofs.lemmas.Bool.{false≢true, true≢false, and_parts, cond_both}
 use Rattle.ctrie_base.specs.Paths.{position_of}
 use Rattle.history.specs.declared.calls.Access.{Access}
 use Rattle.history.specs.declared.calls.Access.TheVariants.{Writable, ReadOnly}
 use Rattle.history.specs.declared.calls.Call.{Call}
-use Rattle.history.specs.declared.calls.Call.TheVariants.{Get, Put, PutIfAbsent, Replace, ReplaceIf, Remove, RemoveIf, Clear, Snapshot, Freeze, Close, Entries, Count}
+use Rattle.history.specs.declared.calls.Call.TheVariants.{Get, Close, Entries, Count}
 use Rattle.slot_arena.specs.declared.refs.Ref.{Ref}
 use Rattle.slot_arena.specs.declared.nodes.Node.{Node}
 use Rattle.slot_arena.specs.declared.nodes.Node.TheVariants.{Indirection, Branch, Single, Tomb, List as Listed}
-use Rattle.slot_arena.specs.Heaps.{Heap, node_at, entry_at, entries_of}
+use Rattle.slot_arena.specs.Heaps.{node_at, entry_at, entries_of}
 use Rattle.nodes.specs.Levels.{index_in, has_flag}
 use Rattle.machine_model.specs.declared.operations.Operation.{Operation}
 use Rattle.machine_model.specs.declared.reading.After.{After}
@@ -22,13 +22,13 @@ use Rattle.machine_model.specs.declared.finding.WhenFound.TheVariants.{Answers, 
 use Rattle.machine_model.specs.declared.lines.Line.{Line}
 use Rattle.machine_model.specs.Calls.{handle_of, key_of, needs_writable, inserts, when_found}
 use Rattle.machine_model.specs.States.{State, word_at}
-use Rattle.machine_model.specs.Paths.{current, above, is_below_root, flag_in, hash_in, depth_of}
-use Rattle.machine_model.specs.Reading.{read_after, read_step}
+use Rattle.machine_model.specs.Paths.{above, is_below_root, flag_in, hash_in, depth_of}
+use Rattle.machine_model.specs.Reading.{read_step}
 use Rattle.machine_model.specs.Renewing.{renew_next}
-use Rattle.machine_model.specs.Finding.{key_action, key_after, absent, absent_beside, absent_listed, removing, found_so, found, key_after_read, after_tomb, key_after_main, is_passable, key_after_entry, after_listed, after_sibling, going_down}
-use Rattle.memory_laws.specs.Wants.{Wanted, Anything, AnIndirection, AMain, ABranch, AList, BranchOrList, TombOrList, AnEntry, ASingle, WithEntry, AtMost, WithFlag, ToSpare, meets, is_formed, Claim, Is, Each, EntryIs, So, Holds, is, each, entry_is, so, AllHold, word_wants, read_wants, action_wants, listed, key_wants, line_wants}
-use Rattle.memory_laws.proofs.Claims.{Meets, safe_of, meets_of, is_also, all_of, fact_of, from_meets, last_hold}
-use Rattle.memory_laws.proofs.Nodes.{Heaped, branch_entries, listed_entries, at_position, branch_both, list_both, single_entry}
+use Rattle.machine_model.specs.Finding.{key_action, key_after, absent, absent_beside, absent_listed, removing, found_so, key_after_read, after_tomb, key_after_main, is_passable, key_after_entry, after_listed, after_sibling}
+use Rattle.memory_laws.specs.Wants.{Wanted, AnIndirection, ABranch, AList, BranchOrList, TombOrList, AnEntry, ASingle, WithEntry, WithFlag, ToSpare, meets, is_formed, Is, Each, EntryIs, So, Holds, is, entry_is, so, AllHold, word_wants, read_wants, action_wants, listed, key_wants, line_wants}
+use Rattle.memory_laws.proofs.Claims.{safe_of, meets_of, is_also, from_meets}
+use Rattle.memory_laws.proofs.Nodes.{Heaped, branch_entries, listed_entries, at_position, branch_both, list_both}
 use Rattle.memory_laws.proofs.Rooting.{step_wants, read_acts, read_next, indirection_next}
 use Rattle.memory_laws.proofs.Lines.{position_within, this, current_is, above_each, above_long, pushed_each, pushed_long, none_each, flag_spares, formed_ones, at_most, other_of_two, three, first_of_two}
 
@@ -119,11 +119,30 @@ module _ (state : State) (operation : Operation) (S : Ref → Type 0) (H : Heape
   removing_list path main position value (Listed singles) e formed p m =
       let singles_in = listed_entries S state.heap H (is_also TombOrList (listed_either Writable) m) in
       cond_both (length singles.items == 2) _ _ Wants
-      (λ two. (p.0, (p.1, (is_also BranchOrList list_both m,
-        (from_meets (entry_at state.heap main (1 - position)) (at_position S state.heap ASingle (1 - position) singles_in
-          (this S state.heap (WithEntry (1 - position)) (Listed singles) (safe_of m) e (other_of_two position (length singles.items) two))), tt)))))
-      (λ other. (p.0, (p.1, (is_also BranchOrList list_both m,
-        (this S state.heap (ToSpare (flag_in state operation path)) (Listed singles) (safe_of m) e (three (length singles.items) formed other), tt)))))
+      (λ two. (
+        p.0,
+        (
+          p.1,
+          (
+            is_also BranchOrList list_both m,
+            (
+              from_meets (entry_at state.heap main (1 - position)) (at_position S state.heap ASingle (1 - position) singles_in
+                  (this S state.heap (WithEntry (1 - position)) (Listed singles) (safe_of m) e (other_of_two position (length singles.items) two))),
+              tt,
+            ),
+          ),
+        ),
+      ))
+      (λ other. (
+        p.0,
+        (
+          p.1,
+          (
+            is_also BranchOrList list_both m,
+            (this S state.heap (ToSpare (flag_in state operation path)) (Listed singles) (safe_of m) e (three (length singles.items) formed other), tt),
+          ),
+        ),
+      ))
   removing_list path main position value node e formed p m = absurd (false≢true (sym (ap (meets AList) e) ∙ meets_of m))
 
   found_wants : (path : List Ref) (main : Ref) (position value : ℕ) (todo : WhenFound) → IsPath path →
@@ -152,15 +171,32 @@ module _ (state : State) (operation : Operation) (S : Ref → Type 0) (H : Heape
       Wants (key_after_main state operation path main node)
   key_main_next path main (Branch bitmap entries) e formed p s =
       cond_both (has_flag bitmap (flag_in state operation path)) _ _ Wants
-      (λ f. (p.0, (p.1, (this S state.heap ABranch (Branch bitmap entries) s e refl,
-        (this S state.heap (WithEntry (position_of (flag_in state operation path) bitmap)) (Branch bitmap entries) s e
-          (position_within bitmap (index_in (hash_in state operation) (depth_of path)) (length entries.items) f (formed_ones bitmap (length entries.items) _ formed)),
-          (this S state.heap (WithFlag (flag_in state operation path)) (Branch bitmap entries) s e f, tt))))))
+      (λ f. (
+        p.0,
+        (
+          p.1,
+          (
+            this S state.heap ABranch (Branch bitmap entries) s e refl,
+            (
+              this S state.heap (WithEntry (position_of (flag_in state operation path) bitmap)) (Branch bitmap entries) s e
+                  (position_within bitmap (index_in (hash_in state operation) (depth_of path)) (length entries.items) f (formed_ones bitmap (length entries.items) _ formed)),
+              (this S state.heap (WithFlag (flag_in state operation path)) (Branch bitmap entries) s e f, tt),
+            ),
+          ),
+        ),
+      ))
       (λ f. absent_wants path main p (λ i. this S state.heap BranchOrList (Branch bitmap entries) s e refl))
   key_main_next path main (Tomb single) e formed p s = tomb_next operation.access path main single e p s
-  key_main_next path main (Listed singles) e formed p s =
-      (p.0, (p.1, (this S state.heap (listed operation.access) (Listed singles) s e (list_listed operation.access (Listed singles) refl),
-        (this S state.heap (WithEntry 0) (Listed singles) s e (first_of_two (length singles.items) formed), tt))))
+  key_main_next path main (Listed singles) e formed p s = (
+    p.0,
+    (
+      p.1,
+      (
+        this S state.heap (listed operation.access) (Listed singles) s e (list_listed operation.access (Listed singles) refl),
+        (this S state.heap (WithEntry 0) (Listed singles) s e (first_of_two (length singles.items) formed), tt),
+      ),
+    ),
+  )
   key_main_next path main (Indirection generation word) e formed p s = tt
   key_main_next path main (Single k v) e formed p s = tt
 
@@ -176,9 +212,9 @@ module _ (state : State) (operation : Operation) (S : Ref → Type 0) (H : Heape
       let entry = this S state.heap ASingle (Single k v) s e refl in
       cond_both (k == key_of operation.call) _ _ Wants
       (λ here. found_wants path main position v (when_found operation.call v) p (λ c. is_also BranchOrList branch_both m)
-        (λ c. removing_branch path main position v (node_at state.heap main) refl p m f))
+      (λ c. removing_branch path main position v (node_at state.heap main) refl p m f))
       (λ other. beside_wants path main position p m
-        (entry_is (safe_of m) (Rattle.std.proofs.lemmas.Bool.ltb-true position (length (entries_of (node_at state.heap main))) (meets_of within)) s (meets_of entry)))
+      (entry_is (safe_of m) (Rattle.std.proofs.lemmas.Bool.ltb-true position (length (entries_of (node_at state.heap main))) (meets_of within)) s (meets_of entry)))
   key_entry_next path main position node e p m within f s = tt
 
   after_sibling_next : (path : List Ref) (main : Ref) (position former : ℕ) (other : Ref) (node : Node) → node_at state.heap other ≡ node → IsPath path →
@@ -199,11 +235,11 @@ module _ (state : State) (operation : Operation) (S : Ref → Type 0) (H : Heape
     listed_next path main position (Single k v) p m =
         cond_both (k == key_of operation.call) _ _ Wants
         (λ here. found_wants path main position v (when_found operation.call v) p
-          (λ c. is_also BranchOrList list_both (changed_list (λ n. reader_changes operation.call v n c) m))
-          (λ c. removing_list path main position v (node_at state.heap main) refl (H.formed main (safe_of m)) p (changed_list (λ n. reader_changes operation.call v n c) m)))
+        (λ c. is_also BranchOrList list_both (changed_list (λ n. reader_changes operation.call v n c) m))
+        (λ c. removing_list path main position v (node_at state.heap main) refl (H.formed main (safe_of m)) p (changed_list (λ n. reader_changes operation.call v n c) m)))
         (λ other. cond_both (nat_lt (position + 1) (length (entries_of (node_at state.heap main)))) _ _ Wants
-          (λ more. (p.0, (p.1, (m, (is (safe_of m) more, tt)))))
-          (λ last. listed_wants path main _ p (λ i. is_also BranchOrList list_both (changed_list (λ n. reader_inserts operation.call n i) m))))
+        (λ more. (p.0, (p.1, (m, (is (safe_of m) more, tt)))))
+        (λ last. listed_wants path main _ p (λ i. is_also BranchOrList list_both (changed_list (λ n. reader_inserts operation.call n i) m))))
     listed_next path main position node p m = tt
 
     module _ (W : AllHold S state.heap (word_wants (word_at state (handle_of operation.call)))) where

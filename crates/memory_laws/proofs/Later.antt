@@ -1,12 +1,12 @@
 -- What holds later in a run; births never repeat.
-use Rattle.std.proofs.Common.{◌≡◌, ℕ, ◌+◌, ◌≤◌, List, [], ◌∷◌, ◌++◌, Option, Some, None, refl, sym, ap, ◌∙◌, subst, inl, inr, arith}
+use Rattle.std.proofs.Common.{◌≡◌, ℕ, ◌+◌, ◌≤◌, List, [], ◌∷◌, ◌++◌, Option, Some, None, sym, ap, ◌∙◌, subst, inl, inr, arith}
 use Rattle.std.proofs.lemmas.Bool.{cases_eq}
 use Rattle.std.proofs.lemmas.Option.{none-some, same_Some}
 use Rattle.slot_arena.specs.Refs.{birth_of}
 use Rattle.slot_arena.specs.declared.refs.Ref.{Ref}
 use Rattle.slot_arena.specs.declared.nodes.Node.TheVariants.{Indirection}
 use Rattle.slot_arena.specs.declared.nodes.Slot.{Slot}
-use Rattle.slot_arena.specs.Heaps.{Heap, next_ref}
+use Rattle.slot_arena.specs.Heaps.{next_ref}
 use Rattle.machine_model.specs.declared.steps.Limits.{Limits}
 use Rattle.machine_model.specs.declared.steps.Outcome.{Outcome}
 use Rattle.machine_model.specs.declared.steps.Step.{Step}
@@ -56,14 +56,17 @@ IsStill r was state = (birth_of r ≤ state.heap.births) × ((now : Slot) → st
 still_after : (r : Ref) (was : Slot) (state : State) → IsSafe state → IsStill r was state → (s : Step) (o : Outcome) (after : State) → Moves state s o after → IsStill r was after
 still_after r was state I h s o after m =
     let (epoch, low, high, effect) = step_effect state I s o after m in
-    let more = births_grow _ _ _ _ _ _ effect in
-    (later more h.0, λ now found. elim (stood_or_made _ _ _ _ _ _ effect r now found) [
-      | inl stood ↦ slots_joined was stood.0 now (h.1 stood.0 stood.1) (same_there _ _ _ _ _ _ effect r stood.0 now stood.1 found)
-      | inr made ↦ absurd (too_late made.0 h.0)
-    ])
+    let more = births_grow _ _ _ _ _ _ effect in (
+      later more h.0,
+      λ now found. elim (stood_or_made _ _ _ _ _ _ effect r now found) [
+        | inl stood ↦ slots_joined was stood.0 now (h.1 stood.0 stood.1) (same_there _ _ _ _ _ _ effect r stood.0 now stood.1 found)
+        | inr made ↦ absurd (too_late made.0 h.0)
+      ],
+    )
   where
     later : state.heap.births ≤ after.heap.births → birth_of r ≤ state.heap.births → birth_of r ≤ after.heap.births
     later a b = omega arith
+
     too_late : birth_of r ≡ state.heap.births + 1 → birth_of r ≤ state.heap.births → ⊥
     too_late a b = omega arith
 
@@ -72,7 +75,7 @@ pub one_node : (limits : Limits) → AreLimits limits → (steps more : List Ste
 one_node limits ok steps more r was now h h' =
     let I = safe_along limits ok steps in
     let still = onward (IsStill r was) (still_after r was) more (run limits steps) I
-        (I.births r was h, λ found is. subst (SameSlot was) (same_Some _ _ (sym h ∙ is)) (same_slot was)) in
+    (I.births r was h, λ found is. subst (SameSlot was) (same_Some _ _ (sym h ∙ is)) (same_slot was)) in
     (still.1 now (subst (λ state. standing state.heap r ≡ Some now) (run-append (first_state limits) steps more) h')).0
 
 -- ---- births

@@ -1,6 +1,6 @@
 -- Levels after any line's step, and those of the node that a step makes.
-use Rattle.std.proofs.Common.{◌≡◌, ℕ, zero, suc, ◌+◌, ◌-◌, ◌^◌, ◌<◌, ◌≤◌, ◌==◌, ◌&&◌, Bool, true, false, cond, nat_lt, List, [], ◌∷◌, ◌++◌, All, length, get_or, set, take, Option, Some, None, is_some, refl, sym, ap, ◌∙◌, subst, inl, inr, eqb-true, ltb-true, arith}
-use Rattle.std.specs.Prelude.{insert, remove, bit_or, bit_xor}
+use Rattle.std.proofs.Common.{◌≡◌, ℕ, zero, suc, ◌+◌, ◌-◌, ◌<◌, ◌≤◌, ◌==◌, ◌&&◌, Bool, true, false, nat_lt, List, [], ◌∷◌, ◌++◌, All, length, Option, Some, None, is_some, refl, sym, ◌∙◌, subst, inl, inr, eqb-true, ltb-true, arith}
+use Rattle.std.specs.Prelude.{bit_or, bit_xor}
 use Rattle.std.proofs.lemmas.Bool.{false≢true, cond_both, eqb-false}
 use Rattle.std.proofs.lemmas.List.Elements.{All-nil, All-cons, All-take, All-set}
 use Rattle.arrayvec.specs.ArrayVec.{ArrayVec}
@@ -8,10 +8,10 @@ use Rattle.history.specs.declared.calls.Call.{Call}
 use Rattle.history.specs.declared.calls.Call.TheVariants.{Snapshot}
 use Rattle.slot_arena.specs.declared.refs.Ref.{Ref}
 use Rattle.slot_arena.specs.declared.nodes.Node.{Node as SlotNode}
-use Rattle.slot_arena.specs.declared.nodes.Node.TheVariants.{Indirection, Branch, Single, Tomb, List as Listed}
-use Rattle.slot_arena.specs.Heaps.{Heap, node_at, prev_at, main_at, entry_at, entries_of, bitmap_of, next_ref, no_ref}
+use Rattle.slot_arena.specs.declared.nodes.Node.TheVariants.{Branch, List as Listed}
+use Rattle.slot_arena.specs.Heaps.{node_at, prev_at, main_at, entry_at, entries_of, bitmap_of, next_ref, no_ref}
 use Rattle.nodes.specs.Levels.{parting, index_in, flag_of, list_depth}
-use Rattle.nodes.specs.Builders.{pair, rung, contracted, renewed, by_index}
+use Rattle.nodes.specs.Builders.{pair, contracted, renewed}
 use Rattle.ctrie_base.specs.declared.hashes.HashKind.{HashKind}
 use Rattle.ctrie_base.specs.Paths.{position_of}
 use Rattle.machine_model.specs.declared.operations.Operation.{Operation}
@@ -27,7 +27,6 @@ use Rattle.machine_model.specs.declared.roots.RootLine.{RootLine}
 use Rattle.machine_model.specs.declared.roots.RootLine.TheVariants as root
 use Rattle.machine_model.specs.declared.roots.RootWord.{RootWord}
 use Rattle.machine_model.specs.declared.roots.RootWord.TheVariants.{Plain, Offer}
-use Rattle.machine_model.specs.declared.finding.KeyLine.{KeyLine}
 use Rattle.machine_model.specs.declared.finding.KeyLine.TheVariants as key
 use Rattle.machine_model.specs.declared.building.BuildLine.{BuildLine}
 use Rattle.machine_model.specs.declared.building.BuildLine.TheVariants as build
@@ -35,16 +34,12 @@ use Rattle.machine_model.specs.declared.building.Change.{Change}
 use Rattle.machine_model.specs.declared.building.Change.TheVariants as change
 use Rattle.machine_model.specs.declared.building.Site.{Site}
 use Rattle.machine_model.specs.declared.building.Site.TheVariants as site
-use Rattle.machine_model.specs.declared.repairs.RenewLine.{RenewLine}
 use Rattle.machine_model.specs.declared.repairs.RenewLine.TheVariants as renew
-use Rattle.machine_model.specs.declared.repairs.CleanLine.{CleanLine}
 use Rattle.machine_model.specs.declared.repairs.CleanLine.TheVariants as clean
-use Rattle.machine_model.specs.declared.repairs.ClimbLine.{ClimbLine}
 use Rattle.machine_model.specs.declared.repairs.ClimbLine.TheVariants as climb
 use Rattle.machine_model.specs.declared.repairs.Climb.{Climb}
 use Rattle.machine_model.specs.declared.copying.CopyLine.{CopyLine}
 use Rattle.machine_model.specs.declared.copying.CopyLine.TheVariants as copy
-use Rattle.machine_model.specs.declared.walking.WalkLine.{WalkLine}
 use Rattle.machine_model.specs.declared.walking.WalkLine.TheVariants as walk
 use Rattle.machine_model.specs.declared.lines.Purpose.{Purpose}
 use Rattle.machine_model.specs.declared.lines.Purpose.TheVariants as purpose
@@ -54,22 +49,21 @@ use Rattle.machine_model.specs.Calls.{handle_of}
 use Rattle.machine_model.specs.States.{State, word_at, root_of}
 use Rattle.machine_model.specs.Paths.{current, above, depth_of, flag_in, hash_in, is_below_root}
 use Rattle.machine_model.specs.Reading.{read_action, read_after}
-use Rattle.machine_model.specs.Swapping.{action_at, complete_action_at, root_action, after_swap, root_after, complete_after, is_plain}
-use Rattle.machine_model.specs.Renewing.{renew_next, next_entry, renew_after, renew_after_link, renew_after_branch, renew_action}
-use Rattle.machine_model.specs.Building.{build_action, build_after, build_if_made, build_after_made, after_single, after_link, changed, pair_depth, old_hash}
-use Rattle.machine_model.specs.Cleaning.{clean_action, clean_after, clean_after_contracted, cleaned, leaves_single}
-use Rattle.machine_model.specs.Climbing.{climb_action, climb_after, climb_after_contracted, climbed_node, place_in}
-use Rattle.machine_model.specs.Copying.{copy_action, copy_after, copy_if_made, copy_after_made, after_successor, offering}
-use Rattle.machine_model.specs.Walking.{walk_action, walk_after, first_of, rest_of}
-use Rattle.machine_model.specs.Finding.{key_action, key_after}
+use Rattle.machine_model.specs.Swapping.{action_at, complete_action_at, root_action, after_swap, is_plain}
+use Rattle.machine_model.specs.Renewing.{next_entry, renew_after_link, renew_after_branch}
+use Rattle.machine_model.specs.Building.{build_action, build_after, build_if_made, build_after_made, after_single, after_link, changed, old_hash}
+use Rattle.machine_model.specs.Cleaning.{clean_after_contracted, leaves_single}
+use Rattle.machine_model.specs.Climbing.{climb_after_contracted, place_in}
+use Rattle.machine_model.specs.Copying.{copy_if_made, copy_after_made, after_successor}
+use Rattle.machine_model.specs.Walking.{first_of, rest_of}
 use Rattle.machine_model.specs.Operations.{line_action, line_after}
-use Rattle.memory_laws.specs.Wants.{Wanted, AnIndirection, AMain, ABranch, BranchOrList, AnEntry, ASingle, WithEntry, meets, Claim, Is, Each, EntryIs, So, Holds, AllHold, node_wants, line_wants, build_wants, site_wants, change_wants, update_wants, renew_wants, clean_wants, climb_wants, climb_carries, copy_wants, walk_wants, swap_wants, swap_line_wants, purpose_wants, key_wants, read_wants, offer_wants}
-use Rattle.memory_laws.proofs.Claims.{Meets, safe_of, meets_of, all_of, fact_of, entry_of, from_meets, is_also, first_hold, last_hold}
+use Rattle.memory_laws.specs.Wants.{ABranch, BranchOrList, AnEntry, WithEntry, meets, Is, Holds, AllHold, line_wants, site_wants, change_wants, update_wants, swap_wants, swap_line_wants, purpose_wants, read_wants}
+use Rattle.memory_laws.proofs.Claims.{safe_of, meets_of, fact_of, entry_of, from_meets, first_hold, last_hold}
 use Rattle.memory_laws.proofs.Nodes.{Heaped, branch_entries, at_position}
 use Rattle.memory_laws.proofs.Lines.{above_long}
 use Rattle.memory_laws.proofs.Next.{made_node}
 use Rattle.memory_laws.proofs.Making.{All-inserted, All-removed, by_index_all}
-use Rattle.memory_laws.proofs.Levels.{EntryLevel, InsideLevel, KindLevel, NodeLevel, PrevLevel, OfferLevel, WordLevel, PairLevel, ReadLevel, CompleteLevel, RootLevel, PathLevel, PlaceLevel, UpdateLevel, ChangeLevel, BuildLevel, SwapLineLevel, SwapLevel, DoneLevel, LineLevel, ActionLevel, current_level, above_level, build_level, made_level}
+use Rattle.memory_laws.proofs.Levels.{EntryLevel, InsideLevel, KindLevel, NodeLevel, PrevLevel, WordLevel, ReadLevel, CompleteLevel, RootLevel, PathLevel, PlaceLevel, UpdateLevel, ChangeLevel, BuildLevel, SwapLineLevel, SwapLevel, DoneLevel, LineLevel, ActionLevel, current_level, above_level, build_level, made_level}
 use Rattle.memory_laws.proofs.LevelSteps.{AfterLevel, SwappedLevel, RenewsPath, single_level, branch_level, read_next, complete_next, root_next, renew_next_level, more_done, key_read_level, key_main_level, key_entry_level, listed_level, sibling_level, renew_entry_level, renew_read_level, clean_read_level, clean_main_level, clean_entry_level, child_level, clean_tomb_level, climb_read_level, climb_main_level, climb_root_level, copy_read_level, copy_offer_level, copy_complete_level, walk_next_level, walk_read_level, walk_entry_level, root_line_level, publish_level, deciding_level, check_level, line_swap_level}
 
 -- two hashes part at this depth or below it
@@ -215,7 +209,7 @@ module _ (lv : Ref → ℕ) (state : State) (operation : Operation) (S : Ref →
   line_level_acts (line.Climb (climb.Contracted c main)) h e =
       contracted_made (depth_of (above c.path) + 1) (is_below_root (above c.path)) (bitmap_of (node_at state.heap main)) _ (omega arith)
       (All-set (EntryLevel lv (depth_of (above c.path) + 1)) (entries_of (node_at state.heap main)) (place_in state operation c main) c.single (inl (single_level lv state operation S N c.single h.1.1.0))
-        (subst (λ n. All (EntryLevel lv n) (entries_of (node_at state.heap main))) e.1 (branch_level lv state operation S N main h.1.1.1.0)))
+      (subst (λ n. All (EntryLevel lv n) (entries_of (node_at state.heap main))) e.1 (branch_level lv state operation S N main h.1.1.1.0)))
   line_level_acts (line.Climb (climb.Root c l)) h e = root_acts l e.1
   line_level_acts (line.Copy (copy.Read r l)) h e = any_level 1 l.indirection l.line (read_acts l.indirection l.line e.2)
   line_level_acts (line.Copy (copy.Successor r main)) h e = (e.1, omega arith)
@@ -262,8 +256,10 @@ module _ (lv : Ref → ℕ) (state : State) (operation : Operation) (S : Ref →
       where
         two_deeper : depth ≡ depth_of path + 1 → lv made ≡ depth_of path + 2
         two_deeper t = omega arith
+
         higher : (depth ≡ depth_of path + 1 → ⊥) → depth_of path + 1 ≤ depth - 1
         higher t = omega arith
+
         one_more : lv made ≡ depth - 1 + 2
         one_more = omega arith
 

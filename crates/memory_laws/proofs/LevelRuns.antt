@@ -1,13 +1,12 @@
 -- Every run gives each reference a level, once, where it is made.
-use Rattle.std.proofs.Common.{◌≡◌, ℕ, zero, suc, ◌+◌, ◌^◌, ◌<◌, ◌≤◌, ◌==◌, Bool, true, false, cond, List, [], ◌∷◌, get_or, All, Option, Some, None, Ok, Err, refl, sym, ap, ◌∙◌, subst, inl, inr, eqb-true, eq-eqb, arith}
+use Rattle.std.proofs.Common.{◌≡◌, ℕ, ◌+◌, ◌<◌, ◌≤◌, true, cond, List, [], ◌∷◌, Option, Some, None, Ok, Err, refl, sym, ap, ◌∙◌, eqb-true, eq-eqb, arith}
 use Rattle.std.proofs.lemmas.Bool.{cond_both, false≢true}
-use Rattle.std.proofs.lemmas.Option.{none-some, same_Some}
+use Rattle.std.proofs.lemmas.Option.{none-some}
 use Rattle.std.proofs.lemmas.List.Elements.{All-nil}
 use Rattle.slot_arena.specs.Refs.{ref_to, birth_of}
 use Rattle.slot_arena.specs.declared.refs.Ref.{Ref}
 use Rattle.slot_arena.specs.declared.nodes.Node.{Node}
 use Rattle.slot_arena.specs.declared.nodes.Node.TheVariants.{Indirection}
-use Rattle.slot_arena.specs.declared.nodes.Slot.{Slot}
 use Rattle.slot_arena.specs.Heaps.{Heap, next_ref}
 use Rattle.machine_model.specs.declared.operations.Operation.{Operation}
 use Rattle.machine_model.specs.declared.steps.Limits.{Limits}
@@ -122,22 +121,27 @@ module _ (lv : Ref → ℕ) (state : State) (I : IsSafe state) (s : Step) (steps
 
   agrees_by : (o : Outcome) (after : State) → Moves state s o after → ((r : Ref) → state.heap.births < birth_of r → lv r ≡ cond (is_number r (made_now state s)) (level_now state s) (levels_from after steps r)) →
       GivesLevel lv state s × Agrees lv after steps
-  agrees_by o after m agrees =
-      ((λ actor operation node made is running n e.
+  agrees_by o after m agrees = (
+    (λ actor operation node made is running n e.
         let its = made_is actor operation node made is running n e in
         agrees made (above made (made_birth state I made e)) ∙ given_here (levels_from after steps made) made its ∙ level_is actor operation is running),
-      (λ r high. agrees r (still_above r (births_grow _ _ _ _ _ _ ((step_effect state I s o after m).3)) high) ∙ given_later (levels_from after steps r) r (λ e. too_high r (births_made state I s o after m r e) high)))
+    (λ r high. agrees r (still_above r (births_grow _ _ _ _ _ _ ((step_effect state I s o after m).3)) high) ∙ given_later (levels_from after steps r) r (λ e. too_high r (births_made state I s o after m r e) high)),
+  )
     where
       above : (made : Ref) → birth_of made ≡ state.heap.births + 1 → state.heap.births < birth_of made
       above made x = omega arith
+
       still_above : (r : Ref) → state.heap.births ≤ after.heap.births → after.heap.births < birth_of r → state.heap.births < birth_of r
       still_above r x y = omega arith
+
       too_high : (r : Ref) → birth_of r ≤ after.heap.births → after.heap.births < birth_of r → ⊥
       too_high r x y = omega arith
+
       made_is : (actor : ℕ) (operation : Operation) (node : Node) (made : Ref) → s ≡ step.Go actor → operation_of state actor ≡ Some operation → made_node state (action_of state operation) ≡ Some node →
           next_ref state.heap ≡ Some made → made_now state s ≡ Some made
       made_is actor operation node made is running n e =
           ap (made_now state) is ∙ ap (made_by state) running ∙ ap (λ x. if_made x (next_ref state.heap)) n ∙ e
+
       level_is : (actor : ℕ) (operation : Operation) → s ≡ step.Go actor → operation_of state actor ≡ Some operation → level_now state s ≡ made_level operation.line
       level_is actor operation is running = ap (level_now state) is ∙ ap level_by running
 
@@ -167,6 +171,7 @@ old_by state I s steps (Ok done) m r low go_on =
   where
     too_low : birth_of r ≡ state.heap.births + 1 → birth_of r ≤ state.heap.births → ⊥
     too_low x y = omega arith
+
     still : state.heap.births ≤ done.1.heap.births → birth_of r ≤ state.heap.births → birth_of r ≤ done.1.heap.births
     still x y = omega arith
 
@@ -197,7 +202,7 @@ module _ (limits : Limits) (ok : AreLimits limits) (lv : Ref → ℕ) (old : (r 
   unfolding first_state
   first_levels = record {
     nodes = first_stands (SlotLevel lv) limits.slots ok.0 ok.1 (λ birth. ((branch_level ∙ sym root_level, positive (ref_to 2 1) root_level), tt))
-      (λ birth. ((All-nil (EntryLevel lv (lv (ref_to 1 0))), positive (ref_to 1 0) branch_level), tt));
+        (λ birth. ((All-nil (EntryLevel lv (lv (ref_to 1 0))), positive (ref_to 1 0) branch_level), tt));
     words = first_words (WordLevel lv) _ root_level;
     lines = λ k operation found. absurd (none_found limits.actors k operation found);
   }

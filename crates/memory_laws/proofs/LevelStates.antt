@@ -1,32 +1,28 @@
 -- Levels in every reachable state: each step keeps them, where the level of what it makes is that of the line.
-use Rattle.std.proofs.Common.{◌≡◌, ℕ, zero, suc, ◌+◌, ◌*◌, ◌/◌, ◌%◌, ◌^◌, ◌<◌, ◌≤◌, ◌==◌, Bool, true, false, cond, nat_le, is_some, List, [], ◌∷◌, ◌++◌, map, All, length, get_or, Option, Some, None, Ok, Err, refl, sym, ap, ◌∙◌, subst, ◌⊎◌, inl, inr, eqb-true, arith}
-use Rattle.std.proofs.lemmas.Bool.{cases_eq, cond_both, or_cases, false≢true}
+use Rattle.std.proofs.Common.{◌≡◌, ℕ, suc, ◌+◌, ◌<◌, ◌≤◌, ◌==◌, Bool, true, false, is_some, [], map, All, get_or, Option, Some, None, refl, sym, ap, ◌∙◌, subst, ◌⊎◌, inl, inr, arith}
+use Rattle.std.proofs.lemmas.Bool.{cases_eq, or_cases, false≢true}
 use Rattle.std.proofs.lemmas.Option.{none-some, same_Some}
-use Rattle.std.proofs.lemmas.List.Elements.{All-nil, All-head}
+use Rattle.std.proofs.lemmas.List.Elements.{All-head}
 use Rattle.history.specs.declared.calls.Call.{Call}
 use Rattle.history.specs.declared.calls.Call.TheVariants.{Close, Entries}
-use Rattle.slot_arena.specs.Refs.{ref_to, birth_of}
+use Rattle.slot_arena.specs.Refs.{birth_of}
 use Rattle.slot_arena.specs.declared.refs.Ref.{Ref}
 use Rattle.slot_arena.specs.declared.nodes.Node.{Node}
 use Rattle.slot_arena.specs.declared.nodes.Node.TheVariants.{Indirection, Branch, Single, Tomb, List as Listed}
 use Rattle.slot_arena.specs.declared.nodes.Prev.{Prev}
 use Rattle.slot_arena.specs.declared.nodes.Prev.TheVariants as prev
 use Rattle.slot_arena.specs.declared.nodes.Slot.{Slot}
-use Rattle.slot_arena.specs.Heaps.{Heap, node_at, prev_at, main_at, main_of, with_main, with_prev, with_main_word, main_changed, prev_changed, next_ref, refs_of_option}
+use Rattle.slot_arena.specs.Heaps.{Heap, node_at, prev_at, main_at, with_main, with_prev, with_main_word, main_changed, prev_changed, next_ref, refs_of_option}
 use Rattle.machine_model.specs.declared.actions.Action.{Action}
 use Rattle.machine_model.specs.declared.actions.Action.TheVariants as act
 use Rattle.machine_model.specs.declared.operations.Operation.{Operation}
-use Rattle.machine_model.specs.declared.lines.Line.{Line}
 use Rattle.machine_model.specs.declared.roots.Root.{Root}
-use Rattle.machine_model.specs.declared.roots.RootWord.{RootWord}
-use Rattle.machine_model.specs.declared.roots.RootWord.TheVariants.{Plain, Offer}
-use Rattle.machine_model.specs.declared.roots.Descriptor.{Descriptor}
 use Rattle.machine_model.specs.declared.steps.Outcome.{Outcome}
 use Rattle.machine_model.specs.declared.steps.Step.{Step}
 use Rattle.machine_model.specs.declared.steps.Step.TheVariants as step
 use Rattle.machine_model.specs.Calls.{handle_of}
-use Rattle.machine_model.specs.States.{State, root_at, word_at, word_of, operation_of}
-use Rattle.machine_model.specs.Operations.{action_of, line_action, first_line}
+use Rattle.machine_model.specs.States.{State, root_at, word_of, operation_of}
+use Rattle.machine_model.specs.Operations.{action_of, first_line}
 use Rattle.machine_model.specs.Acting.{operation_after, gone, acted, decided, if_changed}
 use Rattle.machine_model.specs.Reading.{Verdict, Commits, Fails, Overtaken, verdict}
 use Rattle.machine_model.specs.Counting.{settled}
@@ -38,7 +34,7 @@ use Rattle.machine_model.proofs.Slots.{ripe_in_use}
 use Rattle.machine_model.proofs.Moves.{Moves, Begins, Goes, Ends, Sweeps, GoesOn, begun_operation}
 use Rattle.machine_model.proofs.Actors.{IsOf, is_of, mark_one, mark_only, marks_in, marks_by, of_others, of_itself, of_begin, of_end}
 use Rattle.machine_model.proofs.Grown.{standing}
-use Rattle.memory_laws.specs.Wants.{is_formed, Is, Holds, AllHold, node_wants, prev_wants, line_wants}
+use Rattle.memory_laws.specs.Wants.{is_formed, AllHold, node_wants, prev_wants}
 use Rattle.memory_laws.specs.Laws.{IsInUse}
 use Rattle.memory_laws.proofs.Claims.{first_hold, last_hold}
 use Rattle.memory_laws.proofs.Nodes.{Heaped}
@@ -50,8 +46,8 @@ use Rattle.memory_laws.proofs.Words.{PutsRight, AllWords, put_words, begin_words
 use Rattle.memory_laws.proofs.Safety.{IsSafe, stood_or_made, stands_in_use}
 use Rattle.memory_laws.proofs.Invariant.{of_actor, gone_effect, made_heap}
 use Rattle.memory_laws.proofs.AtTimes.{line_finds}
-use Rattle.memory_laws.proofs.WordMoves.{WordMove, keeps, makes, publishes, restores, commits, fails, Takes, standing_move, sweep_goes}
-use Rattle.memory_laws.proofs.Levels.{EntryLevel, InsideLevel, KindLevel, NodeLevel, PrevLevel, OfferLevel, WordLevel, LineLevel, ActionLevel, SwapLevel, PairLevel, made_level}
+use Rattle.memory_laws.proofs.WordMoves.{WordMove, keeps, makes, publishes, restores, commits, fails, standing_move, sweep_goes}
+use Rattle.memory_laws.proofs.Levels.{InsideLevel, KindLevel, NodeLevel, PrevLevel, WordLevel, LineLevel, ActionLevel, made_level}
 use Rattle.memory_laws.proofs.LevelNext.{line_level_acts, line_level_next}
 
 pub record HasLevels (lv : Ref → ℕ) (state : State) : Type 0 where
@@ -102,17 +98,17 @@ module _ (lv : Ref → ℕ) where
     slots_after (publishes actor operation i replaced fresh was new takes differ f_i m f_fresh g_i g_fresh others) r slot h =
         let level = subst (ActionLevel lv (made_level operation.line)) takes.1 (acts actor operation takes.0) in
         elim (cases_eq r i) [
-        | inl s ↦ here r i slot (main_changed fresh was) s g_i h (main_level i fresh was.node ((old i was f_i).0) level.1, (old i was f_i).1)
-        | inr other ↦ elim (cases_eq r fresh) [
-          | inl s ↦ here r fresh slot (prev_changed (prev.Pending replaced) new) s g_fresh h ((old fresh new f_fresh).0, (level.0 ∙ sym level.1, level.2))
-          | inr another ↦ old r slot (sym (others r other another) ∙ h)
+          | inl s ↦ here r i slot (main_changed fresh was) s g_i h (main_level i fresh was.node ((old i was f_i).0) level.1, (old i was f_i).1)
+          | inr other ↦ elim (cases_eq r fresh) [
+            | inl s ↦ here r fresh slot (prev_changed (prev.Pending replaced) new) s g_fresh h ((old fresh new f_fresh).0, (level.0 ∙ sym level.1, level.2))
+            | inr another ↦ old r slot (sym (others r other another) ∙ h)
           ]
         ]
     slots_after (restores actor operation i main previous was takes f_i m g_i others) r slot h =
         let level = subst (ActionLevel lv (made_level operation.line)) takes.1 (acts actor operation takes.0) in
         elim (cases_eq r i) [
-        | inl s ↦ here r i slot (main_changed previous was) s g_i h (main_level i previous was.node ((old i was f_i).0) level, (old i was f_i).1)
-        | inr other ↦ old r slot (sym (others r other) ∙ h)
+          | inl s ↦ here r i slot (main_changed previous was) s g_i h (main_level i previous was.node ((old i was f_i).0) level, (old i was f_i).1)
+          | inr other ↦ old r slot (sym (others r other) ∙ h)
         ]
     slots_after (commits actor operation i main previous told was takes v f_main g_main others) r slot h = elim (cases_eq r main) [
       | inl s ↦ here r main slot (prev_changed prev.None was) s g_main h ((old main was f_main).0, tt)
@@ -121,8 +117,8 @@ module _ (lv : Ref → ℕ) where
     slots_after (fails actor operation i main previous told was takes v f_main g_main others) r slot h =
         let level = subst (ActionLevel lv (made_level operation.line)) takes.1 (acts actor operation takes.0) in
         elim (cases_eq r main) [
-        | inl s ↦ here r main slot (prev_changed (prev.Failed previous) was) s g_main h ((old main was f_main).0, (level.1 ∙ sym level.0, level.2))
-        | inr other ↦ old r slot (sym (others r other) ∙ h)
+          | inl s ↦ here r main slot (prev_changed (prev.Failed previous) was) s g_main h ((old main was f_main).0, (level.1 ∙ sym level.0, level.2))
+          | inr other ↦ old r slot (sym (others r other) ∙ h)
         ]
 
   -- ---- words
@@ -180,10 +176,10 @@ births_same state handle action e = refl
 heaped_in_use : (state : State) → IsSafe state → Heaped (IsInUse state.heap) state.heap
 heaped_in_use state I = record {
   inside = λ r u. subst (λ node. AllHold (IsInUse state.heap) state.heap (node_wants node)) (sym (node_under state.heap r u.0 u.1))
-    (first_hold (IsInUse state.heap) state.heap (node_wants u.0.node) (prev_wants u.0.prev) ((I.nodes r u.0 u.1).0));
+      (first_hold (IsInUse state.heap) state.heap (node_wants u.0.node) (prev_wants u.0.prev) ((I.nodes r u.0 u.1).0));
   formed = λ r u. ap is_formed (node_under state.heap r u.0 u.1) ∙ (I.nodes r u.0 u.1).1;
   before = λ r u. subst (λ p. AllHold (IsInUse state.heap) state.heap (prev_wants p)) (sym (prev_under state.heap r u.0 u.1))
-    (last_hold (IsInUse state.heap) state.heap (node_wants u.0.node) (prev_wants u.0.prev) ((I.nodes r u.0 u.1).0));
+      (last_hold (IsInUse state.heap) state.heap (node_wants u.0.node) (prev_wants u.0.prev) ((I.nodes r u.0 u.1).0));
 }
 
 module _ (lv : Ref → ℕ) (state : State) (I : IsSafe state) (h : HasLevels lv state) where
@@ -232,14 +228,14 @@ module _ (lv : Ref → ℕ) (state : State) (I : IsSafe state) (h : HasLevels lv
       (o : Option Node) → made_node state (action_of state operation) ≡ o → FreshLevel (settled state (gone state actor operation))
   gone_made actor operation k is found gives (Some other) a node made e none new =
       let stood = ap (λ heap. standing heap made) (made_heap _ (handle_of operation.call) (action_of state operation) other made a e)
-          ∙ (taken_all state.limits.slots state.heap (I.sound.heap) (I.small) other made e).0 in
+      ∙ (taken_all state.limits.slots state.heap (I.sound.heap) (I.small) other made e).0 in
       let same : other ≡ node = ap (λ (x : Slot). x.node) (same_Some _ _ (sym stood ∙ new)) in
       subst (NodeLevel lv made) same
       (made_slot lv made (made_level operation.line) other (gives actor operation other made refl is a e) (made_of lv state (made_level operation.line) (action_of state operation) other a (acts_level actor operation is)))
   gone_made actor operation k is found gives None a node made e none new =
       elim (stood_or_made _ _ _ _ _ _ (gone_effect state I actor k operation found) made (fresh_slot state.heap node) new) [
-      | inl stood ↦ absurd (none-some stood.0 (sym none ∙ stood.1))
-      | inr born ↦ absurd (no_birth (births_same _ (handle_of operation.call) (action_of state operation) a) born.1)
+        | inl stood ↦ absurd (none-some stood.0 (sym none ∙ stood.1))
+        | inr born ↦ absurd (no_birth (births_same _ (handle_of operation.call) (action_of state operation) a) born.1)
       ]
     where
       no_birth : (settled state (gone state actor operation)).heap.births ≡ state.heap.births → (settled state (gone state actor operation)).heap.births ≡ state.heap.births + 1 → ⊥
@@ -254,7 +250,7 @@ module _ (lv : Ref → ℕ) (state : State) (I : IsSafe state) (h : HasLevels lv
   fresh_after s o after (Ends d is a) gives = nothing_made after (λ r. inl refl)
   fresh_after s o after (Sweeps spent) gives =
       nothing_made after (sweep_goes state I (map pin_of state.actors) (ripe state.epoch state.limbo)
-        (λ q due. stands_in_use state.heap q (omega (arith, I.small, I.sound.heap.size)) (ripe_in_use (InUse state.heap) state.epoch state.limbo (I.sound.limbo) q due)))
+      (λ q due. stands_in_use state.heap q (omega (arith, I.small, I.sound.heap.size)) (ripe_in_use (InUse state.heap) state.epoch state.limbo (I.sound.limbo) q due)))
 
   nodes_after : (s : Step) (o : Outcome) (after : State) → Moves state s o after → GivesLevel lv state s → (r : Ref) (slot : Slot) → standing after.heap r ≡ Some slot → SlotLevel lv r slot
   nodes_after s o after m gives r slot e = by_move (standing_move state I s o after m)
@@ -281,8 +277,8 @@ module _ (lv : Ref → ℕ) (state : State) (I : IsSafe state) (h : HasLevels lv
       let is_open : is_some (root_at state (handle_of operation.call)) ≡ true = elim (or_cases _ _ (I.handles k operation at_was)) [ inl ends ↦ absurd (goes_no_end state operation operation.line goes_on ends) | inr opened ↦ opened ] in
       subst (λ (x : Operation). LineLevel lv x.line) (sym (of_itself state actor operation k own found at_k))
       (marked_level (marks_by state (Some operation)) (operation_after state operation)
-        (line_level_next lv state operation (IsInUse state.heap) (heaped_in_use state I) level_under (word_by (root_at state (handle_of operation.call)) (handle_of operation.call) refl is_open) older operation.line
-          (line_finds state I actor operation is) (h.lines k operation at_was) (λ node made m e. gives actor operation node made refl is m e)))
+      (line_level_next lv state operation (IsInUse state.heap) (heaped_in_use state I) level_under (word_by (root_at state (handle_of operation.call)) (handle_of operation.call) refl is_open) older operation.line
+      (line_finds state I actor operation is) (h.lines k operation at_was) (λ node made m e. gives actor operation node made refl is m e)))
   lines_after s o after (Ends {actor} d is a) gives k (yes own) found at_k = absurd (of_end state actor k own found at_k)
   lines_after s o after (Sweeps spent) gives k (yes own) found at_k = absurd own
 

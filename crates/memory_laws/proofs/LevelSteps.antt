@@ -1,9 +1,9 @@
 -- Levels after a step: those of a line give those of the line after it.
-use Rattle.std.proofs.Common.{◌≡◌, ℕ, zero, suc, ◌+◌, ◌-◌, ◌<◌, ◌≤◌, ◌==◌, ◌&&◌, ◌||◌, Bool, true, false, cond, nat_lt, nat_le, nat_eq, List, [], ◌∷◌, ◌++◌, All, length, get_or, set, take, Option, Some, None, refl, sym, ap, ◌∙◌, subst, ◌⊎◌, inl, inr, ltb-true, arith}
+use Rattle.std.proofs.Common.{◌≡◌, ℕ, ◌+◌, ◌<◌, ◌≤◌, ◌==◌, ◌&&◌, ◌||◌, Bool, true, false, nat_lt, nat_le, nat_eq, List, [], ◌∷◌, ◌++◌, All, length, Option, ap, ◌∙◌, subst, inl, inr, ltb-true, arith}
 use Rattle.std.specs.Cmp.Lexicographic.{pointwise}
-use Rattle.std.proofs.lemmas.Bool.{false≢true, cond_both, eqb-false}
+use Rattle.std.proofs.lemmas.Bool.{false≢true, cond_both}
 use Rattle.std.proofs.lemmas.List.{length-append}
-use Rattle.std.proofs.lemmas.List.Elements.{All-nil, All-cons, All-head, All-push}
+use Rattle.std.proofs.lemmas.List.Elements.{All-nil, All-push}
 use Rattle.history.specs.declared.calls.Access.{Access}
 use Rattle.history.specs.declared.calls.Access.TheVariants.{Writable, ReadOnly}
 use Rattle.history.specs.declared.calls.Call.{Call}
@@ -13,17 +13,15 @@ use Rattle.slot_arena.specs.declared.nodes.Node.{Node}
 use Rattle.slot_arena.specs.declared.nodes.Node.TheVariants.{Indirection, Branch, Single, Tomb, List as Listed}
 use Rattle.slot_arena.specs.declared.nodes.Prev.{Prev}
 use Rattle.slot_arena.specs.declared.nodes.Prev.TheVariants as prev
-use Rattle.slot_arena.specs.Heaps.{Heap, node_at, prev_at, main_at, main_of, entry_at, entries_of, next_ref, refs_of_option, generation_at}
+use Rattle.slot_arena.specs.Heaps.{node_at, prev_at, main_at, main_of, entry_at, entries_of, generation_at}
 use Rattle.nodes.specs.Levels.{has_flag}
 use Rattle.machine_model.specs.declared.operations.Operation.{Operation}
 use Rattle.machine_model.specs.declared.reading.After.{After}
 use Rattle.machine_model.specs.declared.reading.After.TheVariants.{Goes, Gives}
-use Rattle.machine_model.specs.declared.reading.Read.{Read}
 use Rattle.machine_model.specs.declared.reading.ReadLine.{ReadLine}
 use Rattle.machine_model.specs.declared.reading.ReadLine.TheVariants as read
 use Rattle.machine_model.specs.declared.reading.Swap.{Swap}
 use Rattle.machine_model.specs.declared.reading.SwapLine.{SwapLine}
-use Rattle.machine_model.specs.declared.reading.SwapLine.TheVariants as swap
 use Rattle.machine_model.specs.declared.roots.Complete.{Complete}
 use Rattle.machine_model.specs.declared.roots.CompleteLine.{CompleteLine}
 use Rattle.machine_model.specs.declared.roots.CompleteLine.TheVariants as complete
@@ -32,8 +30,6 @@ use Rattle.machine_model.specs.declared.roots.RootLine.{RootLine}
 use Rattle.machine_model.specs.declared.roots.RootLine.TheVariants as root
 use Rattle.machine_model.specs.declared.roots.RootWord.{RootWord}
 use Rattle.machine_model.specs.declared.roots.RootWord.TheVariants.{Plain, Offer}
-use Rattle.machine_model.specs.declared.finding.KeyLine.{KeyLine}
-use Rattle.machine_model.specs.declared.finding.KeyLine.TheVariants as key
 use Rattle.machine_model.specs.declared.finding.WhenFound.{WhenFound}
 use Rattle.machine_model.specs.declared.finding.WhenFound.TheVariants.{Answers, Sets, Removes}
 use Rattle.machine_model.specs.declared.repairs.Climb.{Climb}
@@ -41,22 +37,22 @@ use Rattle.machine_model.specs.declared.lines.Purpose.{Purpose}
 use Rattle.machine_model.specs.declared.lines.Purpose.TheVariants as purpose
 use Rattle.machine_model.specs.declared.lines.Line.{Line}
 use Rattle.machine_model.specs.Calls.{handle_of, key_of, inserts, when_found}
-use Rattle.machine_model.specs.States.{State, word_at, root_of}
-use Rattle.machine_model.specs.Paths.{current, above, depth_of, is_below_root, flag_in, is_start}
+use Rattle.machine_model.specs.States.{State, word_at}
+use Rattle.machine_model.specs.Paths.{above, depth_of, is_below_root, flag_in, is_start}
 use Rattle.machine_model.specs.Reading.{Verdict, Commits, Fails, Overtaken, read_after, after_prev, after_ask, after_decide, after_restore, verdict, at_indirection}
-use Rattle.machine_model.specs.Swapping.{after_publish, after_deciding, after_check, after_swap, on_line, swap_after, after_reading, after_complete, of_offer, complete_after, after_root_word, after_completing, root_after}
+use Rattle.machine_model.specs.Swapping.{after_publish, after_deciding, after_check, on_line, after_reading, after_complete, of_offer, complete_after, after_root_word, after_completing, root_after}
 use Rattle.machine_model.specs.Renewing.{renew_next, next_entry, renew_after_entry, renew_after_read}
-use Rattle.machine_model.specs.Finding.{key_after, absent, absent_beside, absent_listed, removing, found_so, key_after_read, after_tomb, key_after_main, is_passable, key_after_entry, after_listed, after_sibling}
+use Rattle.machine_model.specs.Finding.{absent, removing, found_so, key_after_read, after_tomb, key_after_main, is_passable, key_after_entry, after_listed, after_sibling}
 use Rattle.machine_model.specs.Cleaning.{clean_next, clean_after_read, clean_after_main, clean_after_entry, after_child, clean_after_tomb}
-use Rattle.machine_model.specs.Climbing.{climbing, climbed, higher, climb_after_read, holds_it, climb_after_main, climb_after_root}
+use Rattle.machine_model.specs.Climbing.{climbing, higher, climb_after_read, holds_it, climb_after_main, climb_after_root}
 use Rattle.machine_model.specs.Copying.{copy_after_read, after_given, after_offer, copy_after_complete}
 use Rattle.machine_model.specs.Walking.{walk_next, walk_after_read, walk_after_entry}
 use Rattle.machine_model.specs.Operations.{from_root, after_root, after_update, climbed_on, swapped}
 use Rattle.machine_model.specs.Operations.{after_swap as line_after_swap}
-use Rattle.memory_laws.specs.Wants.{Wanted, AnIndirection, AMain, ABranch, AnEntry, ASingle, meets, Claim, Is, Each, Holds, AllHold, node_wants, read_wants, complete_wants, offer_wants, root_wants}
-use Rattle.memory_laws.proofs.Claims.{safe_of, meets_of, all_of, first_hold, last_hold}
+use Rattle.memory_laws.specs.Wants.{AnIndirection, ABranch, ASingle, meets, Is, Holds, AllHold, node_wants, read_wants, complete_wants, offer_wants, root_wants}
+use Rattle.memory_laws.proofs.Claims.{safe_of, meets_of, last_hold}
 use Rattle.memory_laws.proofs.Lines.{above_long}
-use Rattle.memory_laws.proofs.Levels.{EntryLevel, InsideLevel, KindLevel, NodeLevel, PrevLevel, OfferLevel, WordLevel, PairLevel, ReadLevel, CompleteLevel, RootLevel, PathLevel, PlaceLevel, SwapLineLevel, PurposeLevel, SwapLevel, DoneLevel, LineLevel, current_level, above_level, pushed_level}
+use Rattle.memory_laws.proofs.Levels.{EntryLevel, KindLevel, NodeLevel, PrevLevel, OfferLevel, WordLevel, PairLevel, ReadLevel, CompleteLevel, RootLevel, PathLevel, PlaceLevel, SwapLineLevel, PurposeLevel, SwapLevel, DoneLevel, LineLevel, current_level, above_level, pushed_level}
 
 module _ (lv : Ref → ℕ) (state : State) (operation : Operation) (S : Ref → Type 0) (N : (r : Ref) → S r → NodeLevel lv r (node_at state.heap r) × PrevLevel lv r (prev_at state.heap r)) where
   abbrev pub L : Line → Type 0
@@ -240,7 +236,7 @@ module _ (lv : Ref → ℕ) (state : State) (operation : Operation) (S : Ref →
   listed_level path main position (Single k v) p =
       cond_both (k == key_of operation.call) _ _ L (λ e. found_level path main position v (when_found operation.call v) p)
       (λ e. cond_both (nat_lt (position + 1) (length (entries_of (node_at state.heap main)))) _ _ L (λ e. p)
-        (λ e. cond_both (inserts operation.call && nat_le 32 (length (entries_of (node_at state.heap main)))) _ _ L (λ e. tt) (λ e. absent_level path main p)))
+      (λ e. cond_both (inserts operation.call && nat_le 32 (length (entries_of (node_at state.heap main)))) _ _ L (λ e. tt) (λ e. absent_level path main p)))
   listed_level path main position node p = tt
 
   pub sibling_level : (path : List Ref) (main : Ref) (position former : ℕ) (other : Ref) (node : Node) → PlaceLevel lv path main → L (after_sibling path main position former other node)

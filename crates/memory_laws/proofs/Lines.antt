@@ -1,20 +1,20 @@
 -- What several programs' lines share: paths, positions, and the lines to which several programs lead.
-use Rattle.std.proofs.Common.{◌≡◌, ℕ, zero, suc, ◌+◌, ◌-◌, ◌^◌, ◌<◌, ◌≤◌, ◌==◌, ◌&&◌, Bool, true, false, not, cond, nat_lt, nat_le, List, [], ◌∷◌, ◌++◌, Option, Some, None, All, length, get_or, take, refl, sym, ap, ◌∙◌, subst, ltb-true, lt-ltb, leb-true, ltb-false, eq-eqb, arith}
-use Rattle.std.specs.Prelude.{bit_and, count_ones, is_some}
-use Rattle.std.proofs.lemmas.Bool.{false≢true, true≢false, and_parts, cond_both, not_from_true, le-leb, eqb-true, eqb-false}
+use Rattle.std.proofs.Common.{◌≡◌, ℕ, ◌-◌, ◌^◌, ◌<◌, ◌≤◌, ◌==◌, ◌&&◌, Bool, true, false, not, nat_lt, nat_le, List, [], ◌∷◌, ◌++◌, length, sym, ap, ◌∙◌, ltb-true, lt-ltb, leb-true, ltb-false, eq-eqb, arith}
+use Rattle.std.specs.Prelude.{bit_and, count_ones}
+use Rattle.std.proofs.lemmas.Bool.{false≢true, and_parts, not_from_true, le-leb, eqb-true, eqb-false}
 use Rattle.std.proofs.lemmas.List.{length-append, length-take-le}
 use Rattle.std.proofs.lemmas.List.Elements.{All-take, All-push, All-nil, All-head}
 use Rattle.ctrie_base.specs.Paths.{position_of}
 use Rattle.slot_arena.specs.declared.refs.Ref.{Ref}
 use Rattle.slot_arena.specs.declared.nodes.Node.{Node}
-use Rattle.slot_arena.specs.declared.nodes.Node.TheVariants.{Indirection, Branch, Single, Tomb, List as Listed}
-use Rattle.slot_arena.specs.Heaps.{Heap, node_at, entries_of, bitmap_of, no_ref}
+use Rattle.slot_arena.specs.declared.nodes.Node.TheVariants.{Branch}
+use Rattle.slot_arena.specs.Heaps.{Heap, node_at, no_ref}
 use Rattle.nodes.specs.Levels.{has_flag}
 use Rattle.machine_model.specs.Paths.{current, above, is_below_root}
 use Rattle.machine_model.specs.Walking.{first_of}
-use Rattle.memory_laws.specs.Wants.{Wanted, Anything, AnIndirection, AMain, ABranch, AList, BranchOrList, TombOrList, AnEntry, ASingle, WithEntry, AtMost, WithFlag, ToSpare, meets, is_formed, flags, spares, Claim, Is, Each, EntryIs, So, Holds, is, each, entry_is, so, AllHold}
+use Rattle.memory_laws.specs.Wants.{Wanted, AnIndirection, WithFlag, ToSpare, meets, Is, Each, Holds, is, each}
 use Rattle.memory_laws.proofs.Ones.{ones_below}
-use Rattle.memory_laws.proofs.Claims.{Meets, safe_of, meets_of, all_of, fact_of}
+use Rattle.memory_laws.proofs.Claims.{Meets, safe_of, meets_of, all_of}
 
 -- a test that fails
 pub not_zero : (n : ℕ) → not (n == 0) ≡ true → n ≡ 0 → ⊥

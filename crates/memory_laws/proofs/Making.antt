@@ -1,26 +1,26 @@
 -- The nodes that lines make are formed, and what stands in them is as wanted.
-use Rattle.std.proofs.Common.{◌≡◌, ℕ, zero, suc, ◌+◌, ◌-◌, ◌*◌, ◌%◌, ◌^◌, ◌<◌, ◌≤◌, ◌==◌, ◌&&◌, Bool, true, false, cond, min, nat_lt, nat_le, List, [], ◌∷◌, ◌++◌, Option, Some, None, All, length, get_or, set, take, drop, refl, sym, ap, ◌∙◌, subst, ltb-true, lt-ltb, leb-true, arith}
-use Rattle.std.specs.Prelude.{bit_and, bit_or, bit_xor, count_ones, insert, remove, slice_set}
+use Rattle.std.proofs.Common.{◌≡◌, ℕ, suc, ◌+◌, ◌^◌, ◌<◌, ◌≤◌, ◌==◌, ◌&&◌, Bool, true, false, nat_lt, nat_le, List, [], ◌∷◌, ◌++◌, Option, Some, None, All, length, get_or, set, take, drop, refl, sym, ap, ◌∙◌, subst, ltb-true, lt-ltb, leb-true, arith}
+use Rattle.std.specs.Prelude.{bit_and, bit_or, bit_xor, count_ones, insert, remove}
 use Rattle.std.proofs.lemmas.Bool.{false≢true, and_parts, and_from, cond_both, le-leb}
 use Rattle.std.proofs.lemmas.Nat.{mod_below}
 use Rattle.std.proofs.lemmas.List.{length-append, length-take, length-drop, length-set, get_or-set_same}
-use Rattle.std.proofs.lemmas.List.Elements.{All-take, All-drop, All-append, All-cons, All-nil, All-push, All-set, All-head}
+use Rattle.std.proofs.lemmas.List.Elements.{All-take, All-drop, All-append, All-cons, All-nil, All-push, All-set}
 use Rattle.arrayvec.specs.ArrayVec.{ArrayVec}
 use Rattle.ctrie_base.specs.Paths.{position_of}
 use Rattle.slot_arena.specs.declared.refs.Ref.{Ref}
 use Rattle.slot_arena.specs.declared.nodes.Node.{Node}
-use Rattle.slot_arena.specs.declared.nodes.Node.TheVariants.{Indirection, Branch, Single, Tomb, List as Listed}
-use Rattle.slot_arena.specs.Heaps.{Heap, node_at, entry_at, entries_of, bitmap_of, entries_from}
-use Rattle.nodes.specs.Levels.{index_in, flag_of, has_flag, list_depth}
-use Rattle.nodes.specs.Builders.{inserted, updated, removed, renewed, contracted, list_inserted, list_updated, list_removed, by_index, pair, rung}
+use Rattle.slot_arena.specs.declared.nodes.Node.TheVariants.{Branch, Tomb, List as Listed}
+use Rattle.slot_arena.specs.Heaps.{Heap, node_at, entries_of, bitmap_of, entries_from}
+use Rattle.nodes.specs.Levels.{index_in, flag_of, list_depth}
+use Rattle.nodes.specs.Builders.{renewed, contracted, by_index, pair, rung}
 use Rattle.ctrie_base.specs.declared.hashes.HashKind.{HashKind}
 use Rattle.machine_model.specs.declared.actions.Action.TheVariants as act
 use Rattle.machine_model.specs.declared.building.Change.{Change}
 use Rattle.machine_model.specs.declared.building.Change.TheVariants as change
 use Rattle.machine_model.specs.Building.{changed}
-use Rattle.memory_laws.specs.Wants.{Wanted, Anything, AnIndirection, AMain, ABranch, AList, BranchOrList, TombOrList, AnEntry, ASingle, WithEntry, AtMost, WithFlag, ToSpare, meets, is_formed, flags, spares, Claim, Is, Each, EntryIs, So, Holds, is, each, so, AllHold, node_wants, action_wants, change_wants, update_wants}
-use Rattle.memory_laws.proofs.Ones.{ones_set, ones_cleared, ones_below, ones_most, ones_flag, set_small, cleared_small, flag_small}
-use Rattle.memory_laws.proofs.Claims.{Meets, safe_of, meets_of, is_also, all_of}
+use Rattle.memory_laws.specs.Wants.{AnIndirection, ABranch, AList, BranchOrList, AnEntry, ASingle, ToSpare, meets, is_formed, Is, Holds, each, so, AllHold, node_wants, action_wants, change_wants, update_wants}
+use Rattle.memory_laws.proofs.Ones.{ones_set, ones_cleared, ones_most, ones_flag, set_small, cleared_small, flag_small}
+use Rattle.memory_laws.proofs.Claims.{Meets, safe_of, meets_of, all_of}
 use Rattle.memory_laws.proofs.Nodes.{single_entry, indirection_entry}
 use Rattle.memory_laws.proofs.Lines.{not_zero}
 
@@ -140,8 +140,8 @@ module _ (S : Ref → Type 0) (heap : Heap) where
       cond_both (depth == list_depth kind) _ _ Wanting
       (λ e. list_made (old ∷ single ∷ []) (omega arith) (pair_all (Meets S heap ASingle) old single o s))
       (λ e. branch_made (bit_or (2 ^ i) (2 ^ j)) (by_index i j old single) (set_small (2 ^ i) j (flag_small i (index_below old_hash depth)) (index_below hash depth))
-        (omega (arith, ones_set (2 ^ i) j, ones_flag i, by_index_two i j old single))
-        (by_index_all (Meets S heap AnEntry) i j old single (o.0, single_entry (node_at heap old) o.1) (s.0, single_entry (node_at heap single) s.1)))
+      (omega (arith, ones_set (2 ^ i) j, ones_flag i, by_index_two i j old single))
+      (by_index_all (Meets S heap AnEntry) i j old single (o.0, single_entry (node_at heap old) o.1) (s.0, single_entry (node_at heap single) s.1)))
 
   pub rung_made : (hash depth : ℕ) (below : Ref) → Meets S heap AnIndirection below → Wanting (rung hash depth below)
   rung_made hash depth below h =

@@ -1,5 +1,5 @@
 -- At rest, with limbo empty, the slots in use are exactly the reachable ones: on the way up levels fall, and on one level from main nodes to their indirection.
-use Rattle.std.proofs.Common.{◌≡◌, ℕ, zero, suc, ◌+◌, ◌-◌, ◌*◌, ◌/◌, ◌%◌, ◌^◌, ◌<◌, ◌≤◌, ◌==◌, Bool, true, false, List, [], ◌∷◌, ◌++◌, get_or, All, Contains, Option, Some, None, refl, sym, ap, ◌∙◌, subst, inl, inr, eqb-true, eq-eqb, ne_eqb, arith}
+use Rattle.std.proofs.Common.{◌≡◌, ℕ, zero, suc, ◌+◌, ◌-◌, ◌*◌, ◌^◌, ◌<◌, ◌≤◌, ◌==◌, Bool, true, false, [], ◌∷◌, Contains, refl, sym, ap, ◌∙◌, subst, inl, inr, ne_eqb, arith}
 use Rattle.std.proofs.lemmas.Bool.{false≢true, eqb-false}
 use Rattle.std.proofs.lemmas.List.Elements.{All-contains, Contains-append_cases}
 use Rattle.slot_arena.specs.Refs.{birth_of}
@@ -8,12 +8,10 @@ use Rattle.slot_arena.specs.declared.nodes.Node.{Node}
 use Rattle.slot_arena.specs.declared.nodes.Node.TheVariants.{Indirection, Branch, Single, Tomb, List as Listed}
 use Rattle.slot_arena.specs.declared.nodes.Prev.{Prev}
 use Rattle.slot_arena.specs.declared.nodes.Prev.TheVariants as prev
-use Rattle.slot_arena.specs.declared.nodes.Slot.{Slot}
-use Rattle.slot_arena.specs.Heaps.{Heap, node_at, refs_of_node, refs_of_prev, refs_of_slot}
+use Rattle.slot_arena.specs.Heaps.{node_at, refs_of_node, refs_of_prev}
 use Rattle.machine_model.specs.States.{State}
 use Rattle.machine_model.specs.Contents.{IsReached}
 use Rattle.machine_model.specs.Machine.{is_busy}
-use Rattle.machine_model.proofs.Grown.{standing}
 use Rattle.memory_laws.specs.Wants.{AMain, ASingle, is_indirection, is_main, meets, Is, Holds, AllHold, node_wants, prev_wants}
 use Rattle.memory_laws.specs.Laws.{IsInUse}
 use Rattle.memory_laws.proofs.Claims.{Meets, safe_of, meets_of, all_of, from_meets, first_hold, last_hold}
@@ -21,7 +19,7 @@ use Rattle.memory_laws.proofs.Under.{node_under}
 use Rattle.memory_laws.proofs.Safety.{IsSafe}
 use Rattle.memory_laws.proofs.Exact.{HasZeros}
 use Rattle.memory_laws.proofs.Standing.{none_contained}
-use Rattle.memory_laws.proofs.Levels.{EntryLevel, KindLevel, NodeLevel, PrevLevel}
+use Rattle.memory_laws.proofs.Levels.{EntryLevel, NodeLevel, PrevLevel}
 use Rattle.memory_laws.proofs.LevelStates.{HasLevels}
 use Rattle.memory_laws.proofs.Ranks.{IsMeasured, in_use_reached}
 

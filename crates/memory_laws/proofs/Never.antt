@@ -1,12 +1,12 @@
 -- Where no tomb stands at the end of a path of one indirection and no list is a parent in CLIMB, no operation comes to the impossible line.
-use Rattle.std.proofs.Common.{◌≡◌, ℕ, zero, suc, ◌+◌, ◌≤◌, ◌<◌, Option, Some, None, List, get_or, refl, sym, subst, arith}
+use Rattle.std.proofs.Common.{◌≡◌, ℕ, suc, ◌≤◌, Option, Some, None, get_or, sym, subst, arith}
 use Rattle.history.specs.declared.calls.Call.{Call}
 use Rattle.history.specs.declared.calls.Call.TheVariants.{Close, Entries}
 use Rattle.machine_model.specs.declared.operations.Operation.{Operation}
 use Rattle.machine_model.specs.declared.steps.Limits.{Limits}
 use Rattle.machine_model.specs.declared.steps.Outcome.{Outcome}
 use Rattle.machine_model.specs.declared.steps.Step.{Step}
-use Rattle.machine_model.specs.States.{State, first_state, operation_of}
+use Rattle.machine_model.specs.States.{State, first_state}
 use Rattle.machine_model.specs.Operations.{first_line}
 use Rattle.machine_model.specs.Acting.{operation_after}
 use Rattle.machine_model.proofs.Found.{none_found}
@@ -37,8 +37,8 @@ never_after state I strange before s o after m =
     each_after state (λ k operation. get_or state.actors k None ≡ Some operation) (λ after k operation. IsImpossible operation.line → ⊥) (λ k operation e. e)
     (λ actor call k own d. first_possible call)
     (λ actor operation k own is g found. marked_possible _ (operation_after state operation)
-      (λ i. strange k operation found
-        (impossible_strange state operation (Safe state operation.epoch) (heaped state I operation.epoch) (I.fits k operation found) operation.line (I.lines k operation found) (before k operation found) i)))
+    (λ i. strange k operation found
+    (impossible_strange state operation (Safe state operation.epoch) (heaped state I operation.epoch) (I.fits k operation found) operation.line (I.lines k operation found) (before k operation found) i)))
     (λ s o after m k other operation found e. marked_possible _ operation (before k operation found)) s o after m
 
 none_at_first : (limits : Limits) → NoneRuns (λ state operation. IsImpossible operation.line) (first_state limits)

@@ -1,5 +1,5 @@
 -- What a line wants gives what the line after it wants, once the step is taken.
-use Rattle.std.proofs.Common.{◌≡◌, ℕ, ◌+◌, ◌-◌, ◌^◌, ◌==◌, Bool, true, false, cond, nat_lt, List, [], ◌∷◌, ◌++◌, Option, Some, None, All, length, refl, sym, ap, ◌∙◌, subst}
+use Rattle.std.proofs.Common.{◌≡◌, ℕ, ◌+◌, ◌==◌, Bool, true, false, nat_lt, List, [], ◌∷◌, ◌++◌, Option, Some, None, length, refl, ap, ◌∙◌}
 use Rattle.std.proofs.lemmas.Bool.{false≢true, cond_both}
 use Rattle.std.specs.Prelude.{is_some}
 use Rattle.history.specs.declared.calls.Access.TheVariants.{ReadOnly}
@@ -7,8 +7,8 @@ use Rattle.history.specs.declared.calls.Call.{Call}
 use Rattle.history.specs.declared.calls.Call.TheVariants.{Snapshot}
 use Rattle.slot_arena.specs.declared.refs.Ref.{Ref}
 use Rattle.slot_arena.specs.declared.nodes.Node.{Node}
-use Rattle.slot_arena.specs.declared.nodes.Node.TheVariants.{Indirection, Branch, Single, Tomb, List as Listed}
-use Rattle.slot_arena.specs.Heaps.{Heap, node_at, entry_at, entries_of, next_ref, empty_branch, entries_from}
+use Rattle.slot_arena.specs.declared.nodes.Node.TheVariants.{Indirection, Branch, List as Listed}
+use Rattle.slot_arena.specs.Heaps.{Heap, node_at, entry_at, entries_of, next_ref}
 use Rattle.nodes.specs.Levels.{list_depth}
 use Rattle.nodes.specs.Builders.{pair, contracted}
 use Rattle.ctrie_base.specs.declared.hashes.HashKind.{HashKind}
@@ -38,19 +38,19 @@ use Rattle.machine_model.specs.Calls.{handle_of, needs_writable}
 use Rattle.machine_model.specs.States.{State, word_at}
 use Rattle.machine_model.specs.Paths.{current, above, flag_in, depth_of}
 use Rattle.machine_model.specs.Reading.{read_step}
-use Rattle.machine_model.specs.Swapping.{root_after, complete_after, is_plain}
+use Rattle.machine_model.specs.Swapping.{complete_after, is_plain}
 use Rattle.machine_model.specs.Renewing.{renew_next, next_entry, renew_after, renew_after_link, renew_after_branch}
-use Rattle.machine_model.specs.Building.{build_action, build_after, build_if_made, build_after_made, after_single, after_link, changed, pair_depth, old_hash}
-use Rattle.machine_model.specs.Cleaning.{clean_action, clean_after, clean_after_contracted}
-use Rattle.machine_model.specs.Climbing.{climb_action, climb_after, climb_after_contracted}
-use Rattle.machine_model.specs.Copying.{copy_action, copy_after, copy_if_made, copy_after_made, after_successor, offering}
+use Rattle.machine_model.specs.Building.{build_action, build_after, build_if_made, build_after_made, after_single, after_link, changed}
+use Rattle.machine_model.specs.Cleaning.{clean_after, clean_after_contracted}
+use Rattle.machine_model.specs.Climbing.{climb_after, climb_after_contracted}
+use Rattle.machine_model.specs.Copying.{copy_after, copy_if_made, copy_after_made, after_successor}
 use Rattle.machine_model.specs.Walking.{walk_after}
 use Rattle.machine_model.specs.Operations.{line_action, line_after}
-use Rattle.memory_laws.specs.Wants.{Wanted, Anything, AnIndirection, AMain, ABranch, BranchOrList, AnEntry, ASingle, WithEntry, AtMost, WithFlag, meets, Claim, Is, Each, EntryIs, So, Holds, is, each, so, AllHold, word_wants, line_wants, build_wants, site_wants, update_wants, renew_wants, clean_wants, climb_wants, climb_carries, copy_wants, walk_wants}
-use Rattle.memory_laws.proofs.Claims.{Meets, safe_of, meets_of, is_also, all_of, fact_of, carried, all_carried, Carries}
+use Rattle.memory_laws.specs.Wants.{Wanted, AnIndirection, AMain, ABranch, BranchOrList, AnEntry, ASingle, WithEntry, AtMost, meets, Claim, Is, Each, So, Holds, is, so, AllHold, word_wants, line_wants, build_wants, update_wants, renew_wants, clean_wants, climb_wants, climb_carries, copy_wants, walk_wants}
+use Rattle.memory_laws.proofs.Claims.{safe_of, meets_of, is_also, fact_of, carried, all_carried, Carries}
 use Rattle.memory_laws.proofs.Nodes.{Heaped, branch_entries, at_position, branch_main, both_main, branch_both}
 use Rattle.memory_laws.proofs.Rooting.{root_next, complete_next}
-use Rattle.memory_laws.proofs.Lines.{current_is, above_each, above_long, none_each, pushed_each, first_safe, at_most}
+use Rattle.memory_laws.proofs.Lines.{current_is, above_each, above_long, none_each, pushed_each, at_most}
 use Rattle.memory_laws.proofs.Keys.{step_next, key_next}
 use Rattle.memory_laws.proofs.Repairs.{renew_entry_next, renew_read_next, clean_read_next, clean_main_next, clean_entry_next, child_next, clean_tomb_next, climb_read_next, climb_main_next, climb_root_next}
 use Rattle.memory_laws.proofs.Others.{swap_next, root_line_next, copy_read_next, copy_offer_next, copy_complete_next, walk_read_next, walk_main_next, walk_entry_next, root_of_next}
@@ -146,8 +146,13 @@ module _ (state : State) (operation : Operation) (S : Ref → Type 0) (H : Heape
   build_next (build.Main path main x former) h fresh =
       let c = carry (build_wants state.limits.hash operation.call (build.Main path main x former)) h in
       build_by (build.Main path main x former)
-      (λ made e. (swap_begun path c.0 (fact_of c.1.0), (is_also AMain both_main c.1.1.0,
-        (made_is AMain _ (fresh _ made refl e) (changed_main (flag_in state operation path) (node_at state.heap main) x (meets_of h.1.1.0)), (c.0, (c.1.0, tt)))))) (next_ref state.heap) refl
+      (λ made e. (
+        swap_begun path c.0 (fact_of c.1.0),
+        (
+          is_also AMain both_main c.1.1.0,
+          (made_is AMain _ (fresh _ made refl e) (changed_main (flag_in state operation path) (node_at state.heap main) x (meets_of h.1.1.0)), (c.0, (c.1.0, tt))),
+        ),
+      )) (next_ref state.heap) refl
 
   -- ---- RENEW
 
@@ -201,7 +206,7 @@ module _ (state : State) (operation : Operation) (S : Ref → Type 0) (H : Heape
     renew_line_next (renew.Entry path main done) h fresh =
         carry (line_wants state.limits.hash operation.call operation.access (renew_after state operation (renew.Entry path main done)))
         (renew_entry_next state operation S H path main done (next_entry state main done) (node_at state.heap (next_entry state main done)) refl (h.0, h.1.0) h.1.1.0 h.1.1.1.0 h.1.1.1.1.0
-          ((at_position S state.heap AnEntry (length done) (branch_entries S state.heap H h.1.1.0) h.1.1.1.1.0).0))
+        ((at_position S state.heap AnEntry (length done) (branch_entries S state.heap H h.1.1.0) h.1.1.1.1.0).0))
     renew_line_next (renew.Read path main done r) h fresh =
         carry (line_wants state.limits.hash operation.call operation.access (renew_after state operation (renew.Read path main done r)))
         (renew_read_next state operation S H path main done (read_step state operation r) (h.0, h.1.0) h.1.1.0 h.1.1.1.0 h.1.1.1.1.0 (step_next state operation S H fits W r h.1.1.1.1.1))
@@ -209,7 +214,7 @@ module _ (state : State) (operation : Operation) (S : Ref → Type 0) (H : Heape
         let c = carry (renew_wants (renew.Link path main done child)) h in
         link_by path main done
         (λ made e. renewed_next path main (done ++ made ∷ []) (safe_of h.1.1.0) c.0 c.1.0 c.1.1.0
-          (pushed_each T after done made c.1.1.1.0 (made_is AnEntry _ (fresh _ made refl e) refl))) (next_ref state.heap) refl
+        (pushed_each T after done made c.1.1.1.0 (made_is AnEntry _ (fresh _ made refl e) refl))) (next_ref state.heap) refl
     renew_line_next (renew.Branch path main done) h fresh =
         let c = carry (renew_wants (renew.Branch path main done)) h in
         branch_by path main c.0 (fact_of c.1.0) (is_also AMain branch_main c.1.1.0) (λ made e. made_is AMain _ (fresh _ made refl e) refl) (next_ref state.heap) refl
@@ -224,7 +229,7 @@ module _ (state : State) (operation : Operation) (S : Ref → Type 0) (H : Heape
     clean_line_next (clean.Entry path main done) h fresh =
         carry (line_wants state.limits.hash operation.call operation.access (clean_after state operation (clean.Entry path main done)))
         (clean_entry_next state operation S H path main done (next_entry state main done) (node_at state.heap (next_entry state main done)) refl (h.0, h.1.0) h.1.1.0 h.1.1.1.0 h.1.1.1.1.0
-          ((at_position S state.heap AnEntry (length done) (branch_entries S state.heap H h.1.1.0) h.1.1.1.1.0).0))
+        ((at_position S state.heap AnEntry (length done) (branch_entries S state.heap H h.1.1.0) h.1.1.1.1.0).0))
     clean_line_next (clean.Child path main done r) h fresh =
         carry (line_wants state.limits.hash operation.call operation.access (clean_after state operation (clean.Child path main done r)))
         (child_next state operation S H path main done (read_step state operation r) (h.0, h.1.0) h.1.1.0 h.1.1.1.0 h.1.1.1.1.0 (step_next state operation S H fits W r h.1.1.1.1.1))
@@ -273,7 +278,7 @@ module _ (state : State) (operation : Operation) (S : Ref → Type 0) (H : Heape
     copy_line_next (copy.Complete c) h fresh =
         carry (line_wants state.limits.hash operation.call operation.access (copy_after state operation (copy.Complete c)))
         (copy_complete_next state operation S H W (complete_after state.heap operation.access (word_at state (handle_of operation.call)) c)
-          (complete_next S state.heap H operation.access (word_at state (handle_of operation.call)) W c h))
+        (complete_next S state.heap H operation.access (word_at state (handle_of operation.call)) W c h))
 
     walk_line_next : (l : WalkLine) → AllHold S state.heap (walk_wants l) → Wants (walk_after state operation l)
     walk_line_next walk.Root h =

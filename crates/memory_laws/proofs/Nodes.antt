@@ -1,13 +1,13 @@
 -- What is read from a node or a prev word, where what stands in what is safe is safe and as wanted.
-use Rattle.std.proofs.Common.{◌≡◌, ℕ, ◌<◌, ◌≤◌, Bool, true, false, nat_lt, List, [], ◌∷◌, All, length, get_or, refl, sym, ap, ◌∙◌, subst, ltb-true, arith}
+use Rattle.std.proofs.Common.{◌≡◌, ℕ, true, List, [], ◌∷◌, All, length, refl, ltb-true}
 use Rattle.std.proofs.lemmas.Bool.{false≢true}
 use Rattle.std.proofs.lemmas.List.Elements.{All-weaker, All-nil, All-cons}
 use Rattle.slot_arena.specs.declared.refs.Ref.{Ref}
 use Rattle.slot_arena.specs.declared.nodes.Node.{Node}
 use Rattle.slot_arena.specs.declared.nodes.Node.TheVariants.{Indirection, Branch, Single, Tomb, List as Listed}
 use Rattle.slot_arena.specs.Heaps.{Heap, node_at, prev_at, main_at, main_of, entry_at, entries_of, no_ref}
-use Rattle.memory_laws.specs.Wants.{Wanted, Anything, AnIndirection, AMain, ABranch, AList, BranchOrList, TombOrList, AnEntry, ASingle, WithEntry, AtMost, WithFlag, ToSpare, meets, is_formed, Claim, Is, Each, EntryIs, So, Holds, is, each, entry_is, so, AllHold, node_wants, prev_wants}
-use Rattle.memory_laws.proofs.Claims.{Meets, safe_of, meets_of, all_of, from_meets}
+use Rattle.memory_laws.specs.Wants.{Wanted, AnIndirection, AMain, ABranch, AList, BranchOrList, TombOrList, AnEntry, ASingle, WithEntry, meets, is_formed, Is, Holds, AllHold, node_wants, prev_wants}
+use Rattle.memory_laws.proofs.Claims.{Meets, safe_of, meets_of, all_of}
 
 pub record Heaped (S : Ref → Type 0) (heap : Heap) : Type 0 where
   pub inside : (r : Ref) → S r → AllHold S heap (node_wants (node_at heap r))

@@ -1,15 +1,15 @@
 -- SWAP, SNAP and CLEAR, WALK and the first line of a try: what their lines want gives what the lines after them do, where a step makes no node.
-use Rattle.std.proofs.Common.{◌≡◌, ℕ, ◌+◌, ◌-◌, ◌==◌, ◌||◌, Bool, true, false, cond, nat_lt, List, [], ◌∷◌, ◌++◌, Option, Some, None, All, length, refl, sym, ap, ◌∙◌, lt-ltb, arith}
+use Rattle.std.proofs.Common.{◌≡◌, ℕ, ◌==◌, ◌||◌, Bool, true, false, nat_lt, List, [], ◌∷◌, ◌++◌, Option, length, refl, lt-ltb, arith}
 use Rattle.std.proofs.lemmas.Bool.{false≢true, cond_both}
 use Rattle.std.proofs.lemmas.List.Elements.{All-append, All-head, All-tail}
 use Rattle.history.specs.declared.calls.Call.{Call}
 use Rattle.history.specs.declared.calls.Call.TheVariants.{Clear, Snapshot, Freeze}
 use Rattle.slot_arena.specs.declared.refs.Ref.{Ref}
 use Rattle.slot_arena.specs.declared.nodes.Node.{Node}
-use Rattle.slot_arena.specs.declared.nodes.Node.TheVariants.{Indirection, Branch, Single, Tomb, List as Listed}
+use Rattle.slot_arena.specs.declared.nodes.Node.TheVariants.{Indirection, Single, Tomb}
 use Rattle.slot_arena.specs.declared.nodes.Prev.{Prev}
 use Rattle.slot_arena.specs.declared.nodes.Prev.TheVariants as prev
-use Rattle.slot_arena.specs.Heaps.{Heap, node_at, main_at, prev_at, entries_of}
+use Rattle.slot_arena.specs.Heaps.{node_at, main_at, prev_at, entries_of}
 use Rattle.machine_model.specs.declared.operations.Operation.{Operation}
 use Rattle.machine_model.specs.declared.reading.After.{After}
 use Rattle.machine_model.specs.declared.reading.After.TheVariants.{Goes, Gives}
@@ -29,15 +29,13 @@ use Rattle.machine_model.specs.declared.lines.Purpose.TheVariants as purpose
 use Rattle.machine_model.specs.declared.lines.Line.{Line}
 use Rattle.machine_model.specs.Calls.{handle_of}
 use Rattle.machine_model.specs.States.{State, word_at, root_of}
-use Rattle.machine_model.specs.Paths.{current}
-use Rattle.machine_model.specs.Reading.{read_after}
 use Rattle.machine_model.specs.Swapping.{after_publish, after_deciding, after_check, after_swap, on_line, swap_after}
 use Rattle.machine_model.specs.Copying.{copy_after_read, after_given, after_offer, copy_after_complete}
 use Rattle.machine_model.specs.Walking.{walk_next, first_of, rest_of, walk_after_read, walk_after_entry}
 use Rattle.machine_model.specs.Operations.{from_root, after_root, after_update, climbed_on, swapped}
 use Rattle.machine_model.specs.Operations.{after_swap as line_after_swap}
-use Rattle.memory_laws.specs.Wants.{Wanted, AnIndirection, AMain, AnEntry, ASingle, meets, Claim, Is, Each, So, Holds, is, each, so, AllHold, node_wants, word_wants, read_wants, swap_line_wants, swap_wants, purpose_wants, climb_carries, line_wants}
-use Rattle.memory_laws.proofs.Claims.{Meets, safe_of, meets_of, is_also, all_of, fact_of, from_meets, both_hold, first_hold, last_hold}
+use Rattle.memory_laws.specs.Wants.{Wanted, AnIndirection, AMain, AnEntry, Claim, Is, Each, Holds, each, so, AllHold, node_wants, word_wants, swap_line_wants, swap_wants, purpose_wants, climb_carries, line_wants}
+use Rattle.memory_laws.proofs.Claims.{Meets, safe_of, all_of, fact_of, both_hold, first_hold, last_hold}
 use Rattle.memory_laws.proofs.Nodes.{Heaped, main_entries}
 use Rattle.memory_laws.proofs.Rooting.{after_read_wants, step_wants, completed_wants, after_root_wants, read_next, offer_begun}
 use Rattle.memory_laws.proofs.Lines.{this, current_is, none_each, pushed_each, pushed_long}

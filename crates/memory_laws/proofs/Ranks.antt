@@ -1,25 +1,23 @@
 -- At rest, with limbo empty, each slot in use is reached, where some measure falls on the way up.
-use Rattle.std.proofs.Common.{◌≡◌, ℕ, zero, suc, ◌+◌, ◌^◌, ◌<◌, ◌≤◌, ◌==◌, ◌||◌, Bool, true, false, cond, is_some, List, [], ◌∷◌, ◌++◌, map, flat_map, count_by, length, get_or, All, Contains, Option, Some, None, refl, sym, ap, ◌∙◌, subst, ◌⊎◌, inl, inr, ne_eqb, arith}
+use Rattle.std.proofs.Common.{◌≡◌, ℕ, zero, suc, ◌+◌, ◌^◌, ◌<◌, ◌==◌, Bool, true, false, cond, is_some, List, [], ◌∷◌, ◌++◌, map, flat_map, count_by, get_or, Contains, Option, Some, None, refl, sym, ap, ◌∙◌, subst, ◌⊎◌, inl, inr, ne_eqb, arith}
 use Rattle.std.specs.List.{list_any}
-use Rattle.std.proofs.lemmas.Bool.{cases_Bool, cases_eq, false≢true, true≢false, or_parts}
-use Rattle.std.proofs.lemmas.Option.{none-some}
-use Rattle.std.proofs.lemmas.List.Elements.{Contains-append_left, Contains-append_right, Contains-append_cases}
+use Rattle.std.proofs.lemmas.Bool.{cases_eq, true≢false, or_parts}
+use Rattle.std.proofs.lemmas.List.Elements.{Contains-append_right, Contains-append_cases}
 use Rattle.std.proofs.lemmas.List.Sums.{sum_by-cons}
-use Rattle.slot_arena.specs.Refs.{ref_to, slot_of}
+use Rattle.slot_arena.specs.Refs.{ref_to}
 use Rattle.slot_arena.specs.declared.refs.Ref.{Ref}
 use Rattle.slot_arena.specs.declared.nodes.Slot.{Slot}
-use Rattle.slot_arena.specs.Heaps.{Heap, stored, heap_refs, refs_of_slot}
+use Rattle.slot_arena.specs.Heaps.{stored, heap_refs, refs_of_slot}
 use Rattle.slot_arena.specs.Counts.{count_of}
 use Rattle.machine_model.specs.declared.operations.Operation.{Operation}
-use Rattle.machine_model.specs.declared.roots.Root.{Root}
-use Rattle.machine_model.specs.States.{State, root_at}
+use Rattle.machine_model.specs.States.{State}
 use Rattle.machine_model.specs.Counting.{outside, refs_of_root, refs_of_operation}
 use Rattle.machine_model.specs.Contents.{IsReached, from_root, from_slot}
 use Rattle.machine_model.specs.Machine.{is_busy}
 use Rattle.machine_model.proofs.Rest.{one_if}
 use Rattle.machine_model.proofs.Found.{found_within}
 use Rattle.machine_model.proofs.Grown.{standing}
-use Rattle.memory_laws.specs.Laws.{IsInUse, IsZero}
+use Rattle.memory_laws.specs.Laws.{IsInUse}
 use Rattle.memory_laws.proofs.Under.{standing_parts, standing_from, slot_of-ref_to, birth_of-ref_to}
 use Rattle.memory_laws.proofs.Safety.{IsSafe}
 use Rattle.memory_laws.proofs.Exact.{HasZeros}
@@ -83,9 +81,12 @@ module _ (state : State) (I : IsSafe state) (zeros : HasZeros state) (empty : st
   referrer_at k None e r c = none_contained r c
   referrer_at k (Some slot) e r c =
       let within = found_within state.heap.slots k slot e in
-      let small : k < 2 ^ 16 = omega (arith, I.small, I.sound.heap.size) in
-      (ref_to slot.birth k, slot,
-      standing_from state.heap (ref_to slot.birth k) slot (ap (λ i. get_or state.heap.slots i None) (slot_of-ref_to slot.birth k small) ∙ e) (sym (birth_of-ref_to slot.birth k small)), c)
+      let small : k < 2 ^ 16 = omega (arith, I.small, I.sound.heap.size) in (
+        ref_to slot.birth k,
+        slot,
+        standing_from state.heap (ref_to slot.birth k) slot (ap (λ i. get_or state.heap.slots i None) (slot_of-ref_to slot.birth k small) ∙ e) (sym (birth_of-ref_to slot.birth k small)),
+        c,
+      )
 
   -- it stands in a root word or in a slot
   referred_from : (r : Ref) → IsInUse state.heap r → IsReached state r ⊎ Referrer r
@@ -94,7 +95,7 @@ module _ (state : State) (I : IsSafe state) (zeros : HasZeros state) (empty : st
     | inr out ↦ elim (Contains-append_cases (flat_map refs_of_root state.roots) (flat_map refs_of_operation state.actors) r out) [
       | inl root ↦ let found = part_of refs_of_root state.roots r root in inl (from_root found.0 r found.1)
       | inr list ↦ let found = part_of refs_of_operation state.actors r list in absurd (idle_lists state.actors rest found.0 r found.1)
-      ]
+    ]
   ]
 
   reached_below : (q r : Ref) (slot : Slot) → standing state.heap q ≡ Some slot → Contains (refs_of_slot (Some slot)) r → IsReached state q → IsReached state r

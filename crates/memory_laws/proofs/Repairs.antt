@@ -1,10 +1,10 @@
 -- RENEW, CLEAN and CLIMB: what their lines want gives what the lines after them do, where a step makes no node.
-use Rattle.std.proofs.Common.{◌≡◌, ℕ, ◌+◌, ◌-◌, ◌==◌, ◌&&◌, Bool, true, false, cond, nat_lt, nat_eq, List, [], ◌∷◌, ◌++◌, Option, Some, None, All, length, get_or, refl, sym, ap, ◌∙◌}
-use Rattle.std.proofs.lemmas.Bool.{false≢true, and_parts, cond_both}
+use Rattle.std.proofs.Common.{◌≡◌, nat_lt, nat_eq, List, [], ◌∷◌, ◌++◌, length, refl}
+use Rattle.std.proofs.lemmas.Bool.{and_parts, cond_both}
 use Rattle.slot_arena.specs.declared.refs.Ref.{Ref}
 use Rattle.slot_arena.specs.declared.nodes.Node.{Node}
-use Rattle.slot_arena.specs.declared.nodes.Node.TheVariants.{Indirection, Branch, Single, Tomb, List as Listed}
-use Rattle.slot_arena.specs.Heaps.{Heap, node_at, entry_at, entries_of, generation_at}
+use Rattle.slot_arena.specs.declared.nodes.Node.TheVariants.{Indirection, Branch, Single, Tomb}
+use Rattle.slot_arena.specs.Heaps.{node_at, entries_of, generation_at}
 use Rattle.nodes.specs.Levels.{has_flag}
 use Rattle.std.specs.Cmp.Lexicographic.{pointwise}
 use Rattle.machine_model.specs.declared.operations.Operation.{Operation}
@@ -15,12 +15,12 @@ use Rattle.machine_model.specs.declared.roots.RootLine.{RootLine}
 use Rattle.machine_model.specs.declared.repairs.Climb.{Climb}
 use Rattle.machine_model.specs.declared.lines.Line.{Line}
 use Rattle.machine_model.specs.States.{State}
-use Rattle.machine_model.specs.Paths.{current, above, is_below_root, flag_in, is_start}
-use Rattle.machine_model.specs.Renewing.{renew_next, next_entry, renew_after_entry, renew_after_read}
+use Rattle.machine_model.specs.Paths.{above, is_below_root, flag_in, is_start}
+use Rattle.machine_model.specs.Renewing.{next_entry, renew_after_entry, renew_after_read}
 use Rattle.machine_model.specs.Cleaning.{clean_next, clean_after_read, clean_after_main, clean_after_entry, after_child, clean_after_tomb}
-use Rattle.machine_model.specs.Climbing.{climbing, climbed, higher, climb_after_read, holds_it, climb_after_main, climb_after_root}
-use Rattle.memory_laws.specs.Wants.{Wanted, Anything, AnIndirection, AMain, ABranch, AnEntry, ASingle, WithEntry, AtMost, WithFlag, meets, Claim, Is, Each, EntryIs, So, Holds, is, each, so, AllHold, node_wants, read_wants, line_wants, climb_carries, done_wants}
-use Rattle.memory_laws.proofs.Claims.{Meets, safe_of, meets_of, is_also, all_of, fact_of, from_meets, both_hold, first_hold, last_hold}
+use Rattle.machine_model.specs.Climbing.{climbing, higher, climb_after_read, holds_it, climb_after_main, climb_after_root}
+use Rattle.memory_laws.specs.Wants.{Wanted, AnIndirection, ABranch, AnEntry, ASingle, WithEntry, WithFlag, Is, Each, So, Holds, is, so, AllHold, node_wants, line_wants, climb_carries}
+use Rattle.memory_laws.proofs.Claims.{safe_of, is_also, from_meets}
 use Rattle.memory_laws.proofs.Nodes.{Heaped, branch_entries, at_position, single_entry}
 use Rattle.memory_laws.proofs.Rooting.{step_wants, after_root_wants}
 use Rattle.memory_laws.proofs.Lines.{this, current_is, above_each, above_long, pushed_each, none_each, at_most}
@@ -50,7 +50,7 @@ module _ (state : State) (operation : Operation) (S : Ref → Type 0) (H : Heape
   renew_entry_next path main done entry (Indirection generation word) e p m d w s =
       cond_both (is_start operation generation) _ _ Wants
       (λ own. renew_next_wants state operation S H path main (done ++ entry ∷ []) p m
-        (pushed_each S state.heap done entry d (this S state.heap AnEntry (Indirection generation word) s e refl)))
+      (pushed_each S state.heap done entry d (this S state.heap AnEntry (Indirection generation word) s e refl)))
       (λ other. (p.0, (p.1, (m, (d, (w, (this S state.heap AnIndirection (Indirection generation word) s e refl, tt)))))))
   renew_entry_next path main done entry (Single k v) e p m d w s =
       renew_next_wants state operation S H path main (done ++ entry ∷ []) p m (pushed_each S state.heap done entry d (this S state.heap AnEntry (Single k v) s e refl))
@@ -67,7 +67,7 @@ module _ (state : State) (operation : Operation) (S : Ref → Type 0) (H : Heape
   clean_next_wants path main done p m d =
       cond_both (nat_lt (length done) (length (entries_of (node_at state.heap main)))) _ _ Wants (λ e. (p.0, (p.1, (m, (d, (is (safe_of m) e, tt))))))
       (λ e. cond_both (pointwise nat_eq done (entries_of (node_at state.heap main))) _ _ Wants (λ same. tt)
-        (λ other. (p.0, (p.1, (m, (d, (is (safe_of m) (at_most (length done) (length (entries_of (node_at state.heap main))) e), tt)))))))
+      (λ other. (p.0, (p.1, (m, (d, (is (safe_of m) (at_most (length done) (length (entries_of (node_at state.heap main))) e), tt)))))))
 
   pub clean_read_next : (path : List Ref) (a : After Read Ref) → IsPath path → AllHold S state.heap (step_wants a) → Wants (clean_after_read path a)
   clean_read_next path (Goes r) p h = (p.0, (p.1, h))
@@ -122,8 +122,19 @@ module _ (state : State) (operation : Operation) (S : Ref → Type 0) (H : Heape
   climb_main_next c main (Tomb single) e n p s = higher_wants c single p.0 n.0
   climb_main_next c main (Branch bitmap entries) e n p s =
       cond_both (holds_it state operation c main bitmap entries.items) _ _ Wants
-      (λ it. (p.0, (p.1.0, (p.1.1.0, (this S state.heap ABranch (Branch bitmap entries) s e refl,
-        (this S state.heap (WithFlag (flag_in state operation (above c.path))) (Branch bitmap entries) s e (and_parts (has_flag bitmap (flag_in state operation (above c.path))) _ it).0, tt))))))
+      (λ it. (
+        p.0,
+        (
+          p.1.0,
+          (
+            p.1.1.0,
+            (
+              this S state.heap ABranch (Branch bitmap entries) s e refl,
+              (this S state.heap (WithFlag (flag_in state operation (above c.path))) (Branch bitmap entries) s e (and_parts (has_flag bitmap (flag_in state operation (above c.path))) _ it).0, tt),
+            ),
+          ),
+        ),
+      ))
       (λ other. tt)
   climb_main_next c main node e n p s = tt
 

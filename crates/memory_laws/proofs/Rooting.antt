@@ -1,11 +1,11 @@
 -- READ, COMPLETE and ROOT: what their lines want gives what their steps want, and what the lines after them do.
-use Rattle.std.proofs.Common.{◌≡◌, ℕ, ◌==◌, Bool, true, false, List, [], ◌∷◌, ◌++◌, Option, Some, None, All}
+use Rattle.std.proofs.Common.{◌==◌, Bool, true, false, List, [], ◌∷◌}
 use Rattle.history.specs.declared.calls.Access.{Access}
 use Rattle.history.specs.declared.calls.Access.TheVariants.{Writable, ReadOnly}
 use Rattle.slot_arena.specs.declared.refs.Ref.{Ref}
 use Rattle.slot_arena.specs.declared.nodes.Prev.{Prev}
 use Rattle.slot_arena.specs.declared.nodes.Prev.TheVariants as prev
-use Rattle.slot_arena.specs.Heaps.{Heap, node_at, prev_at, main_at}
+use Rattle.slot_arena.specs.Heaps.{Heap, prev_at, main_at}
 use Rattle.machine_model.specs.declared.reading.After.{After}
 use Rattle.machine_model.specs.declared.reading.After.TheVariants.{Goes, Gives}
 use Rattle.machine_model.specs.declared.reading.Read.{Read}
@@ -20,8 +20,8 @@ use Rattle.machine_model.specs.declared.roots.RootLine.TheVariants as root
 use Rattle.machine_model.specs.declared.roots.RootWord.{RootWord}
 use Rattle.machine_model.specs.declared.roots.RootWord.TheVariants.{Plain, Offer}
 use Rattle.machine_model.specs.Reading.{Verdict, Commits, Fails, Overtaken, read_action, read_after, after_prev, after_ask, after_decide, after_restore, verdict, at_indirection}
-use Rattle.machine_model.specs.Swapping.{complete_action_at, complete_action, after_reading, after_complete, of_offer, complete_after, completing, root_action, after_root_word, after_completing, root_after, is_carried_out}
-use Rattle.memory_laws.specs.Wants.{Wanted, AnIndirection, AMain, Claim, Is, Each, Holds, is, each, AllHold, prev_wants, offer_wants, word_wants, action_wants, read_wants, complete_wants, root_wants}
+use Rattle.machine_model.specs.Swapping.{complete_action_at, after_reading, after_complete, of_offer, complete_after, completing, root_action, after_root_word, after_completing, root_after}
+use Rattle.memory_laws.specs.Wants.{AnIndirection, AMain, Claim, Is, Holds, AllHold, prev_wants, offer_wants, word_wants, action_wants, read_wants, complete_wants, root_wants}
 use Rattle.memory_laws.proofs.Claims.{safe_of, both_hold, first_hold, last_hold}
 use Rattle.memory_laws.proofs.Nodes.{Heaped, main_read}
 

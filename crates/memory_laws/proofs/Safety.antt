@@ -1,9 +1,9 @@
 -- Memory is safe: what is taken for a node of a kind is one, after every step. One invariant for nodes, root words, lines and private lists.
-use Rattle.std.proofs.Common.{◌≡◌, ℕ, zero, suc, ◌+◌, ◌-◌, ◌^◌, ◌<◌, ◌≤◌, ◌||◌, Bool, true, false, cond, nat_le, is_some, List, [], ◌∷◌, ◌++◌, All, Contains, length, get_or, Option, Some, None, refl, sym, ap, ◌∙◌, subst, ◌⊎◌, inl, inr, leb-true, arith}
-use Rattle.std.proofs.lemmas.Bool.{cases_eq, false≢true, or_cases}
+use Rattle.std.proofs.Common.{◌≡◌, ℕ, ◌+◌, ◌^◌, ◌<◌, ◌≤◌, true, nat_le, is_some, List, [], ◌∷◌, ◌++◌, All, Contains, length, get_or, Option, Some, None, refl, sym, ap, ◌∙◌, subst, ◌⊎◌, inl, inr, leb-true, arith}
+use Rattle.std.proofs.lemmas.Bool.{cases_eq, false≢true}
 use Rattle.std.proofs.lemmas.Option.{none-some, same_Some, cond_some}
-use Rattle.std.proofs.lemmas.List.Elements.{All-head, All-weaker, All-push, All-nil, All-contains, Contains-append_left, Contains-append_right, Contains-get_or}
-use Rattle.slot_arena.specs.Refs.{ref_to, slot_of, birth_of}
+use Rattle.std.proofs.lemmas.List.Elements.{All-head, Contains-append_left, Contains-append_right, Contains-get_or}
+use Rattle.slot_arena.specs.Refs.{slot_of, birth_of}
 use Rattle.slot_arena.specs.declared.refs.Ref.{Ref}
 use Rattle.slot_arena.specs.declared.nodes.Node.{Node}
 use Rattle.slot_arena.specs.declared.nodes.Node.TheVariants.{Indirection, Branch, Single, Tomb, List as Listed}
@@ -11,12 +11,10 @@ use Rattle.slot_arena.specs.declared.nodes.Prev.{Prev}
 use Rattle.slot_arena.specs.declared.nodes.Prev.TheVariants as prev
 use Rattle.slot_arena.specs.declared.nodes.Slot.{Slot}
 use Rattle.epochs.specs.declared.limbo.Zeroed.{Zeroed}
-use Rattle.slot_arena.specs.Heaps.{Heap, stored, node_at, prev_at, with_main_word, main_changed, prev_changed, taken, next_ref, heap_refs, refs_of_node, refs_of_prev, refs_of_slot, refs_of_option}
+use Rattle.slot_arena.specs.Heaps.{Heap, stored, node_at, with_main_word, main_changed, prev_changed, heap_refs, refs_of_node, refs_of_prev, refs_of_slot, refs_of_option}
 use Rattle.epochs.specs.Limbo.{limbo_after}
 use Rattle.epochs.specs.Sweeping.{ripe}
 use Rattle.machine_model.specs.declared.operations.Operation.{Operation}
-use Rattle.machine_model.specs.declared.actions.Action.{Action}
-use Rattle.machine_model.specs.declared.actions.Action.TheVariants as act
 use Rattle.machine_model.specs.declared.roots.Root.{Root}
 use Rattle.machine_model.specs.declared.roots.RootWord.{RootWord}
 use Rattle.machine_model.specs.declared.roots.RootWord.TheVariants.{Plain, Offer}
@@ -26,12 +24,12 @@ use Rattle.machine_model.proofs.Found.{found_within}
 use Rattle.machine_model.proofs.InUse.{InUse}
 use Rattle.machine_model.proofs.Slots.{IsSound}
 use Rattle.machine_model.proofs.Grown.{standing}
-use Rattle.memory_laws.specs.Wants.{Wanted, AnIndirection, AMain, meets, is_formed, Claim, Is, Each, So, Holds, is, each, so, AllHold, node_wants, prev_wants, word_wants, line_wants}
+use Rattle.memory_laws.specs.Wants.{AMain, is_formed, Claim, Is, So, Holds, AllHold, node_wants, prev_wants, word_wants, line_wants}
 use Rattle.memory_laws.specs.Laws.{SameNode, IsInUse}
-use Rattle.memory_laws.proofs.Claims.{Meets, safe_of, meets_of, fact_of, safer, refs_of_claim, both_hold, first_hold, last_hold, Carries, all_carried}
+use Rattle.memory_laws.proofs.Claims.{fact_of, safer, both_hold, first_hold, last_hold, Carries}
 use Rattle.memory_laws.proofs.Nodes.{Heaped}
 use Rattle.memory_laws.proofs.Under.{node_under, prev_under, standing_from, slot_of-ref_to, birth_of-ref_to}
-use Rattle.memory_laws.proofs.Guards.{Guarded, Safe, AllZero, guarded_after, zero_after, guarded_if_counted, counted_in_slot, counted_in_root, counted_in_private}
+use Rattle.memory_laws.proofs.Guards.{Guarded, Safe, AllZero, guarded_after, guarded_if_counted, counted_in_slot, counted_in_root, counted_in_private}
 use Rattle.memory_laws.proofs.Effects.{Effect, Keeps, Makes, Publishes, Restores, Decides, Frees, stays}
 use Rattle.memory_laws.proofs.Base.{IsRecent, HasHandle, Fits}
 use Rattle.memory_laws.proofs.Started.{KnowsRoot}
@@ -71,11 +69,16 @@ module _ (S T : Ref → Type 0) (heap : Heap) where
   word_safer : (word : RootWord) → ((r : Ref) → Contains (refs_of_word word) r → S r → T r) → AllHold S heap (word_wants word) → AllHold T heap (word_wants word)
   word_safer (Plain r) f h = (safer S T heap _ tt f h.0, tt)
   word_safer (Offer offer) f h =
-      let seconds = refs_of_option offer.second in
-      (safer S T heap _ tt (λ r c. f r (Contains-append_left (offer.root ∷ []) (offer.expected ∷ offer.successor ∷ seconds) r c)) h.0,
-      (safer S T heap _ tt (λ r c. f r (Contains-append_right (offer.root ∷ []) (offer.expected ∷ offer.successor ∷ seconds) r (Contains-append_left (offer.expected ∷ []) (offer.successor ∷ seconds) r c))) h.1.0,
-      (safer S T heap _ tt (λ r c. f r (Contains-append_right (offer.root ∷ offer.expected ∷ []) (offer.successor ∷ seconds) r (Contains-append_left (offer.successor ∷ []) seconds r c))) h.1.1.0,
-      (safer S T heap _ tt (λ r c. f r (Contains-append_right (offer.root ∷ offer.expected ∷ offer.successor ∷ []) seconds r c)) h.1.1.1.0, tt))))
+      let seconds = refs_of_option offer.second in (
+        safer S T heap _ tt (λ r c. f r (Contains-append_left (offer.root ∷ []) (offer.expected ∷ offer.successor ∷ seconds) r c)) h.0,
+        (
+          safer S T heap _ tt (λ r c. f r (Contains-append_right (offer.root ∷ []) (offer.expected ∷ offer.successor ∷ seconds) r (Contains-append_left (offer.expected ∷ []) (offer.successor ∷ seconds) r c))) h.1.0,
+          (
+            safer S T heap _ tt (λ r c. f r (Contains-append_right (offer.root ∷ offer.expected ∷ []) (offer.successor ∷ seconds) r (Contains-append_left (offer.successor ∷ []) seconds r c))) h.1.1.0,
+            (safer S T heap _ tt (λ r c. f r (Contains-append_right (offer.root ∷ offer.expected ∷ offer.successor ∷ []) seconds r c)) h.1.1.1.0, tt),
+          ),
+        ),
+      )
 
 -- ---- what is found in a safe state is safe, whatever the epoch
 
@@ -155,10 +158,11 @@ module _ (state after : State) (epoch : ℕ) (low : epoch ≤ state.epoch) (high
   carries r s =
       let (was, found) = s.used in
       let (now, found_now, same) = stays C (standing state.heap) (standing after.heap) state.heap.births after.heap.births due effect r was found
-          (λ is_due. ripe_old state.limbo state.epoch epoch r (is_ripe r is_due) (s.guarded) high) in
-      (record { used = (now, found_now); guarded = guard_kept r (s.guarded) },
-      subst (λ n. SameNode n (node_at after.heap r)) (sym (node_under state.heap r was found))
-        (subst (λ n. SameNode was.node n) (sym (node_under after.heap r now found_now)) same.0))
+      (λ is_due. ripe_old state.limbo state.epoch epoch r (is_ripe r is_due) (s.guarded) high) in (
+        record { used = (now, found_now); guarded = guard_kept r (s.guarded) },
+        subst (λ n. SameNode n (node_at after.heap r)) (sym (node_under state.heap r was found))
+            (subst (λ n. SameNode was.node n) (sym (node_under after.heap r now found_now)) same.0),
+      )
 
   -- what is made is safe
   pub made_safe : (sound : IsSound state.limits.slots state) → state.limits.slots ≤ 2 ^ 16 → (made : Ref) (slot : Slot) → standing state.heap made ≡ None → standing after.heap made ≡ Some slot → Safe after epoch made
@@ -196,9 +200,11 @@ module _ (S : Ref → Type 0) (heap : Heap) where
   main_written m (Listed singles) h w = h
 
   main_slot : (m : Ref) (slot : Slot) → SlotHolds S heap slot → Holds S heap (Is m AMain) → SlotHolds S heap (main_changed m slot)
-  main_slot m slot h w =
-      (both_hold S heap (node_wants (with_main_word m slot.node)) (prev_wants slot.prev) (main_written m slot.node (first_hold S heap (node_wants slot.node) (prev_wants slot.prev) h.0) w)
-        (last_hold S heap (node_wants slot.node) (prev_wants slot.prev) h.0), main_formed m slot.node ∙ h.1)
+  main_slot m slot h w = (
+    both_hold S heap (node_wants (with_main_word m slot.node)) (prev_wants slot.prev) (main_written m slot.node (first_hold S heap (node_wants slot.node) (prev_wants slot.prev) h.0) w)
+        (last_hold S heap (node_wants slot.node) (prev_wants slot.prev) h.0),
+    main_formed m slot.node ∙ h.1,
+  )
 
   prev_slot : (p : Prev) (slot : Slot) → SlotHolds S heap slot → AllHold S heap (prev_wants p) → SlotHolds S heap (prev_changed p slot)
   prev_slot p slot h w = (both_hold S heap (node_wants slot.node) (prev_wants p) (first_hold S heap (node_wants slot.node) (prev_wants slot.prev) h.0) w, h.1)
@@ -211,31 +217,31 @@ module _ (S : Ref → Type 0) (heap : Heap) where
   slots_after f g b c due (Keeps e k) old r slot h = old r slot (sym (k r) ∙ h)
   slots_after f g b c due (Makes made new e e' w p none at_made others) old r slot h =
       elim (cases_eq r made) [
-      | inl s ↦ subst (SlotHolds S heap) (same_Some _ _ (sym at_made ∙ ap g (sym s) ∙ h)) (fresh_slot_holds new w p)
-      | inr other ↦ old r slot (sym (others r other) ∙ h)
+        | inl s ↦ subst (SlotHolds S heap) (same_Some _ _ (sym at_made ∙ ap g (sym s) ∙ h)) (fresh_slot_holds new w p)
+        | inr other ↦ old r slot (sym (others r other) ∙ h)
       ]
   slots_after f g b c due (Publishes i replaced fresh at_i at_fresh e w differ f_i m f_fresh g_i g_fresh others) old r slot h =
       elim (cases_eq r i) [
-      | inl s ↦ subst (SlotHolds S heap) (same_Some _ _ (sym g_i ∙ ap g (sym s) ∙ h)) (main_slot fresh at_i (old i at_i f_i) w.1.1.0)
-      | inr other ↦ elim (cases_eq r fresh) [
-        | inl s ↦ subst (SlotHolds S heap) (same_Some _ _ (sym g_fresh ∙ ap g (sym s) ∙ h)) (prev_slot (prev.Pending replaced) at_fresh (old fresh at_fresh f_fresh) (w.1.0, tt))
-        | inr another ↦ old r slot (sym (others r other another) ∙ h)
+        | inl s ↦ subst (SlotHolds S heap) (same_Some _ _ (sym g_i ∙ ap g (sym s) ∙ h)) (main_slot fresh at_i (old i at_i f_i) w.1.1.0)
+        | inr other ↦ elim (cases_eq r fresh) [
+          | inl s ↦ subst (SlotHolds S heap) (same_Some _ _ (sym g_fresh ∙ ap g (sym s) ∙ h)) (prev_slot (prev.Pending replaced) at_fresh (old fresh at_fresh f_fresh) (w.1.0, tt))
+          | inr another ↦ old r slot (sym (others r other another) ∙ h)
         ]
       ]
   slots_after f g b c due (Restores i main previous at_i e w f_i m g_i others) old r slot h =
       elim (cases_eq r i) [
-      | inl s ↦ subst (SlotHolds S heap) (same_Some _ _ (sym g_i ∙ ap g (sym s) ∙ h)) (main_slot previous at_i (old i at_i f_i) w.1.1.0)
-      | inr other ↦ old r slot (sym (others r other) ∙ h)
+        | inl s ↦ subst (SlotHolds S heap) (same_Some _ _ (sym g_i ∙ ap g (sym s) ∙ h)) (main_slot previous at_i (old i at_i f_i) w.1.1.0)
+        | inr other ↦ old r slot (sym (others r other) ∙ h)
       ]
   slots_after f g b c due (Decides main p at_main e w f_main g_main others) old r slot h =
       elim (cases_eq r main) [
-      | inl s ↦ subst (SlotHolds S heap) (same_Some _ _ (sym g_main ∙ ap g (sym s) ∙ h)) (prev_slot p at_main (old main at_main f_main) w.1)
-      | inr other ↦ old r slot (sym (others r other) ∙ h)
+        | inl s ↦ subst (SlotHolds S heap) (same_Some _ _ (sym g_main ∙ ap g (sym s) ∙ h)) (prev_slot p at_main (old main at_main f_main) w.1)
+        | inr other ↦ old r slot (sym (others r other) ∙ h)
       ]
   slots_after f g b c due (Frees q e is_due none others) old r slot h =
       elim (cases_eq r q) [
-      | inl s ↦ absurd (none-some slot (sym none ∙ ap g (sym s) ∙ h))
-      | inr other ↦ old r slot (sym (others r other) ∙ h)
+        | inl s ↦ absurd (none-some slot (sym none ∙ ap g (sym s) ∙ h))
+        | inr other ↦ old r slot (sym (others r other) ∙ h)
       ]
 
 -- ---- births after a step
@@ -256,8 +262,8 @@ stood_or_made C f g b c due (Makes made new e e' w p none at_made others) r slot
     elim (cases_eq r made) [ inl s ↦ inr (ap birth_of s ∙ e, e', ap f s ∙ none) | inr other ↦ inl (slot, sym (others r other) ∙ h) ]
 stood_or_made C f g b c due (Publishes i replaced fresh at_i at_fresh e w differ f_i m f_fresh g_i g_fresh others) r slot h =
     elim (cases_eq r i) [
-    | inl s ↦ inl (at_i, ap f s ∙ f_i)
-    | inr other ↦ elim (cases_eq r fresh) [ inl s ↦ inl (at_fresh, ap f s ∙ f_fresh) | inr another ↦ inl (slot, sym (others r other another) ∙ h) ]
+      | inl s ↦ inl (at_i, ap f s ∙ f_i)
+      | inr other ↦ elim (cases_eq r fresh) [ inl s ↦ inl (at_fresh, ap f s ∙ f_fresh) | inr another ↦ inl (slot, sym (others r other another) ∙ h) ]
     ]
 stood_or_made C f g b c due (Restores i main previous at_i e w f_i m g_i others) r slot h =
     elim (cases_eq r i) [ inl s ↦ inl (at_i, ap f s ∙ f_i) | inr other ↦ inl (slot, sym (others r other) ∙ h) ]
@@ -270,11 +276,12 @@ pub births_after : (C : List Claim → Type 0) (f g : Ref → Option Slot) (b c 
     (r : Ref) (slot : Slot) → g r ≡ Some slot → birth_of r ≤ c
 births_after C f g b c due effect old r slot h =
     elim (stood_or_made C f g b c due effect r slot h) [
-    | inl stood ↦ bounded (births_grow C f g b c due effect) (old r stood.0 stood.1)
-    | inr made ↦ made_bounded made.0 made.1
+      | inl stood ↦ bounded (births_grow C f g b c due effect) (old r stood.0 stood.1)
+      | inr made ↦ made_bounded made.0 made.1
     ]
   where
     bounded : b ≤ c → birth_of r ≤ b → birth_of r ≤ c
     bounded x y = omega arith
+
     made_bounded : birth_of r ≡ b + 1 → c ≡ b + 1 → birth_of r ≤ c
     made_bounded x y = omega arith

@@ -1,17 +1,16 @@
 -- The laws on references and look-ups, from safe memory.
-use Rattle.std.proofs.Common.{◌≡◌, ℕ, zero, suc, ◌+◌, ◌^◌, ◌<◌, ◌≤◌, ◌||◌, Bool, true, false, is_some, List, [], ◌∷◌, ◌++◌, All, Contains, length, get_or, Option, Some, None, refl, sym, ap, ◌∙◌, subst, arith}
-use Rattle.std.proofs.lemmas.Option.{none-some}
+use Rattle.std.proofs.Common.{◌≡◌, ℕ, ◌^◌, ◌<◌, [], All, Contains, get_or, Option, Some, None, refl, sym, ap, ◌∙◌, arith}
 use Rattle.std.proofs.lemmas.List.Elements.{All-contains, All-append}
-use Rattle.slot_arena.specs.Refs.{ref_to, slot_of, birth_of}
+use Rattle.slot_arena.specs.Refs.{ref_to, slot_of}
 use Rattle.slot_arena.specs.declared.refs.Ref.{Ref}
 use Rattle.slot_arena.specs.declared.nodes.Slot.{Slot}
-use Rattle.slot_arena.specs.Heaps.{Heap, stored, refs_of_node, refs_of_prev, refs_of_slot}
+use Rattle.slot_arena.specs.Heaps.{stored, refs_of_node, refs_of_prev, refs_of_slot}
 use Rattle.machine_model.specs.declared.operations.Operation.{Operation}
 use Rattle.machine_model.specs.declared.roots.Root.{Root}
 use Rattle.machine_model.specs.States.{State, root_at, operation_of}
 use Rattle.machine_model.specs.Counting.{refs_of_root}
 use Rattle.machine_model.proofs.Grown.{standing}
-use Rattle.memory_laws.specs.Wants.{AllHold, node_wants, prev_wants}
+use Rattle.memory_laws.specs.Wants.{node_wants, prev_wants}
 use Rattle.memory_laws.specs.Laws.{IsInUse}
 use Rattle.memory_laws.proofs.Claims.{first_hold, last_hold}
 use Rattle.memory_laws.proofs.Under.{standing_from, slot_of-ref_to, birth_of-ref_to}

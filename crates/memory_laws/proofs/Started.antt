@@ -1,6 +1,6 @@
 -- Past its first line an operation knows the generation of its root.
-use Rattle.std.proofs.Common.{◌≡◌, ℕ, suc, Bool, true, false, is_some, List, Option, Some, None, get_or, refl, sym, ap, ◌∙◌, subst, arith}
-use Rattle.std.proofs.lemmas.Bool.{false≢true, cond_both}
+use Rattle.std.proofs.Common.{◌≡◌, ℕ, true, is_some, Option, Some, None, get_or, refl, arith}
+use Rattle.std.proofs.lemmas.Bool.{false≢true}
 use Rattle.history.specs.declared.calls.Call.{Call}
 use Rattle.history.specs.declared.calls.Call.TheVariants.{Close, Entries}
 use Rattle.slot_arena.specs.declared.refs.Ref.{Ref}
@@ -13,11 +13,11 @@ use Rattle.machine_model.specs.declared.roots.RootLine.{RootLine}
 use Rattle.machine_model.specs.declared.walking.WalkLine.{WalkLine}
 use Rattle.machine_model.specs.declared.steps.Outcome.{Outcome}
 use Rattle.machine_model.specs.declared.steps.Step.{Step}
-use Rattle.machine_model.specs.States.{State, operation_of}
+use Rattle.machine_model.specs.States.{State}
 use Rattle.machine_model.specs.Operations.{line_after, first_line, after_root, given_root, generation_from}
 use Rattle.machine_model.specs.Acting.{operation_after}
 use Rattle.machine_model.specs.Walking.{walk_after}
-use Rattle.machine_model.proofs.Moves.{Moves, begun_operation}
+use Rattle.machine_model.proofs.Moves.{Moves}
 use Rattle.machine_model.proofs.Actors.{mark_one, mark_only}
 use Rattle.memory_laws.specs.Laws.{is_past_root}
 use Rattle.memory_laws.proofs.EachStep.{each_after}

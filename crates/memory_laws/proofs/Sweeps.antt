@@ -1,32 +1,29 @@
 -- A step of the sweep leaves the contents of all open handles, the history and the order alone.
-use Rattle.std.proofs.Common.{◌≡◌, ℕ, zero, suc, ◌+◌, ◌≤◌, Bool, true, List, [], ◌∷◌, ◌++◌, flat_map, All, get_or, map, Option, Some, None, Ok, Err, is_some, refl, sym, ap, ◌∙◌, subst, ◌⊎◌, inl, inr, arith}
-use Rattle.std.proofs.lemmas.Option.{none-some, same_Some}
+use Rattle.std.proofs.Common.{◌≡◌, ℕ, zero, suc, List, [], ◌∷◌, ◌++◌, flat_map, All, get_or, map, Some, None, Ok, Err, is_some, refl, sym, ap, ◌∙◌, subst, ◌⊎◌, inl, inr, arith}
+use Rattle.std.proofs.lemmas.Option.{none-some}
 use Rattle.std.proofs.lemmas.List.Elements.{All-head, All-tail, All-weaker}
 use Rattle.slot_arena.specs.declared.refs.Ref.{Ref}
 use Rattle.slot_arena.specs.declared.nodes.Node.{Node}
 use Rattle.slot_arena.specs.declared.nodes.Node.TheVariants.{Indirection, Branch, Single, Tomb, List as Listed}
 use Rattle.slot_arena.specs.declared.nodes.Prev.{Prev}
 use Rattle.slot_arena.specs.declared.nodes.Prev.TheVariants as prev
-use Rattle.slot_arena.specs.declared.nodes.Slot.{Slot}
 use Rattle.slot_arena.specs.Heaps.{Heap, node_at, prev_at, main_at, main_of, entries_of, logical, logical_main}
 use Rattle.epochs.specs.Sweeping.{ripe}
 use Rattle.machine_model.specs.declared.roots.Root.{Root}
 use Rattle.machine_model.specs.declared.roots.RootWord.{RootWord}
 use Rattle.machine_model.specs.declared.roots.RootWord.TheVariants.{Plain, Offer}
-use Rattle.machine_model.specs.declared.steps.Limits.{Limits}
 use Rattle.machine_model.specs.declared.steps.Outcome.{Outcome}
-use Rattle.machine_model.specs.declared.steps.Step.{Step}
 use Rattle.machine_model.specs.declared.steps.Step.TheVariants as step
 use Rattle.machine_model.specs.States.{State, root_at, word_at, word_of, root_of}
 use Rattle.machine_model.specs.Pairs.{by_key}
 use Rattle.machine_model.specs.Contents.{pairs_at, pairs_below, most_levels, content_at}
 use Rattle.machine_model.specs.Orders.{order_of}
-use Rattle.machine_model.specs.Machine.{Answer, next, next_state, state_after, pin_of, reclaimer_of}
+use Rattle.machine_model.specs.Machine.{Answer, next, next_state, state_after, pin_of}
 use Rattle.machine_model.proofs.InUse.{InUse}
 use Rattle.machine_model.proofs.Moves.{Moves, Sweeps, MovesIfTaken, moves}
 use Rattle.machine_model.proofs.Slots.{ripe_in_use}
 use Rattle.machine_model.proofs.Grown.{standing}
-use Rattle.memory_laws.specs.Wants.{AnIndirection, AMain, AnEntry, Is, Holds, AllHold, node_wants, prev_wants, word_wants}
+use Rattle.memory_laws.specs.Wants.{AnEntry, AllHold, node_wants, prev_wants, word_wants}
 use Rattle.memory_laws.specs.Laws.{IsInUse}
 use Rattle.memory_laws.proofs.Claims.{Meets, safe_of}
 use Rattle.memory_laws.proofs.Nodes.{Heaped, all_in}
@@ -64,7 +61,7 @@ module _ (S : Ref → Type 0) (heap after : Heap) (used : (r : Ref) → S r → 
       let logical_same = ap (λ x. logical x (prev_at after x)) e ∙ ap (logical (main_at heap r)) (same_prev_at (main_at heap r) m) in
       ap (λ x. flat_map f (entries_of (node_at after x))) logical_same ∙ ap (λ n. flat_map f (entries_of n)) (same_node_at (logical_main heap r) here)
       ∙ flat_map_same f g (entries_of (node_at heap (logical_main heap r)))
-        (All-weaker (Meets S heap AnEntry) (λ q. f q ≡ g q) (λ q h. agree q h.0) (entries_of (node_at heap (logical_main heap r))) (all_in S heap (node_at heap (logical_main heap r)) (H.inside (logical_main heap r) here)))
+      (All-weaker (Meets S heap AnEntry) (λ q. f q ≡ g q) (λ q h. agree q h.0) (entries_of (node_at heap (logical_main heap r))) (all_in S heap (node_at heap (logical_main heap r)) (H.inside (logical_main heap r) here)))
 
   pairs_by : (f g : Ref → List (ℕ × ℕ)) → ((r : Ref) → S r → f r ≡ g r) → (r : Ref) → (node : Node) → node_at heap r ≡ node → node_at after r ≡ node → AllHold S heap (node_wants node) →
       pairs_at f after r node ≡ pairs_at g heap r node
@@ -115,7 +112,7 @@ module _ (state : State) (I : IsSafe state) (after : State) (o : Outcome) (m : M
 sweep_move : (state : State) → IsSafe state → (o : Outcome) (after : State) → Moves state step.Sweep o after → Leaves state after
 sweep_move state I o after (Sweeps spent) =
     let goes = sweep_goes state I (map pin_of state.actors) (ripe state.epoch state.limbo)
-        (λ q due. stands_in_use state.heap q (omega (arith, I.small, I.sound.heap.size)) (ripe_in_use (InUse state.heap) state.epoch state.limbo (I.sound.limbo) q due)) in
+    (λ q due. stands_in_use state.heap q (omega (arith, I.small, I.sound.heap.size)) (ripe_in_use (InUse state.heap) state.epoch state.limbo (I.sound.limbo) q due)) in
     ((λ handle root e. (e, content_same state I after o (Sweeps spent) goes refl handle root e)), refl, refl)
 
 by_answer : (state : State) → IsSafe state → (answer : Answer) → MovesIfTaken state step.Sweep answer → Leaves state (state_after state answer)

@@ -1,6 +1,6 @@
 -- What stands under each reference after a write, a taking and a freeing: only what is written, taken or freed changes.
-use Rattle.std.proofs.Common.{◌≡◌, ℕ, zero, suc, ◌+◌, ◌*◌, ◌/◌, ◌%◌, ◌^◌, ◌<◌, ◌≤◌, ◌==◌, Bool, true, false, cond, is_some, List, [], ◌∷◌, length, map, get_or, set, Option, Some, None, option_map, refl, sym, ap, ◌∙◌, subst, ◌⊎◌, inl, inr, eqb-true, eq-eqb, ne_eqb, arith}
-use Rattle.std.proofs.lemmas.Bool.{cases_eq, cases_Bool, false≢true, eqb-false}
+use Rattle.std.proofs.Common.{◌≡◌, ℕ, ◌+◌, ◌^◌, ◌<◌, ◌≤◌, ◌==◌, false, is_some, List, [], ◌∷◌, length, map, get_or, set, Option, Some, None, option_map, refl, sym, ap, ◌∙◌, subst, inl, inr, eqb-true, eq-eqb, ne_eqb, arith}
+use Rattle.std.proofs.lemmas.Bool.{cases_eq, false≢true}
 use Rattle.std.proofs.lemmas.List.{get_or-set_same, get_or-set_other, get_or-map, length-map}
 use Rattle.std.proofs.lemmas.Option.{none-some, same_Some, cond_some}
 use Rattle.slot_arena.specs.Refs.{ref_to, slot_of, birth_of}
@@ -216,7 +216,7 @@ module _ (slots : ℕ) (heap : Heap) (sound : AddsUp slots heap) (small : slots 
   taken_by (slot ∷ free) e is =
       let first = first_is_free slots heap sound small slot free e in
       subst (λ q. (standing (take_from heap node (slot ∷ free)) q ≡ Some (fresh_slot heap node)) × (standing heap q ≡ None) × ((r : Ref) → (r ≡ q → ⊥) → standing (take_from heap node (slot ∷ free)) r ≡ standing heap r)
-        × (birth_of q ≡ heap.births + 1)) (same_Some _ _ is)
+      × (birth_of q ≡ heap.births + 1)) (same_Some _ _ is)
       (from_here heap node slot free first, none_before heap node slot free first, from_other heap node slot free first, sym (its_birth heap node slot free first))
 
   pub taken_all : next_ref heap ≡ Some made →

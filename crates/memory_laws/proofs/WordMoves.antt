@@ -1,6 +1,6 @@
 -- What a step of a run does to the heap that only grows: one kind of move for each word or node that a step writes, tied to the action of the operation that takes it.
 -- The layers above cite `word_move`, and for two times `grown_stays`, `grown_in_use` and `not_yet_drawn`.
-use Rattle.std.proofs.Common.{◌≡◌, ℕ, zero, suc, ◌+◌, ◌^◌, ◌<◌, ◌≤◌, ◌==◌, Bool, true, false, nat_le, List, [], ◌∷◌, map, length, Option, Some, None, get_or, refl, sym, ap, ◌∙◌, subst, ◌⊎◌, inl, inr, eqb-true, arith}
+use Rattle.std.proofs.Common.{◌≡◌, ℕ, zero, suc, ◌+◌, ◌<◌, ◌≤◌, ◌==◌, Bool, true, false, nat_le, List, [], ◌∷◌, map, length, Option, Some, None, get_or, refl, sym, ap, ◌∙◌, subst, ◌⊎◌, inl, inr, eqb-true, arith}
 use Rattle.std.proofs.lemmas.Bool.{cases_eq, cond_both}
 use Rattle.std.proofs.lemmas.Option.{none-some, same_Some}
 use Rattle.epochs.specs.declared.limbo.Swept.{Swept}
@@ -18,29 +18,28 @@ use Rattle.machine_model.specs.declared.operations.Operation.{Operation}
 use Rattle.machine_model.specs.declared.steps.Limits.{Limits}
 use Rattle.machine_model.specs.declared.steps.Outcome.{Outcome}
 use Rattle.machine_model.specs.declared.steps.Step.{Step}
-use Rattle.machine_model.specs.declared.steps.Step.TheVariants as step
 use Rattle.machine_model.specs.Calls.{handle_of}
-use Rattle.machine_model.specs.States.{State, operation_of, first_state}
+use Rattle.machine_model.specs.States.{State, operation_of}
 use Rattle.machine_model.specs.Reading.{Verdict, Commits, Fails, Overtaken, verdict}
 use Rattle.machine_model.specs.Operations.{action_of}
 use Rattle.machine_model.specs.Acting.{acted, gone, published, restored, decided, new_root_taken, if_changed}
 use Rattle.machine_model.specs.Counting.{settled}
-use Rattle.machine_model.proofs.Moves.{Moves, Begins, Goes, Ends, Sweeps, GoesOn, begun_operation}
+use Rattle.machine_model.proofs.Moves.{Moves, Begins, Goes, Ends, Sweeps, begun_operation}
 use Rattle.machine_model.proofs.HeapMoves.{begin_heap, aborted_heap, offered_heap, completed_heap}
 use Rattle.machine_model.specs.Machine.{pin_of, reclaimer_of}
 use Rattle.machine_model.proofs.InUse.{InUse}
 use Rattle.machine_model.proofs.Slots.{ripe_in_use}
-use Rattle.machine_model.proofs.Times.{IsRun, Turn, turns, along_run}
+use Rattle.machine_model.proofs.Times.{IsRun, Turn, turns}
 use Rattle.machine_model.proofs.Grown.{standing, grown, or_before}
-use Rattle.memory_laws.specs.Wants.{AnIndirection, AMain, Is, Holds, AllHold, action_wants}
+use Rattle.memory_laws.specs.Wants.{AllHold, action_wants}
 use Rattle.memory_laws.specs.Laws.{IsInUse}
 use Rattle.memory_laws.proofs.Claims.{safe_of}
 use Rattle.memory_laws.proofs.Under.{main_here, main_other, prev_here, prev_other, freed_here, freed_other, fresh_slot, taken_all, none_taken}
 use Rattle.memory_laws.proofs.Guards.{Safe}
-use Rattle.memory_laws.proofs.Effects.{Effect, Keeps, Makes, Publishes, Restores, Decides, Frees, SameSlot, same_slot, slots_joined, apart, main_is}
+use Rattle.memory_laws.proofs.Effects.{SameSlot, same_slot, slots_joined, apart, main_is}
 use Rattle.memory_laws.proofs.Next.{made_node}
 use Rattle.memory_laws.proofs.Safety.{IsSafe, used_of, births_grow, stands_in_use}
-use Rattle.memory_laws.proofs.Invariant.{of_actor, step_claims, step_effect, made_heap}
+use Rattle.memory_laws.proofs.Invariant.{of_actor, step_claims, step_effect}
 use Rattle.memory_laws.proofs.AtEachTime.{safe_at}
 
 -- the operation of this actor takes a step that does this
@@ -207,7 +206,7 @@ standing_move state I s o after (Goes {actor} {operation} d is a g) =
 standing_move state I s o after (Ends d is a) = inl (keeps (λ r. refl))
 standing_move state I s o after (Sweeps spent) =
     inr (sweep_goes state I (map pin_of state.actors) (ripe state.epoch state.limbo)
-      (λ q due. stands_in_use state.heap q (omega (arith, I.small, I.sound.heap.size)) (ripe_in_use (InUse state.heap) state.epoch state.limbo (I.sound.limbo) q due)))
+    (λ q due. stands_in_use state.heap q (omega (arith, I.small, I.sound.heap.size)) (ripe_in_use (InUse state.heap) state.epoch state.limbo (I.sound.limbo) q due)))
 
 -- what stood stands after a move, with its node but for the main word
 pub moved_stays : (state : State) (f g : Ref → Option Slot) → WordMove state f g → (r : Ref) (was : Slot) → f r ≡ Some was → (now : Slot) × (g r ≡ Some now) × SameSlot was now
@@ -221,7 +220,7 @@ moved_stays state f g (publishes actor operation i replaced fresh at_i at_fresh 
   | inr other ↦ elim (cases_eq r fresh) [
     | inl s ↦ (prev_changed (prev.Pending replaced) was, ap g s ∙ g_fresh ∙ ap (λ x. Some (prev_changed (prev.Pending replaced) x)) (same_Some _ _ (sym f_fresh ∙ ap f (sym s) ∙ h)), same_slot was)
     | inr another ↦ (was, others r other another ∙ h, same_slot was)
-    ]
+  ]
 ]
 moved_stays state f g (restores actor operation i main previous at_i takes f_i m g_i others) r was h = elim (cases_eq r i) [
   | inl s ↦ (main_changed previous was, ap g s ∙ g_i ∙ ap (λ x. Some (main_changed previous x)) (same_Some _ _ (sym f_i ∙ ap f (sym s) ∙ h)), ((previous, refl), refl))
@@ -305,7 +304,7 @@ module _ (limits : Limits) (states : ℕ → State) (last : ℕ) (run : IsRun li
   grown_stays t (suc u) below within r was e = elim (cases_eq t (suc u)) [
     | inl same ↦ (was, subst (λ x. grown states x r ≡ Some was) same e, same_slot was)
     | inr other ↦
-      let (between, found, kept) = grown_stays t u (omega arith) (omega arith) r was e in
-      let (now, found_now, kept_now) = moved_stays (states u) (grown states u) (grown states (suc u)) (word_move u within) r between found in
-      (now, found_now, slots_joined was between now kept kept_now)
+        let (between, found, kept) = grown_stays t u (omega arith) (omega arith) r was e in
+        let (now, found_now, kept_now) = moved_stays (states u) (grown states u) (grown states (suc u)) (word_move u within) r between found in
+        (now, found_now, slots_joined was between now kept kept_now)
   ]

@@ -17,7 +17,7 @@ use Rattle.machine_model.specs.States.{State, root_at, with_word, with_root, rew
 use Rattle.machine_model.specs.Acting.{acted, opened, opened_root, carried_out, new_root_taken, if_changed}
 use Rattle.machine_model.specs.Machine.{handle_closed}
 use Rattle.machine_model.proofs.Found.{found_elsewhere, found_here}
-use Rattle.memory_laws.specs.Wants.{AnIndirection, Is, Each, Holds, is, AllHold, offer_wants, word_wants, action_wants}
+use Rattle.memory_laws.specs.Wants.{AnIndirection, Each, Holds, AllHold, word_wants, action_wants}
 use Rattle.memory_laws.proofs.Claims.{Meets, from_meets, all_of}
 
 rewritten_word : (word : RootWord) (o : Option Root) (root : Root) → rewritten word o ≡ Some root → word ≡ root.word

@@ -1,13 +1,12 @@
 -- A slot of limbo has been referred to by nothing since a state of its epoch; so what is freed is zero for two epochs.
-use Rattle.std.proofs.Common.{◌≡◌, ℕ, ◌+◌, ◌≤◌, ◌&&◌, Bool, true, false, nat_le, cond, List, [], ◌∷◌, ◌++◌, map, filter, length, get_or, All, Contains, Option, Some, None, Ok, Err, refl, sym, ap, ◌∙◌, subst, ◌⊎◌, inl, inr, append_assoc, append-nil, leb-true, arith}
+use Rattle.std.proofs.Common.{◌≡◌, ℕ, ◌+◌, ◌≤◌, Bool, nat_le, List, [], ◌∷◌, ◌++◌, map, filter, All, Option, Some, None, Ok, Err, refl, sym, ap, ◌∙◌, subst, ◌⊎◌, inl, inr, append_assoc, append-nil, leb-true, arith}
 use Rattle.std.proofs.lemmas.Bool.{cases_eq}
 use Rattle.std.proofs.lemmas.Option.{none-some, same_Some, cond_some}
 use Rattle.std.proofs.lemmas.List.{same_from_push}
 use Rattle.std.proofs.lemmas.List.Elements.{All-nil, All-head, All-append, All-filter, All-map, All-weaker}
-use Rattle.ctrie_base.specs.declared.refusals.Refusal.{Refusal}
 use Rattle.slot_arena.specs.declared.refs.Ref.{Ref}
 use Rattle.epochs.specs.declared.limbo.Zeroed.{Zeroed}
-use Rattle.epochs.specs.Limbo.{is_zero, is_in_use, newly_zero, limbo_after}
+use Rattle.epochs.specs.Limbo.{limbo_after}
 use Rattle.epochs.specs.Sweeping.{ripe}
 use Rattle.machine_model.specs.declared.steps.Limits.{Limits}
 use Rattle.machine_model.specs.declared.steps.Outcome.{Outcome}
@@ -18,7 +17,6 @@ use Rattle.machine_model.specs.Counting.{outside}
 use Rattle.machine_model.specs.Machine.{Answer, AreLimits, run, run_from, next, next_state, state_after}
 use Rattle.machine_model.proofs.Along.{along, by_last, run_push}
 use Rattle.machine_model.proofs.Moves.{Moves, MovesIfTaken, moves}
-use Rattle.machine_model.proofs.Grown.{standing}
 use Rattle.memory_laws.specs.Laws.{IsInUse, IsZero}
 use Rattle.memory_laws.proofs.Effects.{stays}
 use Rattle.memory_laws.proofs.Safety.{IsSafe}
@@ -56,11 +54,16 @@ beginning since a b s e = elim (ends_so b) [
 module _ (limits : Limits) (steps : List Step) (s : Step) where
   -- it goes on being so
   still_since : (z : Zeroed) → ZeroSince limits steps z → IsZero (run limits (steps ++ s ∷ [])) z.at → ZeroSince limits (steps ++ s ∷ []) z
-  still_since z (before, since, e, epoch, zeros) now =
-      (before, since ++ s ∷ [], ap (λ l. l ++ s ∷ []) e ∙ append_assoc before since (s ∷ []), epoch, λ a b parts. elim (beginning since a b s parts) [
-        | inl all ↦ subst (λ l. IsZero (run limits l) z.at) (ap (λ l. l ++ s ∷ []) e ∙ append_assoc before since (s ∷ []) ∙ ap (λ l. before ++ l) (sym all)) now
-        | inr some ↦ zeros a some.0 some.1
-      ])
+  still_since z (before, since, e, epoch, zeros) now = (
+    before,
+    since ++ s ∷ [],
+    ap (λ l. l ++ s ∷ []) e ∙ append_assoc before since (s ∷ []),
+    epoch,
+    λ a b parts. elim (beginning since a b s parts) [
+      | inl all ↦ subst (λ l. IsZero (run limits l) z.at) (ap (λ l. l ++ s ∷ []) e ∙ append_assoc before since (s ∷ []) ∙ ap (λ l. before ++ l) (sym all)) now
+      | inr some ↦ zeros a some.0 some.1
+    ],
+  )
 
   -- it becomes so
   since_now : (z : Zeroed) → (run limits (steps ++ s ∷ [])).epoch ≡ z.epoch → IsZero (run limits (steps ++ s ∷ [])) z.at → ZeroSince limits (steps ++ s ∷ []) z
@@ -159,13 +162,14 @@ only_sweep state step.Sweep r e = refl
 pub freed_late : (limits : Limits) → AreLimits limits → (steps : List Step) (s : Step) (r : Ref) → IsInUse (run limits steps).heap r → (IsInUse (next_state (run limits steps) s).heap r → ⊥) →
     (s ≡ step.Sweep)
     × ((before since : List Step) × (steps ≡ before ++ since) × ((run limits before).epoch + 2 ≤ (run limits steps).epoch)
-      × ((a b : List Step) → since ≡ a ++ b → IsZero (run limits (before ++ a)) r))
+    × ((a b : List Step) → since ≡ a ++ b → IsZero (run limits (before ++ a)) r))
 freed_late limits ok steps s r used gone =
     let due = goes_by (run limits steps) (safe_along limits ok steps) s (next (run limits steps) s) (moves (run limits steps) s) r used gone in
     let (z, at, old, zero_since) = ripe_first (run limits steps).limbo (run limits steps).epoch (ZeroSince limits steps) r (all_since limits ok steps) (due_ripe (run limits steps) s r due) in
-    let (before, since, e, epoch, zeros) = zero_since in
-    (only_sweep (run limits steps) s r due,
-    (before, since, e, two_later (run limits before).epoch z.epoch (run limits steps).epoch epoch old, λ a b parts. subst (IsZero (run limits (before ++ a))) at (zeros a b parts)))
+    let (before, since, e, epoch, zeros) = zero_since in (
+      only_sweep (run limits steps) s r due,
+      (before, since, e, two_later (run limits before).epoch z.epoch (run limits steps).epoch epoch old, λ a b parts. subst (IsZero (run limits (before ++ a))) at (zeros a b parts)),
+    )
   where
     two_later : (x y now : ℕ) → x ≡ y → y + 2 ≤ now → x + 2 ≤ now
     two_later x y now e h = omega arith

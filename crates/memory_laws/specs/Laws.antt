@@ -1,5 +1,5 @@
 -- Laws of memory, for every list of steps.
-use Rattle.std.specs.Prelude.{◌≡◌, ℕ, ◌+◌, ◌≤◌, ◌||◌, Bool, true, false, is_some, List, [], ◌∷◌, ◌++◌, map, All, Contains, Some, None}
+use Rattle.std.specs.Prelude.{◌≡◌, ℕ, ◌+◌, ◌≤◌, ◌||◌, Bool, true, false, is_some, List, [], ◌∷◌, ◌++◌, map, All, Contains, Some}
 use Rattle.slot_arena.specs.declared.refs.Ref.{Ref}
 use Rattle.slot_arena.specs.declared.nodes.Node.{Node}
 use Rattle.slot_arena.specs.declared.nodes.Slot.{Slot}
@@ -74,7 +74,7 @@ abbrev pub NodesFind : Type 0
 NodesFind =
     (limits : Limits) (steps : List Step) → AreLimits limits →
     ((r : Ref) (slot : Slot) → standing (run limits steps).heap r ≡ Some slot →
-      AllHold (IsInUse (run limits steps).heap) (run limits steps).heap (node_wants slot.node ++ prev_wants slot.prev) × (is_formed slot.node ≡ true))
+    AllHold (IsInUse (run limits steps).heap) (run limits steps).heap (node_wants slot.node ++ prev_wants slot.prev) × (is_formed slot.node ≡ true))
     × ((handle : ℕ) (root : Root) → root_at (run limits steps) handle ≡ Some root → AllHold (IsInUse (run limits steps).heap) (run limits steps).heap (word_wants root.word))
 
 -- the line is the end of an operation
@@ -127,7 +127,7 @@ FreedLate =
     (limits : Limits) (steps : List Step) (s : Step) (r : Ref) → AreLimits limits → IsInUse (run limits steps).heap r → ¬ IsInUse (next_state (run limits steps) s).heap r →
     (s ≡ Sweep)
     × ((before since : List Step) × (steps ≡ before ++ since) × ((run limits before).epoch + 2 ≤ (run limits steps).epoch)
-      × ((a b : List Step) → since ≡ a ++ b → IsZero (run limits (before ++ a)) r))
+    × ((a b : List Step) → since ≡ a ++ b → IsZero (run limits (before ++ a)) r))
 
 -- ---- the sweep
 
@@ -136,7 +136,7 @@ abbrev pub SweepLeaves : Type 0
 SweepLeaves =
     (limits : Limits) (steps : List Step) → AreLimits limits →
     ((handle : ℕ) (root : Root) → root_at (run limits steps) handle ≡ Some root →
-      (root_at (next_state (run limits steps) Sweep) handle ≡ Some root) × (content_at (next_state (run limits steps) Sweep) handle ≡ content_at (run limits steps) handle))
+    (root_at (next_state (run limits steps) Sweep) handle ≡ Some root) × (content_at (next_state (run limits steps) Sweep) handle ≡ content_at (run limits steps) handle))
     × ((next_state (run limits steps) Sweep).events ≡ (run limits steps).events)
     × (order_of (next_state (run limits steps) Sweep) ≡ order_of (run limits steps))
 

@@ -16,6 +16,7 @@ returns-clause-nodes c limits steps ok = let I = safe_along limits ok steps in (
 
 pub returns-clause-roots : goal.returns-clause-roots
 returns-clause-roots c limits steps actor operation ok e =
-    let I = safe_along limits ok steps in
-    ((of_actor (run limits steps) (λ k operation. HasHandle (run limits steps) operation) (I.handles) actor operation e).1,
-    (of_actor (run limits steps) (λ k operation. KnowsRoot operation) (I.known) actor operation e).1)
+    let I = safe_along limits ok steps in (
+      (of_actor (run limits steps) (λ k operation. HasHandle (run limits steps) operation) (I.handles) actor operation e).1,
+      (of_actor (run limits steps) (λ k operation. KnowsRoot operation) (I.known) actor operation e).1,
+    )
