@@ -34,15 +34,15 @@ pub data HeapMoves (heap : Heap) (due : Option Ref) : Heap → Type 0 where
   Frees : (r : Ref) → due ≡ Some r → HeapMoves heap due (freed heap r)
 
 -- taking an offer back leaves the heap
-aborted_heap : (state : State) (handle : ℕ) (offer : Descriptor) → (aborted state handle offer).heap ≡ state.heap
+pub aborted_heap : (state : State) (handle : ℕ) (offer : Descriptor) → (aborted state handle offer).heap ≡ state.heap
 aborted_heap state handle offer = grind arith
 
 -- so does offering
-offered_heap : (state : State) (handle : ℕ) (offer : Descriptor) → (offered state handle offer).heap ≡ state.heap
+pub offered_heap : (state : State) (handle : ℕ) (offer : Descriptor) → (offered state handle offer).heap ≡ state.heap
 offered_heap state handle offer = grind arith
 
 -- and completing an offer
-completed_heap : (state : State) (handle : ℕ) (offer : Descriptor) (main : Ref) → (completed state handle offer main).heap ≡ state.heap
+pub completed_heap : (state : State) (handle : ℕ) (offer : Descriptor) (main : Ref) → (completed state handle offer main).heap ≡ state.heap
 completed_heap state handle offer main = grind arith
 
 -- swapping a main node in, by whether the replaced one still stands there
@@ -86,7 +86,7 @@ acted_heap state due handle (act.MakeRoot main) = root_taken_heap state due main
 acted_heap state due handle action = Stays
 
 -- a begin leaves the heap
-begin_heap : (state : State) (actor : ℕ) (call : Call) (operation : Operation) → (with_begin state actor call operation).heap ≡ state.heap
+pub begin_heap : (state : State) (actor : ℕ) (call : Call) (operation : Operation) → (with_begin state actor call operation).heap ≡ state.heap
 begin_heap state actor call operation = grind arith
 
 -- a sweep frees the ripe slot, if there is one

@@ -78,7 +78,7 @@ put_in_all P r [] h all = All-cons P r [] h (All-nil P)
 put_in_all P r (q ∷ qs) h all = put_in_by P r q qs h all (put_in_all P r qs h (All-tail P q qs all)) (nat_lt r q)
 
 -- what holds of each holds of each when they are sorted
-by_birth_all : (P : Ref → Type 0) (rs : List Ref) → All P rs → All P (by_birth rs)
+pub by_birth_all : (P : Ref → Type 0) (rs : List Ref) → All P rs → All P (by_birth rs)
 by_birth_all P [] all = all
 by_birth_all P (r ∷ rs) all = put_in_all P r (by_birth rs) (All-head P r rs all) (by_birth_all P rs (All-tail P r rs all))
 

@@ -66,7 +66,7 @@ take_from_kept slots heap node (slot ∷ free) e h = record {
 }
 
 -- taking a slot
-taken_kept : (slots : ℕ) (heap : Heap) (node : Node) → AddsUp slots heap → AddsUp slots (taken heap node)
+pub taken_kept : (slots : ℕ) (heap : Heap) (node : Node) → AddsUp slots heap → AddsUp slots (taken heap node)
 unfolding taken
 taken_kept slots heap node h = take_from_kept slots heap node heap.free refl h
 
@@ -103,7 +103,7 @@ ripe_by P true q r h e = subst P (same_Some _ _ e) h
 ripe_by P false q r h e = absurd (none-some r e)
 
 -- what holds of each slot of limbo holds of the ripe one
-ripe_in_use : (P : Ref → Type 0) (epoch : ℕ) (limbo : List Zeroed) → All (λ z. P z.at) limbo → (r : Ref) → ripe epoch limbo ≡ Some r → P r
+pub ripe_in_use : (P : Ref → Type 0) (epoch : ℕ) (limbo : List Zeroed) → All (λ z. P z.at) limbo → (r : Ref) → ripe epoch limbo ≡ Some r → P r
 ripe_in_use P epoch [] all r e = absurd (none-some r e)
 ripe_in_use P epoch (z ∷ limbo) all r e = ripe_by P (nat_le (z.epoch + 2) epoch) z.at r (All-head (λ x. P x.at) z limbo all) e
 
@@ -115,7 +115,7 @@ settled_limbo state s o after (Ends d is a) = limbo_in_use _ _ _ _
 settled_limbo state s o after (Sweeps spent) = limbo_in_use _ _ _ _
 
 -- each step keeps that
-sound_after : (slots : ℕ) → slots ≤ 2 ^ 16 → (state : State) (s : Step) → IsSound slots state → (o : Outcome) (after : State) → Moves state s o after → IsSound slots after
+pub sound_after : (slots : ℕ) → slots ≤ 2 ^ 16 → (state : State) (s : Step) → IsSound slots state → (o : Outcome) (after : State) → Moves state s o after → IsSound slots after
 sound_after slots small state s h o after m = record {
   heap = moves_kept slots state.heap after.heap (ripe state.epoch state.limbo) small (ripe_in_use (InUse state.heap) state.epoch state.limbo (h.limbo))
       (heap_moves state s o after m) (h.heap);
@@ -127,14 +127,18 @@ none_used_at_first : (n : ℕ) → map (is_some {T = Slot}) (replicate n None) �
 none_used_at_first zero = refl
 none_used_at_first (suc n) = ap (λ l. false ∷ l) (none_used_at_first n)
 
+-- the empty heap adds up
+pub empty_adds_up : (slots : ℕ) → AddsUp slots (empty_heap slots)
+empty_adds_up slots = record {
+  size = length-replicate slots None;
+  rest = rw none_used_at_first (all_free slots);
+}
+
 -- the first state is sound
-sound_at_first : (limits : Limits) → IsSound limits.slots (first_state limits)
+pub sound_at_first : (limits : Limits) → IsSound limits.slots (first_state limits)
 unfolding first_state
 sound_at_first limits = record {
-  heap = taken_kept limits.slots _ _ (taken_kept limits.slots (empty_heap limits.slots) _ (record {
-    size = length-replicate limits.slots None;
-    rest = rw none_used_at_first (all_free limits.slots);
-  }));
+  heap = taken_kept limits.slots _ _ (taken_kept limits.slots (empty_heap limits.slots) _ (empty_adds_up limits.slots));
   limbo = All-nil _;
 }
 

@@ -1,0 +1,9 @@
+//! What the machine's memory is like in every reachable state: laws of the definition in `machine_model`.
+#![tactic(auto)]
+
+mod laws;
+
+pub use laws::{
+    births_never_repeat, each_lookup_finds, freed_when_zero_for_two_epochs, limbo_is_right,
+    reclaimed, references_in_use, sweep_leaves,
+};
