@@ -1,0 +1,3 @@
+pub mod Words
+pub mod Stood
+pub mod Effects
