@@ -49,58 +49,57 @@ link_later w t (Failed m p e) q h = e.makes.link q ∙ h
 
 -- ---- what stands in a word afterwards
 
--- the same, by what the step wrote; or what it wrote there
-pub data Comes (w : Words) (t : ℕ) (q m : Ref) : Type 0 where
-  Stayed : Stood w t q m → Comes w t q m
-  Settled : IsSettled w t m → w.prev (suc t) m ≡ over.None → Comes w t q m
-  Swapped : {a : Ref} → w.link t q ≡ true → SwapsIn w t q a m → Private w t m → Comes w t q m
+-- the step brings this node into this word: where it makes an indirection or swaps a node in
+abbrev pub Brings : (w : Words) (t : ℕ) → Effect w t → Ref → Ref → Type 0
+Brings w t (Made n e s) q m = (n ≡ q) × (w.link (suc t) n ≡ true) × (w.main (suc t) n ≡ m)
+Brings w t (SwappedIn i a f l e p d) q m = (i ≡ q) × (f ≡ m)
+Brings w t e q m = ⊥
 
--- what stands now stands where no word changes
-as_before : (w : Words) (t : ℕ) (q m : Ref) → w.main (suc t) q ≡ w.main t q → w.link (suc t) q ≡ w.link t q → w.link (suc t) q ≡ true → w.main (suc t) q ≡ m → Comes w t q m
-as_before w t q m keeps keeps_link l e = Stayed (stands_now (sym keeps_link ∙ l) (sym keeps ∙ e))
+-- what stands now stood before where no word changes
+as_before : (w : Words) (t : ℕ) (q m : Ref) → w.main (suc t) q ≡ w.main t q → w.link (suc t) q ≡ w.link t q → w.link (suc t) q ≡ true →
+    w.main (suc t) q ≡ m → Stood w t q m
+as_before w t q m keeps keeps_link l e = stands_now (sym keeps_link ∙ l) (sym keeps ∙ e)
 
-comes_made : (w : Words) (t : ℕ) (n : Ref) → Makes w t n → (w.link (suc t) n ≡ true → IsSettled w t (w.main (suc t) n)) → (q m : Ref) →
-    (q ≡ n) ⊎ (q ≡ n → ⊥) → w.link (suc t) q ≡ true → w.main (suc t) q ≡ m → Comes w t q m
-comes_made w t n e s q m (inl same) l h =
-    let settled = subst (λ x. IsSettled w t x) (ap (w.main (suc t)) (sym same) ∙ h) (s (subst (λ x. w.link (suc t) x ≡ true) same l)) in
-    Settled settled (e.prev m ∙ settled.none)
-comes_made w t n e s q m (inr apart) l h = as_before w t q m (e.main q apart) (e.link q apart) l h
+made_now : (w : Words) (t : ℕ) (n : Ref) (e : Makes w t n) (s : w.link (suc t) n ≡ true → IsSettled w t (w.main (suc t) n)) (q m : Ref) →
+    (q ≡ n) ⊎ (q ≡ n → ⊥) → w.link (suc t) q ≡ true → w.main (suc t) q ≡ m → Stood w t q m ⊎ Brings w t (Made n e s) q m
+made_now w t n e s q m (inl same) l h = inr (sym same, subst (λ x. w.link (suc t) x ≡ true) same l, ap (w.main (suc t)) (sym same) ∙ h)
+made_now w t n e s q m (inr apart) l h = inl (as_before w t q m (e.main q apart) (e.link q apart) l h)
 
-comes_swapped : (w : Words) (t : ℕ) (i a f : Ref) → w.link t i ≡ true → SwapsIn w t i a f → Private w t f → (q m : Ref) → (q ≡ i) ⊎ (q ≡ i → ⊥) →
-    w.link (suc t) q ≡ true → w.main (suc t) q ≡ m → Comes w t q m
-comes_swapped w t i a f is_link e p q m (inl same) l h =
-    let is_fresh : m ≡ f = sym h ∙ ap (w.main (suc t)) same ∙ e.main.here in
-    subst (λ x. Comes w t x m) (sym same) (subst (λ x. Comes w t i x) (sym is_fresh) (Swapped is_link e p))
-comes_swapped w t i a f is_link e p q m (inr apart) l h = as_before w t q m (e.main.elsewhere q apart) (e.makes.link q) l h
+swapped_now : (w : Words) (t : ℕ) (i a f : Ref) → SwapsIn w t i a f → (q m : Ref) → (q ≡ i) ⊎ (q ≡ i → ⊥) → w.link (suc t) q ≡ true →
+    w.main (suc t) q ≡ m → Stood w t q m ⊎ ((i ≡ q) × (f ≡ m))
+swapped_now w t i a f e q m (inl same) l h = inr (sym same, sym e.main.here ∙ ap (w.main (suc t)) (sym same) ∙ h)
+swapped_now w t i a f e q m (inr apart) l h = inl (as_before w t q m (e.main.elsewhere q apart) (e.makes.link q) l h)
 
-comes_put_back : (w : Words) (t : ℕ) (i x p : Ref) → PutsBack w t i x p → IsSettled w t p → (q m : Ref) → (q ≡ i) ⊎ (q ≡ i → ⊥) →
-    w.link (suc t) q ≡ true → w.main (suc t) q ≡ m → Comes w t q m
-comes_put_back w t i x p e s q m (inl same) l h =
+put_back_now : (w : Words) (t : ℕ) (i x p : Ref) → PutsBack w t i x p → Stood w t i p → (q m : Ref) → (q ≡ i) ⊎ (q ≡ i → ⊥) →
+    w.link (suc t) q ≡ true → w.main (suc t) q ≡ m → Stood w t q m
+put_back_now w t i x p e s q m (inl same) l h =
     let is_put : p ≡ m = sym e.main.here ∙ ap (w.main (suc t)) (sym same) ∙ h in
-    let settled = subst (λ y. IsSettled w t y) is_put s in
-    Settled settled (e.prev m ∙ settled.none)
-comes_put_back w t i x p e s q m (inr apart) l h = as_before w t q m (e.main.elsewhere q apart) (e.makes.link q) l h
+    subst (λ y. Stood w t y m) (sym same) (subst (λ y. Stood w t i y) is_put s)
+put_back_now w t i x p e s q m (inr apart) l h = as_before w t q m (e.main.elsewhere q apart) (e.makes.link q) l h
 
--- what a failed node stands over is settled
-settled_below : (w : Words) (t : ℕ) → AreSound w t → (m p : Ref) → IsOver (w.prev t m) p → IsSettled w t p
-settled_below w t h m p o = let below = h.over m p o in record { made = h.made below.link p below.before; none = below.none }
+-- what a failed node stands over stood in the very word of that node
+pub stood_below : (w : Words) (t : ℕ) → AreSound w t → (i m p : Ref) → w.prev t m ≡ over.Failed p → Stood w t i m → Stood w t i p
+stood_below w t h i m p failed s =
+    let below = h.over m p (over_failed failed) in
+    subst (λ j. Stood w t j p) (h.one_word m below.link i (λ none. none≢failed none failed) below.stood s) below.before
 
-comes_now : (w : Words) (t : ℕ) → AreSound w t → Effect w t → (q m : Ref) → w.link (suc t) q ≡ true → w.main (suc t) q ≡ m → Comes w t q m
-comes_now w t h (Nothing e) q m l s = as_before w t q m (e.main q) (e.makes.link q) l s
-comes_now w t h (Made n e settled) q m l s = comes_made w t n e settled q m (cases_eq q n) l s
-comes_now w t h (SwappedIn i a f is_link e p d) q m l s = comes_swapped w t i a f is_link e p q m (cases_eq q i) l s
+comes_now : (w : Words) (t : ℕ) → AreSound w t → (e : Effect w t) (q m : Ref) → w.link (suc t) q ≡ true → w.main (suc t) q ≡ m →
+    Stood w t q m ⊎ Brings w t e q m
+comes_now w t h (Nothing e) q m l s = inl (as_before w t q m (e.main q) (e.makes.link q) l s)
+comes_now w t h (Made n e settled) q m l s = made_now w t n e settled q m (cases_eq q n) l s
+comes_now w t h (SwappedIn i a f is_link e p d) q m l s = swapped_now w t i a f e q m (cases_eq q i) l s
 comes_now w t h (PutBack i x p is_link e failed st) q m l s =
-    comes_put_back w t i x p e (settled_below w t h x p (over_failed failed)) q m (cases_eq q i) l s
-comes_now w t h (Committed x p e) q m l s = as_before w t q m (e.main q) (e.makes.link q) l s
-comes_now w t h (Failed x p e) q m l s = as_before w t q m (e.main q) (e.makes.link q) l s
+    inl (put_back_now w t i x p e (stood_below w t h i x p failed st) q m (cases_eq q i) l s)
+comes_now w t h (Committed x p e) q m l s = inl (as_before w t q m (e.main q) (e.makes.link q) l s)
+comes_now w t h (Failed x p e) q m l s = inl (as_before w t q m (e.main q) (e.makes.link q) l s)
 
-comes_by : (w : Words) (t : ℕ) → AreSound w t → Effect w t → (q m : Ref) → Stood w t q m ⊎ ((w.link (suc t) q ≡ true) × (w.main (suc t) q ≡ m)) →
-    Comes w t q m
-comes_by w t h e q m (inl s) = Stayed s
+comes_by : (w : Words) (t : ℕ) → AreSound w t → (e : Effect w t) (q m : Ref) → Stood w t q m ⊎ ((w.link (suc t) q ≡ true) × (w.main (suc t) q ≡ m)) →
+    Stood w t q m ⊎ Brings w t e q m
+comes_by w t h e q m (inl s) = inl s
 comes_by w t h e q m (inr now) = comes_now w t h e q m now.0 now.1
 
--- how what stood by the next time came there
-pub comes : (w : Words) (t : ℕ) → AreSound w t → Effect w t → (q m : Ref) → Stood w (suc t) q m → Comes w t q m
+-- what stood in a word by the next time stood there before, or is brought there
+pub comes : (w : Words) (t : ℕ) → AreSound w t → (e : Effect w t) (q m : Ref) → Stood w (suc t) q m → Stood w t q m ⊎ Brings w t e q m
 comes w t h e q m s = comes_by w t h e q m (stood_cases w t q m s)
 
 -- ---- prev words afterwards
@@ -173,24 +172,35 @@ goes_on w t e m p h = goes_by w t m p h (becomes w t e m)
 
 -- ---- what is known of words stays known
 
-made_by : (w : Words) (t : ℕ) → AreSound w t → Effect w t → (i m : Ref) → Comes w t i m → w.made (suc t) m ≡ true
-made_by w t h e i m (Stayed s) = made_later w t e m (h.made i m s)
-made_by w t h e i m (Settled s n) = made_later w t e m s.made
-made_by w t h e i m (Swapped l x p) = made_later w t e m p.made
+made_by : (w : Words) (t : ℕ) → AreSound w t → (e : Effect w t) (i m : Ref) → Stood w t i m ⊎ Brings w t e i m → w.made (suc t) m ≡ true
+made_by w t h e i m (inl s) = made_later w t e m (h.made i m s)
+made_by w t h (Made n e s) i m (inr (same, l, is)) = made_later w t (Made n e s) m (subst (λ x. w.made t x ≡ true) is (s l).made)
+made_by w t h (SwappedIn j a f l e p d) i m (inr (same, is)) = made_later w t (SwappedIn j a f l e p d) m (subst (λ x. w.made t x ≡ true) is p.made)
+made_by w t h e i m (inr wrong) = absurd wrong
 
--- no node is swapped into two words at once
-same_swap : (w : Words) (t : ℕ) (i j a b m : Ref) → w.link t i ≡ true → SwapsIn w t i a m → SwapsIn w t j b m → Private w t m → (i ≡ j) ⊎ (i ≡ j → ⊥) → i ≡ j
-same_swap w t i j a b m l x y p (inl same) = same
-same_swap w t i j a b m l x y p (inr apart) = absurd (p.apart i (stands_now l (sym (y.main.elsewhere i apart) ∙ x.main.here)))
+link_by : (w : Words) (t : ℕ) → AreSound w t → (e : Effect w t) (i m : Ref) → Stood w t i m ⊎ Brings w t e i m → w.link (suc t) i ≡ true
+link_by w t h e i m (inl s) = link_later w t e i (h.link i m s)
+link_by w t h (Made n e s) i m (inr (same, l, is)) = subst (λ x. w.link (suc t) x ≡ true) same l
+link_by w t h (SwappedIn j a f l e p d) i m (inr (same, is)) = subst (λ x. w.link (suc t) x ≡ true) same (link_later w t (SwappedIn j a f l e p d) j l)
+link_by w t h e i m (inr wrong) = absurd wrong
 
-one_word_by : (w : Words) (t : ℕ) → AreSound w t → Effect w t → (m i j : Ref) → (w.prev (suc t) m ≡ over.None → ⊥) → Comes w t i m → Comes w t j m → i ≡ j
-one_word_by w t h e m i j n (Stayed s) (Stayed r) = h.one_word m i j (λ none. n (none_later w t e i m s none)) s r
-one_word_by w t h e m i j n (Stayed s) (Settled r none) = absurd (n none)
-one_word_by w t h e m i j n (Stayed s) (Swapped l x p) = absurd (p.apart i s)
-one_word_by w t h e m i j n (Settled s none) r = absurd (n none)
-one_word_by w t h e m i j n (Swapped l x p) (Stayed r) = absurd (p.apart j r)
-one_word_by w t h e m i j n (Swapped l x p) (Settled r none) = absurd (n none)
-one_word_by w t h e m i j n (Swapped l x p) (Swapped k y q) = same_swap w t i j _ _ m l x y p (cases_eq i j)
+-- what isn't decided afterwards and is brought into a word is the node that is swapped in: it stood nowhere before
+brought_fresh : (w : Words) (t : ℕ) (e : Effect w t) (i m : Ref) → (w.prev (suc t) m ≡ over.None → ⊥) → Brings w t e i m → (j : Ref) → Stood w t j m → ⊥
+brought_fresh w t (Made n e s) i m none (same, l, is) j st = none (e.prev m ∙ subst (λ x. w.prev t x ≡ over.None) is (s l).none)
+brought_fresh w t (SwappedIn q a f l e p d) i m none (same, is) j st = p.apart j (subst (λ x. Stood w t j x) (sym is) st)
+brought_fresh w t e i m none wrong j st = wrong
+
+brought_once : (w : Words) (t : ℕ) (e : Effect w t) (i j m : Ref) → (w.prev (suc t) m ≡ over.None → ⊥) → Brings w t e i m → Brings w t e j m → i ≡ j
+brought_once w t (Made n e s) i j m none (same, l, is) (same', l', is') = sym same ∙ same'
+brought_once w t (SwappedIn q a f l e p d) i j m none (same, is) (same', is') = sym same ∙ same'
+brought_once w t e i j m none wrong other = absurd wrong
+
+one_word_by : (w : Words) (t : ℕ) → AreSound w t → (e : Effect w t) (m i j : Ref) → (w.prev (suc t) m ≡ over.None → ⊥) →
+    Stood w t i m ⊎ Brings w t e i m → Stood w t j m ⊎ Brings w t e j m → i ≡ j
+one_word_by w t h e m i j n (inl s) (inl r) = h.one_word m i j (λ none. n (none_later w t e i m s none)) s r
+one_word_by w t h e m i j n (inl s) (inr r) = absurd (brought_fresh w t e j m n r i s)
+one_word_by w t h e m i j n (inr s) (inl r) = absurd (brought_fresh w t e i m n s j r)
+one_word_by w t h e m i j n (inr s) (inr r) = brought_once w t e i j m n s r
 
 -- the same nodes stand over each other
 over_still : (w : Words) (t : ℕ) → Effect w t → (m p : Ref) → StandsOver w t m p → StandsOver w (suc t) m p
@@ -212,6 +222,7 @@ over_by w t h e m p o (IsFailed q x) =
 pub sound_later : (w : Words) (t : ℕ) → AreSound w t → Effect w t → AreSound w (suc t)
 sound_later w t h e = record {
   made = λ i m s. made_by w t h e i m (comes w t h e i m s);
+  link = λ i m s. link_by w t h e i m (comes w t h e i m s);
   one_word = λ m i j n s r. one_word_by w t h e m i j n (comes w t h e i m s) (comes w t h e j m r);
   over = λ m p o. over_by w t h e m p o (becomes w t e m);
 }

@@ -1,3 +1,5 @@
 pub mod Words
 pub mod Stood
 pub mod Effects
+pub mod Owners
+pub mod Sounds

@@ -41,6 +41,7 @@ pub record StandsOver (w : Words) (t : ℕ) (m p : Ref) : Type 0 where
 -- stood there too
 pub record AreSound (w : Words) (t : ℕ) : Type 0 where
   pub made : (i m : Ref) → Stood w t i m → w.made t m ≡ true
+  pub link : (i m : Ref) → Stood w t i m → w.link t i ≡ true
   pub one_word : (m i j : Ref) → (w.prev t m ≡ over.None → ⊥) → Stood w t i m → Stood w t j m → i ≡ j
   pub over : (m p : Ref) → IsOver (w.prev t m) p → StandsOver w t m p
 
