@@ -3,3 +3,4 @@ pub mod Stood
 pub mod Effects
 pub mod Owners
 pub mod Sounds
+pub mod Finals

@@ -239,12 +239,13 @@ passed w t h e same = record {
     still_private f p = private_later w t 0 h Rests Rests tt (Idles e tt tt) f (λ x. x) p
 
 pub effect_at : (w : Words) (t : ℕ) → IsSound w t → Turn w t → Effect w t
-effect_at w t h (Acts k m others) = effect_of w t k h (w.stage t k) (w.stage (suc t) k) (h.staged k) m
+effect_at w t h (Acts k m counts others) = effect_of w t k h (w.stage t k) (w.stage (suc t) k) (h.staged k) m
 effect_at w t h (Passes e same) = Nothing e
 
 sound_after : (w : Words) (t : ℕ) → IsSound w t → Turn w t → IsSound w (suc t)
-sound_after w t h (Passes e same) = passed w t h e same
-sound_after w t h (Acts k m others) =
+sound_after w t h (Passes e same) = passed w t h e (λ j. (same j).stage)
+sound_after w t h (Acts k m counts same) =
+    let others = λ (j : ℕ) (other : j ≡ k → ⊥). (same j other).stage in
     let e : Effect w t = effect_of w t k h (w.stage t k) (w.stage (suc t) k) (h.staged k) m in
     record {
       words = sound_later w t h.words e;

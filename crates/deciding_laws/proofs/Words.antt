@@ -42,6 +42,8 @@ pub record Words : Type 0 where
   pub closing : ℕ → Option ℕ
   -- what an actor is about
   pub stage : ℕ → ℕ → Stage
+  -- the step of the last read or swap of a main word by a READ of this actor's
+  pub from : ℕ → ℕ → ℕ
 
 -- the logical main node of an indirection
 abbrev pub main_at : Words → ℕ → Ref → Ref
@@ -191,10 +193,26 @@ pub data Moves (w : Words) (t k : ℕ) : Stage → Stage → Type 0 where
   ReadsOn : {i : Ref} {l : ReadLine} {out : After ReadLine Ref} → ReadTurn w t i l out → Moves w t k (Reads i l) (after_read i out)
   DecidesOn : {i a f : Ref} {l : ReadLine} {out : After ReadLine Ref} → ReadTurn w t i l out → Moves w t k (Decides i a f l) (after_deciding i a f out)
 
+-- a READ counts from its last read of the main word, or its last swap of it
+abbrev pub counts_at : ReadLine → ℕ → ℕ → ℕ
+counts_at read.Main t before = t
+counts_at (read.Restore m p) t before = t
+counts_at l t before = before
+
+-- whence a READ of the acting one counts
+abbrev pub Counts : Words → ℕ → ℕ → Stage → Type 0
+Counts w t k (Reads i l) = w.from (suc t) k ≡ counts_at l t (w.from t k)
+Counts w t k s = Unit {0}
+
+-- an actor is about the same
+pub record IsSame (w : Words) (t : ℕ) (j : ℕ) : Type 0 where
+  pub stage : w.stage (suc t) j ≡ w.stage t j
+  pub from : w.from (suc t) j ≡ w.from t j
+
 -- a step of the run: one actor's, or nobody's
 pub data Turn (w : Words) (t : ℕ) : Type 0 where
-  Acts : (k : ℕ) → Moves w t k (w.stage t k) (w.stage (suc t) k) → ((j : ℕ) → (j ≡ k → ⊥) → w.stage (suc t) j ≡ w.stage t j) → Turn w t
-  Passes : Leaves w t → ((j : ℕ) → w.stage (suc t) j ≡ w.stage t j) → Turn w t
+  Acts : (k : ℕ) → Moves w t k (w.stage t k) (w.stage (suc t) k) → Counts w t k (w.stage t k) → ((j : ℕ) → (j ≡ k → ⊥) → IsSame w t j) → Turn w t
+  Passes : Leaves w t → ((j : ℕ) → IsSame w t j) → Turn w t
 
 -- the words of a run of so many steps
 pub record Protocol : Type 0 where
