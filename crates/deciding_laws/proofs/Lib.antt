@@ -4,3 +4,6 @@ pub mod Effects
 pub mod Owners
 pub mod Sounds
 pub mod Finals
+pub mod Mains
+pub mod Closings
+pub mod Readings
