@@ -7,3 +7,6 @@ pub mod Finals
 pub mod Mains
 pub mod Closings
 pub mod Readings
+pub mod Stages
+pub mod Known
+pub mod GrownWords
