@@ -6,7 +6,7 @@ use Rattle.slot_arena.specs.declared.refs.Ref.{Ref}
 use Rattle.slot_arena.specs.declared.nodes.Prev.{Prev}
 use Rattle.slot_arena.specs.declared.nodes.Prev.TheVariants as over
 use Rattle.deciding_laws.proofs.Words.{Words, Kept, CommitsNode, FailsNode, Protocol}
-use Rattle.deciding_laws.proofs.Stood.{Stood, Decided, AreSound, stood_later, stood_still, none≢pending, none≢failed, pending≢failed, same_pending}
+use Rattle.deciding_laws.proofs.Stood.{Stood, Decided, AreSound, stood_later, stood_still, none≢pending, none≢failed, pending≢failed, same_pending, over_pending}
 use Rattle.deciding_laws.proofs.Effects.{Effect, Nothing, Made, SwappedIn, PutBack, Committed, Failed, link_later, made_later, none_later, failed_later, GoesOn, StaysPending, GetsCommitted, GetsFailed, goes_on}
 use Rattle.deciding_laws.proofs.Owners.{IsSound, Owner}
 use Rattle.deciding_laws.proofs.Sounds.{sound_at, effect_at}
@@ -142,20 +142,20 @@ same_commit : (w : Words) (t : ℕ) (m q x r : Ref) → CommitsNode w t m q → 
 same_commit w t m q x r e c (inl same) = same
 same_commit w t m q x r e c (inr apart) = absurd (none≢pending (sym (e.prev.elsewhere x apart) ∙ c.prev.here) c.was)
 
-each_here : (w : Words) (t : ℕ) → AreCommits w t → (m q : Ref) → CommitsNode w t m q → (x : Ref) (c : ℕ) → w.commit (suc t) x ≡ Some c →
+each_here : (w : Words) (t : ℕ) → AreCommits w t → (m q : Ref) → CommitsNode w t m q → w.commit (suc t) m ≡ Some t → (x : Ref) (c : ℕ) → w.commit (suc t) x ≡ Some c →
     (x ≡ m) ⊎ (x ≡ m → ⊥) → (c < suc t) × (r : Ref) × CommitsNode w c x r
-each_here w t h m q e x c is (inl same) =
-    let now : t ≡ c = same_Some _ _ (sym e.commit.here ∙ ap (w.commit (suc t)) (sym same) ∙ is) in
+each_here w t h m q e here x c is (inl same) =
+    let now : t ≡ c = same_Some _ _ (sym here ∙ ap (w.commit (suc t)) (sym same) ∙ is) in
     (omega arith, q, subst (λ u. CommitsNode w u x q) now (subst (λ y. CommitsNode w t y q) (sym same) e))
-each_here w t h m q e x c is (inr apart) =
-    let was = h.each x c (sym (e.commit.elsewhere x apart) ∙ is) in
+each_here w t h m q e here x c is (inr apart) =
+    let was = h.each x c (sym (e.commits_elsewhere x apart) ∙ is) in
     (omega (arith, was.0), was.1, was.2)
 
-all_here : (w : Words) (t : ℕ) → AreCommits w t → (m q : Ref) → CommitsNode w t m q → (x : Ref) (c : ℕ) (r : Ref) → CommitsNode w c x r →
+all_here : (w : Words) (t : ℕ) → AreCommits w t → (m q : Ref) → CommitsNode w t m q → w.commit (suc t) m ≡ Some t → (x : Ref) (c : ℕ) (r : Ref) → CommitsNode w c x r →
     (c < t) ⊎ (c ≡ t) → w.commit (suc t) x ≡ None → (x ≡ m) ⊎ (x ≡ m → ⊥) → ⊥
-all_here w t h m q e x c r other when is (inl same) = none-some t (sym is ∙ ap (w.commit (suc t)) same ∙ e.commit.here)
-all_here w t h m q e x c r other (inl before) is (inr apart) = h.all x c r before other (sym (e.commit.elsewhere x apart) ∙ is)
-all_here w t h m q e x c r other (inr now) is (inr apart) = apart (same_commit w t m q x r e (subst (λ u. CommitsNode w u x r) now other) (cases_eq x m))
+all_here w t h m q e here x c r other when is (inl same) = none-some t (sym is ∙ ap (w.commit (suc t)) same ∙ here)
+all_here w t h m q e here x c r other (inl before) is (inr apart) = h.all x c r before other (sym (e.commits_elsewhere x apart) ∙ is)
+all_here w t h m q e here x c r other (inr now) is (inr apart) = apart (same_commit w t m q x r e (subst (λ u. CommitsNode w u x r) now other) (cases_eq x m))
 
 before_or_now : (c t : ℕ) → c < suc t → (c < t) ⊎ (c ≡ t)
 before_or_now c t h = grind arith
@@ -165,18 +165,36 @@ all_still : (w : Words) (t : ℕ) → AreCommits w t → Kept (w.commit t) (w.co
 all_still w t h keeps none x c r other (inl before) is = h.all x c r before other (sym (keeps x) ∙ is)
 all_still w t h keeps none x c r other (inr now) is = none x r (subst (λ u. CommitsNode w u x r) now other)
 
-commits_by : (w : Words) (t : ℕ) → AreCommits w t → CommitStep w t → AreCommits w (suc t)
-commits_by w t h (NoCommit keeps none) = record {
+-- what was committed stays decided
+pub committed_stays : (p : Protocol) (m q : Ref) (c u : ℕ) → c < u → u ≤ p.last → CommitsNode p.words c m q → p.words.prev u m ≡ over.None
+committed_stays p m q c u h within commits =
+    let below = (sound_at p c (omega arith)).words.over m q (over_pending commits.was) in
+    none_final p below.link m (suc c) u h within (stood_still (omega arith) below.stood) commits.prev.here
+
+-- so a node is committed once
+first_commit_by : (p : Protocol) (t : ℕ) → t ≤ p.last → AreCommits p.words t → (m q : Ref) → CommitsNode p.words t m q → (c : Option ℕ) → p.words.commit t m ≡ c → c ≡ None
+first_commit_by p t h commits m q e None is = refl
+first_commit_by p t h commits m q e (Some c) is =
+    let was = commits.each m c is in
+    absurd (none≢pending (committed_stays p m was.1 c t was.0 h was.2) e.was)
+
+first_commit : (p : Protocol) (t : ℕ) → t ≤ p.last → AreCommits p.words t → (m q : Ref) → CommitsNode p.words t m q → p.words.commit t m ≡ None
+first_commit p t h commits m q e = first_commit_by p t h commits m q e (p.words.commit t m) refl
+
+commits_by : (p : Protocol) (t : ℕ) → t ≤ p.last → AreCommits p.words t → CommitStep p.words t → AreCommits p.words (suc t)
+commits_by p t within h (NoCommit keeps none) = record {
   each = λ m c is. let was = h.each m c (sym (keeps m) ∙ is) in (omega (arith, was.0), was.1, was.2);
-  all = λ m c q before e is. all_still w t h keeps none m c q e (before_or_now c t before) is;
+  all = λ m c q before e is. all_still p.words t h keeps none m c q e (before_or_now c t before) is;
 }
-commits_by w t h (OneCommit m q e) = record {
-  each = λ x c is. each_here w t h m q e x c is (cases_eq x m);
-  all = λ x c r before other is. all_here w t h m q e x c r other (before_or_now c t before) is (cases_eq x m);
-}
+commits_by p t within h (OneCommit m q e) =
+    let here = e.commit (first_commit p t within h m q e) in
+    record {
+      each = λ x c is. each_here p.words t h m q e here x c is (cases_eq x m);
+      all = λ x c r before other is. all_here p.words t h m q e here x c r other (before_or_now c t before) is (cases_eq x m);
+    }
 
 pub commits_at : (p : Protocol) (t : ℕ) → t ≤ p.last → AreCommits p.words t
 commits_at p t h =
     from_time (AreCommits p.words) zero p.last
     (record { each = λ m c is. absurd (none-some c (sym (p.first_commit m) ∙ is)); all = λ m c q before e is. absurd (omega arith) })
-    (λ v b within so_far. commits_by p.words v so_far (commit_step p.words v (effect p v within))) t (omega arith) h
+    (λ v b within so_far. commits_by p v (omega arith) so_far (commit_step p.words v (effect p v within))) t (omega arith) h

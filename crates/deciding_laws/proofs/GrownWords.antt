@@ -118,13 +118,14 @@ module _ (states : ℕ → State) (last t : ℕ) where
   prev_written v m is e = record { here = ap prev_of e.here ∙ slot_prev v (grown states t m) is; elsewhere = λ q apart. ap prev_of (e.elsewhere q apart) }
 
   pub commits_words : (m p : Ref) → is_some (grown states t m) ≡ true → w.prev t m ≡ over.Pending p → GrownChanges states t (prev_changed over.None) m →
-      Written (w.commit t) (w.commit (suc t)) m (Some t) → CommitsNode w t m p
-  commits_words m p is was e c = record {
+      (w.commit t m ≡ None → w.commit (suc t) m ≡ Some t) → ((q : Ref) → (q ≡ m → ⊥) → w.commit (suc t) q ≡ w.commit t q) → CommitsNode w t m p
+  commits_words m p is was e c others = record {
     was = was;
     prev = prev_written over.None m is e;
     main = prev_main over.None m e;
     makes = prev_makes over.None m e;
     commit = c;
+    commits_elsewhere = others;
   }
 
   pub fails_words : (m p : Ref) → is_some (grown states t m) ≡ true → w.prev t m ≡ over.Pending p → GrownChanges states t (prev_changed (over.Failed p)) m →

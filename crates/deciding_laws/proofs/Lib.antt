@@ -10,3 +10,4 @@ pub mod Readings
 pub mod Stages
 pub mod Known
 pub mod GrownWords
+pub mod StepsAt

@@ -12,7 +12,7 @@ use Rattle.deciding_laws.proofs.Words.{Words, main_at, Stage, Rests, Reads, Hold
 use Rattle.deciding_laws.proofs.Stood.{Stood, AreSound, stood_still, none≢pending, over_pending}
 use Rattle.deciding_laws.proofs.Owners.{OnLine, Staged, IsSound}
 use Rattle.deciding_laws.proofs.Sounds.{sound_at}
-use Rattle.deciding_laws.proofs.Finals.{from_time, none_final, failed_final, link_stays, pending_back, pending_stands, Fate, StillPending, HasFailed, HasCommitted, WasCommitted, fate, commits_at}
+use Rattle.deciding_laws.proofs.Finals.{from_time, none_final, failed_final, link_stays, pending_back, pending_stands, Fate, StillPending, HasFailed, HasCommitted, WasCommitted, fate, committed_stays, commits_at}
 use Rattle.deciding_laws.proofs.Mains.{main_when_none, main_when_pending, MainStep, MainStays, MainChanges, main_step}
 use Rattle.deciding_laws.proofs.Closings.{commits_early}
 
@@ -205,12 +205,6 @@ committed_then p i m q r t c mu within h k e l is commits =
       is = main_when_none p.words (suc c) i m (commits.main i ∙ stands) commits.prev.here;
       first = λ v after before same. pending_before p i m q r c v (omega arith) commits l is after before same;
     })
-
--- what was committed stays decided
-committed_stays : (p : Protocol) (m q : Ref) (c u : ℕ) → c < u → u ≤ p.last → CommitsNode p.words c m q → p.words.prev u m ≡ over.None
-committed_stays p m q c u h within commits =
-    let below = (sound_at p c (omega arith)).words.over m q (over_pending commits.was) in
-    none_final p below.link m (suc c) u h within (stood_still (omega arith) below.stood) commits.prev.here
 
 by_order : (p : Protocol) (i m q : Ref) (r t c : ℕ) → r ≤ t → t < p.last → c ≤ t → p.words.link (suc r) i ≡ true → p.words.main (suc r) i ≡ m →
     CommitsNode p.words c m q → (c ≤ r) ⊎ (r < c) → IsMoment p.words i m r (max r c) t

@@ -106,7 +106,9 @@ pub record CommitsNode (w : Words) (t : ℕ) (m p : Ref) : Type 0 where
   pub prev : Written (w.prev t) (w.prev (suc t)) m over.None
   pub main : Kept (w.main t) (w.main (suc t))
   pub makes : MakesNothing w t
-  pub commit : Written (w.commit t) (w.commit (suc t)) m (Some t)
+  -- the first step in which it was committed is kept
+  pub commit : w.commit t m ≡ None → w.commit (suc t) m ≡ Some t
+  pub commits_elsewhere : (q : Ref) → (q ≡ m → ⊥) → w.commit (suc t) q ≡ w.commit t q
 
 -- the step makes a pending node failed
 pub record FailsNode (w : Words) (t : ℕ) (m p : Ref) : Type 0 where
