@@ -56,7 +56,7 @@ slot_main : (x : Ref) (o : Option Slot) → is_link (node_of o) ≡ true → mai
 slot_main x None e = absurd (true≢false (sym e))
 slot_main x (Some slot) e = main_written x slot.node e
 
-slot_main_link : (x : Ref) (o : Option Slot) → is_link (node_of (option_map (main_changed x) o)) ≡ is_link (node_of o)
+pub slot_main_link : (x : Ref) (o : Option Slot) → is_link (node_of (option_map (main_changed x) o)) ≡ is_link (node_of o)
 slot_main_link x None = refl
 slot_main_link x (Some slot) = link_kept x slot.node
 
@@ -72,11 +72,11 @@ slot_prev : (v : Prev) (o : Option Slot) → is_some o ≡ true → prev_of (opt
 slot_prev v None e = absurd (true≢false (sym e))
 slot_prev v (Some slot) e = refl
 
-slot_prev_node : (v : Prev) (o : Option Slot) → node_of (option_map (prev_changed v) o) ≡ node_of o
+pub slot_prev_node : (v : Prev) (o : Option Slot) → node_of (option_map (prev_changed v) o) ≡ node_of o
 slot_prev_node v None = refl
 slot_prev_node v (Some slot) = refl
 
-slot_generation : (x : Ref) (o : Option Slot) → generation_of (node_of (option_map (main_changed x) o)) ≡ generation_of (node_of o)
+pub slot_generation : (x : Ref) (o : Option Slot) → generation_of (node_of (option_map (main_changed x) o)) ≡ generation_of (node_of o)
 slot_generation x None = refl
 slot_generation x (Some slot) = generation_kept x slot.node
 

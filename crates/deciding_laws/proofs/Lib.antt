@@ -11,3 +11,4 @@ pub mod Stages
 pub mod Known
 pub mod GrownWords
 pub mod StepsAt
+pub mod ReadTurns
