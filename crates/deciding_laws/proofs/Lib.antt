@@ -12,3 +12,4 @@ pub mod Known
 pub mod GrownWords
 pub mod StepsAt
 pub mod ReadTurns
+pub mod LineRests

@@ -180,11 +180,14 @@ after_deciding i a f (Gives m) = Checks i a f
 abbrev pub MayName : Words → ℕ → ℕ → Stage → Ref → Type 0
 MayName w t k s m = ((i : Ref) × Given w t k i m) ⊎ (s ≡ Holds m)
 
--- what an actor is about once it made this node
+-- what an actor may be about once it made this node; G says of an indirection and a main node that a READ of it gave the node
+abbrev pub HasMade : (Ref → Ref → Type 0) → Ref → Stage → Type 0
+HasMade G n (Holds f) = f ≡ n
+HasMade G n (Publishes i a f) = (f ≡ n) × G i a
+HasMade G n s = IsAtRest s
+
 abbrev pub MayHave : Words → ℕ → ℕ → Ref → Stage → Type 0
-MayHave w t k n (Holds f) = f ≡ n
-MayHave w t k n (Publishes i a f) = (f ≡ n) × Given w t k i a
-MayHave w t k n s = IsAtRest s
+MayHave w t k n s = HasMade (λ i m. Given w t k i m) n s
 
 -- a step of this actor, from one stage to the next
 pub data Moves (w : Words) (t k : ℕ) : Stage → Stage → Type 0 where
