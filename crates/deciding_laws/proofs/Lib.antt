@@ -13,3 +13,4 @@ pub mod GrownWords
 pub mod StepsAt
 pub mod ReadTurns
 pub mod LineRests
+pub mod LineTurns

@@ -258,7 +258,7 @@ module _ (G : Ref → Ref → Type 0) (W : Type 0) where
   offer_rest offer true = (tt, tt)
   offer_rest offer false = (tt, tt)
 
-  walk_next_rest : (operation : Operation) (todo : List Ref) (pairs : List (ℕ × ℕ)) → AtRest (walk_next operation todo pairs)
+  pub walk_next_rest : (operation : Operation) (todo : List Ref) (pairs : List (ℕ × ℕ)) → AtRest (walk_next operation todo pairs)
   walk_next_rest operation [] pairs = (tt, tt)
   walk_next_rest operation (entry ∷ todo) pairs = (tt, tt)
 
