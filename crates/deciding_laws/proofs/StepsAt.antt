@@ -25,7 +25,8 @@ use Rattle.machine_model.specs.Counting.{settled}
 use Rattle.machine_model.specs.Machine.{begin_denial, go_denial, with_begin, swept}
 use Rattle.machine_model.proofs.Moves.{Moves, Begins, Goes, Ends, Sweeps, GoesOn, begun_operation}
 use Rattle.machine_model.proofs.Times.{Turn, turns}
-use Rattle.machine_model.proofs.Found.{found_elsewhere, found_within}
+use Rattle.std.specs.Prelude.{is_some}
+use Rattle.machine_model.proofs.Found.{found_elsewhere, found_here, found_within}
 use Rattle.machine_model.proofs.Frames.{acted_framed}
 use Rattle.machine_model.proofs.Actors.{after_marks, marks_by, gone_actors, begin_actors}
 use Rattle.deciding_laws.proofs.Stages.{stage_of, stage_of_actor, from_of_actor}
@@ -116,65 +117,100 @@ marked_from id (Some operation) = by_mark (operation.id == id)
     by_mark true = refl
     by_mark false = refl
 
-marks_stage : (m : Option ℕ) (xs : List (Option Operation)) (k : ℕ) → stage_of_actor (get_or (after_marks m xs) k None) ≡ stage_of_actor (get_or xs k None)
-marks_stage None xs k = refl
-marks_stage (Some id) xs k = ap stage_of_actor (get_or-map (marked id) xs k None) ∙ marked_stage id (get_or xs k None)
+-- what an actor runs once some are marked
+abbrev pub after_mark : Option ℕ → Option Operation → Option Operation
+after_mark None x = x
+after_mark (Some id) x = marked id x
 
-marks_from : (m : Option ℕ) (xs : List (Option Operation)) (k : ℕ) → from_of_actor (get_or (after_marks m xs) k None) ≡ from_of_actor (get_or xs k None)
-marks_from None xs k = refl
-marks_from (Some id) xs k = ap from_of_actor (get_or-map (marked id) xs k None) ∙ marked_from id (get_or xs k None)
+marks_one : (m : Option ℕ) (xs : List (Option Operation)) (k : ℕ) → get_or (after_marks m xs) k None ≡ after_mark m (get_or xs k None)
+marks_one None xs k = refl
+marks_one (Some id) xs k = get_or-map (marked id) xs k None
 
--- the same of an actor
-pub record SameActor (before after : State) (j : ℕ) : Type 0 where
-  pub stage : stage_of_actor (operation_of after j) ≡ stage_of_actor (operation_of before j)
-  pub from : from_of_actor (operation_of after j) ≡ from_of_actor (operation_of before j)
+pub mark_stage : (m : Option ℕ) (x : Option Operation) → stage_of_actor (after_mark m x) ≡ stage_of_actor x
+mark_stage None x = refl
+mark_stage (Some id) x = marked_stage id x
 
--- where an actor's place in the list is left
+pub mark_from : (m : Option ℕ) (x : Option Operation) → from_of_actor (after_mark m x) ≡ from_of_actor x
+mark_from None x = refl
+mark_from (Some id) x = marked_from id x
+
+-- where an actor's place in the list is left it runs the same, but for a mark
 same_place : (before after : State) (m : Option ℕ) (actor j : ℕ) (put : Option Operation) → 0 < actor → after.actors ≡ after_marks m (set before.actors (actor - 1) put) →
-    (j ≡ actor → ⊥) → SameActor before after j
-same_place before after m actor zero put pos e apart = record { stage = refl; from = refl }
+    (j ≡ actor → ⊥) → operation_of after j ≡ after_mark m (operation_of before j)
+same_place before after None actor zero put pos e apart = refl
+same_place before after (Some id) actor zero put pos e apart = refl
 same_place before after m actor (suc k) put pos e apart =
     let elsewhere : get_or (set before.actors (actor - 1) put) k None ≡ get_or before.actors k None =
         found_elsewhere before.actors (actor - 1) k put (λ same. apart (omega arith)) in
-    record {
-      stage = ap (λ xs. stage_of_actor (get_or xs k None)) e ∙ marks_stage m (set before.actors (actor - 1) put) k ∙ ap stage_of_actor elsewhere;
-      from = ap (λ xs. from_of_actor (get_or xs k None)) e ∙ marks_from m (set before.actors (actor - 1) put) k ∙ ap from_of_actor elsewhere;
-    }
+    ap (λ xs. get_or xs k None) e ∙ marks_one m (set before.actors (actor - 1) put) k ∙ ap (after_mark m) elsewhere
 
--- others are about the same after a step of an actor
-pub go_others : (before : State) (actor : ℕ) (operation : Operation) → 0 < actor → (j : ℕ) → (j ≡ actor → ⊥) → SameActor before (settled before (gone before actor operation)) j
+pub go_others : (before : State) (actor : ℕ) (operation : Operation) → 0 < actor → (j : ℕ) → (j ≡ actor → ⊥) →
+    operation_of (settled before (gone before actor operation)) j ≡ after_mark (marks_by before (Some operation)) (operation_of before j)
 go_others before actor operation pos j apart =
     same_place before (settled before (gone before actor operation)) (marks_by before (Some operation)) actor j (Some (operation_after before operation)) pos
     (gone_actors before actor operation) apart
 
 pub end_others : (before : State) (actor : ℕ) (operation : Operation) (answer : Reply) → 0 < actor → (j : ℕ) → (j ≡ actor → ⊥) →
-    SameActor before (settled before (ended before actor operation answer)) j
+    operation_of (settled before (ended before actor operation answer)) j ≡ operation_of before j
 end_others before actor operation answer pos j apart = same_place before (settled before (ended before actor operation answer)) None actor j None pos refl apart
 
 pub begin_others : (before : State) (actor : ℕ) (call : Call) (operation : Operation) → 0 < actor → (j : ℕ) → (j ≡ actor → ⊥) →
-    SameActor before (settled before (with_begin before actor call operation)) j
+    operation_of (settled before (with_begin before actor call operation)) j ≡ operation_of before j
 begin_others before actor call operation pos j apart =
     same_place before (settled before (with_begin before actor call operation)) None actor j (Some operation) pos (begin_actors before actor call operation) apart
 
--- the actor itself after its step
+-- after its step an actor runs what the step makes of its operation, but for a mark
 own_place : (before after : State) (m : Option ℕ) (k : ℕ) (was put : Operation) → get_or before.actors k None ≡ Some was →
-    after.actors ≡ after_marks m (set before.actors k (Some put)) →
-    (stage_of_actor (get_or after.actors k None) ≡ stage_of put.line) × (from_of_actor (get_or after.actors k None) ≡ put.read_at)
+    after.actors ≡ after_marks m (set before.actors k (Some put)) → get_or after.actors k None ≡ after_mark m (Some put)
 own_place before after m k was put found e =
     let here : get_or (set before.actors k (Some put)) k None ≡ Some put = get_or-set_same before.actors k (Some put) None (found_within before.actors k was found) in
-    (ap (λ xs. stage_of_actor (get_or xs k None)) e ∙ marks_stage m (set before.actors k (Some put)) k ∙ ap stage_of_actor here,
-    ap (λ xs. from_of_actor (get_or xs k None)) e ∙ marks_from m (set before.actors k (Some put)) k ∙ ap from_of_actor here)
+    ap (λ xs. get_or xs k None) e ∙ marks_one m (set before.actors k (Some put)) k ∙ ap (after_mark m) here
 
--- an actor is one of those counted from 1
 pub go_own : (before : State) (actor : ℕ) (operation : Operation) → operation_of before actor ≡ Some operation →
-    let after = settled before (gone before actor operation) in
-    (stage_of_actor (operation_of after actor) ≡ stage_of (operation_after before operation).line) × (from_of_actor (operation_of after actor) ≡ (operation_after before operation).read_at)
+    operation_of (settled before (gone before actor operation)) actor ≡ after_mark (marks_by before (Some operation)) (Some (operation_after before operation))
 go_own before zero operation found = absurd (none-some operation found)
 go_own before (suc k) operation found =
     let at : suc k - 1 ≡ k = omega arith in
     own_place before (settled before (gone before (suc k) operation)) (marks_by before (Some operation)) k operation (operation_after before operation) found
     (gone_actors before (suc k) operation ∙ ap (λ x. after_marks (marks_by before (Some operation)) (set before.actors x (Some (operation_after before operation)))) at)
 
+-- after its end it runs nothing
+nothing_by : (xs : List (Option Operation)) (k : ℕ) (x : Option Operation) → get_or (set xs k None) k None ≡ x → x ≡ None
+nothing_by xs k None e = refl
+nothing_by xs k (Some found) e = absurd (none-some found (found_here xs k None found e))
+
+pub end_own : (before : State) (actor : ℕ) (operation : Operation) (answer : Reply) → operation_of (settled before (ended before actor operation answer)) actor ≡ None
+end_own before zero operation answer = refl
+end_own before (suc k) operation answer =
+    let at : suc k - 1 ≡ k = omega arith in
+    ap (λ x. get_or (set before.actors x None) k None) at ∙ nothing_by before.actors k _ refl
+
+-- after a begin it runs what began, if anything
+begun_by : (xs : List (Option Operation)) (k : ℕ) (put : Operation) (x : Option Operation) → get_or (set xs k (Some put)) k None ≡ x → (x ≡ None) ⊎ (x ≡ Some put)
+begun_by xs k put None e = inl refl
+begun_by xs k put (Some found) e = inr (sym (found_here xs k (Some put) found e))
+
+pub begin_own : (before : State) (actor : ℕ) (call : Call) (operation : Operation) →
+    let found = operation_of (settled before (with_begin before actor call operation)) actor in (found ≡ None) ⊎ (found ≡ Some operation)
+begin_own before zero call operation = inl refl
+begin_own before (suc k) call operation =
+    let at : suc k - 1 ≡ k = omega arith in
+    begun_by before.actors k operation _ (sym (ap (λ xs. get_or xs k None) (begin_actors before (suc k) call operation) ∙ ap (λ x. get_or (set before.actors x (Some operation)) k None) at))
+
 pub actor_counts : (before : State) (actor : ℕ) (operation : Operation) → operation_of before actor ≡ Some operation → 0 < actor
 actor_counts before zero operation found = absurd (none-some operation found)
 actor_counts before (suc k) operation found = omega arith
+
+-- who begins isn't actor 0, and runs nothing
+pub begins_counted : (before : State) (actor : ℕ) (call : Call) → begin_denial before actor call ≡ None → 0 < actor
+begins_counted before actor call d = grind arith
+
+not_some : (x : Option Operation) → is_some x ≡ false → x ≡ None
+not_some None e = refl
+not_some (Some y) e = absurd (true≢false e)
+
+pub begins_idle : (before : State) (actor : ℕ) (call : Call) → begin_denial before actor call ≡ None → operation_of before actor ≡ None
+begins_idle before actor call d = not_some (operation_of before actor) (not_running before actor call d)
+  where
+    not_running : (before : State) (actor : ℕ) (call : Call) → begin_denial before actor call ≡ None → is_some (operation_of before actor) ≡ false
+    not_running before actor call d = grind arith
