@@ -14,3 +14,5 @@ pub mod StepsAt
 pub mod ReadTurns
 pub mod LineRests
 pub mod LineTurns
+pub mod FirstWords
+pub mod RunWords

@@ -1,0 +1,321 @@
+-- The words of a run are those of a protocol; and each line remembers as main nodes what READs gave.
+use Rattle.std.proofs.Common.{◌≡◌, ℕ, zero, suc, ◌<◌, ◌≤◌, ◌⊎◌, Bool, true, false, cond, ◌==◌, List, Option, Some, None, inl, inr, refl, sym, ◌∙◌, ap, subst, arith}
+use Rattle.std.proofs.lemmas.Bool.{cases_eq}
+use Rattle.history.specs.declared.calls.Access.TheVariants.{Writable}
+use Rattle.history.specs.declared.calls.Call.{Call}
+use Rattle.history.specs.declared.replies.Reply.{Reply}
+use Rattle.slot_arena.specs.declared.refs.Ref.{Ref}
+use Rattle.machine_model.specs.declared.actions.Action.{Action}
+use Rattle.machine_model.specs.declared.actions.Action.TheVariants as act
+use Rattle.machine_model.specs.declared.operations.Operation.{Operation}
+use Rattle.machine_model.specs.declared.reading.ReadLine.{ReadLine}
+use Rattle.machine_model.specs.declared.reading.ReadLine.TheVariants as read
+use Rattle.machine_model.specs.declared.reading.Swap.{Swap}
+use Rattle.machine_model.specs.declared.reading.SwapLine.{SwapLine}
+use Rattle.machine_model.specs.declared.reading.SwapLine.TheVariants as swap
+use Rattle.machine_model.specs.declared.roots.Descriptor.{Descriptor}
+use Rattle.machine_model.specs.declared.roots.CompleteLine.{CompleteLine}
+use Rattle.machine_model.specs.declared.roots.CompleteLine.TheVariants as complete
+use Rattle.machine_model.specs.declared.roots.RootLine.{RootLine}
+use Rattle.machine_model.specs.declared.roots.RootLine.TheVariants as root
+use Rattle.machine_model.specs.declared.finding.KeyLine.{KeyLine}
+use Rattle.machine_model.specs.declared.finding.KeyLine.TheVariants as key
+use Rattle.machine_model.specs.declared.building.BuildLine.{BuildLine}
+use Rattle.machine_model.specs.declared.building.BuildLine.TheVariants as build
+use Rattle.machine_model.specs.declared.repairs.RenewLine.{RenewLine}
+use Rattle.machine_model.specs.declared.repairs.RenewLine.TheVariants as renew
+use Rattle.machine_model.specs.declared.repairs.CleanLine.{CleanLine}
+use Rattle.machine_model.specs.declared.repairs.CleanLine.TheVariants as clean
+use Rattle.machine_model.specs.declared.repairs.Climb.{Climb}
+use Rattle.machine_model.specs.declared.repairs.ClimbLine.{ClimbLine}
+use Rattle.machine_model.specs.declared.repairs.ClimbLine.TheVariants as climb
+use Rattle.machine_model.specs.declared.copying.CopyLine.{CopyLine}
+use Rattle.machine_model.specs.declared.copying.CopyLine.TheVariants as copy
+use Rattle.machine_model.specs.declared.walking.WalkLine.{WalkLine}
+use Rattle.machine_model.specs.declared.walking.WalkLine.TheVariants as walk
+use Rattle.machine_model.specs.declared.lines.Purpose.{Purpose}
+use Rattle.machine_model.specs.declared.lines.Line.{Line}
+use Rattle.machine_model.specs.declared.lines.Line.TheVariants as line
+use Rattle.machine_model.specs.declared.steps.Limits.{Limits}
+use Rattle.machine_model.specs.declared.steps.Step.TheVariants as step
+use Rattle.machine_model.specs.States.{State, operation_of}
+use Rattle.machine_model.specs.Reading.{read_action}
+use Rattle.machine_model.specs.Operations.{first_line, line_action, line_after, action_of}
+use Rattle.machine_model.specs.Orders.{counted_from}
+use Rattle.machine_model.specs.Acting.{gone, marked, operation_after}
+use Rattle.machine_model.specs.Counting.{settled}
+use Rattle.machine_model.proofs.Moves.{begun_operation}
+use Rattle.machine_model.proofs.Actors.{marks_by}
+use Rattle.machine_model.proofs.Times.{IsRun, steps_at}
+use Rattle.deciding_laws.proofs.Words.{Words, Stage, Rests, Reads, Leaves, IsFree, IsAtRest, Given, Moves, Idles, counts_at, Counts, IsSame, Turn, Acts, Passes, Protocol}
+use Rattle.deciding_laws.proofs.Owners.{given_later}
+use Rattle.deciding_laws.proofs.Finals.{from_time}
+use Rattle.deciding_laws.proofs.Stages.{stage_of, stage_of_actor, from_of_actor, Remembers, remembers_still}
+use Rattle.deciding_laws.proofs.Known.{ActsOn, Known}
+use Rattle.deciding_laws.proofs.GrownWords.{words_of, leaves_words, commit_of}
+use Rattle.deciding_laws.proofs.ReadTurns.{no_commit}
+use Rattle.deciding_laws.proofs.StepsAt.{StepAt, IsBegin, IsGo, IsEnd, IsSweep, step_at, gone_commits, begun_commits, after_mark, mark_stage, mark_from, go_others, go_own, end_others, end_own, begin_others, begin_own, actor_counts, begins_counted, begins_idle}
+use Rattle.deciding_laws.proofs.LineTurns.{LineStep, NextLine, line_turn}
+use Rattle.deciding_laws.proofs.FirstWords.{prev_at_first, made_at_first, idle_at_first, uncommitted_at_first}
+
+-- ---- whence a READ counts is the definition's field
+
+abbrev CountsTo : Stage → ℕ → ℕ → ℕ → Type 0
+CountsTo (Reads i l) t before after = after ≡ counts_at l t before
+CountsTo s t before after = Unit {0}
+
+read_counts : (i : Ref) (l : ReadLine) (t before : ℕ) → counted_from (read_action i l) t before ≡ counts_at l t before
+read_counts i read.Main t before = refl
+read_counts i (read.Prev m) t before = refl
+read_counts i (read.AskRoot m p) t before = refl
+read_counts i (read.Abort m p offer) t before = refl
+read_counts i (read.Decide m p told) t before = refl
+read_counts i (read.Restore m p) t before = refl
+
+module _ (state : State) (operation : Operation) (t before : ℕ) where
+  abbrev LineCounts : Line → Type 0
+  LineCounts l = CountsTo (stage_of l) t before (counted_from (line_action state operation l) t before)
+
+  root_counts : (offer : Descriptor) (x : CompleteLine) → LineCounts (line.Root (root.Completing (record { offer = offer; line = x })))
+  root_counts offer (complete.Reading x) = read_counts offer.root x t before
+  root_counts offer (complete.Swap main) = tt
+
+  climb_root_counts : (c : Climb) (offer : Descriptor) (x : CompleteLine) → LineCounts (line.Climb (climb.Root c (root.Completing (record { offer = offer; line = x }))))
+  climb_root_counts c offer (complete.Reading x) = read_counts offer.root x t before
+  climb_root_counts c offer (complete.Swap main) = tt
+
+  copy_complete_counts : (offer : Descriptor) (x : CompleteLine) → LineCounts (line.Copy (copy.Complete (record { offer = offer; line = x })))
+  copy_complete_counts offer (complete.Reading x) = read_counts offer.root x t before
+  copy_complete_counts offer (complete.Swap main) = tt
+
+  key_counts : (l : KeyLine) → LineCounts (line.Key l)
+  key_counts (key.Read path r) = read_counts r.indirection r.line t before
+  key_counts (key.Main path main) = tt
+  key_counts (key.Entry path main position) = tt
+  key_counts (key.Listed path main position) = tt
+  key_counts (key.Sibling path main position former) = tt
+
+  build_counts : (l : BuildLine) → LineCounts (line.Build l)
+  build_counts (build.Single path main site former) = tt
+  build_counts (build.Pair path main position single depth) = tt
+  build_counts (build.Link path main position below depth) = tt
+  build_counts (build.Rung path main position below depth) = tt
+  build_counts (build.Main path main c former) = tt
+
+  swap_counts : (why : Purpose) (i a f : Ref) (x : SwapLine) → let s : Swap = record { indirection = i; replaced = a; fresh = f; line = x } in LineCounts (line.Swap why s)
+  swap_counts why i a f swap.Publish = tt
+  swap_counts why i a f (swap.Deciding x) = tt
+  swap_counts why i a f swap.Check = tt
+
+  renew_counts : (l : RenewLine) → LineCounts (line.Renew l)
+  renew_counts (renew.Entry path main done) = tt
+  renew_counts (renew.Read path main done r) = read_counts r.indirection r.line t before
+  renew_counts (renew.Link path main done child) = tt
+  renew_counts (renew.Branch path main done) = tt
+
+  clean_counts : (l : CleanLine) → LineCounts (line.Clean l)
+  clean_counts (clean.Read path r) = read_counts r.indirection r.line t before
+  clean_counts (clean.Main path main) = tt
+  clean_counts (clean.Entry path main done) = tt
+  clean_counts (clean.Child path main done r) = read_counts r.indirection r.line t before
+  clean_counts (clean.Tomb path main done child) = tt
+  clean_counts (clean.Contracted path main done) = tt
+
+  climb_counts : (l : ClimbLine) → LineCounts (line.Climb l)
+  climb_counts (climb.Read c r) = read_counts r.indirection r.line t before
+  climb_counts (climb.Main c main) = tt
+  climb_counts (climb.Contracted c main) = tt
+  climb_counts (climb.Root c root.Read) = tt
+  climb_counts (climb.Root c (root.Completing x)) = climb_root_counts c x.offer x.line
+
+  copy_counts : (l : CopyLine) → LineCounts (line.Copy l)
+  copy_counts (copy.Read at r) = read_counts r.indirection r.line t before
+  copy_counts (copy.Successor at main) = tt
+  copy_counts (copy.Second at main successor) = tt
+  copy_counts (copy.Empty at main) = tt
+  copy_counts (copy.Cleared at main branch) = tt
+  copy_counts (copy.Offer offer) = tt
+  copy_counts (copy.Complete x) = copy_complete_counts x.offer x.line
+
+  walk_counts : (l : WalkLine) → LineCounts (line.Walk l)
+  walk_counts walk.Root = tt
+  walk_counts (walk.Read r todo pairs) = read_counts r.indirection r.line t before
+  walk_counts (walk.Main main todo pairs) = tt
+  walk_counts (walk.Entry todo pairs) = tt
+
+  pub line_counts : (l : Line) → LineCounts l
+  line_counts (line.Root root.Read) = tt
+  line_counts (line.Root (root.Completing x)) = root_counts x.offer x.line
+  line_counts (line.Key l) = key_counts l
+  line_counts (line.Build l) = build_counts l
+  line_counts (line.Swap why s) = swap_counts why s.indirection s.replaced s.fresh s.line
+  line_counts (line.Renew l) = renew_counts l
+  line_counts (line.Clean l) = clean_counts l
+  line_counts (line.Climb l) = climb_counts l
+  line_counts (line.Copy l) = copy_counts l
+  line_counts (line.Walk l) = walk_counts l
+  line_counts (line.End answer) = tt
+  line_counts line.Impossible = tt
+
+  -- ---- only the last line ends
+
+  read_goes : (i : Ref) (l : ReadLine) (answer : Reply) → read_action i l ≡ act.End answer → ⊥
+  read_goes i l answer e = grind arith
+
+  ends_at_end : (l : Line) (answer : Reply) → line_action state operation l ≡ act.End answer → stage_of l ≡ Rests
+  ends_at_end (line.End x) answer e = refl
+  ends_at_end line.Impossible answer e = refl
+  ends_at_end (line.Root l) answer e = ?
+  ends_at_end (line.Key l) answer e = ?
+  ends_at_end (line.Build l) answer e = ?
+  ends_at_end (line.Swap why s) answer e = ?
+  ends_at_end (line.Renew l) answer e = ?
+  ends_at_end (line.Clean l) answer e = ?
+  ends_at_end (line.Climb l) answer e = ?
+  ends_at_end (line.Copy l) answer e = ?
+  ends_at_end (line.Walk l) answer e = ?
+
+-- ---- what an actor remembers
+
+abbrev ActorRemembers : (ℕ → State) → ℕ → ℕ → ℕ → Option Operation → Type 0
+ActorRemembers states last t k None = Unit {0}
+ActorRemembers states last t k (Some operation) = Remembers (λ i m. Given (words_of states last) t k i m) (operation.access ≡ Writable) operation.line
+
+marked_remembers : (states : ℕ → State) (last t k id : ℕ) (x : Option Operation) → ActorRemembers states last t k x → ActorRemembers states last t k (marked id x)
+marked_remembers states last t k id None r = r
+marked_remembers states last t k id (Some operation) r = by_mark (operation.id == id)
+  where
+    by_mark : (b : Bool) → ActorRemembers states last t k (Some (cond b (record operation { is_marked = true }) operation))
+    by_mark true = r
+    by_mark false = r
+
+mark_remembers : (states : ℕ → State) (last t k : ℕ) (m : Option ℕ) (x : Option Operation) → ActorRemembers states last t k x → ActorRemembers states last t k (after_mark m x)
+mark_remembers states last t k None x r = r
+mark_remembers states last t k (Some id) x r = marked_remembers states last t k id x r
+
+remembers_later : (states : ℕ → State) (last t k : ℕ) (x : Option Operation) → ActorRemembers states last t k x → ActorRemembers states last (suc t) k x
+remembers_later states last t k None r = r
+remembers_later states last t k (Some operation) r =
+    remembers_still (λ i m. Given (words_of states last) t k i m) (λ i m. Given (words_of states last) (suc t) k i m) (operation.access ≡ Writable) (λ i m g. given_later g) operation.line r
+
+-- ---- each step is a turn
+
+pub record TurnAt (states : ℕ → State) (last t : ℕ) : Type 0 where
+  pub turn : Turn (words_of states last) t
+  pub remembers : (k : ℕ) → ActorRemembers states last (suc t) k (operation_of (states (suc t)) k)
+
+module _ (limits : Limits) (states : ℕ → State) (last : ℕ) (known : Known limits states last) (t : ℕ) (h : t < last)
+    (so_far : (k : ℕ) → ActorRemembers states last t k (operation_of (states t) k)) where
+  abbrev w : Words
+  w = words_of states last
+
+  -- an actor that runs the same but for a mark
+  same_actor : (m : Option ℕ) (j : ℕ) → operation_of (states (suc t)) j ≡ after_mark m (operation_of (states t) j) → IsSame w t j
+  same_actor m j e = record {
+    stage = ap stage_of_actor e ∙ mark_stage m (operation_of (states t) j);
+    from = ap from_of_actor e ∙ mark_from m (operation_of (states t) j);
+  }
+
+  remembers_same : (m : Option ℕ) (j : ℕ) → operation_of (states (suc t)) j ≡ after_mark m (operation_of (states t) j) →
+      ActorRemembers states last (suc t) j (operation_of (states (suc t)) j)
+  remembers_same m j e =
+      subst (λ x. ActorRemembers states last (suc t) j x) (sym e)
+      (remembers_later states last t j _ (mark_remembers states last t j m (operation_of (states t) j) (so_far j)))
+
+  -- what all actors remember, by what the acting one does
+  remembers_by : (m : Option ℕ) (actor : ℕ) → ((j : ℕ) → (j ≡ actor → ⊥) → operation_of (states (suc t)) j ≡ after_mark m (operation_of (states t) j)) →
+      ActorRemembers states last (suc t) actor (operation_of (states (suc t)) actor) → (j : ℕ) → (j ≡ actor) ⊎ (j ≡ actor → ⊥) →
+      ActorRemembers states last (suc t) j (operation_of (states (suc t)) j)
+  remembers_by m actor others own j (inl is) = subst (λ q. ActorRemembers states last (suc t) q (operation_of (states (suc t)) q)) (sym is) own
+  remembers_by m actor others own j (inr apart) = remembers_same m j (others j apart)
+
+  -- a step of an operation that goes on
+  go_turn : (actor : ℕ) (operation : Operation) → operation_of (states t) actor ≡ Some operation → states (suc t) ≡ settled (states t) (gone (states t) actor operation) →
+      NextLine limits states last known t h actor operation (stage_of operation.line) (line_after (states t) operation operation.line) → TurnAt states last t
+  go_turn actor operation is e next =
+      let m : Option ℕ = marks_by (states t) (Some operation) in
+      let own : operation_of (states (suc t)) actor ≡ after_mark m (Some (operation_after (states t) operation)) =
+          ap (λ (s : State). operation_of s actor) e ∙ go_own (states t) actor operation is in
+      let others : (j : ℕ) → (j ≡ actor → ⊥) → operation_of (states (suc t)) j ≡ after_mark m (operation_of (states t) j) =
+          λ j apart. ap (λ (s : State). operation_of s j) e ∙ go_others (states t) actor operation (actor_counts (states t) actor operation is) j apart in
+      let before : w.stage t actor ≡ stage_of operation.line = ap stage_of_actor is in
+      let after : w.stage (suc t) actor ≡ stage_of (line_after (states t) operation operation.line) = ap stage_of_actor own ∙ mark_stage m (Some (operation_after (states t) operation)) in
+      let from_before : w.from t actor ≡ operation.read_at = ap from_of_actor is in
+      let from_after : w.from (suc t) actor ≡ counted_from (action_of (states t) operation) t operation.read_at =
+          ap from_of_actor own ∙ mark_from m (Some (operation_after (states t) operation))
+          ∙ ap (λ n. counted_from (action_of (states t) operation) n operation.read_at) (steps_at limits states last known.run t (omega arith)) in
+      record {
+        turn = Acts actor (subst (λ s. Moves w t actor s (w.stage (suc t) actor)) (sym before) (subst (λ s. Moves w t actor (stage_of operation.line) s) (sym after) next.moves))
+            (counts_so actor (w.stage t actor) (stage_of operation.line) before operation.read_at from_before
+            (subst (λ n. CountsTo (stage_of operation.line) t operation.read_at n) (sym from_after) (line_counts (states t) operation t operation.read_at operation.line)))
+            (λ j apart. same_actor m j (others j apart));
+        remembers = λ j. remembers_by m actor others
+            (subst (λ x. ActorRemembers states last (suc t) actor x) (sym own)
+            (mark_remembers states last (suc t) actor m (Some (operation_after (states t) operation)) next.remembers)) j (cases_eq j actor);
+      }
+    where
+      counts_so : (k : ℕ) (s s' : Stage) → s ≡ s' → (r : ℕ) → w.from t k ≡ r → CountsTo s' t r (w.from (suc t) k) → Counts w t k s
+      counts_so k s s' e r is c = subst (λ x. Counts w t k x) (sym e) (by_stage s' (subst (λ x. CountsTo s' t x (w.from (suc t) k)) (sym is) c))
+        where
+          by_stage : (x : Stage) → CountsTo x t (w.from t k) (w.from (suc t) k) → Counts w t k x
+          by_stage (Reads i l) c = c
+          by_stage Rests c = tt
+          by_stage x c = tt
+
+  -- a step that ends an operation, or begins one
+  idle_turn : (actor : ℕ) → Leaves w t → w.stage t actor ≡ Rests → w.stage (suc t) actor ≡ Rests → ActorRemembers states last (suc t) actor (operation_of (states (suc t)) actor) →
+      ((j : ℕ) → (j ≡ actor → ⊥) → operation_of (states (suc t)) j ≡ operation_of (states t) j) → TurnAt states last t
+  idle_turn actor leaves before after own others = record {
+    turn = Acts actor (subst (λ s. Moves w t actor s (w.stage (suc t) actor)) (sym before) (subst (λ s. Moves w t actor Rests s) (sym after) (Idles leaves tt tt)))
+        (subst (λ s. Counts w t actor s) (sym before) tt) (λ j apart. same_actor None j (others j apart));
+    remembers = λ j. remembers_by None actor others own j (cases_eq j actor);
+  }
+
+  first_rests : (call : Call) → stage_of (first_line call) ≡ Rests
+  first_rests call = grind arith
+
+  first_remembers : (G : Ref → Ref → Type 0) (W : Type 0) (call : Call) → Remembers G W (first_line call)
+  first_remembers G W call = grind arith
+
+  begun_stage : (call : Call) (x : Option Operation) → (x ≡ None) ⊎ (x ≡ Some (begun_operation (states t) call)) → stage_of_actor x ≡ Rests
+  begun_stage call x (inl e) = ap stage_of_actor e
+  begun_stage call x (inr e) = ap stage_of_actor e ∙ first_rests call
+
+  begun_remembers : (k : ℕ) (call : Call) (x : Option Operation) → (x ≡ None) ⊎ (x ≡ Some (begun_operation (states t) call)) → ActorRemembers states last (suc t) k x
+  begun_remembers k call x (inl e) = subst (λ y. ActorRemembers states last (suc t) k y) (sym e) tt
+  begun_remembers k call x (inr e) = subst (λ y. ActorRemembers states last (suc t) k y) (sym e) (first_remembers _ _ call)
+
+  turn_by : StepAt (states t) (states (suc t)) → TurnAt states last t
+  turn_by (IsBegin actor call o m d e) =
+      let kept = no_commit limits states last known t h (ap (λ (s : State). s.commits) e ∙ begun_commits (states t) actor call (begun_operation (states t) call)) in
+      let found = subst (λ (s : State). (operation_of s actor ≡ None) ⊎ (operation_of s actor ≡ Some (begun_operation (states t) call))) (sym e)
+          (begin_own (states t) actor call (begun_operation (states t) call)) in
+      idle_turn actor (leaves_words states last t (known.stays t h (step.Begin actor call) o m tt) kept)
+      (ap stage_of_actor (begins_idle (states t) actor call d)) (begun_stage call _ found) (begun_remembers actor call _ found)
+      (λ j apart. ap (λ (s : State). operation_of s j) e ∙ begin_others (states t) actor call (begun_operation (states t) call) (begins_counted (states t) actor call d) j apart)
+  turn_by (IsGo actor operation o m is g e) =
+      go_turn actor operation is e (line_turn limits states last known t h actor operation operation.line g (record {
+        acts = known.acts t h actor o m operation is;
+        commits = ap (λ (s : State). s.commits) e ∙ gone_commits (states t) actor operation;
+        asks = λ i main p asked writable r plain c closed. known.open_root t h actor operation is i main p asked writable r plain c closed;
+        stage = ap stage_of_actor is;
+        main_kind = λ path main c former at. known.built_from_main t h actor operation is path main c former at;
+        remembers = subst (λ x. ActorRemembers states last t actor x) is (so_far actor);
+      }))
+  turn_by (IsEnd actor operation answer o m is a e) =
+      let kept = no_commit limits states last known t h (ap (λ (s : State). s.commits) e) in
+      let stays = subst (λ x. ActsOn states t x) a (known.acts t h actor o m operation is) in
+      let own : operation_of (states (suc t)) actor ≡ None = ap (λ (s : State). operation_of s actor) e ∙ end_own (states t) actor operation answer in
+      idle_turn actor (leaves_words states last t stays kept) (ap stage_of_actor is ∙ ends_at_end (states t) operation t t operation.line answer a) (ap stage_of_actor own)
+      (subst (λ x. ActorRemembers states last (suc t) actor x) (sym own) tt)
+      (λ j apart. ap (λ (s : State). operation_of s j) e ∙ end_others (states t) actor operation answer (actor_counts (states t) actor operation is) j apart)
+  turn_by (IsSweep o m e) =
+      let kept = no_commit limits states last known t h (ap (λ (s : State). s.commits) e) in
+      let same : (j : ℕ) → operation_of (states (suc t)) j ≡ operation_of (states t) j = λ j. ap (λ (s : State). operation_of s j) e in
+      record {
+        turn = Passes (leaves_words states last t (known.stays t h step.Sweep o m tt) kept) (λ j. same_actor None j (same j));
+        remembers = λ j. remembers_same None j (same j);
+      }
+
+  pub turn_at : TurnAt states last t
+  turn_at = turn_by (step_at (states t) (states (suc t)) (known.run.turn t h))
