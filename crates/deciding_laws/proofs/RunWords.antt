@@ -1,5 +1,5 @@
 -- The words of a run are those of a protocol; and each line remembers as main nodes what READs gave.
-use Rattle.std.proofs.Common.{◌≡◌, ℕ, zero, suc, ◌<◌, ◌≤◌, ◌⊎◌, Bool, true, false, cond, ◌==◌, List, Option, Some, None, inl, inr, refl, sym, ◌∙◌, ap, subst, arith}
+use Rattle.std.proofs.Common.{◌≡◌, ℕ, zero, suc, ◌<◌, ◌≤◌, ◌⊎◌, Bool, true, false, cond, ◌==◌, List, Option, Some, None, option_map, find, inl, inr, refl, sym, ◌∙◌, ap, subst, arith}
 use Rattle.std.proofs.lemmas.Bool.{cases_eq}
 use Rattle.history.specs.declared.calls.Access.TheVariants.{Writable}
 use Rattle.history.specs.declared.calls.Call.{Call}
@@ -7,6 +7,7 @@ use Rattle.history.specs.declared.replies.Reply.{Reply}
 use Rattle.slot_arena.specs.declared.refs.Ref.{Ref}
 use Rattle.machine_model.specs.declared.actions.Action.{Action}
 use Rattle.machine_model.specs.declared.actions.Action.TheVariants as act
+use Rattle.machine_model.specs.declared.heaps.Commit.{Commit}
 use Rattle.machine_model.specs.declared.operations.Operation.{Operation}
 use Rattle.machine_model.specs.declared.reading.ReadLine.{ReadLine}
 use Rattle.machine_model.specs.declared.reading.ReadLine.TheVariants as read
@@ -40,6 +41,7 @@ use Rattle.machine_model.specs.declared.steps.Limits.{Limits}
 use Rattle.machine_model.specs.declared.steps.Step.TheVariants as step
 use Rattle.machine_model.specs.States.{State, operation_of}
 use Rattle.machine_model.specs.Reading.{read_action}
+use Rattle.machine_model.specs.Swapping.{complete_action_at, action_at}
 use Rattle.machine_model.specs.Operations.{first_line, line_action, line_after, action_of}
 use Rattle.machine_model.specs.Orders.{counted_from}
 use Rattle.machine_model.specs.Acting.{gone, marked, operation_after}
@@ -159,21 +161,55 @@ module _ (state : State) (operation : Operation) (t before : ℕ) where
 
   -- ---- only the last line ends
 
+  -- any other step goes on
+  abbrev Goes : Line → Type 0
+  Goes l = (answer : Reply) → line_action state operation l ≡ act.End answer → ⊥
+
   read_goes : (i : Ref) (l : ReadLine) (answer : Reply) → read_action i l ≡ act.End answer → ⊥
   read_goes i l answer e = grind arith
 
-  ends_at_end : (l : Line) (answer : Reply) → line_action state operation l ≡ act.End answer → stage_of l ≡ Rests
+  complete_goes : (offer : Descriptor) (x : CompleteLine) (answer : Reply) → complete_action_at offer x ≡ act.End answer → ⊥
+  complete_goes offer x answer e = grind (arith, read_goes)
+
+  key_goes : (l : KeyLine) → Goes (line.Key l)
+  key_goes l answer e = grind (arith, read_goes)
+
+  build_goes : (l : BuildLine) → Goes (line.Build l)
+  build_goes l answer e = grind arith
+
+  swap_goes : (i a f : Ref) (x : SwapLine) (answer : Reply) → action_at i a f x ≡ act.End answer → ⊥
+  swap_goes i a f x answer e = grind (arith, read_goes)
+
+  renew_goes : (l : RenewLine) → Goes (line.Renew l)
+  renew_goes l answer e = grind (arith, read_goes)
+
+  clean_goes : (l : CleanLine) → Goes (line.Clean l)
+  clean_goes l answer e = grind (arith, read_goes)
+
+  climb_goes : (l : ClimbLine) → Goes (line.Climb l)
+  climb_goes l answer e = grind (arith, read_goes)
+
+  copy_goes : (l : CopyLine) → Goes (line.Copy l)
+  copy_goes l answer e = grind (arith, read_goes)
+
+  walk_goes : (l : WalkLine) → Goes (line.Walk l)
+  walk_goes l answer e = grind (arith, read_goes)
+
+  root_goes : (l : RootLine) → Goes (line.Root l)
+  root_goes l answer e = grind (arith, read_goes)
+
+  pub ends_at_end : (l : Line) (answer : Reply) → line_action state operation l ≡ act.End answer → stage_of l ≡ Rests
   ends_at_end (line.End x) answer e = refl
   ends_at_end line.Impossible answer e = refl
-  ends_at_end (line.Root l) answer e = ?
-  ends_at_end (line.Key l) answer e = ?
-  ends_at_end (line.Build l) answer e = ?
-  ends_at_end (line.Swap why s) answer e = ?
-  ends_at_end (line.Renew l) answer e = ?
-  ends_at_end (line.Clean l) answer e = ?
-  ends_at_end (line.Climb l) answer e = ?
-  ends_at_end (line.Copy l) answer e = ?
-  ends_at_end (line.Walk l) answer e = ?
+  ends_at_end (line.Root l) answer e = absurd (root_goes l answer e)
+  ends_at_end (line.Key l) answer e = absurd (key_goes l answer e)
+  ends_at_end (line.Build l) answer e = absurd (build_goes l answer e)
+  ends_at_end (line.Swap why s) answer e = absurd (swap_goes s.indirection s.replaced s.fresh s.line answer e)
+  ends_at_end (line.Renew l) answer e = absurd (renew_goes l answer e)
+  ends_at_end (line.Clean l) answer e = absurd (clean_goes l answer e)
+  ends_at_end (line.Climb l) answer e = absurd (climb_goes l answer e)
+  ends_at_end (line.Copy l) answer e = absurd (copy_goes l answer e)
+  ends_at_end (line.Walk l) answer e = absurd (walk_goes l answer e)
 
 -- ---- what an actor remembers
 
@@ -319,3 +355,24 @@ module _ (limits : Limits) (states : ℕ → State) (last : ℕ) (known : Known 
 
   pub turn_at : TurnAt states last t
   turn_at = turn_by (step_at (states t) (states (suc t)) (known.run.turn t h))
+
+-- ---- the whole run
+
+pub remembers_at : (limits : Limits) (states : ℕ → State) (last : ℕ) → Known limits states last → (t : ℕ) → t ≤ last → (k : ℕ) →
+    ActorRemembers states last t k (operation_of (states t) k)
+remembers_at limits states last known t h =
+    from_time (λ v. (k : ℕ) → ActorRemembers states last v k (operation_of (states v) k)) zero last
+    (λ k. subst (λ x. ActorRemembers states last zero k x) (sym (idle_at_first limits known.run.limits_ok states known.run.first k)) tt)
+    (λ v b within so_far. (turn_at limits states last known v within so_far).remembers) t (omega arith) h
+
+-- the words of the run are those of a protocol
+pub protocol : (limits : Limits) (states : ℕ → State) (last : ℕ) → Known limits states last → Protocol
+protocol limits states last known = record {
+  words = words_of states last;
+  last = last;
+  first_decided = prev_at_first limits known.run.limits_ok states known.run.first;
+  first_made = made_at_first limits known.run.limits_ok states known.run.first;
+  first_stage = λ k. ap stage_of_actor (idle_at_first limits known.run.limits_ok states known.run.first k);
+  first_commit = λ m. ap (λ xs. option_map (λ (c : Commit). c.step) (find (λ (c : Commit). c.main == m) xs)) (uncommitted_at_first limits known.run.limits_ok states known.run.first);
+  turn = λ t h. (turn_at limits states last known t h (remembers_at limits states last known t (omega arith))).turn;
+}
