@@ -15,4 +15,5 @@ pub mod ReadTurns
 pub mod LineRests
 pub mod LineTurns
 pub mod FirstWords
+pub mod LineReads
 pub mod RunWords

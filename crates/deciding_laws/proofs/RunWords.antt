@@ -58,158 +58,8 @@ use Rattle.deciding_laws.proofs.GrownWords.{words_of, leaves_words, commit_of}
 use Rattle.deciding_laws.proofs.ReadTurns.{no_commit}
 use Rattle.deciding_laws.proofs.StepsAt.{StepAt, IsBegin, IsGo, IsEnd, IsSweep, step_at, gone_commits, begun_commits, after_mark, mark_stage, mark_from, go_others, go_own, end_others, end_own, begin_others, begin_own, actor_counts, begins_counted, begins_idle}
 use Rattle.deciding_laws.proofs.LineTurns.{LineStep, NextLine, line_turn}
+use Rattle.deciding_laws.proofs.LineReads.{CountsTo, line_counts, ends_at_end}
 use Rattle.deciding_laws.proofs.FirstWords.{prev_at_first, made_at_first, idle_at_first, uncommitted_at_first}
-
--- ---- whence a READ counts is the definition's field
-
-abbrev CountsTo : Stage → ℕ → ℕ → ℕ → Type 0
-CountsTo (Reads i l) t before after = after ≡ counts_at l t before
-CountsTo s t before after = Unit {0}
-
-read_counts : (i : Ref) (l : ReadLine) (t before : ℕ) → counted_from (read_action i l) t before ≡ counts_at l t before
-read_counts i read.Main t before = refl
-read_counts i (read.Prev m) t before = refl
-read_counts i (read.AskRoot m p) t before = refl
-read_counts i (read.Abort m p offer) t before = refl
-read_counts i (read.Decide m p told) t before = refl
-read_counts i (read.Restore m p) t before = refl
-
-module _ (state : State) (operation : Operation) (t before : ℕ) where
-  abbrev LineCounts : Line → Type 0
-  LineCounts l = CountsTo (stage_of l) t before (counted_from (line_action state operation l) t before)
-
-  root_counts : (offer : Descriptor) (x : CompleteLine) → LineCounts (line.Root (root.Completing (record { offer = offer; line = x })))
-  root_counts offer (complete.Reading x) = read_counts offer.root x t before
-  root_counts offer (complete.Swap main) = tt
-
-  climb_root_counts : (c : Climb) (offer : Descriptor) (x : CompleteLine) → LineCounts (line.Climb (climb.Root c (root.Completing (record { offer = offer; line = x }))))
-  climb_root_counts c offer (complete.Reading x) = read_counts offer.root x t before
-  climb_root_counts c offer (complete.Swap main) = tt
-
-  copy_complete_counts : (offer : Descriptor) (x : CompleteLine) → LineCounts (line.Copy (copy.Complete (record { offer = offer; line = x })))
-  copy_complete_counts offer (complete.Reading x) = read_counts offer.root x t before
-  copy_complete_counts offer (complete.Swap main) = tt
-
-  key_counts : (l : KeyLine) → LineCounts (line.Key l)
-  key_counts (key.Read path r) = read_counts r.indirection r.line t before
-  key_counts (key.Main path main) = tt
-  key_counts (key.Entry path main position) = tt
-  key_counts (key.Listed path main position) = tt
-  key_counts (key.Sibling path main position former) = tt
-
-  build_counts : (l : BuildLine) → LineCounts (line.Build l)
-  build_counts (build.Single path main site former) = tt
-  build_counts (build.Pair path main position single depth) = tt
-  build_counts (build.Link path main position below depth) = tt
-  build_counts (build.Rung path main position below depth) = tt
-  build_counts (build.Main path main c former) = tt
-
-  swap_counts : (why : Purpose) (i a f : Ref) (x : SwapLine) → let s : Swap = record { indirection = i; replaced = a; fresh = f; line = x } in LineCounts (line.Swap why s)
-  swap_counts why i a f swap.Publish = tt
-  swap_counts why i a f (swap.Deciding x) = tt
-  swap_counts why i a f swap.Check = tt
-
-  renew_counts : (l : RenewLine) → LineCounts (line.Renew l)
-  renew_counts (renew.Entry path main done) = tt
-  renew_counts (renew.Read path main done r) = read_counts r.indirection r.line t before
-  renew_counts (renew.Link path main done child) = tt
-  renew_counts (renew.Branch path main done) = tt
-
-  clean_counts : (l : CleanLine) → LineCounts (line.Clean l)
-  clean_counts (clean.Read path r) = read_counts r.indirection r.line t before
-  clean_counts (clean.Main path main) = tt
-  clean_counts (clean.Entry path main done) = tt
-  clean_counts (clean.Child path main done r) = read_counts r.indirection r.line t before
-  clean_counts (clean.Tomb path main done child) = tt
-  clean_counts (clean.Contracted path main done) = tt
-
-  climb_counts : (l : ClimbLine) → LineCounts (line.Climb l)
-  climb_counts (climb.Read c r) = read_counts r.indirection r.line t before
-  climb_counts (climb.Main c main) = tt
-  climb_counts (climb.Contracted c main) = tt
-  climb_counts (climb.Root c root.Read) = tt
-  climb_counts (climb.Root c (root.Completing x)) = climb_root_counts c x.offer x.line
-
-  copy_counts : (l : CopyLine) → LineCounts (line.Copy l)
-  copy_counts (copy.Read at r) = read_counts r.indirection r.line t before
-  copy_counts (copy.Successor at main) = tt
-  copy_counts (copy.Second at main successor) = tt
-  copy_counts (copy.Empty at main) = tt
-  copy_counts (copy.Cleared at main branch) = tt
-  copy_counts (copy.Offer offer) = tt
-  copy_counts (copy.Complete x) = copy_complete_counts x.offer x.line
-
-  walk_counts : (l : WalkLine) → LineCounts (line.Walk l)
-  walk_counts walk.Root = tt
-  walk_counts (walk.Read r todo pairs) = read_counts r.indirection r.line t before
-  walk_counts (walk.Main main todo pairs) = tt
-  walk_counts (walk.Entry todo pairs) = tt
-
-  pub line_counts : (l : Line) → LineCounts l
-  line_counts (line.Root root.Read) = tt
-  line_counts (line.Root (root.Completing x)) = root_counts x.offer x.line
-  line_counts (line.Key l) = key_counts l
-  line_counts (line.Build l) = build_counts l
-  line_counts (line.Swap why s) = swap_counts why s.indirection s.replaced s.fresh s.line
-  line_counts (line.Renew l) = renew_counts l
-  line_counts (line.Clean l) = clean_counts l
-  line_counts (line.Climb l) = climb_counts l
-  line_counts (line.Copy l) = copy_counts l
-  line_counts (line.Walk l) = walk_counts l
-  line_counts (line.End answer) = tt
-  line_counts line.Impossible = tt
-
-  -- ---- only the last line ends
-
-  -- any other step goes on
-  abbrev Goes : Line → Type 0
-  Goes l = (answer : Reply) → line_action state operation l ≡ act.End answer → ⊥
-
-  read_goes : (i : Ref) (l : ReadLine) (answer : Reply) → read_action i l ≡ act.End answer → ⊥
-  read_goes i l answer e = grind arith
-
-  complete_goes : (offer : Descriptor) (x : CompleteLine) (answer : Reply) → complete_action_at offer x ≡ act.End answer → ⊥
-  complete_goes offer x answer e = grind (arith, read_goes)
-
-  key_goes : (l : KeyLine) → Goes (line.Key l)
-  key_goes l answer e = grind (arith, read_goes)
-
-  build_goes : (l : BuildLine) → Goes (line.Build l)
-  build_goes l answer e = grind arith
-
-  swap_goes : (i a f : Ref) (x : SwapLine) (answer : Reply) → action_at i a f x ≡ act.End answer → ⊥
-  swap_goes i a f x answer e = grind (arith, read_goes)
-
-  renew_goes : (l : RenewLine) → Goes (line.Renew l)
-  renew_goes l answer e = grind (arith, read_goes)
-
-  clean_goes : (l : CleanLine) → Goes (line.Clean l)
-  clean_goes l answer e = grind (arith, read_goes)
-
-  climb_goes : (l : ClimbLine) → Goes (line.Climb l)
-  climb_goes l answer e = grind (arith, read_goes)
-
-  copy_goes : (l : CopyLine) → Goes (line.Copy l)
-  copy_goes l answer e = grind (arith, read_goes)
-
-  walk_goes : (l : WalkLine) → Goes (line.Walk l)
-  walk_goes l answer e = grind (arith, read_goes)
-
-  root_goes : (l : RootLine) → Goes (line.Root l)
-  root_goes l answer e = grind (arith, read_goes)
-
-  pub ends_at_end : (l : Line) (answer : Reply) → line_action state operation l ≡ act.End answer → stage_of l ≡ Rests
-  ends_at_end (line.End x) answer e = refl
-  ends_at_end line.Impossible answer e = refl
-  ends_at_end (line.Root l) answer e = absurd (root_goes l answer e)
-  ends_at_end (line.Key l) answer e = absurd (key_goes l answer e)
-  ends_at_end (line.Build l) answer e = absurd (build_goes l answer e)
-  ends_at_end (line.Swap why s) answer e = absurd (swap_goes s.indirection s.replaced s.fresh s.line answer e)
-  ends_at_end (line.Renew l) answer e = absurd (renew_goes l answer e)
-  ends_at_end (line.Clean l) answer e = absurd (clean_goes l answer e)
-  ends_at_end (line.Climb l) answer e = absurd (climb_goes l answer e)
-  ends_at_end (line.Copy l) answer e = absurd (copy_goes l answer e)
-  ends_at_end (line.Walk l) answer e = absurd (walk_goes l answer e)
 
 -- ---- what an actor remembers
 
@@ -283,7 +133,7 @@ module _ (limits : Limits) (states : ℕ → State) (last : ℕ) (known : Known 
       record {
         turn = Acts actor (subst (λ s. Moves w t actor s (w.stage (suc t) actor)) (sym before) (subst (λ s. Moves w t actor (stage_of operation.line) s) (sym after) next.moves))
             (counts_so actor (w.stage t actor) (stage_of operation.line) before operation.read_at from_before
-            (subst (λ n. CountsTo (stage_of operation.line) t operation.read_at n) (sym from_after) (line_counts (states t) operation t operation.read_at operation.line)))
+            (subst (λ n. CountsTo (stage_of operation.line) t operation.read_at n) (sym from_after) (line_counts (states t) operation operation.line t operation.read_at)))
             (λ j apart. same_actor m j (others j apart));
         remembers = λ j. remembers_by m actor others
             (subst (λ x. ActorRemembers states last (suc t) actor x) (sym own)
@@ -342,7 +192,7 @@ module _ (limits : Limits) (states : ℕ → State) (last : ℕ) (known : Known 
       let kept = no_commit limits states last known t h (ap (λ (s : State). s.commits) e) in
       let stays = subst (λ x. ActsOn states t x) a (known.acts t h actor o m operation is) in
       let own : operation_of (states (suc t)) actor ≡ None = ap (λ (s : State). operation_of s actor) e ∙ end_own (states t) actor operation answer in
-      idle_turn actor (leaves_words states last t stays kept) (ap stage_of_actor is ∙ ends_at_end (states t) operation t t operation.line answer a) (ap stage_of_actor own)
+      idle_turn actor (leaves_words states last t stays kept) (ap stage_of_actor is ∙ ends_at_end (states t) operation operation.line answer a) (ap stage_of_actor own)
       (subst (λ x. ActorRemembers states last (suc t) actor x) (sym own) tt)
       (λ j apart. ap (λ (s : State). operation_of s j) e ∙ end_others (states t) actor operation answer (actor_counts (states t) actor operation is) j apart)
   turn_by (IsSweep o m e) =
