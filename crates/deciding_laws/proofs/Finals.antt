@@ -178,7 +178,7 @@ first_commit_by p t h commits m q e (Some c) is =
     let was = commits.each m c is in
     absurd (none≢pending (committed_stays p m was.1 c t was.0 h was.2) e.was)
 
-first_commit : (p : Protocol) (t : ℕ) → t ≤ p.last → AreCommits p.words t → (m q : Ref) → CommitsNode p.words t m q → p.words.commit t m ≡ None
+pub first_commit : (p : Protocol) (t : ℕ) → t ≤ p.last → AreCommits p.words t → (m q : Ref) → CommitsNode p.words t m q → p.words.commit t m ≡ None
 first_commit p t h commits m q e = first_commit_by p t h commits m q e (p.words.commit t m) refl
 
 commits_by : (p : Protocol) (t : ℕ) → t ≤ p.last → AreCommits p.words t → CommitStep p.words t → AreCommits p.words (suc t)

@@ -17,3 +17,4 @@ pub mod LineTurns
 pub mod FirstWords
 pub mod LineReads
 pub mod RunWords
+pub mod Moments

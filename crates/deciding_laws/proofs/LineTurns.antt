@@ -160,7 +160,7 @@ module _ (limits : Limits) (states : ℕ → State) (last : ℕ) (known : Known 
   names_none s node none is = absurd (true≢false (sym is ∙ none))
 
   -- a step of a READ
-  own_read : (i : Ref) (l : ReadLine) → ActsOn states t (read_action i l) → (states (suc t)).commits ≡ commits_after (states t) (committed_by heap i l) →
+  pub own_read : (i : Ref) (l : ReadLine) → ActsOn states t (read_action i l) → (states (suc t)).commits ≡ commits_after (states t) (committed_by heap i l) →
       ReadRemembers W l → ((m p : Ref) → l ≡ read.AskRoot m p → W → ToldOpen) → ReadTurn w t i l (read_after heap operation.access word i l)
   own_read i l a c r asks =
       read_turn limits states last known t h i l operation.access word a c (λ m p e. asks m p e (subst (λ x. ReadRemembers W x) e r))
@@ -184,7 +184,7 @@ module _ (limits : Limits) (states : ℕ → State) (last : ℕ) (known : Known 
       read_out i l after stage same goes gives _ (own_read i l a c r asks) (read_remembers heap operation.access word i l r)
 
   -- a line that asks is the operation's READ
-  asks_of : (l : Line) (i : Ref) (x : ReadLine) → read_of l ≡ Some (record { indirection = i; line = x }) →
+  pub asks_of : (l : Line) (i : Ref) (x : ReadLine) → read_of l ≡ Some (record { indirection = i; line = x }) →
       ((i m p : Ref) → read_of l ≡ Some (record { indirection = i; line = read.AskRoot m p }) → W → ToldOpen) → (m p : Ref) → x ≡ read.AskRoot m p → W → ToldOpen
   asks_of l i x is asks m p e = asks i m p (is ∙ ap (λ y. Some (record { indirection = i; line = y })) e)
 

@@ -63,7 +63,7 @@ use Rattle.deciding_laws.proofs.FirstWords.{prev_at_first, made_at_first, idle_a
 
 -- ---- what an actor remembers
 
-abbrev ActorRemembers : (ℕ → State) → ℕ → ℕ → ℕ → Option Operation → Type 0
+abbrev pub ActorRemembers : (ℕ → State) → ℕ → ℕ → ℕ → Option Operation → Type 0
 ActorRemembers states last t k None = Unit {0}
 ActorRemembers states last t k (Some operation) = Remembers (λ i m. Given (words_of states last) t k i m) (operation.access ≡ Writable) operation.line
 
@@ -216,7 +216,7 @@ remembers_at limits states last known t h =
     (λ v b within so_far. (turn_at limits states last known v within so_far).remembers) t (omega arith) h
 
 -- the words of the run are those of a protocol
-pub protocol : (limits : Limits) (states : ℕ → State) (last : ℕ) → Known limits states last → Protocol
+abbrev pub protocol : (limits : Limits) (states : ℕ → State) (last : ℕ) → Known limits states last → Protocol
 protocol limits states last known = record {
   words = words_of states last;
   last = last;
