@@ -8,7 +8,7 @@ use Rattle.slot_arena.specs.declared.nodes.Node.TheVariants.{Indirection, Branch
 use Rattle.slot_arena.specs.declared.nodes.Prev.{Prev}
 use Rattle.slot_arena.specs.declared.nodes.Prev.TheVariants as over
 use Rattle.slot_arena.specs.declared.nodes.Slot.{Slot}
-use Rattle.slot_arena.specs.Heaps.{Heap, node_at, main_at, prev_at, generation_at, generation_of, main_changed, prev_changed, next_ref}
+use Rattle.slot_arena.specs.Heaps.{Heap, node_at, main_at, prev_at, generation_at, generation_of, main_of, main_changed, prev_changed, next_ref}
 use Rattle.machine_model.specs.declared.actions.Action.{Action}
 use Rattle.machine_model.specs.declared.actions.Action.TheVariants as act
 use Rattle.machine_model.specs.declared.building.Change.{Change}
@@ -27,7 +27,7 @@ use Rattle.machine_model.specs.Operations.{action_of, read_of}
 use Rattle.machine_model.specs.Reading.{Verdict, Commits, Fails, Overtaken, verdict}
 use Rattle.machine_model.proofs.Moves.{Moves}
 use Rattle.machine_model.proofs.Times.{IsRun}
-use Rattle.machine_model.proofs.Grown.{grown, node_under, main_word, prev_word}
+use Rattle.machine_model.proofs.Grown.{standing, grown, node_under, main_word, prev_word}
 
 -- ---- what a step does to the heap that only grows
 
@@ -116,6 +116,9 @@ pub record Known (limits : Limits) (states : ℕ → State) (last : ℕ) : Type 
   -- memory: what a change is built from is a main node
   pub built_from_main : (t : ℕ) → t < last → (actor : ℕ) (operation : Operation) → operation_of (states t) actor ≡ Some operation → (path : List Ref) (main : Ref)
       (c : Change) (former : Option ℕ) → operation.line ≡ line.Build (build.Main path main c former) → is_link (node_at (states t).heap main) ≡ false
+  -- memory: the main word of an indirection in use names what is in use
+  pub mains_stand : (t : ℕ) → t ≤ last → (i : Ref) (slot : Slot) → standing (states t).heap i ≡ Some slot → is_link slot.node ≡ true →
+      (main : Slot) × (standing (states t).heap (main_of slot.node) ≡ Some main)
   -- roots: where a READ on a writable handle asks for the root, and finds it with no offer, the root's generation wasn't closed before
   pub open_root : (t : ℕ) → t < last → (actor : ℕ) (operation : Operation) → operation_of (states t) actor ≡ Some operation → (i main previous : Ref) →
       read_of operation.line ≡ Some (record { indirection = i; line = read.AskRoot main previous }) → operation.access ≡ Writable → (r : Ref) →

@@ -18,3 +18,4 @@ pub mod FirstWords
 pub mod LineReads
 pub mod RunWords
 pub mod Moments
+pub mod InHeap
