@@ -19,3 +19,4 @@ pub mod LineReads
 pub mod RunWords
 pub mod Moments
 pub mod InHeap
+pub mod SwapLines

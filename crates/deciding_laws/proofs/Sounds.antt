@@ -171,18 +171,20 @@ owner_stays w t k e moves others m p o pend still (inl own) =
 owner_stays w t k e moves others m p o pend still (inr other) = owner_same w t e m p o (others o.actor other) pend
 
 -- the owner of a node that the step swaps in
-record NewOwner (w : Words) (t : ℕ) (after : Stage) (m p : Ref) : Type 0 where
-  link : Ref
-  stage : after ≡ Decides link p m (read.Prev m)
-  is_link : w.link (suc t) link ≡ true
-  stands : w.main (suc t) link ≡ m
+pub record NewOwner (w : Words) (t : ℕ) (s after : Stage) (m p : Ref) : Type 0 where
+  pub link : Ref
+  pub before : s ≡ Publishes link p m
+  pub stage : after ≡ Decides link p m (read.Prev m)
+  pub is_link : w.link (suc t) link ≡ true
+  pub stands : w.main (suc t) link ≡ m
 
 swapped_owner : (w : Words) (t : ℕ) (i a f m p : Ref) → w.link t i ≡ true → SwapsIn w t i a f → w.prev t m ≡ over.None → w.prev (suc t) m ≡ over.Pending p →
-    (m ≡ f) ⊎ (m ≡ f → ⊥) → NewOwner w t (Decides i a f (read.Prev f)) m p
+    (m ≡ f) ⊎ (m ≡ f → ⊥) → NewOwner w t (Publishes i a f) (Decides i a f (read.Prev f)) m p
 swapped_owner w t i a f m p l e n still (inl same) =
     let is_replaced : a ≡ p = same_pending e.prev.here (ap (w.prev (suc t)) (sym same) ∙ still) in
     record {
       link = i;
+      before = ap (λ x. Publishes i x f) is_replaced ∙ ap (λ x. Publishes i p x) (sym same);
       stage = ap (λ x. Decides i x f (read.Prev f)) is_replaced ∙ ap (λ x. Decides i p x (read.Prev x)) (sym same);
       is_link = e.makes.link i ∙ l;
       stands = e.main.here ∙ sym same;
@@ -190,7 +192,7 @@ swapped_owner w t i a f m p l e n still (inl same) =
 swapped_owner w t i a f m p l e n still (inr apart) = absurd (none≢pending (e.prev.elsewhere m apart ∙ n) still)
 
 new_owner : (w : Words) (t k : ℕ) (h : IsSound w t) (s after : Stage) → Staged w t k s → Moves w t k s after → (m p : Ref) → w.prev t m ≡ over.None →
-    w.prev (suc t) m ≡ over.Pending p → NewOwner w t after m p
+    w.prev (suc t) m ≡ over.Pending p → NewOwner w t s after m p
 new_owner w t k h s after st (Idles e x r) m p n still = absurd (none≢pending (e.prev m ∙ n) still)
 new_owner w t k h s after st (MakesNode q e x name have) m p n still = absurd (none≢pending (e.prev m ∙ n) still)
 new_owner w t k h s after st (SwapsNode {i} {a} {f} l e) m p n still = swapped_owner w t i a f m p l e n still (cases_eq m f)
@@ -199,8 +201,16 @@ new_owner w t k h s after st (ReadsOn {i} {l} {out} r) m p n still =
 new_owner w t k h s after st (DecidesOn {i} {a} {f} {l} {out} r) m p n still =
     absurd (none≢pending (none_after w t (read_effect w t h.words i l out st.0 r) m (read_swaps w t h.words i l out st.0 r m) n) still)
 
-owner_of_new : (w : Words) (t k : ℕ) (m p : Ref) → NewOwner w t (w.stage (suc t) k) m p → Owner w (suc t) m p
+owner_of_new : (w : Words) (t k : ℕ) (m p : Ref) → NewOwner w t (w.stage t k) (w.stage (suc t) k) m p → Owner w (suc t) m p
 owner_of_new w t k m p o = record { actor = k; link = o.link; line = read.Prev m; stage = o.stage; deciding = refl; is_link = o.is_link; stands = o.stands }
+
+-- who swaps a node in stood on the first line of that SWAP
+pub swapper : (w : Words) (t : ℕ) → IsSound w t → Turn w t → (m p : Ref) → w.prev t m ≡ over.None → w.prev (suc t) m ≡ over.Pending p →
+    (k : ℕ) × (i : Ref) × (w.stage t k ≡ Publishes i p m)
+swapper w t h (Passes e same) m p n still = absurd (none≢pending (e.prev m ∙ n) still)
+swapper w t h (Acts k moves counts same) m p n still =
+    let o = new_owner w t k h (w.stage t k) (w.stage (suc t) k) (h.staged k) moves m p n still in
+    (k, o.link, o.before)
 
 owned_by : (w : Words) (t k : ℕ) (h : IsSound w t) (e : Effect w t) → Moves w t k (w.stage t k) (w.stage (suc t) k) →
     ((j : ℕ) → (j ≡ k → ⊥) → w.stage (suc t) j ≡ w.stage t j) → (m p : Ref) → w.prev (suc t) m ≡ over.Pending p → Becomes w t m → Owner w (suc t) m p

@@ -52,7 +52,7 @@ pub data PrevChange (before after : State) (main : Ref) : Type 0 where
   Stays : prev_at after.heap main ≡ prev_at before.heap main → PrevChange before after main
   -- in the step that swaps the node in
   IsSwappedIn : {replaced : Ref} (actor : ℕ) (operation : Operation) (indirection : Ref) → operation_of before actor ≡ Some operation →
-      IsInSwap operation indirection replaced main Publish → main_at before.heap indirection ≡ replaced → prev_at before.heap main ≡ prev.None →
+      IsInSwap operation indirection replaced main Publish → prev_at before.heap main ≡ prev.None →
       prev_at after.heap main ≡ prev.Pending replaced → PrevChange before after main
   IsCommitted : {replaced : Ref} → prev_at before.heap main ≡ prev.Pending replaced → prev_at after.heap main ≡ prev.None → PrevChange before after main
   HasFailed : {replaced : Ref} → prev_at before.heap main ≡ prev.Pending replaced → prev_at after.heap main ≡ prev.Failed replaced → PrevChange before after main
