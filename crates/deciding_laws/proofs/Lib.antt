@@ -20,3 +20,4 @@ pub mod RunWords
 pub mod Moments
 pub mod InHeap
 pub mod SwapLines
+pub mod Laws

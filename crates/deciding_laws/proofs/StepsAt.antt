@@ -43,7 +43,7 @@ pub data StepAt (before after : State) : Type 0 where
       action_of before operation ≡ act.End answer → after ≡ settled before (ended before actor operation answer) → StepAt before after
   IsSweep : (o : Outcome) → Moves before step.Sweep o after → after ≡ settled before (swept before).1 → StepAt before after
 
-of_move : (before : State) (s : Step) (o : Outcome) (after : State) → Moves before s o after → StepAt before after
+pub of_move : (before : State) (s : Step) (o : Outcome) (after : State) → Moves before s o after → StepAt before after
 of_move before s o after (Begins {actor} {call} d) = IsBegin actor call _ (Begins d) d refl
 of_move before s o after (Goes {actor} {operation} {action} d is a g) = IsGo actor operation _ (Goes d is a g) is (subst GoesOn (sym a) g) refl
 of_move before s o after (Ends {actor} {operation} {answer} d is a) = IsEnd actor operation answer _ (Ends d is a) is a refl
