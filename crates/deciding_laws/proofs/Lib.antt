@@ -21,3 +21,4 @@ pub mod Moments
 pub mod InHeap
 pub mod SwapLines
 pub mod Laws
+pub mod FromHeap
