@@ -44,6 +44,7 @@ use Rattle.deciding_laws.proofs.Mains.{MainStep, MainStays, MainChanges, main_st
 use Rattle.deciding_laws.proofs.Readings.{IsMoment, given_for_good as protocol_for_good}
 use Rattle.deciding_laws.proofs.Stages.{stage_of, stage_of_actor}
 use Rattle.deciding_laws.proofs.Known.{is_link, Known}
+use Rattle.deciding_laws.proofs.OtherLayers.{OtherLayers, known}
 use Rattle.deciding_laws.proofs.GrownWords.{words_of}
 use Rattle.deciding_laws.proofs.ReadTurns.{generation_stays}
 use Rattle.deciding_laws.proofs.StepsAt.{StepAt, IsBegin, IsGo, IsEnd, IsSweep, of_move}
@@ -56,8 +57,12 @@ use Rattle.deciding_laws.specs.Runs.{steps_taken, state_before, IsInUse, HasIndi
 use Rattle.deciding_laws.specs.Deciding.{IsInSwap, Owner, PendingHasOwner, PrevChange, Stays, IsSwappedIn, IsCommitted as ChangeCommitted, HasFailed, PrevWordsChange, DecidedForGood, CommitsMain, MainsChangeByCommits, ReplacedForGood, IsGiven, after_given, MomentIsFirst, GivenForGood}
 
 -- what other layers give of every run
-abbrev pub KnownOfRuns : Type 0
-KnownOfRuns = (limits : Limits) (steps : List Step) → AreLimits limits → Known limits (states_of limits steps) (last_of limits steps)
+abbrev pub LayersOfRuns : Type 0
+LayersOfRuns = (limits : Limits) (steps : List Step) → AreLimits limits → OtherLayers limits (states_of limits steps) (last_of limits steps)
+
+-- what is known of its words then
+known_of : LayersOfRuns → (limits : Limits) (steps : List Step) → AreLimits limits → Known limits (states_of limits steps) (last_of limits steps)
+known_of layers limits steps ok = known limits (states_of limits steps) (last_of limits steps) (layers limits steps ok)
 
 -- the states of a run, told as a list of steps
 same_states : (limits : Limits) (steps : List Step) → states_of limits steps ≡ state_before limits steps
@@ -249,9 +254,9 @@ module _ (limits : Limits) (ok : AreLimits limits) (steps : List Step) (known : 
 
 -- ---- the laws
 
-pub pending_has_owner : KnownOfRuns → PendingHasOwner
-pending_has_owner known limits steps ok =
-    subst (λ s. OwnedIn s) (run_ends limits steps) (owned_at limits ok steps (known limits steps ok) (last_of limits steps) (omega arith))
+pub pending_has_owner : LayersOfRuns → PendingHasOwner
+pending_has_owner layers limits steps ok =
+    subst (λ s. OwnedIn s) (run_ends limits steps) (owned_at limits ok steps (known_of layers limits steps ok) (last_of limits steps) (omega arith))
 
 -- a step leads from its number to the next one
 abbrev Next : (State → State → Type 0) → (ℕ → State) → ℕ → Type 0
@@ -260,41 +265,41 @@ Next P states n = P (states n) (states (n + 1))
 next_state : (P : State → State → Type 0) (states : ℕ → State) (n : ℕ) → P (states n) (states (suc n)) → Next P states n
 next_state P states n h = subst (λ k. P (states n) (states k)) (sym (add-one n)) h
 
-pub prev_words_change : KnownOfRuns → PrevWordsChange
-prev_words_change known limits steps ok =
+pub prev_words_change : LayersOfRuns → PrevWordsChange
+prev_words_change layers limits steps ok =
     subst (λ (s : ℕ → State). (n : ℕ) → n < steps_taken limits steps → (main : Ref) → IsInUse (s n) main → IsInUse (s (n + 1)) main → PrevChange (s n) (s (n + 1)) main)
     (same_states limits steps)
-    (λ n h main. next_state (λ a b. IsInUse a main → IsInUse b main → PrevChange a b main) (states_of limits steps) n (prev_changes limits ok steps (known limits steps ok) n h main))
+    (λ n h main. next_state (λ a b. IsInUse a main → IsInUse b main → PrevChange a b main) (states_of limits steps) n (prev_changes limits ok steps (known_of layers limits steps ok) n h main))
 
-pub decided_for_good : KnownOfRuns → DecidedForGood
-decided_for_good known limits steps ok =
+pub decided_for_good : LayersOfRuns → DecidedForGood
+decided_for_good layers limits steps ok =
     subst (λ (s : ℕ → State). (n k l : ℕ) → n ≤ k → k ≤ l → l ≤ steps_taken limits steps → (main replaced : Ref) → IsInUse (s n) main → IsInUse (s k) main → IsInUse (s l) main →
     prev_at (s n).heap main ≡ over.Pending replaced → (prev_at (s k).heap main ≡ over.Pending replaced → ⊥) → prev_at (s l).heap main ≡ prev_at (s k).heap main)
-    (same_states limits steps) (decided_for_good_at limits ok steps (known limits steps ok))
+    (same_states limits steps) (decided_for_good_at limits ok steps (known_of layers limits steps ok))
 
-pub mains_change_by_commits : KnownOfRuns → MainsChangeByCommits
-mains_change_by_commits known limits steps ok =
+pub mains_change_by_commits : LayersOfRuns → MainsChangeByCommits
+mains_change_by_commits layers limits steps ok =
     subst (λ (s : ℕ → State). (n : ℕ) → n < steps_taken limits steps → (i : Ref) → HasIndirection (s n) i → HasIndirection (s (n + 1)) i →
     (logical_main (s (n + 1)).heap i ≡ logical_main (s n).heap i) ⊎ CommitsMain (s n) (s (n + 1)) i)
     (same_states limits steps)
     (λ n h i. next_state (λ a b. HasIndirection a i → HasIndirection b i → (logical_main b.heap i ≡ logical_main a.heap i) ⊎ CommitsMain a b i) (states_of limits steps) n
-    (main_changes limits ok steps (known limits steps ok) n h i))
+    (main_changes limits ok steps (known_of layers limits steps ok) n h i))
 
-pub law_replaced_for_good : KnownOfRuns → ReplacedForGood
-law_replaced_for_good known limits steps ok =
+pub law_replaced_for_good : LayersOfRuns → ReplacedForGood
+law_replaced_for_good layers limits steps ok =
     subst (λ (s : ℕ → State). (n k l : ℕ) → n ≤ k → k ≤ l → l ≤ steps_taken limits steps → (i : Ref) → HasIndirection (s n) i → HasIndirection (s k) i → HasIndirection (s l) i →
     (logical_main (s k).heap i ≡ logical_main (s n).heap i → ⊥) → logical_main (s l).heap i ≡ logical_main (s n).heap i → ⊥)
-    (same_states limits steps) (replaced_at limits ok steps (known limits steps ok))
+    (same_states limits steps) (replaced_at limits ok steps (known_of layers limits steps ok))
 
-pub moment_is_first : KnownOfRuns → MomentIsFirst
-moment_is_first known limits steps ok n h i m g =
-    let k = known limits steps ok in
+pub moment_is_first : LayersOfRuns → MomentIsFirst
+moment_is_first layers limits steps ok n h i m g =
+    let k = known_of layers limits steps ok in
     subst (λ (s : ℕ → State). MomentOver limits ok steps k s n i m (read_at_after (state_before limits steps n) g.operation) (moment_after (state_before limits steps n) g.operation))
     (same_states limits steps) (moment_over limits ok steps k n h i m _ _ (given_moment limits ok steps k n h i m g))
 
-pub law_given_for_good : KnownOfRuns → GivenForGood
-law_given_for_good known limits steps ok n h i m g closed is before has k after within still =
-    let kn = known limits steps ok in
+pub law_given_for_good : LayersOfRuns → GivenForGood
+law_given_for_good layers limits steps ok n h i m g closed is before has k after within still =
+    let kn = known_of layers limits steps ok in
     let e = states_are limits steps in
     let was : closed_at (states_of limits steps (last_of limits steps)) (generation_at (states_of limits steps n).heap i) ≡ Some closed =
         ap (λ (s : State). closed_at s (generation_at (states_of limits steps n).heap i)) (run_ends limits steps)

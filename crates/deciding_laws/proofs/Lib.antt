@@ -19,6 +19,7 @@ pub mod LineReads
 pub mod RunWords
 pub mod Moments
 pub mod InHeap
+pub mod FromHeap
+pub mod OtherLayers
 pub mod SwapLines
 pub mod Laws
-pub mod FromHeap
