@@ -7,6 +7,7 @@ pub mod Finals
 pub mod Mains
 pub mod Closings
 pub mod Readings
+pub mod Swaps
 pub mod Stages
 pub mod Known
 pub mod GrownWords

@@ -271,3 +271,21 @@ given_for_good p i m r mu t c h moment closed before u after within =
     from_time (λ v. main_at p.words v i ≡ m) (suc mu) p.last moment.is
     (λ v later inside is. final_step p i m r mu t c v moment closed before later inside is
     (main_step p v inside i (link_stays p i (suc r) v (omega (arith, moment.from)) (omega arith) moment.link))) u after within
+
+-- ---- after a closing
+
+-- what commits after the generation was closed stood in the word at each step from the closing on
+late_stood : (p : Protocol) (i f q : Ref) (c n u : ℕ) → p.words.closing (p.words.generation i) ≡ Some c → c ≤ n → n ≤ u → u < p.last → Stood p.words u i f →
+    CommitsNode p.words u f q → p.words.main n i ≡ f
+late_stood p i f q c n u closed before after within s commits =
+    let early = commits_early p u within i f q commits s in
+    let at_n : Stood p.words n i f = record { at = early.at; past = omega (arith, early.early c closed); link = early.link; is = early.is } in
+    pending_stands p.words n (sound_at p n (omega arith)) i f q at_n (pending_back p i f q n u after (omega arith) at_n commits.was)
+
+-- so there is one such commit at most
+pub closed_once : (p : Protocol) (i f q g r : Ref) (c n u : ℕ) → p.words.closing (p.words.generation i) ≡ Some c → c ≤ n → n < u → u < p.last → p.words.link n i ≡ true →
+    p.words.main n i ≡ f → CommitsNode p.words n f q → p.words.link u i ≡ true → p.words.main u i ≡ g → CommitsNode p.words u g r → ⊥
+closed_once p i f q g r c n u closed before after within ln stands first lu stands_u second =
+    let s : Stood p.words u i g = record { at = u; past = omega arith; link = lu; is = stands_u } in
+    let same : g ≡ f = sym (late_stood p i g r c n u closed before (omega arith) within s second) ∙ stands in
+    none≢pending (committed_stays p f q n u after (omega arith) first) (ap (p.words.prev u) (sym same) ∙ second.was)
