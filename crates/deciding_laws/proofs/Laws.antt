@@ -40,8 +40,10 @@ use Rattle.deciding_laws.proofs.Owners.{HasFresh, IsSound}
 use Rattle.deciding_laws.proofs.Owners as Owned
 use Rattle.deciding_laws.proofs.Sounds.{sound_at, swapper}
 use Rattle.deciding_laws.proofs.Finals.{effect, none_final, failed_final, Fate, StillPending, HasFailed as FateFailed, HasCommitted, fate}
-use Rattle.deciding_laws.proofs.Mains.{MainStep, MainStays, MainChanges, main_step, replaced_for_good}
-use Rattle.deciding_laws.proofs.Readings.{IsMoment, given_for_good as protocol_for_good}
+use Rattle.deciding_laws.proofs.Mains.{CommitsMain as Changed, MainStep, MainStays, MainChanges, main_step, replaced_for_good}
+use Rattle.deciding_laws.proofs.Readings.{IsMoment, closed_once, given_for_good as protocol_for_good}
+use Rattle.deciding_laws.proofs.Closings.{commits_early}
+use Rattle.deciding_laws.proofs.Swaps.{checked}
 use Rattle.deciding_laws.proofs.Stages.{stage_of, stage_of_actor}
 use Rattle.deciding_laws.proofs.Known.{is_link, Known}
 use Rattle.deciding_laws.proofs.OtherLayers.{OtherLayers, known}
@@ -54,7 +56,7 @@ use Rattle.deciding_laws.proofs.Moments.{moment_at}
 use Rattle.deciding_laws.proofs.InHeap.{states_are, step_leads, in_use_stands, grown_standing, node_standing, prev_standing, link_of, logical_standing}
 use Rattle.deciding_laws.proofs.SwapLines.{RunsSwap, runs_deciding, runs_publishing, in_swap_fresh, reads_stage}
 use Rattle.deciding_laws.specs.Runs.{steps_taken, state_before, IsInUse, HasIndirection, IsIndirection}
-use Rattle.deciding_laws.specs.Deciding.{IsInSwap, Owner, PendingHasOwner, PrevChange, Stays, IsSwappedIn, IsCommitted as ChangeCommitted, HasFailed, PrevWordsChange, DecidedForGood, CommitsMain, MainsChangeByCommits, ReplacedForGood, IsGiven, after_given, MomentIsFirst, GivenForGood}
+use Rattle.deciding_laws.specs.Deciding.{IsInSwap, Owner, PendingHasOwner, PrevChange, Stays, IsSwappedIn, IsCommitted as ChangeCommitted, HasFailed, PrevWordsChange, DecidedForGood, CommitsMain, MainsChangeByCommits, ReplacedForGood, IsGiven, after_given, MomentIsFirst, GivenForGood, CheckedIsDecided, ChangesLate, LateStoodBefore, LateOnce}
 
 -- what other layers give of every run
 abbrev pub LayersOfRuns : Type 0
@@ -252,6 +254,48 @@ module _ (limits : Limits) (ok : AreLimits limits) (steps : List Step) (known : 
       main_in_use k within i still
       ∙ protocol_for_good p i m r mu n closed h moment (ap (closed_at (states last)) (sym generation) ∙ is) before k after within
 
+  -- ---- after a closing
+
+  closing_at : (n : ℕ) → n ≤ last → (i : Ref) (c : ℕ) → HasIndirection (states n) i → closed_at (states last) (generation_at (states n).heap i) ≡ Some c →
+      closed_at (states last) (generation_of (node_under states last i)) ≡ Some c
+  closing_at n h i c has is =
+      let generation : generation_at (states n).heap i ≡ generation_of (node_under states last i) =
+          ap generation_of (node_in_use n i has.0) ∙ sym (generation_stays limits states last known n i h (link_in_use n i has)) in
+      ap (closed_at (states last)) (sym generation) ∙ is
+
+  -- a step that changes a logical main node commits
+  changes_commit : (n : ℕ) → n < last → (i : Ref) → HasIndirection (states n) i → HasIndirection (states (suc n)) i →
+      (logical_main (states (suc n)).heap i ≡ logical_main (states n).heap i → ⊥) → MainStep w n i → Changed w n i
+  changes_commit n h i has still other (MainStays e) = absurd (other (main_in_use (suc n) h i still ∙ e ∙ sym (main_in_use n (omega arith) i has)))
+  changes_commit n h i has still other (MainChanges c) = c
+
+  changed_at : (n : ℕ) → n < last → (i : Ref) → HasIndirection (states n) i → HasIndirection (states (suc n)) i →
+      (logical_main (states (suc n)).heap i ≡ logical_main (states n).heap i → ⊥) → Changed w n i
+  changed_at n h i has still other = changes_commit n h i has still other (main_step p n h i (link_in_use n i has))
+
+  late_stood_at : (c n : ℕ) → c ≤ n → n < last → (i : Ref) → HasIndirection (states n) i → HasIndirection (states (suc n)) i →
+      closed_at (states last) (generation_at (states n).heap i) ≡ Some c → (logical_main (states (suc n)).heap i ≡ logical_main (states n).heap i → ⊥) →
+      (k : ℕ) × (k ≤ c) × (HasIndirection (states k) i → main_at (states k).heap i ≡ main_at (states n).heap i)
+  late_stood_at c n late h i has still closing other =
+      let x = changed_at n h i has still other in
+      let early = commits_early p n h i x.fresh x.replaced x.commits (stands_now (link_in_use n i has) x.stands) in
+      (early.at, early.early c (closing_at n (omega arith) i c has closing),
+      λ there. ap main_of (node_in_use early.at i there.0) ∙ early.is ∙ sym x.stands ∙ sym (ap main_of (node_in_use n i has.0)))
+
+  late_once_at : (c n k : ℕ) → c ≤ n → n < k → k < last → (i : Ref) → HasIndirection (states n) i → HasIndirection (states (suc n)) i →
+      closed_at (states last) (generation_at (states n).heap i) ≡ Some c → (logical_main (states (suc n)).heap i ≡ logical_main (states n).heap i → ⊥) →
+      HasIndirection (states k) i → HasIndirection (states (suc k)) i → (logical_main (states (suc k)).heap i ≡ logical_main (states k).heap i → ⊥) → ⊥
+  late_once_at c n k late before h i has still closing other has_k still_k other_k =
+      let x = changed_at n (omega arith) i has still other in
+      let y = changed_at k h i has_k still_k other_k in
+      closed_once p i x.fresh x.replaced y.fresh y.replaced c n k (closing_at n (omega arith) i c has closing) late before h (link_in_use n i has) x.stands x.commits
+      (link_in_use k i has_k) y.stands y.commits
+
+  checked_at : (t : ℕ) → t ≤ last → (actor : ℕ) (operation : Operation) (i a f q : Ref) → operation_of (states t) actor ≡ Some operation → IsInSwap operation i a f swap.Check →
+      IsInUse (states t) f → prev_at (states t).heap f ≡ over.Pending q → ⊥
+  checked_at t h actor operation i a f q runs swaps used pend =
+      checked w t actor (sound_at p t h) i a f (ap stage_of_actor runs ∙ ap stage_of swaps.1) q (sym (prev_in_use t f used) ∙ pend)
+
 -- ---- the laws
 
 pub pending_has_owner : LayersOfRuns → PendingHasOwner
@@ -307,3 +351,46 @@ law_given_for_good layers limits steps ok n h i m g closed is before has k after
     ap (λ (s : State). logical_main s.heap i) (sym (e k))
     ∙ for_good_at limits ok steps kn n h i m _ _ (given_moment limits ok steps kn n h i m g) closed (subst (λ (s : State). HasIndirection s i) (sym (e n)) has) was before k after within
       (subst (λ (s : State). HasIndirection s i) (sym (e k)) still)
+
+-- the same of the states of the run as a list
+late_states : (limits : Limits) (steps : List Step) (closed n : ℕ) (i : Ref) → ChangesLate limits steps closed n i →
+    HasIndirection (states_of limits steps n) i × HasIndirection (states_of limits steps (suc n)) i
+    × (closed_at (states_of limits steps (last_of limits steps)) (generation_at (states_of limits steps n).heap i) ≡ Some closed)
+    × (logical_main (states_of limits steps (suc n)).heap i ≡ logical_main (states_of limits steps n).heap i → ⊥)
+late_states limits steps closed n i x =
+    let now = states_are limits steps n in
+    let next : states_of limits steps (suc n) ≡ state_before limits steps (n + 1) = ap (states_of limits steps) (sym (add-one n)) ∙ states_are limits steps (n + 1) in (
+      subst (λ (s : State). HasIndirection s i) (sym now) x.before,
+      subst (λ (s : State). HasIndirection s i) (sym next) x.after,
+      ap (λ (s : State). closed_at s (generation_at (states_of limits steps n).heap i)) (run_ends limits steps)
+      ∙ ap (λ (s : State). closed_at (run limits steps) (generation_at s.heap i)) now ∙ x.closing,
+      λ same. x.changes (ap (λ (s : State). logical_main s.heap i) (sym next) ∙ same ∙ ap (λ (s : State). logical_main s.heap i) now),
+    )
+
+pub late_stood_before : LayersOfRuns → LateStoodBefore
+late_stood_before layers limits steps ok closed n i x =
+    let s = late_states limits steps closed n i x in
+    subst (λ (states : ℕ → State). (k : ℕ) × (k ≤ closed) × (HasIndirection (states k) i → main_at (states k).heap i ≡ main_at (states n).heap i)) (same_states limits steps)
+    (late_stood_at limits ok steps (known_of layers limits steps ok) closed n x.late x.taken i s.0 s.1 s.2 s.3)
+
+-- by which is first
+once_by : (limits : Limits) (steps : List Step) → AreLimits limits → Known limits (states_of limits steps) (last_of limits steps) → (closed n k : ℕ) (i : Ref) →
+    ChangesLate limits steps closed n i → ChangesLate limits steps closed k i → n < k → ⊥
+once_by limits steps ok kn closed n k i x y before =
+    let s = late_states limits steps closed n i x in
+    let r = late_states limits steps closed k i y in
+    late_once_at limits ok steps kn closed n k x.late before y.taken i s.0 s.1 s.2 s.3 r.0 r.1 r.3
+
+in_order : (n k : ℕ) → (n < k → ⊥) → (k < n → ⊥) → n ≡ k
+in_order n k a b = omega arith
+
+pub late_once : LayersOfRuns → LateOnce
+late_once layers limits steps ok closed n k i x y =
+    let kn = known_of layers limits steps ok in
+    in_order n k (once_by limits steps ok kn closed n k i x y) (once_by limits steps ok kn closed k n i y x)
+
+pub checked_is_decided : LayersOfRuns → CheckedIsDecided
+checked_is_decided layers limits steps ok =
+    subst (λ (s : State). (actor : ℕ) (operation : Operation) (i a f q : Ref) → operation_of s actor ≡ Some operation → IsInSwap operation i a f swap.Check → IsInUse s f →
+    prev_at s.heap f ≡ over.Pending q → ⊥) (run_ends limits steps)
+    (checked_at limits ok steps (known_of layers limits steps ok) (last_of limits steps) (omega arith))

@@ -8,7 +8,7 @@ use Rattle.machine_model.specs.declared.reading.After.TheVariants.{Gives}
 use Rattle.machine_model.specs.declared.reading.Read.{Read}
 use Rattle.machine_model.specs.declared.reading.ReadLine.{ReadLine}
 use Rattle.machine_model.specs.declared.reading.SwapLine.{SwapLine}
-use Rattle.machine_model.specs.declared.reading.SwapLine.TheVariants.{Publish, Deciding}
+use Rattle.machine_model.specs.declared.reading.SwapLine.TheVariants.{Publish, Deciding, Check}
 use Rattle.machine_model.specs.declared.lines.Purpose.{Purpose}
 use Rattle.machine_model.specs.declared.lines.Line.{Line}
 use Rattle.machine_model.specs.declared.lines.Line.TheVariants as line
@@ -44,6 +44,13 @@ PendingHasOwner =
     prev_at (run limits steps).heap fresh ≡ prev.Pending replaced →
     (indirection : Ref) × (owner : Owner (run limits steps) indirection replaced fresh)
     × ((actor : ℕ) (operation : Operation) (i r : Ref) (l : SwapLine) → operation_of (run limits steps) actor ≡ Some operation → IsInSwap operation i r fresh l → actor ≡ owner.actor)
+
+-- who is about to see how its fresh node was decided finds it decided
+abbrev pub CheckedIsDecided : Type 0
+CheckedIsDecided =
+    (limits : Limits) (steps : List Step) → AreLimits limits → (actor : ℕ) (operation : Operation) (indirection replaced fresh other : Ref) →
+    operation_of (run limits steps) actor ≡ Some operation → IsInSwap operation indirection replaced fresh Check → IsInUse (run limits steps) fresh →
+    ¬ (prev_at (run limits steps).heap fresh ≡ prev.Pending other)
 
 -- ---- prev words
 
@@ -139,3 +146,28 @@ GivenForGood =
     HasIndirection (state_before limits steps n) indirection →
     (k : ℕ) → (after_given given).moment < k → k ≤ steps_taken limits steps → HasIndirection (state_before limits steps k) indirection →
     logical_main (state_before limits steps k).heap indirection ≡ main
+
+-- ---- after a closing
+
+-- step n changes the logical main node of an indirection whose generation was closed before, at this step
+pub record ChangesLate (limits : Limits) (steps : List Step) (closed n : ℕ) (indirection : Ref) : Type 0 where
+  pub late : closed ≤ n
+  pub taken : n < steps_taken limits steps
+  pub before : HasIndirection (state_before limits steps n) indirection
+  pub after : HasIndirection (state_before limits steps (n + 1)) indirection
+  pub closing : closed_at (run limits steps) (generation_at (state_before limits steps n).heap indirection) ≡ Some closed
+  pub changes : ¬ (logical_main (state_before limits steps (n + 1)).heap indirection ≡ logical_main (state_before limits steps n).heap indirection)
+
+-- what commits late stood in the main word before the closing
+abbrev pub LateStoodBefore : Type 0
+LateStoodBefore =
+    (limits : Limits) (steps : List Step) → AreLimits limits → (closed n : ℕ) (indirection : Ref) → ChangesLate limits steps closed n indirection →
+    (k : ℕ) × (k ≤ closed)
+    × (HasIndirection (state_before limits steps k) indirection →
+      main_at (state_before limits steps k).heap indirection ≡ main_at (state_before limits steps n).heap indirection)
+
+-- at most one node commits late
+abbrev pub LateOnce : Type 0
+LateOnce =
+    (limits : Limits) (steps : List Step) → AreLimits limits → (closed n k : ℕ) (indirection : Ref) → ChangesLate limits steps closed n indirection →
+    ChangesLate limits steps closed k indirection → n ≡ k
