@@ -89,7 +89,7 @@ module _ (limits : Limits) (ok : AreLimits limits) (states : ℕ → State) (fir
   made_at_first i l =
       let link = birth_link (birth_of i) _ (ap (λ o. is_link (node_of o)) (sym (grown_at_first i)) ∙ l) in
       let main : main_of (node_of (grown states zero i)) ≡ ref_to 1 0 =
-          ap (λ o. main_of (node_of o)) (grown_at_first i) ∙ link.1 ∙ first_main (limits.slots - 2) (slot_of i) link.0 in
+      ap (λ o. main_of (node_of o)) (grown_at_first i) ∙ link.1 ∙ first_main (limits.slots - 2) (slot_of i) link.0 in
       ap (λ r. is_some (grown states zero r)) main ∙ ap is_some (grown_at_first (ref_to 1 0))
 
   pub idle_at_first : (k : ℕ) → operation_of (states zero) k ≡ None

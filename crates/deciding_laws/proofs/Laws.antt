@@ -117,9 +117,11 @@ module _ (limits : Limits) (ok : AreLimits limits) (steps : List Step) (known : 
   owned_at : (t : ℕ) → t ≤ last → OwnedIn (states t)
   unfolding machine_owner
   owned_at t h fresh replaced used pend =
-      let o = (sound_at p t h).owned fresh replaced (sym (prev_in_use t fresh used) ∙ pend) in
-      (o.link, machine_owner t fresh replaced o,
-      λ actor operation i r l runs swaps. owner_alone t h fresh replaced o actor operation i r l runs swaps (cases_eq actor o.actor))
+      let o = (sound_at p t h).owned fresh replaced (sym (prev_in_use t fresh used) ∙ pend) in (
+        o.link,
+        machine_owner t fresh replaced o,
+        λ actor operation i r l runs swaps. owner_alone t h fresh replaced o actor operation i r l runs swaps (cases_eq actor o.actor),
+      )
 
   -- ---- prev words
 
@@ -167,7 +169,7 @@ module _ (limits : Limits) (ok : AreLimits limits) (steps : List Step) (known : 
       let sound = sound_at p n (omega arith) in
       let o = sound.owned c.fresh c.replaced c.commits.was in
       let same : o.link ≡ i =
-          sound.words.one_word c.fresh o.link i (λ none. none≢pending none c.commits.was) (stands_now o.is_link o.stands) (stands_now (link_in_use n i has) c.stands) in
+      sound.words.one_word c.fresh o.link i (λ none. none≢pending none c.commits.was) (stands_now o.is_link o.stands) (stands_now (link_in_use n i has) c.stands) in
       inr (record {
         fresh = c.fresh;
         replaced = c.replaced;
@@ -228,7 +230,7 @@ module _ (limits : Limits) (ok : AreLimits limits) (steps : List Step) (known : 
       let leads = step_leads limits steps n (step.Go g.actor) g.step in
       let stage = reads_stage g.operation.line g.read g.no_swap g.reads in
       let goes = λ (answer : Reply) (a : action_of (states n) g.operation ≡ act.End answer).
-          not_rests g.read.indirection g.read.line (sym stage ∙ ends_at_end (states n) g.operation g.operation.line answer a) in
+      not_rests g.read.indirection g.read.line (sym stage ∙ ends_at_end (states n) g.operation g.operation.line answer a) in
       let e = go_after (states n) g.actor leads.0 (states (suc n)) leads.1 g.operation runs goes in
       subst (λ j. IsMoment w j m (read_at_after (states n) g.operation) (moment_after (states n) g.operation) n) g.of
       (moment_at limits states last known n h g.actor g.operation leads.0 leads.1 runs e g.read.indirection g.read.line stage m
@@ -250,7 +252,7 @@ module _ (limits : Limits) (ok : AreLimits limits) (steps : List Step) (known : 
       (k : ℕ) → mu < k → k ≤ last → HasIndirection (states k) i → logical_main (states k).heap i ≡ m
   for_good_at n h i m r mu moment closed has is before k after within still =
       let generation : generation_at (states n).heap i ≡ generation_of (node_under states last i) =
-          ap generation_of (node_in_use n i has.0) ∙ sym (generation_stays limits states last known n i (omega arith) (link_in_use n i has)) in
+      ap generation_of (node_in_use n i has.0) ∙ sym (generation_stays limits states last known n i (omega arith) (link_in_use n i has)) in
       main_in_use k within i still
       ∙ protocol_for_good p i m r mu n closed h moment (ap (closed_at (states last)) (sym generation) ∙ is) before k after within
 
@@ -260,7 +262,7 @@ module _ (limits : Limits) (ok : AreLimits limits) (steps : List Step) (known : 
       closed_at (states last) (generation_of (node_under states last i)) ≡ Some c
   closing_at n h i c has is =
       let generation : generation_at (states n).heap i ≡ generation_of (node_under states last i) =
-          ap generation_of (node_in_use n i has.0) ∙ sym (generation_stays limits states last known n i h (link_in_use n i has)) in
+      ap generation_of (node_in_use n i has.0) ∙ sym (generation_stays limits states last known n i h (link_in_use n i has)) in
       ap (closed_at (states last)) (sym generation) ∙ is
 
   -- a step that changes a logical main node commits
@@ -278,9 +280,11 @@ module _ (limits : Limits) (ok : AreLimits limits) (steps : List Step) (known : 
       (k : ℕ) × (k ≤ c) × (HasIndirection (states k) i → main_at (states k).heap i ≡ main_at (states n).heap i)
   late_stood_at c n late h i has still closing other =
       let x = changed_at n h i has still other in
-      let early = commits_early p n h i x.fresh x.replaced x.commits (stands_now (link_in_use n i has) x.stands) in
-      (early.at, early.early c (closing_at n (omega arith) i c has closing),
-      λ there. ap main_of (node_in_use early.at i there.0) ∙ early.is ∙ sym x.stands ∙ sym (ap main_of (node_in_use n i has.0)))
+      let early = commits_early p n h i x.fresh x.replaced x.commits (stands_now (link_in_use n i has) x.stands) in (
+        early.at,
+        early.early c (closing_at n (omega arith) i c has closing),
+        λ there. ap main_of (node_in_use early.at i there.0) ∙ early.is ∙ sym x.stands ∙ sym (ap main_of (node_in_use n i has.0)),
+      )
 
   late_once_at : (c n k : ℕ) → c ≤ n → n < k → k < last → (i : Ref) → HasIndirection (states n) i → HasIndirection (states (suc n)) i →
       closed_at (states last) (generation_at (states n).heap i) ≡ Some c → (logical_main (states (suc n)).heap i ≡ logical_main (states n).heap i → ⊥) →
@@ -346,11 +350,11 @@ law_given_for_good layers limits steps ok n h i m g closed is before has k after
     let kn = known_of layers limits steps ok in
     let e = states_are limits steps in
     let was : closed_at (states_of limits steps (last_of limits steps)) (generation_at (states_of limits steps n).heap i) ≡ Some closed =
-        ap (λ (s : State). closed_at s (generation_at (states_of limits steps n).heap i)) (run_ends limits steps)
-        ∙ ap (λ (s : State). closed_at (run limits steps) (generation_at s.heap i)) (e n) ∙ is in
+    ap (λ (s : State). closed_at s (generation_at (states_of limits steps n).heap i)) (run_ends limits steps)
+    ∙ ap (λ (s : State). closed_at (run limits steps) (generation_at s.heap i)) (e n) ∙ is in
     ap (λ (s : State). logical_main s.heap i) (sym (e k))
     ∙ for_good_at limits ok steps kn n h i m _ _ (given_moment limits ok steps kn n h i m g) closed (subst (λ (s : State). HasIndirection s i) (sym (e n)) has) was before k after within
-      (subst (λ (s : State). HasIndirection s i) (sym (e k)) still)
+    (subst (λ (s : State). HasIndirection s i) (sym (e k)) still)
 
 -- the same of the states of the run as a list
 late_states : (limits : Limits) (steps : List Step) (closed n : ℕ) (i : Ref) → ChangesLate limits steps closed n i →
@@ -363,7 +367,7 @@ late_states limits steps closed n i x =
       subst (λ (s : State). HasIndirection s i) (sym now) x.before,
       subst (λ (s : State). HasIndirection s i) (sym next) x.after,
       ap (λ (s : State). closed_at s (generation_at (states_of limits steps n).heap i)) (run_ends limits steps)
-      ∙ ap (λ (s : State). closed_at (run limits steps) (generation_at s.heap i)) now ∙ x.closing,
+          ∙ ap (λ (s : State). closed_at (run limits steps) (generation_at s.heap i)) now ∙ x.closing,
       λ same. x.changes (ap (λ (s : State). logical_main s.heap i) (sym next) ∙ same ∙ ap (λ (s : State). logical_main s.heap i) now),
     )
 

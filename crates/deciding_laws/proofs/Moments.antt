@@ -142,9 +142,9 @@ module _ (limits : Limits) (states : ℕ → State) (last : ℕ) (known : Known 
       let p : Protocol = protocol limits states last known in
       let r = counts_at x t (w.from t actor) in
       let mu : moment_after (states t) operation ≡ later_of r (w.commit (suc t) m) =
-          moment_is m gives
-          ∙ kept_step (states t) (states (suc t)) m (read_at_after (states t) operation) (committed_by (states t).heap i x)
-            (λ y c. commits_given (states t).heap operation.access (word_at (states t) (handle_of operation.call)) i x m gives y c) read_commits_after (uncommitted m gives)
-          ∙ ap (λ n. later_of n (w.commit (suc t) m)) counts_from in
+      moment_is m gives
+      ∙ kept_step (states t) (states (suc t)) m (read_at_after (states t) operation) (committed_by (states t).heap i x)
+      (λ y c. commits_given (states t).heap operation.access (word_at (states t) (handle_of operation.call)) i x m gives y c) read_commits_after (uncommitted m gives)
+      ∙ ap (λ n. later_of n (w.commit (suc t) m)) counts_from in
       subst (λ n. IsMoment w i m n (moment_after (states t) operation) t) (sym counts_from)
       (subst (λ n. IsMoment w i m r n t) (sym mu) (gives_moment p t h actor i m x (ap stage_of_actor is ∙ stage) (gives_turn m gives)))

@@ -240,14 +240,19 @@ module _ (states : ℕ → State) (t : ℕ) where
   acts_by draws X heap gens handle (act.Complete offer main) f e = stays_same (e ∙ completed_heap X handle offer main ∙ heap)
   acts_by draws X heap gens handle (act.ReadMain i) f e = (finds_main i f, stays_same (e ∙ heap))
   acts_by draws X heap gens handle (act.ReadPrev m) f e = (finds_prev m f, stays_same (e ∙ heap))
-  acts_by draws X heap gens handle (act.Publish i a x) f e =
-      (finds_main i f.0, finds_prev x f.1,
-      swap_by i a x f.0 f.1 (main_at H i == a) (e ∙ ap (λ y. if_changed (main_at y i == a) (with_prev (with_main y i x) x (over.Pending a)) y) heap))
+  acts_by draws X heap gens handle (act.Publish i a x) f e = (
+    finds_main i f.0,
+    finds_prev x f.1,
+    swap_by i a x f.0 f.1 (main_at H i == a) (e ∙ ap (λ y. if_changed (main_at y i == a) (with_prev (with_main y i x) x (over.Pending a)) y) heap),
+  )
   acts_by draws X heap gens handle (act.Restore i m p) f e =
       (finds_main i f, restore_by i p f (main_at H i == m) (e ∙ ap (λ y. if_changed (main_at y i == m) (with_main y i p) y) heap))
-  acts_by draws X heap gens handle (act.Decide i m p told) f e =
-      (finds_main i f.0, finds_prev m f.1, ap generation_of (node_standing states t i f.0.slot f.0.stands),
-      decide_by m p f.1 (verdict H i m p told) (e ∙ ap (λ y. decided y m p (verdict y i m p told)) heap))
+  acts_by draws X heap gens handle (act.Decide i m p told) f e = (
+    finds_main i f.0,
+    finds_prev m f.1,
+    ap generation_of (node_standing states t i f.0.slot f.0.stands),
+    decide_by m p f.1 (verdict H i m p told) (e ∙ ap (λ y. decided y m p (verdict y i m p told)) heap),
+  )
   acts_by draws X heap gens handle (act.Look r) f e = stays_same (e ∙ heap)
   acts_by draws X heap gens handle (act.Make node) f e = take_by node (draws node) (next_ref H) refl (e ∙ ap (λ y. taken y node) heap)
   acts_by draws X heap gens handle (act.MakeRoot main) f e =

@@ -97,9 +97,10 @@ main_link states t x i l e =
     (ap (λ o. is_link (node_of o)) e ∙ slot_main_link x (grown states t i) ∙ l, ap (λ o. generation_of (node_of o)) e ∙ slot_generation x (grown states t i))
 
 prev_link : (states : ℕ → State) (t : ℕ) (v : Prev) (i : Ref) → is_link (node_under states t i) ≡ true → grown states (suc t) i ≡ option_map (prev_changed v) (grown states t i) → KeepsLink states t i
-prev_link states t v i l e =
-    (ap (λ o. is_link (node_of o)) e ∙ ap is_link (slot_prev_node v (grown states t i)) ∙ l,
-    ap (λ o. generation_of (node_of o)) e ∙ ap generation_of (slot_prev_node v (grown states t i)))
+prev_link states t v i l e = (
+  ap (λ o. is_link (node_of o)) e ∙ ap is_link (slot_prev_node v (grown states t i)) ∙ l,
+  ap (λ o. generation_of (node_of o)) e ∙ ap generation_of (slot_prev_node v (grown states t i)),
+)
 
 main_link_by : (states : ℕ → State) (t : ℕ) (x r i : Ref) → is_link (node_under states t i) ≡ true → GrownChanges states t (main_changed x) r → (i ≡ r) ⊎ (i ≡ r → ⊥) → KeepsLink states t i
 main_link_by states t x r i l e (inl is) = main_link states t x i l (subst (λ q. grown states (suc t) q ≡ option_map (main_changed x) (grown states t q)) (sym is) e.here)

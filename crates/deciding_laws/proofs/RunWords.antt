@@ -121,15 +121,15 @@ module _ (limits : Limits) (states : ℕ → State) (last : ℕ) (known : Known 
   go_turn actor operation is e next =
       let m : Option ℕ = marks_by (states t) (Some operation) in
       let own : operation_of (states (suc t)) actor ≡ after_mark m (Some (operation_after (states t) operation)) =
-          ap (λ (s : State). operation_of s actor) e ∙ go_own (states t) actor operation is in
+      ap (λ (s : State). operation_of s actor) e ∙ go_own (states t) actor operation is in
       let others : (j : ℕ) → (j ≡ actor → ⊥) → operation_of (states (suc t)) j ≡ after_mark m (operation_of (states t) j) =
-          λ j apart. ap (λ (s : State). operation_of s j) e ∙ go_others (states t) actor operation (actor_counts (states t) actor operation is) j apart in
+      λ j apart. ap (λ (s : State). operation_of s j) e ∙ go_others (states t) actor operation (actor_counts (states t) actor operation is) j apart in
       let before : w.stage t actor ≡ stage_of operation.line = ap stage_of_actor is in
       let after : w.stage (suc t) actor ≡ stage_of (line_after (states t) operation operation.line) = ap stage_of_actor own ∙ mark_stage m (Some (operation_after (states t) operation)) in
       let from_before : w.from t actor ≡ operation.read_at = ap from_of_actor is in
       let from_after : w.from (suc t) actor ≡ counted_from (action_of (states t) operation) t operation.read_at =
-          ap from_of_actor own ∙ mark_from m (Some (operation_after (states t) operation))
-          ∙ ap (λ n. counted_from (action_of (states t) operation) n operation.read_at) (steps_at limits states last known.run t (omega arith)) in
+      ap from_of_actor own ∙ mark_from m (Some (operation_after (states t) operation))
+      ∙ ap (λ n. counted_from (action_of (states t) operation) n operation.read_at) (steps_at limits states last known.run t (omega arith)) in
       record {
         turn = Acts actor (subst (λ s. Moves w t actor s (w.stage (suc t) actor)) (sym before) (subst (λ s. Moves w t actor (stage_of operation.line) s) (sym after) next.moves))
             (counts_so actor (w.stage t actor) (stage_of operation.line) before operation.read_at from_before
@@ -175,7 +175,7 @@ module _ (limits : Limits) (states : ℕ → State) (last : ℕ) (known : Known 
   turn_by (IsBegin actor call o m d e) =
       let kept = no_commit limits states last known t h (ap (λ (s : State). s.commits) e ∙ begun_commits (states t) actor call (begun_operation (states t) call)) in
       let found = subst (λ (s : State). (operation_of s actor ≡ None) ⊎ (operation_of s actor ≡ Some (begun_operation (states t) call))) (sym e)
-          (begin_own (states t) actor call (begun_operation (states t) call)) in
+      (begin_own (states t) actor call (begun_operation (states t) call)) in
       idle_turn actor (leaves_words states last t (known.stays t h (step.Begin actor call) o m tt) kept)
       (ap stage_of_actor (begins_idle (states t) actor call d)) (begun_stage call _ found) (begun_remembers actor call _ found)
       (λ j apart. ap (λ (s : State). operation_of s j) e ∙ begin_others (states t) actor call (begun_operation (states t) call) (begins_counted (states t) actor call d) j apart)

@@ -231,7 +231,7 @@ staged_by w t k h m others j (inl same) =
     subst (λ q. Staged w (suc t) q (w.stage (suc t) q)) (sym same) (own_staged w t k h (w.stage t k) (w.stage (suc t) k) (h.staged k) m)
 staged_by w t k h m others j (inr other) =
     let keeps = λ (f : Ref) (fresh : HasFresh (w.stage t j) f) (p : Private w t f).
-        private_later w t k h (w.stage t k) (w.stage (suc t) k) (h.staged k) m f (λ own. h.apart j k f other fresh own) p in
+    private_later w t k h (w.stage t k) (w.stage (suc t) k) (h.staged k) m f (λ own. h.apart j k f other fresh own) p in
     let e : Effect w t = effect_of w t k h (w.stage t k) (w.stage (suc t) k) (h.staged k) m in
     subst (λ s. Staged w (suc t) j s) (sym (others j other)) (staged_later w t e j (w.stage t j) keeps (h.staged j))
 
@@ -282,6 +282,7 @@ first_sound p = record {
   where
     at_zero : (a : ℕ) → a ≤ zero → a ≡ zero
     at_zero a h = omega arith
+
     made_first : (i m : Ref) → Stood p.words zero i m → p.words.made zero m ≡ true
     made_first i m s =
         let now = at_zero s.at s.past in

@@ -141,7 +141,7 @@ same_place before after None actor zero put pos e apart = refl
 same_place before after (Some id) actor zero put pos e apart = refl
 same_place before after m actor (suc k) put pos e apart =
     let elsewhere : get_or (set before.actors (actor - 1) put) k None ≡ get_or before.actors k None =
-        found_elsewhere before.actors (actor - 1) k put (λ same. apart (omega arith)) in
+    found_elsewhere before.actors (actor - 1) k put (λ same. apart (omega arith)) in
     ap (λ xs. get_or xs k None) e ∙ marks_one m (set before.actors (actor - 1) put) k ∙ ap (after_mark m) elsewhere
 
 pub go_others : (before : State) (actor : ℕ) (operation : Operation) → 0 < actor → (j : ℕ) → (j ≡ actor → ⊥) →

@@ -51,8 +51,10 @@ checked w t k h i a f stage q pend = by_actor (cases_eq o.actor k)
   where
     o : Owner w t f q
     o = h.owned f q pend
+
     not_both : {x : Stage} → x ≡ Decides o.link q f o.line → x ≡ Checks i a f → ⊥
     not_both e c = let wrong = sym e ∙ c in cc
+
     by_actor : (o.actor ≡ k) ⊎ (o.actor ≡ k → ⊥) → ⊥
     by_actor (inl same) = not_both (ap (w.stage t) (sym same) ∙ o.stage) stage
     by_actor (inr other) = h.apart o.actor k f other (subst (λ s. HasFresh s f) (sym o.stage) refl) (subst (λ s. HasFresh s f) (sym stage) refl)

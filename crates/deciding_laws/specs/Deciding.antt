@@ -164,7 +164,7 @@ LateStoodBefore =
     (limits : Limits) (steps : List Step) → AreLimits limits → (closed n : ℕ) (indirection : Ref) → ChangesLate limits steps closed n indirection →
     (k : ℕ) × (k ≤ closed)
     × (HasIndirection (state_before limits steps k) indirection →
-      main_at (state_before limits steps k).heap indirection ≡ main_at (state_before limits steps n).heap indirection)
+    main_at (state_before limits steps k).heap indirection ≡ main_at (state_before limits steps n).heap indirection)
 
 -- at most one node commits late
 abbrev pub LateOnce : Type 0
