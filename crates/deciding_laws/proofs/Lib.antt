@@ -13,10 +13,12 @@ pub mod Known
 pub mod GrownWords
 pub mod StepsAt
 pub mod ReadTurns
+pub mod ReadRemembers
 pub mod LineRests
+pub mod LineKeeps
+pub mod LineReads
 pub mod LineTurns
 pub mod FirstWords
-pub mod LineReads
 pub mod RunWords
 pub mod Moments
 pub mod InHeap

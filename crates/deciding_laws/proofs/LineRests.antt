@@ -55,7 +55,7 @@ use Rattle.machine_model.specs.Finding.{absent, absent_beside, absent_listed, re
 use Rattle.machine_model.specs.Building.{after_single, after_link, build_after_made, build_if_made}
 use Rattle.machine_model.specs.Cleaning.{clean_next, clean_after_main, clean_after_entry, clean_after_tomb, clean_after_contracted}
 use Rattle.machine_model.specs.Climbing.{climbed, climbing, higher, climb_after_main, climb_after_contracted, climb_after_root}
-use Rattle.machine_model.specs.Copying.{offering, after_given, after_successor, copy_after_made, copy_if_made, after_offer}
+use Rattle.machine_model.specs.Copying.{offering, after_given, after_successor, copy_after_made, copy_if_made, copy_after_complete, after_offer}
 use Rattle.machine_model.specs.Walking.{walk_next, walk_after_entry}
 use Rattle.machine_model.specs.Operations.{from_root, after_root, after_update, climbed_on, swapped}
 use Rattle.deciding_laws.proofs.Words.{Stage, IsAtRest, HasMade}
@@ -257,6 +257,9 @@ module _ (G : Ref → Ref → Type 0) (W : Type 0) where
   pub offer_rest : (offer : Descriptor) (b : Bool) → AtRest (after_offer offer b)
   offer_rest offer true = (tt, tt)
   offer_rest offer false = (tt, tt)
+
+  pub copy_done_rest : (operation : Operation) (done : Bool) → AtRest (copy_after_complete operation (Gives done))
+  copy_done_rest operation done = grind arith
 
   pub walk_next_rest : (operation : Operation) (todo : List Ref) (pairs : List (ℕ × ℕ)) → AtRest (walk_next operation todo pairs)
   walk_next_rest operation [] pairs = (tt, tt)

@@ -1,4 +1,4 @@
--- Each line of each program is a turn of the protocol, and remembers what READs gave.
+-- Each line of each program is a turn of the protocol.
 use Rattle.std.proofs.Common.{◌≡◌, ℕ, zero, suc, ◌+◌, ◌-◌, ◌<◌, ◌≤◌, ◌⊎◌, Bool, true, false, cond, ◌==◌, ◌&&◌, List, [], ◌∷◌, ◌++◌, length, Option, Some, None, inl, inr, refl, sym, ◌∙◌, ap, subst, eqb-true, arith}
 use Rattle.std.proofs.lemmas.Bool.{cases_eq, true≢false}
 use Rattle.history.specs.declared.calls.Access.{Access}
@@ -72,7 +72,7 @@ use Rattle.machine_model.specs.declared.roots.CompleteLine.TheVariants as comple
 use Rattle.machine_model.specs.declared.steps.Limits.{Limits}
 use Rattle.machine_model.specs.Calls.{handle_of}
 use Rattle.machine_model.specs.States.{word_at, operation_of, closed_at, root_of}
-use Rattle.machine_model.specs.Reading.{read_action, read_after, at_indirection, committed_by}
+use Rattle.machine_model.specs.Reading.{read_action, read_after, at_indirection, committed_by, reading}
 use Rattle.machine_model.specs.Orders.{committed_in}
 use Rattle.machine_model.specs.Swapping.{after_deciding as swap_deciding, on_line, after_check, after_publish, after_reading, of_offer, after_complete, after_completing, is_carried_out, is_plain}
 use Rattle.machine_model.specs.Renewing.{renew_after_read}
@@ -90,7 +90,8 @@ use Rattle.deciding_laws.proofs.Owners.{given_later}
 use Rattle.deciding_laws.proofs.Stages.{stage_of, stage_of_swap, stage_of_complete, ReadRemembers, SwapRemembers, CompleteRemembers, RootRemembers, Remembers, remembers_still}
 use Rattle.deciding_laws.proofs.Known.{is_link, GrownStays, GrownSwaps, GrownTakes, FindsMain, FindsPrev, Either, Taken, ActsOn, Known}
 use Rattle.deciding_laws.proofs.GrownWords.{words_of, leaves_words, swaps_words, makes_words, takes_node}
-use Rattle.deciding_laws.proofs.ReadTurns.{no_commit, read_turn, OutRemembers, read_remembers}
+use Rattle.deciding_laws.proofs.ReadTurns.{no_commit, read_turn}
+use Rattle.deciding_laws.proofs.LineReads.{ReadsSo, on_stage}
 use Rattle.deciding_laws.proofs.LineRests
 use Rattle.deciding_laws.proofs.LineRests.{AtRest, AfterMade}
 
@@ -104,12 +105,9 @@ module _ (limits : Limits) (states : ℕ → State) (last : ℕ) (known : Known 
   abbrev word : RootWord
   word = word_at (states t) (handle_of operation.call)
 
-  -- what a READ of this actor's gave before this step, and before the next
+  -- what a READ of this actor's gave before this step
   abbrev G : Ref → Ref → Type 0
   G i m = Given w t k i m
-
-  abbrev G' : Ref → Ref → Type 0
-  G' i m = Given w (suc t) k i m
 
   abbrev W : Type 0
   W = operation.access ≡ Writable
@@ -127,18 +125,14 @@ module _ (limits : Limits) (states : ℕ → State) (last : ℕ) (known : Known 
     pub main_kind : (path : List Ref) (main : Ref) (c : Change) (former : Option ℕ) → l ≡ line.Build (build.Main path main c former) → is_link (node_at heap main) ≡ false
     pub remembers : Remembers G W l
 
-  -- a turn that leads to this line, and what the line remembers
-  pub record NextLine (before : Stage) (l : Line) : Type 0 where
-    pub moves : Moves w t k before (stage_of l)
-    pub remembers : Remembers G' W l
+  -- a turn that leads to this line
+  abbrev pub NextLine : Stage → Line → Type 0
+  NextLine before l = Moves w t k before (stage_of l)
 
   -- ---- kinds of turns
 
   rest_turn : (s : Stage) (l : Line) → IsFree s → GrownStays states t → (states (suc t)).commits ≡ (states t).commits → AtRest G W l → NextLine s l
-  rest_turn s l free e c r = record {
-    moves = Idles (leaves_words states last t e (no_commit limits states last known t h c)) free r.0;
-    remembers = remembers_still G G' W (λ i m g. given_later g) l r.1;
-  }
+  rest_turn s l free e c r = Idles (leaves_words states last t e (no_commit limits states last known t h c)) free r.0
 
   make_turn : (s : Stage) → IsFree s → (node : Node) (after : Option Ref → Line) → (states (suc t)).commits ≡ (states t).commits → AtRest G W (after None) →
       ((n : Ref) → AfterMade G W n (after (Some n))) → (is_link node ≡ true → MayName w t k s (main_of node)) → (made : Option Ref) → Taken states t node made →
@@ -146,11 +140,8 @@ module _ (limits : Limits) (states : ℕ → State) (last : ℕ) (known : Known 
   make_turn s free node after c none some name None e = rest_turn s (after None) free e c none
   make_turn s free node after c none some name (Some n) e =
       let is : node_under states (suc t) n ≡ node = takes_node states last t n node e in
-      record {
-        moves = MakesNode n (makes_words states last t n node e (no_commit limits states last known t h c)) free
-            (λ l. subst (λ x. MayName w t k s (main_of x)) (sym is) (name (subst (λ x. is_link x ≡ true) is l))) (some n).0;
-        remembers = remembers_still G G' W (λ i m g. given_later g) (after (Some n)) (some n).1;
-      }
+      MakesNode n (makes_words states last t n node e (no_commit limits states last known t h c)) free
+      (λ l. subst (λ x. MayName w t k s (main_of x)) (sym is) (name (subst (λ x. is_link x ≡ true) is l))) (some n).0
 
   -- no indirection is made
   abbrev IsNoLink : Node → Type 0
@@ -160,36 +151,20 @@ module _ (limits : Limits) (states : ℕ → State) (last : ℕ) (known : Known 
   names_none s node none is = absurd (true≢false (sym is ∙ none))
 
   -- a step of a READ
-  pub own_read : (i : Ref) (l : ReadLine) → ActsOn states t (read_action i l) → (states (suc t)).commits ≡ commits_after (states t) (committed_by heap i l) →
+  own_read : (i : Ref) (l : ReadLine) → ActsOn states t (read_action i l) → (states (suc t)).commits ≡ commits_after (states t) (committed_by heap i l) →
       ReadRemembers W l → ((m p : Ref) → l ≡ read.AskRoot m p → W → ToldOpen) → ReadTurn w t i l (read_after heap operation.access word i l)
   own_read i l a c r asks =
       read_turn limits states last known t h i l operation.access word a c (λ m p e. asks m p e (subst (λ x. ReadRemembers W x) e r))
 
-  read_out : (i : Ref) (l : ReadLine) (after : After ReadLine Ref → Line) → w.stage t k ≡ Reads i l → ((o : After ReadLine Ref) → stage_of (after o) ≡ after_read i o) →
-      ((next : ReadLine) → ReadRemembers W next → Remembers G' W (after (Goes next))) → ((m : Ref) → G' i m → Remembers G' W (after (Gives m))) →
-      (out : After ReadLine Ref) → ReadTurn w t i l out → OutRemembers W out → NextLine (Reads i l) (after out)
-  read_out i l after stage same goes gives (Goes next) turn o =
-      record { moves = subst (λ s. Moves w t k (Reads i l) s) (sym (same (Goes next))) (ReadsOn turn); remembers = goes next o }
-  read_out i l after stage same goes gives (Gives m) turn o = record {
-    moves = subst (λ s. Moves w t k (Reads i l) s) (sym (same (Gives m))) (ReadsOn turn);
-    remembers = gives m (record { at = t; past = omega arith; line = l; stage = stage; gives = turn });
-  }
-
   reads_on : (i : Ref) (l : ReadLine) (after : After ReadLine Ref → Line) → ActsOn states t (read_action i l) →
       (states (suc t)).commits ≡ commits_after (states t) (committed_by heap i l) → ReadRemembers W l → ((m p : Ref) → l ≡ read.AskRoot m p → W → ToldOpen) →
-      w.stage t k ≡ Reads i l → ((o : After ReadLine Ref) → stage_of (after o) ≡ after_read i o) →
-      ((next : ReadLine) → ReadRemembers W next → Remembers G' W (after (Goes next))) → ((m : Ref) → G' i m → Remembers G' W (after (Gives m))) →
-      NextLine (Reads i l) (after (read_after heap operation.access word i l))
-  reads_on i l after a c r asks stage same goes gives =
-      read_out i l after stage same goes gives _ (own_read i l a c r asks) (read_remembers heap operation.access word i l r)
+      ((o : After ReadLine Ref) → stage_of (after o) ≡ after_read i o) → NextLine (Reads i l) (after (read_after heap operation.access word i l))
+  reads_on i l after a c r asks same = subst (λ s. Moves w t k (Reads i l) s) (sym (same _)) (ReadsOn (own_read i l a c r asks))
 
   -- a line that asks is the operation's READ
-  pub asks_of : (l : Line) (i : Ref) (x : ReadLine) → read_of l ≡ Some (record { indirection = i; line = x }) →
+  asks_of : (l : Line) (i : Ref) (x : ReadLine) → read_of l ≡ Some (record { indirection = i; line = x }) →
       ((i m p : Ref) → read_of l ≡ Some (record { indirection = i; line = read.AskRoot m p }) → W → ToldOpen) → (m p : Ref) → x ≡ read.AskRoot m p → W → ToldOpen
   asks_of l i x is asks m p e = asks i m p (is ∙ ap (λ y. Some (record { indirection = i; line = y })) e)
-
-  still : (i m : Ref) → G i m → G' i m
-  still i m g = given_later g
 
   -- ---- KEY
 
@@ -200,8 +175,7 @@ module _ (limits : Limits) (states : ℕ → State) (last : ℕ) (known : Known 
   key_turn : (l : KeyLine) → LineStep (line.Key l) → NextLine (stage_of (line.Key l)) (line_after (states t) operation (line.Key l))
   key_turn (key.Read path r) s =
       reads_on r.indirection r.line (λ o. key_after_read path (at_indirection r.indirection o)) s.acts s.commits s.remembers.0
-      (asks_of (line.Key (key.Read path r)) r.indirection r.line refl s.asks) s.stage (key_stage path r.indirection)
-      (λ next o. (o, s.remembers.1)) (λ m g. subst (λ i. G' i m) s.remembers.1 g)
+      (asks_of (line.Key (key.Read path r)) r.indirection r.line refl s.asks) (key_stage path r.indirection)
   key_turn (key.Main path main) s = rest_turn Rests _ tt s.acts s.commits (LineRests.key_main_rest G W (states t) operation path main (node_at heap main) s.remembers)
   key_turn (key.Entry path main position) s =
       rest_turn Rests _ tt s.acts s.commits (LineRests.key_entry_rest G W (states t) operation path main position (node_at heap (entry_at heap main position)) s.remembers)
@@ -260,18 +234,16 @@ module _ (limits : Limits) (states : ℕ → State) (last : ℕ) (known : Known 
       G x.indirection x.replaced → (b : Bool) → (main_at heap x.indirection == x.replaced) ≡ b →
       Either b (GrownSwaps states t x.indirection x.replaced x.fresh) (GrownStays states t) →
       NextLine (Publishes x.indirection x.replaced x.fresh) (after_swap (states t) operation why x (on_line x (after_publish x.fresh b)))
-  swap_publish why x finds found c g true is e = record {
-    moves = SwapsNode finds.link (swaps_words states last t x.indirection x.replaced x.fresh finds.link found.made (sym finds.main ∙ eqb-true _ x.replaced is) e
-        (no_commit limits states last known t h c));
-    remembers = (tt, still x.indirection x.replaced g);
-  }
+  swap_publish why x finds found c g true is e =
+      SwapsNode finds.link (swaps_words states last t x.indirection x.replaced x.fresh finds.link found.made (sym finds.main ∙ eqb-true _ x.replaced is) e
+      (no_commit limits states last known t h c))
   swap_publish why x finds found c g false is e =
       rest_turn (Publishes x.indirection x.replaced x.fresh) _ tt e c (LineRests.swapped_rest G W operation (node_at heap x.fresh) why false)
 
-  swap_decides : (why : Purpose) (x : Swap) (l : ReadLine) → G x.indirection x.replaced → (out : After ReadLine Ref) → ReadTurn w t x.indirection l out → OutRemembers W out →
+  swap_decides : (why : Purpose) (x : Swap) (l : ReadLine) (out : After ReadLine Ref) → ReadTurn w t x.indirection l out →
       NextLine (Decides x.indirection x.replaced x.fresh l) (after_swap (states t) operation why x (on_line x (swap_deciding out)))
-  swap_decides why x l g (Goes next) turn o = record { moves = DecidesOn turn; remembers = (o, still x.indirection x.replaced g) }
-  swap_decides why x l g (Gives m) turn o = record { moves = DecidesOn turn; remembers = (tt, still x.indirection x.replaced g) }
+  swap_decides why x l (Goes next) turn = DecidesOn turn
+  swap_decides why x l (Gives m) turn = DecidesOn turn
 
   swap_checks : (why : Purpose) (x : Swap) → GrownStays states t → (states (suc t)).commits ≡ (states t).commits → (v : Prev) →
       NextLine (Checks x.indirection x.replaced x.fresh) (after_swap (states t) operation why x (on_line x (after_check v)))
@@ -285,8 +257,8 @@ module _ (limits : Limits) (states : ℕ → State) (last : ℕ) (known : Known 
       swap_publish why (record { indirection = i; replaced = a; fresh = f; line = swap.Publish }) s.acts.0 s.acts.1 s.commits s.remembers.1 (main_at heap i == a) refl s.acts.2
   swap_turn why i a f (swap.Deciding l) s =
       let x : Swap = record { indirection = i; replaced = a; fresh = f; line = swap.Deciding l } in
-      swap_decides why x l s.remembers.1 (read_after heap operation.access word i l)
-      (own_read i l s.acts s.commits s.remembers.0 (asks_of (line.Swap why x) i l refl s.asks)) (read_remembers heap operation.access word i l s.remembers.0)
+      swap_decides why x l (read_after heap operation.access word i l)
+      (own_read i l s.acts s.commits s.remembers.0 (asks_of (line.Swap why x) i l refl s.asks))
   swap_turn why i a f swap.Check s = swap_checks why (record { indirection = i; replaced = a; fresh = f; line = swap.Check }) s.acts.1 s.commits (prev_at heap f)
 
   -- ---- RENEW
@@ -301,8 +273,7 @@ module _ (limits : Limits) (states : ℕ → State) (last : ℕ) (known : Known 
       (LineRests.renew_entry_rest G W (states t) operation path main done (next_entry (states t) main done) (node_at heap (next_entry (states t) main done)) s.remembers)
   renew_turn (renew.Read path main done r) s =
       reads_on r.indirection r.line (λ o. renew_after_read path main done (at_indirection r.indirection o)) s.acts s.commits s.remembers.0
-      (asks_of (line.Renew (renew.Read path main done r)) r.indirection r.line refl s.asks) s.stage (renew_stage path main done r.indirection)
-      (λ next o. (o, still (current path) main s.remembers.1)) (λ m g. (still (current path) main s.remembers.1, (r.indirection, g)))
+      (asks_of (line.Renew (renew.Read path main done r)) r.indirection r.line refl s.asks) (renew_stage path main done r.indirection)
   renew_turn (renew.Link path main done child) s =
       make_turn Rests tt _ (renew_after_link (states t) path main done) s.commits (tt, tt) (λ n. LineRests.renew_link_made G W (states t) path main done n s.remembers.0)
       (λ l. inl s.remembers.1) (next_ref heap) s.acts
@@ -325,16 +296,14 @@ module _ (limits : Limits) (states : ℕ → State) (last : ℕ) (known : Known 
   clean_turn : (l : CleanLine) → LineStep (line.Clean l) → NextLine (stage_of (line.Clean l)) (line_after (states t) operation (line.Clean l))
   clean_turn (clean.Read path r) s =
       reads_on r.indirection r.line (λ o. clean_after_read path (at_indirection r.indirection o)) s.acts s.commits s.remembers.0
-      (asks_of (line.Clean (clean.Read path r)) r.indirection r.line refl s.asks) s.stage (clean_stage path r.indirection)
-      (λ next o. (o, s.remembers.1)) (λ m g. subst (λ i. G' i m) s.remembers.1 g)
+      (asks_of (line.Clean (clean.Read path r)) r.indirection r.line refl s.asks) (clean_stage path r.indirection)
   clean_turn (clean.Main path main) s = rest_turn Rests _ tt s.acts s.commits (LineRests.clean_main_rest G W (states t) path main (node_at heap main) s.remembers)
   clean_turn (clean.Entry path main done) s =
       rest_turn Rests _ tt s.acts s.commits
       (LineRests.clean_entry_rest G W (states t) path main done (next_entry (states t) main done) (node_at heap (next_entry (states t) main done)) s.remembers)
   clean_turn (clean.Child path main done r) s =
       reads_on r.indirection r.line (λ o. after_child path main done (at_indirection r.indirection o)) s.acts s.commits s.remembers.0
-      (asks_of (line.Clean (clean.Child path main done r)) r.indirection r.line refl s.asks) s.stage (child_stage path main done r.indirection)
-      (λ next o. (o, still (current path) main s.remembers.1)) (λ m g. (still (current path) main s.remembers.1, (r.indirection, g)))
+      (asks_of (line.Clean (clean.Child path main done r)) r.indirection r.line refl s.asks) (child_stage path main done r.indirection)
   clean_turn (clean.Tomb path main done child) s =
       rest_turn Rests _ tt s.acts s.commits (LineRests.clean_tomb_rest G W (states t) path main done (node_at heap child) s.remembers.0)
   clean_turn (clean.Contracted path main done) s =
@@ -355,9 +324,8 @@ module _ (limits : Limits) (states : ℕ → State) (last : ℕ) (known : Known 
       NextLine (stage_of l) (line_after (states t) operation l)
   root_completing offer (complete.Reading x) s =
       reads_on offer.root x (λ o. after_root operation (after_completing (of_offer offer (after_reading o)))) s.acts s.commits s.remembers
-      (asks_of (line.Root (root.Completing (record { offer = offer; line = complete.Reading x }))) offer.root x refl s.asks) s.stage (root_completing_stage offer)
-      (λ next o. o) (λ m g. g)
-  root_completing offer (complete.Swap main) s = rest_turn Rests _ tt s.acts s.commits (tt, tt)
+      (asks_of (line.Root (root.Completing (record { offer = offer; line = complete.Reading x }))) offer.root x refl s.asks) (root_completing_stage offer)
+  root_completing offer (complete.Swap main) s = rest_turn Rests (line.Root root.Read) tt s.acts s.commits (tt, tt)
 
   root_turn : (l : RootLine) → LineStep (line.Root l) → NextLine (stage_of (line.Root l)) (line_after (states t) operation (line.Root l))
   root_turn root.Read s = rest_turn Rests _ tt s.acts s.commits (LineRests.root_word_rest G W operation word)
@@ -374,9 +342,8 @@ module _ (limits : Limits) (states : ℕ → State) (last : ℕ) (known : Known 
       NextLine (stage_of l) (line_after (states t) operation l)
   climb_completing c offer (complete.Reading x) s =
       reads_on offer.root x (λ o. climb_after_root (states t) operation c (after_completing (of_offer offer (after_reading o)))) s.acts s.commits s.remembers
-      (asks_of (line.Climb (climb.Root c (root.Completing (record { offer = offer; line = complete.Reading x })))) offer.root x refl s.asks) s.stage (climb_completing_stage c offer)
-      (λ next o. o) (λ m g. g)
-  climb_completing c offer (complete.Swap main) s = rest_turn Rests _ tt s.acts s.commits (tt, tt)
+      (asks_of (line.Climb (climb.Root c (root.Completing (record { offer = offer; line = complete.Reading x })))) offer.root x refl s.asks) (climb_completing_stage c offer)
+  climb_completing c offer (complete.Swap main) s = rest_turn Rests (line.Climb (climb.Root c root.Read)) tt s.acts s.commits (tt, tt)
 
   climb_stage : (c : Climb) (i : Ref) (o : After ReadLine Ref) → stage_of (climb_after_read c (at_indirection i o)) ≡ after_read i o
   climb_stage c i (Goes l) = refl
@@ -388,8 +355,7 @@ module _ (limits : Limits) (states : ℕ → State) (last : ℕ) (known : Known 
   climb_turn : (l : ClimbLine) → LineStep (line.Climb l) → NextLine (stage_of (line.Climb l)) (line_after (states t) operation (line.Climb l))
   climb_turn (climb.Read c r) s =
       reads_on r.indirection r.line (λ o. climb_after_read c (at_indirection r.indirection o)) s.acts s.commits s.remembers.0
-      (asks_of (line.Climb (climb.Read c r)) r.indirection r.line refl s.asks) s.stage (climb_stage c r.indirection)
-      (λ next o. (o, s.remembers.1)) (λ m g. subst (λ i. G' i m) s.remembers.1 g)
+      (asks_of (line.Climb (climb.Read c r)) r.indirection r.line refl s.asks) (climb_stage c r.indirection)
   climb_turn (climb.Main c main) s = rest_turn Rests _ tt s.acts s.commits (LineRests.climb_main_rest G W (states t) operation c main (node_at heap main) s.remembers)
   climb_turn (climb.Contracted c main) s =
       make_turn Rests tt _ (climb_after_contracted operation c main) s.commits (tt, tt) (λ n. ((refl, s.remembers), (tt, s.remembers)))
@@ -406,9 +372,6 @@ module _ (limits : Limits) (states : ℕ → State) (last : ℕ) (known : Known 
       at_given : (call : Call) → stage_of (after_given call at m) ≡ Rests
       at_given call = grind arith
 
-  copy_done_rest : (done : Bool) → AtRest G W (copy_after_complete operation (Gives done))
-  copy_done_rest done = grind arith
-
   copy_completing_stage : (offer : Descriptor) (o : After ReadLine Ref) → stage_of (copy_after_complete operation (of_offer offer (after_reading o))) ≡ after_read offer.root o
   copy_completing_stage offer (Goes l) = refl
   copy_completing_stage offer (Gives m) = refl
@@ -417,15 +380,13 @@ module _ (limits : Limits) (states : ℕ → State) (last : ℕ) (known : Known 
       NextLine (stage_of l) (line_after (states t) operation l)
   copy_completing offer (complete.Reading x) s =
       reads_on offer.root x (λ o. copy_after_complete operation (of_offer offer (after_reading o))) s.acts s.commits s.remembers
-      (asks_of (line.Copy (copy.Complete (record { offer = offer; line = complete.Reading x }))) offer.root x refl s.asks) s.stage (copy_completing_stage offer)
-      (λ next o. o) (λ m g. g)
-  copy_completing offer (complete.Swap main) s = rest_turn Rests _ tt s.acts s.commits (copy_done_rest (is_carried_out word offer main))
+      (asks_of (line.Copy (copy.Complete (record { offer = offer; line = complete.Reading x }))) offer.root x refl s.asks) (copy_completing_stage offer)
+  copy_completing offer (complete.Swap main) s = rest_turn Rests _ tt s.acts s.commits (LineRests.copy_done_rest G W operation (is_carried_out word offer main))
 
   copy_turn : (l : CopyLine) → LineStep (line.Copy l) → NextLine (stage_of (line.Copy l)) (line_after (states t) operation (line.Copy l))
   copy_turn (copy.Read at r) s =
       reads_on r.indirection r.line (λ o. copy_after_read operation at (at_indirection r.indirection o)) s.acts s.commits s.remembers.0
-      (asks_of (line.Copy (copy.Read at r)) r.indirection r.line refl s.asks) s.stage (copy_stage at r.indirection)
-      (λ next o. (o, s.remembers.1)) (λ m g. (LineRests.given_rest G' W operation.call at m (subst (λ i. G' i m) s.remembers.1 g)).1)
+      (asks_of (line.Copy (copy.Read at r)) r.indirection r.line refl s.asks) (copy_stage at r.indirection)
   copy_turn (copy.Successor at main) s =
       make_turn Rests tt _ (copy_if_made operation (copy.Successor at main)) s.commits (tt, tt) (λ n. LineRests.copy_successor_made G W operation at main n s.remembers)
       (λ l. inl (at, s.remembers)) (next_ref heap) s.acts
@@ -445,14 +406,22 @@ module _ (limits : Limits) (states : ℕ → State) (last : ℕ) (known : Known 
   walk_stage todo pairs i (Gives m) = refl
 
   walk_turn : (l : WalkLine) → LineStep (line.Walk l) → NextLine (stage_of (line.Walk l)) (line_after (states t) operation (line.Walk l))
-  walk_turn walk.Root s = rest_turn Rests _ tt s.acts s.commits (tt, tt)
+  walk_turn walk.Root s = rest_turn Rests (line.Walk (walk.Read (reading (root_of word)) [] [])) tt s.acts s.commits (tt, tt)
   walk_turn (walk.Read r todo pairs) s =
       reads_on r.indirection r.line (λ o. walk_after_read todo pairs (at_indirection r.indirection o)) s.acts s.commits s.remembers
-      (asks_of (line.Walk (walk.Read r todo pairs)) r.indirection r.line refl s.asks) s.stage (walk_stage todo pairs r.indirection) (λ next o. o) (λ m g. (r.indirection, g))
+      (asks_of (line.Walk (walk.Read r todo pairs)) r.indirection r.line refl s.asks) (walk_stage todo pairs r.indirection)
   walk_turn (walk.Main main todo pairs) s =
       rest_turn Rests _ tt s.acts s.commits (LineRests.walk_next_rest G W operation (entries_of (node_at heap main) ++ todo) pairs)
   walk_turn (walk.Entry todo pairs) s =
       rest_turn Rests _ tt s.acts s.commits (LineRests.walk_entry_rest G W operation (first_of todo) (rest_of todo) pairs (node_at heap (first_of todo)))
+
+  -- ---- the READ of a line
+
+  pub own_turn : (l : Line) → LineStep l → (i : Ref) (x : ReadLine) → stage_of l ≡ Reads i x → ReadTurn w t i x (read_after heap operation.access word i x)
+  own_turn l s i x on =
+      let so : ReadsSo (states t) operation G W l (Reads i x) = on_stage (states t) operation G W l i x on in
+      own_read i x (subst (λ a. ActsOn states t a) so.0 s.acts) (s.commits ∙ ap (λ r. commits_after (states t) (committed_in (states t) r)) so.1) (so.2 s.remembers)
+      (asks_of l i x so.1 s.asks)
 
   -- ---- all lines
 
@@ -467,4 +436,4 @@ module _ (limits : Limits) (states : ℕ → State) (last : ℕ) (known : Known 
   line_turn (line.Copy l) g s = copy_turn l s
   line_turn (line.Walk l) g s = walk_turn l s
   line_turn (line.End answer) g s = absurd g
-  line_turn line.Impossible g s = rest_turn Rests _ tt s.acts s.commits (tt, tt)
+  line_turn line.Impossible g s = rest_turn Rests line.Impossible tt s.acts s.commits (tt, tt)

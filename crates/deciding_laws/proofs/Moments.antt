@@ -33,9 +33,9 @@ use Rattle.deciding_laws.proofs.Stages.{stage_of, stage_of_actor, from_of_actor,
 use Rattle.deciding_laws.proofs.Known.{ActsOn, Known}
 use Rattle.deciding_laws.proofs.GrownWords.{words_of, commit_of}
 use Rattle.deciding_laws.proofs.StepsAt.{gone_commits, commit_here, commit_kept}
-use Rattle.deciding_laws.proofs.LineTurns.{own_read, asks_of}
+use Rattle.deciding_laws.proofs.LineTurns.{own_turn}
 use Rattle.deciding_laws.proofs.LineReads.{ReadsSo, on_stage, read_counts}
-use Rattle.deciding_laws.proofs.RunWords.{ActorRemembers, remembers_at, protocol}
+use Rattle.deciding_laws.proofs.RunWords.{line_step, remembers_at, protocol}
 
 -- ---- the moment of the definition
 
@@ -104,15 +104,11 @@ module _ (limits : Limits) (states : ℕ → State) (last : ℕ) (known : Known 
   read_commits_after : (states (suc t)).commits ≡ commits_after (states t) (committed_by (states t).heap i x)
   read_commits_after = ap (λ (s : State). s.commits) e ∙ gone_commits (states t) actor operation ∙ ap (λ r. commits_after (states t) (committed_in (states t) r)) so.1
 
-  remembered : Remembers (λ j m. Given w t actor j m) (operation.access ≡ Writable) operation.line
-  remembered = subst (λ y. ActorRemembers states last t actor y) is (remembers_at limits states last known t (omega arith) actor)
-
   -- it is a turn of the protocol
   pub reading_turn : ReadTurn w t i x out
   reading_turn =
-      own_read limits states last known t h actor operation i x (subst (λ a. ActsOn states t a) so.0 (known.acts t h actor o moves operation is)) read_commits_after (so.2 remembered)
-      (λ m p at. asks_of limits states last known t h actor operation operation.line i x so.1
-      (λ j main previous asked writable r plain c closed. known.open_root t h actor operation is j main previous asked writable r plain c closed) m p at)
+      own_turn limits states last known t h actor operation operation.line
+      (line_step limits states last known t h (remembers_at limits states last known t (omega arith)) actor operation o moves is e) i x stage
 
   gives_turn : (m : Ref) → out ≡ Gives m → ReadTurn w t i x (Gives m)
   gives_turn m gives = subst (λ y. ReadTurn w t i x y) gives reading_turn

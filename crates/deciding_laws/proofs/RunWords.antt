@@ -39,17 +39,21 @@ use Rattle.machine_model.specs.declared.lines.Line.{Line}
 use Rattle.machine_model.specs.declared.lines.Line.TheVariants as line
 use Rattle.machine_model.specs.declared.steps.Limits.{Limits}
 use Rattle.machine_model.specs.declared.steps.Step.TheVariants as step
-use Rattle.machine_model.specs.States.{State, operation_of}
-use Rattle.machine_model.specs.Reading.{read_action}
+use Rattle.machine_model.specs.States.{State, operation_of, word_at}
+use Rattle.machine_model.specs.Reading.{read_action, read_after}
 use Rattle.machine_model.specs.Swapping.{complete_action_at, action_at}
 use Rattle.machine_model.specs.Operations.{first_line, line_action, line_after, action_of}
 use Rattle.machine_model.specs.Orders.{counted_from}
 use Rattle.machine_model.specs.Acting.{gone, marked, operation_after}
 use Rattle.machine_model.specs.Counting.{settled}
 use Rattle.machine_model.proofs.Moves.{begun_operation}
+use Rattle.machine_model.proofs.Moves as Machine
+use Rattle.machine_model.specs.declared.steps.Outcome.{Outcome}
+use Rattle.machine_model.specs.declared.reading.After.TheVariants.{Gives}
+use Rattle.machine_model.specs.Calls.{handle_of}
 use Rattle.machine_model.proofs.Actors.{marks_by}
 use Rattle.machine_model.proofs.Times.{IsRun, steps_at}
-use Rattle.deciding_laws.proofs.Words.{Words, Stage, Rests, Reads, Leaves, IsFree, IsAtRest, Given, Moves, Idles, counts_at, Counts, IsSame, Turn, Acts, Passes, Protocol}
+use Rattle.deciding_laws.proofs.Words.{Words, Stage, Rests, Reads, Leaves, IsFree, IsAtRest, Given, ReadTurn, Moves, Idles, counts_at, Counts, IsSame, Turn, Acts, Passes, Protocol}
 use Rattle.deciding_laws.proofs.Owners.{given_later}
 use Rattle.deciding_laws.proofs.Finals.{from_time}
 use Rattle.deciding_laws.proofs.Stages.{stage_of, stage_of_actor, from_of_actor, Remembers, remembers_still}
@@ -57,7 +61,8 @@ use Rattle.deciding_laws.proofs.Known.{ActsOn, Known}
 use Rattle.deciding_laws.proofs.GrownWords.{words_of, leaves_words, commit_of}
 use Rattle.deciding_laws.proofs.ReadTurns.{no_commit}
 use Rattle.deciding_laws.proofs.StepsAt.{StepAt, IsBegin, IsGo, IsEnd, IsSweep, step_at, gone_commits, begun_commits, after_mark, mark_stage, mark_from, go_others, go_own, end_others, end_own, begin_others, begin_own, actor_counts, begins_counted, begins_idle}
-use Rattle.deciding_laws.proofs.LineTurns.{LineStep, NextLine, line_turn}
+use Rattle.deciding_laws.proofs.LineTurns.{LineStep, NextLine, line_turn, own_turn}
+use Rattle.deciding_laws.proofs.LineKeeps.{line_keeps}
 use Rattle.deciding_laws.proofs.LineReads.{CountsTo, line_counts, ends_at_end}
 use Rattle.deciding_laws.proofs.FirstWords.{prev_at_first, made_at_first, idle_at_first, uncommitted_at_first}
 
@@ -117,8 +122,9 @@ module _ (limits : Limits) (states : ℕ → State) (last : ℕ) (known : Known 
 
   -- a step of an operation that goes on
   go_turn : (actor : ℕ) (operation : Operation) → operation_of (states t) actor ≡ Some operation → states (suc t) ≡ settled (states t) (gone (states t) actor operation) →
-      NextLine limits states last known t h actor operation (stage_of operation.line) (line_after (states t) operation operation.line) → TurnAt states last t
-  go_turn actor operation is e next =
+      NextLine limits states last known t h actor operation (stage_of operation.line) (line_after (states t) operation operation.line) →
+      Remembers (λ i m. Given w (suc t) actor i m) (operation.access ≡ Writable) (line_after (states t) operation operation.line) → TurnAt states last t
+  go_turn actor operation is e next remembers =
       let m : Option ℕ = marks_by (states t) (Some operation) in
       let own : operation_of (states (suc t)) actor ≡ after_mark m (Some (operation_after (states t) operation)) =
       ap (λ (s : State). operation_of s actor) e ∙ go_own (states t) actor operation is in
@@ -131,13 +137,13 @@ module _ (limits : Limits) (states : ℕ → State) (last : ℕ) (known : Known 
       ap from_of_actor own ∙ mark_from m (Some (operation_after (states t) operation))
       ∙ ap (λ n. counted_from (action_of (states t) operation) n operation.read_at) (steps_at limits states last known.run t (omega arith)) in
       record {
-        turn = Acts actor (subst (λ s. Moves w t actor s (w.stage (suc t) actor)) (sym before) (subst (λ s. Moves w t actor (stage_of operation.line) s) (sym after) next.moves))
+        turn = Acts actor (subst (λ s. Moves w t actor s (w.stage (suc t) actor)) (sym before) (subst (λ s. Moves w t actor (stage_of operation.line) s) (sym after) next))
             (counts_so actor (w.stage t actor) (stage_of operation.line) before operation.read_at from_before
             (subst (λ n. CountsTo (stage_of operation.line) t operation.read_at n) (sym from_after) (line_counts (states t) operation operation.line t operation.read_at)))
             (λ j apart. same_actor m j (others j apart));
         remembers = λ j. remembers_by m actor others
             (subst (λ x. ActorRemembers states last (suc t) actor x) (sym own)
-            (mark_remembers states last (suc t) actor m (Some (operation_after (states t) operation)) next.remembers)) j (cases_eq j actor);
+            (mark_remembers states last (suc t) actor m (Some (operation_after (states t) operation)) remembers)) j (cases_eq j actor);
       }
     where
       counts_so : (k : ℕ) (s s' : Stage) → s ≡ s' → (r : ℕ) → w.from t k ≡ r → CountsTo s' t r (w.from (suc t) k) → Counts w t k s
@@ -171,6 +177,30 @@ module _ (limits : Limits) (states : ℕ → State) (last : ℕ) (known : Known 
   begun_remembers k call x (inl e) = subst (λ y. ActorRemembers states last (suc t) k y) (sym e) tt
   begun_remembers k call x (inr e) = subst (λ y. ActorRemembers states last (suc t) k y) (sym e) (first_remembers _ _ call)
 
+  -- what is known of a step from an operation's line
+  pub line_step : (actor : ℕ) (operation : Operation) (o : Outcome) → Machine.Moves (states t) (step.Go actor) o (states (suc t)) → operation_of (states t) actor ≡ Some operation →
+      states (suc t) ≡ settled (states t) (gone (states t) actor operation) → LineStep limits states last known t h actor operation operation.line
+  line_step actor operation o m is e = record {
+    acts = known.acts t h actor o m operation is;
+    commits = ap (λ (s : State). s.commits) e ∙ gone_commits (states t) actor operation;
+    asks = λ i main p asked writable r plain c closed. known.open_root t h actor operation is i main p asked writable r plain c closed;
+    stage = ap stage_of_actor is;
+    main_kind = λ path main c former at. known.built_from_main t h actor operation is path main c former at;
+    remembers = subst (λ x. ActorRemembers states last t actor x) is (so_far actor);
+  }
+
+  -- what its READ gives
+  given_now : (actor : ℕ) (operation : Operation) → operation_of (states t) actor ≡ Some operation → LineStep limits states last known t h actor operation operation.line →
+      (i : Ref) (x : ReadLine) (m : Ref) → stage_of operation.line ≡ Reads i x →
+      read_after (states t).heap operation.access (word_at (states t) (handle_of operation.call)) i x ≡ Gives m → Given w (suc t) actor i m
+  given_now actor operation is step i x m on gives = record {
+    at = t;
+    past = omega arith;
+    line = x;
+    stage = ap stage_of_actor is ∙ on;
+    gives = subst (λ y. ReadTurn w t i x y) gives (own_turn limits states last known t h actor operation operation.line step i x on);
+  }
+
   turn_by : StepAt (states t) (states (suc t)) → TurnAt states last t
   turn_by (IsBegin actor call o m d e) =
       let kept = no_commit limits states last known t h (ap (λ (s : State). s.commits) e ∙ begun_commits (states t) actor call (begun_operation (states t) call)) in
@@ -180,14 +210,10 @@ module _ (limits : Limits) (states : ℕ → State) (last : ℕ) (known : Known 
       (ap stage_of_actor (begins_idle (states t) actor call d)) (begun_stage call _ found) (begun_remembers actor call _ found)
       (λ j apart. ap (λ (s : State). operation_of s j) e ∙ begin_others (states t) actor call (begun_operation (states t) call) (begins_counted (states t) actor call d) j apart)
   turn_by (IsGo actor operation o m is g e) =
-      go_turn actor operation is e (line_turn limits states last known t h actor operation operation.line g (record {
-        acts = known.acts t h actor o m operation is;
-        commits = ap (λ (s : State). s.commits) e ∙ gone_commits (states t) actor operation;
-        asks = λ i main p asked writable r plain c closed. known.open_root t h actor operation is i main p asked writable r plain c closed;
-        stage = ap stage_of_actor is;
-        main_kind = λ path main c former at. known.built_from_main t h actor operation is path main c former at;
-        remembers = subst (λ x. ActorRemembers states last t actor x) is (so_far actor);
-      }))
+      let step = line_step actor operation o m is e in
+      go_turn actor operation is e (line_turn limits states last known t h actor operation operation.line g step)
+      (line_keeps (states t) operation (λ i m. Given w t actor i m) (λ i m. Given w (suc t) actor i m) (λ i m given. given_later given) operation.line
+      (λ i x m on gives. given_now actor operation is step i x m on gives) step.remembers)
   turn_by (IsEnd actor operation answer o m is a e) =
       let kept = no_commit limits states last known t h (ap (λ (s : State). s.commits) e) in
       let stays = subst (λ x. ActsOn states t x) a (known.acts t h actor o m operation is) in
