@@ -1,10 +1,9 @@
 -- What one step does to words, with what is known of the nodes that it writes; and that what is known of words stays known.
-use Rattle.std.proofs.Common.{◌≡◌, ℕ, suc, ◌⊎◌, Bool, true, false, inl, inr, refl, sym, ◌∙◌, ap, subst}
+use Rattle.std.proofs.Common.{◌≡◌, ℕ, suc, ◌⊎◌, true, inl, inr, sym, ◌∙◌, ap, subst}
 use Rattle.std.proofs.lemmas.Bool.{cases_eq}
 use Rattle.slot_arena.specs.declared.refs.Ref.{Ref}
-use Rattle.slot_arena.specs.declared.nodes.Prev.{Prev}
 use Rattle.slot_arena.specs.declared.nodes.Prev.TheVariants as over
-use Rattle.deciding_laws.proofs.Words.{Words, Kept, Leaves, Makes, MakesNothing, SwapsIn, PutsBack, CommitsNode, FailsNode}
+use Rattle.deciding_laws.proofs.Words.{Words, Leaves, Makes, SwapsIn, PutsBack, CommitsNode, FailsNode}
 use Rattle.deciding_laws.proofs.Stood.{Stood, Decided, Private, IsOver, StandsOver, AreSound, stood_later, stands_now, stood_cases, none≢pending, none≢failed, pending≢failed, same_pending, over_pending, over_failed, over_none, not_both}
 
 -- a node that a new indirection may name

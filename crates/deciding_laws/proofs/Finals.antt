@@ -1,14 +1,14 @@
 -- What is final, over whole runs: decided and failed nodes; and what becomes of pending ones.
-use Rattle.std.proofs.Common.{◌≡◌, ℕ, zero, suc, ◌<◌, ◌≤◌, ◌⊎◌, true, false, Option, Some, None, inl, inr, refl, sym, ◌∙◌, ap, subst, arith}
+use Rattle.std.proofs.Common.{◌≡◌, ℕ, zero, suc, ◌<◌, ◌≤◌, ◌⊎◌, true, Option, Some, None, inl, inr, refl, sym, ◌∙◌, ap, subst, arith}
 use Rattle.std.proofs.lemmas.Bool.{cases_eq}
 use Rattle.std.proofs.lemmas.Option.{none-some, same_Some}
 use Rattle.slot_arena.specs.declared.refs.Ref.{Ref}
 use Rattle.slot_arena.specs.declared.nodes.Prev.{Prev}
 use Rattle.slot_arena.specs.declared.nodes.Prev.TheVariants as over
 use Rattle.deciding_laws.proofs.Words.{Words, Kept, CommitsNode, FailsNode, Protocol}
-use Rattle.deciding_laws.proofs.Stood.{Stood, Decided, AreSound, stood_later, stood_still, none≢pending, none≢failed, pending≢failed, same_pending, over_pending}
-use Rattle.deciding_laws.proofs.Effects.{Effect, Nothing, Made, SwappedIn, PutBack, Committed, Failed, link_later, made_later, none_later, failed_later, GoesOn, StaysPending, GetsCommitted, GetsFailed, goes_on}
-use Rattle.deciding_laws.proofs.Owners.{IsSound, Owner}
+use Rattle.deciding_laws.proofs.Stood.{Stood, stood_still, none≢pending, none≢failed, pending≢failed, same_pending, over_pending}
+use Rattle.deciding_laws.proofs.Effects.{Effect, Nothing, Made, SwappedIn, PutBack, Committed, Failed, link_later, none_later, failed_later, GoesOn, StaysPending, GetsCommitted, GetsFailed, goes_on}
+use Rattle.deciding_laws.proofs.Owners.{IsSound}
 use Rattle.deciding_laws.proofs.Sounds.{sound_at, effect_at}
 
 -- ---- induction over time, from some time on

@@ -1,14 +1,11 @@
 -- What an action finds and does in the heap that only grows, where what it names stands in the machine's heap.
-use Rattle.std.proofs.Common.{◌≡◌, ℕ, zero, suc, ◌+◌, ◌*◌, ◌/◌, ◌%◌, ◌^◌, ◌<◌, ◌≤◌, ◌⊎◌, Bool, true, false, cond, ◌==◌, List, get_or, set, Option, Some, None, option_map, inl, inr, refl, sym, ◌∙◌, ap, subst, eqb-true, arith}
-use Rattle.std.proofs.lemmas.Bool.{cases_eq, true≢false, eq-eqb, eqb-false}
+use Rattle.std.proofs.Common.{◌≡◌, ℕ, ◌⊎◌, Bool, true, false, cond, ◌==◌, List, get_or, set, Option, Some, None, option_map, inl, inr, refl, sym, ◌∙◌, ap, subst, eqb-true, arith}
+use Rattle.std.proofs.lemmas.Bool.{cases_eq, true≢false, eq-eqb}
 use Rattle.std.proofs.lemmas.List.{get_or-set_same, get_or-set_other}
 use Rattle.std.proofs.lemmas.Option.{none-some, same_Some}
-use Rattle.history.specs.declared.calls.Call.{Call}
 use Rattle.slot_arena.specs.Refs.{slot_of, birth_of}
 use Rattle.slot_arena.specs.declared.refs.Ref.{Ref}
-use Rattle.slot_arena.specs.declared.nodes.Node.{Node}
 use Rattle.slot_arena.specs.declared.nodes.Prev.{Prev}
-use Rattle.slot_arena.specs.declared.nodes.Prev.TheVariants as over
 use Rattle.slot_arena.specs.declared.nodes.Slot.{Slot}
 use Rattle.slot_arena.specs.Heaps.{Heap, stored, written, main_changed, prev_changed, with_main, with_prev, freed}
 use Rattle.machine_model.proofs.Found.{found_within, found_here}

@@ -1,5 +1,5 @@
 -- The words of a machine's run, and what its steps do to them.
-use Rattle.std.proofs.Common.{◌≡◌, ℕ, zero, suc, ◌<◌, ◌≤◌, ◌⊎◌, Bool, true, false, ◌==◌, Option, Some, None, option_map, inl, inr, refl, sym, ◌∙◌, ap, subst, find, arith}
+use Rattle.std.proofs.Common.{◌≡◌, ℕ, suc, ◌⊎◌, true, ◌==◌, Option, Some, None, option_map, inl, inr, refl, sym, ◌∙◌, ap, find}
 use Rattle.std.specs.Prelude.{is_some}
 use Rattle.std.proofs.lemmas.Bool.{cases_eq, true≢false}
 use Rattle.slot_arena.specs.declared.refs.Ref.{Ref}

@@ -1,5 +1,5 @@
 -- What the heap that only grows says is what the machine's heap says, of what is in use; and the states of a run by number.
-use Rattle.std.proofs.Common.{◌≡◌, ℕ, zero, suc, ◌+◌, ◌*◌, ◌/◌, ◌%◌, ◌^◌, ◌<◌, ◌≤◌, Bool, true, false, cond, ◌==◌, List, [], ◌∷◌, length, take, get_or, slice_get, Contains, Option, Some, None, Ok, Err, refl, sym, ◌∙◌, ap, subst, arith}
+use Rattle.std.proofs.Common.{◌≡◌, ℕ, zero, suc, ◌+◌, ◌^◌, ◌<◌, ◌≤◌, Bool, true, false, cond, ◌==◌, List, [], ◌∷◌, length, take, get_or, slice_get, Option, Some, None, Ok, Err, refl, sym, ◌∙◌, ap, subst, arith}
 use Rattle.std.proofs.lemmas.Bool.{true≢false, eq-eqb}
 use Rattle.std.proofs.lemmas.List.Elements.{All-contains}
 use Rattle.std.proofs.lemmas.Option.{none-some, same_Some}
@@ -18,12 +18,12 @@ use Rattle.machine_model.proofs.Found.{found_within}
 use Rattle.machine_model.proofs.InUse.{InUse, all_in_use}
 use Rattle.machine_model.proofs.Slots.{sound_along}
 use Rattle.machine_model.proofs.Moves.{Moves, moved}
-use Rattle.machine_model.proofs.Times.{states_from, states_of, last_of}
+use Rattle.machine_model.proofs.Times.{states_from, states_of}
 use Rattle.machine_model.proofs.Grown.{standing, of_birth, or_before, grown, node_under, prev_word}
 use Rattle.deciding_laws.proofs.Words.{main_at}
 use Rattle.deciding_laws.proofs.Known.{is_link, Known}
 use Rattle.deciding_laws.proofs.GrownWords.{words_of}
-use Rattle.deciding_laws.specs.Runs.{state_before, steps_taken, IsInUse, IsIndirection, HasIndirection}
+use Rattle.deciding_laws.specs.Runs.{state_before, IsInUse, IsIndirection}
 
 -- ---- states by number
 

@@ -4,11 +4,10 @@ use Rattle.std.specs.Prelude.{is_some}
 use Rattle.history.specs.declared.calls.Access.TheVariants.{Writable}
 use Rattle.slot_arena.specs.declared.refs.Ref.{Ref}
 use Rattle.slot_arena.specs.declared.nodes.Node.{Node}
-use Rattle.slot_arena.specs.declared.nodes.Node.TheVariants.{Indirection, Branch, Single, Tomb, List as Listed}
-use Rattle.slot_arena.specs.declared.nodes.Prev.{Prev}
+use Rattle.slot_arena.specs.declared.nodes.Node.TheVariants.{Indirection}
 use Rattle.slot_arena.specs.declared.nodes.Prev.TheVariants as over
 use Rattle.slot_arena.specs.declared.nodes.Slot.{Slot}
-use Rattle.slot_arena.specs.Heaps.{Heap, node_at, main_at, prev_at, generation_at, generation_of, main_of, main_changed, prev_changed, next_ref}
+use Rattle.slot_arena.specs.Heaps.{node_at, main_at, prev_at, generation_at, generation_of, main_of, main_changed, prev_changed, next_ref}
 use Rattle.machine_model.specs.declared.actions.Action.{Action}
 use Rattle.machine_model.specs.declared.actions.Action.TheVariants as act
 use Rattle.machine_model.specs.declared.building.Change.{Change}

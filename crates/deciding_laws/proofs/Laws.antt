@@ -1,19 +1,16 @@
 -- The laws, from what other layers give of each run.
-use Rattle.std.proofs.Common.{◌≡◌, ℕ, zero, suc, ◌+◌, ◌<◌, ◌≤◌, ◌⊎◌, Bool, true, false, List, take, slice_get, Option, Some, None, inl, inr, refl, sym, ◌∙◌, ap, subst, add-one, arith}
+use Rattle.std.proofs.Common.{◌≡◌, ℕ, suc, ◌+◌, ◌<◌, ◌≤◌, ◌⊎◌, true, List, take, Some, inl, inr, refl, sym, ◌∙◌, ap, subst, add-one, arith}
 use Rattle.std.proofs.lemmas.Bool.{cases_eq}
 use Rattle.std.proofs.lemmas.Option.{same_Some}
 use Rattle.history.specs.declared.replies.Reply.{Reply}
 use Rattle.slot_arena.specs.declared.refs.Ref.{Ref}
-use Rattle.slot_arena.specs.declared.nodes.Node.{Node}
-use Rattle.slot_arena.specs.declared.nodes.Prev.{Prev}
 use Rattle.slot_arena.specs.declared.nodes.Prev.TheVariants as over
 use Rattle.slot_arena.specs.declared.nodes.Slot.{Slot}
-use Rattle.slot_arena.specs.Heaps.{node_of, main_of, generation_of, main_at, prev_at, generation_at, node_at, logical_main}
+use Rattle.slot_arena.specs.Heaps.{main_of, generation_of, main_at, prev_at, generation_at, node_at, logical_main}
 use Rattle.machine_model.specs.declared.actions.Action.TheVariants as act
 use Rattle.machine_model.specs.declared.operations.Operation.{Operation}
 use Rattle.machine_model.specs.declared.reading.After.{After}
 use Rattle.machine_model.specs.declared.reading.After.TheVariants.{Goes, Gives}
-use Rattle.machine_model.specs.declared.reading.Read.{Read}
 use Rattle.machine_model.specs.declared.reading.ReadLine.{ReadLine}
 use Rattle.machine_model.specs.declared.reading.SwapLine.{SwapLine}
 use Rattle.machine_model.specs.declared.reading.SwapLine.TheVariants as swap
@@ -31,7 +28,7 @@ use Rattle.machine_model.specs.Counting.{settled}
 use Rattle.machine_model.specs.Machine.{AreLimits, run, taken_steps}
 use Rattle.machine_model.proofs.Moves as Machine
 use Rattle.machine_model.proofs.Times.{states_of, last_of, run_ends}
-use Rattle.machine_model.proofs.Grown.{standing, node_under, main_word, prev_word}
+use Rattle.machine_model.proofs.Grown.{standing, node_under}
 use Rattle.deciding_laws.proofs.Words.{Words, Rests, Reads, Decides, CommitsNode, FailsNode, Protocol}
 use Rattle.deciding_laws.proofs.Words as Protocol'
 use Rattle.deciding_laws.proofs.Stood.{Stood, stood_still, none≢pending, stands_now, over_pending}
@@ -49,14 +46,13 @@ use Rattle.deciding_laws.proofs.Known.{is_link, Known}
 use Rattle.deciding_laws.proofs.OtherLayers.{OtherLayers, known}
 use Rattle.deciding_laws.proofs.GrownWords.{words_of}
 use Rattle.deciding_laws.proofs.ReadTurns.{generation_stays}
-use Rattle.deciding_laws.proofs.StepsAt.{StepAt, IsBegin, IsGo, IsEnd, IsSweep, of_move}
 use Rattle.deciding_laws.proofs.LineReads.{ends_at_end}
 use Rattle.deciding_laws.proofs.RunWords.{protocol}
 use Rattle.deciding_laws.proofs.Moments.{moment_at}
-use Rattle.deciding_laws.proofs.InHeap.{states_are, step_leads, in_use_stands, grown_standing, node_standing, prev_standing, link_of, logical_standing}
-use Rattle.deciding_laws.proofs.SwapLines.{RunsSwap, runs_deciding, runs_publishing, in_swap_fresh, reads_stage}
-use Rattle.deciding_laws.specs.Runs.{steps_taken, state_before, IsInUse, HasIndirection, IsIndirection}
-use Rattle.deciding_laws.specs.Deciding.{IsInSwap, Owner, PendingHasOwner, PrevChange, Stays, IsSwappedIn, IsCommitted as ChangeCommitted, HasFailed, PrevWordsChange, DecidedForGood, CommitsMain, MainsChangeByCommits, ReplacedForGood, IsGiven, after_given, MomentIsFirst, GivenForGood, CheckedIsDecided, ChangesLate, LateStoodBefore, LateOnce}
+use Rattle.deciding_laws.proofs.InHeap.{states_are, step_leads, in_use_stands, node_standing, prev_standing, link_of, logical_standing}
+use Rattle.deciding_laws.proofs.SwapLines.{runs_deciding, runs_publishing, in_swap_fresh, reads_stage}
+use Rattle.deciding_laws.specs.Runs.{steps_taken, state_before, IsInUse, HasIndirection}
+use Rattle.deciding_laws.specs.Deciding.{IsInSwap, Owner, PendingHasOwner, PrevChange, Stays, IsSwappedIn, IsCommitted as ChangeCommitted, HasFailed, PrevWordsChange, DecidedForGood, CommitsMain, MainsChangeByCommits, ReplacedForGood, IsGiven, MomentIsFirst, GivenForGood, CheckedIsDecided, ChangesLate, LateStoodBefore, LateOnce}
 
 -- what other layers give of every run
 abbrev pub LayersOfRuns : Type 0

@@ -1,13 +1,8 @@
 -- On which lines an operation reads, and on which it ends.
-use Rattle.std.proofs.Common.{◌≡◌, ℕ, zero, suc, ◌<◌, ◌≤◌, ◌⊎◌, Bool, true, false, cond, ◌==◌, List, Option, Some, None, option_map, find, inl, inr, refl, sym, ◌∙◌, ap, subst, arith}
-use Rattle.std.proofs.lemmas.Bool.{cases_eq}
-use Rattle.history.specs.declared.calls.Access.TheVariants.{Writable}
-use Rattle.history.specs.declared.calls.Call.{Call}
+use Rattle.std.proofs.Common.{◌≡◌, ℕ, Some, refl, ◌∙◌, ap, subst, arith}
 use Rattle.history.specs.declared.replies.Reply.{Reply}
 use Rattle.slot_arena.specs.declared.refs.Ref.{Ref}
-use Rattle.machine_model.specs.declared.actions.Action.{Action}
 use Rattle.machine_model.specs.declared.actions.Action.TheVariants as act
-use Rattle.machine_model.specs.declared.heaps.Commit.{Commit}
 use Rattle.machine_model.specs.declared.operations.Operation.{Operation}
 use Rattle.machine_model.specs.declared.reading.ReadLine.{ReadLine}
 use Rattle.machine_model.specs.declared.reading.ReadLine.TheVariants as read
@@ -37,19 +32,12 @@ use Rattle.machine_model.specs.declared.walking.WalkLine.TheVariants as walk
 use Rattle.machine_model.specs.declared.lines.Purpose.{Purpose}
 use Rattle.machine_model.specs.declared.lines.Line.{Line}
 use Rattle.machine_model.specs.declared.lines.Line.TheVariants as line
-use Rattle.machine_model.specs.declared.steps.Limits.{Limits}
-use Rattle.machine_model.specs.declared.steps.Step.TheVariants as step
-use Rattle.machine_model.specs.States.{State, operation_of}
+use Rattle.machine_model.specs.States.{State}
 use Rattle.machine_model.specs.Reading.{read_action}
 use Rattle.machine_model.specs.Swapping.{complete_action_at, action_at}
 use Rattle.machine_model.specs.Operations.{line_action, read_of}
 use Rattle.machine_model.specs.Orders.{counted_from}
-use Rattle.machine_model.specs.Acting.{gone, marked, operation_after}
-use Rattle.machine_model.specs.Counting.{settled}
-use Rattle.machine_model.proofs.Moves.{begun_operation}
-use Rattle.machine_model.proofs.Actors.{marks_by}
-use Rattle.machine_model.proofs.Times.{IsRun, steps_at}
-use Rattle.deciding_laws.proofs.Words.{Words, Stage, Rests, Reads, Leaves, IsFree, IsAtRest, Given, Moves, Idles, counts_at, Counts, IsSame, Turn, Acts, Passes, Protocol}
+use Rattle.deciding_laws.proofs.Words.{Stage, Rests, Reads, counts_at}
 use Rattle.deciding_laws.proofs.Stages.{stage_of, ReadRemembers, Remembers}
 
 -- ---- lines on which an operation reads

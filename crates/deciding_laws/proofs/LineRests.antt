@@ -1,44 +1,25 @@
 -- The lines after a look at a node, after a swap, and after a node was made: what an operation is about there, and what it
 -- remembers.
-use Rattle.std.proofs.Common.{◌≡◌, ℕ, zero, suc, ◌+◌, ◌-◌, Bool, true, false, cond, ◌==◌, List, [], ◌∷◌, ◌++◌, length, get_or, Option, Some, None, inl, inr, refl, sym, ◌∙◌, ap, subst, length-append, arith}
+use Rattle.std.proofs.Common.{◌≡◌, ℕ, ◌-◌, Bool, true, false, List, [], ◌∷◌, ◌++◌, length, get_or, Option, Some, refl, sym, ◌∙◌, ap, length-append, arith}
 use Rattle.std.proofs.Math.Seq.{get_or-append_seam}
 use Rattle.history.specs.declared.calls.Access.{Access}
 use Rattle.history.specs.declared.calls.Access.TheVariants.{Writable, ReadOnly}
 use Rattle.history.specs.declared.calls.Call.{Call}
 use Rattle.history.specs.declared.calls.Call.TheVariants.{Get, Put, PutIfAbsent, Replace, ReplaceIf, Remove, RemoveIf, Clear, Snapshot, Freeze, Close, Entries, Count}
-use Rattle.history.specs.declared.replies.Reply.{Reply}
 use Rattle.slot_arena.specs.declared.refs.Ref.{Ref}
 use Rattle.slot_arena.specs.declared.nodes.Node.{Node}
 use Rattle.slot_arena.specs.declared.nodes.Node.TheVariants.{Indirection, Branch, Single, Tomb, List as Listed}
-use Rattle.slot_arena.specs.declared.nodes.Prev.{Prev}
-use Rattle.slot_arena.specs.declared.nodes.Prev.TheVariants as over
-use Rattle.slot_arena.specs.Heaps.{Heap, no_ref, node_at, entry_at, entries_of}
+use Rattle.slot_arena.specs.Heaps.{no_ref, node_at, entry_at, entries_of}
 use Rattle.machine_model.specs.declared.operations.Operation.{Operation}
-use Rattle.machine_model.specs.declared.reading.After.{After}
-use Rattle.machine_model.specs.declared.reading.After.TheVariants.{Goes, Gives}
-use Rattle.machine_model.specs.declared.reading.ReadLine.{ReadLine}
-use Rattle.machine_model.specs.declared.reading.ReadLine.TheVariants as read
+use Rattle.machine_model.specs.declared.reading.After.TheVariants.{Gives}
 use Rattle.machine_model.specs.declared.building.Site.{Site}
 use Rattle.machine_model.specs.declared.building.Site.TheVariants as site
 use Rattle.machine_model.specs.declared.building.BuildLine.{BuildLine}
 use Rattle.machine_model.specs.declared.building.BuildLine.TheVariants as build
-use Rattle.machine_model.specs.declared.finding.KeyLine.{KeyLine}
-use Rattle.machine_model.specs.declared.finding.KeyLine.TheVariants as key
 use Rattle.machine_model.specs.declared.finding.WhenFound.{WhenFound}
 use Rattle.machine_model.specs.declared.finding.WhenFound.TheVariants.{Answers, Sets, Removes}
-use Rattle.machine_model.specs.declared.repairs.RenewLine.{RenewLine}
-use Rattle.machine_model.specs.declared.repairs.RenewLine.TheVariants as renew
-use Rattle.machine_model.specs.declared.repairs.CleanLine.{CleanLine}
-use Rattle.machine_model.specs.declared.repairs.CleanLine.TheVariants as clean
 use Rattle.machine_model.specs.declared.repairs.Climb.{Climb}
-use Rattle.machine_model.specs.declared.repairs.ClimbLine.{ClimbLine}
-use Rattle.machine_model.specs.declared.repairs.ClimbLine.TheVariants as climb
-use Rattle.machine_model.specs.declared.copying.CopyLine.{CopyLine}
 use Rattle.machine_model.specs.declared.copying.CopyLine.TheVariants as copy
-use Rattle.machine_model.specs.declared.walking.WalkLine.{WalkLine}
-use Rattle.machine_model.specs.declared.walking.WalkLine.TheVariants as walk
-use Rattle.machine_model.specs.declared.roots.RootLine.{RootLine}
-use Rattle.machine_model.specs.declared.roots.RootLine.TheVariants as root
 use Rattle.machine_model.specs.declared.roots.RootWord.{RootWord}
 use Rattle.machine_model.specs.declared.roots.RootWord.TheVariants.{Plain, Offer}
 use Rattle.machine_model.specs.declared.roots.Descriptor.{Descriptor}
@@ -50,15 +31,15 @@ use Rattle.machine_model.specs.Calls.{when_found}
 use Rattle.machine_model.specs.States.{State}
 use Rattle.machine_model.specs.Paths.{current, above}
 use Rattle.machine_model.specs.Swapping.{after_root_word}
-use Rattle.machine_model.specs.Renewing.{renew_next, renew_after_entry, renew_after_link, renew_after_branch, next_entry}
-use Rattle.machine_model.specs.Finding.{absent, absent_beside, absent_listed, removing, found_so, found, after_tomb, key_after_main, key_after_entry, after_listed, after_sibling}
-use Rattle.machine_model.specs.Building.{after_single, after_link, build_after_made, build_if_made}
-use Rattle.machine_model.specs.Cleaning.{clean_next, clean_after_main, clean_after_entry, clean_after_tomb, clean_after_contracted}
-use Rattle.machine_model.specs.Climbing.{climbed, climbing, higher, climb_after_main, climb_after_contracted, climb_after_root}
-use Rattle.machine_model.specs.Copying.{offering, after_given, after_successor, copy_after_made, copy_if_made, copy_after_complete, after_offer}
+use Rattle.machine_model.specs.Renewing.{renew_next, renew_after_entry, renew_after_link, next_entry}
+use Rattle.machine_model.specs.Finding.{absent, absent_beside, absent_listed, removing, found_so, after_tomb, key_after_main, key_after_entry, after_listed, after_sibling}
+use Rattle.machine_model.specs.Building.{after_single, build_after_made}
+use Rattle.machine_model.specs.Cleaning.{clean_next, clean_after_main, clean_after_entry, clean_after_tomb}
+use Rattle.machine_model.specs.Climbing.{climbing, higher, climb_after_main, climb_after_root}
+use Rattle.machine_model.specs.Copying.{after_given, after_successor, copy_after_made, copy_after_complete, after_offer}
 use Rattle.machine_model.specs.Walking.{walk_next, walk_after_entry}
 use Rattle.machine_model.specs.Operations.{from_root, after_root, after_update, climbed_on, swapped}
-use Rattle.deciding_laws.proofs.Words.{Stage, IsAtRest, HasMade}
+use Rattle.deciding_laws.proofs.Words.{IsAtRest, HasMade}
 use Rattle.deciding_laws.proofs.Stages.{stage_of, Remembers}
 
 -- the last of a path with one more

@@ -1,17 +1,14 @@
 -- Each line of each program is a turn of the protocol.
-use Rattle.std.proofs.Common.{◌≡◌, ℕ, zero, suc, ◌+◌, ◌-◌, ◌<◌, ◌≤◌, ◌⊎◌, Bool, true, false, cond, ◌==◌, ◌&&◌, List, [], ◌∷◌, ◌++◌, length, Option, Some, None, inl, inr, refl, sym, ◌∙◌, ap, subst, eqb-true, arith}
-use Rattle.std.proofs.lemmas.Bool.{cases_eq, true≢false}
-use Rattle.history.specs.declared.calls.Access.{Access}
-use Rattle.history.specs.declared.calls.Access.TheVariants.{Writable, ReadOnly}
+use Rattle.std.proofs.Common.{◌≡◌, ℕ, suc, ◌-◌, ◌<◌, ◌≤◌, Bool, true, false, ◌==◌, List, [], ◌++◌, Option, Some, None, inl, inr, refl, sym, ◌∙◌, ap, subst, eqb-true, arith}
+use Rattle.std.proofs.lemmas.Bool.{true≢false}
+use Rattle.history.specs.declared.calls.Access.TheVariants.{Writable}
 use Rattle.history.specs.declared.calls.Call.{Call}
-use Rattle.history.specs.declared.calls.Call.TheVariants.{Get, Put, PutIfAbsent, Replace, ReplaceIf, Remove, RemoveIf, Clear, Snapshot, Freeze, Close, Entries, Count}
-use Rattle.history.specs.declared.replies.Reply.{Reply}
 use Rattle.slot_arena.specs.declared.refs.Ref.{Ref}
 use Rattle.slot_arena.specs.declared.nodes.Node.{Node}
 use Rattle.slot_arena.specs.declared.nodes.Node.TheVariants.{Indirection, Branch, Single, Tomb, List as Listed}
 use Rattle.slot_arena.specs.declared.nodes.Prev.{Prev}
 use Rattle.slot_arena.specs.declared.nodes.Prev.TheVariants as over
-use Rattle.slot_arena.specs.Heaps.{Heap, no_ref, node_at, entry_at, entries_of}
+use Rattle.slot_arena.specs.Heaps.{Heap, node_at, entry_at, entries_of}
 use Rattle.machine_model.specs.declared.operations.Operation.{Operation}
 use Rattle.machine_model.specs.declared.reading.After.{After}
 use Rattle.machine_model.specs.declared.reading.After.TheVariants.{Goes, Gives}
@@ -22,8 +19,6 @@ use Rattle.machine_model.specs.declared.building.BuildLine.{BuildLine}
 use Rattle.machine_model.specs.declared.building.BuildLine.TheVariants as build
 use Rattle.machine_model.specs.declared.finding.KeyLine.{KeyLine}
 use Rattle.machine_model.specs.declared.finding.KeyLine.TheVariants as key
-use Rattle.machine_model.specs.declared.finding.WhenFound.{WhenFound}
-use Rattle.machine_model.specs.declared.finding.WhenFound.TheVariants.{Answers, Sets, Removes}
 use Rattle.machine_model.specs.declared.repairs.RenewLine.{RenewLine}
 use Rattle.machine_model.specs.declared.repairs.RenewLine.TheVariants as renew
 use Rattle.machine_model.specs.declared.repairs.CleanLine.{CleanLine}
@@ -38,43 +33,35 @@ use Rattle.machine_model.specs.declared.walking.WalkLine.TheVariants as walk
 use Rattle.machine_model.specs.declared.roots.RootLine.{RootLine}
 use Rattle.machine_model.specs.declared.roots.RootLine.TheVariants as root
 use Rattle.machine_model.specs.declared.roots.RootWord.{RootWord}
-use Rattle.machine_model.specs.declared.roots.RootWord.TheVariants.{Plain, Offer}
+use Rattle.machine_model.specs.declared.roots.RootWord.TheVariants.{Plain}
 use Rattle.machine_model.specs.declared.roots.Descriptor.{Descriptor}
 use Rattle.machine_model.specs.declared.lines.Purpose.{Purpose}
-use Rattle.machine_model.specs.declared.lines.Purpose.TheVariants as purpose
 use Rattle.machine_model.specs.declared.lines.Line.{Line}
 use Rattle.machine_model.specs.declared.lines.Line.TheVariants as line
-use Rattle.machine_model.specs.Calls.{when_found}
 use Rattle.machine_model.specs.States.{State}
-use Rattle.machine_model.specs.Paths.{current, above}
-use Rattle.machine_model.specs.Swapping.{after_root_word}
-use Rattle.machine_model.specs.Renewing.{renew_next, renew_after_entry, renew_after_link, renew_after_branch, next_entry}
-use Rattle.machine_model.specs.Finding.{absent, absent_beside, absent_listed, removing, found_so, found, after_tomb, key_after_main, key_after_entry, after_listed, after_sibling}
+use Rattle.machine_model.specs.Renewing.{renew_after_link, renew_after_branch, next_entry}
+use Rattle.machine_model.specs.Finding.{found}
 use Rattle.nodes.specs.Builders.{pair, contracted}
 use Rattle.ctrie_base.specs.declared.hashes.HashKind.{HashKind}
 use Rattle.machine_model.specs.declared.building.Change.TheVariants as change
-use Rattle.machine_model.specs.Building.{changed_branch, changed_list, changed, after_single, after_link, build_after_made, build_if_made}
-use Rattle.machine_model.specs.Cleaning.{clean_next, clean_after_main, clean_after_entry, clean_after_tomb, clean_after_contracted}
-use Rattle.machine_model.specs.Climbing.{climbed, climbing, higher, climb_after_main, climb_after_contracted, climb_after_root}
-use Rattle.machine_model.specs.Copying.{offering, after_given, after_successor, copy_after_made, copy_if_made, after_offer}
-use Rattle.machine_model.specs.Walking.{walk_next, first_of, rest_of, walk_after_entry}
-use Rattle.machine_model.specs.Operations.{from_root, after_root, after_update, climbed_on, swapped}
-use Rattle.slot_arena.specs.Heaps.{main_at, prev_at, generation_at, generation_of, main_of, next_ref, empty_branch}
-use Rattle.machine_model.specs.declared.actions.Action.{Action}
-use Rattle.machine_model.specs.declared.actions.Action.TheVariants as act
-use Rattle.machine_model.specs.declared.reading.Read.{Read}
+use Rattle.machine_model.specs.Building.{changed_branch, changed_list, changed, build_if_made}
+use Rattle.machine_model.specs.Cleaning.{clean_after_contracted}
+use Rattle.machine_model.specs.Climbing.{climb_after_contracted, climb_after_root}
+use Rattle.machine_model.specs.Copying.{after_given, copy_if_made}
+use Rattle.machine_model.specs.Walking.{first_of, rest_of}
+use Rattle.machine_model.specs.Operations.{after_root}
+use Rattle.slot_arena.specs.Heaps.{main_at, prev_at, generation_at, main_of, next_ref}
 use Rattle.machine_model.specs.declared.reading.Swap.{Swap}
 use Rattle.machine_model.specs.declared.reading.SwapLine.{SwapLine}
 use Rattle.machine_model.specs.declared.reading.SwapLine.TheVariants as swap
-use Rattle.machine_model.specs.declared.roots.Complete.{Complete}
 use Rattle.machine_model.specs.declared.roots.CompleteLine.{CompleteLine}
 use Rattle.machine_model.specs.declared.roots.CompleteLine.TheVariants as complete
 use Rattle.machine_model.specs.declared.steps.Limits.{Limits}
 use Rattle.machine_model.specs.Calls.{handle_of}
-use Rattle.machine_model.specs.States.{word_at, operation_of, closed_at, root_of}
+use Rattle.machine_model.specs.States.{word_at, closed_at, root_of}
 use Rattle.machine_model.specs.Reading.{read_action, read_after, at_indirection, committed_by, reading}
 use Rattle.machine_model.specs.Orders.{committed_in}
-use Rattle.machine_model.specs.Swapping.{after_deciding as swap_deciding, on_line, after_check, after_publish, after_reading, of_offer, after_complete, after_completing, is_carried_out, is_plain}
+use Rattle.machine_model.specs.Swapping.{after_deciding as swap_deciding, on_line, after_check, after_publish, after_reading, of_offer, after_completing, is_carried_out, is_plain}
 use Rattle.machine_model.specs.Renewing.{renew_after_read}
 use Rattle.machine_model.specs.Finding.{key_after_read}
 use Rattle.machine_model.specs.Cleaning.{clean_after_read, after_child}
@@ -83,12 +70,11 @@ use Rattle.machine_model.specs.Copying.{copy_after_read, copy_after_complete}
 use Rattle.machine_model.specs.Walking.{walk_after_read}
 use Rattle.machine_model.specs.Operations.{line_action, line_after, read_of, after_swap}
 use Rattle.machine_model.specs.Acting.{commits_after}
-use Rattle.machine_model.proofs.Grown.{grown, node_under, main_word, prev_word}
+use Rattle.machine_model.proofs.Grown.{node_under}
 use Rattle.machine_model.proofs.Moves.{GoesOn}
-use Rattle.deciding_laws.proofs.Words.{Words, Kept, Stage, Rests, Reads, Holds, Publishes, Decides, Checks, IsFree, IsAtRest, HasMade, MayName, Given, ReadTurn, Moves, Idles, MakesNode, SwapsNode, ReadsOn, DecidesOn, after_read, after_deciding}
-use Rattle.deciding_laws.proofs.Owners.{given_later}
-use Rattle.deciding_laws.proofs.Stages.{stage_of, stage_of_swap, stage_of_complete, ReadRemembers, SwapRemembers, CompleteRemembers, RootRemembers, Remembers, remembers_still}
-use Rattle.deciding_laws.proofs.Known.{is_link, GrownStays, GrownSwaps, GrownTakes, FindsMain, FindsPrev, Either, Taken, ActsOn, Known}
+use Rattle.deciding_laws.proofs.Words.{Words, Stage, Rests, Reads, Holds, Publishes, Decides, Checks, IsFree, MayName, Given, ReadTurn, Moves, Idles, MakesNode, SwapsNode, ReadsOn, DecidesOn, after_read}
+use Rattle.deciding_laws.proofs.Stages.{stage_of, ReadRemembers, Remembers}
+use Rattle.deciding_laws.proofs.Known.{is_link, GrownStays, GrownSwaps, FindsMain, FindsPrev, Either, Taken, ActsOn, Known}
 use Rattle.deciding_laws.proofs.GrownWords.{words_of, leaves_words, swaps_words, makes_words, takes_node}
 use Rattle.deciding_laws.proofs.ReadTurns.{no_commit, read_turn}
 use Rattle.deciding_laws.proofs.LineReads.{ReadsSo, on_stage}

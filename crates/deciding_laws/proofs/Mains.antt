@@ -1,16 +1,15 @@
 -- How logical main nodes change, over whole runs: by commits alone, from the replaced node to the fresh one of the owner.
-use Rattle.std.proofs.Common.{◌≡◌, ℕ, zero, suc, ◌<◌, ◌≤◌, ◌⊎◌, true, false, Option, Some, None, inl, inr, refl, sym, ◌∙◌, ap, ap₂, subst, arith}
+use Rattle.std.proofs.Common.{◌≡◌, ℕ, suc, ◌<◌, ◌≤◌, ◌⊎◌, true, inl, inr, refl, sym, ◌∙◌, ap, subst, arith}
 use Rattle.std.proofs.lemmas.Bool.{cases_eq}
 use Rattle.slot_arena.specs.declared.refs.Ref.{Ref}
 use Rattle.slot_arena.specs.declared.nodes.Prev.{Prev}
 use Rattle.slot_arena.specs.declared.nodes.Prev.TheVariants as over
 use Rattle.slot_arena.specs.Heaps.{logical}
-use Rattle.deciding_laws.proofs.Words.{Words, main_at, Leaves, Makes, SwapsIn, PutsBack, CommitsNode, FailsNode, Protocol}
+use Rattle.deciding_laws.proofs.Words.{Words, main_at, Makes, SwapsIn, PutsBack, CommitsNode, FailsNode, Protocol}
 use Rattle.deciding_laws.proofs.Stood.{Stood, Decided, AreSound, stands_now, stood_still, none≢pending, over_pending, over_failed, not_both}
-use Rattle.deciding_laws.proofs.Effects.{Effect, Nothing, Made, SwappedIn, PutBack, Committed, Failed, Brings, comes, stood_below}
-use Rattle.deciding_laws.proofs.Owners.{IsSound, Owner}
+use Rattle.deciding_laws.proofs.Effects.{Effect, Nothing, Made, SwappedIn, PutBack, Committed, Failed, stood_below}
 use Rattle.deciding_laws.proofs.Sounds.{sound_at}
-use Rattle.deciding_laws.proofs.Finals.{effect, none_final, link_stays, from_time, pending_stands}
+use Rattle.deciding_laws.proofs.Finals.{effect, none_final, link_stays, from_time}
 
 -- the logical main node, by the prev word of the node that stands there
 pub main_when_none : (w : Words) (t : ℕ) (i m : Ref) → w.main t i ≡ m → w.prev t m ≡ over.None → main_at w t i ≡ m

@@ -1,16 +1,13 @@
 -- What a READ of an operation gives, and that the operation's fields tell from when on it was the logical main node.
-use Rattle.std.proofs.Common.{◌≡◌, ℕ, zero, suc, ◌<◌, ◌≤◌, max, ◌⊎◌, Bool, true, false, ◌==◌, Option, Some, None, option_map, find, refl, sym, ◌∙◌, ap, subst, arith}
+use Rattle.std.proofs.Common.{◌≡◌, ℕ, suc, ◌<◌, max, ◌==◌, Option, Some, None, option_map, find, refl, sym, ◌∙◌, ap, subst, arith}
 use Rattle.history.specs.declared.calls.Access.{Access}
 use Rattle.history.specs.declared.calls.Access.TheVariants.{Writable}
 use Rattle.slot_arena.specs.declared.refs.Ref.{Ref}
-use Rattle.slot_arena.specs.declared.nodes.Prev.{Prev}
-use Rattle.slot_arena.specs.declared.nodes.Prev.TheVariants as over
-use Rattle.slot_arena.specs.Heaps.{Heap, main_at, prev_at}
+use Rattle.slot_arena.specs.Heaps.{Heap}
 use Rattle.machine_model.specs.declared.heaps.Commit.{Commit}
 use Rattle.machine_model.specs.declared.operations.Operation.{Operation}
 use Rattle.machine_model.specs.declared.reading.After.{After}
-use Rattle.machine_model.specs.declared.reading.After.TheVariants.{Goes, Gives}
-use Rattle.machine_model.specs.declared.reading.Read.{Read}
+use Rattle.machine_model.specs.declared.reading.After.TheVariants.{Gives}
 use Rattle.machine_model.specs.declared.reading.ReadLine.{ReadLine}
 use Rattle.machine_model.specs.declared.reading.ReadLine.TheVariants as read
 use Rattle.machine_model.specs.declared.roots.RootWord.{RootWord}
@@ -18,10 +15,9 @@ use Rattle.machine_model.specs.declared.steps.Limits.{Limits}
 use Rattle.machine_model.specs.declared.steps.Outcome.{Outcome}
 use Rattle.machine_model.specs.declared.steps.Step.TheVariants as step
 use Rattle.machine_model.specs.Calls.{handle_of}
-use Rattle.machine_model.specs.States.{State, word_at, operation_of, step_of_commit, committed_at}
-use Rattle.machine_model.specs.Reading.{Verdict, Commits, Fails, Overtaken, verdict, read_action, read_after, after_decide, committed_by, committed_so, at_indirection, read_step}
-use Rattle.machine_model.specs.Operations.{read_of, action_of}
-use Rattle.machine_model.specs.Orders.{counted_from, read_at_after, committed_in, committed_now, commit_step, moment_given, moment_from, moment_after}
+use Rattle.machine_model.specs.States.{State, word_at, operation_of, step_of_commit}
+use Rattle.machine_model.specs.Reading.{Verdict, Commits, Fails, Overtaken, verdict, read_action, read_after, after_decide, committed_by, committed_so, at_indirection}
+use Rattle.machine_model.specs.Orders.{counted_from, read_at_after, committed_in, commit_step, moment_given, moment_from, moment_after}
 use Rattle.machine_model.specs.Acting.{gone, commits_after}
 use Rattle.machine_model.specs.Counting.{settled}
 use Rattle.machine_model.proofs.Moves as Machine
@@ -29,8 +25,8 @@ use Rattle.machine_model.proofs.Times.{steps_at}
 use Rattle.deciding_laws.proofs.Words.{Words, Reads, Given, CommitsNode, ReadTurn, ReadsMain, FindsDecided, FindsFailed, FindsPending, DecidesAtOnce, Asks, FindsOffer, Aborts, Commits as CommitsTurn, Fails as FailsTurn, Overtaken as OvertakenTurn, Restores, FindsAnother, counts_at, Protocol}
 use Rattle.deciding_laws.proofs.Finals.{first_commit, commits_at}
 use Rattle.deciding_laws.proofs.Readings.{later_of, IsMoment, gives_moment}
-use Rattle.deciding_laws.proofs.Stages.{stage_of, stage_of_actor, from_of_actor, Remembers}
-use Rattle.deciding_laws.proofs.Known.{ActsOn, Known}
+use Rattle.deciding_laws.proofs.Stages.{stage_of, stage_of_actor, from_of_actor}
+use Rattle.deciding_laws.proofs.Known.{Known}
 use Rattle.deciding_laws.proofs.GrownWords.{words_of, commit_of}
 use Rattle.deciding_laws.proofs.StepsAt.{gone_commits, commit_here, commit_kept}
 use Rattle.deciding_laws.proofs.LineTurns.{own_turn}

@@ -1,7 +1,7 @@
 -- What other layers give, in their own words: and that the words of the heap that only grows are then known.
-use Rattle.std.proofs.Common.{◌≡◌, ℕ, zero, suc, ◌+◌, ◌<◌, ◌≤◌, ◌⊎◌, Bool, true, false, ◌==◌, List, [], ◌∷◌, Option, Some, None, option_map, inl, inr, refl, sym, ◌∙◌, ap, subst, eqb-true, arith}
+use Rattle.std.proofs.Common.{◌≡◌, ℕ, suc, ◌<◌, ◌≤◌, Bool, true, false, ◌==◌, List, [], ◌∷◌, Option, Some, None, option_map, refl, sym, ◌∙◌, ap, subst, arith}
 use Rattle.std.specs.Prelude.{is_some}
-use Rattle.std.proofs.lemmas.Bool.{cases_eq, true≢false}
+use Rattle.std.proofs.lemmas.Bool.{true≢false}
 use Rattle.std.proofs.lemmas.Option.{none-some, same_Some}
 use Rattle.history.specs.declared.calls.Access.TheVariants.{Writable}
 use Rattle.history.specs.declared.calls.Call.{Call}
@@ -11,7 +11,7 @@ use Rattle.slot_arena.specs.declared.nodes.Node.TheVariants.{Indirection}
 use Rattle.slot_arena.specs.declared.nodes.Prev.{Prev}
 use Rattle.slot_arena.specs.declared.nodes.Prev.TheVariants as over
 use Rattle.slot_arena.specs.declared.nodes.Slot.{Slot}
-use Rattle.slot_arena.specs.Heaps.{Heap, node_of, main_of, node_at, main_at, generation_at, generation_of, main_changed, prev_changed, with_main, with_prev, taken, take_from, freed, ref_in, next_ref}
+use Rattle.slot_arena.specs.Heaps.{Heap, node_of, main_of, node_at, main_at, generation_at, generation_of, main_changed, prev_changed, with_main, with_prev, taken, take_from, ref_in, next_ref}
 use Rattle.epochs.specs.Sweeping.{Reclaimer, ripe, sweep_by}
 use Rattle.machine_model.specs.declared.actions.Action.{Action}
 use Rattle.machine_model.specs.declared.actions.Action.TheVariants as act
@@ -27,15 +27,15 @@ use Rattle.machine_model.specs.declared.steps.Outcome.{Outcome}
 use Rattle.machine_model.specs.declared.steps.Step.{Step}
 use Rattle.machine_model.specs.declared.steps.Step.TheVariants as step
 use Rattle.machine_model.specs.Calls.{handle_of}
-use Rattle.machine_model.specs.States.{State, word_at, operation_of, closed_at, with_operation}
+use Rattle.machine_model.specs.States.{State, word_at, operation_of, closed_at}
 use Rattle.machine_model.specs.Reading.{Verdict, Commits, Fails, Overtaken, verdict}
 use Rattle.machine_model.specs.Operations.{action_of, read_of}
 use Rattle.machine_model.specs.Acting.{acted, aborted, offered, completed, decided, new_root_taken, if_changed}
-use Rattle.machine_model.specs.Machine.{with_begin, pin_of, reclaimer_of}
+use Rattle.machine_model.specs.Machine.{with_begin, reclaimer_of}
 use Rattle.machine_model.proofs.Moves.{Moves, Begins, Goes, Ends, Sweeps, begun_operation}
 use Rattle.machine_model.proofs.Times.{IsRun}
-use Rattle.machine_model.proofs.Grown.{standing, or_before, grown, node_under, main_word, prev_word}
-use Rattle.deciding_laws.proofs.Known.{is_link, GrownStays, GrownChanges, GrownSwaps, GrownTakes, FindsMain, FindsPrev, Either, Decided, Taken, ActsOn, IsNoGo, Known}
+use Rattle.machine_model.proofs.Grown.{standing, or_before, grown}
+use Rattle.deciding_laws.proofs.Known.{is_link, GrownStays, GrownChanges, GrownSwaps, FindsMain, FindsPrev, Either, Decided, Taken, ActsOn, IsNoGo, Known}
 use Rattle.deciding_laws.proofs.InHeap.{grown_standing, node_standing, prev_standing}
 use Rattle.deciding_laws.proofs.FromHeap.{main_here, main_other, prev_here, prev_other, freed_before}
 

@@ -1,16 +1,15 @@
 -- What is known of what actors are about, at each time: together with what is known of words.
-use Rattle.std.proofs.Common.{◌≡◌, ℕ, zero, suc, ◌<◌, ◌≤◌, ◌⊎◌, true, false, Option, Some, None, inl, inr, refl, sym, ◌∙◌, ap, subst, arith}
+use Rattle.std.proofs.Common.{◌≡◌, ℕ, suc, ◌<◌, ◌⊎◌, true, inl, inr, refl, sym, ◌∙◌, ap, subst, arith}
 use Rattle.std.proofs.lemmas.Bool.{cases_eq}
 use Rattle.slot_arena.specs.declared.refs.Ref.{Ref}
-use Rattle.slot_arena.specs.declared.nodes.Prev.{Prev}
 use Rattle.slot_arena.specs.declared.nodes.Prev.TheVariants as over
 use Rattle.machine_model.specs.declared.reading.After.{After}
 use Rattle.machine_model.specs.declared.reading.After.TheVariants.{Goes, Gives}
 use Rattle.machine_model.specs.declared.reading.ReadLine.{ReadLine}
 use Rattle.machine_model.specs.declared.reading.ReadLine.TheVariants as read
-use Rattle.deciding_laws.proofs.Words.{Words, Stage, Rests, Reads, Holds, Publishes, Decides, Checks, Kept, Leaves, Makes, MakesNothing, SwapsIn, PutsBack, CommitsNode, FailsNode, ReadTurn, ReadsMain, FindsDecided, FindsFailed, FindsPending, DecidesAtOnce, Asks, FindsOffer, Aborts, Commits, Fails, Overtaken, Restores, FindsAnother, Given, IsFree, IsAtFirst, IsAtRest, after_read, after_deciding, MayName, MayHave, Moves, Idles, MakesNode, SwapsNode, ReadsOn, DecidesOn, Turn, Acts, Passes, Protocol}
-use Rattle.deciding_laws.proofs.Stood.{Stood, Decided, Private, StandsOver, AreSound, stood_later, stood_still, stands_now, none≢pending, none≢failed, pending≢failed, same_pending, over_pending, over_failed, not_both}
-use Rattle.deciding_laws.proofs.Effects.{IsSettled, Effect, Nothing, Made, SwappedIn, PutBack, Committed, Failed, made_later, link_later, Brings, comes, stood_below, GoesOn, StaysPending, GetsCommitted, GetsFailed, goes_on, none_later, failed_later, sound_later}
+use Rattle.deciding_laws.proofs.Words.{Words, Stage, Rests, Reads, Holds, Publishes, Decides, Checks, Makes, SwapsIn, CommitsNode, FailsNode, ReadTurn, ReadsMain, FindsDecided, FindsFailed, FindsPending, DecidesAtOnce, Asks, FindsOffer, Aborts, Commits, Fails, Overtaken, Restores, FindsAnother, Given, IsAtRest, after_read, after_deciding, MayName, MayHave, Moves, Idles, MakesNode, SwapsNode, ReadsOn, DecidesOn}
+use Rattle.deciding_laws.proofs.Stood.{Stood, Decided, Private, AreSound, stood_later, stands_now, none≢pending, over_failed, not_both}
+use Rattle.deciding_laws.proofs.Effects.{IsSettled, Effect, Nothing, Made, SwappedIn, PutBack, Committed, Failed, made_later, Brings, comes, stood_below, none_later, failed_later}
 
 -- ---- what is known of a stage
 

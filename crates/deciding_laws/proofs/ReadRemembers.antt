@@ -1,5 +1,5 @@
 -- A READ asks for the root on a writable handle alone.
-use Rattle.std.proofs.Common.{◌≡◌, ℕ, Bool, true, false, ◌==◌, refl}
+use Rattle.std.proofs.Common.{◌≡◌, Bool, true, false, ◌==◌, refl}
 use Rattle.history.specs.declared.calls.Access.{Access}
 use Rattle.history.specs.declared.calls.Access.TheVariants.{Writable, ReadOnly}
 use Rattle.slot_arena.specs.declared.refs.Ref.{Ref}

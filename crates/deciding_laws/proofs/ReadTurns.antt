@@ -1,6 +1,6 @@
 -- Each line of READ is a turn of the protocol.
-use Rattle.std.proofs.Common.{◌≡◌, ℕ, zero, suc, ◌<◌, ◌≤◌, ◌⊎◌, Bool, true, false, ◌==◌, Option, Some, None, option_map, inl, inr, refl, sym, ◌∙◌, ap, subst, eqb-true, arith}
-use Rattle.std.specs.Prelude.{is_some, nat_eq}
+use Rattle.std.proofs.Common.{◌≡◌, ℕ, suc, ◌<◌, ◌≤◌, ◌⊎◌, Bool, true, false, ◌==◌, Option, Some, None, option_map, inl, inr, refl, sym, ◌∙◌, ap, subst, eqb-true, arith}
+use Rattle.std.specs.Prelude.{nat_eq}
 use Rattle.std.specs.Option.{option_eq}
 use Rattle.std.proofs.lemmas.Bool.{cases_eq, true≢false, eq-eqb}
 use Rattle.history.specs.declared.calls.Access.{Access}
@@ -9,31 +9,24 @@ use Rattle.slot_arena.specs.declared.refs.Ref.{Ref}
 use Rattle.slot_arena.specs.declared.nodes.Node.{Node}
 use Rattle.slot_arena.specs.declared.nodes.Prev.{Prev}
 use Rattle.slot_arena.specs.declared.nodes.Prev.TheVariants as over
-use Rattle.slot_arena.specs.declared.nodes.Slot.{Slot}
-use Rattle.slot_arena.specs.Heaps.{Heap, node_of, main_at, prev_at, generation_at, generation_of, main_changed, prev_changed, next_ref}
+use Rattle.slot_arena.specs.Heaps.{node_of, main_at, prev_at, generation_at, generation_of, main_changed, prev_changed, next_ref}
 use Rattle.machine_model.specs.declared.actions.Action.{Action}
 use Rattle.machine_model.specs.declared.actions.Action.TheVariants as act
-use Rattle.machine_model.specs.declared.operations.Operation.{Operation}
-use Rattle.machine_model.specs.declared.reading.After.{After}
-use Rattle.machine_model.specs.declared.reading.After.TheVariants.{Goes, Gives}
+use Rattle.machine_model.specs.declared.reading.After.TheVariants.{Goes}
 use Rattle.machine_model.specs.declared.reading.ReadLine.{ReadLine}
 use Rattle.machine_model.specs.declared.reading.ReadLine.TheVariants as read
 use Rattle.machine_model.specs.declared.roots.RootWord.{RootWord}
 use Rattle.machine_model.specs.declared.roots.RootWord.TheVariants.{Plain, Offer}
 use Rattle.machine_model.specs.declared.steps.Limits.{Limits}
-use Rattle.machine_model.specs.declared.steps.Outcome.{Outcome}
-use Rattle.machine_model.specs.declared.steps.Step.{Step}
 use Rattle.machine_model.specs.declared.steps.Step.TheVariants as step
-use Rattle.machine_model.specs.States.{State, operation_of, closed_at}
+use Rattle.machine_model.specs.States.{State, closed_at}
 use Rattle.machine_model.specs.Reading.{Verdict, Commits, Fails, Overtaken, verdict, verdict_by, is_licensed, is_pending, read_action, read_after, after_prev, after_ask, after_decide, after_restore, committed_by, committed_so}
 use Rattle.machine_model.specs.Operations.{action_of}
 use Rattle.machine_model.specs.Acting.{commits_after}
-use Rattle.machine_model.proofs.Moves.{Moves}
-use Rattle.machine_model.proofs.Times.{IsRun, steps_at}
-use Rattle.machine_model.proofs.Grown.{grown, node_under, main_word, prev_word}
+use Rattle.machine_model.proofs.Times.{steps_at}
+use Rattle.machine_model.proofs.Grown.{grown, node_under, prev_word}
 use Rattle.deciding_laws.proofs.Words.{Words, Kept, Leaves, ReadTurn, ReadsMain, FindsDecided, FindsFailed, FindsPending, DecidesAtOnce, Asks, FindsOffer, Aborts, Commits as CommitsTurn, Fails as FailsTurn, Overtaken as OvertakenTurn, Restores, FindsAnother}
 use Rattle.deciding_laws.proofs.Finals.{from_time}
-use Rattle.deciding_laws.proofs.Stages.{ReadRemembers}
 use Rattle.deciding_laws.proofs.Known.{is_link, GrownStays, GrownChanges, GrownSwaps, GrownTakes, FindsMain, FindsPrev, Either, Decided, Taken, ActsOn, Known}
 use Rattle.deciding_laws.proofs.GrownWords.{words_of, leaves_words, commits_words, fails_words, puts_back_words, slot_generation, slot_main_link, slot_prev_node}
 use Rattle.deciding_laws.proofs.StepsAt.{StepAt, IsBegin, IsGo, IsEnd, IsSweep, step_at, commit_here, commit_elsewhere, commit_kept}

@@ -1,48 +1,17 @@
 -- The words of a run are those of a protocol; and each line remembers as main nodes what READs gave.
-use Rattle.std.proofs.Common.{◌≡◌, ℕ, zero, suc, ◌<◌, ◌≤◌, ◌⊎◌, Bool, true, false, cond, ◌==◌, List, Option, Some, None, option_map, find, inl, inr, refl, sym, ◌∙◌, ap, subst, arith}
+use Rattle.std.proofs.Common.{◌≡◌, ℕ, zero, suc, ◌<◌, ◌≤◌, ◌⊎◌, Bool, true, false, cond, ◌==◌, Option, Some, None, option_map, find, inl, inr, sym, ◌∙◌, ap, subst, arith}
 use Rattle.std.proofs.lemmas.Bool.{cases_eq}
 use Rattle.history.specs.declared.calls.Access.TheVariants.{Writable}
 use Rattle.history.specs.declared.calls.Call.{Call}
-use Rattle.history.specs.declared.replies.Reply.{Reply}
 use Rattle.slot_arena.specs.declared.refs.Ref.{Ref}
-use Rattle.machine_model.specs.declared.actions.Action.{Action}
-use Rattle.machine_model.specs.declared.actions.Action.TheVariants as act
 use Rattle.machine_model.specs.declared.heaps.Commit.{Commit}
 use Rattle.machine_model.specs.declared.operations.Operation.{Operation}
 use Rattle.machine_model.specs.declared.reading.ReadLine.{ReadLine}
-use Rattle.machine_model.specs.declared.reading.ReadLine.TheVariants as read
-use Rattle.machine_model.specs.declared.reading.Swap.{Swap}
-use Rattle.machine_model.specs.declared.reading.SwapLine.{SwapLine}
-use Rattle.machine_model.specs.declared.reading.SwapLine.TheVariants as swap
-use Rattle.machine_model.specs.declared.roots.Descriptor.{Descriptor}
-use Rattle.machine_model.specs.declared.roots.CompleteLine.{CompleteLine}
-use Rattle.machine_model.specs.declared.roots.CompleteLine.TheVariants as complete
-use Rattle.machine_model.specs.declared.roots.RootLine.{RootLine}
-use Rattle.machine_model.specs.declared.roots.RootLine.TheVariants as root
-use Rattle.machine_model.specs.declared.finding.KeyLine.{KeyLine}
-use Rattle.machine_model.specs.declared.finding.KeyLine.TheVariants as key
-use Rattle.machine_model.specs.declared.building.BuildLine.{BuildLine}
-use Rattle.machine_model.specs.declared.building.BuildLine.TheVariants as build
-use Rattle.machine_model.specs.declared.repairs.RenewLine.{RenewLine}
-use Rattle.machine_model.specs.declared.repairs.RenewLine.TheVariants as renew
-use Rattle.machine_model.specs.declared.repairs.CleanLine.{CleanLine}
-use Rattle.machine_model.specs.declared.repairs.CleanLine.TheVariants as clean
-use Rattle.machine_model.specs.declared.repairs.Climb.{Climb}
-use Rattle.machine_model.specs.declared.repairs.ClimbLine.{ClimbLine}
-use Rattle.machine_model.specs.declared.repairs.ClimbLine.TheVariants as climb
-use Rattle.machine_model.specs.declared.copying.CopyLine.{CopyLine}
-use Rattle.machine_model.specs.declared.copying.CopyLine.TheVariants as copy
-use Rattle.machine_model.specs.declared.walking.WalkLine.{WalkLine}
-use Rattle.machine_model.specs.declared.walking.WalkLine.TheVariants as walk
-use Rattle.machine_model.specs.declared.lines.Purpose.{Purpose}
-use Rattle.machine_model.specs.declared.lines.Line.{Line}
-use Rattle.machine_model.specs.declared.lines.Line.TheVariants as line
 use Rattle.machine_model.specs.declared.steps.Limits.{Limits}
 use Rattle.machine_model.specs.declared.steps.Step.TheVariants as step
 use Rattle.machine_model.specs.States.{State, operation_of, word_at}
-use Rattle.machine_model.specs.Reading.{read_action, read_after}
-use Rattle.machine_model.specs.Swapping.{complete_action_at, action_at}
-use Rattle.machine_model.specs.Operations.{first_line, line_action, line_after, action_of}
+use Rattle.machine_model.specs.Reading.{read_after}
+use Rattle.machine_model.specs.Operations.{first_line, line_after, action_of}
 use Rattle.machine_model.specs.Orders.{counted_from}
 use Rattle.machine_model.specs.Acting.{gone, marked, operation_after}
 use Rattle.machine_model.specs.Counting.{settled}
@@ -52,13 +21,13 @@ use Rattle.machine_model.specs.declared.steps.Outcome.{Outcome}
 use Rattle.machine_model.specs.declared.reading.After.TheVariants.{Gives}
 use Rattle.machine_model.specs.Calls.{handle_of}
 use Rattle.machine_model.proofs.Actors.{marks_by}
-use Rattle.machine_model.proofs.Times.{IsRun, steps_at}
-use Rattle.deciding_laws.proofs.Words.{Words, Stage, Rests, Reads, Leaves, IsFree, IsAtRest, Given, ReadTurn, Moves, Idles, counts_at, Counts, IsSame, Turn, Acts, Passes, Protocol}
+use Rattle.machine_model.proofs.Times.{steps_at}
+use Rattle.deciding_laws.proofs.Words.{Words, Stage, Rests, Reads, Leaves, Given, ReadTurn, Moves, Idles, Counts, IsSame, Turn, Acts, Passes, Protocol}
 use Rattle.deciding_laws.proofs.Owners.{given_later}
 use Rattle.deciding_laws.proofs.Finals.{from_time}
 use Rattle.deciding_laws.proofs.Stages.{stage_of, stage_of_actor, from_of_actor, Remembers, remembers_still}
 use Rattle.deciding_laws.proofs.Known.{ActsOn, Known}
-use Rattle.deciding_laws.proofs.GrownWords.{words_of, leaves_words, commit_of}
+use Rattle.deciding_laws.proofs.GrownWords.{words_of, leaves_words}
 use Rattle.deciding_laws.proofs.ReadTurns.{no_commit}
 use Rattle.deciding_laws.proofs.StepsAt.{StepAt, IsBegin, IsGo, IsEnd, IsSweep, step_at, gone_commits, begun_commits, after_mark, mark_stage, mark_from, go_others, go_own, end_others, end_own, begin_others, begin_own, actor_counts, begins_counted, begins_idle}
 use Rattle.deciding_laws.proofs.LineTurns.{LineStep, NextLine, line_turn, own_turn}

@@ -1,17 +1,16 @@
 -- What is known of words and of what actors are about holds at each time of a run.
-use Rattle.std.proofs.Common.{◌≡◌, ℕ, zero, suc, ◌<◌, ◌≤◌, ◌⊎◌, true, false, Option, Some, None, inl, inr, refl, sym, ◌∙◌, ap, subst, arith}
+use Rattle.std.proofs.Common.{◌≡◌, ℕ, zero, suc, ◌≤◌, ◌⊎◌, true, false, inl, inr, refl, sym, ◌∙◌, ap, subst, arith}
 use Rattle.std.proofs.lemmas.Bool.{cases_eq}
 use Rattle.slot_arena.specs.declared.refs.Ref.{Ref}
-use Rattle.slot_arena.specs.declared.nodes.Prev.{Prev}
 use Rattle.slot_arena.specs.declared.nodes.Prev.TheVariants as over
 use Rattle.machine_model.specs.declared.reading.After.{After}
 use Rattle.machine_model.specs.declared.reading.After.TheVariants.{Goes, Gives}
 use Rattle.machine_model.specs.declared.reading.ReadLine.{ReadLine}
 use Rattle.machine_model.specs.declared.reading.ReadLine.TheVariants as read
-use Rattle.deciding_laws.proofs.Words.{Words, Stage, Rests, Reads, Holds, Publishes, Decides, Checks, Leaves, Makes, SwapsIn, PutsBack, CommitsNode, FailsNode, ReadTurn, ReadsMain, FindsDecided, FindsFailed, FindsPending, DecidesAtOnce, Asks, FindsOffer, Aborts, Commits, Fails, Overtaken, Restores, FindsAnother, Given, IsAtFirst, IsAtRest, after_read, after_deciding, MayHave, Moves, Idles, MakesNode, SwapsNode, ReadsOn, DecidesOn, Turn, Acts, Passes, Protocol}
-use Rattle.deciding_laws.proofs.Stood.{Stood, Decided, Private, AreSound, none≢pending, none≢failed, pending≢failed, same_pending, over_none, not_both, stands_now}
+use Rattle.deciding_laws.proofs.Words.{Words, Stage, Rests, Reads, Holds, Publishes, Decides, Checks, Leaves, Makes, SwapsIn, PutsBack, ReadTurn, ReadsMain, FindsDecided, FindsFailed, FindsPending, DecidesAtOnce, Asks, FindsOffer, Aborts, Commits, Fails, Overtaken, Restores, FindsAnother, IsAtRest, after_read, after_deciding, MayHave, Moves, Idles, MakesNode, SwapsNode, ReadsOn, DecidesOn, Turn, Acts, Passes, Protocol}
+use Rattle.deciding_laws.proofs.Stood.{Stood, Private, AreSound, none≢pending, pending≢failed, same_pending, over_none, not_both}
 use Rattle.deciding_laws.proofs.Effects.{Effect, Nothing, Made, SwappedIn, PutBack, Committed, Failed, link_later, Becomes, Same, GoesIn, IsCommitted, IsFailed, becomes, sound_later}
-use Rattle.deciding_laws.proofs.Owners.{OnLine, Staged, HasFresh, IsDeciding, Owner, IsSound, read_effect, effect_of, given_decided, none_after, read_swaps, private_later, staged_later, own_staged}
+use Rattle.deciding_laws.proofs.Owners.{Staged, HasFresh, IsDeciding, Owner, IsSound, read_effect, effect_of, given_decided, none_after, read_swaps, private_later, staged_later, own_staged}
 
 -- ---- no two actors have the same fresh node
 

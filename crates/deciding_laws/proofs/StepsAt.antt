@@ -1,15 +1,14 @@
 -- The step of a run at a time, by what it is, and what it does to the steps of commits and to actors.
-use Rattle.std.proofs.Common.{◌≡◌, ℕ, zero, suc, ◌+◌, ◌-◌, ◌<◌, ◌≤◌, ◌⊎◌, Bool, true, false, cond, ◌==◌, List, [], ◌∷◌, ◌++◌, set, get_or, length, Option, Some, None, option_map, find, inl, inr, refl, sym, ◌∙◌, ap, subst, eqb-true, ne_eqb, arith}
+use Rattle.std.proofs.Common.{◌≡◌, ℕ, zero, suc, ◌-◌, ◌<◌, ◌⊎◌, Bool, true, false, cond, ◌==◌, List, [], ◌∷◌, ◌++◌, set, get_or, Option, Some, None, option_map, find, inl, inr, refl, sym, ◌∙◌, ap, subst, ne_eqb, arith}
 use Rattle.std.proofs.Math.ListN.{get_or-map}
 use Rattle.std.specs.Option.{option_or}
-use Rattle.std.proofs.lemmas.Bool.{cases_eq, eq-eqb, true≢false}
+use Rattle.std.proofs.lemmas.Bool.{eq-eqb, true≢false}
 use Rattle.std.proofs.lemmas.List.{get_or-set_same}
 use Rattle.std.proofs.lemmas.List.Folds.{find-append}
-use Rattle.std.proofs.lemmas.Option.{none-some, same_Some}
+use Rattle.std.proofs.lemmas.Option.{none-some}
 use Rattle.history.specs.declared.calls.Call.{Call}
 use Rattle.history.specs.declared.replies.Reply.{Reply}
 use Rattle.slot_arena.specs.declared.refs.Ref.{Ref}
-use Rattle.machine_model.specs.declared.actions.Action.{Action}
 use Rattle.machine_model.specs.declared.actions.Action.TheVariants as act
 use Rattle.machine_model.specs.declared.heaps.Commit.{Commit}
 use Rattle.machine_model.specs.declared.operations.Operation.{Operation}
@@ -22,14 +21,14 @@ use Rattle.machine_model.specs.Operations.{action_of}
 use Rattle.machine_model.specs.Orders.{committed_now}
 use Rattle.machine_model.specs.Acting.{gone, ended, operation_after, commits_after, marked}
 use Rattle.machine_model.specs.Counting.{settled}
-use Rattle.machine_model.specs.Machine.{begin_denial, go_denial, with_begin, swept}
+use Rattle.machine_model.specs.Machine.{begin_denial, with_begin, swept}
 use Rattle.machine_model.proofs.Moves.{Moves, Begins, Goes, Ends, Sweeps, GoesOn, begun_operation}
 use Rattle.machine_model.proofs.Times.{Turn, turns}
 use Rattle.std.specs.Prelude.{is_some}
 use Rattle.machine_model.proofs.Found.{found_elsewhere, found_here, found_within}
 use Rattle.machine_model.proofs.Frames.{acted_framed}
 use Rattle.machine_model.proofs.Actors.{after_marks, marks_by, gone_actors, begin_actors}
-use Rattle.deciding_laws.proofs.Stages.{stage_of, stage_of_actor, from_of_actor}
+use Rattle.deciding_laws.proofs.Stages.{stage_of_actor, from_of_actor}
 use Rattle.deciding_laws.proofs.GrownWords.{commit_of}
 
 -- ---- which step it is

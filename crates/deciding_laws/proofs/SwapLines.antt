@@ -1,6 +1,6 @@
 -- From what an actor is about back to its line.
-use Rattle.std.proofs.Common.{◌≡◌, ℕ, Option, Some, None, List, refl, sym, ◌∙◌, ap, subst, arith}
-use Rattle.std.proofs.lemmas.Option.{none-some, same_Some}
+use Rattle.std.proofs.Common.{◌≡◌, Option, Some, None, refl, sym, ◌∙◌, ap, subst, arith}
+use Rattle.std.proofs.lemmas.Option.{none-some}
 use Rattle.slot_arena.specs.declared.refs.Ref.{Ref}
 use Rattle.machine_model.specs.declared.operations.Operation.{Operation}
 use Rattle.machine_model.specs.declared.reading.Read.{Read}
@@ -20,7 +20,7 @@ use Rattle.machine_model.specs.declared.lines.Purpose.{Purpose}
 use Rattle.machine_model.specs.declared.lines.Line.{Line}
 use Rattle.machine_model.specs.declared.lines.Line.TheVariants as line
 use Rattle.machine_model.specs.Operations.{read_of}
-use Rattle.deciding_laws.proofs.Words.{Stage, Rests, Reads, Holds, Publishes, Decides, Checks}
+use Rattle.deciding_laws.proofs.Words.{Stage, Reads, Publishes, Decides, Checks}
 use Rattle.deciding_laws.proofs.Owners.{HasFresh}
 use Rattle.deciding_laws.proofs.Stages.{stage_of, stage_of_swap, stage_of_actor}
 use Rattle.deciding_laws.specs.Deciding.{IsInSwap, IsNoSwap}

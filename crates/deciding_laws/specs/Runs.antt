@@ -1,5 +1,5 @@
 -- Words for laws over the whole of a run.
-use Rattle.std.specs.Prelude.{◌≡◌, ℕ, List, length, take, Contains}
+use Rattle.std.specs.Prelude.{ℕ, List, length, take, Contains}
 use Rattle.slot_arena.specs.declared.refs.Ref.{Ref}
 use Rattle.slot_arena.specs.declared.nodes.Node.{Node}
 use Rattle.slot_arena.specs.declared.nodes.Node.TheVariants.{Indirection}
