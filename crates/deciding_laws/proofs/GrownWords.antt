@@ -14,7 +14,7 @@ use Rattle.machine_model.specs.States.{State, operation_of, closed_at}
 use Rattle.machine_model.proofs.Grown.{grown, node_under, main_word, prev_word}
 use Rattle.deciding_laws.proofs.Words.{Words, Kept, Written, MakesNothing, Leaves, Makes, SwapsIn, PutsBack, CommitsNode, FailsNode}
 use Rattle.deciding_laws.proofs.Stages.{stage_of_actor, from_of_actor}
-use Rattle.deciding_laws.proofs.Known.{is_link, GrownStays, GrownChanges, GrownSwaps, GrownTakes}
+use Rattle.deciding_laws.proofs.Known.{is_link, is_solid, GrownStays, GrownChanges, GrownSwaps, GrownTakes}
 
 -- the step in which a main node was committed, if it was
 abbrev pub commit_of : State → Ref → Option ℕ
@@ -28,6 +28,7 @@ words_of states last = record {
   generation = λ i. generation_of (node_under states last i);
   made = λ t r. is_some (grown states t r);
   link = λ t r. is_link (node_under states t r);
+  solid = λ r. is_solid (node_under states last r);
   commit = λ t m. commit_of (states t) m;
   closing = λ g. closed_at (states last) g;
   stage = λ t k. stage_of_actor (operation_of (states t) k);
@@ -51,6 +52,10 @@ generation_kept : (x : Ref) (n : Node) → generation_of (with_main_word x n) �
 generation_kept x (Indirection g y) = refl
 generation_kept x n = refl
 
+solid_kept : (x : Ref) (n : Node) → is_solid (with_main_word x n) ≡ is_solid n
+solid_kept x (Indirection g y) = refl
+solid_kept x n = refl
+
 -- of what stands under a reference
 slot_main : (x : Ref) (o : Option Slot) → is_link (node_of o) ≡ true → main_of (node_of (option_map (main_changed x) o)) ≡ x
 slot_main x None e = absurd (true≢false (sym e))
@@ -64,10 +69,6 @@ slot_main_prev : (x : Ref) (o : Option Slot) → prev_of (option_map (main_chang
 slot_main_prev x None = refl
 slot_main_prev x (Some slot) = refl
 
-slot_kept : (change : Slot → Slot) (o : Option Slot) → is_some (option_map change o) ≡ is_some o
-slot_kept change None = refl
-slot_kept change (Some slot) = refl
-
 slot_prev : (v : Prev) (o : Option Slot) → is_some o ≡ true → prev_of (option_map (prev_changed v) o) ≡ v
 slot_prev v None e = absurd (true≢false (sym e))
 slot_prev v (Some slot) e = refl
@@ -79,6 +80,14 @@ slot_prev_node v (Some slot) = refl
 pub slot_generation : (x : Ref) (o : Option Slot) → generation_of (node_of (option_map (main_changed x) o)) ≡ generation_of (node_of o)
 slot_generation x None = refl
 slot_generation x (Some slot) = generation_kept x slot.node
+
+pub slot_solid : (x : Ref) (o : Option Slot) → is_solid (node_of (option_map (main_changed x) o)) ≡ is_solid (node_of o)
+slot_solid x None = refl
+slot_solid x (Some slot) = solid_kept x slot.node
+
+pub slot_kept : (change : Slot → Slot) (o : Option Slot) → is_some (option_map change o) ≡ is_some o
+slot_kept change None = refl
+slot_kept change (Some slot) = refl
 
 -- ---- what the steps do to words
 

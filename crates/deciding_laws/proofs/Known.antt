@@ -12,6 +12,11 @@ use Rattle.machine_model.specs.declared.actions.Action.{Action}
 use Rattle.machine_model.specs.declared.actions.Action.TheVariants as act
 use Rattle.machine_model.specs.declared.building.Change.{Change}
 use Rattle.machine_model.specs.declared.building.BuildLine.TheVariants as build
+use Rattle.machine_model.specs.declared.repairs.RenewLine.TheVariants as renew
+use Rattle.machine_model.specs.declared.repairs.CleanLine.TheVariants as clean
+use Rattle.machine_model.specs.declared.repairs.ClimbLine.TheVariants as climb
+use Rattle.machine_model.specs.declared.lines.Line.{Line}
+use Rattle.slot_arena.specs.declared.nodes.Node.TheVariants.{Branch, List as Listed}
 use Rattle.machine_model.specs.declared.lines.Line.TheVariants as line
 use Rattle.machine_model.specs.declared.operations.Operation.{Operation}
 use Rattle.machine_model.specs.declared.roots.RootWord.TheVariants.{Plain}
@@ -102,6 +107,28 @@ abbrev pub IsNoGo : Step → Type 0
 IsNoGo (step.Go actor) = ⊥
 IsNoGo s = Unit {0}
 
+-- ---- what is built from
+
+-- a branch or a list
+abbrev pub is_solid : Node → Bool
+is_solid (Branch bitmap entries) = true
+is_solid (Listed singles) = true
+is_solid node = false
+
+-- the line's step makes the node that is to replace this main node
+abbrev pub BuildsFrom : Line → Ref → Type 0
+BuildsFrom (line.Build (build.Main path main c former)) m = main ≡ m
+BuildsFrom (line.Renew (renew.Branch path main done)) m = main ≡ m
+BuildsFrom (line.Clean (clean.Contracted path main done)) m = main ≡ m
+BuildsFrom (line.Climb (climb.Contracted c main)) m = main ≡ m
+BuildsFrom l m = ⊥
+
+-- a branch or a list stands under the reference
+pub record HasSolid (state : State) (m : Ref) : Type 0 where
+  pub slot : Slot
+  pub stands : standing state.heap m ≡ Some slot
+  pub solid : is_solid slot.node ≡ true
+
 -- ---- the whole
 
 pub record Known (limits : Limits) (states : ℕ → State) (last : ℕ) : Type 0 where
@@ -112,9 +139,9 @@ pub record Known (limits : Limits) (states : ℕ → State) (last : ℕ) : Type 
       operation_of (states t) actor ≡ Some operation → ActsOn states t (action_of (states t) operation)
   -- memory: no other step changes that heap
   pub stays : (t : ℕ) → t < last → (s : Step) (o : Outcome) → Moves (states t) s o (states (suc t)) → IsNoGo s → GrownStays states t
-  -- memory: what a change is built from is a main node
-  pub built_from_main : (t : ℕ) → t < last → (actor : ℕ) (operation : Operation) → operation_of (states t) actor ≡ Some operation → (path : List Ref) (main : Ref)
-      (c : Change) (former : Option ℕ) → operation.line ≡ line.Build (build.Main path main c former) → is_link (node_at (states t).heap main) ≡ false
+  -- memory: what is to be replaced is a branch or a list
+  pub built_from : (t : ℕ) → t < last → (actor : ℕ) (operation : Operation) → operation_of (states t) actor ≡ Some operation → (main : Ref) →
+      BuildsFrom operation.line main → HasSolid (states t) main
   -- memory: the main word of an indirection in use names what is in use
   pub mains_stand : (t : ℕ) → t ≤ last → (i : Ref) (slot : Slot) → standing (states t).heap i ≡ Some slot → is_link slot.node ≡ true →
       (main : Slot) × (standing (states t).heap (main_of slot.node) ≡ Some main)

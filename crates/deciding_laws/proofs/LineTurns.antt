@@ -44,13 +44,13 @@ use Rattle.machine_model.specs.Finding.{found}
 use Rattle.nodes.specs.Builders.{pair, contracted}
 use Rattle.ctrie_base.specs.declared.hashes.HashKind.{HashKind}
 use Rattle.machine_model.specs.declared.building.Change.TheVariants as change
-use Rattle.machine_model.specs.Building.{changed_branch, changed_list, changed, build_if_made}
+use Rattle.machine_model.specs.Building.{changed_branch, changed_list, changed, after_single, after_link, build_if_made}
 use Rattle.machine_model.specs.Cleaning.{clean_after_contracted}
 use Rattle.machine_model.specs.Climbing.{climb_after_contracted, climb_after_root}
 use Rattle.machine_model.specs.Copying.{after_given, copy_if_made}
 use Rattle.machine_model.specs.Walking.{first_of, rest_of}
 use Rattle.machine_model.specs.Operations.{after_root}
-use Rattle.slot_arena.specs.Heaps.{main_at, prev_at, generation_at, main_of, next_ref}
+use Rattle.slot_arena.specs.Heaps.{main_at, prev_at, generation_at, node_of, main_of, next_ref}
 use Rattle.machine_model.specs.declared.reading.Swap.{Swap}
 use Rattle.machine_model.specs.declared.reading.SwapLine.{SwapLine}
 use Rattle.machine_model.specs.declared.reading.SwapLine.TheVariants as swap
@@ -72,11 +72,15 @@ use Rattle.machine_model.specs.Operations.{line_action, line_after, read_of, aft
 use Rattle.machine_model.specs.Acting.{commits_after}
 use Rattle.machine_model.proofs.Grown.{node_under}
 use Rattle.machine_model.proofs.Moves.{GoesOn}
-use Rattle.deciding_laws.proofs.Words.{Words, Stage, Rests, Reads, Holds, Publishes, Decides, Checks, IsFree, MayName, Given, ReadTurn, Moves, Idles, MakesNode, SwapsNode, ReadsOn, DecidesOn, after_read}
+use Rattle.deciding_laws.proofs.Words.{Words, HasMade, Stage, Rests, Reads, Holds, Publishes, Decides, Checks, IsFree, MayName, Given, ReadTurn, Moves, Idles, MakesNode, SwapsNode, ReadsOn, DecidesOn, after_read}
 use Rattle.deciding_laws.proofs.Stages.{stage_of, ReadRemembers, Remembers}
-use Rattle.deciding_laws.proofs.Known.{is_link, GrownStays, GrownSwaps, FindsMain, FindsPrev, Either, Taken, ActsOn, Known}
+use Rattle.deciding_laws.proofs.Known.{is_link, is_solid, BuildsFrom, HasSolid, GrownStays, GrownSwaps, FindsMain, FindsPrev, Either, Taken, ActsOn, Known}
 use Rattle.deciding_laws.proofs.GrownWords.{words_of, leaves_words, swaps_words, makes_words, takes_node}
-use Rattle.deciding_laws.proofs.ReadTurns.{no_commit, read_turn}
+use Rattle.deciding_laws.proofs.ReadTurns.{no_commit, solid_stays, read_turn}
+use Rattle.deciding_laws.proofs.InHeap.{grown_standing, node_standing}
+use Rattle.std.specs.Prelude.{is_some}
+use Rattle.machine_model.specs.declared.building.Site.{Site}
+use Rattle.machine_model.specs.declared.building.Site.TheVariants as site
 use Rattle.deciding_laws.proofs.LineReads.{ReadsSo, on_stage}
 use Rattle.deciding_laws.proofs.LineRests
 use Rattle.deciding_laws.proofs.LineRests.{AtRest, AfterMade}
@@ -108,8 +112,29 @@ module _ (limits : Limits) (states : ℕ → State) (last : ℕ) (known : Known 
     pub commits : (states (suc t)).commits ≡ commits_after (states t) (committed_in (states t) (read_of l))
     pub asks : (i m p : Ref) → read_of l ≡ Some (record { indirection = i; line = read.AskRoot m p }) → W → ToldOpen
     pub stage : w.stage t k ≡ stage_of l
-    pub main_kind : (path : List Ref) (main : Ref) (c : Change) (former : Option ℕ) → l ≡ line.Build (build.Main path main c former) → is_link (node_at heap main) ≡ false
+    pub built : (main : Ref) → BuildsFrom l main → HasSolid (states t) main
     pub remembers : Remembers G W l
+
+  -- what a READ gave, and may be replaced
+  abbrev GS : Ref → Ref → Type 0
+  GS i m = G i m × (w.solid m ≡ true)
+
+  -- what stands there as a branch or a list may be replaced
+  solid_of : (m : Ref) → HasSolid (states t) m → w.solid m ≡ true
+  solid_of m x =
+      let found = grown_standing states t m x.slot x.stands in
+      solid_stays limits states last known t m (omega arith) (ap is_some found) ∙ ap (λ o. is_solid (node_of o)) found ∙ x.solid
+
+  solid_no_link : (node : Node) → is_solid node ≡ true → is_link node ≡ false
+  solid_no_link (Indirection x y) e = absurd (true≢false (sym e))
+  solid_no_link (Branch b es) e = refl
+  solid_no_link (Single k v) e = refl
+  solid_no_link (Tomb s) e = refl
+  solid_no_link (Listed s) e = refl
+
+  -- and is no indirection
+  link_of_solid : (m : Ref) → HasSolid (states t) m → is_link (node_at heap m) ≡ false
+  link_of_solid m x = ap is_link (node_standing states t m x.slot x.stands ∙ ap node_of (grown_standing states t m x.slot x.stands)) ∙ solid_no_link x.slot.node x.solid
 
   -- a turn that leads to this line
   abbrev pub NextLine : Stage → Line → Type 0
@@ -121,13 +146,13 @@ module _ (limits : Limits) (states : ℕ → State) (last : ℕ) (known : Known 
   rest_turn s l free e c r = Idles (leaves_words states last t e (no_commit limits states last known t h c)) free r.0
 
   make_turn : (s : Stage) → IsFree s → (node : Node) (after : Option Ref → Line) → (states (suc t)).commits ≡ (states t).commits → AtRest G W (after None) →
-      ((n : Ref) → AfterMade G W n (after (Some n))) → (is_link node ≡ true → MayName w t k s (main_of node)) → (made : Option Ref) → Taken states t node made →
+      ((n : Ref) → HasMade GS n (stage_of (after (Some n)))) → (is_link node ≡ true → MayName w t k s (main_of node)) → (made : Option Ref) → Taken states t node made →
       NextLine s (after made)
   make_turn s free node after c none some name None e = rest_turn s (after None) free e c none
   make_turn s free node after c none some name (Some n) e =
       let is : node_under states (suc t) n ≡ node = takes_node states last t n node e in
       MakesNode n (makes_words states last t n node e (no_commit limits states last known t h c)) free
-      (λ l. subst (λ x. MayName w t k s (main_of x)) (sym is) (name (subst (λ x. is_link x ≡ true) is l))) (some n).0
+      (λ l. subst (λ x. MayName w t k s (main_of x)) (sym is) (name (subst (λ x. is_link x ≡ true) is l))) (some n)
 
   -- no indirection is made
   abbrev IsNoLink : Node → Type 0
@@ -195,24 +220,31 @@ module _ (limits : Limits) (states : ℕ → State) (last : ℕ) (known : Known 
   changed_no_link flag (Single x y) c e = e
   changed_no_link flag (Tomb x) c e = e
 
+  single_has : (path : List Ref) (main : Ref) (former : Option ℕ) (x : Site) (n : Ref) → HasMade GS n (stage_of (after_single (states t) operation path main former x n))
+  single_has path main former site.Absent n = tt
+  single_has path main former (site.At position) n = tt
+  single_has path main former (site.Beside position) n = tt
+
+  link_has : (path : List Ref) (main : Ref) (position depth : ℕ) (n : Ref) → HasMade GS n (stage_of (after_link path main position depth n))
+  link_has path main position depth n = grind arith
+
   build_turn : (l : BuildLine) → LineStep (line.Build l) → NextLine (stage_of (line.Build l)) (line_after (states t) operation (line.Build l))
-  build_turn (build.Single path main site former) s =
-      make_turn Rests tt _ (build_if_made (states t) operation (build.Single path main site former)) s.commits (tt, tt)
-      (λ n. LineRests.build_made G W (states t) operation (build.Single path main site former) n s.remembers) (λ l. absurd (true≢false (sym l))) (next_ref heap) s.acts
+  build_turn (build.Single path main x former) s =
+      make_turn Rests tt _ (build_if_made (states t) operation (build.Single path main x former)) s.commits (tt, tt) (single_has path main former x)
+      (λ l. absurd (true≢false (sym l))) (next_ref heap) s.acts
   build_turn (build.Pair path main position single depth) s =
-      make_turn Rests tt _ (build_if_made (states t) operation (build.Pair path main position single depth)) s.commits (tt, tt)
-      (λ n. LineRests.build_made G W (states t) operation (build.Pair path main position single depth) n s.remembers)
+      make_turn Rests tt _ (build_if_made (states t) operation (build.Pair path main position single depth)) s.commits (tt, tt) (λ n. refl)
       (names_none Rests _ (pair_no_link _ depth _ _ _ single)) (next_ref heap) s.acts
   build_turn (build.Link path main position below depth) s =
-      make_turn (Holds below) tt _ (build_if_made (states t) operation (build.Link path main position below depth)) s.commits (tt, tt)
-      (λ n. LineRests.build_made G W (states t) operation (build.Link path main position below depth) n s.remembers) (λ l. inr refl) (next_ref heap) s.acts
+      make_turn (Holds below) tt _ (build_if_made (states t) operation (build.Link path main position below depth)) s.commits (tt, tt) (link_has path main position depth)
+      (λ l. inr refl) (next_ref heap) s.acts
   build_turn (build.Rung path main position below depth) s =
-      make_turn Rests tt _ (build_if_made (states t) operation (build.Rung path main position below depth)) s.commits (tt, tt)
-      (λ n. LineRests.build_made G W (states t) operation (build.Rung path main position below depth) n s.remembers) (λ l. absurd (true≢false (sym l))) (next_ref heap) s.acts
+      make_turn Rests tt _ (build_if_made (states t) operation (build.Rung path main position below depth)) s.commits (tt, tt) (λ n. refl)
+      (λ l. absurd (true≢false (sym l))) (next_ref heap) s.acts
   build_turn (build.Main path main c former) s =
       make_turn Rests tt _ (build_if_made (states t) operation (build.Main path main c former)) s.commits (tt, tt)
-      (λ n. LineRests.build_made G W (states t) operation (build.Main path main c former) n s.remembers)
-      (names_none Rests _ (changed_no_link _ (node_at heap main) c (s.main_kind path main c former refl))) (next_ref heap) s.acts
+      (λ n. (refl, (s.remembers, solid_of main (s.built main refl))))
+      (names_none Rests _ (changed_no_link _ (node_at heap main) c (link_of_solid main (s.built main refl)))) (next_ref heap) s.acts
 
   -- ---- SWAP
 
@@ -253,6 +285,9 @@ module _ (limits : Limits) (states : ℕ → State) (last : ℕ) (known : Known 
   renew_stage path main done i (Goes l) = refl
   renew_stage path main done i (Gives m) = refl
 
+  renew_link_has : (path : List Ref) (main : Ref) (done : List Ref) (n : Ref) → HasMade GS n (stage_of (renew_after_link (states t) path main done (Some n)))
+  renew_link_has path main done n = grind arith
+
   renew_turn : (l : RenewLine) → LineStep (line.Renew l) → NextLine (stage_of (line.Renew l)) (line_after (states t) operation (line.Renew l))
   renew_turn (renew.Entry path main done) s =
       rest_turn Rests _ tt s.acts s.commits
@@ -261,10 +296,10 @@ module _ (limits : Limits) (states : ℕ → State) (last : ℕ) (known : Known 
       reads_on r.indirection r.line (λ o. renew_after_read path main done (at_indirection r.indirection o)) s.acts s.commits s.remembers.0
       (asks_of (line.Renew (renew.Read path main done r)) r.indirection r.line refl s.asks) (renew_stage path main done r.indirection)
   renew_turn (renew.Link path main done child) s =
-      make_turn Rests tt _ (renew_after_link (states t) path main done) s.commits (tt, tt) (λ n. LineRests.renew_link_made G W (states t) path main done n s.remembers.0)
+      make_turn Rests tt _ (renew_after_link (states t) path main done) s.commits (tt, tt) (renew_link_has path main done)
       (λ l. inl s.remembers.1) (next_ref heap) s.acts
   renew_turn (renew.Branch path main done) s =
-      make_turn Rests tt _ (renew_after_branch path main) s.commits (tt, tt) (λ n. ((refl, s.remembers), (tt, s.remembers))) (λ l. absurd (true≢false (sym l))) (next_ref heap) s.acts
+      make_turn Rests tt _ (renew_after_branch path main) s.commits (tt, tt) (λ n. (refl, (s.remembers, solid_of main (s.built main refl)))) (λ l. absurd (true≢false (sym l))) (next_ref heap) s.acts
 
   -- ---- CLEAN
 
@@ -293,7 +328,7 @@ module _ (limits : Limits) (states : ℕ → State) (last : ℕ) (known : Known 
   clean_turn (clean.Tomb path main done child) s =
       rest_turn Rests _ tt s.acts s.commits (LineRests.clean_tomb_rest G W (states t) path main done (node_at heap child) s.remembers.0)
   clean_turn (clean.Contracted path main done) s =
-      make_turn Rests tt _ (clean_after_contracted path main) s.commits (tt, tt) (λ n. ((refl, s.remembers), (tt, s.remembers)))
+      make_turn Rests tt _ (clean_after_contracted path main) s.commits (tt, tt) (λ n. (refl, (s.remembers, solid_of main (s.built main refl))))
       (names_none Rests _ (contracted_no_link _ _ done)) (next_ref heap) s.acts
 
   -- ---- ROOT
@@ -344,7 +379,7 @@ module _ (limits : Limits) (states : ℕ → State) (last : ℕ) (known : Known 
       (asks_of (line.Climb (climb.Read c r)) r.indirection r.line refl s.asks) (climb_stage c r.indirection)
   climb_turn (climb.Main c main) s = rest_turn Rests _ tt s.acts s.commits (LineRests.climb_main_rest G W (states t) operation c main (node_at heap main) s.remembers)
   climb_turn (climb.Contracted c main) s =
-      make_turn Rests tt _ (climb_after_contracted operation c main) s.commits (tt, tt) (λ n. ((refl, s.remembers), (tt, s.remembers)))
+      make_turn Rests tt _ (climb_after_contracted operation c main) s.commits (tt, tt) (λ n. (refl, (s.remembers, solid_of main (s.built main refl))))
       (names_none Rests _ (contracted_no_link _ _ _)) (next_ref heap) s.acts
   climb_turn (climb.Root c root.Read) s = rest_turn Rests _ tt s.acts s.commits (LineRests.climb_word_rest G W (states t) operation c word)
   climb_turn (climb.Root c (root.Completing x)) s = climb_completing c x.offer x.line s
@@ -369,19 +404,22 @@ module _ (limits : Limits) (states : ℕ → State) (last : ℕ) (known : Known 
       (asks_of (line.Copy (copy.Complete (record { offer = offer; line = complete.Reading x }))) offer.root x refl s.asks) (copy_completing_stage offer)
   copy_completing offer (complete.Swap main) s = rest_turn Rests _ tt s.acts s.commits (LineRests.copy_done_rest G W operation (is_carried_out word offer main))
 
+  successor_has : (at main n : Ref) → HasMade GS n (stage_of (copy_if_made operation (copy.Successor at main) (Some n)))
+  successor_has at main n = grind arith
+
   copy_turn : (l : CopyLine) → LineStep (line.Copy l) → NextLine (stage_of (line.Copy l)) (line_after (states t) operation (line.Copy l))
   copy_turn (copy.Read at r) s =
       reads_on r.indirection r.line (λ o. copy_after_read operation at (at_indirection r.indirection o)) s.acts s.commits s.remembers.0
       (asks_of (line.Copy (copy.Read at r)) r.indirection r.line refl s.asks) (copy_stage at r.indirection)
   copy_turn (copy.Successor at main) s =
-      make_turn Rests tt _ (copy_if_made operation (copy.Successor at main)) s.commits (tt, tt) (λ n. LineRests.copy_successor_made G W operation at main n s.remembers)
+      make_turn Rests tt _ (copy_if_made operation (copy.Successor at main)) s.commits (tt, tt) (successor_has at main)
       (λ l. inl (at, s.remembers)) (next_ref heap) s.acts
   copy_turn (copy.Second at main successor) s =
-      make_turn Rests tt _ (copy_if_made operation (copy.Second at main successor)) s.commits (tt, tt) (λ n. (tt, s.remembers)) (λ l. inl (at, s.remembers)) (next_ref heap) s.acts
+      make_turn Rests tt _ (copy_if_made operation (copy.Second at main successor)) s.commits (tt, tt) (λ n. tt) (λ l. inl (at, s.remembers)) (next_ref heap) s.acts
   copy_turn (copy.Empty at main) s =
-      make_turn Rests tt _ (copy_if_made operation (copy.Empty at main)) s.commits (tt, tt) (λ n. (refl, s.remembers)) (λ l. absurd (true≢false (sym l))) (next_ref heap) s.acts
+      make_turn Rests tt _ (copy_if_made operation (copy.Empty at main)) s.commits (tt, tt) (λ n. refl) (λ l. absurd (true≢false (sym l))) (next_ref heap) s.acts
   copy_turn (copy.Cleared at main branch) s =
-      make_turn (Holds branch) tt _ (copy_if_made operation (copy.Cleared at main branch)) s.commits (tt, tt) (λ n. (tt, s.remembers)) (λ l. inr refl) (next_ref heap) s.acts
+      make_turn (Holds branch) tt _ (copy_if_made operation (copy.Cleared at main branch)) s.commits (tt, tt) (λ n. tt) (λ l. inr refl) (next_ref heap) s.acts
   copy_turn (copy.Offer offer) s = rest_turn Rests _ tt s.acts s.commits (LineRests.offer_rest G W offer (is_plain word offer.root))
   copy_turn (copy.Complete c) s = copy_completing c.offer c.line s
 

@@ -35,7 +35,7 @@ use Rattle.machine_model.specs.Machine.{with_begin, reclaimer_of}
 use Rattle.machine_model.proofs.Moves.{Moves, Begins, Goes, Ends, Sweeps, begun_operation}
 use Rattle.machine_model.proofs.Times.{IsRun}
 use Rattle.machine_model.proofs.Grown.{standing, or_before, grown}
-use Rattle.deciding_laws.proofs.Known.{is_link, GrownStays, GrownChanges, GrownSwaps, FindsMain, FindsPrev, Either, Decided, Taken, ActsOn, IsNoGo, Known}
+use Rattle.deciding_laws.proofs.Known.{is_link, GrownStays, GrownChanges, GrownSwaps, FindsMain, FindsPrev, Either, Decided, Taken, ActsOn, IsNoGo, BuildsFrom, HasSolid, Known}
 use Rattle.deciding_laws.proofs.InHeap.{grown_standing, node_standing, prev_standing}
 use Rattle.deciding_laws.proofs.FromHeap.{main_here, main_other, prev_here, prev_other, freed_before}
 
@@ -77,9 +77,9 @@ pub record OtherLayers (limits : Limits) (states : ℕ → State) (last : ℕ) :
   pub finds : (t : ℕ) → t < last → (actor : ℕ) (operation : Operation) → operation_of (states t) actor ≡ Some operation → Finds (states t) (action_of (states t) operation)
   -- memory: references are drawn once
   pub draws : (t : ℕ) → t < last → (node : Node) (n : Ref) → next_ref (states t).heap ≡ Some n → Draws states t node n
-  -- memory: what the change of a key is built from isn't an indirection
-  pub built_from_main : (t : ℕ) → t < last → (actor : ℕ) (operation : Operation) → operation_of (states t) actor ≡ Some operation → (path : List Ref) (main : Ref)
-      (c : Change) (former : Option ℕ) → operation.line ≡ line.Build (build.Main path main c former) → is_link (node_at (states t).heap main) ≡ false
+  -- memory: what is to be replaced is a branch or a list
+  pub built_from : (t : ℕ) → t < last → (actor : ℕ) (operation : Operation) → operation_of (states t) actor ≡ Some operation → (main : Ref) →
+      BuildsFrom operation.line main → HasSolid (states t) main
   -- memory: the main word of an indirection in use names what is in use
   pub mains_stand : (t : ℕ) → t ≤ last → (i : Ref) (slot : Slot) → standing (states t).heap i ≡ Some slot → is_link slot.node ≡ true →
       (main : Slot) × (standing (states t).heap (main_of slot.node) ≡ Some main)
@@ -283,7 +283,7 @@ known limits states last layers = record {
       let after = heap_after (states t) actor o (states (suc t)) m operation runs in
       acts_by states t (layers.draws t h) after.state after.heap after.generations (handle_of operation.call) (action_of (states t) operation) (layers.finds t h actor operation runs) after.is;
   stays = λ t h s o m n. stays_fewer states t (fewer (states t) s o (states (suc t)) m n);
-  built_from_main = layers.built_from_main;
+  built_from = layers.built_from;
   mains_stand = layers.mains_stand;
   open_root = layers.open_root;
 }

@@ -288,7 +288,7 @@ made_staged : (w : Words) (t k : ℕ) → (n : Ref) → Private w (suc t) n → 
 made_staged w t k n p Rests have = tt
 made_staged w t k n p (Reads i l) have = rest_staged w (suc t) k (Reads i l) have
 made_staged w t k n p (Holds f) have = subst (λ x. Private w (suc t) x) (sym have) p
-made_staged w t k n p (Publishes i a f) have = (subst (λ x. Private w (suc t) x) (sym have.0) p, given_later have.1)
+made_staged w t k n p (Publishes i a f) have = (subst (λ x. Private w (suc t) x) (sym have.0) p, given_later have.1.0)
 made_staged w t k n p (Decides i a f l) have = absurd have
 made_staged w t k n p (Checks i a f) have = absurd have
 

@@ -1,6 +1,6 @@
 -- Each line of READ is a turn of the protocol.
 use Rattle.std.proofs.Common.{◌≡◌, ℕ, suc, ◌<◌, ◌≤◌, ◌⊎◌, Bool, true, false, ◌==◌, Option, Some, None, option_map, inl, inr, refl, sym, ◌∙◌, ap, subst, eqb-true, arith}
-use Rattle.std.specs.Prelude.{nat_eq}
+use Rattle.std.specs.Prelude.{is_some, nat_eq}
 use Rattle.std.specs.Option.{option_eq}
 use Rattle.std.proofs.lemmas.Bool.{cases_eq, true≢false, eq-eqb}
 use Rattle.history.specs.declared.calls.Access.{Access}
@@ -8,6 +8,7 @@ use Rattle.history.specs.declared.calls.Access.TheVariants.{Writable, ReadOnly}
 use Rattle.slot_arena.specs.declared.refs.Ref.{Ref}
 use Rattle.slot_arena.specs.declared.nodes.Node.{Node}
 use Rattle.slot_arena.specs.declared.nodes.Prev.{Prev}
+use Rattle.slot_arena.specs.declared.nodes.Slot.{Slot}
 use Rattle.slot_arena.specs.declared.nodes.Prev.TheVariants as over
 use Rattle.slot_arena.specs.Heaps.{node_of, main_at, prev_at, generation_at, generation_of, main_changed, prev_changed, next_ref}
 use Rattle.machine_model.specs.declared.actions.Action.{Action}
@@ -27,8 +28,8 @@ use Rattle.machine_model.proofs.Times.{steps_at}
 use Rattle.machine_model.proofs.Grown.{grown, node_under, prev_word}
 use Rattle.deciding_laws.proofs.Words.{Words, Kept, Leaves, ReadTurn, ReadsMain, FindsDecided, FindsFailed, FindsPending, DecidesAtOnce, Asks, FindsOffer, Aborts, Commits as CommitsTurn, Fails as FailsTurn, Overtaken as OvertakenTurn, Restores, FindsAnother}
 use Rattle.deciding_laws.proofs.Finals.{from_time}
-use Rattle.deciding_laws.proofs.Known.{is_link, GrownStays, GrownChanges, GrownSwaps, GrownTakes, FindsMain, FindsPrev, Either, Decided, Taken, ActsOn, Known}
-use Rattle.deciding_laws.proofs.GrownWords.{words_of, leaves_words, commits_words, fails_words, puts_back_words, slot_generation, slot_main_link, slot_prev_node}
+use Rattle.deciding_laws.proofs.Known.{is_link, is_solid, GrownStays, GrownChanges, GrownSwaps, GrownTakes, FindsMain, FindsPrev, Either, Decided, Taken, ActsOn, Known}
+use Rattle.deciding_laws.proofs.GrownWords.{words_of, leaves_words, commits_words, fails_words, puts_back_words, slot_generation, slot_main_link, slot_prev_node, slot_solid, slot_kept}
 use Rattle.deciding_laws.proofs.StepsAt.{StepAt, IsBegin, IsGo, IsEnd, IsSweep, step_at, commit_here, commit_elsewhere, commit_kept}
 
 -- ---- generations stay
@@ -126,6 +127,56 @@ pub generation_stays : (limits : Limits) (states : ℕ → State) (last : ℕ) �
 generation_stays limits states last k t i within l =
     (from_time (λ v. (is_link (node_under states v i) ≡ true) × (generation_of (node_under states v i) ≡ generation_of (node_under states t i))) t last (l, refl)
     (λ v before h so_far. let kept = keeps_link states v i so_far.0 (grown_step_of limits states last k v h (step_at (states v) (states (suc v)) (k.run.turn v h))) in
+    (kept.0, kept.1 ∙ so_far.1)) last within (omega arith)).1
+
+-- ---- whether a node may be replaced stays
+
+-- what stands under a reference afterwards was made, and is solid, as before
+abbrev KeepsSolid : (ℕ → State) → ℕ → Ref → Type 0
+KeepsSolid states t m = (is_some (grown states (suc t) m) ≡ true) × (is_solid (node_under states (suc t) m) ≡ is_solid (node_under states t m))
+
+solid_by : (states : ℕ → State) (t : ℕ) (m : Ref) (change : Slot → Slot) → ((o : Option Slot) → is_solid (node_of (option_map change o)) ≡ is_solid (node_of o)) →
+    is_some (grown states t m) ≡ true → grown states (suc t) m ≡ option_map change (grown states t m) → KeepsSolid states t m
+solid_by states t m change same made e =
+    (ap is_some e ∙ slot_kept change (grown states t m) ∙ made, ap (λ o. is_solid (node_of o)) e ∙ same (grown states t m))
+
+solid_same : (states : ℕ → State) (t : ℕ) (m : Ref) → is_some (grown states t m) ≡ true → grown states (suc t) m ≡ grown states t m → KeepsSolid states t m
+solid_same states t m made e = (ap is_some e ∙ made, ap (λ o. is_solid (node_of o)) e)
+
+prev_solid : (v : Prev) (o : Option Slot) → is_solid (node_of (option_map (prev_changed v) o)) ≡ is_solid (node_of o)
+prev_solid v o = ap is_solid (slot_prev_node v o)
+
+solid_changed : (states : ℕ → State) (t : ℕ) (change : Slot → Slot) (r m : Ref) → ((o : Option Slot) → is_solid (node_of (option_map change o)) ≡ is_solid (node_of o)) →
+    is_some (grown states t m) ≡ true → GrownChanges states t change r → (m ≡ r) ⊎ (m ≡ r → ⊥) → KeepsSolid states t m
+solid_changed states t change r m same made e (inl is) = solid_by states t m change same made (subst (λ q. grown states (suc t) q ≡ option_map change (grown states t q)) (sym is) e.here)
+solid_changed states t change r m same made e (inr apart) = solid_same states t m made (e.elsewhere m apart)
+
+solid_swapped : (states : ℕ → State) (t : ℕ) (i a f m : Ref) → is_some (grown states t m) ≡ true → GrownSwaps states t i a f → (m ≡ i) ⊎ (m ≡ i → ⊥) → (m ≡ f) ⊎ (m ≡ f → ⊥) →
+    KeepsSolid states t m
+solid_swapped states t i a f m made e (inl is) other =
+    solid_by states t m (main_changed f) (slot_solid f) made (subst (λ q. grown states (suc t) q ≡ option_map (main_changed f) (grown states t q)) (sym is) e.main)
+solid_swapped states t i a f m made e (inr apart) (inl is) =
+    solid_by states t m (prev_changed (over.Pending a)) (prev_solid (over.Pending a)) made
+    (subst (λ q. grown states (suc t) q ≡ option_map (prev_changed (over.Pending a)) (grown states t q)) (sym is) e.prev)
+solid_swapped states t i a f m made e (inr apart) (inr other) = solid_same states t m made (e.elsewhere m apart other)
+
+solid_taken : (states : ℕ → State) (t : ℕ) (n : Ref) (node : Node) (m : Ref) → is_some (grown states t m) ≡ true → GrownTakes states t n node → (m ≡ n) ⊎ (m ≡ n → ⊥) → KeepsSolid states t m
+solid_taken states t n node m made e (inl is) = absurd (true≢false (sym made ∙ ap (λ q. is_some (grown states t q)) is ∙ ap is_some e.new))
+solid_taken states t n node m made e (inr apart) = solid_same states t m made (e.elsewhere m apart)
+
+keeps_solid : (states : ℕ → State) (t : ℕ) (m : Ref) → is_some (grown states t m) ≡ true → GrownStep states t → KeepsSolid states t m
+keeps_solid states t m made (Stays e) = solid_same states t m made (e m)
+keeps_solid states t m made (MainChanges x r e) = solid_changed states t (main_changed x) r m (slot_solid x) made e (cases_eq m r)
+keeps_solid states t m made (PrevChanges v r e) = solid_changed states t (prev_changed v) r m (prev_solid v) made e (cases_eq m r)
+keeps_solid states t m made (Swaps i a f e) = solid_swapped states t i a f m made e (cases_eq m i) (cases_eq m f)
+keeps_solid states t m made (Takes n node e) = solid_taken states t n node m made e (cases_eq m n)
+
+-- what was made is solid at the end if it is now
+pub solid_stays : (limits : Limits) (states : ℕ → State) (last : ℕ) → Known limits states last → (t : ℕ) (m : Ref) → t ≤ last → is_some (grown states t m) ≡ true →
+    is_solid (node_under states last m) ≡ is_solid (node_under states t m)
+solid_stays limits states last k t m within made =
+    (from_time (λ v. (is_some (grown states v m) ≡ true) × (is_solid (node_under states v m) ≡ is_solid (node_under states t m))) t last (made, refl)
+    (λ v before h so_far. let kept = keeps_solid states v m so_far.0 (grown_step_of limits states last k v h (step_at (states v) (states (suc v)) (k.run.turn v h))) in
     (kept.0, kept.1 ∙ so_far.1)) last within (omega arith)).1
 
 -- ---- what a test says

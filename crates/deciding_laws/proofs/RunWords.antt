@@ -154,7 +154,7 @@ module _ (limits : Limits) (states : ℕ → State) (last : ℕ) (known : Known 
     commits = ap (λ (s : State). s.commits) e ∙ gone_commits (states t) actor operation;
     asks = λ i main p asked writable r plain c closed. known.open_root t h actor operation is i main p asked writable r plain c closed;
     stage = ap stage_of_actor is;
-    main_kind = λ path main c former at. known.built_from_main t h actor operation is path main c former at;
+    built = known.built_from t h actor operation is;
     remembers = subst (λ x. ActorRemembers states last t actor x) is (so_far actor);
   }
 

@@ -36,6 +36,8 @@ pub record Words : Type 0 where
   pub made : ℕ → Ref → Bool
   -- it was made, and is an indirection
   pub link : ℕ → Ref → Bool
+  -- the main node may be replaced: it is a branch or a list, and no tomb
+  pub solid : Ref → Bool
   -- the step in which the main node was committed, if it was
   pub commit : ℕ → Ref → Option ℕ
   -- the step that closes a generation, if one ever does
@@ -180,14 +182,14 @@ after_deciding i a f (Gives m) = Checks i a f
 abbrev pub MayName : Words → ℕ → ℕ → Stage → Ref → Type 0
 MayName w t k s m = ((i : Ref) × Given w t k i m) ⊎ (s ≡ Holds m)
 
--- what an actor may be about once it made this node; G says of an indirection and a main node that a READ of it gave the node
+-- what an actor may be about once it made this node; G says of an indirection and a main node that the node may be replaced there
 abbrev pub HasMade : (Ref → Ref → Type 0) → Ref → Stage → Type 0
 HasMade G n (Holds f) = f ≡ n
 HasMade G n (Publishes i a f) = (f ≡ n) × G i a
 HasMade G n s = IsAtRest s
 
 abbrev pub MayHave : Words → ℕ → ℕ → Ref → Stage → Type 0
-MayHave w t k n s = HasMade (λ i m. Given w t k i m) n s
+MayHave w t k n s = HasMade (λ i m. Given w t k i m × (w.solid m ≡ true)) n s
 
 -- a step of this actor, from one stage to the next
 pub data Moves (w : Words) (t k : ℕ) : Stage → Stage → Type 0 where
