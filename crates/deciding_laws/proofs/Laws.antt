@@ -1,9 +1,12 @@
 -- The laws, from what other layers give of each run.
-use Rattle.std.proofs.Common.{◌≡◌, ℕ, suc, ◌+◌, ◌<◌, ◌≤◌, ◌⊎◌, true, List, take, Some, inl, inr, refl, sym, ◌∙◌, ap, subst, add-one, arith}
+use Rattle.std.proofs.Common.{◌≡◌, ℕ, suc, ◌+◌, ◌<◌, ◌≤◌, ◌⊎◌, true, false, List, take, Some, inl, inr, refl, sym, ◌∙◌, ap, subst, add-one, arith}
 use Rattle.std.proofs.lemmas.Bool.{cases_eq}
 use Rattle.std.proofs.lemmas.Option.{same_Some}
 use Rattle.history.specs.declared.replies.Reply.{Reply}
 use Rattle.slot_arena.specs.declared.refs.Ref.{Ref}
+use Rattle.slot_arena.specs.declared.nodes.Node.{Node}
+use Rattle.slot_arena.specs.declared.nodes.Node.TheVariants.{Tomb}
+use Rattle.std.specs.Prelude.{is_some}
 use Rattle.slot_arena.specs.declared.nodes.Prev.TheVariants as over
 use Rattle.slot_arena.specs.declared.nodes.Slot.{Slot}
 use Rattle.slot_arena.specs.Heaps.{main_of, generation_of, main_at, prev_at, generation_at, node_at, logical_main}
@@ -40,19 +43,19 @@ use Rattle.deciding_laws.proofs.Finals.{effect, none_final, failed_final, Fate, 
 use Rattle.deciding_laws.proofs.Mains.{CommitsMain as Changed, MainStep, MainStays, MainChanges, main_step, replaced_for_good}
 use Rattle.deciding_laws.proofs.Readings.{IsMoment, closed_once, given_for_good as protocol_for_good}
 use Rattle.deciding_laws.proofs.Closings.{commits_early}
-use Rattle.deciding_laws.proofs.Swaps.{checked}
+use Rattle.deciding_laws.proofs.Swaps.{checked, tomb_stays}
 use Rattle.deciding_laws.proofs.Stages.{stage_of, stage_of_actor}
-use Rattle.deciding_laws.proofs.Known.{is_link, Known}
+use Rattle.deciding_laws.proofs.Known.{is_link, is_solid, Known}
 use Rattle.deciding_laws.proofs.OtherLayers.{OtherLayers, known}
 use Rattle.deciding_laws.proofs.GrownWords.{words_of}
-use Rattle.deciding_laws.proofs.ReadTurns.{generation_stays}
+use Rattle.deciding_laws.proofs.ReadTurns.{generation_stays, solid_stays}
 use Rattle.deciding_laws.proofs.LineReads.{ends_at_end}
 use Rattle.deciding_laws.proofs.RunWords.{protocol}
 use Rattle.deciding_laws.proofs.Moments.{moment_at}
-use Rattle.deciding_laws.proofs.InHeap.{states_are, step_leads, in_use_stands, node_standing, prev_standing, link_of, logical_standing}
+use Rattle.deciding_laws.proofs.InHeap.{grown_standing, states_are, step_leads, in_use_stands, node_standing, prev_standing, link_of, logical_standing}
 use Rattle.deciding_laws.proofs.SwapLines.{runs_deciding, runs_publishing, in_swap_fresh, reads_stage}
 use Rattle.deciding_laws.specs.Runs.{steps_taken, state_before, IsInUse, HasIndirection}
-use Rattle.deciding_laws.specs.Deciding.{IsInSwap, Owner, PendingHasOwner, PrevChange, Stays, IsSwappedIn, IsCommitted as ChangeCommitted, HasFailed, PrevWordsChange, DecidedForGood, CommitsMain, MainsChangeByCommits, ReplacedForGood, IsGiven, MomentIsFirst, GivenForGood, CheckedIsDecided, ChangesLate, LateStoodBefore, LateOnce}
+use Rattle.deciding_laws.specs.Deciding.{IsInSwap, Owner, PendingHasOwner, PrevChange, Stays, IsSwappedIn, IsCommitted as ChangeCommitted, HasFailed, PrevWordsChange, DecidedForGood, CommitsMain, MainsChangeByCommits, ReplacedForGood, IsGiven, MomentIsFirst, GivenForGood, CheckedIsDecided, ChangesLate, LateStoodBefore, LateOnce, IsTomb, TombsStay}
 
 -- what other layers give of every run
 abbrev pub LayersOfRuns : Type 0
@@ -185,6 +188,19 @@ module _ (limits : Limits) (ok : AreLimits limits) (steps : List Step) (known : 
       let main = main_in_use n (omega arith) i at_n in
       replaced_for_good p i (logical_main (states n).heap i) n k l nk kl h (link_in_use n i at_n) (sym main) (λ e. other (main_in_use k (omega arith) i at_k ∙ e))
       (sym (main_in_use l h i at_l) ∙ back)
+
+  not_solid : (node : Node) → IsTomb node → is_solid node ≡ false
+  not_solid (Tomb single) h = refl
+  not_solid node h = absurd h
+
+  tomb_at : (n k : ℕ) → n ≤ k → k ≤ last → (i a : Ref) → HasIndirection (states n) i → HasIndirection (states k) i → logical_main (states n).heap i ≡ a →
+      IsInUse (states n) a → IsTomb (node_at (states n).heap a) → logical_main (states k).heap i ≡ a
+  tomb_at n k nk h i a at_n at_k is used tomb =
+      let s = stands_at limits ok steps n a used in
+      let solid : w.solid a ≡ false =
+      solid_stays limits states last known n a (omega arith) (ap is_some (grown_standing states n a s.0 s.1)) ∙ ap is_solid (sym (node_in_use n a used))
+      ∙ not_solid (node_at (states n).heap a) tomb in
+      main_in_use k h i at_k ∙ tomb_stays p i a n k nk h (link_in_use n i at_n) solid (sym (main_in_use n (omega arith) i at_n) ∙ is)
 
   -- ---- what a READ gives
 
@@ -394,3 +410,9 @@ checked_is_decided layers limits steps ok =
     subst (λ (s : State). (actor : ℕ) (operation : Operation) (i a f q : Ref) → operation_of s actor ≡ Some operation → IsInSwap operation i a f swap.Check → IsInUse s f →
     prev_at s.heap f ≡ over.Pending q → ⊥) (run_ends limits steps)
     (checked_at limits ok steps (known_of layers limits steps ok) (last_of limits steps) (omega arith))
+
+pub tombs_stay : LayersOfRuns → TombsStay
+tombs_stay layers limits steps ok =
+    subst (λ (s : ℕ → State). (n k : ℕ) → n ≤ k → k ≤ steps_taken limits steps → (i a : Ref) → HasIndirection (s n) i → HasIndirection (s k) i → logical_main (s n).heap i ≡ a →
+    IsInUse (s n) a → IsTomb (node_at (s n).heap a) → logical_main (s k).heap i ≡ a)
+    (same_states limits steps) (tomb_at limits ok steps (known_of layers limits steps ok))

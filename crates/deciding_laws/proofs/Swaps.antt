@@ -1,17 +1,18 @@
 -- How a SWAP comes out: its fresh node is pending until it is decided, and a decided one was committed by the time that it is seen so.
-use Rattle.std.proofs.Common.{◌≡◌, ℕ, zero, suc, ◌<◌, ◌≤◌, ◌⊎◌, inl, inr, refl, sym, ◌∙◌, ap, subst, arith}
-use Rattle.std.proofs.lemmas.Bool.{cases_eq}
+use Rattle.std.proofs.Common.{◌≡◌, ℕ, zero, suc, ◌<◌, ◌≤◌, ◌⊎◌, true, false, inl, inr, refl, sym, ◌∙◌, ap, subst, arith}
+use Rattle.std.proofs.lemmas.Bool.{cases_eq, true≢false}
 use Rattle.slot_arena.specs.declared.refs.Ref.{Ref}
 use Rattle.slot_arena.specs.declared.nodes.Prev.TheVariants as over
 use Rattle.machine_model.specs.declared.reading.After.{After}
 use Rattle.machine_model.specs.declared.reading.After.TheVariants.{Goes, Gives}
 use Rattle.machine_model.specs.declared.reading.ReadLine.{ReadLine}
-use Rattle.deciding_laws.proofs.Words.{Words, Stage, Rests, Reads, Holds, Publishes, Decides, Checks, CommitsNode, IsAtRest, MayHave, IsSame, Moves, Idles, MakesNode, SwapsNode, ReadsOn, DecidesOn, Turn, Acts, Passes, after_read, after_deciding, Protocol}
+use Rattle.deciding_laws.proofs.Words.{Words, main_at, Stage, Rests, Reads, Holds, Publishes, Decides, Checks, CommitsNode, IsAtRest, MayHave, IsSame, Moves, Idles, MakesNode, SwapsNode, ReadsOn, DecidesOn, Turn, Acts, Passes, after_read, after_deciding, Protocol}
 use Rattle.deciding_laws.proofs.Stood.{none≢pending}
 use Rattle.deciding_laws.proofs.Effects.{Effect, GoesOn, StaysPending, GetsCommitted, GetsFailed, goes_on, failed_later}
 use Rattle.deciding_laws.proofs.Owners.{HasFresh, Owner, IsSound}
 use Rattle.deciding_laws.proofs.Sounds.{sound_at}
-use Rattle.deciding_laws.proofs.Finals.{from_time, effect, committed_stays}
+use Rattle.deciding_laws.proofs.Finals.{from_time, effect, committed_stays, link_stays}
+use Rattle.deciding_laws.proofs.Mains.{MainStep, MainStays, MainChanges, main_step}
 
 -- the actor's fresh node was committed over the replaced one, at a step at which the actor was deciding it
 pub record HasCommitted (w : Words) (t k : ℕ) (i a f : Ref) : Type 0 where
@@ -130,3 +131,70 @@ failed p t h k i a f stage other = by_outcome (subst (λ s. ComesOut p.words t k
     by_outcome (IsPending e) = absurd (checked p.words t k (sound_at p t h) i a f stage a e)
     by_outcome (IsFailed e) = e
     by_outcome (IsCommitted c) = absurd (other (committed_stays p f a c.at t c.past h c.commits))
+
+-- ---- what a SWAP replaces is a branch or a list
+
+abbrev Replaces : Words → Stage → Type 0
+Replaces w (Publishes i a f) = w.solid a ≡ true
+Replaces w (Decides i a f l) = w.solid a ≡ true
+Replaces w (Checks i a f) = w.solid a ≡ true
+Replaces w s = Unit {0}
+
+rest_replaces : (w : Words) (s : Stage) → IsAtRest s → Replaces w s
+rest_replaces w Rests r = tt
+rest_replaces w (Reads i l) r = tt
+rest_replaces w s r = absurd r
+
+have_replaces : (w : Words) (t k : ℕ) (n : Ref) (s : Stage) → MayHave w t k n s → Replaces w s
+have_replaces w t k n Rests have = tt
+have_replaces w t k n (Reads i l) have = tt
+have_replaces w t k n (Holds f) have = tt
+have_replaces w t k n (Publishes i a f) have = have.1.1
+have_replaces w t k n (Decides i a f l) have = absurd have
+have_replaces w t k n (Checks i a f) have = absurd have
+
+read_replaces : (w : Words) (i : Ref) (out : After ReadLine Ref) → Replaces w (after_read i out)
+read_replaces w i (Goes l) = tt
+read_replaces w i (Gives m) = tt
+
+deciding_replaces : (w : Words) (i a f : Ref) (out : After ReadLine Ref) → w.solid a ≡ true → Replaces w (after_deciding i a f out)
+deciding_replaces w i a f (Goes l) r = r
+deciding_replaces w i a f (Gives m) r = r
+
+moves_replace : (w : Words) (t k : ℕ) (s after : Stage) → Moves w t k s after → Replaces w s → Replaces w after
+moves_replace w t k s after (Idles x free r) so_far = rest_replaces w after r
+moves_replace w t k s after (MakesNode n x free name have) so_far = have_replaces w t k n after have
+moves_replace w t k s after (SwapsNode l x) so_far = so_far
+moves_replace w t k s after (ReadsOn {i} {l} {out} r) so_far = read_replaces w i out
+moves_replace w t k s after (DecidesOn {i} {a} {f} {l} {out} r) so_far = deciding_replaces w i a f out so_far
+
+turn_replaces : (w : Words) (t : ℕ) → ((k : ℕ) → Replaces w (w.stage t k)) → Turn w t → (k : ℕ) → Replaces w (w.stage (suc t) k)
+turn_replaces w t so_far (Passes x same) k = subst (λ s. Replaces w s) (sym (same k).stage) (so_far k)
+turn_replaces w t so_far (Acts actor m counts same) k = by_actor (cases_eq k actor)
+  where
+    by_actor : (k ≡ actor) ⊎ (k ≡ actor → ⊥) → Replaces w (w.stage (suc t) k)
+    by_actor (inl is) = subst (λ q. Replaces w (w.stage (suc t) q)) (sym is) (moves_replace w t actor (w.stage t actor) (w.stage (suc t) actor) m (so_far actor))
+    by_actor (inr other) = subst (λ s. Replaces w s) (sym (same k other).stage) (so_far k)
+
+replaces_at : (p : Protocol) (t : ℕ) → t ≤ p.last → (k : ℕ) → Replaces p.words (p.words.stage t k)
+replaces_at p t h =
+    from_time (λ v. (k : ℕ) → Replaces p.words (p.words.stage v k)) zero p.last (λ k. subst (λ s. Replaces p.words s) (sym (p.first_stage k)) tt)
+    (λ v b within so_far. turn_replaces p.words v so_far (p.turn v within)) t (omega arith) h
+
+-- so what a commit replaces is one
+pub commit_replaces : (p : Protocol) (t : ℕ) → t < p.last → (m q : Ref) → CommitsNode p.words t m q → p.words.solid q ≡ true
+commit_replaces p t h m q c =
+    let o = (sound_at p t (omega arith)).owned m q c.was in
+    subst (λ s. Replaces p.words s) o.stage (replaces_at p t (omega arith) o.actor)
+
+-- and a tomb is never replaced
+tomb_step : (p : Protocol) (i a : Ref) (t : ℕ) → t < p.last → p.words.solid a ≡ false → main_at p.words t i ≡ a → MainStep p.words t i → main_at p.words (suc t) i ≡ a
+tomb_step p i a t h tomb is (MainStays e) = e ∙ is
+tomb_step p i a t h tomb is (MainChanges c) =
+    let same : c.replaced ≡ a = sym c.before ∙ is in
+    absurd (true≢false (sym (commit_replaces p t h c.fresh c.replaced c.commits) ∙ ap p.words.solid same ∙ tomb))
+
+pub tomb_stays : (p : Protocol) (i a : Ref) (t u : ℕ) → t ≤ u → u ≤ p.last → p.words.link t i ≡ true → p.words.solid a ≡ false → main_at p.words t i ≡ a → main_at p.words u i ≡ a
+tomb_stays p i a t u h within l tomb is =
+    from_time (λ v. main_at p.words v i ≡ a) t p.last is
+    (λ v b inside so_far. tomb_step p i a v inside tomb so_far (main_step p v inside i (link_stays p i t v b (omega arith) l))) u h within

@@ -1,8 +1,10 @@
 -- Laws of main words and prev words, for every list of steps: who decides what, and what a READ gives.
 use Rattle.std.specs.Prelude.{◌≡◌, ℕ, ◌+◌, ◌<◌, ◌≤◌, ◌⊎◌, List, Some, slice_get}
 use Rattle.slot_arena.specs.declared.refs.Ref.{Ref}
+use Rattle.slot_arena.specs.declared.nodes.Node.{Node}
+use Rattle.slot_arena.specs.declared.nodes.Node.TheVariants.{Tomb}
 use Rattle.slot_arena.specs.declared.nodes.Prev.TheVariants as prev
-use Rattle.slot_arena.specs.Heaps.{main_at, prev_at, generation_at, logical_main}
+use Rattle.slot_arena.specs.Heaps.{node_at, main_at, prev_at, generation_at, logical_main}
 use Rattle.machine_model.specs.declared.operations.Operation.{Operation}
 use Rattle.machine_model.specs.declared.reading.After.TheVariants.{Gives}
 use Rattle.machine_model.specs.declared.reading.Read.{Read}
@@ -105,6 +107,18 @@ ReplacedForGood =
     HasIndirection (state_before limits steps n) indirection → HasIndirection (state_before limits steps k) indirection → HasIndirection (state_before limits steps l) indirection →
     ¬ (logical_main (state_before limits steps k).heap indirection ≡ logical_main (state_before limits steps n).heap indirection) →
     ¬ (logical_main (state_before limits steps l).heap indirection ≡ logical_main (state_before limits steps n).heap indirection)
+
+-- a tomb that is the logical main node stays it
+abbrev pub IsTomb : Node → Type 0
+IsTomb (Tomb single) = Unit {0}
+IsTomb node = ⊥
+
+abbrev pub TombsStay : Type 0
+TombsStay =
+    (limits : Limits) (steps : List Step) → AreLimits limits → (n k : ℕ) → n ≤ k → k ≤ steps_taken limits steps → (indirection tomb : Ref) →
+    HasIndirection (state_before limits steps n) indirection → HasIndirection (state_before limits steps k) indirection →
+    logical_main (state_before limits steps n).heap indirection ≡ tomb → IsInUse (state_before limits steps n) tomb → IsTomb (node_at (state_before limits steps n).heap tomb) →
+    logical_main (state_before limits steps k).heap indirection ≡ tomb
 
 -- ---- what a READ gives
 
