@@ -20,9 +20,9 @@ use Rattle.deciding_laws.proofs.Known.{is_link, is_solid, GrownStays, GrownChang
 abbrev pub commit_of : State → Ref → Option ℕ
 commit_of state m = option_map (λ (c : Commit). c.step) (find (λ (c : Commit). c.main == m) state.commits)
 
--- the words of a run
-abbrev pub words_of : (ℕ → State) → ℕ → Words
-words_of states last = record {
+-- the words of a run, where this tells which step closes a generation
+abbrev pub words_of : (ℕ → State) → ℕ → (ℕ → Option ℕ) → Words
+words_of states last closing = record {
   main = λ t i. main_word states t i;
   prev = λ t m. prev_word states t m;
   generation = λ i. generation_of (node_under states last i);
@@ -30,7 +30,7 @@ words_of states last = record {
   link = λ t r. is_link (node_under states t r);
   solid = λ r. is_solid (node_under states last r);
   commit = λ t m. commit_of (states t) m;
-  closing = λ g. closed_at (states last) g;
+  closing = closing;
   stage = λ t k. stage_of_actor (operation_of (states t) k);
   from = λ t k. from_of_actor (operation_of (states t) k);
 }
@@ -91,9 +91,9 @@ slot_kept change (Some slot) = refl
 
 -- ---- what the steps do to words
 
-module _ (states : ℕ → State) (last t : ℕ) where
+module _ (states : ℕ → State) (last : ℕ) (closing : ℕ → Option ℕ) (t : ℕ) where
   abbrev w : Words
-  w = words_of states last
+  w = words_of states last closing
 
   pub leaves_words : GrownStays states t → Kept (w.commit t) (w.commit (suc t)) → Leaves w t
   leaves_words e c = record {

@@ -145,8 +145,8 @@ link_of (Indirection g m) h = refl
 link_of node h = absurd h
 
 -- the logical main node of an indirection in use
-pub logical_standing : (limits : Limits) (states : ℕ → State) (last : ℕ) → Known limits states last → (t : ℕ) → t ≤ last → (i : Ref) (slot : Slot) →
-    standing (states t).heap i ≡ Some slot → is_link (node_under states t i) ≡ true → logical_main (states t).heap i ≡ main_at (words_of states last) t i
+pub logical_standing : (limits : Limits) (states : ℕ → State) (last : ℕ) (known : Known limits states last) (t : ℕ) → t ≤ last → (i : Ref) (slot : Slot) →
+    standing (states t).heap i ≡ Some slot → is_link (node_under states t i) ≡ true → logical_main (states t).heap i ≡ main_at (words_of states last known.closing) t i
 logical_standing limits states last known t h i slot e l =
     let node : node_under states t i ≡ slot.node = ap node_of (grown_standing states t i slot e) in
     let main = known.mains_stand t h i slot e (subst (λ x. is_link x ≡ true) node l) in

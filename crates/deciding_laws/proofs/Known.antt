@@ -134,6 +134,8 @@ pub record HasSolid (state : State) (m : Ref) : Type 0 where
 pub record Known (limits : Limits) (states : ℕ → State) (last : ℕ) : Type 0 where
   -- each list of steps is such a run
   pub run : IsRun limits states last
+  -- the step that closes a generation, as far as the layer of roots tells it
+  pub closing : ℕ → Option ℕ
   -- memory: what each action of an operation finds and does is so in the heap that only grows
   pub acts : (t : ℕ) → t < last → (actor : ℕ) (o : Outcome) → Moves (states t) (step.Go actor) o (states (suc t)) → (operation : Operation) →
       operation_of (states t) actor ≡ Some operation → ActsOn states t (action_of (states t) operation)
@@ -148,4 +150,4 @@ pub record Known (limits : Limits) (states : ℕ → State) (last : ℕ) : Type 
   -- roots: where a READ on a writable handle asks for the root, and finds it with no offer, the root's generation wasn't closed before
   pub open_root : (t : ℕ) → t < last → (actor : ℕ) (operation : Operation) → operation_of (states t) actor ≡ Some operation → (i main previous : Ref) →
       read_of operation.line ≡ Some (record { indirection = i; line = read.AskRoot main previous }) → operation.access ≡ Writable → (r : Ref) →
-      word_at (states t) (handle_of operation.call) ≡ Plain r → (c : ℕ) → closed_at (states last) (generation_at (states t).heap r) ≡ Some c → t ≤ c
+      word_at (states t) (handle_of operation.call) ≡ Plain r → (c : ℕ) → closing (generation_at (states t).heap r) ≡ Some c → t ≤ c

@@ -46,7 +46,7 @@ use Rattle.deciding_laws.proofs.Closings.{commits_early}
 use Rattle.deciding_laws.proofs.Swaps.{checked, tomb_stays}
 use Rattle.deciding_laws.proofs.Stages.{stage_of, stage_of_actor}
 use Rattle.deciding_laws.proofs.Known.{is_link, is_solid, Known}
-use Rattle.deciding_laws.proofs.OtherLayers.{OtherLayers, known}
+use Rattle.deciding_laws.proofs.OtherLayers.{Memory, OtherLayers, known_of_memory, known}
 use Rattle.deciding_laws.proofs.GrownWords.{words_of}
 use Rattle.deciding_laws.proofs.ReadTurns.{generation_stays, solid_stays}
 use Rattle.deciding_laws.proofs.LineReads.{ends_at_end}
@@ -61,8 +61,15 @@ use Rattle.deciding_laws.specs.Deciding.{IsInSwap, Owner, PendingHasOwner, PrevC
 abbrev pub LayersOfRuns : Type 0
 LayersOfRuns = (limits : Limits) (steps : List Step) → AreLimits limits → OtherLayers limits (states_of limits steps) (last_of limits steps)
 
+-- what memory gives of every run
+abbrev pub MemoryOfRuns : Type 0
+MemoryOfRuns = (limits : Limits) (steps : List Step) → AreLimits limits → Memory limits (states_of limits steps) (last_of limits steps)
+
 -- what is known of its words then
-known_of : LayersOfRuns → (limits : Limits) (steps : List Step) → AreLimits limits → Known limits (states_of limits steps) (last_of limits steps)
+abbrev known_from : MemoryOfRuns → (limits : Limits) (steps : List Step) → AreLimits limits → Known limits (states_of limits steps) (last_of limits steps)
+known_from memory limits steps ok = known_of_memory limits (states_of limits steps) (last_of limits steps) (memory limits steps ok)
+
+abbrev known_of : LayersOfRuns → (limits : Limits) (steps : List Step) → AreLimits limits → Known limits (states_of limits steps) (last_of limits steps)
 known_of layers limits steps ok = known limits (states_of limits steps) (last_of limits steps) (layers limits steps ok)
 
 -- the states of a run, told as a list of steps
@@ -95,7 +102,7 @@ module _ (limits : Limits) (ok : AreLimits limits) (steps : List Step) (known : 
   p = protocol limits states last known
 
   abbrev w : Words
-  w = words_of states last
+  w = words_of states last known.closing
 
   prev_in_use : (t : ℕ) (m : Ref) → IsInUse (states t) m → prev_at (states t).heap m ≡ w.prev t m
   prev_in_use t m h = let s = stands_at limits ok steps t m h in prev_standing states t m s.0 s.1
@@ -259,23 +266,27 @@ module _ (limits : Limits) (ok : AreLimits limits) (steps : List Step) (known : 
 
   -- ---- what is final
 
-  for_good_at : (n : ℕ) → n < last → (i m : Ref) (r mu : ℕ) → IsMoment w i m r mu n → (closed : ℕ) → HasIndirection (states n) i →
+  -- the closings are told
+  abbrev Told : Type 0
+  Told = (g : ℕ) → known.closing g ≡ closed_at (states last) g
+
+  for_good_at : Told → (n : ℕ) → n < last → (i m : Ref) (r mu : ℕ) → IsMoment w i m r mu n → (closed : ℕ) → HasIndirection (states n) i →
       closed_at (states last) (generation_at (states n).heap i) ≡ Some closed → closed < r →
       (k : ℕ) → mu < k → k ≤ last → HasIndirection (states k) i → logical_main (states k).heap i ≡ m
-  for_good_at n h i m r mu moment closed has is before k after within still =
+  for_good_at told n h i m r mu moment closed has is before k after within still =
       let generation : generation_at (states n).heap i ≡ generation_of (node_under states last i) =
       ap generation_of (node_in_use n i has.0) ∙ sym (generation_stays limits states last known n i (omega arith) (link_in_use n i has)) in
       main_in_use k within i still
-      ∙ protocol_for_good p i m r mu n closed h moment (ap (closed_at (states last)) (sym generation) ∙ is) before k after within
+      ∙ protocol_for_good p i m r mu n closed h moment (told (generation_of (node_under states last i)) ∙ ap (closed_at (states last)) (sym generation) ∙ is) before k after within
 
   -- ---- after a closing
 
-  closing_at : (n : ℕ) → n ≤ last → (i : Ref) (c : ℕ) → HasIndirection (states n) i → closed_at (states last) (generation_at (states n).heap i) ≡ Some c →
-      closed_at (states last) (generation_of (node_under states last i)) ≡ Some c
-  closing_at n h i c has is =
+  closing_at : Told → (n : ℕ) → n ≤ last → (i : Ref) (c : ℕ) → HasIndirection (states n) i → closed_at (states last) (generation_at (states n).heap i) ≡ Some c →
+      known.closing (generation_of (node_under states last i)) ≡ Some c
+  closing_at told n h i c has is =
       let generation : generation_at (states n).heap i ≡ generation_of (node_under states last i) =
       ap generation_of (node_in_use n i has.0) ∙ sym (generation_stays limits states last known n i h (link_in_use n i has)) in
-      ap (closed_at (states last)) (sym generation) ∙ is
+      told (generation_of (node_under states last i)) ∙ ap (closed_at (states last)) (sym generation) ∙ is
 
   -- a step that changes a logical main node commits
   changes_commit : (n : ℕ) → n < last → (i : Ref) → HasIndirection (states n) i → HasIndirection (states (suc n)) i →
@@ -287,24 +298,24 @@ module _ (limits : Limits) (ok : AreLimits limits) (steps : List Step) (known : 
       (logical_main (states (suc n)).heap i ≡ logical_main (states n).heap i → ⊥) → Changed w n i
   changed_at n h i has still other = changes_commit n h i has still other (main_step p n h i (link_in_use n i has))
 
-  late_stood_at : (c n : ℕ) → c ≤ n → n < last → (i : Ref) → HasIndirection (states n) i → HasIndirection (states (suc n)) i →
+  late_stood_at : Told → (c n : ℕ) → c ≤ n → n < last → (i : Ref) → HasIndirection (states n) i → HasIndirection (states (suc n)) i →
       closed_at (states last) (generation_at (states n).heap i) ≡ Some c → (logical_main (states (suc n)).heap i ≡ logical_main (states n).heap i → ⊥) →
       (k : ℕ) × (k ≤ c) × (HasIndirection (states k) i → main_at (states k).heap i ≡ main_at (states n).heap i)
-  late_stood_at c n late h i has still closing other =
+  late_stood_at told c n late h i has still closing other =
       let x = changed_at n h i has still other in
       let early = commits_early p n h i x.fresh x.replaced x.commits (stands_now (link_in_use n i has) x.stands) in (
         early.at,
-        early.early c (closing_at n (omega arith) i c has closing),
+        early.early c (closing_at told n (omega arith) i c has closing),
         λ there. ap main_of (node_in_use early.at i there.0) ∙ early.is ∙ sym x.stands ∙ sym (ap main_of (node_in_use n i has.0)),
       )
 
-  late_once_at : (c n k : ℕ) → c ≤ n → n < k → k < last → (i : Ref) → HasIndirection (states n) i → HasIndirection (states (suc n)) i →
+  late_once_at : Told → (c n k : ℕ) → c ≤ n → n < k → k < last → (i : Ref) → HasIndirection (states n) i → HasIndirection (states (suc n)) i →
       closed_at (states last) (generation_at (states n).heap i) ≡ Some c → (logical_main (states (suc n)).heap i ≡ logical_main (states n).heap i → ⊥) →
       HasIndirection (states k) i → HasIndirection (states (suc k)) i → (logical_main (states (suc k)).heap i ≡ logical_main (states k).heap i → ⊥) → ⊥
-  late_once_at c n k late before h i has still closing other has_k still_k other_k =
+  late_once_at told c n k late before h i has still closing other has_k still_k other_k =
       let x = changed_at n (omega arith) i has still other in
       let y = changed_at k h i has_k still_k other_k in
-      closed_once p i x.fresh x.replaced y.fresh y.replaced c n k (closing_at n (omega arith) i c has closing) late before h (link_in_use n i has) x.stands x.commits
+      closed_once p i x.fresh x.replaced y.fresh y.replaced c n k (closing_at told n (omega arith) i c has closing) late before h (link_in_use n i has) x.stands x.commits
       (link_in_use k i has_k) y.stands y.commits
 
   checked_at : (t : ℕ) → t ≤ last → (actor : ℕ) (operation : Operation) (i a f q : Ref) → operation_of (states t) actor ≡ Some operation → IsInSwap operation i a f swap.Check →
@@ -314,9 +325,9 @@ module _ (limits : Limits) (ok : AreLimits limits) (steps : List Step) (known : 
 
 -- ---- the laws
 
-pub pending_has_owner : LayersOfRuns → PendingHasOwner
-pending_has_owner layers limits steps ok =
-    subst (λ s. OwnedIn s) (run_ends limits steps) (owned_at limits ok steps (known_of layers limits steps ok) (last_of limits steps) (omega arith))
+pub pending_has_owner : MemoryOfRuns → PendingHasOwner
+pending_has_owner memory limits steps ok =
+    subst (λ s. OwnedIn s) (run_ends limits steps) (owned_at limits ok steps (known_from memory limits steps ok) (last_of limits steps) (omega arith))
 
 -- a step leads from its number to the next one
 abbrev Next : (State → State → Type 0) → (ℕ → State) → ℕ → Type 0
@@ -325,35 +336,35 @@ Next P states n = P (states n) (states (n + 1))
 next_state : (P : State → State → Type 0) (states : ℕ → State) (n : ℕ) → P (states n) (states (suc n)) → Next P states n
 next_state P states n h = subst (λ k. P (states n) (states k)) (sym (add-one n)) h
 
-pub prev_words_change : LayersOfRuns → PrevWordsChange
-prev_words_change layers limits steps ok =
+pub prev_words_change : MemoryOfRuns → PrevWordsChange
+prev_words_change memory limits steps ok =
     subst (λ (s : ℕ → State). (n : ℕ) → n < steps_taken limits steps → (main : Ref) → IsInUse (s n) main → IsInUse (s (n + 1)) main → PrevChange (s n) (s (n + 1)) main)
     (same_states limits steps)
-    (λ n h main. next_state (λ a b. IsInUse a main → IsInUse b main → PrevChange a b main) (states_of limits steps) n (prev_changes limits ok steps (known_of layers limits steps ok) n h main))
+    (λ n h main. next_state (λ a b. IsInUse a main → IsInUse b main → PrevChange a b main) (states_of limits steps) n (prev_changes limits ok steps (known_from memory limits steps ok) n h main))
 
-pub decided_for_good : LayersOfRuns → DecidedForGood
-decided_for_good layers limits steps ok =
+pub decided_for_good : MemoryOfRuns → DecidedForGood
+decided_for_good memory limits steps ok =
     subst (λ (s : ℕ → State). (n k l : ℕ) → n ≤ k → k ≤ l → l ≤ steps_taken limits steps → (main replaced : Ref) → IsInUse (s n) main → IsInUse (s k) main → IsInUse (s l) main →
     prev_at (s n).heap main ≡ over.Pending replaced → (prev_at (s k).heap main ≡ over.Pending replaced → ⊥) → prev_at (s l).heap main ≡ prev_at (s k).heap main)
-    (same_states limits steps) (decided_for_good_at limits ok steps (known_of layers limits steps ok))
+    (same_states limits steps) (decided_for_good_at limits ok steps (known_from memory limits steps ok))
 
-pub mains_change_by_commits : LayersOfRuns → MainsChangeByCommits
-mains_change_by_commits layers limits steps ok =
+pub mains_change_by_commits : MemoryOfRuns → MainsChangeByCommits
+mains_change_by_commits memory limits steps ok =
     subst (λ (s : ℕ → State). (n : ℕ) → n < steps_taken limits steps → (i : Ref) → HasIndirection (s n) i → HasIndirection (s (n + 1)) i →
     (logical_main (s (n + 1)).heap i ≡ logical_main (s n).heap i) ⊎ CommitsMain (s n) (s (n + 1)) i)
     (same_states limits steps)
     (λ n h i. next_state (λ a b. HasIndirection a i → HasIndirection b i → (logical_main b.heap i ≡ logical_main a.heap i) ⊎ CommitsMain a b i) (states_of limits steps) n
-    (main_changes limits ok steps (known_of layers limits steps ok) n h i))
+    (main_changes limits ok steps (known_from memory limits steps ok) n h i))
 
-pub law_replaced_for_good : LayersOfRuns → ReplacedForGood
-law_replaced_for_good layers limits steps ok =
+pub law_replaced_for_good : MemoryOfRuns → ReplacedForGood
+law_replaced_for_good memory limits steps ok =
     subst (λ (s : ℕ → State). (n k l : ℕ) → n ≤ k → k ≤ l → l ≤ steps_taken limits steps → (i : Ref) → HasIndirection (s n) i → HasIndirection (s k) i → HasIndirection (s l) i →
     (logical_main (s k).heap i ≡ logical_main (s n).heap i → ⊥) → logical_main (s l).heap i ≡ logical_main (s n).heap i → ⊥)
-    (same_states limits steps) (replaced_at limits ok steps (known_of layers limits steps ok))
+    (same_states limits steps) (replaced_at limits ok steps (known_from memory limits steps ok))
 
-pub moment_is_first : LayersOfRuns → MomentIsFirst
-moment_is_first layers limits steps ok n h i m g =
-    let k = known_of layers limits steps ok in
+pub moment_is_first : MemoryOfRuns → MomentIsFirst
+moment_is_first memory limits steps ok n h i m g =
+    let k = known_from memory limits steps ok in
     subst (λ (s : ℕ → State). MomentOver limits ok steps k s n i m (read_at_after (state_before limits steps n) g.operation) (moment_after (state_before limits steps n) g.operation))
     (same_states limits steps) (moment_over limits ok steps k n h i m _ _ (given_moment limits ok steps k n h i m g))
 
@@ -365,7 +376,7 @@ law_given_for_good layers limits steps ok n h i m g closed is before has k after
     ap (λ (s : State). closed_at s (generation_at (states_of limits steps n).heap i)) (run_ends limits steps)
     ∙ ap (λ (s : State). closed_at (run limits steps) (generation_at s.heap i)) (e n) ∙ is in
     ap (λ (s : State). logical_main s.heap i) (sym (e k))
-    ∙ for_good_at limits ok steps kn n h i m _ _ (given_moment limits ok steps kn n h i m g) closed (subst (λ (s : State). HasIndirection s i) (sym (e n)) has) was before k after within
+    ∙ for_good_at limits ok steps kn (λ g. refl) n h i m _ _ (given_moment limits ok steps kn n h i m g) closed (subst (λ (s : State). HasIndirection s i) (sym (e n)) has) was before k after within
     (subst (λ (s : State). HasIndirection s i) (sym (e k)) still)
 
 -- the same of the states of the run as a list
@@ -387,15 +398,16 @@ pub late_stood_before : LayersOfRuns → LateStoodBefore
 late_stood_before layers limits steps ok closed n i x =
     let s = late_states limits steps closed n i x in
     subst (λ (states : ℕ → State). (k : ℕ) × (k ≤ closed) × (HasIndirection (states k) i → main_at (states k).heap i ≡ main_at (states n).heap i)) (same_states limits steps)
-    (late_stood_at limits ok steps (known_of layers limits steps ok) closed n x.late x.taken i s.0 s.1 s.2 s.3)
+    (late_stood_at limits ok steps (known_of layers limits steps ok) (λ g. refl) closed n x.late x.taken i s.0 s.1 s.2 s.3)
 
 -- by which is first
-once_by : (limits : Limits) (steps : List Step) → AreLimits limits → Known limits (states_of limits steps) (last_of limits steps) → (closed n k : ℕ) (i : Ref) →
+once_by : (limits : Limits) (steps : List Step) (ok : AreLimits limits) (kn : Known limits (states_of limits steps) (last_of limits steps)) → Told limits ok steps kn →
+    (closed n k : ℕ) (i : Ref) →
     ChangesLate limits steps closed n i → ChangesLate limits steps closed k i → n < k → ⊥
-once_by limits steps ok kn closed n k i x y before =
+once_by limits steps ok kn told closed n k i x y before =
     let s = late_states limits steps closed n i x in
     let r = late_states limits steps closed k i y in
-    late_once_at limits ok steps kn closed n k x.late before y.taken i s.0 s.1 s.2 s.3 r.0 r.1 r.3
+    late_once_at limits ok steps kn told closed n k x.late before y.taken i s.0 s.1 s.2 s.3 r.0 r.1 r.3
 
 in_order : (n k : ℕ) → (n < k → ⊥) → (k < n → ⊥) → n ≡ k
 in_order n k a b = omega arith
@@ -403,16 +415,16 @@ in_order n k a b = omega arith
 pub late_once : LayersOfRuns → LateOnce
 late_once layers limits steps ok closed n k i x y =
     let kn = known_of layers limits steps ok in
-    in_order n k (once_by limits steps ok kn closed n k i x y) (once_by limits steps ok kn closed k n i y x)
+    in_order n k (once_by limits steps ok kn (λ g. refl) closed n k i x y) (once_by limits steps ok kn (λ g. refl) closed k n i y x)
 
-pub checked_is_decided : LayersOfRuns → CheckedIsDecided
-checked_is_decided layers limits steps ok =
+pub checked_is_decided : MemoryOfRuns → CheckedIsDecided
+checked_is_decided memory limits steps ok =
     subst (λ (s : State). (actor : ℕ) (operation : Operation) (i a f q : Ref) → operation_of s actor ≡ Some operation → IsInSwap operation i a f swap.Check → IsInUse s f →
     prev_at s.heap f ≡ over.Pending q → ⊥) (run_ends limits steps)
-    (checked_at limits ok steps (known_of layers limits steps ok) (last_of limits steps) (omega arith))
+    (checked_at limits ok steps (known_from memory limits steps ok) (last_of limits steps) (omega arith))
 
-pub tombs_stay : LayersOfRuns → TombsStay
-tombs_stay layers limits steps ok =
+pub tombs_stay : MemoryOfRuns → TombsStay
+tombs_stay memory limits steps ok =
     subst (λ (s : ℕ → State). (n k : ℕ) → n ≤ k → k ≤ steps_taken limits steps → (i a : Ref) → HasIndirection (s n) i → HasIndirection (s k) i → logical_main (s n).heap i ≡ a →
     IsInUse (s n) a → IsTomb (node_at (s n).heap a) → logical_main (s k).heap i ≡ a)
-    (same_states limits steps) (tomb_at limits ok steps (known_of layers limits steps ok))
+    (same_states limits steps) (tomb_at limits ok steps (known_from memory limits steps ok))

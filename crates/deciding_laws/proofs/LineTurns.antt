@@ -87,7 +87,7 @@ use Rattle.deciding_laws.proofs.LineRests.{AtRest, AfterMade}
 
 module _ (limits : Limits) (states : ℕ → State) (last : ℕ) (known : Known limits states last) (t : ℕ) (h : t < last) (k : ℕ) (operation : Operation) where
   abbrev w : Words
-  w = words_of states last
+  w = words_of states last known.closing
 
   abbrev heap : Heap
   heap = (states t).heap
@@ -104,7 +104,7 @@ module _ (limits : Limits) (states : ℕ → State) (last : ℕ) (known : Known 
 
   -- the root's generation that is told wasn't closed before
   abbrev ToldOpen : Type 0
-  ToldOpen = (r : Ref) → word ≡ Plain r → (c : ℕ) → closed_at (states last) (generation_at heap r) ≡ Some c → t ≤ c
+  ToldOpen = (r : Ref) → word ≡ Plain r → (c : ℕ) → known.closing (generation_at heap r) ≡ Some c → t ≤ c
 
   -- what is known of a step from this line
   pub record LineStep (l : Line) : Type 0 where
@@ -143,15 +143,15 @@ module _ (limits : Limits) (states : ℕ → State) (last : ℕ) (known : Known 
   -- ---- kinds of turns
 
   rest_turn : (s : Stage) (l : Line) → IsFree s → GrownStays states t → (states (suc t)).commits ≡ (states t).commits → AtRest G W l → NextLine s l
-  rest_turn s l free e c r = Idles (leaves_words states last t e (no_commit limits states last known t h c)) free r.0
+  rest_turn s l free e c r = Idles (leaves_words states last known.closing t e (no_commit limits states last known t h c)) free r.0
 
   make_turn : (s : Stage) → IsFree s → (node : Node) (after : Option Ref → Line) → (states (suc t)).commits ≡ (states t).commits → AtRest G W (after None) →
       ((n : Ref) → HasMade GS n (stage_of (after (Some n)))) → (is_link node ≡ true → MayName w t k s (main_of node)) → (made : Option Ref) → Taken states t node made →
       NextLine s (after made)
   make_turn s free node after c none some name None e = rest_turn s (after None) free e c none
   make_turn s free node after c none some name (Some n) e =
-      let is : node_under states (suc t) n ≡ node = takes_node states last t n node e in
-      MakesNode n (makes_words states last t n node e (no_commit limits states last known t h c)) free
+      let is : node_under states (suc t) n ≡ node = takes_node states last known.closing t n node e in
+      MakesNode n (makes_words states last known.closing t n node e (no_commit limits states last known t h c)) free
       (λ l. subst (λ x. MayName w t k s (main_of x)) (sym is) (name (subst (λ x. is_link x ≡ true) is l))) (some n)
 
   -- no indirection is made
@@ -253,7 +253,7 @@ module _ (limits : Limits) (states : ℕ → State) (last : ℕ) (known : Known 
       Either b (GrownSwaps states t x.indirection x.replaced x.fresh) (GrownStays states t) →
       NextLine (Publishes x.indirection x.replaced x.fresh) (after_swap (states t) operation why x (on_line x (after_publish x.fresh b)))
   swap_publish why x finds found c g true is e =
-      SwapsNode finds.link (swaps_words states last t x.indirection x.replaced x.fresh finds.link found.made (sym finds.main ∙ eqb-true _ x.replaced is) e
+      SwapsNode finds.link (swaps_words states last known.closing t x.indirection x.replaced x.fresh finds.link found.made (sym finds.main ∙ eqb-true _ x.replaced is) e
       (no_commit limits states last known t h c))
   swap_publish why x finds found c g false is e =
       rest_turn (Publishes x.indirection x.replaced x.fresh) _ tt e c (LineRests.swapped_rest G W operation (node_at heap x.fresh) why false)

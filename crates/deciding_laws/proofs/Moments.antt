@@ -89,7 +89,7 @@ module _ (limits : Limits) (states : ℕ → State) (last : ℕ) (known : Known 
     (moves : Machine.Moves (states t) (step.Go actor) o (states (suc t))) (is : operation_of (states t) actor ≡ Some operation)
     (e : states (suc t) ≡ settled (states t) (gone (states t) actor operation)) (i : Ref) (x : ReadLine) (stage : stage_of operation.line ≡ Reads i x) where
   abbrev w : Words
-  w = words_of states last
+  w = words_of states last known.closing
 
   abbrev out : After ReadLine Ref
   out = read_after (states t).heap operation.access (word_at (states t) (handle_of operation.call)) i x

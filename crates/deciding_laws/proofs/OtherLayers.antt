@@ -69,24 +69,33 @@ pub record Draws (states : ℕ → State) (t : ℕ) (node : Node) (n : Ref) : Ty
   pub here : standing (taken (states t).heap node) n ≡ Some (record { birth = birth; node = node; prev = over.None })
   pub elsewhere : (q : Ref) → (q ≡ n → ⊥) → standing (taken (states t).heap node) q ≡ standing (states t).heap q
 
--- ---- the whole: what other layers give of a run
+-- ---- what other layers give of a run
 
-pub record OtherLayers (limits : Limits) (states : ℕ → State) (last : ℕ) : Type 0 where
+-- memory
+pub record Memory (limits : Limits) (states : ℕ → State) (last : ℕ) : Type 0 where
   pub run : IsRun limits states last
-  -- memory: what the action of a running operation reads or writes stands under its reference, and is what it is taken for
+  -- what the action of a running operation reads or writes stands under its reference, and is what it is taken for
   pub finds : (t : ℕ) → t < last → (actor : ℕ) (operation : Operation) → operation_of (states t) actor ≡ Some operation → Finds (states t) (action_of (states t) operation)
-  -- memory: references are drawn once
+  -- references are drawn once
   pub draws : (t : ℕ) → t < last → (node : Node) (n : Ref) → next_ref (states t).heap ≡ Some n → Draws states t node n
-  -- memory: what is to be replaced is a branch or a list
+  -- what is to be replaced is a branch or a list
   pub built_from : (t : ℕ) → t < last → (actor : ℕ) (operation : Operation) → operation_of (states t) actor ≡ Some operation → (main : Ref) →
       BuildsFrom operation.line main → HasSolid (states t) main
-  -- memory: the main word of an indirection in use names what is in use
+  -- the main word of an indirection in use names what is in use
   pub mains_stand : (t : ℕ) → t ≤ last → (i : Ref) (slot : Slot) → standing (states t).heap i ≡ Some slot → is_link slot.node ≡ true →
       (main : Slot) × (standing (states t).heap (main_of slot.node) ≡ Some main)
-  -- roots: where a READ on a writable handle asks for the root, and finds it with no offer, the root's generation wasn't closed before
-  pub open_root : (t : ℕ) → t < last → (actor : ℕ) (operation : Operation) → operation_of (states t) actor ≡ Some operation → (i main previous : Ref) →
-      read_of operation.line ≡ Some (record { indirection = i; line = read.AskRoot main previous }) → operation.access ≡ Writable → (r : Ref) →
-      word_at (states t) (handle_of operation.call) ≡ Plain r → (c : ℕ) → closed_at (states last) (generation_at (states t).heap r) ≡ Some c → t ≤ c
+
+-- roots: where a READ on a writable handle asks for the root, and finds it with no offer, the root's generation wasn't closed before
+abbrev pub RootsAreOpen : (ℕ → State) → ℕ → (ℕ → Option ℕ) → Type 0
+RootsAreOpen states last closing =
+    (t : ℕ) → t < last → (actor : ℕ) (operation : Operation) → operation_of (states t) actor ≡ Some operation → (i main previous : Ref) →
+    read_of operation.line ≡ Some (record { indirection = i; line = read.AskRoot main previous }) → operation.access ≡ Writable → (r : Ref) →
+    word_at (states t) (handle_of operation.call) ≡ Plain r → (c : ℕ) → closing (generation_at (states t).heap r) ≡ Some c → t ≤ c
+
+-- all of it
+pub record OtherLayers (limits : Limits) (states : ℕ → State) (last : ℕ) : Type 0 where
+  pub memory : Memory limits states last
+  pub roots : RootsAreOpen states last (λ g. closed_at (states last) g)
 
 -- ---- what a step leaves
 
@@ -276,14 +285,32 @@ heap_after before actor o after (Ends {operation = x} {answer} d is a) operation
     (record { state = before; heap = refl; generations = refl; is = ap (λ y. (acted before (handle_of x.call) y).heap) (sym a) })
 
 -- then the words are known
-pub known : (limits : Limits) (states : ℕ → State) (last : ℕ) → OtherLayers limits states last → Known limits states last
-known limits states last layers = record {
-  run = layers.run;
-  acts = λ t h actor o m operation runs.
+module _ (limits : Limits) (states : ℕ → State) (last : ℕ) (memory : Memory limits states last) where
+  pub memory_acts : (t : ℕ) → t < last → (actor : ℕ) (o : Outcome) → Moves (states t) (step.Go actor) o (states (suc t)) → (operation : Operation) →
+      operation_of (states t) actor ≡ Some operation → ActsOn states t (action_of (states t) operation)
+  memory_acts t h actor o m operation runs =
       let after = heap_after (states t) actor o (states (suc t)) m operation runs in
-      acts_by states t (layers.draws t h) after.state after.heap after.generations (handle_of operation.call) (action_of (states t) operation) (layers.finds t h actor operation runs) after.is;
-  stays = λ t h s o m n. stays_fewer states t (fewer (states t) s o (states (suc t)) m n);
-  built_from = layers.built_from;
-  mains_stand = layers.mains_stand;
-  open_root = layers.open_root;
-}
+      acts_by states t (memory.draws t h) after.state after.heap after.generations (handle_of operation.call) (action_of (states t) operation) (memory.finds t h actor operation runs) after.is
+
+  pub memory_stays : (t : ℕ) → t < last → (s : Step) (o : Outcome) → Moves (states t) s o (states (suc t)) → IsNoGo s → GrownStays states t
+  memory_stays t h s o m n = stays_fewer states t (fewer (states t) s o (states (suc t)) m n)
+
+  -- as far as closings are told
+  abbrev pub known_by : (closing : ℕ → Option ℕ) → RootsAreOpen states last closing → Known limits states last
+  known_by closing roots = record {
+    run = memory.run;
+    closing = closing;
+    acts = memory_acts;
+    stays = memory_stays;
+    built_from = memory.built_from;
+    mains_stand = memory.mains_stand;
+    open_root = roots;
+  }
+
+-- from memory alone nothing is told of closings
+abbrev pub known_of_memory : (limits : Limits) (states : ℕ → State) (last : ℕ) → Memory limits states last → Known limits states last
+known_of_memory limits states last memory =
+    known_by limits states last memory (λ g. None) (λ t h actor operation runs i main previous asks writable r plain c closed. absurd (none-some c closed))
+
+abbrev pub known : (limits : Limits) (states : ℕ → State) (last : ℕ) → OtherLayers limits states last → Known limits states last
+known limits states last layers = known_by limits states last layers.memory (λ g. closed_at (states last) g) layers.roots

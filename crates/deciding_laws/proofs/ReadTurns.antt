@@ -197,7 +197,7 @@ not_pending_so v p e is = true≢false (sym (ap (λ x. is_pending x p) is ∙ eq
 
 module _ (limits : Limits) (states : ℕ → State) (last : ℕ) (known : Known limits states last) (t : ℕ) (h : t < last) where
   abbrev w : Words
-  w = words_of states last
+  w = words_of states last known.closing
 
   -- where nothing is committed
   pub no_commit : (states (suc t)).commits ≡ (states t).commits → Kept (w.commit t) (w.commit (suc t))
@@ -210,7 +210,7 @@ module _ (limits : Limits) (states : ℕ → State) (last : ℕ) (known : Known 
   prev_turn i m ReadOnly (over.Pending p) e s = DecidesAtOnce s e
 
   ask_turn : (i m p : Ref) (word : RootWord) → Leaves w t →
-      ((r : Ref) → word ≡ Plain r → (c : ℕ) → closed_at (states last) (generation_at (states t).heap r) ≡ Some c → t ≤ c) →
+      ((r : Ref) → word ≡ Plain r → (c : ℕ) → known.closing (generation_at (states t).heap r) ≡ Some c → t ≤ c) →
       ReadTurn w t i (read.AskRoot m p) (after_ask (states t).heap m p word)
   ask_turn i m p (Plain r) s open_root = Asks (generation_at (states t).heap r) s (λ c e. open_root r refl c e)
   ask_turn i m p (Offer offer) s open_root = FindsOffer offer s
@@ -222,32 +222,32 @@ module _ (limits : Limits) (states : ℕ → State) (last : ℕ) (known : Known 
   decide_turn i m p told finds found g true true l e d c =
       let steps = steps_at limits states last known.run t (omega arith) in
       CommitsTurn (licensed_so told _ l ∙ ap (λ (y : ℕ). Some y) (g ∙ sym (generation_stays limits states last known t i (omega arith) finds.link)))
-      (commits_words states last t m p found.made (sym found.prev ∙ pending_so (prev_at (states t).heap m) p e) d
+      (commits_words states last known.closing t m p found.made (sym found.prev ∙ pending_so (prev_at (states t).heap m) p e) d
       (λ none. commit_here (states t) (states (suc t)) m c none ∙ ap (λ (y : ℕ). Some y) steps) (λ q apart. commit_elsewhere (states t) (states (suc t)) m q c apart))
   decide_turn i m p told finds found g false true l e d c =
-      FailsTurn (fails_words states last t m p found.made (sym found.prev ∙ pending_so (prev_at (states t).heap m) p e) d (no_commit c))
+      FailsTurn (fails_words states last known.closing t m p found.made (sym found.prev ∙ pending_so (prev_at (states t).heap m) p e) d (no_commit c))
   decide_turn i m p told finds found g true false l e d c =
-      OvertakenTurn (read.Prev m) (leaves_words states last t d (no_commit c)) (λ is. not_pending_so (prev_at (states t).heap m) p e (found.prev ∙ is)) (inl refl)
+      OvertakenTurn (read.Prev m) (leaves_words states last known.closing t d (no_commit c)) (λ is. not_pending_so (prev_at (states t).heap m) p e (found.prev ∙ is)) (inl refl)
   decide_turn i m p told finds found g false false l e d c =
-      OvertakenTurn read.Main (leaves_words states last t d (no_commit c)) (λ is. not_pending_so (prev_at (states t).heap m) p e (found.prev ∙ is)) (inr refl)
+      OvertakenTurn read.Main (leaves_words states last known.closing t d (no_commit c)) (λ is. not_pending_so (prev_at (states t).heap m) p e (found.prev ∙ is)) (inr refl)
 
   restore_turn : (i m p : Ref) → FindsMain states t i → (b : Bool) → (main_at (states t).heap i == m) ≡ b →
       Either b (GrownChanges states t (main_changed p) i) (GrownStays states t) → (states (suc t)).commits ≡ (states t).commits →
       ReadTurn w t i (read.Restore m p) (after_restore p b)
-  restore_turn i m p finds true e d c = Restores (puts_back_words states last t i m p finds.link (sym finds.main ∙ eqb-true _ m e) d (no_commit c))
-  restore_turn i m p finds false e d c = FindsAnother (leaves_words states last t d (no_commit c))
+  restore_turn i m p finds true e d c = Restores (puts_back_words states last known.closing t i m p finds.link (sym finds.main ∙ eqb-true _ m e) d (no_commit c))
+  restore_turn i m p finds false e d c = FindsAnother (leaves_words states last known.closing t d (no_commit c))
 
   -- a step of a READ; who asks for the root is told a generation that wasn't closed before
   pub read_turn : (i : Ref) (l : ReadLine) (access : Access) (word : RootWord) → ActsOn states t (read_action i l) →
       (states (suc t)).commits ≡ commits_after (states t) (committed_by (states t).heap i l) →
-      ((m p : Ref) → l ≡ read.AskRoot m p → (r : Ref) → word ≡ Plain r → (c : ℕ) → closed_at (states last) (generation_at (states t).heap r) ≡ Some c → t ≤ c) →
+      ((m p : Ref) → l ≡ read.AskRoot m p → (r : Ref) → word ≡ Plain r → (c : ℕ) → known.closing (generation_at (states t).heap r) ≡ Some c → t ≤ c) →
       ReadTurn w t i l (read_after (states t).heap access word i l)
   read_turn i read.Main access word a c open_root =
-      subst (λ x. ReadTurn w t i read.Main (Goes (read.Prev x))) (sym a.0.main) (ReadsMain (leaves_words states last t a.1 (no_commit c)) a.0.link)
+      subst (λ x. ReadTurn w t i read.Main (Goes (read.Prev x))) (sym a.0.main) (ReadsMain (leaves_words states last known.closing t a.1 (no_commit c)) a.0.link)
   read_turn i (read.Prev m) access word a c open_root =
       subst (λ v. ReadTurn w t i (read.Prev m) (after_prev access m v)) (sym a.0.prev)
-      (prev_turn i m access (prev_word states t m) refl (leaves_words states last t a.1 (no_commit c)))
-  read_turn i (read.AskRoot m p) access word a c open_root = ask_turn i m p word (leaves_words states last t a (no_commit c)) (open_root m p refl)
-  read_turn i (read.Abort m p offer) access word a c open_root = Aborts (leaves_words states last t a (no_commit c))
+      (prev_turn i m access (prev_word states t m) refl (leaves_words states last known.closing t a.1 (no_commit c)))
+  read_turn i (read.AskRoot m p) access word a c open_root = ask_turn i m p word (leaves_words states last known.closing t a (no_commit c)) (open_root m p refl)
+  read_turn i (read.Abort m p offer) access word a c open_root = Aborts (leaves_words states last known.closing t a (no_commit c))
   read_turn i (read.Decide m p told) access word a c open_root = decide_turn i m p told a.0 a.1 a.2 _ _ refl refl a.3 c
   read_turn i (read.Restore m p) access word a c open_root = restore_turn i m p a.0 _ refl a.1 c

@@ -37,37 +37,37 @@ use Rattle.deciding_laws.proofs.FirstWords.{prev_at_first, made_at_first, idle_a
 
 -- ---- what an actor remembers
 
-abbrev pub ActorRemembers : (ℕ → State) → ℕ → ℕ → ℕ → Option Operation → Type 0
-ActorRemembers states last t k None = Unit {0}
-ActorRemembers states last t k (Some operation) = Remembers (λ i m. Given (words_of states last) t k i m) (operation.access ≡ Writable) operation.line
+abbrev pub ActorRemembers : (ℕ → State) → ℕ → (ℕ → Option ℕ) → ℕ → ℕ → Option Operation → Type 0
+ActorRemembers states last closing t k None = Unit {0}
+ActorRemembers states last closing t k (Some operation) = Remembers (λ i m. Given (words_of states last closing) t k i m) (operation.access ≡ Writable) operation.line
 
-marked_remembers : (states : ℕ → State) (last t k id : ℕ) (x : Option Operation) → ActorRemembers states last t k x → ActorRemembers states last t k (marked id x)
-marked_remembers states last t k id None r = r
-marked_remembers states last t k id (Some operation) r = by_mark (operation.id == id)
+marked_remembers : (states : ℕ → State) (last : ℕ) (closing : ℕ → Option ℕ) (t k id : ℕ) (x : Option Operation) → ActorRemembers states last closing t k x → ActorRemembers states last closing t k (marked id x)
+marked_remembers states last closing t k id None r = r
+marked_remembers states last closing t k id (Some operation) r = by_mark (operation.id == id)
   where
-    by_mark : (b : Bool) → ActorRemembers states last t k (Some (cond b (record operation { is_marked = true }) operation))
+    by_mark : (b : Bool) → ActorRemembers states last closing t k (Some (cond b (record operation { is_marked = true }) operation))
     by_mark true = r
     by_mark false = r
 
-mark_remembers : (states : ℕ → State) (last t k : ℕ) (m : Option ℕ) (x : Option Operation) → ActorRemembers states last t k x → ActorRemembers states last t k (after_mark m x)
-mark_remembers states last t k None x r = r
-mark_remembers states last t k (Some id) x r = marked_remembers states last t k id x r
+mark_remembers : (states : ℕ → State) (last : ℕ) (closing : ℕ → Option ℕ) (t k : ℕ) (m : Option ℕ) (x : Option Operation) → ActorRemembers states last closing t k x → ActorRemembers states last closing t k (after_mark m x)
+mark_remembers states last closing t k None x r = r
+mark_remembers states last closing t k (Some id) x r = marked_remembers states last closing t k id x r
 
-remembers_later : (states : ℕ → State) (last t k : ℕ) (x : Option Operation) → ActorRemembers states last t k x → ActorRemembers states last (suc t) k x
-remembers_later states last t k None r = r
-remembers_later states last t k (Some operation) r =
-    remembers_still (λ i m. Given (words_of states last) t k i m) (λ i m. Given (words_of states last) (suc t) k i m) (operation.access ≡ Writable) (λ i m g. given_later g) operation.line r
+remembers_later : (states : ℕ → State) (last : ℕ) (closing : ℕ → Option ℕ) (t k : ℕ) (x : Option Operation) → ActorRemembers states last closing t k x → ActorRemembers states last closing (suc t) k x
+remembers_later states last closing t k None r = r
+remembers_later states last closing t k (Some operation) r =
+    remembers_still (λ i m. Given (words_of states last closing) t k i m) (λ i m. Given (words_of states last closing) (suc t) k i m) (operation.access ≡ Writable) (λ i m g. given_later g) operation.line r
 
 -- ---- each step is a turn
 
-pub record TurnAt (states : ℕ → State) (last t : ℕ) : Type 0 where
-  pub turn : Turn (words_of states last) t
-  pub remembers : (k : ℕ) → ActorRemembers states last (suc t) k (operation_of (states (suc t)) k)
+pub record TurnAt (states : ℕ → State) (last : ℕ) (closing : ℕ → Option ℕ) (t : ℕ) : Type 0 where
+  pub turn : Turn (words_of states last closing) t
+  pub remembers : (k : ℕ) → ActorRemembers states last closing (suc t) k (operation_of (states (suc t)) k)
 
 module _ (limits : Limits) (states : ℕ → State) (last : ℕ) (known : Known limits states last) (t : ℕ) (h : t < last)
-    (so_far : (k : ℕ) → ActorRemembers states last t k (operation_of (states t) k)) where
+    (so_far : (k : ℕ) → ActorRemembers states last known.closing t k (operation_of (states t) k)) where
   abbrev w : Words
-  w = words_of states last
+  w = words_of states last known.closing
 
   -- an actor that runs the same but for a mark
   same_actor : (m : Option ℕ) (j : ℕ) → operation_of (states (suc t)) j ≡ after_mark m (operation_of (states t) j) → IsSame w t j
@@ -77,22 +77,22 @@ module _ (limits : Limits) (states : ℕ → State) (last : ℕ) (known : Known 
   }
 
   remembers_same : (m : Option ℕ) (j : ℕ) → operation_of (states (suc t)) j ≡ after_mark m (operation_of (states t) j) →
-      ActorRemembers states last (suc t) j (operation_of (states (suc t)) j)
+      ActorRemembers states last known.closing (suc t) j (operation_of (states (suc t)) j)
   remembers_same m j e =
-      subst (λ x. ActorRemembers states last (suc t) j x) (sym e)
-      (remembers_later states last t j _ (mark_remembers states last t j m (operation_of (states t) j) (so_far j)))
+      subst (λ x. ActorRemembers states last known.closing (suc t) j x) (sym e)
+      (remembers_later states last known.closing t j _ (mark_remembers states last known.closing t j m (operation_of (states t) j) (so_far j)))
 
   -- what all actors remember, by what the acting one does
   remembers_by : (m : Option ℕ) (actor : ℕ) → ((j : ℕ) → (j ≡ actor → ⊥) → operation_of (states (suc t)) j ≡ after_mark m (operation_of (states t) j)) →
-      ActorRemembers states last (suc t) actor (operation_of (states (suc t)) actor) → (j : ℕ) → (j ≡ actor) ⊎ (j ≡ actor → ⊥) →
-      ActorRemembers states last (suc t) j (operation_of (states (suc t)) j)
-  remembers_by m actor others own j (inl is) = subst (λ q. ActorRemembers states last (suc t) q (operation_of (states (suc t)) q)) (sym is) own
+      ActorRemembers states last known.closing (suc t) actor (operation_of (states (suc t)) actor) → (j : ℕ) → (j ≡ actor) ⊎ (j ≡ actor → ⊥) →
+      ActorRemembers states last known.closing (suc t) j (operation_of (states (suc t)) j)
+  remembers_by m actor others own j (inl is) = subst (λ q. ActorRemembers states last known.closing (suc t) q (operation_of (states (suc t)) q)) (sym is) own
   remembers_by m actor others own j (inr apart) = remembers_same m j (others j apart)
 
   -- a step of an operation that goes on
   go_turn : (actor : ℕ) (operation : Operation) → operation_of (states t) actor ≡ Some operation → states (suc t) ≡ settled (states t) (gone (states t) actor operation) →
       NextLine limits states last known t h actor operation (stage_of operation.line) (line_after (states t) operation operation.line) →
-      Remembers (λ i m. Given w (suc t) actor i m) (operation.access ≡ Writable) (line_after (states t) operation operation.line) → TurnAt states last t
+      Remembers (λ i m. Given w (suc t) actor i m) (operation.access ≡ Writable) (line_after (states t) operation operation.line) → TurnAt states last known.closing t
   go_turn actor operation is e next remembers =
       let m : Option ℕ = marks_by (states t) (Some operation) in
       let own : operation_of (states (suc t)) actor ≡ after_mark m (Some (operation_after (states t) operation)) =
@@ -111,8 +111,8 @@ module _ (limits : Limits) (states : ℕ → State) (last : ℕ) (known : Known 
             (subst (λ n. CountsTo (stage_of operation.line) t operation.read_at n) (sym from_after) (line_counts (states t) operation operation.line t operation.read_at)))
             (λ j apart. same_actor m j (others j apart));
         remembers = λ j. remembers_by m actor others
-            (subst (λ x. ActorRemembers states last (suc t) actor x) (sym own)
-            (mark_remembers states last (suc t) actor m (Some (operation_after (states t) operation)) remembers)) j (cases_eq j actor);
+            (subst (λ x. ActorRemembers states last known.closing (suc t) actor x) (sym own)
+            (mark_remembers states last known.closing (suc t) actor m (Some (operation_after (states t) operation)) remembers)) j (cases_eq j actor);
       }
     where
       counts_so : (k : ℕ) (s s' : Stage) → s ≡ s' → (r : ℕ) → w.from t k ≡ r → CountsTo s' t r (w.from (suc t) k) → Counts w t k s
@@ -124,8 +124,8 @@ module _ (limits : Limits) (states : ℕ → State) (last : ℕ) (known : Known 
           by_stage x c = tt
 
   -- a step that ends an operation, or begins one
-  idle_turn : (actor : ℕ) → Leaves w t → w.stage t actor ≡ Rests → w.stage (suc t) actor ≡ Rests → ActorRemembers states last (suc t) actor (operation_of (states (suc t)) actor) →
-      ((j : ℕ) → (j ≡ actor → ⊥) → operation_of (states (suc t)) j ≡ operation_of (states t) j) → TurnAt states last t
+  idle_turn : (actor : ℕ) → Leaves w t → w.stage t actor ≡ Rests → w.stage (suc t) actor ≡ Rests → ActorRemembers states last known.closing (suc t) actor (operation_of (states (suc t)) actor) →
+      ((j : ℕ) → (j ≡ actor → ⊥) → operation_of (states (suc t)) j ≡ operation_of (states t) j) → TurnAt states last known.closing t
   idle_turn actor leaves before after own others = record {
     turn = Acts actor (subst (λ s. Moves w t actor s (w.stage (suc t) actor)) (sym before) (subst (λ s. Moves w t actor Rests s) (sym after) (Idles leaves tt tt)))
         (subst (λ s. Counts w t actor s) (sym before) tt) (λ j apart. same_actor None j (others j apart));
@@ -142,9 +142,9 @@ module _ (limits : Limits) (states : ℕ → State) (last : ℕ) (known : Known 
   begun_stage call x (inl e) = ap stage_of_actor e
   begun_stage call x (inr e) = ap stage_of_actor e ∙ first_rests call
 
-  begun_remembers : (k : ℕ) (call : Call) (x : Option Operation) → (x ≡ None) ⊎ (x ≡ Some (begun_operation (states t) call)) → ActorRemembers states last (suc t) k x
-  begun_remembers k call x (inl e) = subst (λ y. ActorRemembers states last (suc t) k y) (sym e) tt
-  begun_remembers k call x (inr e) = subst (λ y. ActorRemembers states last (suc t) k y) (sym e) (first_remembers _ _ call)
+  begun_remembers : (k : ℕ) (call : Call) (x : Option Operation) → (x ≡ None) ⊎ (x ≡ Some (begun_operation (states t) call)) → ActorRemembers states last known.closing (suc t) k x
+  begun_remembers k call x (inl e) = subst (λ y. ActorRemembers states last known.closing (suc t) k y) (sym e) tt
+  begun_remembers k call x (inr e) = subst (λ y. ActorRemembers states last known.closing (suc t) k y) (sym e) (first_remembers _ _ call)
 
   -- what is known of a step from an operation's line
   pub line_step : (actor : ℕ) (operation : Operation) (o : Outcome) → Machine.Moves (states t) (step.Go actor) o (states (suc t)) → operation_of (states t) actor ≡ Some operation →
@@ -155,7 +155,7 @@ module _ (limits : Limits) (states : ℕ → State) (last : ℕ) (known : Known 
     asks = λ i main p asked writable r plain c closed. known.open_root t h actor operation is i main p asked writable r plain c closed;
     stage = ap stage_of_actor is;
     built = known.built_from t h actor operation is;
-    remembers = subst (λ x. ActorRemembers states last t actor x) is (so_far actor);
+    remembers = subst (λ x. ActorRemembers states last known.closing t actor x) is (so_far actor);
   }
 
   -- what its READ gives
@@ -170,12 +170,12 @@ module _ (limits : Limits) (states : ℕ → State) (last : ℕ) (known : Known 
     gives = subst (λ y. ReadTurn w t i x y) gives (own_turn limits states last known t h actor operation operation.line step i x on);
   }
 
-  turn_by : StepAt (states t) (states (suc t)) → TurnAt states last t
+  turn_by : StepAt (states t) (states (suc t)) → TurnAt states last known.closing t
   turn_by (IsBegin actor call o m d e) =
       let kept = no_commit limits states last known t h (ap (λ (s : State). s.commits) e ∙ begun_commits (states t) actor call (begun_operation (states t) call)) in
       let found = subst (λ (s : State). (operation_of s actor ≡ None) ⊎ (operation_of s actor ≡ Some (begun_operation (states t) call))) (sym e)
       (begin_own (states t) actor call (begun_operation (states t) call)) in
-      idle_turn actor (leaves_words states last t (known.stays t h (step.Begin actor call) o m tt) kept)
+      idle_turn actor (leaves_words states last known.closing t (known.stays t h (step.Begin actor call) o m tt) kept)
       (ap stage_of_actor (begins_idle (states t) actor call d)) (begun_stage call _ found) (begun_remembers actor call _ found)
       (λ j apart. ap (λ (s : State). operation_of s j) e ∙ begin_others (states t) actor call (begun_operation (states t) call) (begins_counted (states t) actor call d) j apart)
   turn_by (IsGo actor operation o m is g e) =
@@ -187,33 +187,33 @@ module _ (limits : Limits) (states : ℕ → State) (last : ℕ) (known : Known 
       let kept = no_commit limits states last known t h (ap (λ (s : State). s.commits) e) in
       let stays = subst (λ x. ActsOn states t x) a (known.acts t h actor o m operation is) in
       let own : operation_of (states (suc t)) actor ≡ None = ap (λ (s : State). operation_of s actor) e ∙ end_own (states t) actor operation answer in
-      idle_turn actor (leaves_words states last t stays kept) (ap stage_of_actor is ∙ ends_at_end (states t) operation operation.line answer a) (ap stage_of_actor own)
-      (subst (λ x. ActorRemembers states last (suc t) actor x) (sym own) tt)
+      idle_turn actor (leaves_words states last known.closing t stays kept) (ap stage_of_actor is ∙ ends_at_end (states t) operation operation.line answer a) (ap stage_of_actor own)
+      (subst (λ x. ActorRemembers states last known.closing (suc t) actor x) (sym own) tt)
       (λ j apart. ap (λ (s : State). operation_of s j) e ∙ end_others (states t) actor operation answer (actor_counts (states t) actor operation is) j apart)
   turn_by (IsSweep o m e) =
       let kept = no_commit limits states last known t h (ap (λ (s : State). s.commits) e) in
       let same : (j : ℕ) → operation_of (states (suc t)) j ≡ operation_of (states t) j = λ j. ap (λ (s : State). operation_of s j) e in
       record {
-        turn = Passes (leaves_words states last t (known.stays t h step.Sweep o m tt) kept) (λ j. same_actor None j (same j));
+        turn = Passes (leaves_words states last known.closing t (known.stays t h step.Sweep o m tt) kept) (λ j. same_actor None j (same j));
         remembers = λ j. remembers_same None j (same j);
       }
 
-  pub turn_at : TurnAt states last t
+  pub turn_at : TurnAt states last known.closing t
   turn_at = turn_by (step_at (states t) (states (suc t)) (known.run.turn t h))
 
 -- ---- the whole run
 
-pub remembers_at : (limits : Limits) (states : ℕ → State) (last : ℕ) → Known limits states last → (t : ℕ) → t ≤ last → (k : ℕ) →
-    ActorRemembers states last t k (operation_of (states t) k)
+pub remembers_at : (limits : Limits) (states : ℕ → State) (last : ℕ) (known : Known limits states last) (t : ℕ) → t ≤ last → (k : ℕ) →
+    ActorRemembers states last known.closing t k (operation_of (states t) k)
 remembers_at limits states last known t h =
-    from_time (λ v. (k : ℕ) → ActorRemembers states last v k (operation_of (states v) k)) zero last
-    (λ k. subst (λ x. ActorRemembers states last zero k x) (sym (idle_at_first limits known.run.limits_ok states known.run.first k)) tt)
+    from_time (λ v. (k : ℕ) → ActorRemembers states last known.closing v k (operation_of (states v) k)) zero last
+    (λ k. subst (λ x. ActorRemembers states last known.closing zero k x) (sym (idle_at_first limits known.run.limits_ok states known.run.first k)) tt)
     (λ v b within so_far. (turn_at limits states last known v within so_far).remembers) t (omega arith) h
 
 -- the words of the run are those of a protocol
 abbrev pub protocol : (limits : Limits) (states : ℕ → State) (last : ℕ) → Known limits states last → Protocol
 protocol limits states last known = record {
-  words = words_of states last;
+  words = words_of states last known.closing;
   last = last;
   first_decided = prev_at_first limits known.run.limits_ok states known.run.first;
   first_made = made_at_first limits known.run.limits_ok states known.run.first;
