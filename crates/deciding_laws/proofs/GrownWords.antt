@@ -10,7 +10,7 @@ use Rattle.slot_arena.specs.declared.nodes.Prev.TheVariants as over
 use Rattle.slot_arena.specs.declared.nodes.Slot.{Slot}
 use Rattle.slot_arena.specs.Heaps.{node_of, prev_of, main_of, generation_of, with_main_word, main_changed, prev_changed}
 use Rattle.machine_model.specs.declared.heaps.Commit.{Commit}
-use Rattle.machine_model.specs.States.{State, operation_of, closed_at}
+use Rattle.machine_model.specs.States.{State, operation_of}
 use Rattle.machine_model.proofs.Grown.{grown, node_under, main_word, prev_word}
 use Rattle.deciding_laws.proofs.Words.{Words, Kept, Written, MakesNothing, Leaves, Makes, SwapsIn, PutsBack, CommitsNode, FailsNode}
 use Rattle.deciding_laws.proofs.Stages.{stage_of_actor, from_of_actor}

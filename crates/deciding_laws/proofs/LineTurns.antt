@@ -58,7 +58,7 @@ use Rattle.machine_model.specs.declared.roots.CompleteLine.{CompleteLine}
 use Rattle.machine_model.specs.declared.roots.CompleteLine.TheVariants as complete
 use Rattle.machine_model.specs.declared.steps.Limits.{Limits}
 use Rattle.machine_model.specs.Calls.{handle_of}
-use Rattle.machine_model.specs.States.{word_at, closed_at, root_of}
+use Rattle.machine_model.specs.States.{word_at, root_of}
 use Rattle.machine_model.specs.Reading.{read_action, read_after, at_indirection, committed_by, reading}
 use Rattle.machine_model.specs.Orders.{committed_in}
 use Rattle.machine_model.specs.Swapping.{after_deciding as swap_deciding, on_line, after_check, after_publish, after_reading, of_offer, after_completing, is_carried_out, is_plain}
