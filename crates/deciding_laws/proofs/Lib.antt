@@ -26,4 +26,3 @@ pub mod FromHeap
 pub mod OtherLayers
 pub mod SwapLines
 pub mod Laws
-pub mod FromMemory
