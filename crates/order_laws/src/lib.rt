@@ -1,0 +1,2 @@
+//! Laws of the order that the machine hands out.
+#![tactic(auto)]
