@@ -1,2 +1,4 @@
 pub mod Elements
 pub mod Sorting
+pub mod Views
+pub mod Acts
