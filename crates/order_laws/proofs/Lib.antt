@@ -2,3 +2,4 @@ pub mod Elements
 pub mod Sorting
 pub mod Views
 pub mod Acts
+pub mod Running
