@@ -3,3 +3,4 @@ pub mod Sorting
 pub mod Views
 pub mod Acts
 pub mod Running
+pub mod Books
