@@ -64,7 +64,7 @@ pub record Books (state : State) : Type 0 where
   pub running : (id actor : ℕ) → IsRunning state.events id actor → (k : ℕ) × (operation : Operation) × (actor ≡ suc k) × Runs state k operation × (operation.id ≡ id)
 
 -- what is told of an operation is told of the same one further on
-told_same : (history : List Event) (k : ℕ) (before after : Operation) → IsSame before after → IsTold history k before → IsTold history k after
+pub told_same : (history : List Event) (k : ℕ) (before after : Operation) → IsSame before after → IsTold history k before → IsTold history k after
 told_same history k before after same told = record {
   place = told.place;
   begins = rw (same.id, same.call, same.opens) (told.begins);
@@ -93,17 +93,17 @@ quiet_told state s o after m e none books k found at_k = elim (ran_before state 
   | inr old ↦ subst (λ h. IsTold h k found) (sym e) (told_same state.events k old.0 found old.2 (books.told k old.0 old.1))
 ]
 
-quiet_running : (state : State) (s : Step) (o : Outcome) (after : State) → Moves state s o after → after.events ≡ state.events → ((k : ℕ) → ¬ IsEnded after s k) →
+quiet_running : (state : State) (s : Step) (o : Outcome) (after : State) → Moves state s o after → after.events ≡ state.events → ((k : ℕ) (operation : Operation) → ¬ IsEnded state s after k operation) →
     Books state → (id actor : ℕ) → IsRunning after.events id actor → (k : ℕ) × (operation : Operation) × (actor ≡ suc k) × Runs after k operation × (operation.id ≡ id)
 quiet_running state s o after m e none books id actor r =
     let (k, was, own, at_k, is) = books.running id actor (subst (λ h. IsRunning h id actor) e r) in
     elim (runs_on state s o after m k was at_k) [
-      | inl ends ↦ absurd (none k ends)
+      | inl ends ↦ absurd (none k was ends)
       | inr goes ↦ let (found, at_found, same) = goes in (k, found, own, at_found, same.id ∙ is)
     ]
 
-quiet_books : (state : State) (s : Step) (o : Outcome) (after : State) → Moves state s o after → length after.actors ≡ length state.actors → after.limits ≡ state.limits →
-    after.events ≡ state.events → ((k : ℕ) (found : Operation) → ¬ IsBegun state s k found) → ((k : ℕ) → ¬ IsEnded after s k) → Books state → Books after
+pub quiet_books : (state : State) (s : Step) (o : Outcome) (after : State) → Moves state s o after → length after.actors ≡ length state.actors → after.limits ≡ state.limits →
+    after.events ≡ state.events → ((k : ℕ) (found : Operation) → ¬ IsBegun state s k found) → ((k : ℕ) (operation : Operation) → ¬ IsEnded state s after k operation) → Books state → Books after
 quiet_books state s o after m size limits e no_begin no_end books = record {
   size = size ∙ books.size ∙ ap (λ (l : Limits). l.actors) (sym limits);
   well_formed = subst IsWellFormed (sym e) books.well_formed;
@@ -137,7 +137,7 @@ begin_follows : (state : State) (actor : ℕ) (call : Call) → begin_denial sta
 begin_follows state actor call d books = (refl, opens_rightly call (least_free state), λ other r.
     let (k, was, own, at_k, is) = books.running other actor r in not_running state actor k call was d own at_k)
 
-begins_books : (state : State) (actor : ℕ) (call : Call) (o : Outcome) (after : State) → Moves state (step.Begin actor call) o after → begin_denial state actor call ≡ None →
+pub begins_books : (state : State) (actor : ℕ) (call : Call) (o : Outcome) (after : State) → Moves state (step.Begin actor call) o after → begin_denial state actor call ≡ None →
     after.actors ≡ set state.actors (actor - 1) (Some (begun_operation state call)) → after.limits ≡ state.limits →
     after.events ≡ state.events ++ Begin (begun_operation state call).id actor call (begun_operation state call).opens ∷ [] → Books state → Books after
 begins_books state actor call o after m d actors limits e books = record {
@@ -197,7 +197,7 @@ begins_books state actor call o after m d actors limits e books = record {
           | inl old ↦
               let (k, was, own, at_k, is) = books.running id other ((r.0.0, told, old, r.0.3), λ answer ends. r.1 answer (ends.0, at_old state.events event ends.0 _ ends.1)) in
               elim (runs_on state (step.Begin actor call) o after m k was at_k) [
-                | inl ends ↦ let wrong : ⊥ = cc (ends.0) in absurd wrong
+                | inl ends ↦ let wrong : ⊥ = cc (ends.1) in absurd wrong
                 | inr goes ↦ let (found, at_found, same) = goes in (k, found, own, at_found, same.id ∙ is)
               ]
           | inr new ↦ fresh id other told new.1 r.0.3

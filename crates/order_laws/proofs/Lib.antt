@@ -4,3 +4,4 @@ pub mod Views
 pub mod Acts
 pub mod Running
 pub mod Books
+pub mod AllBooks

@@ -1,11 +1,15 @@
 -- Which operations run before and after a step: each keeps its id, its call, its handle to open and its kind.
-use Rattle.std.proofs.Common.{◌≡◌, ℕ, zero, suc, ◌-◌, ◌<◌, ◌≤◌, ◌⊎◌, inl, inr, List, map, set, get_or, length, Option, Some, None, refl, sym, ap, ◌∙◌, subst, arith}
+use Rattle.std.proofs.Common.{◌≡◌, ℕ, zero, suc, ◌-◌, ◌<◌, ◌≤◌, ◌⊎◌, inl, inr, List, [], ◌∷◌, ◌++◌, map, set, get_or, length, Option, Some, None, refl, sym, ap, ◌∙◌, subst, arith}
 use native.Mathlib.Decide.{ℕ_discrete}
 use Rattle.std.proofs.Math.ListN.{get_or-map}
 use Rattle.std.proofs.lemmas.List.{get_or-set_same, get_or-set_other}
 use Rattle.std.proofs.lemmas.Option.{none-some, same_Some}
 use Rattle.history.specs.declared.calls.Call.{Call}
+use Rattle.history.specs.declared.replies.Reply.{Reply}
+use Rattle.history.specs.declared.events.Event.TheVariants.{End}
 use Rattle.machine_model.specs.declared.operations.Operation.{Operation}
+use Rattle.machine_model.specs.declared.actions.Action.TheVariants as act
+use Rattle.machine_model.specs.Operations.{action_of}
 use Rattle.machine_model.specs.declared.steps.Outcome.{Outcome}
 use Rattle.machine_model.specs.declared.steps.Step.{Step}
 use Rattle.machine_model.specs.declared.steps.Step.TheVariants as step
@@ -115,12 +119,13 @@ go_counts : (state : State) (actor : ℕ) → go_denial state actor ≡ None →
 go_counts state actor d = grind arith
 
 -- the step is the end of this operation
-abbrev pub IsEnded : State → Step → ℕ → Type 0
-IsEnded after s k = (s ≡ step.Go (suc k)) × (get_or after.actors k None ≡ None)
+abbrev pub IsEnded : State → Step → State → ℕ → Operation → Type 0
+IsEnded state s after k operation =
+    (answer : Reply) × (s ≡ step.Go (suc k)) × (action_of state operation ≡ act.End answer) × (after.events ≡ state.events ++ End operation.id answer ∷ [])
 
 -- what runs before a step runs after it, or ends with it
 pub runs_on : (state : State) (s : Step) (o : Outcome) (after : State) → Moves state s o after → (k : ℕ) (operation : Operation) → Runs state k operation →
-    IsEnded after s k ⊎ ((found : Operation) × Runs after k found × IsSame operation found)
+    IsEnded state s after k operation ⊎ ((found : Operation) × Runs after k found × IsSame operation found)
 runs_on state s o after (Begins {actor} {call} d) k operation at_k = elim (write_cases state.actors (actor - 1) k (Some (begun_operation state call)) operation at_k) [
   | inl here ↦ absurd (begin_not_running state k actor call operation d (actor_at actor k (begin_counts state actor call d) here.0) at_k)
   | inr there ↦ inr (operation, rw begin_actors there.1, record { id = refl; call = refl; opens = refl; access = refl })
@@ -134,8 +139,11 @@ runs_on state s o after (Goes {actor} {operation = own} d is a g) k operation at
       let (found, at_found, same) = marked_runs (marks_by state (Some own)) (set state.actors (actor - 1) (Some (operation_after state own))) k operation there.1 in
       inr (found, rw gone_actors at_found, same)
 ]
-runs_on state s o after (Ends {actor} {operation = own} d is a) k operation at_k = elim (write_cases state.actors (actor - 1) k None operation at_k) [
-  | inl here ↦ inl (ap (λ a. step.Go a) (actor_at actor k (go_counts state actor d) here.0), here.1)
+runs_on state s o after (Ends {actor} {operation = own} {answer} d is a) k operation at_k = elim (write_cases state.actors (actor - 1) k None operation at_k) [
+  | inl here ↦
+      let own_place = actor_at actor k (go_counts state actor d) here.0 in
+      let one = one_at state k own operation (at_place state actor k own own_place is) at_k in
+      inl (answer, ap (λ a. step.Go a) own_place, subst (λ x. action_of state x ≡ act.End answer) one a, ap (λ (x : Operation). state.events ++ End x.id answer ∷ []) one)
   | inr there ↦ inr (operation, there.1, record { id = refl; call = refl; opens = refl; access = refl })
 ]
 runs_on state s o after (Sweeps spent) k operation at_k = inr (operation, at_k, record { id = refl; call = refl; opens = refl; access = refl })
