@@ -5,3 +5,4 @@ pub mod Acts
 pub mod Running
 pub mod Books
 pub mod AllBooks
+pub mod Changes
