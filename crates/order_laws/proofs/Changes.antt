@@ -96,7 +96,7 @@ root_taken_places state main None = (refl, refl, refl)
 root_taken_places state main (Some made) = (refl, refl, refl)
 
 -- it enters nothing and closes nothing
-acted_places : (state : State) (handle : ℕ) (action : Action) → carries state handle action ≡ false →
+pub acted_places : (state : State) (handle : ℕ) (action : Action) → carries state handle action ≡ false →
     ((acted state handle action).places ≡ state.places) × ((acted state handle action).closings ≡ state.closings)
 acted_places state handle (act.Abort offer) e = aborted_places state handle offer
 acted_places state handle (act.Offer offer) e = offered_places state handle offer
@@ -128,7 +128,7 @@ not_carried state handle offer true false e w other = footing_written state hand
 not_carried state handle offer false expected e w other = refl
 
 -- and leaves each handle's root
-acted_footing : (state : State) (handle : ℕ) (action : Action) → carries state handle action ≡ false → Honest state handle action → (other : ℕ) →
+pub acted_footing : (state : State) (handle : ℕ) (action : Action) → carries state handle action ≡ false → Honest state handle action → (other : ℕ) →
     footing (acted state handle action) other ≡ footing state other
 acted_footing state handle (act.Abort offer) e h other = taken_back state handle offer (stands_in (word_at state handle) offer) (h offer refl) other
 acted_footing state handle (act.Offer offer) e h other =
@@ -145,7 +145,7 @@ carried_is state handle offer true true e = refl
 carried_is state handle offer true false e = absurd (false≢true e)
 carried_is state handle offer false expected e = absurd (false≢true e)
 
-completed_is : (state : State) (handle : ℕ) (offer : Descriptor) (main : Ref) → is_carried_out (word_at state handle) offer main ≡ true →
+pub completed_is : (state : State) (handle : ℕ) (offer : Descriptor) (main : Ref) → is_carried_out (word_at state handle) offer main ≡ true →
     completed state handle offer main ≡ carried_out state handle offer
 completed_is state handle offer main e = carried_is state handle offer (stands_in (word_at state handle) offer) (main == offer.expected) e
 
@@ -154,13 +154,13 @@ abbrev pub roots_swapped : State → ℕ → Descriptor → Option ℕ → List 
 roots_swapped state handle offer None = (with_word state handle (Plain offer.successor)).roots
 roots_swapped state handle offer (Some n) = set (with_word state handle (Plain offer.successor)).roots n (Some (opened_root offer offer.second))
 
-carried_roots : (state : State) (handle : ℕ) (offer : Descriptor) (opens : Option ℕ) →
+pub carried_roots : (state : State) (handle : ℕ) (offer : Descriptor) (opens : Option ℕ) →
     let after = opened (with_word state handle (Plain offer.successor)) offer opens in
     (after.roots ≡ roots_swapped state handle offer opens) × (after.places ≡ state.places) × (after.closings ≡ state.closings) × (after.heap ≡ state.heap)
 carried_roots state handle offer None = (refl, refl, refl, refl)
 carried_roots state handle offer (Some n) = (refl, refl, refl, refl)
 
-same_swapped : (a b : State) (handle : ℕ) (offer : Descriptor) (opens : Option ℕ) → a.roots ≡ b.roots → roots_swapped a handle offer opens ≡ roots_swapped b handle offer opens
+pub same_swapped : (a b : State) (handle : ℕ) (offer : Descriptor) (opens : Option ℕ) → a.roots ≡ b.roots → roots_swapped a handle offer opens ≡ roots_swapped b handle offer opens
 same_swapped a b handle offer None e = ap (λ roots. set roots handle (rewritten (Plain offer.successor) (get_or roots handle None))) e
 same_swapped a b handle offer (Some n) e =
     ap (λ roots. set (set roots handle (rewritten (Plain offer.successor) (get_or roots handle None))) n (Some (opened_root offer offer.second))) e
@@ -168,7 +168,7 @@ same_swapped a b handle offer (Some n) e =
 -- ---- what such actions commit
 
 -- who carries an offer out commits nothing in that step
-complete_commits : (state : State) (operation : Operation) (l : Line) (offer : Descriptor) (main : Ref) → line_action state operation l ≡ act.Complete offer main →
+pub complete_commits : (state : State) (operation : Operation) (l : Line) (offer : Descriptor) (main : Ref) → line_action state operation l ≡ act.Complete offer main →
     committed_in state (read_of l) ≡ None
 complete_commits state operation (line.Root l) offer main e = grind arith
 complete_commits state operation (line.Key l) offer main e = grind arith
@@ -183,7 +183,7 @@ complete_commits state operation (line.End answer) offer main e = refl
 complete_commits state operation line.Impossible offer main e = refl
 
 -- nor does who ends
-end_commits : (state : State) (operation : Operation) (l : Line) (answer : Reply) → line_action state operation l ≡ act.End answer → committed_in state (read_of l) ≡ None
+pub end_commits : (state : State) (operation : Operation) (l : Line) (answer : Reply) → line_action state operation l ≡ act.End answer → committed_in state (read_of l) ≡ None
 end_commits state operation (line.Root l) answer e = grind arith
 end_commits state operation (line.Key l) answer e = grind arith
 end_commits state operation (line.Build l) answer e = refl

@@ -6,3 +6,4 @@ pub mod Running
 pub mod Books
 pub mod AllBooks
 pub mod Changes
+pub mod EachStep
