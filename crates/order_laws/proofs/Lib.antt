@@ -7,3 +7,4 @@ pub mod Books
 pub mod AllBooks
 pub mod Changes
 pub mod EachStep
+pub mod Growing
