@@ -102,7 +102,7 @@ acted_grows state handle (act.Offer offer) = let p = acted_places state handle (
 acted_grows state handle (act.MakeRoot main) = let p = acted_places state handle (act.MakeRoot main) refl in (grows_same _ _ p.0, grows_same _ _ p.1)
 acted_grows state handle action = (grows_same _ _ refl, grows_same _ _ refl)
 
-begin_grows : (state : State) (actor : ℕ) (call : Call) (operation : Operation) →
+pub begin_grows : (state : State) (actor : ℕ) (call : Call) (operation : Operation) →
     Grows state.places (with_begin state actor call operation).places × ((with_begin state actor call operation).closings ≡ state.closings)
 begin_grows state actor (Close handle) operation = ((on_time state.steps false operation.id ∷ [], refl), refl)
 begin_grows state actor call operation = (grows_same _ _ refl, refl)

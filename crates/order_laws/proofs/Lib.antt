@@ -8,3 +8,4 @@ pub mod AllBooks
 pub mod Changes
 pub mod EachStep
 pub mod Growing
+pub mod Past

@@ -62,7 +62,7 @@ pub record IsBegun (state : State) (s : Step) (k : ℕ) (found : Operation) : Ty
   pub is_step : s ≡ step.Begin (suc k) call
   pub is_it : found ≡ begun_operation state call
 
-own_step : (actor k : ℕ) (call : Call) → actor ≡ suc k → step.Begin actor call ≡ step.Begin (suc k) call
+pub own_step : (actor k : ℕ) (call : Call) → actor ≡ suc k → step.Begin actor call ≡ step.Begin (suc k) call
 own_step actor k call own = ap (λ a. step.Begin a call) own
 
 ran_by : (state : State) (s : Step) (o : Outcome) (after : State) → Moves state s o after → (k : ℕ) (found : Operation) → Runs after k found →
