@@ -9,3 +9,5 @@ pub mod Changes
 pub mod EachStep
 pub mod Growing
 pub mod Past
+pub mod Handles
+pub mod Standing
