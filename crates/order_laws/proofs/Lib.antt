@@ -11,3 +11,4 @@ pub mod Growing
 pub mod Past
 pub mod Handles
 pub mod Standing
+pub mod Recalling
