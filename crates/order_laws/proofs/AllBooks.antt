@@ -104,7 +104,7 @@ no_end state s after e k operation ends = not_longer state.events (End operation
 pub gone_events : (state : State) (actor : ℕ) (operation : Operation) → (gone state actor operation).events ≡ state.events
 gone_events state actor operation = (acted_framed _ _ (action_of state operation)).events
 
-books_kept : (state : State) (s : Step) (o : Outcome) (after : State) → Moves state s o after → Books state → Books after
+pub books_kept : (state : State) (s : Step) (o : Outcome) (after : State) → Moves state s o after → Books state → Books after
 books_kept state s o after (Begins {actor} {call} d) books =
     begins_books state actor call _ _ (Begins d) d (begin_actors state actor call (begun_operation state call)) (limits_kept state _ _ _ (Begins d)) (begin_events state actor call (begun_operation state call)) books
 books_kept state s o after (Goes {actor} {operation} d is a g) books =
@@ -123,7 +123,7 @@ books_kept state s o after (Sweeps spent) books =
 
 -- ---- at first
 
-first_books : (limits : Limits) → Books (first_state limits)
+pub first_books : (limits : Limits) → Books (first_state limits)
 unfolding first_state
 first_books limits = record {
   size = length-replicate limits.actors None;

@@ -12,3 +12,4 @@ pub mod Past
 pub mod Handles
 pub mod Standing
 pub mod Recalling
+pub mod Closes
