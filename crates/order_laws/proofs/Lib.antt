@@ -13,3 +13,4 @@ pub mod Handles
 pub mod Standing
 pub mod Recalling
 pub mod Closes
+pub mod StepsOfRun
