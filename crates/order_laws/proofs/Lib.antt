@@ -14,3 +14,5 @@ pub mod Standing
 pub mod Recalling
 pub mod Closes
 pub mod StepsOfRun
+pub mod Closed
+pub mod Sound
