@@ -16,3 +16,4 @@ pub mod Closes
 pub mod StepsOfRun
 pub mod Closed
 pub mod Sound
+pub mod Origins
