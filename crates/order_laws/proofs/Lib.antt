@@ -17,3 +17,4 @@ pub mod StepsOfRun
 pub mod Closed
 pub mod Sound
 pub mod Origins
+pub mod Timeline

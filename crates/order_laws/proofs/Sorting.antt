@@ -185,7 +185,7 @@ steps_along [] h = tt
 steps_along (p ∷ ps) h = (each_of (λ (q : Place). p.step ≤ q.step) ps (λ q a. step_along p q (of_each (λ q. is_before q p ≡ false) ps h.0 q a)), steps_along ps h.1)
 
 -- the same of a further number where the ones before it are the same
-number_of : Bool → ℕ
+pub number_of : Bool → ℕ
 number_of false = 0
 number_of true = 1
 
@@ -196,3 +196,72 @@ rises_filter t (p ∷ ps) h = kept (t p) p (filter t ps) (each_filter (λ q. is_
     kept : (b : Bool) (x : Place) (xs : List Place) → Each (λ q. is_before q x ≡ false) xs → Rises xs → Rises (cond b (x ∷ xs) xs)
     kept true x xs first rest = (first, rest)
     kept false x xs first rest = rest
+
+-- ---- the parts of a place, as numbers
+
+-- late places first
+abbrev pub timing : Place → ℕ
+timing p = number_of p.on_time
+
+-- then what changes something
+abbrev pub role : Place → ℕ
+role p = number_of p.changed_nothing
+
+pub number_below : (b : Bool) → number_of b < 2
+unfolding number_of
+number_below true = omega arith
+number_below false = omega arith
+
+pub number_false : (b : Bool) → number_of b ≡ 0 → b ≡ false
+unfolding number_of
+number_false false e = refl
+number_false true e = cc e
+
+pub number_true : (b : Bool) → number_of b ≡ 1 → b ≡ true
+unfolding number_of
+number_true true e = refl
+number_true false e = cc e
+
+pub false_number : (b : Bool) → b ≡ false → number_of b ≡ 0
+unfolding number_of
+false_number b e = ap number_of e
+
+pub true_number : (b : Bool) → b ≡ true → number_of b ≡ 1
+unfolding number_of
+true_number b e = ap number_of e
+
+bool_along : (a b r : Bool) → bool_before b a r ≡ false → number_of a ≤ number_of b
+unfolding number_of
+bool_along false b r e = omega arith
+bool_along true true r e = omega arith
+bool_along true false r e = absurd (true≢false e)
+
+-- where a condition makes a number rise from one place to the next it rises along rising places that meet it
+pub along_where : (f : Place → ℕ) (C : Place → Type 0) → ((p q : Place) → C p → C q → is_before q p ≡ false → f p ≤ f q) → (ps : List Place) → Rises ps → Each C ps → Along f ps
+along_where f C up [] h each = tt
+along_where f C up (p ∷ ps) h each =
+    (each_of (λ q. f p ≤ f q) ps (λ q a. up p q each.0 (of_each C ps each.1 q a) (of_each (λ q. is_before q p ≡ false) ps h.0 q a)), along_where f C up ps h.1 each.1)
+
+same_numbers : (a b : ℕ) (r : Bool) → a ≡ b → number_before b a r ≡ false → r ≡ false
+same_numbers a b r same e = grind arith
+
+same_bools : (a b r : Bool) → a ≡ b → bool_before b a r ≡ false → r ≡ false
+same_bools a b r same e = grind arith
+
+numbers_up : (a b : ℕ) (r : Bool) → number_before b a r ≡ false → a ≤ b
+numbers_up a b r e = grind arith
+
+-- late places stand before those on time of the same step
+pub timing_up : (t : ℕ) (p q : Place) → p.step ≡ t → q.step ≡ t → is_before q p ≡ false → timing p ≤ timing q
+timing_up t p q a b e = bool_along p.on_time q.on_time _ (same_numbers p.step q.step _ (a ∙ sym b) e)
+
+-- then the moments rise
+pub moments_up : (t : ℕ) (late : Bool) (p q : Place) → p.step ≡ t → q.step ≡ t → p.on_time ≡ late → q.on_time ≡ late → is_before q p ≡ false → p.moment ≤ q.moment
+moments_up t late p q a b c d e =
+    numbers_up p.moment q.moment _ (same_bools p.on_time q.on_time _ (c ∙ sym d) (same_numbers p.step q.step _ (a ∙ sym b) e))
+
+-- and of one moment those that change something stand first
+pub role_up : (t : ℕ) (late : Bool) (n : ℕ) (p q : Place) → p.step ≡ t → q.step ≡ t → p.on_time ≡ late → q.on_time ≡ late → p.moment ≡ n → q.moment ≡ n → is_before q p ≡ false → role p ≤ role q
+role_up t late n p q a b c d f g e =
+    bool_along p.changed_nothing q.changed_nothing _
+    (same_numbers p.moment q.moment _ (f ∙ sym g) (same_bools p.on_time q.on_time _ (c ∙ sym d) (same_numbers p.step q.step _ (a ∙ sym b) e)))

@@ -98,3 +98,19 @@ module _ (hash : ℕ → ℕ) (history : List Event) where
       ((n : ℕ) → n < last → Leads (filter (equals f n) ps) (views n) (views (suc n))) → Leads ps (views zero) (views last)
   leads_all f ps along views last within each =
       subst (λ l. Leads l (views zero) (views last)) (all_below f last ps within) (leads_below f ps along views last each last (omega arith))
+
+  -- Where a number is 0 for the first part of a list and 1 for the rest, the parts may be replayed one after the other.
+  pick : View → View → View → ℕ → View
+  pick a b c zero = a
+  pick a b c (suc zero) = b
+  pick a b c (suc (suc n)) = c
+
+  pub leads_parts : (f : Place → ℕ) (ps : List Place) → Along f ps → ((p : Place) → f p < 2) → (a b c : View) →
+      Leads (filter (equals f 0) ps) a b → Leads (filter (equals f 1) ps) b c → Leads ps a c
+  unfolding pick
+  leads_parts f ps along two a b c first second = leads_all f ps along (pick a b c) 2 (λ p within. two p) each
+    where
+      each : (n : ℕ) → n < 2 → Leads (filter (equals f n) ps) (pick a b c n) (pick a b c (suc n))
+      each zero lt = first
+      each (suc zero) lt = second
+      each (suc (suc n)) lt = absurd (omega (arith, lt))
