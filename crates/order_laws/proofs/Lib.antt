@@ -18,3 +18,4 @@ pub mod Closed
 pub mod Sound
 pub mod Origins
 pub mod Timeline
+pub mod Members
