@@ -60,6 +60,19 @@ pub closed_other : (xs : List Closing) (new : Closing) (generation : ℕ) → cl
 closed_other [] new generation none other = ap (λ b. step_of (cond b (Some new) None)) (other_number new.generation generation other)
 closed_other (x ∷ xs) new generation none other = none_by xs x new generation (x.generation == generation) none (λ e. closed_other xs new generation e other)
 
+same_test : (a b : ℕ) → a ≡ b → (a == b) ≡ true
+same_test a b e = grind arith
+
+last_closed_by : (xs : List Closing) (x new : Closing) (generation : ℕ) (b : Bool) → step_of (cond b (Some x) (find (λ c. c.generation == generation) xs)) ≡ None →
+    (closed_in xs generation ≡ None → closed_in (xs ++ new ∷ []) generation ≡ Some new.step) → step_of (cond b (Some x) (find (λ c. c.generation == generation) (xs ++ new ∷ []))) ≡ Some new.step
+last_closed_by xs x new generation true none rest = absurd (none-some x.step (sym none))
+last_closed_by xs x new generation false none rest = rest none
+
+-- a closing of it closes it, where it wasn't closed
+pub closed_last : (xs : List Closing) (new : Closing) (generation : ℕ) → closed_in xs generation ≡ None → new.generation ≡ generation → closed_in (xs ++ new ∷ []) generation ≡ Some new.step
+closed_last [] new generation none is = ap (λ b. step_of (cond b (Some new) None)) (same_test new.generation generation is)
+closed_last (x ∷ xs) new generation none is = last_closed_by xs x new generation (x.generation == generation) none (λ e. closed_last xs new generation e is)
+
 kept_closed : (generation c : ℕ) → IsKept (λ state. closed_at state generation ≡ Some c)
 kept_closed generation c state s o after m e =
     let (more, grown) = closings_grow state s o after m in

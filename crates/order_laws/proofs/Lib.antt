@@ -19,3 +19,4 @@ pub mod Sound
 pub mod Origins
 pub mod Timeline
 pub mod Members
+pub mod Late
