@@ -20,3 +20,4 @@ pub mod Origins
 pub mod Timeline
 pub mod Members
 pub mod Late
+pub mod OnTime
