@@ -21,3 +21,4 @@ pub mod Timeline
 pub mod Members
 pub mod Late
 pub mod OnTime
+pub mod Openings

@@ -45,7 +45,7 @@ module _ (limits : Limits) (states : ℕ → State) (last : ℕ) (r : IsRun limi
   abbrev pub LeadsOn : List Place → View → View → Type 0
   LeadsOn ps before after = Leads (hash_of limits.hash) (states last).events ps before after
 
-  abbrev at_time : ℕ → View
+  abbrev pub at_time : ℕ → View
   at_time t = view limits states last V t
 
   -- ---- who changes nothing
@@ -89,7 +89,7 @@ module _ (limits : Limits) (states : ℕ → State) (last : ℕ) (r : IsRun limi
     reader_timely : Reads
     reader_timely = reader_by reads.replied
 
-  readers_timely : (t : ℕ) → t < last → LeadsOn (filter (equals role 1) (timely states last t)) (at_time (suc t)) (at_time (suc t))
+  pub readers_timely : (t : ℕ) → t < last → LeadsOn (filter (equals role 1) (timely states last t)) (at_time (suc t)) (at_time (suc t))
   readers_timely t lt =
       leads_each (hash_of limits.hash) (states last).events _ (at_time (suc t)) (each_of _ _ (λ p a.
           let (within, e) = in_reading states last (timely states last t) p a in
@@ -98,28 +98,28 @@ module _ (limits : Limits) (states : ℕ → State) (last : ℕ) (r : IsRun limi
 
   -- ---- who changes something
 
-  abbrev Changing : ℕ → List Place
+  abbrev pub Changing : ℕ → List Place
   Changing t = filter (equals role 0) (timely states last t)
 
-  of_changing : (t : ℕ) (p : Place) → Among p (Changing t) → IsPlace states last p × (p.on_time ≡ true) × (p.moment ≡ t) × (p.changed_nothing ≡ false)
+  pub of_changing : (t : ℕ) (p : Place) → Among p (Changing t) → IsPlace states last p × (p.on_time ≡ true) × (p.moment ≡ t) × (p.changed_nothing ≡ false)
   of_changing t p a =
       let (within, e) = in_changing states last (timely states last t) p a in
       let (place, at, on) = in_timely states last t p within in
       (place, on, sym (on_time_moment limits states last r V facts p place on) ∙ at, e)
 
   -- where there is none, and nothing else changes
-  none_timely : (t : ℕ) → ((p : Place) → Among p (Changing t) → ⊥) → ((handle : ℕ) → at_time t handle ≡ at_time (suc t) handle) → LeadsOn (Changing t) (at_time t) (at_time (suc t))
+  pub none_timely : (t : ℕ) → ((p : Place) → Among p (Changing t) → ⊥) → ((handle : ℕ) → at_time t handle ≡ at_time (suc t) handle) → LeadsOn (Changing t) (at_time t) (at_time (suc t))
   none_timely t none same =
       subst (λ l. LeadsOn l (at_time t) (at_time (suc t))) (sym (no_members (Changing t) none)) (leads_none (hash_of limits.hash) (states last).events (at_time t) (at_time (suc t)) same)
 
-  other_timely : (t : ℕ) (new : Place) → Enters limits states last V t new → (new.on_time ≡ true → new.changed_nothing ≡ false → ⊥) → (p : Place) → Among p (Changing t) → ⊥
+  pub other_timely : (t : ℕ) (new : Place) → Enters limits states last V t new → (new.on_time ≡ true → new.changed_nothing ≡ false → ⊥) → (p : Place) → Among p (Changing t) → ⊥
   other_timely t new enters is_not p a =
       let (place, on, moment, e) = of_changing t p a in
       let same = one_changing limits states last r V facts t new enters p place e moment in
       is_not (ap (λ (q : Place). q.on_time) (sym same) ∙ on) (ap (λ (q : Place). q.changed_nothing) (sym same) ∙ e)
 
   -- where there is one
-  one_timely : (t : ℕ) (new : Place) → t < last → Enters limits states last V t new → new.step ≡ t → new.on_time ≡ true → new.changed_nothing ≡ false → Changing t ≡ new ∷ []
+  pub one_timely : (t : ℕ) (new : Place) → t < last → Enters limits states last V t new → new.step ≡ t → new.on_time ≡ true → new.changed_nothing ≡ false → Changing t ≡ new ∷ []
   one_timely t new lt enters at on e =
       let place = entered_place limits states last r V facts t new lt enters in
       let within = to_timely states last t new place at on in
@@ -129,14 +129,14 @@ module _ (limits : Limits) (states : ℕ → State) (last : ℕ) (r : IsRun limi
           one_changing limits states last r V facts t new enters p is_place changed moment)
 
   -- where the standing and the contents stay the views are the same
-  still_view : (t : ℕ) → KeepsAll limits states last V t → IsStill limits states last V t → (handle : ℕ) → at_time t handle ≡ at_time (suc t) handle
+  pub still_view : (t : ℕ) → KeepsAll limits states last V t → IsStill limits states last V t → (handle : ℕ) → at_time t handle ≡ at_time (suc t) handle
   still_view t kept still handle = view_stays limits states last V t handle (kept handle) (λ generation on. still generation (t, handle, omega arith, on))
 
   -- ---- an own update on time
 
   module _ (t : ℕ) (lt : t < last) (entered : List Place) (update : Update limits states last V t entered)
       (enters : Enters limits states last V t (place_of (states t) update.owner t false)) (kept : KeepsAll limits states last V t) where
-    abbrev its : Place
+    abbrev pub its : Place
     its = place_of (states t) update.owner t false
 
     abbrev its_closing : Option ℕ
@@ -182,6 +182,6 @@ module _ (limits : Limits) (states : ℕ → State) (last : ℕ) (r : IsRun limi
             but_there (at_time t) handle (Some (named Writable (V update.generation (suc t)))) other there
             ∙ others_stay other (λ generation on same. there ((sound_at limits states last r V facts t (omega arith)).apart other handle generation on (subst (λ g. On states t handle g) (sym same) stands)))
 
-    update_by : (b : Bool) → its.on_time ≡ b → LeadsOn (Changing t) (at_time t) (at_time (suc t))
+    pub update_by : (b : Bool) → its.on_time ≡ b → LeadsOn (Changing t) (at_time t) (at_time (suc t))
     update_by true on = timely_update on
     update_by false is_late = late_update is_late
