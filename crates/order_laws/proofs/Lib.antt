@@ -22,3 +22,4 @@ pub mod Members
 pub mod Late
 pub mod OnTime
 pub mod Openings
+pub mod Blocks
