@@ -23,3 +23,4 @@ pub mod Late
 pub mod OnTime
 pub mod Openings
 pub mod Blocks
+pub mod Ends
