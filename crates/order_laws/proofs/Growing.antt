@@ -178,7 +178,7 @@ placed_at_end state operation answer false e other =
     id_of_place state operation = grind arith
 
 -- an end that is told after one more event was told before, or is that event
-ended_before : (history : List Event) (event : Event) (id : ℕ) (answer : Reply) → HasEnded (history ++ event ∷ []) id answer → HasEnded history id answer ⊎ (event ≡ End id answer)
+pub ended_before : (history : List Event) (event : Event) (id : ℕ) (answer : Reply) → HasEnded (history ++ event ∷ []) id answer → HasEnded history id answer ⊎ (event ≡ End id answer)
 ended_before history event id answer (place, at) = elim (at_cases history event place _ at) [ inl old ↦ inl (place, old) | inr new ↦ inr new.1 ]
 
 -- an end that a move tells is of an operation that has a place then

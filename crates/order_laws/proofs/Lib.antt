@@ -24,3 +24,5 @@ pub mod OnTime
 pub mod Openings
 pub mod Blocks
 pub mod Ends
+pub mod Candidates
+pub mod Explained
