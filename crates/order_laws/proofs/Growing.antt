@@ -64,10 +64,10 @@ holds_later limits states last r Q keeps t u h k q =
 abbrev pub Grows : {X : Type 0} → List X → List X → Type 0
 Grows xs ys = (more : List _) × (ys ≡ xs ++ more)
 
-grows_same : {X : Type 0} (xs ys : List X) → ys ≡ xs → Grows xs ys
+pub grows_same : {X : Type 0} (xs ys : List X) → ys ≡ xs → Grows xs ys
 grows_same xs ys e = ([], e ∙ sym (append-nil xs))
 
-grows_trans : {X : Type 0} (xs ys zs : List X) → Grows xs ys → Grows ys zs → Grows xs zs
+pub grows_trans : {X : Type 0} (xs ys zs : List X) → Grows xs ys → Grows ys zs → Grows xs zs
 grows_trans xs ys zs (a, d) (b, e) = (a ++ b, e ∙ ap (λ l. l ++ b) d ∙ append_assoc xs a b)
 
 pub among_grown : {X : Type 0} (xs ys : List X) (x : X) → Grows xs ys → Among x xs → Among x ys
@@ -202,13 +202,13 @@ newly_ended state s o after (Ends {actor} {operation} {answer = told} d is a) id
     ]
 newly_ended state s o after (Sweeps spent) id answer ended other = inl ended
 
-answered_kept : IsKept Answered
+pub answered_kept : IsKept Answered
 answered_kept state s o after m h id answer ended other = elim (newly_ended state s o after m id answer ended other) [
   | inl old ↦ still_placed state after id (places_grow state s o after m) (h id answer old other)
   | inr new ↦ new
 ]
 
-first_answered : (limits : Limits) → Answered (first_state limits)
+pub first_answered : (limits : Limits) → Answered (first_state limits)
 unfolding first_state
 first_answered limits id answer ended other = let at = ended.1 in let wrong : ⊥ = cc at in absurd wrong
 

@@ -26,3 +26,4 @@ pub mod Blocks
 pub mod Ends
 pub mod Candidates
 pub mod Explained
+pub mod Unconditional

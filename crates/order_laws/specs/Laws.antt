@@ -47,24 +47,24 @@ LegalByFacts =
 
 -- The recorded history is well formed.
 abbrev pub HistoriesWellFormed : Type 0
-HistoriesWellFormed = (limits : Limits) (steps : List Step) → AreLimits limits → IsWellFormed (run limits steps).events
+HistoriesWellFormed = (limits : Limits) (steps : List Step) → IsWellFormed (run limits steps).events
 
 -- Each operation that was answered stands in the order.
 abbrev pub AnsweredAreOrdered : Type 0
 AnsweredAreOrdered =
-    (limits : Limits) (steps : List Step) (id : ℕ) (answer : Reply) → AreLimits limits → HasEnded (run limits steps).events id answer → answer ≢ NoSlots →
+    (limits : Limits) (steps : List Step) (id : ℕ) (answer : Reply) → HasEnded (run limits steps).events id answer → answer ≢ NoSlots →
     (i : ℕ) × OrderedAt (order_of (run limits steps)) i id
 
 -- Running operations have distinct ids.
 abbrev pub RunningDiffer : Type 0
 RunningDiffer =
-    (limits : Limits) (steps : List Step) (a b : ℕ) (x y : Operation) → AreLimits limits → operation_of (run limits steps) a ≡ Some x → operation_of (run limits steps) b ≡ Some y →
+    (limits : Limits) (steps : List Step) (a b : ℕ) (x y : Operation) → operation_of (run limits steps) a ≡ Some x → operation_of (run limits steps) b ≡ Some y →
     x.id ≡ y.id → a ≡ b
 
 -- Places once told stay: later steps add places, and change none.
 abbrev pub PlacesStay : Type 0
 PlacesStay =
-    (limits : Limits) (steps more : List Step) → AreLimits limits →
+    (limits : Limits) (steps more : List Step) →
     (new : List Place) × ((run limits (steps ++ more)).places ≡ (run limits steps).places ++ new)
 
 -- The rising places are the places, each as often as before, sorted.
