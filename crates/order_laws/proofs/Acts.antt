@@ -24,10 +24,6 @@ named access pairs = record { access = access; pairs = pairs }
 
 -- ---- views
 
--- a number is another than one that it doesn't pass for
-pub same_number : (a b : ℕ) → (a == b) ≡ true → a ≡ b
-same_number a b e = grind arith
-
 cond_of : (b : Bool) (x y z : Option HandleState) → (b ≡ true → x ≡ z) → (b ≡ false → y ≡ z) → cond b x y ≡ z
 cond_of true x y z f g = f refl
 cond_of false x y z f g = g refl
@@ -35,7 +31,7 @@ cond_of false x y z f g = g refl
 -- a view is the same once a handle names what it named
 pub but_same : (view : View) (handle : ℕ) (state : Option HandleState) → view handle ≡ state → (other : ℕ) → view other ≡ but view handle state other
 but_same view handle state is other =
-    sym (cond_of (other == handle) state (view other) (view other) (λ e. sym is ∙ ap view (sym (same_number other handle e))) (λ e. refl))
+    sym (cond_of (other == handle) state (view other) (view other) (λ e. sym is ∙ ap view (sym (eqb-true other handle e))) (λ e. refl))
 
 -- a world in which a handle names something
 pub shows_insert : (world : HandleMap) (view : View) (handle : ℕ) (state : HandleState) → Shows world view → Shows (fin.insert world handle state) (but view handle (Some state))
@@ -67,9 +63,9 @@ changes : (hash : ℕ → ℕ) (call : Call) (opens : Option ℕ) (view : View) 
     ((world : HandleMap) → effect hash world call opens ≡ changing world handle change) →
     view handle ≡ Some (named Writable m) → Some (change m) ≡ Some (answer, next) → ActsOn hash call opens answer view (but view handle (Some (named Writable next)))
 changes hash call opens view handle change m answer next is at does world shows = (
-    naming world handle Writable next,
-    is world ∙ changing_at world handle change m answer next (shows handle ∙ at) (same_Some _ _ does),
-    shows_insert world view handle (named Writable next) shows,
+  naming world handle Writable next,
+  is world ∙ changing_at world handle change m answer next (shows handle ∙ at) (same_Some _ _ does),
+  shows_insert world view handle (named Writable next) shows,
 )
 
 -- a look that changes nothing, where the call's effect is one
@@ -122,9 +118,9 @@ pub copies : (hash : ℕ → ℕ) (call : Call) (view : View) (handle n : ℕ) (
     ((world : HandleMap) → effect hash world call (Some n) ≡ copying world handle (Some n) access) →
     view handle ≡ Some (named Writable m) → view n ≡ None → ActsOn hash call (Some n) (reply.Opened n) view (but view n (Some (named access m)))
 copies hash call view handle n access m is at free world shows = (
-    naming world n access m,
-    is world ∙ copied world (shows handle ∙ at) (shows n ∙ free),
-    shows_insert world view n (named access m) shows,
+  naming world n access m,
+  is world ∙ copied world (shows handle ∙ at) (shows n ∙ free),
+  shows_insert world view n (named access m) shows,
 )
   where
     copied : (w : HandleMap) → fin.get w handle ≡ Some (named Writable m) → fin.get w n ≡ None → copying w handle (Some n) access ≡ Some (reply.Opened n, naming w n access m)
@@ -134,9 +130,9 @@ copies hash call view handle n access m is at free world shows = (
 pub closes : (hash : ℕ → ℕ) (handle : ℕ) (opens : Option ℕ) (view : View) (access : Access) (m : KeyMap) → view handle ≡ Some (named access m) →
     ActsOn hash (Close handle) opens reply.Closed view (but view handle None)
 closes hash handle opens view access m at world shows = (
-    fin.remove world handle,
-    gone (shows handle ∙ at),
-    shows_remove world view handle shows,
+  fin.remove world handle,
+  gone (shows handle ∙ at),
+  shows_remove world view handle shows,
 )
   where
     gone : fin.get world handle ≡ Some (named access m) → effect hash world (Close handle) opens ≡ Some (reply.Closed, fin.remove world handle)

@@ -25,6 +25,7 @@ use Rattle.machine_model.proofs.Found.{none_found}
 use Rattle.machine_model.proofs.Times.{IsRun, at_each_time}
 use Rattle.machine_model.proofs.Actors.{after_marks, marks_by, gone_actors, begin_actors, of_end}
 use Rattle.order_laws.specs.Facts.{Runs}
+use Rattle.order_laws.proofs.Elements.{no_last}
 use Rattle.order_laws.proofs.Running.{IsSame, IsBegun, IsEnded, ran_before, runs_on, place_of_actor, at_place, one_at}
 use Rattle.order_laws.proofs.Books.{IsTold, Books, told_same, one_by_id, quiet_books, begins_books, begin_events}
 
@@ -45,17 +46,21 @@ ends_books state actor k operation answer o after m own is actors limits e books
   where
     event : Event
     event = End operation.id answer
+
     history : List Event
     history = state.events ++ event ∷ []
+
     follows : MayFollow state.events (End operation.id answer)
     follows =
         let told = books.told k operation is in
         let says : Told = record { actor = suc k; call = operation.call; opens = operation.opens } in
         (suc k, ((told.place, says, told.begins, refl), told.unended))
+
     clash : (j : ℕ) (found old : Operation) → Runs state j old → IsSame old found → Runs after j found → found.id ≡ operation.id → ⊥
     clash j found old ran same at_j id =
         let one = one_by_id state books j k old operation ran is (sym same.id ∙ id) in
         of_end state actor j (own ∙ ap suc (sym one.0)) found (ap (λ l. get_or l j None) (sym actors) ∙ at_j)
+
     longer : (j : ℕ) (found old : Operation) → Runs state j old → IsSame old found → Runs after j found → IsTold state.events j found → IsTold history j found
     longer j found old ran same at_j told = record {
       place = told.place;
@@ -65,6 +70,7 @@ ends_books state actor k operation answer o after m own is actors limits e books
         | inr new ↦ clash j found old ran same at_j (let same_end = new.1 in cc same_end)
       ];
     }
+
     by : (id other : ℕ) → IsRunning history id other → (j : ℕ) × (was : Operation) × (other ≡ suc j) × Runs after j was × (was.id ≡ id)
     by id other r =
         let told : Told = r.0.1 in
@@ -91,15 +97,9 @@ marks_length (Some id) xs = length-map xs (marked id)
 go_no_begin : (state : State) (actor : ℕ) (k : ℕ) (found : Operation) → ¬ IsBegun state (step.Go actor) k found
 go_no_begin state actor k found new = let is = new.is_step in cc is
 
--- a list isn't itself with one more
-not_longer : {X : Type 0} (xs : List X) (x : X) → xs ≡ xs ++ x ∷ [] → ⊥
-not_longer xs x e =
-    let l : length xs ≡ length xs + 1 = ap length e ∙ length-append xs (x ∷ []) in
-    omega arith
-
 -- where no event is told no operation ends
 no_end : (state : State) (s : Step) (after : State) → after.events ≡ state.events → (k : ℕ) (operation : Operation) → ¬ IsEnded state s after k operation
-no_end state s after e k operation ends = not_longer state.events (End operation.id ends.0) (sym e ∙ ends.3)
+no_end state s after e k operation ends = no_last state.events (End operation.id ends.0) (sym e ∙ ends.3)
 
 pub gone_events : (state : State) (actor : ℕ) (operation : Operation) → (gone state actor operation).events ≡ state.events
 gone_events state actor operation = (acted_framed _ _ (action_of state operation)).events

@@ -13,7 +13,7 @@ use Rattle.machine_model.specs.States.{State, closed_at}
 use Rattle.machine_model.specs.Orders.{place_of, closing_for}
 use Rattle.machine_model.proofs.Times.{IsRun}
 use Rattle.order_laws.specs.Facts.{Facts, Replied, on_writable, on_read_only}
-use Rattle.order_laws.proofs.Elements.{Among, equals}
+use Rattle.order_laws.proofs.Elements.{no_members, Among, equals}
 use Rattle.order_laws.proofs.Sorting.{timing, role, number_below, among_rising}
 use Rattle.order_laws.proofs.Views.{View, Leads, leads_none, leads_all, leads_parts}
 use Rattle.order_laws.proofs.StepsOfRun.{Enters, ClosesNone, Kind, plain, updates, answers, closes, swaps, kind_at}
@@ -21,7 +21,7 @@ use Rattle.order_laws.proofs.Closed.{closed_in, closed_from}
 use Rattle.order_laws.proofs.Origins.{Why, by_update, by_answer, by_change, origin, place_says, late_says}
 use Rattle.order_laws.proofs.Timeline.{view}
 use Rattle.order_laws.proofs.Members.{sorted, block, lates, timely, in_lates, sorted_along, block_along, timely_along, step_within, none_changing}
-use Rattle.order_laws.proofs.Late.{no_members, closing_is, all_lately}
+use Rattle.order_laws.proofs.Late.{closing_is, all_lately}
 use Rattle.order_laws.proofs.OnTime.{readers_timely, of_changing, none_timely, other_timely, one_timely, still_view, update_by}
 use Rattle.order_laws.proofs.Openings.{close_leads, at_last, swap_leads}
 

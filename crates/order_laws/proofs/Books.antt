@@ -25,7 +25,7 @@ use Rattle.machine_model.proofs.Frames.{acted_framed}
 use Rattle.machine_model.proofs.Found.{none_found, found_within}
 use Rattle.machine_model.proofs.Actors.{after_marks, marks_by, gone_actors, begin_actors}
 use Rattle.order_laws.specs.Facts.{Runs}
-use Rattle.order_laws.proofs.Running.{IsSame, IsBegun, IsEnded, ran_before, runs_on, place_of_actor, at_place, one_at}
+use Rattle.order_laws.proofs.Running.{begin_not_running, IsSame, IsBegun, IsEnded, ran_before, runs_on, place_of_actor, at_place, one_at}
 
 -- ---- histories
 
@@ -117,25 +117,20 @@ pub begin_events : (state : State) (actor : ℕ) (call : Call) (operation : Oper
     (with_begin state actor call operation).events ≡ state.events ++ Begin operation.id actor call operation.opens ∷ []
 begin_events state actor call operation = grind arith
 
-begin_limits : (state : State) (actor : ℕ) (call : Call) (operation : Operation) → (with_begin state actor call operation).limits ≡ state.limits
-begin_limits state actor call operation = grind arith
-
 opens_rightly : (call : Call) (n : ℕ) → OpensRightly call (cond (opens_handle call) (Some n) None)
 opens_rightly call n = grind arith
 
 within_actors : (state : State) (actor : ℕ) (call : Call) → begin_denial state actor call ≡ None → (0 < actor) × (actor ≤ state.limits.actors)
 within_actors state actor call d = (grind arith, grind arith)
 
-not_running : (state : State) (actor k : ℕ) (call : Call) (operation : Operation) → begin_denial state actor call ≡ None → actor ≡ suc k → Runs state k operation → ⊥
-not_running state actor k call operation d own is = denied (subst (λ a. operation_of state a ≡ Some operation) (sym own) is)
-  where
-    denied : operation_of state actor ≡ Some operation → ⊥
-    denied e = grind arith
-
 begin_follows : (state : State) (actor : ℕ) (call : Call) → begin_denial state actor call ≡ None → Books state →
     MayFollow state.events (Begin (begun_operation state call).id actor call (begun_operation state call).opens)
-begin_follows state actor call d books = (refl, opens_rightly call (least_free state), λ other r.
-    let (k, was, own, at_k, is) = books.running other actor r in not_running state actor k call was d own at_k)
+begin_follows state actor call d books = (
+  refl,
+  opens_rightly call (least_free state),
+  λ other r.
+      let (k, was, own, at_k, is) = books.running other actor r in begin_not_running state k actor call was d own at_k,
+)
 
 pub begins_books : (state : State) (actor : ℕ) (call : Call) (o : Outcome) (after : State) → Moves state (step.Begin actor call) o after → begin_denial state actor call ≡ None →
     after.actors ≡ set state.actors (actor - 1) (Some (begun_operation state call)) → after.limits ≡ state.limits →
@@ -152,10 +147,13 @@ begins_books state actor call o after m d actors limits e books = record {
   where
     begins : Operation
     begins = begun_operation state call
+
     event : Event
     event = Begin begins.id actor call begins.opens
+
     history : List Event
     history = state.events ++ event ∷ []
+
     longer : (k : ℕ) (found : Operation) → IsTold state.events k found → IsTold history k found
     longer k found told = record {
       place = told.place;
@@ -165,6 +163,7 @@ begins_books state actor call o after m d actors limits e books = record {
         | inr new ↦ begin_not_end _ _ _ _ _ _ new.1
       ];
     }
+
     begun_told : (k : ℕ) (other : Call) → step.Begin actor call ≡ step.Begin (suc k) other → IsTold history k (begun_operation state other)
     begun_told k other is =
         let same_actor : actor ≡ suc k = cc is in
@@ -177,6 +176,7 @@ begins_books state actor call o after m d actors limits e books = record {
             | inr new ↦ begin_not_end _ _ _ _ _ _ new.1
           ];
         })
+
     fresh : (id other : ℕ) (told : Told) → event ≡ Begin id told.actor told.call told.opens → told.actor ≡ other →
         (k : ℕ) × (operation : Operation) × (other ≡ suc k) × Runs after k operation × (operation.id ≡ id)
     fresh id other told is owner =
@@ -190,6 +190,7 @@ begins_books state actor call o after m d actors limits e books = record {
           ap (λ l. get_or l (actor - 1) None) actors ∙ get_or-set_same state.actors (actor - 1) (Some begins) None (omega arith),
           same_id,
         )
+
     by : (id other : ℕ) → IsRunning history id other → (k : ℕ) × (operation : Operation) × (other ≡ suc k) × Runs after k operation × (operation.id ≡ id)
     by id other r =
         let told : Told = r.0.1 in

@@ -81,8 +81,14 @@ refused_now state s o after (Ends {actor} {operation} {answer = told} d is a) id
       | inr new ↦
           let same_id : operation.id ≡ id = cc new in
           let same_reply : told ≡ reply.NoSlots = cc new in
-          inr (actor, operation, is, a ∙ ap act.End same_reply, same_id,
-          ap (λ x. state.places ++ entered_at_end state operation x) same_reply ∙ append-nil state.places)
+          inr (
+            actor,
+            operation,
+            is,
+            a ∙ ap act.End same_reply,
+            same_id,
+            ap (λ x. state.places ++ entered_at_end state operation x) same_reply ∙ append-nil state.places,
+          )
     ]
 refused_now state s o after (Sweeps spent) id ended = inl ended
 
@@ -118,7 +124,7 @@ module _ (limits : Limits) (states : ℕ → State) (last : ℕ) (r : IsRun limi
       (sym (place_says (closing_for (states t) operation operation.access) operation.moment operation.id true).2 ∙ same) ended) rest a e
   stays_out t lt id ended p rest (closes handle stood places recalls more at gone others closings still) a e =
       not_entered t p _ id places (λ same.
-          let below = ended_below (states t).events ended.0 id reply.NoSlots (books_at limits states last r t (omega arith)).well_formed ended.1 in omega arith) rest a e
+      let below = ended_below (states t).events ended.0 id reply.NoSlots (books_at limits states last r t (omega arith)).well_formed ended.1 in omega arith) rest a e
   stays_out t lt id ended p rest (swaps handle offer swap places closings roots heap still) a e =
       not_entered t p _ id places (λ same. ended_runs_not t swap.k swap.offerer id (omega arith) swap.runs (swap.is_its ∙ same) ended) rest a e
 

@@ -1,5 +1,5 @@
 -- What a step changes in the order, in the closed generations and in the handles: one constructor for each kind of change.
-use Rattle.std.proofs.Common.{◌≡◌, ℕ, zero, suc, ◌+◌, ◌-◌, ◌<◌, ◌≤◌, ◌==◌, ◌&&◌, Bool, true, false, cond, ◌⊎◌, inl, inr, List, [], ◌∷◌, ◌++◌, map, set, get_or, length, Option, Some, None, refl, sym, ap, ◌∙◌, subst, append-nil, arith}
+use Rattle.std.proofs.Common.{◌≡◌, ℕ, zero, suc, ◌+◌, ◌-◌, ◌<◌, ◌≤◌, ◌==◌, ◌&&◌, Bool, true, false, cond, ◌⊎◌, inl, inr, List, [], ◌∷◌, ◌++◌, map, set, get_or, length, Option, Some, None, refl, sym, ap, ◌∙◌, subst, append-nil, arith, eqb-true}
 use native.Mathlib.Decide.{ℕ_discrete}
 use Rattle.std.proofs.lemmas.Bool.{cases_lt, and_parts, true≢false, false≢true}
 use Rattle.std.proofs.lemmas.List.{get_or_past, get_or-set_same, get_or-set_other, length-set}
@@ -110,10 +110,7 @@ taken_back state handle offer true e other = footing_written state handle (Plain
 taken_back state handle offer false e other = refl
 
 plain_root : (word : RootWord) (root : Ref) → is_plain word root ≡ true → root ≡ root_of word
-plain_root (Plain r) root e = sym (same r root e)
-  where
-    same : (a b : ℕ) → (a == b) ≡ true → a ≡ b
-    same a b e = grind arith
+plain_root (Plain r) root e = sym (eqb-true r root e)
 plain_root (Offer offer) root e = absurd (false≢true e)
 
 put_up : (state : State) (handle : ℕ) (offer : Descriptor) (b : Bool) → (b ≡ true → offer.root ≡ root_of (word_at state handle)) → (other : ℕ) →

@@ -1,5 +1,5 @@
 -- When a generation was closed.
-use Rattle.std.proofs.Common.{◌≡◌, ℕ, zero, suc, ◌+◌, ◌<◌, ◌≤◌, ◌==◌, Bool, true, false, cond, ◌⊎◌, inl, inr, List, [], ◌∷◌, ◌++◌, find, Option, Some, None, refl, sym, ap, ◌∙◌, subst, arith}
+use Rattle.std.proofs.Common.{◌≡◌, ℕ, zero, suc, ◌+◌, ◌<◌, ◌≤◌, ◌==◌, Bool, true, false, cond, ◌⊎◌, inl, inr, List, [], ◌∷◌, ◌++◌, find, Option, Some, None, refl, sym, ap, ◌∙◌, subst, arith, eqb-true, ne_eqb, eq-eqb}
 use Rattle.std.proofs.lemmas.Option.{none-some, same_Some}
 use Rattle.history.specs.Worlds.{KeyMap}
 use Rattle.machine_model.specs.declared.heaps.Closing.{Closing}
@@ -18,12 +18,6 @@ use Rattle.order_laws.proofs.StepsOfRun.{Kind, plain, updates, answers, closes, 
 abbrev pub closed_in : List Closing → ℕ → Option ℕ
 closed_in closings generation = step_of (find (λ c. c.generation == generation) closings)
 
-same_number : (a b : ℕ) → (a == b) ≡ true → a ≡ b
-same_number a b e = grind arith
-
-other_number : (a b : ℕ) → (a ≡ b → ⊥) → (a == b) ≡ false
-other_number a b e = grind arith
-
 kept_by : (xs ys : List Closing) (x : Closing) (generation c : ℕ) (b : Bool) → step_of (cond b (Some x) (find (λ c. c.generation == generation) xs)) ≡ Some c →
     (closed_in xs generation ≡ Some c → closed_in (xs ++ ys) generation ≡ Some c) → step_of (cond b (Some x) (find (λ c. c.generation == generation) (xs ++ ys))) ≡ Some c
 kept_by xs ys x generation c true e rest = e
@@ -41,7 +35,7 @@ new_by xs x new generation c true none e rest = absurd (none-some x.step (sym no
 new_by xs x new generation c false none e rest = rest none e
 
 last_by : (new : Closing) (generation c : ℕ) (b : Bool) → (new.generation == generation) ≡ b → step_of (cond b (Some new) None) ≡ Some c → (new.generation ≡ generation) × (new.step ≡ c)
-last_by new generation c true is e = (same_number new.generation generation is, same_Some new.step c e)
+last_by new generation c true is e = (eqb-true new.generation generation is, same_Some new.step c e)
 last_by new generation c false is e = absurd (none-some c e)
 
 -- who wasn't closed and is closed with one more closing is closed by it
@@ -57,11 +51,8 @@ none_by xs x new generation false none rest = rest none
 
 -- a closing of another generation doesn't close it
 pub closed_other : (xs : List Closing) (new : Closing) (generation : ℕ) → closed_in xs generation ≡ None → (new.generation ≡ generation → ⊥) → closed_in (xs ++ new ∷ []) generation ≡ None
-closed_other [] new generation none other = ap (λ b. step_of (cond b (Some new) None)) (other_number new.generation generation other)
+closed_other [] new generation none other = ap (λ b. step_of (cond b (Some new) None)) (ne_eqb new.generation generation other)
 closed_other (x ∷ xs) new generation none other = none_by xs x new generation (x.generation == generation) none (λ e. closed_other xs new generation e other)
-
-same_test : (a b : ℕ) → a ≡ b → (a == b) ≡ true
-same_test a b e = grind arith
 
 last_closed_by : (xs : List Closing) (x new : Closing) (generation : ℕ) (b : Bool) → step_of (cond b (Some x) (find (λ c. c.generation == generation) xs)) ≡ None →
     (closed_in xs generation ≡ None → closed_in (xs ++ new ∷ []) generation ≡ Some new.step) → step_of (cond b (Some x) (find (λ c. c.generation == generation) (xs ++ new ∷ []))) ≡ Some new.step
@@ -70,7 +61,7 @@ last_closed_by xs x new generation false none rest = rest none
 
 -- a closing of it closes it, where it wasn't closed
 pub closed_last : (xs : List Closing) (new : Closing) (generation : ℕ) → closed_in xs generation ≡ None → new.generation ≡ generation → closed_in (xs ++ new ∷ []) generation ≡ Some new.step
-closed_last [] new generation none is = ap (λ b. step_of (cond b (Some new) None)) (same_test new.generation generation is)
+closed_last [] new generation none is = ap (λ b. step_of (cond b (Some new) None)) (eq-eqb new.generation generation is)
 closed_last (x ∷ xs) new generation none is = last_closed_by xs x new generation (x.generation == generation) none (λ e. closed_last xs new generation e is)
 
 kept_closed : (generation c : ℕ) → IsKept (λ state. closed_at state generation ≡ Some c)

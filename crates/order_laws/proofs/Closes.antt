@@ -59,7 +59,7 @@ closed_by state s o after (Begins {actor} {call} d) k found at_k h (yes own) =
     subst EndsClosed (sym (of_begin state actor call (begun_operation state call) k own found at_k)) (begun_closed state call)
 closed_by state s o after (Goes {actor} {operation} {action} d is a g) k found at_k h (yes own) =
     subst EndsClosed (sym (of_itself state actor operation k own found at_k)) (marked_closed _ (operation_after state operation) (λ handle e.
-        absurd (goes_not_closed state operation action a g (h k operation (at_place state actor k operation own is) handle e))))
+    absurd (goes_not_closed state operation action a g (h k operation (at_place state actor k operation own is) handle e))))
 closed_by state s o after (Ends {actor} d is a) k found at_k h (yes own) = absurd (of_end state actor k own found at_k)
 closed_by state s o after (Sweeps spent) k found at_k h (yes own) = absurd own
 

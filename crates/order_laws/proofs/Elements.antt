@@ -1,5 +1,5 @@
 -- Which elements a list has, by recursion on it: what stands among them, what holds of each, and what a filter keeps.
-use Rattle.std.proofs.Common.{◌≡◌, ℕ, zero, suc, ◌<◌, ◌≤◌, ◌==◌, Bool, true, false, cond, nat_lt, ◌⊎◌, inl, inr, List, [], ◌∷◌, ◌++◌, map, filter, flat_map, length, get_or, Option, Some, None, slice_get, Contains, refl, sym, ap, ◌∙◌, subst, eqb→eq, eqb-true, ltb→lt, arith}
+use Rattle.std.proofs.Common.{◌≡◌, ℕ, zero, suc, ◌<◌, ◌≤◌, ◌==◌, Bool, true, false, cond, nat_lt, ◌⊎◌, inl, inr, List, [], ◌∷◌, ◌++◌, map, filter, flat_map, length, get_or, Option, Some, None, slice_get, Contains, refl, sym, ap, ◌∙◌, subst, eqb→eq, eqb-true, ltb→lt, arith, lt-ltb, le-ltb, ne_eqb, eq-eqb, length-append, ◌+◌}
 use Rattle.std.proofs.lemmas.Bool.{true≢false, false≢true, cases_order}
 
 -- x stands among the elements
@@ -141,43 +141,44 @@ below f n x = nat_lt (f x) n
 abbrev pub equals : {X : Type 0} → (X → ℕ) → ℕ → X → Bool
 equals f n x = f x == n
 
-lt_test : (a n : ℕ) → a < n → nat_lt a n ≡ true
-lt_test a n h = grind arith
-
-ge_test : (a n : ℕ) → n ≤ a → nat_lt a n ≡ false
-ge_test a n h = grind arith
-
-ne_test : (a n : ℕ) → (a ≡ n → ⊥) → (a == n) ≡ false
-ne_test a n h = grind arith
-
 -- none is below a number where the first isn't
 none_below : {X : Type 0} (f : X → ℕ) (n m : ℕ) (xs : List X) → n ≤ m → Each (λ y. m ≤ f y) xs → filter (below f n) xs ≡ []
-none_below f n m xs le h = filter_none (below f n) xs (λ y a. let up = of_each (λ y. m ≤ f y) xs h y a in ge_test (f y) n (omega arith))
+none_below f n m xs le h = filter_none (below f n) xs (λ y a. let up = of_each (λ y. m ≤ f y) xs h y a in le-ltb (f y) n (omega arith))
 
 -- nor has it where the first is above it
 none_equal : {X : Type 0} (f : X → ℕ) (n m : ℕ) (xs : List X) → n < m → Each (λ y. m ≤ f y) xs → filter (equals f n) xs ≡ []
-none_equal f n m xs lt h = filter_none (equals f n) xs (λ y a. let up = of_each (λ y. m ≤ f y) xs h y a in ne_test (f y) n (λ e. omega arith))
+none_equal f n m xs lt h = filter_none (equals f n) xs (λ y a. let up = of_each (λ y. m ≤ f y) xs h y a in ne_eqb (f y) n (λ e. omega arith))
 
 -- those below the next number are those below this one, and then those that have it
 pub next_below : {X : Type 0} (f : X → ℕ) (n : ℕ) (xs : List X) → Along f xs → filter (below f (suc n)) xs ≡ filter (below f n) xs ++ filter (equals f n) xs
 next_below f n [] h = refl
 next_below f n (x ∷ xs) h = elim (cases_order (f x) n) [
   | inl same ↦
-      rw (lt_test (f x) (suc n) (omega arith), ge_test (f x) n (omega arith), eqb-same (f x) n same, none_below f n (f x) xs (omega arith) h.0)
+      rw (lt-ltb (f x) (suc n) (omega arith), le-ltb (f x) n (omega arith), eq-eqb (f x) n same, none_below f n (f x) xs (omega arith) h.0)
       (ap (λ l. x ∷ l) (next_below f n xs h.1 ∙ ap (λ l. l ++ filter (equals f n) xs) (none_below f n (f x) xs (omega arith) h.0)))
   | inr differ ↦ elim differ [
-    | inl lt ↦ rw (lt_test (f x) (suc n) (omega arith), lt_test (f x) n lt, ne_test (f x) n (λ e. omega arith)) (ap (λ l. x ∷ l) (next_below f n xs h.1))
-    | inr gt ↦ rw (ge_test (f x) (suc n) (omega arith), ge_test (f x) n (omega arith), ne_test (f x) n (λ e. omega arith)) (next_below f n xs h.1)
+    | inl lt ↦ rw (lt-ltb (f x) (suc n) (omega arith), lt-ltb (f x) n lt, ne_eqb (f x) n (λ e. omega arith)) (ap (λ l. x ∷ l) (next_below f n xs h.1))
+    | inr gt ↦ rw (le-ltb (f x) (suc n) (omega arith), le-ltb (f x) n (omega arith), ne_eqb (f x) n (λ e. omega arith)) (next_below f n xs h.1)
   ]
 ]
-  where
-    eqb-same : (a n : ℕ) → a ≡ n → (a == n) ≡ true
-    eqb-same a n e = grind arith
 
 -- those below a number that all are below are all
 pub all_below : {X : Type 0} (f : X → ℕ) (n : ℕ) (xs : List X) → ((x : X) → Among x xs → f x < n) → filter (below f n) xs ≡ xs
-all_below f n xs h = filter_all (below f n) xs (λ x a. lt_test (f x) n (h x a))
+all_below f n xs h = filter_all (below f n) xs (λ x a. lt-ltb (f x) n (h x a))
 
 -- none is below 0
 pub none_below_zero : {X : Type 0} (f : X → ℕ) (xs : List X) → filter (below f 0) xs ≡ []
-none_below_zero f xs = filter_none (below f 0) xs (λ x a. ge_test (f x) 0 (omega arith))
+none_below_zero f xs = filter_none (below f 0) xs (λ x a. le-ltb (f x) 0 (omega arith))
+
+-- ---- ends and emptiness
+
+-- a list isn't itself with one more
+pub no_last : {X : Type 0} (xs : List X) (x : X) → xs ≡ xs ++ x ∷ [] → ⊥
+no_last xs x e =
+    let l : length xs ≡ length xs + 1 = ap length e ∙ length-append xs (x ∷ []) in
+    omega arith
+
+-- a list in which nothing stands is empty
+pub no_members : {X : Type 0} (xs : List X) → ((x : X) → Among x xs → ⊥) → xs ≡ []
+no_members [] none = refl
+no_members (x ∷ xs) none = absurd (none x (inl refl))

@@ -69,8 +69,8 @@ module _ (limits : Limits) (states : ℕ → State) (last : ℕ) (r : IsRun limi
       first_shown V last (states zero) facts.starts
       (ap (λ state. standing state 0) r.first ∙ first_stands limits n slots)
       (λ handle m is. none_stands (standing (states zero) handle) (λ access generation e.
-          let zero_handle = first_standing limits handle access generation (ap (λ state. standing state handle) (sym r.first) ∙ e) in
-          omega arith))
+      let zero_handle = first_standing limits handle access generation (ap (λ state. standing state handle) (sym r.first) ∙ e) in
+      omega arith))
 
   -- ---- at the end
 

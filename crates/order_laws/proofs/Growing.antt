@@ -1,8 +1,8 @@
 -- What only grows along a run: the history, the places, the closed generations; and that all of it lies in the past.
-use Rattle.std.proofs.Common.{◌≡◌, ◌≢◌, ℕ, zero, suc, ◌+◌, ◌-◌, ◌<◌, ◌≤◌, ◌==◌, ◌&&◌, max, Bool, true, false, cond, ◌⊎◌, inl, inr, List, [], ◌∷◌, ◌++◌, length, find, Option, Some, None, slice_get, refl, sym, ap, ◌∙◌, subst, append-nil, append_assoc, arith}
+use Rattle.std.proofs.Common.{◌≡◌, ◌≢◌, ℕ, zero, suc, ◌+◌, ◌-◌, ◌<◌, ◌≤◌, ◌==◌, ◌&&◌, max, Bool, true, false, cond, ◌⊎◌, inl, inr, List, [], ◌∷◌, ◌++◌, length, find, Option, Some, None, slice_get, refl, sym, ap, ◌∙◌, subst, append-nil, append_assoc, arith, eqb-true}
 use Rattle.std.specs.List.{list_any}
 use Rattle.std.proofs.lemmas.Option.{none-some, same_Some}
-use Rattle.std.proofs.lemmas.Bool.{true≢false, false≢true, or_cases, or_parts}
+use Rattle.std.proofs.lemmas.Bool.{true≢false, false≢true, or_cases, or_parts, eqb-false}
 use Rattle.history.specs.declared.calls.Call.{Call}
 use Rattle.history.specs.declared.calls.Call.TheVariants.{Close}
 use Rattle.history.specs.declared.replies.Reply.{Reply}
@@ -91,8 +91,10 @@ carried_grows state handle offer main true e =
     let same = completed_is state handle offer main e in
     let (roots, places, closings, heap) = carried_roots state handle offer offer.opens in (
       (on_time state.steps false offer.operation ∷ [], ap (λ (q : State). q.places) same ∙ ap (λ l. l ++ on_time state.steps false offer.operation ∷ []) places),
-      (record { generation = generation_at state.heap offer.root; step = state.steps } ∷ [],
-      ap (λ (q : State). q.closings) same ∙ ap (λ l. l ++ record { generation = generation_at state.heap offer.root; step = state.steps } ∷ []) closings),
+      (
+        record { generation = generation_at state.heap offer.root; step = state.steps } ∷ [],
+        ap (λ (q : State). q.closings) same ∙ ap (λ l. l ++ record { generation = generation_at state.heap offer.root; step = state.steps } ∷ []) closings,
+      ),
     )
 
 acted_grows : (state : State) (handle : ℕ) (action : Action) → Grows state.places (acted state handle action).places × Grows state.closings (acted state handle action).closings
@@ -138,22 +140,16 @@ HasPlace state id = (p : Place) × Among p state.places × (p.id ≡ id)
 any_place : (places : List Place) (id : ℕ) → list_any (λ place. place.id == id) places ≡ true → (p : Place) × Among p places × (p.id ≡ id)
 any_place [] id e = absurd (false≢true e)
 any_place (p ∷ ps) id e = elim (or_cases (p.id == id) (list_any (λ place. place.id == id) ps) e) [
-  | inl here ↦ (p, inl refl, same p.id id here)
+  | inl here ↦ (p, inl refl, eqb-true p.id id here)
   | inr later ↦ let (q, a, is) = any_place ps id later in (q, inr a, is)
 ]
-  where
-    same : (a b : ℕ) → (a == b) ≡ true → a ≡ b
-    same a b e = grind arith
 
 pub placed : (state : State) (id : ℕ) → is_placed state id ≡ true → HasPlace state id
 placed state id e = any_place state.places id e
 
-not_same : (a b : ℕ) → (a == b) ≡ false → a ≡ b → ⊥
-not_same a b e is = grind arith
-
 none_placed : (places : List Place) (id : ℕ) → list_any (λ place. place.id == id) places ≡ false → (p : Place) → Among p places → p.id ≡ id → ⊥
 none_placed [] id e p a is = a
-none_placed (q ∷ qs) id e p (inl here) is = not_same q.id id ((or_parts (q.id == id) _ e).0) (ap (λ (x : Place). x.id) (sym here) ∙ is)
+none_placed (q ∷ qs) id e p (inl here) is = eqb-false q.id id ((or_parts (q.id == id) _ e).0) (ap (λ (x : Place). x.id) (sym here) ∙ is)
 none_placed (q ∷ qs) id e p (inr a) is = none_placed qs id ((or_parts (q.id == id) _ e).1) p a is
 
 pub unplaced : (state : State) (id : ℕ) → is_placed state id ≡ false → (p : Place) → Among p state.places → p.id ≡ id → ⊥

@@ -1,6 +1,6 @@
 -- The late places of a step that carries an offer out lead its handle from the content that it had then to the one that it
 -- has at the end.
-use Rattle.std.proofs.Common.{◌≡◌, ◌≢◌, ℕ, zero, suc, ◌+◌, ◌<◌, ◌≤◌, max, nat_lt, Bool, true, false, cond, ◌⊎◌, inl, inr, List, [], ◌∷◌, ◌++◌, filter, Option, Some, None, refl, sym, ap, ◌∙◌, subst, arith}
+use Rattle.std.proofs.Common.{◌≡◌, ◌≢◌, ℕ, zero, suc, ◌+◌, ◌<◌, ◌≤◌, max, nat_lt, Bool, true, false, cond, ◌⊎◌, inl, inr, List, [], ◌∷◌, ◌++◌, filter, Option, Some, None, refl, sym, ap, ◌∙◌, subst, arith, lt-ltb}
 use native.Mathlib.Decide.{ℕ_discrete}
 use Rattle.std.proofs.lemmas.Bool.{true≢false, false≢true, cases_order}
 use Rattle.std.proofs.lemmas.Option.{none-some, same_Some}
@@ -23,7 +23,7 @@ use Rattle.machine_model.specs.Orders.{place_of, closing_for, closed_after}
 use Rattle.machine_model.proofs.Moves.{Moves}
 use Rattle.machine_model.proofs.Times.{IsRun}
 use Rattle.order_laws.specs.Facts.{act_in, On, IsRooted, HasStood, Facts, Update, Swap, Replied, on_writable, on_read_only}
-use Rattle.order_laws.proofs.Elements.{Among, Each, each_of, equals, among_right, among_filter, filter_among}
+use Rattle.order_laws.proofs.Elements.{no_members, Among, Each, each_of, equals, among_right, among_filter, filter_among}
 use Rattle.order_laws.proofs.Sorting.{timing, role, number_below, only_one}
 use Rattle.order_laws.proofs.Views.{View, but, Leads, leads_none, leads_same, leads_from, leads_each, leads_all, leads_parts}
 use Rattle.order_laws.proofs.Acts.{named, but_same}
@@ -37,11 +37,6 @@ use Rattle.order_laws.proofs.Members.{sorted, block, lates, late_at, IsPlace, in
 
 -- ---- small things
 
--- a list in which nothing stands is empty
-pub no_members : {X : Type 0} (xs : List X) → ((x : X) → Among x xs → ⊥) → xs ≡ []
-no_members [] none = refl
-no_members (x ∷ xs) none = absurd (none x (inl refl))
-
 -- the later word for a handle is the one that counts
 pub but_but : (view : View) (a b : ℕ) (s u : Option HandleState) → b ≡ a → (other : ℕ) → but (but view a s) b u other ≡ but view a u other
 but_but view a b s u same other = by (ℕ_discrete other a)
@@ -51,13 +46,10 @@ but_but view a b s u same other = by (ℕ_discrete other a)
         ap (but (but view a s) b u) (here ∙ sym same) ∙ but_here (but view a s) b u ∙ sym (but_here view a u) ∙ ap (but view a u) (sym here)
     by (no there) = but_there (but view a s) b u other (λ e. there (e ∙ same)) ∙ but_there view a s other there ∙ sym (but_there view a u other there)
 
-lt_passes : (c m : ℕ) → c < m → nat_lt c m ≡ true
-lt_passes c m h = grind arith
-
 -- the place of what has its moment behind the closing
 pub late_is : (closing : Option ℕ) (c m id : ℕ) (changed_nothing : Bool) → closing ≡ Some c → c < m → place_by closing m changed_nothing id ≡ late c m changed_nothing id
 late_is closing c m id changed_nothing is lt =
-    ap (λ x. place_by x m changed_nothing id) is ∙ ap (λ b. cond b (late c m changed_nothing id) (on_time m changed_nothing id)) (lt_passes c m lt)
+    ap (λ x. place_by x m changed_nothing id) is ∙ ap (λ b. cond b (late c m changed_nothing id) (on_time m changed_nothing id)) (lt-ltb c m lt)
 
 -- the step that closed the generation of an operation on a writable handle
 pub closing_is : (state : State) (operation : Operation) (generation : ℕ) → operation.access ≡ Writable → operation.generation ≡ Some generation →
@@ -157,8 +149,8 @@ module _ (limits : Limits) (states : ℕ → State) (last : ℕ) (r : IsRun limi
           (to_changing states last (late_at states last t n) its
           (to_late_at states last t n its place (ap (λ (q : Place). q.step) is) (ap (λ (q : Place). q.on_time) is) (ap (λ (q : Place). q.moment) is)) (ap (λ (q : Place). q.changed_nothing) is))
           (λ p a passes.
-              let (is_place, at, is_late, moment, e) = of_changing n p (filter_among (equals role 0) (late_at states last t n) p a passes) in
-              one_changing limits states last r V facts n its enters p is_place e moment)
+          let (is_place, at, is_late, moment, e) = of_changing n p (filter_among (equals role 0) (late_at states last t n) p a passes) in
+          one_changing limits states last r V facts n its enters p is_place e moment)
 
       own_leads : old ≡ update.generation → LeadsLately (its ∷ []) n (suc n)
       own_leads same =
@@ -177,8 +169,8 @@ module _ (limits : Limits) (states : ℕ → State) (last : ℕ) (r : IsRun limi
       other_update differ =
           none_lately (Changing n) n (suc n)
           (other_changing n its enters (λ is_late at e.
-              let says = late_says (closing_for (states n) update.owner update.owner.access) n update.owner.id false is_late in
-              differ (closing_is_old n update.generation (omega arith) (sym update_closing ∙ says.0 ∙ ap Some at))))
+          let says = late_says (closing_for (states n) update.owner update.owner.access) n update.owner.id false is_late in
+          differ (closing_is_old n update.generation (omega arith) (sym update_closing ∙ says.0 ∙ ap Some at))))
           (update.still old (stood n (omega (arith, behind))) differ)
 
       update_by : Dec (old ≡ update.generation) → LeadsLately (Changing n) n (suc n)
@@ -237,9 +229,9 @@ module _ (limits : Limits) (states : ℕ → State) (last : ℕ) (r : IsRun limi
     readers_lately : (n : ℕ) → t < n → LeadsLately (filter (equals role 1) (late_at states last t n)) (suc n) (suc n)
     readers_lately n behind =
         leads_each (hash_of limits.hash) (states last).events _ (lately (suc n)) (each_of _ _ (λ p a.
-            let (within, e) = in_reading states last (late_at states last t n) p a in
-            let (place, at, is_late, moment) = in_late_at states last t n p within in
-            reader_lately n behind p at is_late moment (reading limits states last r V facts p place e)))
+        let (within, e) = in_reading states last (late_at states last t n) p a in
+        let (place, at, is_late, moment) = in_late_at states last t n p within in
+        reader_lately n behind p at is_late moment (reading limits states last r V facts p place e)))
 
     -- all of one later moment
     moment_lately : (n : ℕ) → t < n → n < last → LeadsLately (late_at states last t n) n (suc n)

@@ -1,5 +1,5 @@
 -- The places of one step, one moment and one role, among all places of a run.
-use Rattle.std.proofs.Common.{◌≡◌, ◌≢◌, ℕ, zero, suc, ◌+◌, ◌<◌, ◌≤◌, ◌==◌, Bool, true, false, cond, ◌⊎◌, inl, inr, List, [], ◌∷◌, ◌++◌, filter, Option, Some, None, refl, sym, ap, ◌∙◌, subst, arith}
+use Rattle.std.proofs.Common.{◌≡◌, ◌≢◌, ℕ, zero, suc, ◌+◌, ◌<◌, ◌≤◌, ◌==◌, Bool, true, false, cond, ◌⊎◌, inl, inr, List, [], ◌∷◌, ◌++◌, filter, Option, Some, None, refl, sym, ap, ◌∙◌, subst, arith, eqb-true, eq-eqb}
 use Rattle.std.proofs.lemmas.Bool.{true≢false, false≢true}
 use Rattle.std.proofs.lemmas.Option.{none-some, same_Some}
 use Rattle.history.specs.Worlds.{KeyMap}
@@ -12,17 +12,11 @@ use Rattle.machine_model.specs.States.{State}
 use Rattle.machine_model.specs.Orders.{place_of, closing_for}
 use Rattle.machine_model.proofs.Times.{IsRun, steps_at}
 use Rattle.order_laws.specs.Facts.{Runs, IsReply, Facts, Update, Replied}
-use Rattle.order_laws.proofs.Elements.{Among, Each, Along, each_of, equals, among_filter, filter_among}
+use Rattle.order_laws.proofs.Elements.{no_last, Among, Each, Along, each_of, equals, among_filter, filter_among}
 use Rattle.order_laws.proofs.Sorting.{Rises, AreApart, rising_rises, among_rising, rising_among, rising_apart, apart_filter, rises_filter, steps_along, along_where, timing, role, number_false, number_true, false_number, true_number, timing_up, moments_up, role_up}
 use Rattle.order_laws.proofs.Past.{past_at}
 use Rattle.order_laws.proofs.StepsOfRun.{Enters, EntersNone}
-use Rattle.order_laws.proofs.Origins.{Why, by_update, by_answer, by_change, Origin, origin, apart_at, place_says, on_time_says, late_says, same_last, no_last}
-
-number_passes : (a n : ℕ) → (a == n) ≡ true → a ≡ n
-number_passes a n e = grind arith
-
-passes_number : (a n : ℕ) → a ≡ n → (a == n) ≡ true
-passes_number a n e = grind arith
+use Rattle.order_laws.proofs.Origins.{Why, by_update, by_answer, by_change, Origin, origin, apart_at, place_says, on_time_says, late_says, same_last}
 
 -- ---- the parts of the order
 
@@ -50,47 +44,47 @@ module _ (states : ℕ → State) (last : ℕ) where
   IsPlace p = Among p (states last).places
 
   pub in_block : (t : ℕ) (p : Place) → Among p (block t) → IsPlace p × (p.step ≡ t)
-  in_block t p a = let (within, e) = among_filter (equals (λ p. p.step) t) sorted p a in (among_rising (states last).places p within, number_passes p.step t e)
+  in_block t p a = let (within, e) = among_filter (equals (λ p. p.step) t) sorted p a in (among_rising (states last).places p within, eqb-true p.step t e)
 
   pub to_block : (t : ℕ) (p : Place) → IsPlace p → p.step ≡ t → Among p (block t)
-  to_block t p a e = filter_among (equals (λ p. p.step) t) sorted p (rising_among (states last).places p a) (passes_number p.step t e)
+  to_block t p a e = filter_among (equals (λ p. p.step) t) sorted p (rising_among (states last).places p a) (eq-eqb p.step t e)
 
   pub in_lates : (t : ℕ) (p : Place) → Among p (lates t) → IsPlace p × (p.step ≡ t) × (p.on_time ≡ false)
   in_lates t p a =
       let (within, e) = among_filter (equals timing 0) (block t) p a in
       let (place, at) = in_block t p within in
-      (place, at, number_false p.on_time (number_passes (timing p) 0 e))
+      (place, at, number_false p.on_time (eqb-true (timing p) 0 e))
 
   pub to_lates : (t : ℕ) (p : Place) → IsPlace p → p.step ≡ t → p.on_time ≡ false → Among p (lates t)
-  to_lates t p a e late = filter_among (equals timing 0) (block t) p (to_block t p a e) (passes_number (timing p) 0 (false_number p.on_time late))
+  to_lates t p a e late = filter_among (equals timing 0) (block t) p (to_block t p a e) (eq-eqb (timing p) 0 (false_number p.on_time late))
 
   pub in_timely : (t : ℕ) (p : Place) → Among p (timely t) → IsPlace p × (p.step ≡ t) × (p.on_time ≡ true)
   in_timely t p a =
       let (within, e) = among_filter (equals timing 1) (block t) p a in
       let (place, at) = in_block t p within in
-      (place, at, number_true p.on_time (number_passes (timing p) 1 e))
+      (place, at, number_true p.on_time (eqb-true (timing p) 1 e))
 
   pub to_timely : (t : ℕ) (p : Place) → IsPlace p → p.step ≡ t → p.on_time ≡ true → Among p (timely t)
-  to_timely t p a e on = filter_among (equals timing 1) (block t) p (to_block t p a e) (passes_number (timing p) 1 (true_number p.on_time on))
+  to_timely t p a e on = filter_among (equals timing 1) (block t) p (to_block t p a e) (eq-eqb (timing p) 1 (true_number p.on_time on))
 
   pub in_late_at : (t n : ℕ) (p : Place) → Among p (late_at t n) → IsPlace p × (p.step ≡ t) × (p.on_time ≡ false) × (p.moment ≡ n)
   in_late_at t n p a =
       let (within, e) = among_filter (equals (λ p. p.moment) n) (lates t) p a in
       let (place, at, late) = in_lates t p within in
-      (place, at, late, number_passes p.moment n e)
+      (place, at, late, eqb-true p.moment n e)
 
   pub to_late_at : (t n : ℕ) (p : Place) → IsPlace p → p.step ≡ t → p.on_time ≡ false → p.moment ≡ n → Among p (late_at t n)
-  to_late_at t n p a e late m = filter_among (equals (λ p. p.moment) n) (lates t) p (to_lates t p a e late) (passes_number p.moment n m)
+  to_late_at t n p a e late m = filter_among (equals (λ p. p.moment) n) (lates t) p (to_lates t p a e late) (eq-eqb p.moment n m)
 
   -- of a list, those that changed something, and those that didn't
   pub in_changing : (ps : List Place) (p : Place) → Among p (filter (equals role 0) ps) → Among p ps × (p.changed_nothing ≡ false)
-  in_changing ps p a = let (within, e) = among_filter (equals role 0) ps p a in (within, number_false p.changed_nothing (number_passes (role p) 0 e))
+  in_changing ps p a = let (within, e) = among_filter (equals role 0) ps p a in (within, number_false p.changed_nothing (eqb-true (role p) 0 e))
 
   pub to_changing : (ps : List Place) (p : Place) → Among p ps → p.changed_nothing ≡ false → equals role 0 p ≡ true
-  to_changing ps p a e = passes_number (role p) 0 (false_number p.changed_nothing e)
+  to_changing ps p a e = eq-eqb (role p) 0 (false_number p.changed_nothing e)
 
   pub in_reading : (ps : List Place) (p : Place) → Among p (filter (equals role 1) ps) → Among p ps × (p.changed_nothing ≡ true)
-  in_reading ps p a = let (within, e) = among_filter (equals role 1) ps p a in (within, number_true p.changed_nothing (number_passes (role p) 1 e))
+  in_reading ps p a = let (within, e) = among_filter (equals role 1) ps p a in (within, number_true p.changed_nothing (eqb-true (role p) 1 e))
 
   -- ---- how they rise
 

@@ -27,7 +27,7 @@ use Rattle.machine_model.specs.Acting.{opened_root}
 use Rattle.machine_model.specs.Orders.{place_of, closing_for}
 use Rattle.machine_model.proofs.Times.{IsRun}
 use Rattle.order_laws.specs.Facts.{act_in, standing, standing_of, On, IsRooted, HasStood, IsReply, Facts, Update, Swap, Opens, clears, snapshots, freezes, Replied, on_writable, on_read_only}
-use Rattle.order_laws.proofs.Elements.{Among, Each, each_of, equals, filter_among}
+use Rattle.order_laws.proofs.Elements.{no_members, Among, Each, each_of, equals, filter_among}
 use Rattle.order_laws.proofs.Sorting.{role, number_below, only_one}
 use Rattle.order_laws.proofs.Views.{View, but, Leads, leads_none, leads_same, leads_one, leads_each, leads_parts}
 use Rattle.order_laws.proofs.Acts.{named, acts_on, copies, closes as closes_handle}
@@ -39,7 +39,7 @@ use Rattle.order_laws.proofs.Sound.{sound_at, stands_here, stands_there, stands_
 use Rattle.order_laws.proofs.Origins.{place_says, on_time_says, late_says}
 use Rattle.order_laws.proofs.Timeline.{shown, view, view_writable, view_read_only, view_stays, same_shown, but_here, but_there, update_leads, reader_leads}
 use Rattle.order_laws.proofs.Members.{sorted, block, lates, timely, IsPlace, in_timely, to_timely, in_changing, to_changing, in_reading, changing_enters, none_changing, one_changing, Reading, reading, timely_apart, on_time_moment, timely_along}
-use Rattle.order_laws.proofs.Late.{no_members, closing_is, entered_place}
+use Rattle.order_laws.proofs.Late.{closing_is, entered_place}
 
 module _ (limits : Limits) (states : ℕ → State) (last : ℕ) (r : IsRun limits states last) (V : ℕ → ℕ → KeyMap) (facts : Facts limits states last V) where
   abbrev pub LeadsOn : List Place → View → View → Type 0
@@ -92,9 +92,9 @@ module _ (limits : Limits) (states : ℕ → State) (last : ℕ) (r : IsRun limi
   pub readers_timely : (t : ℕ) → t < last → LeadsOn (filter (equals role 1) (timely states last t)) (at_time (suc t)) (at_time (suc t))
   readers_timely t lt =
       leads_each (hash_of limits.hash) (states last).events _ (at_time (suc t)) (each_of _ _ (λ p a.
-          let (within, e) = in_reading states last (timely states last t) p a in
-          let (place, at, on) = in_timely states last t p within in
-          reader_timely t lt p at on (sym (on_time_moment limits states last r V facts p place on) ∙ at) (reading limits states last r V facts p place e)))
+      let (within, e) = in_reading states last (timely states last t) p a in
+      let (place, at, on) = in_timely states last t p within in
+      reader_timely t lt p at on (sym (on_time_moment limits states last r V facts p place on) ∙ at) (reading limits states last r V facts p place e)))
 
   -- ---- who changes something
 
@@ -125,8 +125,8 @@ module _ (limits : Limits) (states : ℕ → State) (last : ℕ) (r : IsRun limi
       let within = to_timely states last t new place at on in
       only_one (equals role 0) (timely states last t) new (timely_apart limits states last r V facts t) within (to_changing states last (timely states last t) new within e)
       (λ p a passes.
-          let (is_place, its_on, moment, changed) = of_changing t p (filter_among (equals role 0) (timely states last t) p a passes) in
-          one_changing limits states last r V facts t new enters p is_place changed moment)
+      let (is_place, its_on, moment, changed) = of_changing t p (filter_among (equals role 0) (timely states last t) p a passes) in
+      one_changing limits states last r V facts t new enters p is_place changed moment)
 
   -- where the standing and the contents stay the views are the same
   pub still_view : (t : ℕ) → KeepsAll limits states last V t → IsStill limits states last V t → (handle : ℕ) → at_time t handle ≡ at_time (suc t) handle
@@ -154,7 +154,7 @@ module _ (limits : Limits) (states : ℕ → State) (last : ℕ) (r : IsRun limi
         let closed = sym closing_at ∙ (late_says its_closing t update.owner.id false is_late).0 in
         none_timely t (other_timely t its enters (λ on e. true≢false (sym on ∙ is_late)))
         (λ handle. others_stay handle (λ generation on same.
-            none-some its.step (sym ((sound_at limits states last r V facts t (omega arith)).unclosed handle generation on) ∙ ap (closed_at (states t)) same ∙ closed)))
+        none-some its.step (sym ((sound_at limits states last r V facts t (omega arith)).unclosed handle generation on) ∙ ap (closed_at (states t)) same ∙ closed)))
 
     timely_update : its.on_time ≡ true → LeadsOn (Changing t) (at_time t) (at_time (suc t))
     timely_update on =

@@ -1,6 +1,6 @@
 -- Where the places of a run come from: each was entered by one step, and for one of three reasons.
-use Rattle.std.proofs.Common.{◌≡◌, ◌≢◌, ℕ, zero, suc, ◌+◌, ◌<◌, ◌≤◌, Bool, true, false, cond, nat_lt, ◌⊎◌, inl, inr, List, [], ◌∷◌, ◌++◌, length, length-append, Option, Some, None, refl, sym, ap, ◌∙◌, subst, arith}
-use Rattle.std.proofs.lemmas.Bool.{true≢false, false≢true}
+use Rattle.std.proofs.Common.{◌≡◌, ◌≢◌, ℕ, zero, suc, ◌+◌, ◌<◌, ◌≤◌, Bool, true, false, cond, nat_lt, ◌⊎◌, inl, inr, List, [], ◌∷◌, ◌++◌, length, length-append, Option, Some, None, refl, sym, ap, ◌∙◌, subst, arith, ltb-true}
+use Rattle.std.proofs.lemmas.Bool.{true≢false, false≢true, ltb-false}
 use Rattle.std.proofs.lemmas.Option.{none-some, same_Some}
 use Rattle.history.specs.Worlds.{KeyMap}
 use Rattle.history.specs.declared.calls.Access.{Access}
@@ -18,7 +18,7 @@ use Rattle.machine_model.specs.Orders.{place_of, is_placed, closing_for}
 use Rattle.machine_model.proofs.Moves.{Moves}
 use Rattle.machine_model.proofs.Times.{IsRun, steps_at}
 use Rattle.order_laws.specs.Facts.{Runs, IsReply, Facts, Update, Swap, Replied}
-use Rattle.order_laws.proofs.Elements.{Among, Each, among_either}
+use Rattle.order_laws.proofs.Elements.{Among, Each, among_either, no_last}
 use Rattle.order_laws.proofs.Sorting.{AreApart, apart_push}
 use Rattle.order_laws.proofs.Books.{Books, id_below}
 use Rattle.order_laws.proofs.AllBooks.{books_at}
@@ -42,12 +42,6 @@ place_says (Some c) moment id changed_nothing = by (nat_lt c moment)
     by true = (refl, refl, refl)
     by false = (refl, refl, refl)
 
-not_before : (c moment : ℕ) → nat_lt c moment ≡ false → moment ≤ c
-not_before c moment e = grind arith
-
-before_it : (c moment : ℕ) → nat_lt c moment ≡ true → c < moment
-before_it c moment e = grind arith
-
 -- a place on time has its moment as its step, and the generation wasn't closed before it
 pub on_time_says : (closing : Option ℕ) (moment id : ℕ) (changed_nothing : Bool) → (place_by closing moment changed_nothing id).on_time ≡ true →
     ((place_by closing moment changed_nothing id).step ≡ moment) × ((c : ℕ) → closing ≡ Some c → moment ≤ c)
@@ -57,7 +51,7 @@ on_time_says (Some d) moment id changed_nothing e = by (nat_lt d moment) refl e
     by : (b : Bool) → nat_lt d moment ≡ b → let p = cond b (late d moment changed_nothing id) (on_time moment changed_nothing id) in
         p.on_time ≡ true → (p.step ≡ moment) × ((c : ℕ) → Some d ≡ Some c → moment ≤ c)
     by true is e = absurd (false≢true e)
-    by false is e = (refl, λ c same. subst (λ x. moment ≤ x) (same_Some d c same) (not_before d moment is))
+    by false is e = (refl, λ c same. subst (λ x. moment ≤ x) (same_Some d c same) (ltb-false d moment is))
 
 -- a late place has the step that closed the generation, before its moment
 pub late_says : (closing : Option ℕ) (moment id : ℕ) (changed_nothing : Bool) → (place_by closing moment changed_nothing id).on_time ≡ false →
@@ -67,7 +61,7 @@ late_says (Some d) moment id changed_nothing e = by (nat_lt d moment) refl e
   where
     by : (b : Bool) → nat_lt d moment ≡ b → let p = cond b (late d moment changed_nothing id) (on_time moment changed_nothing id) in
         p.on_time ≡ false → (Some d ≡ Some p.step) × (p.step < moment)
-    by true is e = (refl, before_it d moment is)
+    by true is e = (refl, ltb-true d moment is)
     by false is e = absurd (true≢false e)
 
 -- two lists with one more that are the same have the same last one
@@ -77,11 +71,6 @@ same_last (z ∷ xs) x y e = same_last xs x y (tails e)
   where
     tails : {X : Type 0} {a : X} {us vs : List X} → a ∷ us ≡ a ∷ vs → us ≡ vs
     tails e = cc e
-
-pub no_last : {X : Type 0} (xs : List X) (x : X) → xs ≡ xs ++ x ∷ [] → ⊥
-no_last xs x e =
-    let l : length xs ≡ length xs + 1 = ap length e ∙ length-append xs (x ∷ []) in
-    omega arith
 
 -- nothing is placed at first
 nothing_placed : (limits : Limits) → (first_state limits).places ≡ []

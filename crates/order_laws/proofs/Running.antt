@@ -106,7 +106,8 @@ same_trans a b c p q = record { id = q.id ∙ p.id; call = q.call ∙ p.call; op
 actor_at : (actor k : ℕ) → 0 < actor → k ≡ actor - 1 → actor ≡ suc k
 actor_at actor k pos e = omega arith
 
-begin_not_running : (state : State) (k actor : ℕ) (call : Call) (operation : Operation) → begin_denial state actor call ≡ None → actor ≡ suc k → Runs state k operation → ⊥
+-- an actor that runs an operation begins no other
+pub begin_not_running : (state : State) (k actor : ℕ) (call : Call) (operation : Operation) → begin_denial state actor call ≡ None → actor ≡ suc k → Runs state k operation → ⊥
 begin_not_running state k actor call operation d own is = denied (subst (λ a. operation_of state a ≡ Some operation) (sym own) is)
   where
     denied : operation_of state actor ≡ Some operation → ⊥

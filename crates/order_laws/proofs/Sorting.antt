@@ -79,11 +79,13 @@ placed_among p (q ∷ qs) x a = placed_among_by p q qs (is_before p q) x (placed
 placed_rises_by : (p q : Place) (qs : List Place) (b : Bool) → is_before p q ≡ b → Rises (q ∷ qs) → Rises (placed p qs) → Rises (cond b (p ∷ q ∷ qs) (q ∷ placed p qs))
 placed_rises_by p q qs true e h rest =
     ((before_asymmetric p q e, each_of (λ r. is_before r p ≡ false) qs (λ r a. not_after p q r e (of_each (λ r. is_before r q ≡ false) qs h.0 r a))), h)
-placed_rises_by p q qs false e h rest =
-    (each_of (λ r. is_before r q ≡ false) (placed p qs) (λ r a. elim (among_placed p qs r a) [
-      | inl is ↦ subst (λ x. is_before x q ≡ false) (sym is) e
-      | inr old ↦ of_each (λ r. is_before r q ≡ false) qs h.0 r old
-    ]), rest)
+placed_rises_by p q qs false e h rest = (
+  each_of (λ r. is_before r q ≡ false) (placed p qs) (λ r a. elim (among_placed p qs r a) [
+    | inl is ↦ subst (λ x. is_before x q ≡ false) (sym is) e
+    | inr old ↦ of_each (λ r. is_before r q ≡ false) qs h.0 r old
+  ]),
+  rest,
+)
 
 placed_rises : (p : Place) (qs : List Place) → Rises qs → Rises (placed p qs)
 placed_rises p [] h = (tt, tt)
@@ -113,11 +115,13 @@ AreApart (p ∷ ps) = Each (λ q. p.id ≡ q.id → ⊥) ps × AreApart ps
 
 placed_apart_by : (p q : Place) (qs : List Place) (b : Bool) → AreApart (p ∷ q ∷ qs) → AreApart (placed p qs) → AreApart (cond b (p ∷ q ∷ qs) (q ∷ placed p qs))
 placed_apart_by p q qs true h rest = h
-placed_apart_by p q qs false h rest =
-    (each_of (λ r. q.id ≡ r.id → ⊥) (placed p qs) (λ r a. elim (among_placed p qs r a) [
-      | inl is ↦ λ e. h.0.0 (sym (e ∙ ap (λ (x : Place). x.id) is))
-      | inr old ↦ of_each (λ r. q.id ≡ r.id → ⊥) qs h.1.0 r old
-    ]), rest)
+placed_apart_by p q qs false h rest = (
+  each_of (λ r. q.id ≡ r.id → ⊥) (placed p qs) (λ r a. elim (among_placed p qs r a) [
+    | inl is ↦ λ e. h.0.0 (sym (e ∙ ap (λ (x : Place). x.id) is))
+    | inr old ↦ of_each (λ r. q.id ≡ r.id → ⊥) qs h.1.0 r old
+  ]),
+  rest,
+)
 
 placed_apart : (p : Place) (qs : List Place) → AreApart (p ∷ qs) → AreApart (placed p qs)
 placed_apart p [] h = h
@@ -166,11 +170,13 @@ same_id (z ∷ zs) x y apart (inr a) (inr b) e = same_id zs x y apart.1 a b e
 -- one more of another operation stays apart
 pub apart_push : (xs : List Place) (x : Place) → AreApart xs → ((y : Place) → Among y xs → y.id ≡ x.id → ⊥) → AreApart (xs ++ x ∷ [])
 apart_push [] x apart new = (tt, tt)
-apart_push (y ∷ ys) x apart new =
-    (each_of (λ q. y.id ≡ q.id → ⊥) (ys ++ x ∷ []) (λ q a. elim (among_either ys (x ∷ []) q a) [
-      | inl old ↦ of_each (λ q. y.id ≡ q.id → ⊥) ys apart.0 q old
-      | inr last ↦ elim last [ inl is ↦ λ e. new y (inl refl) (e ∙ ap (λ (q : Place). q.id) is) | inr none ↦ absurd none ]
-    ]), apart_push ys x apart.1 (λ z a. new z (inr a)))
+apart_push (y ∷ ys) x apart new = (
+  each_of (λ q. y.id ≡ q.id → ⊥) (ys ++ x ∷ []) (λ q a. elim (among_either ys (x ∷ []) q a) [
+    | inl old ↦ of_each (λ q. y.id ≡ q.id → ⊥) ys apart.0 q old
+    | inr last ↦ elim last [ inl is ↦ λ e. new y (inl refl) (e ∙ ap (λ (q : Place). q.id) is) | inr none ↦ absurd none ]
+  ]),
+  apart_push ys x apart.1 (λ z a. new z (inr a)),
+)
 
 -- ---- numbers that rise along rising places
 

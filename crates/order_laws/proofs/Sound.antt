@@ -178,6 +178,7 @@ module _ (limits : Limits) (states : ℕ → State) (last : ℕ) (r : IsRun limi
       back_by : (other generation : ℕ) → On states (suc t) other generation → Dec (other ≡ handle) → On states t other generation
       back_by other generation on (yes same) = absurd (none-some (Writable, generation) (sym (ap (standing (states (suc t))) same ∙ gone) ∙ on))
       back_by other generation on (no apart) = sym (others other apart) ∙ on
+
       back : (other generation : ℕ) → On states (suc t) other generation → On states t other generation
       back other generation on = back_by other generation on (ℕ_discrete other handle)
   sound_by t lt (swaps handle offer swap places closings roots heap still) sound = swapped_sound t handle lt offer swap roots heap closings sound

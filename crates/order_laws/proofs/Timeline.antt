@@ -1,5 +1,5 @@
 -- What the handles show at each time of a run, and what single operations do to it.
-use Rattle.std.proofs.Common.{◌≡◌, ◌≢◌, ℕ, zero, suc, ◌+◌, ◌<◌, ◌≤◌, ◌==◌, Bool, true, false, cond, ◌⊎◌, inl, inr, List, [], ◌∷◌, ◌++◌, Option, Some, None, refl, sym, ap, ◌∙◌, subst, arith}
+use Rattle.std.proofs.Common.{◌≡◌, ◌≢◌, ℕ, zero, suc, ◌+◌, ◌<◌, ◌≤◌, ◌==◌, Bool, true, false, cond, ◌⊎◌, inl, inr, List, [], ◌∷◌, ◌++◌, Option, Some, None, refl, sym, ap, ◌∙◌, subst, arith, ne_eqb, eq-eqb}
 use Rattle.std.proofs.lemmas.Option.{none-some, same_Some, some_pair_parts}
 use Rattle.std.specs.FinMap as fin
 use Rattle.ctrie_base.specs.Hashes.{hash_of}
@@ -23,17 +23,11 @@ use Rattle.order_laws.proofs.Origins.{place_says}
 
 -- ---- views that differ at one handle
 
-same_test : (a : ℕ) → (a == a) ≡ true
-same_test a = grind arith
-
-other_test : (a b : ℕ) → (a ≡ b → ⊥) → (a == b) ≡ false
-other_test a b e = grind arith
-
 pub but_here : (view : View) (handle : ℕ) (state : Option HandleState) → but view handle state handle ≡ state
-but_here view handle state = ap (λ b. cond b state (view handle)) (same_test handle)
+but_here view handle state = ap (λ b. cond b state (view handle)) (eq-eqb handle handle refl)
 
 pub but_there : (view : View) (handle : ℕ) (state : Option HandleState) (other : ℕ) → (other ≡ handle → ⊥) → but view handle state other ≡ view other
-but_there view handle state other apart = ap (λ b. cond b state (view other)) (other_test other handle apart)
+but_there view handle state other apart = ap (λ b. cond b state (view other)) (ne_eqb other handle apart)
 
 -- ---- what the handles show
 
