@@ -1,21 +1,18 @@
 -- What one operation does to what a world shows.
-use Rattle.std.proofs.Common.{◌≡◌, ◌≢◌, ℕ, zero, suc, ◌==◌, Bool, true, false, cond, Option, Some, None, option_and_then, is_some, if◌then◌else◌, refl, sym, ap, ◌∙◌, subst, eqb→eq, eqb-true, arith}
-use Rattle.std.proofs.lemmas.Bool.{true≢false, false≢true}
+use Rattle.std.proofs.Common.{◌≡◌, ℕ, ◌==◌, Bool, true, false, cond, Option, Some, None, refl, sym, ap, ◌∙◌, eqb-true}
 use Rattle.std.proofs.lemmas.Option.{none-some, same_Some, some_pair_parts}
 use Rattle.std.specs.FinMap as fin
 use Rattle.std.specs.Cmp.{nat_cmp_total, unsigned_tied}
-use Rattle.std.specs.Ordering.{nat_cmp, eq_by_cmp}
 use Rattle.history.specs.declared.calls.Access.{Access}
 use Rattle.history.specs.declared.calls.Access.TheVariants.{Writable, ReadOnly}
 use Rattle.history.specs.declared.calls.Call.{Call}
-use Rattle.history.specs.declared.calls.Call.TheVariants.{Get, Put, PutIfAbsent, Replace, ReplaceIf, Remove, RemoveIf, Clear, Snapshot, Freeze, Close, Entries, Count}
+use Rattle.history.specs.declared.calls.Call.TheVariants.{Get, Put, PutIfAbsent, Replace, ReplaceIf, Remove, RemoveIf, Clear, Close, Entries, Count}
 use Rattle.history.specs.declared.replies.Reply.{Reply}
 use Rattle.history.specs.declared.replies.Reply.TheVariants as reply
 use Rattle.history.specs.Worlds.{KeyMap, HandleState, HandleMap}
-use Rattle.history.specs.Effects.{Effect, effect, changing, copying, naming, map_of, writable_map_of, read_only_map_of}
+use Rattle.history.specs.Effects.{Effect, effect, changing, copying, naming}
 use Rattle.machine_model.specs.Calls.{handle_of}
 use Rattle.order_laws.specs.Facts.{act_in}
-use Rattle.order_laws.proofs.Elements.{tested}
 use Rattle.order_laws.proofs.Views.{View, Shows, but}
 
 -- a handle that names this map

@@ -1,32 +1,30 @@
 -- At each time of a run the history is well formed, and says which operations run.
-use Rattle.std.proofs.Common.{◌≡◌, ℕ, zero, suc, ◌+◌, ◌-◌, ◌<◌, ◌≤◌, ◌⊎◌, inl, inr, List, [], ◌∷◌, ◌++◌, map, set, get_or, length, replicate, Option, Some, None, slice_get, refl, sym, ap, ◌∙◌, subst, length-set, length-append, arith}
+use Rattle.std.proofs.Common.{◌≡◌, ℕ, suc, ◌-◌, ◌≤◌, inl, inr, List, [], ◌∷◌, ◌++◌, set, get_or, length, Option, Some, None, refl, sym, ap, ◌∙◌, subst, length-set}
 use Rattle.std.proofs.lemmas.List.{length-map, length-replicate}
-use Rattle.std.proofs.lemmas.Option.{none-some}
 use Rattle.history.specs.declared.replies.Reply.{Reply}
 use Rattle.history.specs.declared.events.Event.{Event}
-use Rattle.history.specs.declared.events.Event.TheVariants.{Begin, End}
-use Rattle.history.specs.Histories.{Operation as Told, HasEnded, IsRunning, MayFollow, IsWellFormed}
+use Rattle.history.specs.declared.events.Event.TheVariants.{End}
+use Rattle.history.specs.Histories.{Operation as Told, IsRunning, MayFollow, IsWellFormed}
 use Rattle.history.proofs.Places.{at_old, at_push, at_cases}
 use Rattle.history.proofs.Begins.{well_formed_push}
 use Rattle.machine_model.specs.declared.operations.Operation.{Operation}
-use Rattle.machine_model.specs.declared.actions.Action.TheVariants as act
 use Rattle.machine_model.specs.declared.steps.Limits.{Limits}
 use Rattle.machine_model.specs.declared.steps.Outcome.{Outcome}
 use Rattle.machine_model.specs.declared.steps.Step.{Step}
 use Rattle.machine_model.specs.declared.steps.Step.TheVariants as step
-use Rattle.machine_model.specs.States.{State, first_state, operation_of}
+use Rattle.machine_model.specs.States.{State, first_state}
 use Rattle.machine_model.specs.Operations.{action_of}
-use Rattle.machine_model.specs.Acting.{gone, ended, operation_after, marked}
+use Rattle.machine_model.specs.Acting.{gone, marked}
 use Rattle.machine_model.specs.Counting.{settled}
 use Rattle.machine_model.specs.Machine.{swept}
 use Rattle.machine_model.proofs.Moves.{Moves, Begins, Goes, Ends, Sweeps, begun_operation}
 use Rattle.machine_model.proofs.Frames.{acted_framed, limits_kept}
 use Rattle.machine_model.proofs.Found.{none_found}
 use Rattle.machine_model.proofs.Times.{IsRun, at_each_time}
-use Rattle.machine_model.proofs.Actors.{after_marks, marks_by, gone_actors, begin_actors, of_end}
+use Rattle.machine_model.proofs.Actors.{after_marks, gone_actors, begin_actors, of_end}
 use Rattle.order_laws.specs.Facts.{Runs}
 use Rattle.order_laws.proofs.Elements.{no_last}
-use Rattle.order_laws.proofs.Running.{IsSame, IsBegun, IsEnded, ran_before, runs_on, place_of_actor, at_place, one_at}
+use Rattle.order_laws.proofs.Running.{IsSame, IsBegun, IsEnded, ran_before, runs_on, place_of_actor, one_at}
 use Rattle.order_laws.proofs.Books.{IsTold, Books, told_same, one_by_id, quiet_books, begins_books, begin_events}
 
 -- ---- an end

@@ -1,8 +1,8 @@
 -- The places of each step lead from what the handles show before it to what they show behind it; so all places lead from the
 -- first view to the last.
-use Rattle.std.proofs.Common.{◌≡◌, ◌≢◌, ℕ, zero, suc, ◌+◌, ◌<◌, ◌≤◌, Bool, true, false, cond, ◌⊎◌, inl, inr, List, [], ◌∷◌, ◌++◌, filter, Option, Some, None, refl, sym, ap, ◌∙◌, subst, arith}
-use Rattle.std.proofs.lemmas.Bool.{true≢false, false≢true}
-use Rattle.std.proofs.lemmas.Option.{none-some, same_Some}
+use Rattle.std.proofs.Common.{◌≡◌, ℕ, zero, suc, ◌<◌, ◌≤◌, Bool, true, false, List, filter, Some, refl, sym, ap, ◌∙◌, subst, arith}
+use Rattle.std.proofs.lemmas.Bool.{true≢false}
+use Rattle.std.proofs.lemmas.Option.{none-some}
 use Rattle.ctrie_base.specs.Hashes.{hash_of}
 use Rattle.history.specs.Worlds.{KeyMap}
 use Rattle.history.specs.declared.replies.Reply.{Reply}
@@ -16,7 +16,7 @@ use Rattle.order_laws.specs.Facts.{Facts, Replied, on_writable, on_read_only}
 use Rattle.order_laws.proofs.Elements.{no_members, Among, equals}
 use Rattle.order_laws.proofs.Sorting.{timing, role, number_below, among_rising}
 use Rattle.order_laws.proofs.Views.{View, Leads, leads_none, leads_all, leads_parts}
-use Rattle.order_laws.proofs.StepsOfRun.{Enters, ClosesNone, Kind, plain, updates, answers, closes, swaps, kind_at}
+use Rattle.order_laws.proofs.StepsOfRun.{ClosesNone, Kind, plain, updates, answers, closes, swaps, kind_at}
 use Rattle.order_laws.proofs.Closed.{closed_in, closed_from}
 use Rattle.order_laws.proofs.Origins.{Why, by_update, by_answer, by_change, origin, place_says, late_says}
 use Rattle.order_laws.proofs.Timeline.{view}

@@ -1,7 +1,7 @@
 -- What the history says of the running operations: it is well formed, and those run that have begun and not ended.
-use Rattle.std.proofs.Common.{◌≡◌, ◌≢◌, ℕ, zero, suc, ◌+◌, ◌-◌, ◌<◌, ◌≤◌, Bool, true, false, cond, ◌⊎◌, inl, inr, List, [], ◌∷◌, ◌++◌, map, set, get_or, take, length, replicate, Option, Some, None, slice_get, refl, sym, ap, ◌∙◌, subst, take_all, length-set, arith}
-use Rattle.std.proofs.lemmas.List.{length-map, length-replicate, get_or-set_same}
-use Rattle.std.proofs.lemmas.Option.{none-some, same_Some, slice_get_within}
+use Rattle.std.proofs.Common.{◌≡◌, ℕ, suc, ◌-◌, ◌<◌, ◌≤◌, cond, inl, inr, List, [], ◌∷◌, ◌++◌, set, get_or, take, length, Option, Some, None, slice_get, refl, sym, ap, ◌∙◌, subst, take_all, length-set, arith}
+use Rattle.std.proofs.lemmas.List.{get_or-set_same}
+use Rattle.std.proofs.lemmas.Option.{slice_get_within}
 use Rattle.history.specs.declared.calls.Call.{Call}
 use Rattle.history.specs.declared.replies.Reply.{Reply}
 use Rattle.history.specs.declared.events.Event.{Event}
@@ -10,22 +10,16 @@ use Rattle.history.specs.Histories.{Operation as Told, BeginsAt, EndsAt, HasEnde
 use Rattle.history.proofs.Places.{at_old, at_push, at_cases, at_take}
 use Rattle.history.proofs.Begins.{well_formed_push, begun_grows, begun_more, begins_once}
 use Rattle.machine_model.specs.declared.operations.Operation.{Operation}
-use Rattle.machine_model.specs.declared.actions.Action.TheVariants as act
 use Rattle.machine_model.specs.declared.steps.Limits.{Limits}
 use Rattle.machine_model.specs.declared.steps.Outcome.{Outcome}
 use Rattle.machine_model.specs.declared.steps.Step.{Step}
 use Rattle.machine_model.specs.declared.steps.Step.TheVariants as step
 use Rattle.machine_model.specs.Calls.{opens_handle}
-use Rattle.machine_model.specs.States.{State, first_state, operation_of}
-use Rattle.machine_model.specs.Operations.{action_of}
-use Rattle.machine_model.specs.Acting.{gone, ended, operation_after, marked}
-use Rattle.machine_model.specs.Machine.{begin_denial, with_begin, swept, least_free}
-use Rattle.machine_model.proofs.Moves.{Moves, Begins, Goes, Ends, Sweeps, GoesOn, begun_operation}
-use Rattle.machine_model.proofs.Frames.{acted_framed}
-use Rattle.machine_model.proofs.Found.{none_found, found_within}
-use Rattle.machine_model.proofs.Actors.{after_marks, marks_by, gone_actors, begin_actors}
+use Rattle.machine_model.specs.States.{State}
+use Rattle.machine_model.specs.Machine.{begin_denial, with_begin, least_free}
+use Rattle.machine_model.proofs.Moves.{Moves, begun_operation}
 use Rattle.order_laws.specs.Facts.{Runs}
-use Rattle.order_laws.proofs.Running.{begin_not_running, IsSame, IsBegun, IsEnded, ran_before, runs_on, place_of_actor, at_place, one_at}
+use Rattle.order_laws.proofs.Running.{begin_not_running, IsSame, IsBegun, IsEnded, ran_before, runs_on, one_at}
 
 -- ---- histories
 

@@ -1,18 +1,16 @@
 -- The order is a candidate for the history, and keeps its time.
-use Rattle.std.proofs.Common.{◌≡◌, ◌≢◌, ℕ, zero, suc, ◌+◌, ◌<◌, ◌≤◌, Bool, true, false, ◌⊎◌, inl, inr, List, [], ◌∷◌, ◌++◌, map, length, Option, Some, None, slice_get, refl, sym, ap, ◌∙◌, subst, append-nil, length-append, arith}
-use Rattle.std.proofs.lemmas.Bool.{true≢false, false≢true, cases_lt}
-use Rattle.std.proofs.lemmas.Option.{none-some, same_Some, slice_get_within}
+use Rattle.std.proofs.Common.{◌≡◌, ℕ, zero, suc, ◌+◌, ◌<◌, ◌≤◌, true, false, ◌⊎◌, inl, inr, List, [], ◌∷◌, ◌++◌, length, Some, slice_get, refl, sym, ap, ◌∙◌, subst, append-nil, length-append, arith}
+use Rattle.std.proofs.lemmas.Bool.{cases_lt}
+use Rattle.std.proofs.lemmas.Option.{same_Some, slice_get_within}
 use Rattle.history.specs.Worlds.{KeyMap}
 use Rattle.history.specs.declared.replies.Reply.{Reply}
 use Rattle.history.specs.declared.replies.Reply.TheVariants as reply
-use Rattle.history.specs.declared.events.Event.{Event}
 use Rattle.history.specs.declared.events.Event.TheVariants.{Begin, End}
-use Rattle.history.specs.Histories.{Operation as Told, BeginsAt, EndsAt, HasBegun, HasEnded, begun}
-use Rattle.history.specs.Orders.{OrderedAt, IsBefore, IsCandidate, KeepsTime}
-use Rattle.history.proofs.Places.{at_within, at_cases}
+use Rattle.history.specs.Histories.{Operation as Told, BeginsAt, EndsAt, HasBegun, HasEnded}
+use Rattle.history.specs.Orders.{OrderedAt, IsCandidate, KeepsTime}
+use Rattle.history.proofs.Places.{at_within}
 use Rattle.history.proofs.Begins.{begins_once}
 use Rattle.places.specs.declared.place.Place.{Place}
-use Rattle.places.specs.Places.{rising, ids_by_place}
 use Rattle.machine_model.specs.declared.operations.Operation.{Operation}
 use Rattle.machine_model.specs.declared.actions.Action.TheVariants as act
 use Rattle.machine_model.specs.declared.steps.Limits.{Limits}
@@ -21,20 +19,20 @@ use Rattle.machine_model.specs.declared.steps.Step.{Step}
 use Rattle.machine_model.specs.States.{State, first_state, operation_of}
 use Rattle.machine_model.specs.Operations.{action_of}
 use Rattle.machine_model.specs.Acting.{entered_at_end}
-use Rattle.machine_model.specs.Orders.{is_placed, closing_for, order_of}
+use Rattle.machine_model.specs.Orders.{closing_for}
 use Rattle.machine_model.proofs.Moves.{Moves, Begins, Goes, Ends, Sweeps, begun_operation}
 use Rattle.machine_model.proofs.Times.{IsRun}
 use Rattle.order_laws.specs.Facts.{Runs, Facts}
-use Rattle.order_laws.proofs.Elements.{Among, Each, Along, of_each, among_get, get_among, among_map, among_mapped, among_either, contains_among}
-use Rattle.order_laws.proofs.Sorting.{AreApart, rising_apart, among_rising, rising_among, same_id}
+use Rattle.order_laws.proofs.Elements.{Among, Along, of_each, among_get, get_among, among_map, among_either, contains_among}
+use Rattle.order_laws.proofs.Sorting.{AreApart, among_rising, rising_among}
 use Rattle.order_laws.proofs.Views.{ids_of}
-use Rattle.order_laws.proofs.Books.{IsTold, begin_events, id_below, ended_below}
+use Rattle.order_laws.proofs.Books.{begin_events, ended_below}
 use Rattle.order_laws.proofs.AllBooks.{books_at, gone_events}
-use Rattle.order_laws.proofs.Growing.{HasPlace, answered_at, unplaced, ended_before, Grows, events_grow, holds_later, IsKept}
+use Rattle.order_laws.proofs.Growing.{answered_at, unplaced, ended_before, events_grow, holds_later, IsKept}
 use Rattle.order_laws.proofs.Recalling.{event_later}
-use Rattle.order_laws.proofs.Standing.{AStep, step_at}
+use Rattle.order_laws.proofs.Standing.{step_at}
 use Rattle.order_laws.proofs.StepsOfRun.{Enters, Kind, plain, updates, answers, closes, swaps, kind_at}
-use Rattle.order_laws.proofs.Origins.{place_says, apart_at, origin}
+use Rattle.order_laws.proofs.Origins.{place_says}
 use Rattle.order_laws.proofs.Members.{sorted, sorted_along, sorted_apart}
 
 -- ---- positions in a list of places

@@ -1,20 +1,11 @@
 -- What a step changes in the order, in the closed generations and in the handles: one constructor for each kind of change.
-use Rattle.std.proofs.Common.{◌≡◌, ℕ, zero, suc, ◌+◌, ◌-◌, ◌<◌, ◌≤◌, ◌==◌, ◌&&◌, Bool, true, false, cond, ◌⊎◌, inl, inr, List, [], ◌∷◌, ◌++◌, map, set, get_or, length, Option, Some, None, refl, sym, ap, ◌∙◌, subst, append-nil, arith, eqb-true}
+use Rattle.std.proofs.Common.{◌≡◌, ℕ, ◌==◌, ◌&&◌, Bool, true, false, cond, inl, inr, List, set, get_or, length, Option, Some, None, refl, sym, ap, ◌∙◌, subst, arith, eqb-true}
 use native.Mathlib.Decide.{ℕ_discrete}
-use Rattle.std.proofs.lemmas.Bool.{cases_lt, and_parts, true≢false, false≢true}
-use Rattle.std.proofs.lemmas.List.{get_or_past, get_or-set_same, get_or-set_other, length-set}
-use Rattle.std.proofs.lemmas.Option.{none-some}
+use Rattle.std.proofs.lemmas.Bool.{cases_lt, true≢false, false≢true}
+use Rattle.std.proofs.lemmas.List.{get_or_past, get_or-set_same, length-set}
 use Rattle.history.specs.declared.calls.Access.{Access}
-use Rattle.history.specs.declared.calls.Call.{Call}
-use Rattle.history.specs.declared.calls.Call.TheVariants.{Close}
 use Rattle.history.specs.declared.replies.Reply.{Reply}
-use Rattle.history.specs.declared.events.Event.TheVariants.{End}
-use Rattle.history.specs.Histories.{begun}
 use Rattle.slot_arena.specs.declared.refs.Ref.{Ref}
-use Rattle.slot_arena.specs.Heaps.{generation_at}
-use Rattle.places.specs.declared.place.Place.{Place}
-use Rattle.places.specs.Places.{on_time}
-use Rattle.machine_model.specs.declared.heaps.Closing.{Closing}
 use Rattle.machine_model.specs.declared.operations.Operation.{Operation}
 use Rattle.machine_model.specs.declared.actions.Action.{Action}
 use Rattle.machine_model.specs.declared.actions.Action.TheVariants as act
@@ -24,20 +15,13 @@ use Rattle.machine_model.specs.declared.roots.Root.{Root}
 use Rattle.machine_model.specs.declared.roots.RootWord.{RootWord}
 use Rattle.machine_model.specs.declared.roots.RootWord.TheVariants.{Plain, Offer}
 use Rattle.machine_model.specs.declared.roots.Descriptor.{Descriptor}
-use Rattle.machine_model.specs.declared.steps.Outcome.{Outcome}
-use Rattle.machine_model.specs.declared.steps.Step.{Step}
-use Rattle.machine_model.specs.declared.steps.Step.TheVariants as step
-use Rattle.machine_model.specs.Calls.{handle_of}
-use Rattle.machine_model.specs.States.{State, root_at, word_of, word_at, root_of, rewritten, with_word, with_root, with_operation, operation_of}
-use Rattle.machine_model.specs.Operations.{action_of, line_action, read_of}
+use Rattle.machine_model.specs.States.{State, root_at, word_of, word_at, root_of, rewritten, with_word}
+use Rattle.machine_model.specs.Operations.{line_action, read_of}
 use Rattle.machine_model.specs.Swapping.{stands_in, is_plain, is_carried_out}
-use Rattle.machine_model.specs.Orders.{committed_now, committed_in}
-use Rattle.machine_model.specs.Acting.{if_changed, acted, aborted, offered, completed, carried_out, opened, opened_root, new_root_taken, gone, ended, entered, entered_at_end, operation_after, commits_after}
-use Rattle.machine_model.specs.Machine.{begin_denial, with_begin, swept}
-use Rattle.machine_model.proofs.Moves.{Moves, Begins, Goes, Ends, Sweeps, GoesOn, begun_operation}
-use Rattle.machine_model.proofs.Found.{found_within, found_elsewhere}
-use Rattle.order_laws.specs.Facts.{committed_by_step, entered_by_step, Settles, CarriesOut}
-use Rattle.order_laws.proofs.Elements.{tested}
+use Rattle.machine_model.specs.Orders.{committed_in}
+use Rattle.machine_model.specs.Acting.{if_changed, acted, aborted, offered, completed, carried_out, opened, opened_root, new_root_taken}
+use Rattle.machine_model.proofs.Found.{found_elsewhere}
+use Rattle.order_laws.specs.Facts.{Settles}
 
 -- ---- the roots of handles
 

@@ -1,26 +1,24 @@
 -- A close is answered with Closed, if it ends.
-use Rattle.std.proofs.Common.{◌≡◌, ℕ, zero, suc, ◌<◌, ◌≤◌, ◌⊎◌, inl, inr, List, [], ◌∷◌, ◌++◌, get_or, Option, Some, None, slice_get, refl, sym, ap, ◌∙◌, subst, arith}
+use Rattle.std.proofs.Common.{◌≡◌, ℕ, suc, ◌≤◌, inl, inr, Option, Some, slice_get, sym, ap, ◌∙◌, subst, arith}
 use Rattle.history.specs.declared.calls.Call.{Call}
 use Rattle.history.specs.declared.calls.Call.TheVariants.{Close}
 use Rattle.history.specs.declared.replies.Reply.{Reply}
 use Rattle.history.specs.declared.replies.Reply.TheVariants as reply
 use Rattle.history.specs.declared.events.Event.{Event}
 use Rattle.history.specs.declared.events.Event.TheVariants.{Begin, End}
-use Rattle.history.specs.Histories.{Operation as Told, BeginsAt, HasEnded, begun}
-use Rattle.history.proofs.Places.{at_cases, at_old}
+use Rattle.history.specs.Histories.{Operation as Told, HasEnded, begun}
+use Rattle.history.proofs.Places.{at_cases}
 use Rattle.history.proofs.Begins.{begins_once}
 use Rattle.machine_model.specs.declared.operations.Operation.{Operation}
 use Rattle.machine_model.specs.declared.actions.Action.{Action}
 use Rattle.machine_model.specs.declared.actions.Action.TheVariants as act
-use Rattle.machine_model.specs.declared.lines.Line.{Line}
 use Rattle.machine_model.specs.declared.lines.Line.TheVariants as line
 use Rattle.machine_model.specs.declared.steps.Limits.{Limits}
 use Rattle.machine_model.specs.declared.steps.Outcome.{Outcome}
 use Rattle.machine_model.specs.declared.steps.Step.{Step}
-use Rattle.machine_model.specs.declared.steps.Step.TheVariants as step
-use Rattle.machine_model.specs.States.{State, first_state, operation_of}
+use Rattle.machine_model.specs.States.{State, first_state}
 use Rattle.machine_model.specs.Operations.{action_of, line_action, first_line}
-use Rattle.machine_model.specs.Acting.{operation_after, gone}
+use Rattle.machine_model.specs.Acting.{operation_after}
 use Rattle.machine_model.proofs.Moves.{Moves, Begins, Goes, Ends, Sweeps, GoesOn, begun_operation}
 use Rattle.machine_model.proofs.Found.{none_found}
 use Rattle.machine_model.proofs.Times.{IsRun, at_each_time}
@@ -28,7 +26,7 @@ use Rattle.machine_model.proofs.Actors.{IsOf, is_of, mark_one, mark_only, of_oth
 use Rattle.order_laws.specs.Facts.{Runs}
 use Rattle.order_laws.proofs.Running.{at_place, place_of_actor}
 use Rattle.order_laws.proofs.Books.{Books, begin_events, ended_below}
-use Rattle.order_laws.proofs.AllBooks.{books_at, books_kept, gone_events, first_books}
+use Rattle.order_laws.proofs.AllBooks.{books_kept, gone_events, first_books}
 use Rattle.order_laws.proofs.Growing.{IsKept}
 
 -- ---- a close that runs is about to end

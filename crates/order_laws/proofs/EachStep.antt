@@ -1,17 +1,13 @@
 -- Each step by what it changes in the order, in the closed generations and in the handles.
-use Rattle.std.proofs.Common.{◌≡◌, ℕ, zero, suc, ◌+◌, ◌-◌, ◌<◌, ◌≤◌, ◌==◌, Bool, true, false, cond, ◌⊎◌, inl, inr, List, [], ◌∷◌, ◌++◌, map, set, get_or, length, Option, Some, None, refl, sym, ap, ◌∙◌, subst, append-nil, append_assoc, arith}
+use Rattle.std.proofs.Common.{◌≡◌, ℕ, Bool, true, false, [], ◌∷◌, ◌++◌, Option, Some, None, refl, sym, ap, ◌∙◌, append-nil, arith}
 use Rattle.std.proofs.lemmas.List.{get_or-set_same}
-use Rattle.std.proofs.lemmas.Option.{none-some}
 use Rattle.history.specs.declared.calls.Call.{Call}
 use Rattle.history.specs.declared.calls.Call.TheVariants.{Close}
 use Rattle.history.specs.declared.replies.Reply.{Reply}
-use Rattle.history.specs.declared.events.Event.TheVariants.{End}
 use Rattle.history.specs.Histories.{begun}
 use Rattle.slot_arena.specs.declared.refs.Ref.{Ref}
 use Rattle.slot_arena.specs.Heaps.{generation_at}
-use Rattle.places.specs.declared.place.Place.{Place}
 use Rattle.places.specs.Places.{on_time}
-use Rattle.machine_model.specs.declared.heaps.Closing.{Closing}
 use Rattle.machine_model.specs.declared.operations.Operation.{Operation}
 use Rattle.machine_model.specs.declared.actions.Action.{Action}
 use Rattle.machine_model.specs.declared.actions.Action.TheVariants as act
@@ -26,14 +22,13 @@ use Rattle.machine_model.specs.States.{State, root_at, word_at, with_operation, 
 use Rattle.machine_model.specs.Operations.{action_of}
 use Rattle.machine_model.specs.Swapping.{stands_in, is_carried_out}
 use Rattle.machine_model.specs.Orders.{committed_now}
-use Rattle.machine_model.specs.Acting.{acted, carried_out, gone, ended, entered, entered_at_end, operation_after, commits_after}
+use Rattle.machine_model.specs.Acting.{acted, carried_out, gone, entered, entered_at_end, operation_after, commits_after}
 use Rattle.machine_model.specs.Counting.{settled}
-use Rattle.machine_model.specs.Machine.{begin_denial, with_begin, swept}
-use Rattle.machine_model.proofs.Moves.{Moves, Begins, Goes, Ends, Sweeps, GoesOn, begun_operation}
+use Rattle.machine_model.specs.Machine.{begin_denial, with_begin}
+use Rattle.machine_model.proofs.Moves.{Moves, Begins, Goes, Ends, Sweeps, begun_operation}
 use Rattle.machine_model.proofs.Found.{found_within, found_elsewhere}
 use Rattle.order_laws.specs.Facts.{committed_of, committed_by_step, entered_by_step, Settles, CarriesOut}
-use Rattle.order_laws.proofs.Elements.{tested}
-use Rattle.order_laws.proofs.Changes.{footing_of, footing, carries, Honest, acted_places, acted_footing, completed_is, roots_swapped, carried_roots, same_swapped, complete_commits, end_commits}
+use Rattle.order_laws.proofs.Changes.{footing_of, footing, carries, acted_places, acted_footing, completed_is, roots_swapped, carried_roots, same_swapped, complete_commits, end_commits}
 
 -- offers are honest in each step from this state
 abbrev pub HonestIn : State → Type 0

@@ -1,6 +1,5 @@
 -- The first and the last view of a run are those of the first world and of the contents.
-use Rattle.std.proofs.Common.{◌≡◌, ◌≢◌, ℕ, zero, suc, ◌+◌, ◌<◌, ◌≤◌, ◌==◌, Bool, true, false, cond, ◌⊎◌, inl, inr, List, [], ◌∷◌, ◌++◌, replicate, get_or, Option, Some, None, refl, sym, ap, ◌∙◌, subst, arith}
-use Rattle.std.proofs.lemmas.Option.{none-some, same_Some}
+use Rattle.std.proofs.Common.{◌≡◌, ℕ, zero, suc, ◌≤◌, ◌==◌, false, cond, List, Option, Some, None, refl, sym, ap, ◌∙◌, arith}
 use Rattle.std.specs.FinMap as fin
 use Rattle.std.specs.Ordering.{nat_cmp}
 use Rattle.history.specs.Worlds.{KeyMap, HandleState, HandleMap, first_world}
@@ -12,7 +11,6 @@ use Rattle.machine_model.specs.declared.roots.Root.{Root}
 use Rattle.machine_model.specs.declared.steps.Limits.{Limits}
 use Rattle.machine_model.specs.States.{State, first_state, first_heap, root_at, root_of}
 use Rattle.machine_model.specs.Contents.{content_at}
-use Rattle.machine_model.specs.Machine.{AreLimits}
 use Rattle.machine_model.proofs.Times.{IsRun}
 use Rattle.order_laws.specs.Facts.{standing_of, standing, Facts}
 use Rattle.order_laws.specs.Laws.{Names, ShowsContents}

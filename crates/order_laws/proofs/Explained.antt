@@ -1,7 +1,7 @@
 -- From the facts about contents: the order explains the history, and leads to a world that shows the contents.
-use Rattle.std.proofs.Common.{◌≡◌, ℕ, zero, suc, ◌<◌, ◌≤◌, List, Option, Some, None, map, refl, sym, ap, ◌∙◌, subst, arith}
+use Rattle.std.proofs.Common.{◌≡◌, ℕ, ◌<◌, List, refl, sym, subst, arith}
 use Rattle.ctrie_base.specs.Hashes.{hash_of}
-use Rattle.history.specs.Worlds.{KeyMap, HandleMap, first_world}
+use Rattle.history.specs.Worlds.{KeyMap, first_world}
 use Rattle.history.specs.Orders.{Explains}
 use Rattle.places.specs.declared.place.Place.{Place}
 use Rattle.places.specs.Places.{ids_by_place}
@@ -12,7 +12,7 @@ use Rattle.machine_model.specs.Orders.{order_of}
 use Rattle.machine_model.specs.Machine.{AreLimits, run}
 use Rattle.machine_model.proofs.Times.{IsRun, states_of, last_of, run_is, run_ends}
 use Rattle.order_laws.specs.Facts.{Facts}
-use Rattle.order_laws.specs.Laws.{IsExplained, ShowsContents}
+use Rattle.order_laws.specs.Laws.{IsExplained}
 use Rattle.order_laws.proofs.Elements.{Among}
 use Rattle.order_laws.proofs.Views.{ids_of}
 use Rattle.order_laws.proofs.AllBooks.{books_at}

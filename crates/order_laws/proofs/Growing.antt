@@ -1,21 +1,19 @@
 -- What only grows along a run: the history, the places, the closed generations; and that all of it lies in the past.
-use Rattle.std.proofs.Common.{◌≡◌, ◌≢◌, ℕ, zero, suc, ◌+◌, ◌-◌, ◌<◌, ◌≤◌, ◌==◌, ◌&&◌, max, Bool, true, false, cond, ◌⊎◌, inl, inr, List, [], ◌∷◌, ◌++◌, length, find, Option, Some, None, slice_get, refl, sym, ap, ◌∙◌, subst, append-nil, append_assoc, arith, eqb-true}
+use Rattle.std.proofs.Common.{◌≡◌, ◌≢◌, ℕ, zero, suc, ◌+◌, ◌-◌, ◌≤◌, ◌==◌, Bool, true, false, cond, ◌⊎◌, inl, inr, List, [], ◌∷◌, ◌++◌, Some, slice_get, refl, sym, ap, ◌∙◌, subst, append-nil, append_assoc, arith, eqb-true}
 use Rattle.std.specs.List.{list_any}
-use Rattle.std.proofs.lemmas.Option.{none-some, same_Some}
-use Rattle.std.proofs.lemmas.Bool.{true≢false, false≢true, or_cases, or_parts, eqb-false}
+use Rattle.std.proofs.lemmas.Bool.{false≢true, or_cases, or_parts, eqb-false}
 use Rattle.history.specs.declared.calls.Call.{Call}
 use Rattle.history.specs.declared.calls.Call.TheVariants.{Close}
 use Rattle.history.specs.declared.replies.Reply.{Reply}
 use Rattle.history.specs.declared.replies.Reply.TheVariants as reply
 use Rattle.history.specs.declared.events.Event.{Event}
-use Rattle.history.specs.declared.events.Event.TheVariants.{Begin, End}
-use Rattle.history.specs.Histories.{HasEnded, begun}
-use Rattle.history.proofs.Places.{at_old, at_cases}
+use Rattle.history.specs.declared.events.Event.TheVariants.{End}
+use Rattle.history.specs.Histories.{HasEnded}
+use Rattle.history.proofs.Places.{at_cases}
 use Rattle.slot_arena.specs.declared.refs.Ref.{Ref}
 use Rattle.slot_arena.specs.Heaps.{generation_at}
 use Rattle.places.specs.declared.place.Place.{Place}
 use Rattle.places.specs.Places.{on_time}
-use Rattle.machine_model.specs.declared.heaps.Closing.{Closing}
 use Rattle.machine_model.specs.declared.operations.Operation.{Operation}
 use Rattle.machine_model.specs.declared.actions.Action.{Action}
 use Rattle.machine_model.specs.declared.actions.Action.TheVariants as act
@@ -23,18 +21,15 @@ use Rattle.machine_model.specs.declared.roots.Descriptor.{Descriptor}
 use Rattle.machine_model.specs.declared.steps.Limits.{Limits}
 use Rattle.machine_model.specs.declared.steps.Outcome.{Outcome}
 use Rattle.machine_model.specs.declared.steps.Step.{Step}
-use Rattle.machine_model.specs.declared.steps.Step.TheVariants as step
 use Rattle.machine_model.specs.Calls.{handle_of}
-use Rattle.machine_model.specs.States.{State, first_state, word_at}
+use Rattle.machine_model.specs.States.{State, first_state}
 use Rattle.machine_model.specs.Operations.{action_of}
 use Rattle.machine_model.specs.Orders.{is_placed, committed_now, place_of}
-use Rattle.machine_model.specs.Acting.{acted, completed, gone, ended, entered, entered_at_end}
-use Rattle.machine_model.specs.Counting.{settled}
-use Rattle.machine_model.specs.Machine.{begin_denial, with_begin, swept}
+use Rattle.machine_model.specs.Acting.{acted, ended, entered, entered_at_end}
+use Rattle.machine_model.specs.Machine.{with_begin}
 use Rattle.machine_model.proofs.Moves.{Moves, Begins, Goes, Ends, Sweeps, begun_operation}
-use Rattle.machine_model.proofs.Frames.{steps_counted}
-use Rattle.machine_model.proofs.Times.{IsRun, Turn, turns, at_each_time, steps_at}
-use Rattle.order_laws.proofs.Elements.{Among, among_left, among_right, among_either, tested}
+use Rattle.machine_model.proofs.Times.{IsRun, Turn, turns, at_each_time}
+use Rattle.order_laws.proofs.Elements.{Among, among_left, among_right}
 use Rattle.order_laws.proofs.Changes.{carries, acted_places, completed_is, carried_roots}
 use Rattle.order_laws.proofs.AllBooks.{gone_events}
 use Rattle.order_laws.proofs.Books.{begin_events}

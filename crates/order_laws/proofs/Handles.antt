@@ -1,6 +1,5 @@
 -- Handle numbers: a handle that an operation is to open has a number in range.
-use Rattle.std.proofs.Common.{◌≡◌, ℕ, zero, suc, ◌+◌, ◌-◌, ◌<◌, ◌≤◌, ◌&&◌, not, Bool, true, false, cond, nat_le, ◌⊎◌, inl, inr, List, [], ◌∷◌, map, set, get_or, length, replicate, Option, Some, None, is_some, refl, sym, ap, ◌∙◌, subst, length-set, add-one, arith}
-use Rattle.std.proofs.lemmas.Bool.{true≢false, false≢true}
+use Rattle.std.proofs.Common.{◌≡◌, ℕ, zero, suc, ◌+◌, ◌<◌, ◌≤◌, Bool, true, false, cond, nat_le, ◌⊎◌, inl, inr, length, replicate, Option, Some, None, refl, sym, ap, ◌∙◌, subst, length-set, add-one, arith}
 use Rattle.std.proofs.lemmas.List.{length-replicate}
 use Rattle.std.proofs.lemmas.Option.{none-some, same_Some}
 use Rattle.history.specs.declared.calls.Access.TheVariants.{Writable}
@@ -21,7 +20,7 @@ use Rattle.machine_model.specs.declared.steps.Step.TheVariants as step
 use Rattle.machine_model.specs.Calls.{handle_of, opens_handle}
 use Rattle.machine_model.specs.States.{State, first_state, handle_limit}
 use Rattle.machine_model.specs.Operations.{action_of}
-use Rattle.machine_model.specs.Acting.{acted, aborted, offered, completed, carried_out, opened, new_root_taken, gone}
+use Rattle.machine_model.specs.Acting.{acted, aborted, offered, completed, opened, new_root_taken}
 use Rattle.machine_model.specs.Machine.{begin_denial, with_begin, is_taken, taken_below, handles_taken, least_from, least_free}
 use Rattle.machine_model.proofs.Moves.{Moves, Begins, Goes, Ends, Sweeps, begun_operation}
 use Rattle.machine_model.proofs.Found.{none_found}

@@ -1,30 +1,25 @@
 -- The late places of a step that carries an offer out lead its handle from the content that it had then to the one that it
 -- has at the end.
-use Rattle.std.proofs.Common.{◌≡◌, ◌≢◌, ℕ, zero, suc, ◌+◌, ◌<◌, ◌≤◌, max, nat_lt, Bool, true, false, cond, ◌⊎◌, inl, inr, List, [], ◌∷◌, ◌++◌, filter, Option, Some, None, refl, sym, ap, ◌∙◌, subst, arith, lt-ltb}
+use Rattle.std.proofs.Common.{◌≡◌, ℕ, zero, suc, ◌<◌, ◌≤◌, max, Bool, true, false, cond, ◌⊎◌, inl, inr, List, [], ◌∷◌, ◌++◌, filter, Option, Some, refl, sym, ap, ◌∙◌, subst, arith, lt-ltb}
 use native.Mathlib.Decide.{ℕ_discrete}
-use Rattle.std.proofs.lemmas.Bool.{true≢false, false≢true, cases_order}
+use Rattle.std.proofs.lemmas.Bool.{true≢false}
 use Rattle.std.proofs.lemmas.Option.{none-some, same_Some}
 use Rattle.ctrie_base.specs.Hashes.{hash_of}
 use Rattle.history.specs.Worlds.{KeyMap, HandleState}
-use Rattle.history.specs.declared.calls.Access.{Access}
-use Rattle.history.specs.declared.calls.Access.TheVariants.{Writable, ReadOnly}
+use Rattle.history.specs.declared.calls.Access.TheVariants.{Writable}
 use Rattle.slot_arena.specs.Heaps.{generation_at}
 use Rattle.places.specs.declared.place.Place.{Place}
 use Rattle.places.specs.Places.{on_time, late, place_by}
-use Rattle.machine_model.specs.declared.heaps.Closing.{Closing}
 use Rattle.machine_model.specs.declared.operations.Operation.{Operation}
 use Rattle.machine_model.specs.declared.roots.Descriptor.{Descriptor}
 use Rattle.machine_model.specs.declared.steps.Limits.{Limits}
-use Rattle.machine_model.specs.declared.steps.Outcome.{Outcome}
-use Rattle.machine_model.specs.declared.steps.Step.{Step}
 use Rattle.machine_model.specs.Calls.{handle_of}
 use Rattle.machine_model.specs.States.{State, closed_at}
 use Rattle.machine_model.specs.Orders.{place_of, closing_for, closed_after}
-use Rattle.machine_model.proofs.Moves.{Moves}
 use Rattle.machine_model.proofs.Times.{IsRun}
 use Rattle.order_laws.specs.Facts.{act_in, On, IsRooted, HasStood, Facts, Update, Swap, Replied, on_writable, on_read_only}
-use Rattle.order_laws.proofs.Elements.{no_members, Among, Each, each_of, equals, among_right, among_filter, filter_among}
-use Rattle.order_laws.proofs.Sorting.{timing, role, number_below, only_one}
+use Rattle.order_laws.proofs.Elements.{no_members, Among, each_of, equals, among_right, filter_among}
+use Rattle.order_laws.proofs.Sorting.{role, number_below, only_one}
 use Rattle.order_laws.proofs.Views.{View, but, Leads, leads_none, leads_same, leads_from, leads_each, leads_all, leads_parts}
 use Rattle.order_laws.proofs.Acts.{named, but_same}
 use Rattle.order_laws.proofs.Growing.{IsKept, holds_later, among_grown, places_grow}
@@ -33,7 +28,7 @@ use Rattle.order_laws.proofs.Closed.{closed_in, closed_new, closed_last, closed_
 use Rattle.order_laws.proofs.Sound.{sound_at}
 use Rattle.order_laws.proofs.Origins.{place_says, late_says}
 use Rattle.order_laws.proofs.Timeline.{view, view_writable, but_here, but_there, update_leads, reader_leads}
-use Rattle.order_laws.proofs.Members.{sorted, block, lates, late_at, IsPlace, in_lates, in_late_at, to_late_at, in_changing, to_changing, in_reading, lates_along, late_at_along, changing_enters, none_changing, one_changing, Reading, reading, late_at_apart, late_before, moment_within}
+use Rattle.order_laws.proofs.Members.{lates, late_at, IsPlace, in_lates, in_late_at, to_late_at, in_changing, to_changing, in_reading, lates_along, late_at_along, none_changing, one_changing, Reading, reading, late_at_apart, late_before, moment_within}
 
 -- ---- small things
 

@@ -1,22 +1,21 @@
 -- The places of one step, one moment and one role, among all places of a run.
-use Rattle.std.proofs.Common.{◌≡◌, ◌≢◌, ℕ, zero, suc, ◌+◌, ◌<◌, ◌≤◌, ◌==◌, Bool, true, false, cond, ◌⊎◌, inl, inr, List, [], ◌∷◌, ◌++◌, filter, Option, Some, None, refl, sym, ap, ◌∙◌, subst, arith, eqb-true, eq-eqb}
+use Rattle.std.proofs.Common.{◌≡◌, ℕ, ◌<◌, Bool, true, false, List, filter, Option, refl, sym, ap, ◌∙◌, subst, arith, eqb-true, eq-eqb}
 use Rattle.std.proofs.lemmas.Bool.{true≢false, false≢true}
-use Rattle.std.proofs.lemmas.Option.{none-some, same_Some}
 use Rattle.history.specs.Worlds.{KeyMap}
 use Rattle.history.specs.declared.replies.Reply.{Reply}
 use Rattle.places.specs.declared.place.Place.{Place}
-use Rattle.places.specs.Places.{on_time, place_by, rising}
+use Rattle.places.specs.Places.{place_by, rising}
 use Rattle.machine_model.specs.declared.operations.Operation.{Operation}
 use Rattle.machine_model.specs.declared.steps.Limits.{Limits}
 use Rattle.machine_model.specs.States.{State}
 use Rattle.machine_model.specs.Orders.{place_of, closing_for}
 use Rattle.machine_model.proofs.Times.{IsRun, steps_at}
-use Rattle.order_laws.specs.Facts.{Runs, IsReply, Facts, Update, Replied}
-use Rattle.order_laws.proofs.Elements.{no_last, Among, Each, Along, each_of, equals, among_filter, filter_among}
+use Rattle.order_laws.specs.Facts.{Runs, IsReply, Facts, Replied}
+use Rattle.order_laws.proofs.Elements.{no_last, Among, Along, each_of, equals, among_filter, filter_among}
 use Rattle.order_laws.proofs.Sorting.{Rises, AreApart, rising_rises, among_rising, rising_among, rising_apart, apart_filter, rises_filter, steps_along, along_where, timing, role, number_false, number_true, false_number, true_number, timing_up, moments_up, role_up}
 use Rattle.order_laws.proofs.Past.{past_at}
 use Rattle.order_laws.proofs.StepsOfRun.{Enters, EntersNone}
-use Rattle.order_laws.proofs.Origins.{Why, by_update, by_answer, by_change, Origin, origin, apart_at, place_says, on_time_says, late_says, same_last}
+use Rattle.order_laws.proofs.Origins.{Why, by_update, by_answer, by_change, origin, apart_at, place_says, on_time_says, late_says, same_last}
 
 -- ---- the parts of the order
 

@@ -1,44 +1,28 @@
 -- The places on time of one step lead from what the handles show before it to what they show behind it.
-use Rattle.std.proofs.Common.{◌≡◌, ◌≢◌, ℕ, zero, suc, ◌+◌, ◌<◌, ◌≤◌, Bool, true, false, cond, ◌⊎◌, inl, inr, List, [], ◌∷◌, ◌++◌, filter, Option, Some, None, refl, sym, ap, ◌∙◌, subst, arith}
+use Rattle.std.proofs.Common.{◌≡◌, ℕ, suc, ◌<◌, Bool, true, false, inl, inr, List, [], ◌∷◌, filter, Option, Some, sym, ap, ◌∙◌, subst, arith}
 use native.Mathlib.Decide.{ℕ_discrete}
-use Rattle.std.proofs.lemmas.Bool.{true≢false, false≢true}
-use Rattle.std.proofs.lemmas.Option.{none-some, same_Some, some_pair_parts}
-use Rattle.std.specs.FinMap as fin
+use Rattle.std.proofs.lemmas.Bool.{true≢false}
+use Rattle.std.proofs.lemmas.Option.{none-some}
 use Rattle.ctrie_base.specs.Hashes.{hash_of}
-use Rattle.history.specs.Worlds.{KeyMap, HandleState}
-use Rattle.history.specs.declared.calls.Access.{Access}
+use Rattle.history.specs.Worlds.{KeyMap}
 use Rattle.history.specs.declared.calls.Access.TheVariants.{Writable, ReadOnly}
-use Rattle.history.specs.declared.calls.Call.{Call}
-use Rattle.history.specs.declared.calls.Call.TheVariants.{Clear, Snapshot, Freeze, Close}
-use Rattle.history.specs.declared.replies.Reply.{Reply}
-use Rattle.history.specs.declared.replies.Reply.TheVariants as reply
-use Rattle.history.specs.Histories.{begun}
-use Rattle.history.specs.Orders.{Answered, Recalls}
-use Rattle.slot_arena.specs.Heaps.{generation_at}
-use Rattle.slot_arena.specs.declared.refs.Ref.{Ref}
 use Rattle.places.specs.declared.place.Place.{Place}
-use Rattle.places.specs.Places.{on_time}
-use Rattle.machine_model.specs.declared.operations.Operation.{Operation}
-use Rattle.machine_model.specs.declared.roots.Descriptor.{Descriptor}
 use Rattle.machine_model.specs.declared.steps.Limits.{Limits}
 use Rattle.machine_model.specs.Calls.{handle_of}
-use Rattle.machine_model.specs.States.{State, closed_at, root_at}
-use Rattle.machine_model.specs.Acting.{opened_root}
+use Rattle.machine_model.specs.States.{State, closed_at}
 use Rattle.machine_model.specs.Orders.{place_of, closing_for}
 use Rattle.machine_model.proofs.Times.{IsRun}
-use Rattle.order_laws.specs.Facts.{act_in, standing, standing_of, On, IsRooted, HasStood, IsReply, Facts, Update, Swap, Opens, clears, snapshots, freezes, Replied, on_writable, on_read_only}
-use Rattle.order_laws.proofs.Elements.{no_members, Among, Each, each_of, equals, filter_among}
-use Rattle.order_laws.proofs.Sorting.{role, number_below, only_one}
-use Rattle.order_laws.proofs.Views.{View, but, Leads, leads_none, leads_same, leads_one, leads_each, leads_parts}
-use Rattle.order_laws.proofs.Acts.{named, acts_on, copies, closes as closes_handle}
-use Rattle.order_laws.proofs.Changes.{roots_swapped}
-use Rattle.order_laws.proofs.Recalling.{recalls_running}
-use Rattle.order_laws.proofs.StepsOfRun.{EntersNone, Enters, ClosesNone, KeepsAll, IsStill, Kind, plain, updates, answers, closes, swaps, kind_at}
+use Rattle.order_laws.specs.Facts.{act_in, standing, On, IsRooted, Facts, Update, Replied, on_writable, on_read_only}
+use Rattle.order_laws.proofs.Elements.{no_members, Among, each_of, equals, filter_among}
+use Rattle.order_laws.proofs.Sorting.{role, only_one}
+use Rattle.order_laws.proofs.Views.{View, but, Leads, leads_none, leads_same, leads_each}
+use Rattle.order_laws.proofs.Acts.{named}
+use Rattle.order_laws.proofs.StepsOfRun.{Enters, KeepsAll, IsStill}
 use Rattle.order_laws.proofs.Closed.{closed_in, closed_from, closed_later}
-use Rattle.order_laws.proofs.Sound.{sound_at, stands_here, stands_there, stands_else, opened_apart}
+use Rattle.order_laws.proofs.Sound.{sound_at}
 use Rattle.order_laws.proofs.Origins.{place_says, on_time_says, late_says}
-use Rattle.order_laws.proofs.Timeline.{shown, view, view_writable, view_read_only, view_stays, same_shown, but_here, but_there, update_leads, reader_leads}
-use Rattle.order_laws.proofs.Members.{sorted, block, lates, timely, IsPlace, in_timely, to_timely, in_changing, to_changing, in_reading, changing_enters, none_changing, one_changing, Reading, reading, timely_apart, on_time_moment, timely_along}
+use Rattle.order_laws.proofs.Timeline.{view, view_writable, view_read_only, view_stays, but_here, but_there, update_leads, reader_leads}
+use Rattle.order_laws.proofs.Members.{timely, IsPlace, in_timely, to_timely, in_changing, to_changing, in_reading, one_changing, Reading, reading, timely_apart, on_time_moment}
 use Rattle.order_laws.proofs.Late.{closing_is, entered_place}
 
 module _ (limits : Limits) (states : ℕ → State) (last : ℕ) (r : IsRun limits states last) (V : ℕ → ℕ → KeyMap) (facts : Facts limits states last V) where

@@ -1,10 +1,10 @@
 -- What a step does that carries an offer out, or begins a close, to what the handles show.
-use Rattle.std.proofs.Common.{◌≡◌, ◌≢◌, ℕ, zero, suc, ◌+◌, ◌<◌, ◌≤◌, Bool, true, false, cond, ◌⊎◌, inl, inr, List, [], ◌∷◌, ◌++◌, filter, Option, Some, None, refl, sym, ap, ◌∙◌, subst, arith}
+use Rattle.std.proofs.Common.{◌≡◌, ℕ, suc, ◌<◌, false, List, [], ◌∷◌, Option, Some, None, refl, sym, ap, ◌∙◌, subst, arith}
 use native.Mathlib.Decide.{ℕ_discrete}
 use Rattle.std.proofs.lemmas.Option.{none-some, same_Some}
 use Rattle.std.specs.FinMap as fin
 use Rattle.ctrie_base.specs.Hashes.{hash_of}
-use Rattle.history.specs.Worlds.{KeyMap, HandleState}
+use Rattle.history.specs.Worlds.{KeyMap}
 use Rattle.history.specs.declared.calls.Access.{Access}
 use Rattle.history.specs.declared.calls.Access.TheVariants.{Writable, ReadOnly}
 use Rattle.history.specs.declared.calls.Call.{Call}
@@ -12,12 +12,10 @@ use Rattle.history.specs.declared.calls.Call.TheVariants.{Clear, Snapshot, Freez
 use Rattle.history.specs.declared.replies.Reply.{Reply}
 use Rattle.history.specs.declared.replies.Reply.TheVariants as reply
 use Rattle.history.specs.Histories.{begun}
-use Rattle.history.specs.Orders.{Answered, Recalls}
+use Rattle.history.specs.Orders.{Recalls}
 use Rattle.slot_arena.specs.Heaps.{generation_at}
-use Rattle.slot_arena.specs.declared.refs.Ref.{Ref}
 use Rattle.places.specs.declared.place.Place.{Place}
 use Rattle.places.specs.Places.{on_time}
-use Rattle.machine_model.specs.declared.operations.Operation.{Operation}
 use Rattle.machine_model.specs.declared.roots.Descriptor.{Descriptor}
 use Rattle.machine_model.specs.declared.steps.Limits.{Limits}
 use Rattle.machine_model.specs.States.{State, root_at}

@@ -1,31 +1,25 @@
 -- Where the places of a run come from: each was entered by one step, and for one of three reasons.
-use Rattle.std.proofs.Common.{◌≡◌, ◌≢◌, ℕ, zero, suc, ◌+◌, ◌<◌, ◌≤◌, Bool, true, false, cond, nat_lt, ◌⊎◌, inl, inr, List, [], ◌∷◌, ◌++◌, length, length-append, Option, Some, None, refl, sym, ap, ◌∙◌, subst, arith, ltb-true}
+use Rattle.std.proofs.Common.{◌≡◌, ℕ, zero, suc, ◌<◌, ◌≤◌, Bool, true, false, cond, nat_lt, inl, inr, List, [], ◌∷◌, ◌++◌, Option, Some, None, refl, sym, ap, ◌∙◌, subst, arith, ltb-true}
 use Rattle.std.proofs.lemmas.Bool.{true≢false, false≢true, ltb-false}
 use Rattle.std.proofs.lemmas.Option.{none-some, same_Some}
 use Rattle.history.specs.Worlds.{KeyMap}
-use Rattle.history.specs.declared.calls.Access.{Access}
-use Rattle.history.specs.declared.calls.Call.TheVariants.{Close}
 use Rattle.history.specs.declared.replies.Reply.{Reply}
-use Rattle.history.specs.declared.replies.Reply.TheVariants as reply
-use Rattle.history.specs.declared.events.Event.TheVariants.{Begin}
 use Rattle.history.specs.Histories.{Operation as Told, begun}
 use Rattle.places.specs.declared.place.Place.{Place}
 use Rattle.places.specs.Places.{on_time, late, place_by}
 use Rattle.machine_model.specs.declared.operations.Operation.{Operation}
 use Rattle.machine_model.specs.declared.steps.Limits.{Limits}
 use Rattle.machine_model.specs.States.{State, first_state}
-use Rattle.machine_model.specs.Orders.{place_of, is_placed, closing_for}
-use Rattle.machine_model.proofs.Moves.{Moves}
-use Rattle.machine_model.proofs.Times.{IsRun, steps_at}
-use Rattle.order_laws.specs.Facts.{Runs, IsReply, Facts, Update, Swap, Replied}
-use Rattle.order_laws.proofs.Elements.{Among, Each, among_either, no_last}
+use Rattle.machine_model.specs.Orders.{place_of, closing_for}
+use Rattle.machine_model.proofs.Times.{IsRun}
+use Rattle.order_laws.specs.Facts.{Runs, IsReply, Facts, Update, Replied}
+use Rattle.order_laws.proofs.Elements.{Among, among_either}
 use Rattle.order_laws.proofs.Sorting.{AreApart, apart_push}
-use Rattle.order_laws.proofs.Books.{Books, id_below}
+use Rattle.order_laws.proofs.Books.{id_below}
 use Rattle.order_laws.proofs.AllBooks.{books_at}
 use Rattle.order_laws.proofs.Growing.{events_grow, unplaced}
-use Rattle.order_laws.proofs.Past.{past_at}
 use Rattle.order_laws.proofs.Recalling.{begun_more_or_same}
-use Rattle.order_laws.proofs.Standing.{AStep, step_at}
+use Rattle.order_laws.proofs.Standing.{step_at}
 use Rattle.order_laws.proofs.StepsOfRun.{Enters, Kind, plain, updates, answers, closes, swaps, kind_at}
 
 -- ---- what a place says

@@ -1,6 +1,5 @@
 -- Moments, commits and closings lie in the past.
-use Rattle.std.proofs.Common.{◌≡◌, ℕ, zero, suc, ◌+◌, ◌-◌, ◌<◌, ◌≤◌, ◌==◌, max, Bool, true, false, cond, ◌⊎◌, inl, inr, List, [], ◌∷◌, ◌++◌, find, get_or, Option, Some, None, refl, sym, ap, ◌∙◌, subst, arith}
-use Rattle.std.proofs.lemmas.Option.{none-some}
+use Rattle.std.proofs.Common.{◌≡◌, ℕ, suc, ◌+◌, ◌<◌, ◌≤◌, ◌==◌, max, Bool, true, false, cond, ◌⊎◌, inl, inr, List, [], ◌∷◌, ◌++◌, find, Option, Some, None, refl, sym, ap, ◌∙◌, subst, arith}
 use Rattle.history.specs.declared.calls.Call.{Call}
 use Rattle.slot_arena.specs.declared.refs.Ref.{Ref}
 use Rattle.slot_arena.specs.Heaps.{generation_at}
@@ -12,17 +11,15 @@ use Rattle.machine_model.specs.declared.actions.Action.TheVariants as act
 use Rattle.machine_model.specs.declared.reading.After.{After}
 use Rattle.machine_model.specs.declared.reading.After.TheVariants as after_read
 use Rattle.machine_model.specs.declared.reading.Read.{Read}
-use Rattle.machine_model.specs.declared.roots.Descriptor.{Descriptor}
 use Rattle.machine_model.specs.declared.steps.Limits.{Limits}
 use Rattle.machine_model.specs.declared.steps.Outcome.{Outcome}
 use Rattle.machine_model.specs.declared.steps.Step.{Step}
-use Rattle.machine_model.specs.declared.steps.Step.TheVariants as step
 use Rattle.machine_model.specs.Calls.{handle_of}
-use Rattle.machine_model.specs.States.{State, first_state, step_of_commit, committed_at, operation_of}
+use Rattle.machine_model.specs.States.{State, first_state, step_of_commit}
 use Rattle.machine_model.specs.Operations.{action_of, read_of}
 use Rattle.machine_model.specs.Reading.{read_step}
 use Rattle.machine_model.specs.Orders.{counted_from, read_at_after, committed_now, commit_step, moment_given, moment_from, moment_after}
-use Rattle.machine_model.specs.Acting.{acted, gone, commits_after, operation_after}
+use Rattle.machine_model.specs.Acting.{acted, commits_after, operation_after}
 use Rattle.machine_model.specs.Machine.{with_begin}
 use Rattle.machine_model.proofs.Moves.{Moves, Begins, Goes, Ends, Sweeps, begun_operation}
 use Rattle.machine_model.proofs.Frames.{acted_framed, steps_counted}

@@ -1,18 +1,15 @@
 -- What the whole history says of an operation that runs at some time.
-use Rattle.std.proofs.Common.{◌≡◌, ◌≢◌, ℕ, zero, suc, ◌+◌, ◌-◌, ◌<◌, ◌≤◌, ◌⊎◌, inl, inr, cond, List, [], ◌∷◌, ◌++◌, length, take, Option, Some, None, slice_get, refl, sym, ap, ◌∙◌, subst, arith}
+use Rattle.std.proofs.Common.{◌≡◌, ℕ, suc, ◌+◌, ◌<◌, ◌≤◌, inl, inr, cond, List, [], ◌∷◌, ◌++◌, take, Some, slice_get, refl, sym, ap, ◌∙◌, subst, arith}
 use Rattle.std.proofs.lemmas.Bool.{cases_order}
-use Rattle.std.proofs.lemmas.Option.{none-some, same_Some}
+use Rattle.std.proofs.lemmas.Option.{same_Some}
 use Rattle.std.proofs.lemmas.List.Sums.{sum_by-append}
 use Rattle.history.specs.declared.calls.Call.{Call}
-use Rattle.history.specs.declared.calls.Call.TheVariants.{Close}
 use Rattle.history.specs.declared.replies.Reply.{Reply}
-use Rattle.history.specs.declared.replies.Reply.TheVariants as reply
 use Rattle.history.specs.declared.events.Event.{Event}
 use Rattle.history.specs.declared.events.Event.TheVariants.{Begin, End}
-use Rattle.history.specs.Histories.{Operation as Told, BeginsAt, EndsAt, HasEnded, MayFollow, IsWellFormed, is_begin, begun}
-use Rattle.history.specs.Orders.{Answered, Recalls}
-use Rattle.history.proofs.Places.{at_push, in_take}
-use Rattle.history.proofs.Begins.{begins_once}
+use Rattle.history.specs.Histories.{Operation as Told, EndsAt, HasEnded, MayFollow, IsWellFormed, is_begin, begun}
+use Rattle.history.specs.Orders.{Recalls}
+use Rattle.history.proofs.Places.{in_take}
 use Rattle.machine_model.specs.declared.operations.Operation.{Operation}
 use Rattle.machine_model.specs.declared.actions.Action.{Action}
 use Rattle.machine_model.specs.declared.actions.Action.TheVariants as act
@@ -25,7 +22,7 @@ use Rattle.machine_model.specs.Operations.{action_of}
 use Rattle.machine_model.proofs.Moves.{Moves, Begins, Goes, Ends, Sweeps, GoesOn, begun_operation}
 use Rattle.machine_model.proofs.Times.{IsRun}
 use Rattle.order_laws.specs.Facts.{Runs, IsReply}
-use Rattle.order_laws.proofs.Books.{Books, IsTold, begin_events, id_below}
+use Rattle.order_laws.proofs.Books.{begin_events}
 use Rattle.order_laws.proofs.AllBooks.{books_at}
 use Rattle.order_laws.proofs.Growing.{IsKept, holds_later, Grows, get_grown, events_grow}
 

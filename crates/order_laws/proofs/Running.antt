@@ -1,8 +1,8 @@
 -- Which operations run before and after a step: each keeps its id, its call, its handle to open and its kind.
-use Rattle.std.proofs.Common.{◌≡◌, ℕ, zero, suc, ◌-◌, ◌<◌, ◌≤◌, ◌⊎◌, inl, inr, List, [], ◌∷◌, ◌++◌, map, set, get_or, length, Option, Some, None, refl, sym, ap, ◌∙◌, subst, arith}
+use Rattle.std.proofs.Common.{◌≡◌, ℕ, zero, suc, ◌-◌, ◌<◌, ◌⊎◌, inl, inr, List, [], ◌∷◌, ◌++◌, set, get_or, Option, Some, None, refl, sym, ap, ◌∙◌, subst, arith}
 use native.Mathlib.Decide.{ℕ_discrete}
 use Rattle.std.proofs.Math.ListN.{get_or-map}
-use Rattle.std.proofs.lemmas.List.{get_or-set_same, get_or-set_other}
+use Rattle.std.proofs.lemmas.List.{get_or-set_same}
 use Rattle.std.proofs.lemmas.Option.{none-some, same_Some}
 use Rattle.history.specs.declared.calls.Call.{Call}
 use Rattle.history.specs.declared.replies.Reply.{Reply}
@@ -14,10 +14,10 @@ use Rattle.machine_model.specs.declared.steps.Outcome.{Outcome}
 use Rattle.machine_model.specs.declared.steps.Step.{Step}
 use Rattle.machine_model.specs.declared.steps.Step.TheVariants as step
 use Rattle.machine_model.specs.States.{State, operation_of}
-use Rattle.machine_model.specs.Acting.{gone, operation_after, marked}
-use Rattle.machine_model.specs.Machine.{begin_denial, go_denial, with_begin}
+use Rattle.machine_model.specs.Acting.{operation_after, marked}
+use Rattle.machine_model.specs.Machine.{begin_denial, go_denial}
 use Rattle.machine_model.proofs.Moves.{Moves, Begins, Goes, Ends, Sweeps, begun_operation}
-use Rattle.machine_model.proofs.Found.{found_within, found_elsewhere, found_here}
+use Rattle.machine_model.proofs.Found.{found_within, found_elsewhere}
 use Rattle.machine_model.proofs.Actors.{IsOf, is_of, mark_one, mark_only, marks_by, after_marks, of_others, of_itself, of_begin, of_end, gone_actors, begin_actors}
 use Rattle.order_laws.specs.Facts.{Runs}
 

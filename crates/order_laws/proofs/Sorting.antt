@@ -1,9 +1,9 @@
 -- Placing sorts: the places rise, and each stands there once.
-use Rattle.std.proofs.Common.{◌≡◌, ℕ, zero, suc, ◌<◌, ◌≤◌, Bool, true, false, cond, nat_lt, ◌==◌, ◌⊎◌, inl, inr, List, [], ◌∷◌, ◌++◌, map, filter, refl, sym, ap, ◌∙◌, subst, arith}
+use Rattle.std.proofs.Common.{◌≡◌, ℕ, ◌<◌, ◌≤◌, Bool, true, false, cond, nat_lt, ◌⊎◌, inl, inr, List, [], ◌∷◌, ◌++◌, filter, refl, sym, ap, ◌∙◌, subst, arith}
 use Rattle.std.proofs.lemmas.Bool.{true≢false, false≢true}
 use Rattle.places.specs.declared.place.Place.{Place}
 use Rattle.places.specs.Places.{number_before, bool_before, is_before, placed, rising}
-use Rattle.order_laws.proofs.Elements.{Among, Each, Along, each_of, of_each, each_filter, filter_none, among_filter, among_either, tested}
+use Rattle.order_laws.proofs.Elements.{Among, Each, Along, each_of, of_each, each_filter, filter_none, among_either, tested}
 
 -- ---- comparing places
 

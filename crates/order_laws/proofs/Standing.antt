@@ -1,16 +1,11 @@
 -- Which generations stand on which handles, along a run: what each step leaves, and what a swap makes of it.
-use Rattle.std.proofs.Common.{◌≡◌, ◌≢◌, ℕ, zero, suc, ◌+◌, ◌-◌, ◌<◌, ◌≤◌, ◌==◌, Bool, true, false, cond, ◌⊎◌, inl, inr, List, [], ◌∷◌, ◌++◌, map, set, get_or, length, find, option_map, Option, Some, None, refl, sym, ap, ◌∙◌, subst, length-set, arith}
-use native.Mathlib.Decide.{ℕ_discrete}
-use Rattle.std.proofs.lemmas.List.{get_or-set_same, get_or-set_other}
-use Rattle.std.proofs.lemmas.List.Folds.{find-append}
-use Rattle.std.proofs.lemmas.Option.{none-some, same_Some, some_pair_parts}
+use Rattle.std.proofs.Common.{◌≡◌, ℕ, suc, ◌<◌, List, set, get_or, length, Option, Some, None, refl, sym, ap, ◌∙◌, length-set}
+use Rattle.std.proofs.lemmas.List.{get_or-set_same}
+use Rattle.std.proofs.lemmas.Option.{none-some, some_pair_parts}
 use Rattle.history.specs.declared.calls.Access.{Access}
-use Rattle.history.specs.declared.calls.Access.TheVariants.{Writable, ReadOnly}
-use Rattle.history.specs.declared.calls.Call.TheVariants.{Close}
+use Rattle.history.specs.declared.calls.Access.TheVariants.{Writable}
 use Rattle.slot_arena.specs.declared.refs.Ref.{Ref}
 use Rattle.slot_arena.specs.Heaps.{Heap, generation_at}
-use Rattle.machine_model.specs.declared.heaps.Closing.{Closing}
-use Rattle.machine_model.specs.declared.operations.Operation.{Operation}
 use Rattle.machine_model.specs.declared.roots.Root.{Root}
 use Rattle.machine_model.specs.declared.roots.RootWord.{RootWord}
 use Rattle.machine_model.specs.declared.roots.RootWord.TheVariants.{Plain}
@@ -18,13 +13,13 @@ use Rattle.machine_model.specs.declared.roots.Descriptor.{Descriptor}
 use Rattle.machine_model.specs.declared.steps.Limits.{Limits}
 use Rattle.machine_model.specs.declared.steps.Outcome.{Outcome}
 use Rattle.machine_model.specs.declared.steps.Step.{Step}
-use Rattle.machine_model.specs.States.{State, root_at, root_of, rewritten, closed_at, step_of}
+use Rattle.machine_model.specs.States.{State, root_at, root_of, rewritten}
 use Rattle.machine_model.specs.Acting.{opened_root}
 use Rattle.machine_model.proofs.Moves.{Moves}
 use Rattle.machine_model.proofs.Found.{found_within, found_elsewhere}
 use Rattle.machine_model.proofs.Times.{IsRun, Turn, turns}
 use Rattle.history.specs.Worlds.{KeyMap}
-use Rattle.order_laws.specs.Facts.{standing_of, standing, On, IsFresh, CarriesOut, Facts, Swap}
+use Rattle.order_laws.specs.Facts.{standing_of, standing, Facts}
 use Rattle.order_laws.proofs.Changes.{footing_of, footing, roots_swapped}
 use Rattle.order_laws.proofs.EachStep.{HonestIn, Changes, changes}
 

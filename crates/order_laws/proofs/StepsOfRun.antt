@@ -1,8 +1,7 @@
 -- Each step of a run by what the facts say of it: one constructor for each kind.
-use Rattle.std.proofs.Common.{◌≡◌, ◌≢◌, ℕ, zero, suc, ◌+◌, ◌<◌, ◌≤◌, Bool, true, false, cond, ◌⊎◌, inl, inr, List, [], ◌∷◌, ◌++◌, length, Option, Some, None, slice_get, refl, sym, ap, ◌∙◌, subst, append-nil, arith}
+use Rattle.std.proofs.Common.{◌≡◌, ◌≢◌, ℕ, suc, ◌+◌, ◌<◌, Bool, true, false, cond, ◌⊎◌, inl, inr, List, [], ◌∷◌, ◌++◌, length, Some, None, slice_get, refl, sym, ap, ◌∙◌, subst, append-nil, arith}
 use Rattle.history.specs.Worlds.{KeyMap}
 use Rattle.history.specs.declared.calls.Access.{Access}
-use Rattle.history.specs.declared.calls.Call.{Call}
 use Rattle.history.specs.declared.calls.Call.TheVariants.{Close}
 use Rattle.history.specs.declared.replies.Reply.{Reply}
 use Rattle.history.specs.declared.replies.Reply.TheVariants as reply
@@ -21,18 +20,18 @@ use Rattle.machine_model.specs.declared.steps.Limits.{Limits}
 use Rattle.machine_model.specs.declared.steps.Outcome.{Outcome}
 use Rattle.machine_model.specs.declared.steps.Step.{Step}
 use Rattle.machine_model.specs.declared.steps.Step.TheVariants as step
-use Rattle.machine_model.specs.States.{State, operation_of, root_at}
+use Rattle.machine_model.specs.States.{State, operation_of}
 use Rattle.machine_model.specs.Operations.{action_of}
 use Rattle.machine_model.specs.Orders.{place_of, is_placed}
 use Rattle.machine_model.specs.Acting.{entered_at_end}
-use Rattle.machine_model.proofs.Moves.{Moves, begun_operation}
+use Rattle.machine_model.proofs.Moves.{Moves}
 use Rattle.machine_model.proofs.Times.{IsRun, steps_at}
 use Rattle.order_laws.specs.Facts.{standing_of, standing, HasStood, Runs, IsReply, entered_by_step, CarriesOut, Facts, Update, Swap, Replied}
 use Rattle.order_laws.proofs.Running.{place_of_actor}
 use Rattle.order_laws.proofs.Changes.{footing, roots_swapped}
 use Rattle.order_laws.proofs.EachStep as each
 use Rattle.order_laws.proofs.EachStep.{Changes}
-use Rattle.order_laws.proofs.Standing.{AStep, step_at, change_at, keeps_standing, no_standing}
+use Rattle.order_laws.proofs.Standing.{step_at, change_at, keeps_standing, no_standing}
 use Rattle.order_laws.proofs.Recalling.{event_later, told_reply, end_event, begin_event}
 use Rattle.order_laws.proofs.Closes.{closed_reply}
 

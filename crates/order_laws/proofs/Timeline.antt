@@ -1,7 +1,5 @@
 -- What the handles show at each time of a run, and what single operations do to it.
-use Rattle.std.proofs.Common.{◌≡◌, ◌≢◌, ℕ, zero, suc, ◌+◌, ◌<◌, ◌≤◌, ◌==◌, Bool, true, false, cond, ◌⊎◌, inl, inr, List, [], ◌∷◌, ◌++◌, Option, Some, None, refl, sym, ap, ◌∙◌, subst, arith, ne_eqb, eq-eqb}
-use Rattle.std.proofs.lemmas.Option.{none-some, same_Some, some_pair_parts}
-use Rattle.std.specs.FinMap as fin
+use Rattle.std.proofs.Common.{◌≡◌, ℕ, suc, ◌<◌, ◌≤◌, true, false, cond, List, [], ◌∷◌, Option, Some, None, refl, sym, ap, ◌∙◌, subst, arith, ne_eqb, eq-eqb}
 use Rattle.ctrie_base.specs.Hashes.{hash_of}
 use Rattle.history.specs.Worlds.{KeyMap, HandleState}
 use Rattle.history.specs.declared.calls.Access.{Access}
@@ -15,7 +13,7 @@ use Rattle.machine_model.specs.Calls.{handle_of}
 use Rattle.machine_model.specs.States.{State}
 use Rattle.machine_model.specs.Orders.{place_of, closing_for}
 use Rattle.machine_model.proofs.Times.{IsRun}
-use Rattle.order_laws.specs.Facts.{standing, On, HasStood, Runs, IsReply, act_in, Facts, Update}
+use Rattle.order_laws.specs.Facts.{standing, On, Runs, IsReply, act_in, Update}
 use Rattle.order_laws.proofs.Views.{View, but, Leads, leads_one, leads_same}
 use Rattle.order_laws.proofs.Acts.{named, but_same, acts_on}
 use Rattle.order_laws.proofs.Recalling.{recalls_running}

@@ -1,10 +1,10 @@
 -- What holds of every list of steps, without facts about contents.
-use Rattle.std.proofs.Common.{◌≡◌, ◌≢◌, ℕ, zero, suc, ◌+◌, ◌<◌, ◌≤◌, Bool, true, false, cond, List, [], ◌∷◌, ◌++◌, length, get_or, Option, Some, None, refl, sym, ap, ◌∙◌, subst, append-nil, append_assoc, arith}
+use Rattle.std.proofs.Common.{◌≡◌, ◌≢◌, ℕ, zero, suc, ◌+◌, ◌<◌, Bool, true, false, cond, List, [], ◌∷◌, ◌++◌, length, get_or, Some, refl, sym, ap, ◌∙◌, subst, arith}
 use Rattle.std.specs.List.Sorted.{IsPermutation, IsSortedBy}
 use Rattle.std.proofs.lemmas.List.Sorted.{IsPermutation-refl, IsPermutation-trans, IsPermutation-cons, IsPermutation-swap}
 use Rattle.history.specs.declared.replies.Reply.{Reply}
 use Rattle.history.specs.declared.replies.Reply.TheVariants.{NoSlots}
-use Rattle.history.specs.Histories.{HasEnded, IsWellFormed}
+use Rattle.history.specs.Histories.{HasEnded}
 use Rattle.history.specs.Orders.{OrderedAt}
 use Rattle.places.specs.declared.place.Place.{Place}
 use Rattle.places.specs.Places.{is_before, placed, rising, ids_by_place}
@@ -15,7 +15,7 @@ use Rattle.machine_model.specs.States.{State, first_state, operation_of}
 use Rattle.machine_model.specs.Orders.{order_of}
 use Rattle.machine_model.specs.Machine.{next_state, run_from, run}
 use Rattle.machine_model.proofs.Along.{along, run-append, kept_by_moves}
-use Rattle.order_laws.proofs.Elements.{Among, Each, among_map, get_among}
+use Rattle.order_laws.proofs.Elements.{among_map, get_among}
 use Rattle.order_laws.proofs.Sorting.{Rises, rising_rises, rising_among}
 use Rattle.order_laws.proofs.Running.{place_of_actor}
 use Rattle.order_laws.proofs.Books.{Books, one_by_id}

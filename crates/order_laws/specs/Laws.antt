@@ -5,7 +5,6 @@ use Rattle.std.specs.FinMap as map
 use Rattle.ctrie_base.specs.Hashes.{hash_of}
 use Rattle.history.specs.declared.replies.Reply.{Reply}
 use Rattle.history.specs.declared.replies.Reply.TheVariants.{NoSlots}
-use Rattle.history.specs.declared.events.Event.{Event}
 use Rattle.history.specs.Worlds.{KeyMap, HandleState, HandleMap}
 use Rattle.history.specs.Histories.{HasEnded, IsWellFormed}
 use Rattle.history.specs.Orders.{OrderedAt, Explains}
