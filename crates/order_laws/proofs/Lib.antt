@@ -28,3 +28,4 @@ pub mod Candidates
 pub mod Explained
 pub mod Unconditional
 pub mod OfferLines
+pub mod OfferWords
