@@ -29,3 +29,4 @@ pub mod Explained
 pub mod Unconditional
 pub mod OfferLines
 pub mod OfferWords
+pub mod OneStep
