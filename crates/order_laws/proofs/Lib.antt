@@ -30,3 +30,4 @@ pub mod Unconditional
 pub mod OfferLines
 pub mod OfferWords
 pub mod OneStep
+pub mod Offers
