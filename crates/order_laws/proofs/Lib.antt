@@ -31,3 +31,4 @@ pub mod OfferLines
 pub mod OfferWords
 pub mod OneStep
 pub mod Offers
+pub mod OfferStands

@@ -111,7 +111,7 @@ known_of_stands state offers handle offer stands =
 try_parts : (a b : Descriptor) → is_try a b ≡ true → (a.operation ≡ b.operation) × (a.attempt ≡ b.attempt)
 try_parts a b e = let (p, q) = and_parts (a.operation == b.operation) (a.attempt == b.attempt) e in (eqb-true a.operation b.operation p, eqb-true a.attempt b.attempt q)
 
-same_try : (a b : Descriptor) → a ≡ b → is_try a b ≡ true
+pub same_try : (a b : Descriptor) → a ≡ b → is_try a b ≡ true
 same_try a b e =
     and_from (a.operation == b.operation) (a.attempt == b.attempt) (eq-eqb a.operation b.operation (ap (λ (x : Descriptor). x.operation) e))
     (eq-eqb a.attempt b.attempt (ap (λ (x : Descriptor). x.attempt) e))
@@ -172,7 +172,7 @@ first_fits call = (grind arith, λ offer h. holds call offer h)
     holds : (call : Call) (offer : Descriptor) → Holds (first_line call) offer → ⊥
     holds call offer h = grind arith
 
-fits_kept : (state : State) (s : Step) (k : ℕ) (found : Operation) → Offers state → From state s k found → FitsCopy found found.attempt (copying_of found.line)
+pub fits_kept : (state : State) (s : Step) (k : ℕ) (found : Operation) → Offers state → From state s k found → FitsCopy found found.attempt (copying_of found.line)
 fits_kept state s k found offers (began new) =
     subst (λ (f : Operation). FitsCopy f f.attempt (copying_of f.line)) (sym new.is_it)
     (subst (λ l. FitsCopy (begun_operation state new.call) 0 l) (sym (first_fits new.call).0) tt)
@@ -271,7 +271,7 @@ module _ (state : State) (s : Step) (o : Outcome) (after : State) (m : Moves sta
   word_known : (handle : ℕ) (offer : Descriptor) → word_at state handle ≡ Offer offer → Known after offer
   word_known handle offer word = known_kept offer (known_of_stands state offers handle offer (offers.words handle offer word))
 
-  held_by : (k : ℕ) (found : Operation) (offer : Descriptor) → From state s k found → Holds found.line offer → Known after offer
+  pub held_by : (k : ℕ) (found : Operation) (offer : Descriptor) → From state s k found → Holds found.line offer → Known after offer
   held_by k found offer (began new) h = absurd ((first_fits new.call).1 offer (subst (λ (f : Operation). Holds f.line offer) new.is_it h))
   held_by k found offer (kept operation runs is other) h =
       known_kept offer (offers.held k operation offer runs (subst (λ l. Holds l offer) (ap (λ (f : Operation). f.line) is ∙ marked_line _ operation) h))
