@@ -21,7 +21,7 @@ use Rattle.machine_model.specs.Swapping.{stands_in, is_plain, is_carried_out}
 use Rattle.machine_model.specs.Orders.{committed_in}
 use Rattle.machine_model.specs.Acting.{if_changed, acted, aborted, offered, completed, carried_out, opened, opened_root, new_root_taken}
 use Rattle.machine_model.proofs.Found.{found_elsewhere}
-use Rattle.order_laws.specs.Facts.{Settles}
+use Rattle.order_laws.proofs.OfferLines.{Settles}
 
 -- ---- the roots of handles
 

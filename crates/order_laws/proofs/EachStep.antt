@@ -27,7 +27,8 @@ use Rattle.machine_model.specs.Counting.{settled}
 use Rattle.machine_model.specs.Machine.{begin_denial, with_begin}
 use Rattle.machine_model.proofs.Moves.{Moves, Begins, Goes, Ends, Sweeps, begun_operation}
 use Rattle.machine_model.proofs.Found.{found_within, found_elsewhere}
-use Rattle.order_laws.specs.Facts.{committed_of, committed_by_step, entered_by_step, Settles, CarriesOut}
+use Rattle.order_laws.specs.Facts.{committed_of, committed_by_step, entered_by_step, CarriesOut}
+use Rattle.order_laws.proofs.OfferLines.{Settles}
 use Rattle.order_laws.proofs.Changes.{footing_of, footing, carries, acted_places, acted_footing, completed_is, roots_swapped, carried_roots, same_swapped, complete_commits, end_commits}
 
 -- offers are honest in each step from this state

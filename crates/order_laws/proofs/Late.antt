@@ -17,7 +17,8 @@ use Rattle.machine_model.specs.Calls.{handle_of}
 use Rattle.machine_model.specs.States.{State, closed_at}
 use Rattle.machine_model.specs.Orders.{place_of, closing_for, closed_after}
 use Rattle.machine_model.proofs.Times.{IsRun}
-use Rattle.order_laws.specs.Facts.{act_in, On, IsRooted, HasStood, Facts, Update, Swap, Replied, on_writable, on_read_only}
+use Rattle.order_laws.specs.Facts.{act_in, On, IsRooted, HasStood, Facts, Update, Replied, on_writable, on_read_only}
+use Rattle.order_laws.proofs.Carried.{Carried}
 use Rattle.order_laws.proofs.Elements.{no_members, Among, each_of, equals, among_right, filter_among}
 use Rattle.order_laws.proofs.Sorting.{role, number_below, only_one}
 use Rattle.order_laws.proofs.Views.{View, but, Leads, leads_none, leads_same, leads_from, leads_each, leads_all, leads_parts}
@@ -61,7 +62,7 @@ module _ (limits : Limits) (states : ℕ → State) (last : ℕ) (r : IsRun limi
       holds_later limits states last r (λ state. Among p state.places) (place_kept p) (suc t) last lt (omega arith)
       (subst (Among p) (sym enters) (among_right (states t).places (p ∷ []) p (inl refl)))
 
-  module _ (t : ℕ) (lt : t < last) (handle : ℕ) (offer : Descriptor) (swap : Swap states last V t handle offer)
+  module _ (t : ℕ) (lt : t < last) (handle : ℕ) (offer : Descriptor) (swap : Carried states last V t handle offer)
       (closings : (states (suc t)).closings ≡ (states t).closings ++ record { generation = generation_at (states t).heap offer.root; step = t } ∷ []) (still_now : IsStill limits states last V t) where
     abbrev old : ℕ
     old = generation_at (states t).heap offer.root

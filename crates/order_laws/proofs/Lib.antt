@@ -9,6 +9,12 @@ pub mod Changes
 pub mod EachStep
 pub mod Growing
 pub mod Past
+pub mod OfferLines
+pub mod OfferWords
+pub mod OneStep
+pub mod Offers
+pub mod OfferStands
+pub mod Carried
 pub mod Handles
 pub mod Standing
 pub mod Recalling
@@ -27,8 +33,3 @@ pub mod Ends
 pub mod Candidates
 pub mod Explained
 pub mod Unconditional
-pub mod OfferLines
-pub mod OfferWords
-pub mod OneStep
-pub mod Offers
-pub mod OfferStands

@@ -56,9 +56,14 @@ use Rattle.machine_model.specs.declared.repairs.Climb.{Climb}
 use Rattle.history.specs.declared.calls.Call.{Call}
 use Rattle.history.specs.declared.calls.Call.TheVariants.{Clear, Snapshot, Freeze}
 use Rattle.machine_model.specs.Acting.{attempt_after}
-use Rattle.order_laws.specs.Facts.{Settles}
 
 -- ---- what a line is to settle
+
+-- the action is to take this offer back or to carry it out
+abbrev pub Settles : Action → Descriptor → Type 0
+Settles (act.Abort offer) other = offer ≡ other
+Settles (act.Complete offer main) other = offer ≡ other
+Settles action other = ⊥
 
 -- the offer that a READ takes back
 abbrev pub abort_in : ReadLine → Option Descriptor

@@ -37,12 +37,12 @@ use Rattle.machine_model.proofs.Moves.{Moves, GoesOn}
 use Rattle.machine_model.proofs.Found.{none_found, found_elsewhere}
 use Rattle.machine_model.proofs.Times.{IsRun, at_each_time}
 use Rattle.machine_model.proofs.Actors.{mark_one, mark_only, marks_in, marks_by, marks_of}
-use Rattle.order_laws.specs.Facts.{Runs, Settles, CarriesOut}
+use Rattle.order_laws.specs.Facts.{Runs, CarriesOut}
 use Rattle.order_laws.proofs.Running.{place_of_actor, at_place, one_at}
 use Rattle.order_laws.proofs.Books.{one_by_id}
 use Rattle.order_laws.proofs.AllBooks.{books_kept, first_books}
 use Rattle.order_laws.proofs.Growing.{IsKept}
-use Rattle.order_laws.proofs.OfferLines.{FitsCopy, Own, HasSecond, copying_of, settles_held, offers_so}
+use Rattle.order_laws.proofs.OfferLines.{Settles, FitsCopy, Own, HasSecond, copying_of, settles_held, offers_so}
 use Rattle.order_laws.proofs.OfferWords.{Leaves, StandsFrom, stood, put, words_after}
 use Rattle.order_laws.proofs.OneStep.{from, stays, steps_on}
 use Rattle.order_laws.proofs.Offers.{Known, Stands, Offers, own_offer, same_try, same_found, fits_kept, held_by}

@@ -40,13 +40,13 @@ use Rattle.machine_model.proofs.Moves.{Moves, GoesOn, begun_operation}
 use Rattle.machine_model.proofs.Found.{none_found}
 use Rattle.machine_model.proofs.Times.{IsRun, at_each_time}
 use Rattle.machine_model.proofs.Actors.{mark_one, mark_only, marks_in, marks_by, marks_of}
-use Rattle.order_laws.specs.Facts.{Runs, Settles}
+use Rattle.order_laws.specs.Facts.{Runs}
 use Rattle.order_laws.proofs.Running.{IsSame, place_of_actor, one_at}
 use Rattle.order_laws.proofs.Books.{Books, one_by_id, id_below}
 use Rattle.order_laws.proofs.AllBooks.{books_kept, first_books}
 use Rattle.order_laws.proofs.Growing.{IsKept, events_grow}
 use Rattle.order_laws.proofs.Recalling.{begun_more_or_same}
-use Rattle.order_laws.proofs.OfferLines.{IsCopying, IsOpening, IsSnapshot, IsClear, HasSecond, abort_of, completing_of, copying_of, Holds, FitsCopy, Own, abort_after, completes_after, settles_held, fits_after, own_completes, offers_so}
+use Rattle.order_laws.proofs.OfferLines.{Settles, IsCopying, IsOpening, IsSnapshot, IsClear, HasSecond, abort_of, completing_of, copying_of, Holds, FitsCopy, Own, abort_after, completes_after, settles_held, fits_after, own_completes, offers_so}
 use Rattle.order_laws.proofs.OfferWords.{Leaves, StandsFrom, stood, put, words_after}
 use Rattle.order_laws.proofs.OneStep.{From, began, kept, stepped, from, stays, steps_on}
 

@@ -21,7 +21,8 @@ use Rattle.machine_model.specs.declared.steps.Limits.{Limits}
 use Rattle.machine_model.specs.States.{State, root_at}
 use Rattle.machine_model.specs.Acting.{opened_root}
 use Rattle.machine_model.proofs.Times.{IsRun}
-use Rattle.order_laws.specs.Facts.{standing, standing_of, On, IsReply, Facts, Swap, Opens, clears, snapshots, freezes}
+use Rattle.order_laws.specs.Facts.{standing, standing_of, On, IsReply, Facts, Opens, clears, snapshots, freezes}
+use Rattle.order_laws.proofs.Carried.{Carried}
 use Rattle.order_laws.proofs.Views.{View, but, Leads, leads_same, leads_one}
 use Rattle.order_laws.proofs.Acts.{named, acts_on, copies, closes as closes_handle}
 use Rattle.order_laws.proofs.Changes.{roots_swapped}
@@ -64,7 +65,7 @@ module _ (limits : Limits) (states : ℕ → State) (last : ℕ) (r : IsRun limi
 
   -- ---- a swap
 
-  module _ (t handle : ℕ) (lt : t < last) (offer : Descriptor) (swap : Swap states last V t handle offer)
+  module _ (t handle : ℕ) (lt : t < last) (offer : Descriptor) (swap : Carried states last V t handle offer)
       (roots : (states (suc t)).roots ≡ roots_swapped (states t) handle offer offer.opens) (heap : (states (suc t)).heap ≡ (states t).heap) (still : IsStill limits states last V t) where
     abbrev old : ℕ
     old = generation_at (states t).heap offer.root

@@ -17,7 +17,8 @@ use Rattle.machine_model.specs.States.{State, first_state, root_at, closed_at, h
 use Rattle.machine_model.specs.Acting.{opened_root}
 use Rattle.machine_model.proofs.Found.{none_found, found_elsewhere}
 use Rattle.machine_model.proofs.Times.{IsRun}
-use Rattle.order_laws.specs.Facts.{standing_of, standing, On, IsFresh, Facts, Swap, Opens, clears, snapshots, freezes}
+use Rattle.order_laws.specs.Facts.{standing_of, standing, On, IsFresh, Facts, Opens, clears, snapshots, freezes}
+use Rattle.order_laws.proofs.Carried.{Carried}
 use Rattle.order_laws.proofs.Changes.{roots_swapped}
 use Rattle.order_laws.proofs.Handles.{opens_in_range}
 use Rattle.order_laws.proofs.Standing.{standing_root, here_none, here_some, there_some, else_none, else_some}
@@ -42,7 +43,7 @@ nothing_closed limits generation = refl
 module _ (limits : Limits) (states : ℕ → State) (last : ℕ) (r : IsRun limits states last) (V : ℕ → ℕ → KeyMap) (facts : Facts limits states last V) where
   -- ---- what a swap makes of the handles
 
-  module _ (t handle : ℕ) (lt : t < last) (offer : Descriptor) (swap : Swap states last V t handle offer)
+  module _ (t handle : ℕ) (lt : t < last) (offer : Descriptor) (swap : Carried states last V t handle offer)
       (roots : (states (suc t)).roots ≡ roots_swapped (states t) handle offer offer.opens) (heap : (states (suc t)).heap ≡ (states t).heap) where
     root_there : (root : Root) × (root_at (states t) handle ≡ Some root) × (root.access ≡ Writable)
     root_there = let (root, is, access, generation) = standing_root (states t) handle Writable _ swap.stands in (root, is, access)
@@ -130,7 +131,7 @@ module _ (limits : Limits) (states : ℕ → State) (last : ℕ) (r : IsRun limi
     unclosed = λ handle generation on. ap (λ l. closed_in l generation) closings ∙ sound.unclosed handle generation (back handle generation on);
   }
 
-  module _ (t handle : ℕ) (lt : t < last) (offer : Descriptor) (swap : Swap states last V t handle offer)
+  module _ (t handle : ℕ) (lt : t < last) (offer : Descriptor) (swap : Carried states last V t handle offer)
       (roots : (states (suc t)).roots ≡ roots_swapped (states t) handle offer offer.opens) (heap : (states (suc t)).heap ≡ (states t).heap)
       (closings : (states (suc t)).closings ≡ (states t).closings ++ record { generation = generation_at (states t).heap offer.root; step = t } ∷ []) (sound : Sound t) where
     not_fresh : (other generation fresh : ℕ) → generation ≡ fresh → IsFresh (states t) fresh → On states t other generation → ⊥

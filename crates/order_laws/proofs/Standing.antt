@@ -1,5 +1,5 @@
 -- Which generations stand on which handles, along a run: what each step leaves, and what a swap makes of it.
-use Rattle.std.proofs.Common.{◌≡◌, ℕ, suc, ◌<◌, List, set, get_or, length, Option, Some, None, refl, sym, ap, ◌∙◌, length-set}
+use Rattle.std.proofs.Common.{◌≡◌, ℕ, suc, ◌<◌, List, set, get_or, length, Option, Some, None, refl, sym, ap, ◌∙◌, length-set, arith}
 use Rattle.std.proofs.lemmas.List.{get_or-set_same}
 use Rattle.std.proofs.lemmas.Option.{none-some, some_pair_parts}
 use Rattle.history.specs.declared.calls.Access.{Access}
@@ -21,6 +21,8 @@ use Rattle.machine_model.proofs.Times.{IsRun, Turn, turns}
 use Rattle.history.specs.Worlds.{KeyMap}
 use Rattle.order_laws.specs.Facts.{standing_of, standing, Facts}
 use Rattle.order_laws.proofs.Changes.{footing_of, footing, roots_swapped}
+use Rattle.order_laws.proofs.OfferStands.{offers_at}
+use Rattle.order_laws.proofs.Carried.{honest}
 use Rattle.order_laws.proofs.EachStep.{HonestIn, Changes, changes}
 
 -- ---- standing, by the root
@@ -109,7 +111,7 @@ module _ (limits : Limits) (states : ℕ → State) (last : ℕ) (r : IsRun limi
   step_at t lt = step_of_turn (states t) (states (suc t)) (r.turn t lt)
 
   honest_at : (t : ℕ) → t < last → HonestIn (states t)
-  honest_at t lt actor operation offer is settles stands = facts.same_offer t actor operation offer lt is settles stands
+  honest_at t lt = honest (states t) (offers_at limits states last r t (omega arith))
 
   pub change_at : (t : ℕ) (lt : t < last) → Changes (states t) (step_at t lt).its (states (suc t))
   change_at t lt = let a = step_at t lt in changes (states t) a.its a.outcome (states (suc t)) a.move (honest_at t lt)

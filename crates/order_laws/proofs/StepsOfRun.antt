@@ -26,7 +26,9 @@ use Rattle.machine_model.specs.Orders.{place_of, is_placed}
 use Rattle.machine_model.specs.Acting.{entered_at_end}
 use Rattle.machine_model.proofs.Moves.{Moves}
 use Rattle.machine_model.proofs.Times.{IsRun, steps_at}
-use Rattle.order_laws.specs.Facts.{standing_of, standing, HasStood, Runs, IsReply, entered_by_step, CarriesOut, Facts, Update, Swap, Replied}
+use Rattle.order_laws.specs.Facts.{standing_of, standing, HasStood, Runs, IsReply, entered_by_step, CarriesOut, Facts, Update, Replied}
+use Rattle.order_laws.proofs.Carried.{Carried, carried}
+use Rattle.order_laws.proofs.OfferStands.{offers_at}
 use Rattle.order_laws.proofs.Running.{place_of_actor}
 use Rattle.order_laws.proofs.Changes.{footing, roots_swapped}
 use Rattle.order_laws.proofs.EachStep as each
@@ -76,7 +78,7 @@ module _ (limits : Limits) (states : ℕ → State) (last : ℕ) (V : ℕ → �
         standing (states t) handle ≡ Some stood → standing (states (suc t)) handle ≡ None →
         ((other : ℕ) → (other ≡ handle → ⊥) → standing (states (suc t)) other ≡ standing (states t) other) → ClosesNone t → IsStill t → Kind t
     -- an offer is carried out
-    swaps : (handle : ℕ) (offer : Descriptor) (swap : Swap states last V t handle offer) → Enters t (on_time t false offer.operation) →
+    swaps : (handle : ℕ) (offer : Descriptor) (swap : Carried states last V t handle offer) → Enters t (on_time t false offer.operation) →
         (states (suc t)).closings ≡ (states t).closings ++ record { generation = generation_at (states t).heap offer.root; step = t } ∷ [] →
         (states (suc t)).roots ≡ roots_swapped (states t) handle offer offer.opens → (states (suc t)).heap ≡ (states t).heap → IsStill t → Kind t
 
@@ -150,7 +152,7 @@ module _ (limits : Limits) (states : ℕ → State) (last : ℕ) (r : IsRun limi
       (states (suc t)).closings ≡ (states t).closings ++ record { generation = generation_at (states t).heap offer.root; step = (states t).steps } ∷ [] →
       (states (suc t)).roots ≡ roots_swapped (states t) handle offer offer.opens → (states (suc t)).heap ≡ (states t).heap → Kind limits states last V t
   swap_kind t lt s o handle offer m carries none places closings roots heap =
-      swaps handle offer (facts.swaps t s o lt m handle offer carries)
+      swaps handle offer (carried limits states last V facts t s o lt m handle offer carries (offers_at limits states last r t (omega arith)))
       (places ∙ ap (λ n. (states t).places ++ on_time n false offer.operation ∷ []) (number_at t lt))
       (closings ∙ ap (λ n. (states t).closings ++ record { generation = generation_at (states t).heap offer.root; step = n } ∷ []) (number_at t lt))
       roots heap (facts.still t s o lt m none)

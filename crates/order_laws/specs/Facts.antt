@@ -96,12 +96,6 @@ committed_by_step state step.Sweep = None
 abbrev pub entered_by_step : State → Step → List Place
 entered_by_step state s = entered state (committed_by_step state s)
 
--- the action is to take this offer back or to carry it out
-abbrev pub Settles : Action → Descriptor → Type 0
-Settles (act.Abort offer) other = offer ≡ other
-Settles (act.Complete offer main) other = offer ≡ other
-Settles action other = ⊥
-
 -- the step carries this offer out, on this handle
 abbrev pub CarriesOut : State → Step → ℕ → Descriptor → Type 0
 CarriesOut state s handle offer =
@@ -146,18 +140,14 @@ pub data Opens (states : ℕ → State) (last : ℕ) (V : ℕ → ℕ → KeyMap
       IsReply (states last).events offer.operation (reply.Opened n) →
       Opens states last V t handle generation offer (Freeze handle)
 
--- An offer is carried out: the operation that made it runs, and opens what its call says. The new roots' generations are new.
-pub record Swap (states : ℕ → State) (last : ℕ) (V : ℕ → ℕ → KeyMap) (t handle : ℕ) (offer : Descriptor) : Type 0 where
-  pub k : ℕ
-  pub offerer : Operation
-  pub runs : Runs (states t) k offerer
-  pub is_its : offerer.id ≡ offer.operation
-  pub number : offerer.opens ≡ offer.opens
+-- An offer of an operation with this call is carried out: the operation has no place yet, the new root's generation is new, and
+-- what the call says is opened.
+pub record Swap (states : ℕ → State) (last : ℕ) (V : ℕ → ℕ → KeyMap) (t handle : ℕ) (offer : Descriptor) (call : Call) : Type 0 where
   pub unplaced : is_placed (states t) offer.operation ≡ false
   -- the handle is writable, and the generation of the old root is the one that is closed
   pub stands : On states t handle (generation_at (states t).heap offer.root)
   pub is_fresh : IsFresh (states t) (generation_at (states t).heap offer.successor)
-  pub opens : Opens states last V t handle (generation_at (states t).heap offer.root) offer offerer.call
+  pub opens : Opens states last V t handle (generation_at (states t).heap offer.root) offer call
 
 -- An operation that changed nothing is answered: its reply is right just behind its moment, on a read-only handle at any
 -- time.
@@ -180,13 +170,10 @@ pub record Facts (limits : Limits) (states : ℕ → State) (last : ℕ) (V : �
   -- a step that commits one
   pub updates : (t : ℕ) (s : Step) (o : Outcome) → t < last → Moves (states t) s o (states (suc t)) → entered_by_step (states t) s ≢ [] →
       Update limits states last V t (entered_by_step (states t) s)
-  -- a step that carries an offer out
+  -- a step that carries an offer out, whose operation runs
   pub swaps : (t : ℕ) (s : Step) (o : Outcome) → t < last → Moves (states t) s o (states (suc t)) →
-      (handle : ℕ) (offer : Descriptor) → CarriesOut (states t) s handle offer → Swap states last V t handle offer
-  -- who takes an offer back or carries it out finds it by its number: it is the very same offer
-  pub same_offer : (t actor : ℕ) (operation : Operation) (offer : Descriptor) → t < last → operation_of (states t) actor ≡ Some operation →
-      Settles (action_of (states t) operation) offer → stands_in (word_at (states t) (handle_of operation.call)) offer ≡ true →
-      word_at (states t) (handle_of operation.call) ≡ Offer offer
+      (handle : ℕ) (offer : Descriptor) → CarriesOut (states t) s handle offer →
+      (k : ℕ) (offerer : Operation) → Runs (states t) k offerer → offerer.id ≡ offer.operation → Swap states last V t handle offer offerer.call
   -- an operation that ends without a place, but for want of slots
   pub replies : (t actor : ℕ) (operation : Operation) (answer : Reply) (o : Outcome) → t < last → Moves (states t) (step.Go actor) o (states (suc t)) →
       operation_of (states t) actor ≡ Some operation → action_of (states t) operation ≡ act.End answer → answer ≢ reply.NoSlots →
