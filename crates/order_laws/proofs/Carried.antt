@@ -1,10 +1,9 @@
 -- Offers are found as they were made, and the operation whose offer is carried out runs.
-use Rattle.std.proofs.Common.{◌≡◌, ℕ, zero, suc, ◌<◌, ◌≤◌, Bool, true, false, Option, Some, None, refl, sym, ap, ◌∙◌, subst, arith}
+use Rattle.std.proofs.Common.{◌≡◌, ℕ, suc, ◌<◌, true, false, refl, sym, ap, ◌∙◌, subst}
 use Rattle.std.proofs.lemmas.Bool.{and_parts}
 use Rattle.history.specs.Worlds.{KeyMap}
 use Rattle.slot_arena.specs.Heaps.{generation_at}
 use Rattle.machine_model.specs.declared.operations.Operation.{Operation}
-use Rattle.machine_model.specs.declared.roots.RootWord.TheVariants.{Offer}
 use Rattle.machine_model.specs.declared.roots.Descriptor.{Descriptor}
 use Rattle.machine_model.specs.declared.steps.Outcome.{Outcome}
 use Rattle.machine_model.specs.declared.steps.Step.{Step}
@@ -14,7 +13,7 @@ use Rattle.machine_model.specs.States.{State, word_at}
 use Rattle.machine_model.specs.Swapping.{stands_in}
 use Rattle.machine_model.specs.Orders.{is_placed}
 use Rattle.machine_model.proofs.Moves.{Moves}
-use Rattle.order_laws.specs.Facts.{Runs, On, IsFresh, Opens, CarriesOut, Facts, Swap}
+use Rattle.order_laws.specs.Facts.{Runs, On, IsFresh, Opens, CarriesOut, Facts}
 use Rattle.order_laws.proofs.Running.{place_of_actor}
 use Rattle.order_laws.proofs.EachStep.{HonestIn}
 use Rattle.order_laws.proofs.OfferLines.{Settles, settles_held}

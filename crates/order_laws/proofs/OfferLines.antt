@@ -1,5 +1,5 @@
 -- Which offers a line is to settle, and where it has them from.
-use Rattle.std.proofs.Common.{◌≡◌, ℕ, ◌+◌, ◌-◌, ◌==◌, ◌&&◌, ◌||◌, nat_lt, nat_le, cond, length, ◌⊎◌, inl, inr, Bool, true, false, List, [], ◌∷◌, Option, Some, None, refl, sym, ap, ◌∙◌, subst, arith}
+use Rattle.std.proofs.Common.{◌≡◌, ℕ, ◌+◌, ◌-◌, ◌==◌, ◌&&◌, ◌||◌, nat_lt, nat_le, cond, length, ◌⊎◌, inl, inr, Bool, true, false, List, Option, Some, None, refl, sym, ap, ◌∙◌, subst, arith}
 use Rattle.std.proofs.lemmas.Option.{none-some, same_Some}
 use Rattle.history.specs.declared.calls.Access.{Access}
 use Rattle.history.specs.declared.calls.Access.TheVariants.{Writable, ReadOnly}
@@ -9,7 +9,7 @@ use Rattle.machine_model.specs.declared.actions.Action.{Action}
 use Rattle.machine_model.specs.declared.actions.Action.TheVariants as act
 use Rattle.machine_model.specs.declared.operations.Operation.{Operation}
 use Rattle.machine_model.specs.declared.roots.RootWord.{RootWord}
-use Rattle.machine_model.specs.declared.roots.RootWord.TheVariants.{Plain, Offer}
+use Rattle.machine_model.specs.declared.roots.RootWord.TheVariants.{Offer}
 use Rattle.machine_model.specs.declared.roots.Descriptor.{Descriptor}
 use Rattle.machine_model.specs.declared.roots.Complete.{Complete}
 use Rattle.machine_model.specs.declared.roots.RootLine.{RootLine}
@@ -332,6 +332,7 @@ climb_completes state operation (climb.Root b l) c e = by (root_after state.heap
     given : (b2 : Bool) → completing_of (cond b2 (climbing operation b) (climbed operation b.former)) ≡ Some c → ⊥
     given true e = none-some c (sym (climbing_none operation b) ∙ e)
     given false e = none-some c (sym (climbed_none operation b) ∙ e)
+
     by : (a : After RootLine Ref) → root_after state.heap operation.access (word_at state (handle_of operation.call)) l ≡ a →
         completing_of (climb_after_root state operation b a) ≡ Some c → CompletesFrom state operation (line.Climb (climb.Root b l)) c
     by (Goes next) was e = as_from state operation (line.Climb (climb.Root b l)) l c refl (root_from state operation l next c was e)
@@ -345,6 +346,7 @@ copy_completes state operation (copy.Complete d) c e = by (complete_after state.
     given : (b : Bool) → completing_of (cond b (line.End (copied_reply operation.call operation.opens)) new_try) ≡ Some c → ⊥
     given true e = none-some c e
     given false e = none-some c e
+
     by : (a : After Complete Bool) → complete_after state.heap operation.access (word_at state (handle_of operation.call)) d ≡ a →
         completing_of (copy_after_complete operation a) ≡ Some c → CompletesFrom state operation (line.Copy (copy.Complete d)) c
     by (Goes f) was e =
@@ -509,6 +511,7 @@ root_copies state operation l attempt = by (root_after state.heap operation.acce
     below (Snapshot h) r e = subst IsCopying (sym e) tt
     below (Freeze h) r e = subst IsCopying (sym e) tt
     below call r e = tt
+
     by : (a : After RootLine Ref) → FitsCopy operation attempt (copying_of (after_root operation a))
     by (Goes next) = tt
     by (Gives r) = below operation.call r refl
@@ -526,6 +529,7 @@ copy_fits state operation (copy.Read r q) h = by (read_step state operation q)
     given (Snapshot h) main e c = subst IsOpening (sym e) tt
     given (Freeze h) main e c = subst IsOpening (sym e) tt
     given call main e c = absurd c
+
     by : (a : After Read Ref) → FitsCopy operation (attempt_after operation.attempt (copy_action (copy.Read r q))) (copying_of (copy_after_read operation r a))
     by (Goes next) = h
     by (Gives main) = given operation.call main refl h
@@ -535,6 +539,7 @@ copy_fits state operation (copy.Successor r m) h = by (next_ref state.heap)
     given (Snapshot h) made e c = subst IsSnapshot (sym e) tt
     given (Freeze h) made e c = record { id = refl; try = refl; opens = refl; second = subst (λ x. HasSecond x None) (sym e) refl }
     given call made e c = absurd c
+
     by : (made : Option Ref) → FitsCopy operation operation.attempt (copying_of (copy_if_made operation (copy.Successor r m) made))
     by None = tt
     by (Some made) = given operation.call made refl h
@@ -543,6 +548,7 @@ copy_fits state operation (copy.Second r m q) h = by (next_ref state.heap)
     given : (call : Call) (made : Ref) → operation.call ≡ call → IsSnapshot call → HasSecond operation.call (Some made)
     given (Snapshot h) made e c = subst (λ x. HasSecond x (Some made)) (sym e) (made, refl)
     given call made e c = absurd c
+
     by : (made : Option Ref) → FitsCopy operation operation.attempt (copying_of (copy_if_made operation (copy.Second r m q) made))
     by None = tt
     by (Some made) = record { id = refl; try = refl; opens = refl; second = given operation.call made refl h }
@@ -556,6 +562,7 @@ copy_fits state operation (copy.Cleared r m q) h = by (next_ref state.heap)
     given : (call : Call) → operation.call ≡ call → IsClear call → HasSecond operation.call None
     given (Clear h) e c = subst (λ x. HasSecond x None) (sym e) refl
     given call e c = absurd c
+
     by : (made : Option Ref) → FitsCopy operation operation.attempt (copying_of (copy_if_made operation (copy.Cleared r m q) made))
     by None = tt
     by (Some made) = record { id = refl; try = refl; opens = refl; second = given operation.call refl h }
@@ -568,9 +575,11 @@ copy_fits state operation (copy.Complete d) h = by (complete_after state.heap op
   where
     attempts : ℕ
     attempts = attempt_after operation.attempt (complete_action d)
+
     given : (b : Bool) → FitsCopy operation attempts (copying_of (cond b (line.End (copied_reply operation.call operation.opens)) new_try))
     given true = tt
     given false = tt
+
     by : (a : After Complete Bool) → complete_after state.heap operation.access (word_at state (handle_of operation.call)) d ≡ a →
         FitsCopy operation attempts (copying_of (copy_after_complete operation a))
     by (Goes f) was =
@@ -605,6 +614,7 @@ own_completes state operation (line.Copy (copy.Complete d)) c e =
     given : (b : Bool) → copying_of (cond b (line.End (copied_reply operation.call operation.opens)) new_try) ≡ Some (copy.Complete c) → ⊥
     given true e = none-some _ e
     given false e = none-some _ e
+
     own_keeps : (a : After Complete Bool) → complete_after state.heap operation.access (word_at state (handle_of operation.call)) d ≡ a →
         copying_of (copy_after_complete operation a) ≡ Some (copy.Complete c) → c.offer ≡ d.offer
     own_keeps (Goes f) was e =
@@ -621,6 +631,7 @@ own_completes state operation (line.Copy (copy.Read r q)) c e = absurd (read_not
   where
     given : (call : Call) (main : Ref) → copying_of (after_given call r main) ≡ Some (copy.Complete c) → ⊥
     given call main e = grind arith
+
     read_not : (a : After Read Ref) → copying_of (copy_after_read operation r a) ≡ Some (copy.Complete c) → ⊥
     read_not (Goes next) e = let wrong : copy.Read r next ≡ copy.Complete c = same_Some (copy.Read r next) (copy.Complete c) e in cc wrong
     read_not (Gives main) e = given operation.call main e

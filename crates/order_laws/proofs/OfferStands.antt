@@ -1,7 +1,7 @@
 -- At each time of a run an offer that stands in a root word is one that its operation is completing.
-use Rattle.std.proofs.Common.{◌≡◌, ℕ, zero, suc, ◌+◌, ◌<◌, ◌≤◌, ◌==◌, ◌&&◌, ◌⊎◌, inl, inr, cond, Bool, true, false, if◌then◌else◌, List, [], ◌∷◌, get_or, replicate, Option, Some, None, refl, sym, ap, ◌∙◌, subst, eqb-true, arith}
+use Rattle.std.proofs.Common.{◌≡◌, ℕ, zero, suc, ◌+◌, ◌≤◌, ◌==◌, cond, Bool, true, false, if◌then◌else◌, get_or, replicate, Option, Some, None, refl, sym, ap, ◌∙◌, subst, eqb-true, arith}
 use native.Mathlib.Decide.{ℕ_discrete}
-use Rattle.std.proofs.lemmas.Bool.{true≢false, false≢true, and_parts}
+use Rattle.std.proofs.lemmas.Bool.{and_parts}
 use Rattle.std.proofs.lemmas.Option.{none-some, same_Some}
 use Rattle.history.specs.declared.calls.Access.TheVariants.{Writable}
 use Rattle.slot_arena.specs.declared.refs.Ref.{Ref}
@@ -10,7 +10,6 @@ use Rattle.machine_model.specs.declared.actions.Action.{Action}
 use Rattle.machine_model.specs.declared.actions.Action.TheVariants as act
 use Rattle.machine_model.specs.declared.operations.Operation.{Operation}
 use Rattle.machine_model.specs.declared.roots.Root.{Root}
-use Rattle.machine_model.specs.declared.roots.RootWord.{RootWord}
 use Rattle.machine_model.specs.declared.roots.RootWord.TheVariants.{Plain, Offer}
 use Rattle.machine_model.specs.declared.roots.Descriptor.{Descriptor}
 use Rattle.machine_model.specs.declared.roots.Complete.{Complete}
@@ -20,7 +19,6 @@ use Rattle.machine_model.specs.declared.reading.After.{After}
 use Rattle.machine_model.specs.declared.reading.After.TheVariants as read
 use Rattle.machine_model.specs.declared.reading.ReadLine.{ReadLine}
 use Rattle.machine_model.specs.declared.copying.CopyLine.TheVariants as copy
-use Rattle.machine_model.specs.declared.lines.Line.{Line}
 use Rattle.machine_model.specs.declared.lines.Line.TheVariants as line
 use Rattle.machine_model.specs.declared.steps.Limits.{Limits}
 use Rattle.machine_model.specs.declared.steps.Outcome.{Outcome}
@@ -30,22 +28,22 @@ use Rattle.machine_model.specs.Calls.{handle_of}
 use Rattle.machine_model.specs.States.{State, first_state, word_of, word_at, operation_of, handle_limit}
 use Rattle.machine_model.specs.Copying.{after_offer}
 use Rattle.machine_model.specs.Reading.{read_action, read_after}
-use Rattle.machine_model.specs.Swapping.{complete_action_at, is_try, stands_in, is_plain, is_carried_out, complete_action, complete_after, completing}
+use Rattle.machine_model.specs.Swapping.{complete_action_at, stands_in, is_plain, is_carried_out, complete_action, completing}
 use Rattle.machine_model.specs.Operations.{action_of, line_action, line_after}
 use Rattle.machine_model.specs.Acting.{mark_after, operation_after}
 use Rattle.machine_model.proofs.Moves.{Moves, GoesOn}
 use Rattle.machine_model.proofs.Found.{none_found, found_elsewhere}
 use Rattle.machine_model.proofs.Times.{IsRun, at_each_time}
 use Rattle.machine_model.proofs.Actors.{mark_one, mark_only, marks_in, marks_by, marks_of}
-use Rattle.order_laws.specs.Facts.{Runs, CarriesOut}
-use Rattle.order_laws.proofs.Running.{place_of_actor, at_place, one_at}
+use Rattle.order_laws.specs.Facts.{Runs}
+use Rattle.order_laws.proofs.Running.{place_of_actor}
 use Rattle.order_laws.proofs.Books.{one_by_id}
 use Rattle.order_laws.proofs.AllBooks.{books_kept, first_books}
 use Rattle.order_laws.proofs.Growing.{IsKept}
-use Rattle.order_laws.proofs.OfferLines.{Settles, FitsCopy, Own, HasSecond, copying_of, settles_held, offers_so}
+use Rattle.order_laws.proofs.OfferLines.{Settles, FitsCopy, Own, copying_of, settles_held, offers_so}
 use Rattle.order_laws.proofs.OfferWords.{Leaves, StandsFrom, stood, put, words_after}
 use Rattle.order_laws.proofs.OneStep.{from, stays, steps_on}
-use Rattle.order_laws.proofs.Offers.{Known, Stands, Offers, own_offer, same_try, same_found, fits_kept, held_by}
+use Rattle.order_laws.proofs.Offers.{Stands, Offers, same_try, same_found, fits_kept, held_by}
 
 -- ---- who is marked
 
@@ -130,6 +128,7 @@ module _ (state : State) (s : Step) (o : Outcome) (after : State) (m : Moves sta
     where
       action_is : action_of state st.operation ≡ complete_action st.c
       action_is = ap (line_action state st.operation) st.at
+
       by : (l : CompleteLine) → st.c.line ≡ l → Stands after h d
       by (complete.Swap main) is =
           let does : action_of state st.operation ≡ act.Complete st.c.offer main = action_is ∙ ap (complete_action_at st.c.offer) is in
@@ -210,6 +209,7 @@ module _ (state : State) (s : Step) (o : Outcome) (after : State) (m : Moves sta
     where
       st : Stands state h d
       st = offers.words h d word
+
       by : Dec (s ≡ step.Go (suc st.k)) → Stands after h d
       by (yes e) = own_stands h d st e (leaves st.k st.operation e st.runs)
       by (no other) = other_stands h d st word leaves other

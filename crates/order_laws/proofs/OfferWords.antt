@@ -1,9 +1,8 @@
 -- Which offers stand in root words behind a step.
-use Rattle.std.proofs.Common.{◌≡◌, ℕ, zero, suc, ◌-◌, ◌<◌, ◌≤◌, ◌==◌, ◌&&◌, ◌⊎◌, inl, inr, cond, Bool, true, false, List, [], ◌∷◌, set, get_or, length, Option, Some, None, refl, sym, ap, ◌∙◌, subst, length-set, arith}
+use Rattle.std.proofs.Common.{◌≡◌, ℕ, suc, ◌==◌, ◌⊎◌, inl, inr, cond, Bool, true, false, List, set, get_or, length, Option, Some, None, refl, sym, ap, ◌∙◌, subst, length-set, arith}
 use native.Mathlib.Decide.{ℕ_discrete}
-use Rattle.std.proofs.lemmas.Bool.{cases_lt, true≢false, false≢true}
+use Rattle.std.proofs.lemmas.Bool.{cases_lt, true≢false}
 use Rattle.std.proofs.lemmas.List.{get_or_past, get_or-set_same}
-use Rattle.std.proofs.lemmas.Option.{none-some}
 use Rattle.history.specs.declared.calls.Call.{Call}
 use Rattle.history.specs.declared.calls.Call.TheVariants.{Close}
 use Rattle.slot_arena.specs.declared.refs.Ref.{Ref}
@@ -18,7 +17,7 @@ use Rattle.machine_model.specs.declared.steps.Outcome.{Outcome}
 use Rattle.machine_model.specs.declared.steps.Step.{Step}
 use Rattle.machine_model.specs.declared.steps.Step.TheVariants as step
 use Rattle.machine_model.specs.Calls.{handle_of}
-use Rattle.machine_model.specs.States.{State, root_at, word_of, word_at, rewritten, with_word, with_root, operation_of}
+use Rattle.machine_model.specs.States.{State, root_at, word_of, word_at, rewritten, with_word, operation_of}
 use Rattle.machine_model.specs.Operations.{action_of}
 use Rattle.machine_model.specs.Swapping.{is_try, stands_in, is_plain}
 use Rattle.machine_model.specs.Acting.{if_changed, acted, carried_out, opened, opened_root, new_root_taken}
@@ -46,6 +45,7 @@ put_word roots n h put offer e = by (ℕ_discrete h n)
       | inr past ↦
           absurd (none_no_offer offer (ap word_of (sym (get_or_past (set roots n put) n None (rw length-set past))) ∙ ap (λ x. word_of (get_or (set roots n put) x None)) (sym same) ∙ e))
     ]
+
     by : Dec (h ≡ n) → ((h ≡ n) × (word_of put ≡ Offer offer)) ⊎ ((h ≡ n → ⊥) × (word_of (get_or roots h None) ≡ Offer offer))
     by (yes same) = inl (same, here same)
     by (no apart) = inr (apart, ap word_of (sym (found_elsewhere roots n h put apart)) ∙ e)

@@ -1,54 +1,34 @@
 -- Whose offers stand in root words: each is of an operation that is completing it, in its present try. So an offer that is
 -- found by its number is the very same one.
-use Rattle.std.proofs.Common.{◌≡◌, ℕ, zero, suc, ◌+◌, ◌<◌, ◌≤◌, ◌==◌, ◌&&◌, ◌⊎◌, inl, inr, cond, Bool, true, false, List, [], ◌∷◌, Option, Some, None, refl, sym, ap, ◌∙◌, subst, eqb-true, eq-eqb, arith}
-use native.Mathlib.Decide.{ℕ_discrete}
-use Rattle.std.proofs.lemmas.Bool.{true≢false, false≢true, and_parts, and_from}
-use Rattle.std.proofs.lemmas.Option.{none-some, same_Some}
+use Rattle.std.proofs.Common.{◌≡◌, ℕ, suc, ◌+◌, ◌<◌, ◌≤◌, ◌==◌, inl, inr, true, false, Option, Some, None, refl, sym, ap, ◌∙◌, subst, eqb-true, eq-eqb, arith}
+use Rattle.std.proofs.lemmas.Bool.{false≢true, and_parts, and_from}
 use Rattle.history.specs.declared.calls.Call.{Call}
-use Rattle.history.specs.declared.calls.Call.TheVariants.{Clear, Snapshot, Freeze}
-use Rattle.history.specs.declared.replies.Reply.{Reply}
 use Rattle.history.specs.Histories.{Operation as Told, begun}
-use Rattle.slot_arena.specs.declared.refs.Ref.{Ref}
 use Rattle.machine_model.specs.declared.actions.Action.{Action}
-use Rattle.machine_model.specs.declared.actions.Action.TheVariants as act
 use Rattle.machine_model.specs.declared.operations.Operation.{Operation}
 use Rattle.machine_model.specs.declared.roots.RootWord.{RootWord}
 use Rattle.machine_model.specs.declared.roots.RootWord.TheVariants.{Plain, Offer}
 use Rattle.machine_model.specs.declared.roots.Descriptor.{Descriptor}
 use Rattle.machine_model.specs.declared.roots.Complete.{Complete}
-use Rattle.machine_model.specs.declared.roots.CompleteLine.{CompleteLine}
-use Rattle.machine_model.specs.declared.roots.CompleteLine.TheVariants as complete
-use Rattle.machine_model.specs.declared.reading.After.{After}
-use Rattle.machine_model.specs.declared.reading.After.TheVariants as read
-use Rattle.machine_model.specs.declared.reading.ReadLine.{ReadLine}
 use Rattle.machine_model.specs.declared.copying.CopyLine.{CopyLine}
 use Rattle.machine_model.specs.declared.copying.CopyLine.TheVariants as copy
-use Rattle.machine_model.specs.declared.lines.Line.{Line}
 use Rattle.machine_model.specs.declared.lines.Line.TheVariants as line
-use Rattle.machine_model.specs.declared.steps.Limits.{Limits}
 use Rattle.machine_model.specs.declared.steps.Outcome.{Outcome}
 use Rattle.machine_model.specs.declared.steps.Step.{Step}
 use Rattle.machine_model.specs.declared.steps.Step.TheVariants as step
 use Rattle.machine_model.specs.Calls.{handle_of}
-use Rattle.machine_model.specs.States.{State, first_state, word_at, operation_of}
-use Rattle.machine_model.specs.Reading.{read_after}
-use Rattle.machine_model.specs.Swapping.{is_try, stands_in, is_plain, is_carried_out, complete_after, after_reading, completing}
-use Rattle.machine_model.specs.Copying.{after_offer}
-use Rattle.machine_model.specs.Operations.{action_of, line_action, line_after, first_line, read_of}
-use Rattle.machine_model.specs.Acting.{attempt_after, mark_after, operation_after}
-use Rattle.machine_model.proofs.Moves.{Moves, GoesOn, begun_operation}
-use Rattle.machine_model.proofs.Found.{none_found}
-use Rattle.machine_model.proofs.Times.{IsRun, at_each_time}
-use Rattle.machine_model.proofs.Actors.{mark_one, mark_only, marks_in, marks_by, marks_of}
+use Rattle.machine_model.specs.States.{State, word_at}
+use Rattle.machine_model.specs.Swapping.{is_try, stands_in}
+use Rattle.machine_model.specs.Operations.{action_of, line_action, line_after, first_line}
+use Rattle.machine_model.specs.Acting.{attempt_after, operation_after}
+use Rattle.machine_model.proofs.Moves.{Moves, begun_operation}
+use Rattle.machine_model.proofs.Actors.{mark_one, mark_only}
 use Rattle.order_laws.specs.Facts.{Runs}
-use Rattle.order_laws.proofs.Running.{IsSame, place_of_actor, one_at}
 use Rattle.order_laws.proofs.Books.{Books, one_by_id, id_below}
-use Rattle.order_laws.proofs.AllBooks.{books_kept, first_books}
-use Rattle.order_laws.proofs.Growing.{IsKept, events_grow}
+use Rattle.order_laws.proofs.Growing.{events_grow}
 use Rattle.order_laws.proofs.Recalling.{begun_more_or_same}
-use Rattle.order_laws.proofs.OfferLines.{Settles, IsCopying, IsOpening, IsSnapshot, IsClear, HasSecond, abort_of, completing_of, copying_of, Holds, FitsCopy, Own, abort_after, completes_after, settles_held, fits_after, own_completes, offers_so}
-use Rattle.order_laws.proofs.OfferWords.{Leaves, StandsFrom, stood, put, words_after}
-use Rattle.order_laws.proofs.OneStep.{From, began, kept, stepped, from, stays, steps_on}
+use Rattle.order_laws.proofs.OfferLines.{IsCopying, IsOpening, IsSnapshot, IsClear, HasSecond, copying_of, Holds, FitsCopy, Own, abort_after, completes_after, fits_after, own_completes}
+use Rattle.order_laws.proofs.OneStep.{From, began, kept, stepped, from}
 
 -- ---- the invariant
 
@@ -100,11 +80,13 @@ known_of_stands state offers handle offer stands =
           let one = (one_by_id state offers.books k stands.k operation stands.operation runs stands.runs (same ∙ sym stands.id)).1 in
           let its = own_offer state offers stands.k stands.operation stands.c stands.runs stands.at in
           let tries : offer.attempt ≡ operation.attempt =
-          ap (λ (x : Descriptor). x.attempt) (sym stands.its) ∙ its.try ∙ ap (λ (x : Operation). x.attempt) (sym one) in
-          (omega arith, λ e c at.
-              let lines : line.Copy (copy.Complete c) ≡ line.Copy (copy.Complete stands.c) = sym at ∙ ap (λ (x : Operation). x.line) one ∙ stands.at in
-              let same_c : c ≡ stands.c = cc lines in
-              ap (λ (x : Complete). x.offer) same_c ∙ stands.its);
+          ap (λ (x : Descriptor). x.attempt) (sym stands.its) ∙ its.try ∙ ap (λ (x : Operation). x.attempt) (sym one) in (
+            omega arith,
+            λ e c at.
+                let lines : line.Copy (copy.Complete c) ≡ line.Copy (copy.Complete stands.c) = sym at ∙ ap (λ (x : Operation). x.line) one ∙ stands.at in
+                let same_c : c ≡ stands.c = cc lines in
+                ap (λ (x : Complete). x.offer) same_c ∙ stands.its,
+          );
     }
 
 -- two offers with one number
@@ -214,11 +196,13 @@ module _ (state : State) (s : Step) (o : Outcome) (after : State) (m : Moves sta
       let attempt : found.attempt ≡ number = ap (λ (x : Operation). x.attempt) is ∙ marked_attempt _ next in
       let lines : found.line ≡ line_after state operation operation.line = ap (λ (x : Operation). x.line) is ∙ marked_line _ next in
       let (low, one) = known.tries k operation runs id in
-      let up : operation.attempt ≤ number = attempt_grows operation.attempt (action_of state operation) in
-      (omega arith, λ eq c at. elim (own_completes state operation operation.line c (sym lines ∙ at)) [
-        | inl before ↦ let (b, was, its, stays_number) = before in sym its ∙ one (sym stays_number ∙ sym attempt ∙ eq) b was
-        | inr new ↦ let more : number ≡ operation.attempt + 1 = new.1 in absurd (omega arith)
-      ])
+      let up : operation.attempt ≤ number = attempt_grows operation.attempt (action_of state operation) in (
+        omega arith,
+        λ eq c at. elim (own_completes state operation operation.line c (sym lines ∙ at)) [
+          | inl before ↦ let (b, was, its, stays_number) = before in sym its ∙ one (sym stays_number ∙ sym attempt ∙ eq) b was
+          | inr new ↦ let more : number ≡ operation.attempt + 1 = new.1 in absurd (omega arith)
+        ],
+      )
 
   -- what was known is known
   known_kept : (offer : Descriptor) → Known state offer → Known after offer
@@ -249,11 +233,13 @@ module _ (state : State) (s : Step) (o : Outcome) (after : State) (m : Moves sta
       let number : attempt_after operation.attempt (action_of state operation) ≡ operation.attempt + 1 = ap (λ l. attempt_after operation.attempt (line_action state operation l)) its_line in
       let attempt : found.attempt ≡ operation.attempt + 1 = ap (λ (x : Operation). x.attempt) is ∙ marked_attempt _ next ∙ number in
       let try : offer.attempt ≡ operation.attempt + 1 = its.try ∙ ap (λ (x : Operation). x.attempt + 1) (sym one) in
-      let lines : found.line ≡ line_after state operation operation.line = ap (λ (x : Operation). x.line) is ∙ marked_line _ next in
-      (omega arith, λ eq c here. elim (own_completes state operation operation.line c (sym lines ∙ here)) [
-        | inl before ↦ let (b, was, rest, stays_number) = before in let wrong : line.Copy (copy.Offer offer) ≡ line.Copy (copy.Complete b) = sym its_line ∙ was in absurd (not_both offer b wrong)
-        | inr new ↦ let same_line : line.Copy (copy.Offer c.offer) ≡ line.Copy (copy.Offer offer) = sym new.0 ∙ its_line in cc same_line
-      ])
+      let lines : found.line ≡ line_after state operation operation.line = ap (λ (x : Operation). x.line) is ∙ marked_line _ next in (
+        omega arith,
+        λ eq c here. elim (own_completes state operation operation.line c (sym lines ∙ here)) [
+          | inl before ↦ let (b, was, rest, stays_number) = before in let wrong : line.Copy (copy.Offer offer) ≡ line.Copy (copy.Complete b) = sym its_line ∙ was in absurd (not_both offer b wrong)
+          | inr new ↦ let same_line : line.Copy (copy.Offer c.offer) ≡ line.Copy (copy.Offer offer) = sym new.0 ∙ its_line in cc same_line
+        ],
+      )
     where
       not_both : (offer : Descriptor) (b : Complete) → line.Copy (copy.Offer offer) ≡ line.Copy (copy.Complete b) → ⊥
       not_both offer b e = grind arith

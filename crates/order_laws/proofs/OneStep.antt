@@ -1,24 +1,22 @@
 -- What a step makes of each running operation, exactly.
-use Rattle.std.proofs.Common.{◌≡◌, ℕ, zero, suc, ◌-◌, ◌<◌, ◌⊎◌, inl, inr, List, map, set, get_or, Option, Some, None, refl, sym, ap, ◌∙◌, subst, arith}
-use native.Mathlib.Decide.{ℕ_discrete}
+use Rattle.std.proofs.Common.{◌≡◌, ℕ, suc, ◌-◌, ◌<◌, List, set, get_or, Option, Some, None, refl, sym, ap, ◌∙◌, subst, arith}
 use Rattle.std.proofs.Math.ListN.{get_or-map}
 use Rattle.std.proofs.lemmas.List.{get_or-set_same}
-use Rattle.std.proofs.lemmas.Option.{none-some, same_Some}
 use Rattle.history.specs.declared.calls.Call.{Call}
 use Rattle.machine_model.specs.declared.operations.Operation.{Operation}
 use Rattle.machine_model.specs.declared.steps.Outcome.{Outcome}
 use Rattle.machine_model.specs.declared.steps.Step.{Step}
 use Rattle.machine_model.specs.declared.steps.Step.TheVariants as step
 use Rattle.machine_model.specs.Calls.{handle_of}
-use Rattle.machine_model.specs.States.{State, operation_of}
+use Rattle.machine_model.specs.States.{State}
 use Rattle.machine_model.specs.Operations.{action_of}
-use Rattle.machine_model.specs.Acting.{gone, marked, operation_after}
+use Rattle.machine_model.specs.Acting.{marked, operation_after}
 use Rattle.machine_model.specs.Machine.{begin_denial, go_denial}
 use Rattle.machine_model.proofs.Moves.{Moves, Begins, Goes, Ends, Sweeps, GoesOn, begun_operation}
 use Rattle.machine_model.proofs.Found.{found_within, found_elsewhere}
 use Rattle.machine_model.proofs.Actors.{IsOf, is_of, mark_one, marks_in, marks_by, marks_of, after_marks, of_others, of_itself, of_begin, of_end, gone_actors, begin_actors}
 use Rattle.order_laws.specs.Facts.{Runs}
-use Rattle.order_laws.proofs.Running.{IsBegun, IsEnded, own_step, at_place, one_at, begin_not_running, runs_on}
+use Rattle.order_laws.proofs.Running.{IsBegun, own_step, at_place, one_at, begin_not_running}
 
 -- where an operation that runs behind a step comes from
 pub data From (state : State) (s : Step) (k : ℕ) (found : Operation) : Type 0 where
@@ -59,20 +57,20 @@ pub stays : (state : State) (s : Step) (o : Outcome) (after : State) → Moves s
 stays state s o after (Begins {actor} {call} d) k operation runs other =
     ap (λ l. get_or l k None) (begin_actors state actor call (begun_operation state call))
     ∙ found_elsewhere state.actors (actor - 1) k _ (λ same.
-        let pos = begin_counts state actor call d in
-        begin_not_running state k actor call operation d (omega arith) runs) ∙ runs
+    let pos = begin_counts state actor call d in
+    begin_not_running state k actor call operation d (omega arith) runs) ∙ runs
 stays state s o after (Goes {actor} {operation = own} d is a g) k operation runs other =
     ap (λ l. get_or l k None) (gone_actors state actor own)
     ∙ marked_at (marks_by state (Some own)) _ k operation (found_elsewhere state.actors (actor - 1) k _ (λ same.
-        let pos = go_counts state actor d in
-        let actors : actor ≡ suc k = omega arith in
-        other (ap step.Go actors)) ∙ runs)
+    let pos = go_counts state actor d in
+    let actors : actor ≡ suc k = omega arith in
+    other (ap step.Go actors)) ∙ runs)
     ∙ ap (λ x. Some (mark_one (marks_by state x) operation)) (sym is)
 stays state s o after (Ends {actor} {operation = own} d is a) k operation runs other =
     found_elsewhere state.actors (actor - 1) k None (λ same.
-        let pos = go_counts state actor d in
-        let actors : actor ≡ suc k = omega arith in
-        other (ap step.Go actors)) ∙ runs
+    let pos = go_counts state actor d in
+    let actors : actor ≡ suc k = omega arith in
+    other (ap step.Go actors)) ∙ runs
     ∙ ap (λ m. Some (mark_one m operation)) (sym (ap (λ x. marks_by state x) is ∙ ap (λ x. marks_of state (handle_of own.call) x) a))
 stays state s o after (Sweeps spent) k operation runs other = runs
 

@@ -16,11 +16,9 @@ use Rattle.history.specs.Histories.{HasEnded}
 use Rattle.slot_arena.specs.declared.refs.Ref.{Ref}
 use Rattle.slot_arena.specs.Heaps.{Heap, generation_at}
 use Rattle.places.specs.declared.place.Place.{Place}
-use Rattle.machine_model.specs.declared.actions.Action.{Action}
 use Rattle.machine_model.specs.declared.actions.Action.TheVariants as act
 use Rattle.machine_model.specs.declared.operations.Operation.{Operation}
 use Rattle.machine_model.specs.declared.roots.Root.{Root}
-use Rattle.machine_model.specs.declared.roots.RootWord.TheVariants.{Offer}
 use Rattle.machine_model.specs.declared.roots.Descriptor.{Descriptor}
 use Rattle.machine_model.specs.declared.steps.Limits.{Limits}
 use Rattle.machine_model.specs.declared.steps.Step.{Step}
@@ -29,7 +27,7 @@ use Rattle.machine_model.specs.declared.steps.Outcome.{Outcome}
 use Rattle.machine_model.specs.Calls.{handle_of}
 use Rattle.machine_model.specs.States.{State, root_at, word_at, root_of, operation_of, closed_at}
 use Rattle.machine_model.specs.Operations.{action_of}
-use Rattle.machine_model.specs.Swapping.{stands_in, is_carried_out}
+use Rattle.machine_model.specs.Swapping.{is_carried_out}
 use Rattle.machine_model.specs.Orders.{place_of, is_placed, committed_now}
 use Rattle.machine_model.specs.Acting.{entered}
 use Rattle.machine_model.specs.Contents.{content_at}
