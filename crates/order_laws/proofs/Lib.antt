@@ -33,3 +33,4 @@ pub mod Ends
 pub mod Candidates
 pub mod Explained
 pub mod Unconditional
+pub mod HaveBegun

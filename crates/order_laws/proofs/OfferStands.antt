@@ -214,7 +214,7 @@ module _ (state : State) (s : Step) (o : Outcome) (after : State) (m : Moves sta
       by (yes e) = own_stands h d st e (leaves st.k st.operation e st.runs)
       by (no other) = other_stands h d st word leaves other
 
-offers_kept : IsKept Offers
+pub offers_kept : IsKept Offers
 offers_kept state s o after m offers = record {
   books = books_kept state s o after m offers.books;
   fits = λ k found at_k. fits_kept state s k found offers (from state s o after m k found at_k);
@@ -246,7 +246,7 @@ nobody : (limits : Limits) (k : ℕ) (operation : Operation) → Runs (first_sta
 unfolding first_state
 nobody limits k operation at_k = none_found limits.actors k operation at_k
 
-first_offers : (limits : Limits) → Offers (first_state limits)
+pub first_offers : (limits : Limits) → Offers (first_state limits)
 first_offers limits = record {
   books = first_books limits;
   fits = λ k operation at_k. absurd (nobody limits k operation at_k);

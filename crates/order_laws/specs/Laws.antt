@@ -6,7 +6,7 @@ use Rattle.ctrie_base.specs.Hashes.{hash_of}
 use Rattle.history.specs.declared.replies.Reply.{Reply}
 use Rattle.history.specs.declared.replies.Reply.TheVariants.{NoSlots}
 use Rattle.history.specs.Worlds.{KeyMap, HandleState, HandleMap}
-use Rattle.history.specs.Histories.{HasEnded, IsWellFormed}
+use Rattle.history.specs.Histories.{HasBegun, HasEnded, IsWellFormed}
 use Rattle.history.specs.Orders.{OrderedAt, Explains}
 use Rattle.places.specs.declared.place.Place.{Place}
 use Rattle.places.specs.Places.{is_before, rising}
@@ -53,6 +53,10 @@ abbrev pub AnsweredAreOrdered : Type 0
 AnsweredAreOrdered =
     (limits : Limits) (steps : List Step) (id : ℕ) (answer : Reply) → HasEnded (run limits steps).events id answer → answer ≢ NoSlots →
     (i : ℕ) × OrderedAt (order_of (run limits steps)) i id
+
+-- Each operation in the order has begun.
+abbrev pub OrderedHaveBegun : Type 0
+OrderedHaveBegun = (limits : Limits) (steps : List Step) (i id : ℕ) → OrderedAt (order_of (run limits steps)) i id → HasBegun (run limits steps).events id
 
 -- Running operations have distinct ids.
 abbrev pub RunningDiffer : Type 0

@@ -1,6 +1,6 @@
 //! Laws of the order, for every list of steps.
 
-ghost use Rattle.order_laws.specs.Laws.{LegalByFacts, HistoriesWellFormed, AnsweredAreOrdered, RunningDiffer, PlacesStay, RisingSorts};
+ghost use Rattle.order_laws.specs.Laws.{LegalByFacts, HistoriesWellFormed, AnsweredAreOrdered, OrderedHaveBegun, RunningDiffer, PlacesStay, RisingSorts};
 
 /// A law: from the facts about the contents of generations it follows that the order is legal, and leads
 /// to a world that shows the machine's contents.
@@ -16,6 +16,11 @@ pub fn histories_well_formed()
 /// A law: each operation that was answered stands in the order.
 pub fn answered_are_ordered()
     ensures { AnsweredAreOrdered }
+{}
+
+/// A law: each operation in the order has begun.
+pub fn ordered_have_begun()
+    ensures { OrderedHaveBegun }
 {}
 
 /// A law: running operations have distinct ids.

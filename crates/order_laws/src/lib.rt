@@ -4,6 +4,6 @@
 mod laws;
 
 pub use laws::{
-    answered_are_ordered, histories_well_formed, legal_by_facts, places_stay, rising_sorts,
-    running_differ,
+    answered_are_ordered, histories_well_formed, legal_by_facts, ordered_have_begun, places_stay,
+    rising_sorts, running_differ,
 };
