@@ -1,0 +1,61 @@
+-- Offers are found as they were made, and the operation whose offer is carried out runs.
+use Rattle.std.proofs.Common.{◌≡◌, ℕ, suc, ◌<◌, true, false, refl, sym, ap, ◌∙◌, subst}
+use Rattle.std.proofs.lemmas.Bool.{and_parts}
+use Rattle.history.specs.Worlds.{KeyMap}
+use Rattle.slot_arena.specs.Heaps.{generation_at}
+use Rattle.machine_model.specs.declared.operations.Operation.{Operation}
+use Rattle.machine_model.specs.declared.roots.Descriptor.{Descriptor}
+use Rattle.machine_model.specs.declared.steps.Outcome.{Outcome}
+use Rattle.machine_model.specs.declared.steps.Step.{Step}
+use Rattle.machine_model.specs.declared.steps.Limits.{Limits}
+use Rattle.machine_model.specs.Calls.{handle_of}
+use Rattle.machine_model.specs.States.{State, word_at}
+use Rattle.machine_model.specs.Swapping.{stands_in}
+use Rattle.machine_model.specs.Orders.{is_placed}
+use Rattle.machine_model.proofs.Moves.{Moves}
+use Rattle.order_laws.specs.Facts.{Runs, On, IsFresh, Opens, CarriesOut, Facts}
+use Rattle.order_laws.proofs.Running.{place_of_actor}
+use Rattle.order_laws.proofs.EachStep.{HonestIn}
+use Rattle.order_laws.proofs.OfferLines.{Settles, settles_held}
+use Rattle.order_laws.proofs.Offers.{Offers, own_offer, same_found}
+
+-- offers are found as they were made
+pub honest : (state : State) → Offers state → HonestIn state
+honest state offers actor operation offer is settles stands =
+    let (k, actors, runs) = place_of_actor state actor operation is in
+    same_found state offers (handle_of operation.call) offer (offers.held k operation offer runs (settles_held state operation operation.line offer settles)) stands
+
+-- an offer that is carried out, with the operation that made it
+pub record Carried (states : ℕ → State) (last : ℕ) (V : ℕ → ℕ → KeyMap) (t handle : ℕ) (offer : Descriptor) : Type 0 where
+  pub k : ℕ
+  pub offerer : Operation
+  pub runs : Runs (states t) k offerer
+  pub is_its : offerer.id ≡ offer.operation
+  pub number : offerer.opens ≡ offer.opens
+  pub unplaced : is_placed (states t) offer.operation ≡ false
+  pub stands : On states t handle (generation_at (states t).heap offer.root)
+  pub is_fresh : IsFresh (states t) (generation_at (states t).heap offer.successor)
+  pub opens : Opens states last V t handle (generation_at (states t).heap offer.root) offer offerer.call
+
+-- the facts, of the operation that made it
+pub carried : (limits : Limits) (states : ℕ → State) (last : ℕ) (V : ℕ → ℕ → KeyMap) → Facts limits states last V → (t : ℕ) (s : Step) (o : Outcome) → t < last →
+    Moves (states t) s o (states (suc t)) → (handle : ℕ) (offer : Descriptor) → CarriesOut (states t) s handle offer → Offers (states t) → Carried states last V t handle offer
+carried limits states last V facts t s o lt m handle offer carries offers =
+    let (actor, operation, main, is_step, is, does, on, out) = carries in
+    let standing_there = (and_parts (stands_in (word_at (states t) handle) offer) _ out).0 in
+    let there = subst (λ h. stands_in (word_at (states t) h) offer ≡ true) (sym on) standing_there in
+    let word = honest (states t) offers actor operation offer is (subst (λ a. Settles a offer) (sym does) refl) there in
+    let st = offers.words handle offer (ap (word_at (states t)) (sym on) ∙ word) in
+    let own = own_offer (states t) offers st.k st.operation st.c st.runs st.at in
+    let facts_of = facts.swaps t s o lt m handle offer carries st.k st.operation st.runs st.id in
+    record {
+      k = st.k;
+      offerer = st.operation;
+      runs = st.runs;
+      is_its = st.id;
+      number = sym own.opens ∙ ap (λ (x : Descriptor). x.opens) st.its;
+      unplaced = facts_of.unplaced;
+      stands = facts_of.stands;
+      is_fresh = facts_of.is_fresh;
+      opens = facts_of.opens;
+    }
