@@ -1,3 +1,4 @@
 pub mod Running
 pub mod Ids
 pub mod CopyLines
+pub mod Offers

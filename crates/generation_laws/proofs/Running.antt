@@ -69,14 +69,17 @@ go_counts state actor d = grind arith
 
 -- what becomes of an operation in a step: it rests while another actor or the sweep moves, goes on by its own step, or ends
 pub data Follows (state : State) (s : Step) (after : State) (k : ℕ) (operation : Operation) : Type 0 where
-  rests : Runs after k (mark_one (marks_in state s) operation) → Follows state s after k operation
+  rests : (s ≡ step.Go (suc k) → ⊥) → Runs after k (mark_one (marks_in state s) operation) → Follows state s after k operation
   steps : s ≡ step.Go (suc k) → GoesOn (action_of state operation) → Runs after k (mark_one (marks_in state s) (operation_after state operation)) → Follows state s after k operation
   ends : (answer : Reply) → s ≡ step.Go (suc k) → action_of state operation ≡ act.End answer → Follows state s after k operation
+
+not_place : (actor k : ℕ) → (k ≡ actor - 1 → ⊥) → step.Go actor ≡ step.Go (suc k) → ⊥
+not_place actor k apart e = let same : actor ≡ suc k = cc e in apart (omega arith)
 
 pub follows : (state : State) (s : Step) (o : Outcome) (after : State) → Moves state s o after → (k : ℕ) (operation : Operation) → Runs state k operation → Follows state s after k operation
 follows state s o after (Begins {actor} {call} d) k operation at_k = elim (write_cases state.actors (actor - 1) k (Some (begun_operation state call)) operation at_k) [
   | inl here ↦ absurd (begin_not_running state k actor call operation d (actor_at actor k (begin_counts state actor call d) here.0) at_k)
-  | inr there ↦ rests (rw begin_actors there.1)
+  | inr there ↦ rests (λ e. let wrong : ⊥ = cc e in wrong) (rw begin_actors there.1)
 ]
 follows state s o after (Goes {actor} {operation = own} d is a g) k operation at_k = elim (write_cases state.actors (actor - 1) k (Some (operation_after state own)) operation at_k) [
   | inl here ↦
@@ -89,7 +92,7 @@ follows state s o after (Goes {actor} {operation = own} d is a g) k operation at
       (marked_runs (marks_by state (Some own)) _ k (operation_after state own) here.1))))
   | inr there ↦
       let marks : marks_by state (Some own) ≡ marks_in state (step.Go actor) = ap (λ x. marks_by state x) (sym is) in
-      rests (rw gone_actors (subst (λ m. get_or (after_marks (marks_by state (Some own)) (set state.actors (actor - 1) (Some (operation_after state own)))) k None ≡ Some (mark_one m operation)) marks
+      rests (not_place actor k there.0) (rw gone_actors (subst (λ m. get_or (after_marks (marks_by state (Some own)) (set state.actors (actor - 1) (Some (operation_after state own)))) k None ≡ Some (mark_one m operation)) marks
       (marked_runs (marks_by state (Some own)) _ k operation there.1)))
 ]
 follows state s o after (Ends {actor} {operation = own} {answer} d is a) k operation at_k = elim (write_cases state.actors (actor - 1) k None operation at_k) [
@@ -99,9 +102,9 @@ follows state s o after (Ends {actor} {operation = own} {answer} d is a) k opera
       ends answer (ap (λ x. step.Go x) place) (subst (λ x. action_of state x ≡ act.End answer) one a)
   | inr there ↦
       let unmarked : marks_in state (step.Go actor) ≡ None = ap (λ x. marks_by state x) is ∙ ap (λ x. marks_of state (handle_of own.call) x) a in
-      rests (subst (λ m. get_or (set state.actors (actor - 1) None) k None ≡ Some (mark_one m operation)) (sym unmarked) there.1)
+      rests (not_place actor k there.0) (subst (λ m. get_or (set state.actors (actor - 1) None) k None ≡ Some (mark_one m operation)) (sym unmarked) there.1)
 ]
-follows state s o after (Sweeps spent) k operation at_k = rests at_k
+follows state s o after (Sweeps spent) k operation at_k = rests (λ e. let wrong : ⊥ = cc e in wrong) at_k
 
 -- where what runs after a step comes from: the step begins it, or it rested, or went on
 pub data Comes (state : State) (s : Step) (k : ℕ) (found : Operation) : Type 0 where
