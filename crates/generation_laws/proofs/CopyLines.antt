@@ -196,13 +196,30 @@ climb_no state operation l = grind arith
 walk_no : (state : State) (operation : Operation) (l : WalkLine) → is_copy (line_after state operation (line.Walk l)) ≡ false
 walk_no state operation l = grind arith
 
+abbrev pub is_root : Line → Bool
+is_root (line.Root l) = true
+is_root l = false
+
+pub no_copy_after : (state : State) (operation : Operation) (l : Line) → is_copy l ≡ false → is_root l ≡ false → is_copy (line_after state operation l) ≡ false
+no_copy_after state operation (line.Root l) e f = absurd (false≢true (sym f))
+no_copy_after state operation (line.Key l) e f = key_no state operation l
+no_copy_after state operation (line.Build l) e f = build_no state operation l
+no_copy_after state operation (line.Swap why s) e f = swap_no state operation why s
+no_copy_after state operation (line.Renew l) e f = renew_no state operation l
+no_copy_after state operation (line.Clean l) e f = clean_no state operation l
+no_copy_after state operation (line.Climb l) e f = climb_no state operation l
+no_copy_after state operation (line.Copy l) e f = absurd (false≢true (sym e))
+no_copy_after state operation (line.Walk l) e f = walk_no state operation l
+no_copy_after state operation (line.End answer) e f = refl
+no_copy_after state operation line.Impossible e f = refl
+
 -- ---- after a step
 
 -- a READ is no offer
-read_tries : (attempt : ℕ) (i : Ref) (l : ReadLine) → attempt_after attempt (read_action i l) ≡ attempt
+pub read_tries : (attempt : ℕ) (i : Ref) (l : ReadLine) → attempt_after attempt (read_action i l) ≡ attempt
 read_tries attempt i l = grind arith
 
-complete_tries : (attempt : ℕ) (c : Complete) → attempt_after attempt (complete_action c) ≡ attempt
+pub complete_tries : (attempt : ℕ) (c : Complete) → attempt_after attempt (complete_action c) ≡ attempt
 complete_tries attempt c = by c.line
   where
     by : (l : CompleteLine) → attempt_after attempt (complete_action (record c { line = l })) ≡ attempt

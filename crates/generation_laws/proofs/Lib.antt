@@ -2,3 +2,5 @@ pub mod Running
 pub mod Ids
 pub mod CopyLines
 pub mod Offers
+pub mod OfferLines
+pub mod SameOffer
