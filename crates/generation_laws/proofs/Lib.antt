@@ -4,3 +4,4 @@ pub mod CopyLines
 pub mod Offers
 pub mod OfferLines
 pub mod SameOffer
+pub mod Footings
