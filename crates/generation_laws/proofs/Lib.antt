@@ -5,3 +5,4 @@ pub mod Offers
 pub mod OfferLines
 pub mod SameOffer
 pub mod Footings
+pub mod Marks

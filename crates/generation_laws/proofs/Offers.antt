@@ -157,7 +157,7 @@ OffersStand state = (handle : ℕ) (offer : Descriptor) → word_at state handle
 
 -- ---- lines and what they do
 
-completes_it : (l : Line) (offer : Descriptor) → own_offer l ≡ Some offer → (c : Complete) × (l ≡ line.Copy (copy.Complete c)) × (c.offer ≡ offer)
+pub completes_it : (l : Line) (offer : Descriptor) → own_offer l ≡ Some offer → (c : Complete) × (l ≡ line.Copy (copy.Complete c)) × (c.offer ≡ offer)
 completes_it (line.Copy (copy.Complete c)) offer e = (c, refl, same_Some _ _ e)
 completes_it l offer e = absurd (none-some offer e)
 
