@@ -26,3 +26,4 @@ pub mod FromHeap
 pub mod OtherLayers
 pub mod SwapLines
 pub mod Laws
+pub mod EachLine
