@@ -27,3 +27,4 @@ pub mod OtherLayers
 pub mod SwapLines
 pub mod Laws
 pub mod FromMemory
+pub mod EachLine

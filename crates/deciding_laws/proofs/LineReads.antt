@@ -169,9 +169,6 @@ module _ (state : State) (operation : Operation) where
   read_goes : (i : Ref) (l : ReadLine) (answer : Reply) → read_action i l ≡ act.End answer → ⊥
   read_goes i l answer e = grind arith
 
-  complete_goes : (offer : Descriptor) (x : CompleteLine) (answer : Reply) → complete_action_at offer x ≡ act.End answer → ⊥
-  complete_goes offer x answer e = grind (arith, read_goes)
-
   key_goes : (l : KeyLine) → Goes (line.Key l)
   key_goes l answer e = grind (arith, read_goes)
 

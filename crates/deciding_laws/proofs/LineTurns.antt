@@ -333,10 +333,6 @@ module _ (limits : Limits) (states : ℕ → State) (last : ℕ) (known : Known 
 
   -- ---- ROOT
 
-  completing_asks : (l : Line) (offer : Descriptor) (x : ReadLine) → read_of l ≡ Some (record { indirection = offer.root; line = x }) → LineStep l →
-      (m p : Ref) → x ≡ read.AskRoot m p → W → ToldOpen
-  completing_asks l offer x is s = asks_of l offer.root x is s.asks
-
   root_completing_stage : (offer : Descriptor) (o : After ReadLine Ref) → stage_of (after_root operation (after_completing (of_offer offer (after_reading o)))) ≡ after_read offer.root o
   root_completing_stage offer (Goes l) = refl
   root_completing_stage offer (Gives m) = refl
@@ -369,9 +365,6 @@ module _ (limits : Limits) (states : ℕ → State) (last : ℕ) (known : Known 
   climb_stage : (c : Climb) (i : Ref) (o : After ReadLine Ref) → stage_of (climb_after_read c (at_indirection i o)) ≡ after_read i o
   climb_stage c i (Goes l) = refl
   climb_stage c i (Gives m) = refl
-
-  climb_contracted_rest : (c : Climb) (main : Ref) → AtRest G W (climb_after_contracted operation c main None)
-  climb_contracted_rest c main = (tt, tt)
 
   climb_turn : (l : ClimbLine) → LineStep (line.Climb l) → NextLine (stage_of (line.Climb l)) (line_after (states t) operation (line.Climb l))
   climb_turn (climb.Read c r) s =

@@ -82,9 +82,6 @@ pending≢failed e h = let wrong = sym e ∙ h in cc
 pub same_pending : {v : Prev} {p q : Ref} → v ≡ over.Pending p → v ≡ over.Pending q → p ≡ q
 same_pending {v} {p} {q} e h = let wrong : over.Pending p ≡ over.Pending q = sym e ∙ h in cc
 
-pub same_failed : {v : Prev} {p q : Ref} → v ≡ over.Failed p → v ≡ over.Failed q → p ≡ q
-same_failed {v} {p} {q} e h = let wrong : over.Failed p ≡ over.Failed q = sym e ∙ h in cc
-
 pub over_pending : {v : Prev} {p : Ref} → v ≡ over.Pending p → IsOver v p
 over_pending {v} {p} e = subst (λ x. IsOver x p) (sym e) refl
 

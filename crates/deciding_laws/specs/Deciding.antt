@@ -45,7 +45,8 @@ PendingHasOwner =
     (limits : Limits) (steps : List Step) → AreLimits limits → (fresh replaced : Ref) → IsInUse (run limits steps) fresh →
     prev_at (run limits steps).heap fresh ≡ prev.Pending replaced →
     (indirection : Ref) × (owner : Owner (run limits steps) indirection replaced fresh)
-    × ((actor : ℕ) (operation : Operation) (i r : Ref) (l : SwapLine) → operation_of (run limits steps) actor ≡ Some operation → IsInSwap operation i r fresh l → actor ≡ owner.actor)
+    × ((actor : ℕ) (operation : Operation) (at before : Ref) (l : SwapLine) → operation_of (run limits steps) actor ≡ Some operation → IsInSwap operation at before fresh l →
+    actor ≡ owner.actor)
 
 -- who is about to see how its fresh node was decided finds it decided
 abbrev pub CheckedIsDecided : Type 0
