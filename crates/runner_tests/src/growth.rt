@@ -1,5 +1,5 @@
-//! A growth that is refused. Alone these tests meet none; each allocation fails in turn by
-//! `rt try --test --fail-alloc 1..`.
+//! A growth that is refused. Alone these tests meet none; `tests/growths` runs them with each allocation
+//! failing in turn.
 
 ghost use Rattle.std.specs.Prelude.{IfOk};
 ghost use Rattle.lock_runner.specs.Seats.{IsSeatOf};

@@ -4,6 +4,8 @@
 #[cfg(test)]
 mod endings;
 #[cfg(test)]
+mod growth;
+#[cfg(test)]
 mod records;
 #[cfg(test)]
 mod support;
