@@ -78,7 +78,7 @@ pub fn run_file<R: AllocGlobal + Files + Print>(rt: &R, path: &str) -> Result<()
 /// The file, of which no call has failed.
 fn opened<R: Files>(rt: &R, path: &str) -> Result<Counted<R::File>, Fault>
     ensures none { IfOk result (λ input. failures input ≡ 0) }
-    ensures faults { result ≢ Err Fault.Usage }
+    ensures faults { IfErr result (λ fault. (fault ≡ Fault.Read) ⊎ (fault ≡ Fault.Memory)) }
 {
     match File::open(rt, path) {
         Ok(file) => Ok(Counted::new(file)),

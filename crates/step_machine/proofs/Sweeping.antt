@@ -11,7 +11,7 @@ use Rattle.machine_model.specs.Machine.{next, denial_of, is_busy, is_spent}
 use Rattle.machine_model.proofs.Moves.{moved}
 use Rattle.machine_model.proofs.Frames.{steps_counted}
 use Rattle.step_machine.specs.Machines.{Taken, state_of, with_step, IsTaken, Applied}
-use Rattle.step_machine.specs.Callers.{Stepped, swept, IsLeft, AreNeeded, Reclaims}
+use Rattle.step_machine.specs.Callers.{Stepped, swept, HasLimbo, AreNeeded, Reclaims}
 
 -- so many steps of the sweep led here, and each was taken and needed
 pub record IsSwept (before machine : Taken) : Type 0 where
@@ -30,17 +30,17 @@ unfolding swept
 swept_push zero before = refl
 swept_push (suc n) before = swept_push n (with_step before Sweep)
 
-needed_push : (n : ℕ) (before : Taken) → AreNeeded n before → IsLeft (swept n before) × IsTaken (state_of (swept n before)) Sweep → AreNeeded (suc n) before
+needed_push : (n : ℕ) (before : Taken) → AreNeeded n before → HasLimbo (swept n before) × IsTaken (state_of (swept n before)) Sweep → AreNeeded (suc n) before
 needed_push n before needed last m within =
-    below_more (λ m. IsLeft (swept m before) × IsTaken (state_of (swept m before)) Sweep) n needed last m (omega (arith, within))
+    below_more (λ m. HasLimbo (swept m before) × IsTaken (state_of (swept m before)) Sweep) n needed last m (omega (arith, within))
 
 -- one step more
-pub again : (before machine after : Taken) → IsSwept before machine → IsLeft machine → Stepped (Ok tt) machine Sweep after →
+pub again : (before machine after : Taken) → IsSwept before machine → HasLimbo machine → Stepped (Ok tt) machine Sweep after →
     IsSwept before after
 again before machine after so needed taken = let step = taken.1 in record {
   turns = suc so.turns;
   led = step.0 ∙ ap (λ m. with_step m Sweep) so.led ∙ sym (swept_push so.turns before);
-  needed = needed_push so.turns before so.needed (subst (λ m. IsLeft m) so.led needed, subst (λ m. IsTaken (state_of m) Sweep) so.led (rw step.1 refl));
+  needed = needed_push so.turns before so.needed (subst (λ m. HasLimbo m) so.led needed, subst (λ m. IsTaken (state_of m) Sweep) so.led (rw step.1 refl));
 }
 
 -- limbo is empty
@@ -56,16 +56,16 @@ spent_alone state false refusal e d = let d' = rw e at d in absurd (grind (arith
 
 -- a step is refused
 refused_by : (before machine after : Taken) (refusal : Refusal) → is_busy (state_of before) ≡ false → IsSwept before machine →
-    IsLeft machine → Applied (Err refusal) machine Sweep after → Reclaims (Err refusal) before after
+    HasLimbo machine → Applied (Err refusal) machine Sweep after → Reclaims (Err refusal) before after
 refused_by before machine after refuse.Memory idle so needed step =
-    rw idle (so.turns, step.0 ∙ so.led, so.needed, (subst (λ m. IsLeft m) (sym step.0) needed, subst (λ m. denial_of (state_of m) Sweep ≡ None) (sym step.0) step.1))
+    rw idle (so.turns, step.0 ∙ so.led, so.needed, (subst (λ m. HasLimbo m) (sym step.0) needed, subst (λ m. denial_of (state_of m) Sweep ≡ None) (sym step.0) step.1))
 refused_by before machine after refuse.Spent idle so needed step =
     rw idle (
       so.turns,
       step.0 ∙ so.led,
       so.needed,
       (
-        subst (λ m. IsLeft m) (sym step.0) needed,
+        subst (λ m. HasLimbo m) (sym step.0) needed,
         subst (λ m. is_spent (state_of m) ≡ true) (sym step.0) (spent_alone (state_of machine) (is_spent (state_of machine)) refuse.Spent refl step.1).1,
       ),
     )
@@ -73,7 +73,7 @@ refused_by before machine after refusal idle so needed step =
     let only = (spent_alone (state_of machine) (is_spent (state_of machine)) refusal refl step.1).0 in absurd (grind (arith, only))
 
 pub refused : (before machine after : Taken) (refusal : Refusal) (result : Result (Unit {0}) Refusal) → is_busy (state_of before) ≡ false → IsSwept before machine →
-    IsLeft machine → Applied (Err refusal) machine Sweep after → result ≡ Err refusal → Reclaims result before after
+    HasLimbo machine → Applied (Err refusal) machine Sweep after → result ≡ Err refusal → Reclaims result before after
 refused before machine after refusal result idle so needed step is = rw is (refused_by before machine after refusal idle so needed step)
 
 -- each step is counted, and the machine has but so many

@@ -59,19 +59,19 @@ swept zero machine = machine
 swept (suc n) machine = swept n (with_step machine Sweep)
 
 -- limbo isn't empty
-abbrev pub IsLeft : Taken → Type 0
-IsLeft machine = (state_of machine).limbo ≡ [] → ⊥
+abbrev pub HasLimbo : Taken → Type 0
+HasLimbo machine = (state_of machine).limbo ≡ [] → ⊥
 
 -- each of so many steps of the sweep is taken, and limbo isn't empty before it
 abbrev pub AreNeeded : ℕ → Taken → Type 0
-AreNeeded n machine = (m : ℕ) → m < n → IsLeft (swept m machine) × IsTaken (state_of (swept m machine)) Sweep
+AreNeeded n machine = (m : ℕ) → m < n → HasLimbo (swept m machine) × IsTaken (state_of (swept m machine)) Sweep
 
 -- how steps of the sweep come to an end: limbo is empty, or else memory is wanting for a step that nothing denies, or the
 -- machine has taken all its steps
 abbrev pub SweepsUntil : Result (Unit {0}) Refusal → Taken → Type 0
 SweepsUntil (Ok done) after = (state_of after).limbo ≡ []
-SweepsUntil (Err Memory) after = IsLeft after × (denial_of (state_of after) Sweep ≡ None)
-SweepsUntil (Err Spent) after = IsLeft after × (is_spent (state_of after) ≡ true)
+SweepsUntil (Err Memory) after = HasLimbo after × (denial_of (state_of after) Sweep ≡ None)
+SweepsUntil (Err Spent) after = HasLimbo after × (is_spent (state_of after) ≡ true)
 SweepsUntil (Err refusal) after = ⊥
 
 abbrev pub ReclaimsUnless : Bool → Result (Unit {0}) Refusal → Taken → Taken → Type 0
