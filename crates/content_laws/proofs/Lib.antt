@@ -24,3 +24,4 @@ pub mod ListShaping
 pub mod HeapPairs
 pub mod Walks
 pub mod Started
+pub mod Knowing

@@ -7,3 +7,4 @@ pub mod Pairs
 pub mod Shapes
 pub mod InUse
 pub mod Grows
+pub mod Knowing
