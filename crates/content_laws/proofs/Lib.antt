@@ -25,3 +25,4 @@ pub mod HeapPairs
 pub mod Walks
 pub mod Started
 pub mod Knowing
+pub mod KeyKnows

@@ -6,6 +6,7 @@ use Rattle.ctrie_base.specs.Paths.{position_of}
 use Rattle.ctrie_base.specs.Hashes.{hash_of}
 use Rattle.ctrie_base.specs.declared.hashes.HashKind.{HashKind}
 use Rattle.history.specs.declared.calls.Call.{Call}
+use Rattle.history.specs.declared.calls.Call.TheVariants.{Get}
 use Rattle.slot_arena.specs.declared.refs.Ref.{Ref}
 use Rattle.slot_arena.specs.declared.nodes.Node.{Node}
 use Rattle.slot_arena.specs.declared.nodes.Node.TheVariants.{Indirection, Branch, Single, Tomb, List as Listed}
@@ -136,6 +137,10 @@ abbrev pub KnowsSwap : Known → Call → ℕ → Ref → Option ℕ → Ref →
 KnowsSwap known call depth replaced former fresh =
     (c : Change) × KnowsChange known call depth replaced former c × (known.node fresh ≡ changed (flag_in known depth (key_of call)) (known.node replaced) c)
 
+abbrev pub IsGet : Call → Type 0
+IsGet (Get h k) = Unit {0}
+IsGet call = ⊥
+
 -- a READ's line and what comes before KEY knows nothing
 abbrev pub KnowsKey : Known → Call → KeyLine → Type 0
 KnowsKey known call (key.Read path read) = Unit {0}
@@ -143,7 +148,7 @@ KnowsKey known call (key.Main path main) = Unit {0}
 KnowsKey known call (key.Entry path main position) =
     (bitmap : ℕ) × (entries : ArrayVec Ref) × IsFlagged known (depth_of path) (key_of call) main position bitmap entries
 KnowsKey known call (key.Listed path main position) =
-    ((singles : ArrayVec Ref) × GoesThrough known (key_of call) main position singles) ⊎ ((single : Ref) × (known.node main ≡ Tomb single) × (position ≡ 0))
+    ((singles : ArrayVec Ref) × GoesThrough known (key_of call) main position singles) ⊎ ((single : Ref) × (known.node main ≡ Tomb single) × (position ≡ 0) × IsGet call)
 KnowsKey known call (key.Sibling path main position former) =
     (bitmap : ℕ) × (entries : ArrayVec Ref) × IsFlagged known (depth_of path) (key_of call) main position bitmap entries
     × (known.node (slice_index_or entries.items position no_ref) ≡ Single (key_of call) former) × (length entries.items ≡ 2) × (when_found call former ≡ Removes)
