@@ -26,3 +26,4 @@ pub mod Walks
 pub mod Started
 pub mod Knowing
 pub mod KeyKnows
+pub mod BuildKnows
