@@ -27,3 +27,4 @@ pub mod Started
 pub mod Knowing
 pub mod KeyKnows
 pub mod BuildKnows
+pub mod RepairKnows

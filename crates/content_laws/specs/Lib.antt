@@ -8,3 +8,4 @@ pub mod Shapes
 pub mod InUse
 pub mod Grows
 pub mod Knowing
+pub mod Repairing
