@@ -1,5 +1,5 @@
 -- Each line of RENEW and CLEAN hands on what it knows of the entries that are done.
-use Rattle.std.proofs.Common.{◌≡◌, ◌≢◌, ℕ, zero, suc, ◌+◌, ◌-◌, ◌<◌, ◌≤◌, ◌==◌, nat_lt, nat_eq, Bool, true, false, cond, List, [], ◌∷◌, ◌++◌, length, slice_index_or, Option, Some, None, refl, sym, ap, ap₂, subst, subst₂, ◌∙◌, arith, eqb-true, eq-eqb, ltb-true, ltb-false, length-append}
+use Rattle.std.proofs.Common.{◌≡◌, ◌≢◌, ℕ, zero, suc, ◌+◌, ◌-◌, ◌<◌, ◌≤◌, ◌==◌, ◌&&◌, nat_lt, nat_eq, Bool, true, false, cond, List, [], ◌∷◌, ◌++◌, length, slice_index_or, Option, Some, None, refl, sym, ap, ap₂, subst, subst₂, ◌∙◌, arith, eqb-true, eq-eqb, ltb-true, ltb-false, length-append}
 use Rattle.std.specs.Option.{option_eq}
 use Rattle.std.proofs.lemmas.List.{get_or_append_left}
 use Rattle.std.proofs.Math.Seq.{get_or-append_seam}
@@ -21,11 +21,13 @@ use Rattle.machine_model.specs.declared.repairs.CleanLine.TheVariants as clean
 use Rattle.machine_model.specs.declared.lines.Purpose.TheVariants as purpose
 use Rattle.machine_model.specs.declared.lines.Line.{Line}
 use Rattle.machine_model.specs.declared.lines.Line.TheVariants as line
-use Rattle.machine_model.specs.States.{State}
-use Rattle.machine_model.specs.Paths.{is_start, start_of}
-use Rattle.machine_model.specs.Reading.{read_step, reading}
+use Rattle.machine_model.specs.States.{State, word_at}
+use Rattle.machine_model.specs.Paths.{is_start, is_below_root}
+use Rattle.machine_model.specs.Calls.{handle_of}
+use Rattle.machine_model.specs.declared.reading.ReadLine.{ReadLine}
+use Rattle.machine_model.specs.Reading.{read_step, reading, read_after, at_indirection}
 use Rattle.machine_model.specs.Renewing.{renew_next, next_entry, branch_of, renew_after_entry, renew_after_read}
-use Rattle.machine_model.specs.Cleaning.{clean_next, cleaned, clean_after_main, clean_after_entry, after_child, clean_after_tomb}
+use Rattle.machine_model.specs.Cleaning.{clean_next, cleaned, leaves_single, clean_after_main, clean_after_entry, after_child, clean_after_tomb}
 use Rattle.machine_model.specs.Lines.{new_try}
 use Rattle.node_contents.proofs.Branches.{differ}
 use Rattle.content_laws.specs.Tries.{Trie}
@@ -126,3 +128,93 @@ module _ (state : State) (operation : Operation) (node : Ref → Node) (first : 
       renew_entry_knows (bitmap, entries, are, lt, u) begun link (Branch b es) e = tt
       renew_entry_knows (bitmap, entries, are, lt, u) begun link (Tomb s) e = tt
       renew_entry_knows (bitmap, entries, are, lt, u) begun link (Listed ss) e = tt
+
+      -- RENEW's READ of the next entry
+      pub renew_read_knows : (read : Read) → KnowsRenew node first Gave start (renew.Read p main done read) → (after : After Read Ref) →
+          ((r : Read) → after ≡ Goes r → r.indirection ≡ read.indirection) → ((child : Ref) → after ≡ Gives child → Gave read.indirection child) →
+          KnowsRepair node first Gave start (renew_after_read p main done after)
+      renew_read_knows read (bitmap, entries, are, lt, (at, older)) (Goes r) same gave = (bitmap, entries, are, lt, (same r refl ∙ at, older))
+      renew_read_knows read (bitmap, entries, are, lt, (at, older)) (Gives child) same gave = (bitmap, entries, are, lt, (subst (λ r. Gave r child) at (gave child refl), older))
+
+      -- the indirection that RENEW made
+      pub renew_link_knows : (child made word : Ref) → KnowsRenew node first Gave start (renew.Link p main done child) → node made ≡ Indirection start word → first made ≡ child →
+          KnowsRepair node first Gave start (renew_next state p main (done ++ made ∷ []))
+      renew_link_knows child made word (bitmap, entries, are, lt, (gave, (h, word', is, apart))) made_is first_is =
+          renew_goes bitmap entries (done ++ made ∷ []) (one_done main bitmap entries done made are (renews h word' word child is apart made_is gave first_is)) (more entries made lt)
+
+      -- CLEAN's entry
+      pub clean_entry_knows : KnowsClean node first Gave start (clean.Entry p main done) →
+          ((h : ℕ) (word : Ref) → node_at state.heap (next_entry state main done) ≡ Indirection h word → (w : Ref) × (node (next_entry state main done) ≡ Indirection h w)) →
+          (n : Node) → node_at state.heap (next_entry state main done) ≡ n →
+          KnowsRepair node first Gave start (clean_after_entry state p main done (next_entry state main done) n)
+      clean_entry_knows (bitmap, entries, are, lt, u) link (Indirection h word) e =
+          let found = link h word e in
+          (bitmap, entries, are, lt, (next_is bitmap entries are.is, (h, found.0, ap node (sym (next_is bitmap entries are.is)) ∙ found.1)))
+      clean_entry_knows (bitmap, entries, are, lt, u) link (Single k v) e =
+          clean_goes bitmap entries (done ++ next_entry state main done ∷ []) (keeps_next bitmap entries are) (more entries (next_entry state main done) lt)
+      clean_entry_knows (bitmap, entries, are, lt, u) link (Branch b es) e = tt
+      clean_entry_knows (bitmap, entries, are, lt, u) link (Tomb s) e = tt
+      clean_entry_knows (bitmap, entries, are, lt, u) link (Listed ss) e = tt
+
+      -- CLEAN's READ of it
+      pub clean_child_knows : (read : Read) → KnowsClean node first Gave start (clean.Child p main done read) → (after : After Read Ref) →
+          ((r : Read) → after ≡ Goes r → r.indirection ≡ read.indirection) → ((child : Ref) → after ≡ Gives child → Gave read.indirection child) →
+          KnowsRepair node first Gave start (after_child p main done after)
+      clean_child_knows read (bitmap, entries, are, lt, (at, link)) (Goes r) same gave = (bitmap, entries, are, lt, (same r refl ∙ at, link))
+      clean_child_knows read (bitmap, entries, are, lt, (at, link)) (Gives child) same gave = (bitmap, entries, are, lt, (subst (λ r. Gave r child) at (gave child refl), link))
+
+      -- what it gave, if it is a tomb
+      pub clean_tomb_knows : (child : Ref) → KnowsClean node first Gave start (clean.Tomb p main done child) → (n : Node) → node child ≡ n →
+          KnowsRepair node first Gave start (clean_after_tomb state p main done n)
+      clean_tomb_knows child (bitmap, entries, are, lt, (gave, (h, word, is))) (Tomb single) e =
+          clean_goes bitmap entries (done ++ single ∷ []) (one_done main bitmap entries done single are (cleans h word child is gave e)) (more entries single lt)
+      clean_tomb_knows child (bitmap, entries, are, lt, (gave, link)) (Indirection h w) e =
+          clean_goes bitmap entries (done ++ next_entry state main done ∷ []) (keeps_next bitmap entries are) (more entries (next_entry state main done) lt)
+      clean_tomb_knows child (bitmap, entries, are, lt, (gave, link)) (Branch b es) e =
+          clean_goes bitmap entries (done ++ next_entry state main done ∷ []) (keeps_next bitmap entries are) (more entries (next_entry state main done) lt)
+      clean_tomb_knows child (bitmap, entries, are, lt, (gave, link)) (Single k v) e =
+          clean_goes bitmap entries (done ++ next_entry state main done ∷ []) (keeps_next bitmap entries are) (more entries (next_entry state main done) lt)
+      clean_tomb_knows child (bitmap, entries, are, lt, (gave, link)) (Listed ss) e =
+          clean_goes bitmap entries (done ++ next_entry state main done ∷ []) (keeps_next bitmap entries are) (more entries (next_entry state main done) lt)
+
+      -- the new main node
+      pub renew_branch_knows : (made : Ref) → KnowsRenew node first Gave start (renew.Branch p main done) → node made ≡ branch_of state main done → IsRepaired node first Gave start main made
+      renew_branch_knows made (bitmap, entries, are, all) made_is =
+          (done, bitmap, entries, are, all, (false, made_is ∙ ap (λ n. renewed (bitmap_of n) done) (main_is ∙ are.is)))
+
+      pub clean_contracted_knows : (made : Ref) → KnowsClean node first Gave start (clean.Contracted p main done) → node made ≡ cleaned state p main done → IsRepaired node first Gave start main made
+      clean_contracted_knows made (bitmap, entries, are, all) made_is =
+          (done, bitmap, entries, are, all, (is_below_root p && leaves_single state done,
+          made_is ∙ ap (λ n. contracted (is_below_root p && leaves_single state done) (bitmap_of n) done) (main_is ∙ are.is)))
+
+-- a READ goes on with the same indirection
+pub read_stays : (state : State) (operation : Operation) (read r : Read) → read_step state operation read ≡ Goes r → r.indirection ≡ read.indirection
+read_stays state operation read r e = by_line (read_after state.heap operation.access (word_at state (handle_of operation.call)) read.indirection read.line) e
+  where
+    by_line : (after : After ReadLine Ref) → at_indirection read.indirection after ≡ Goes r → r.indirection ≡ read.indirection
+    by_line (Goes l) e = let same : Goes (record { indirection = read.indirection; line = l }) ≡ Goes r = e in let r_is : record { indirection = read.indirection; line = l } ≡ r = cc in ap (λ (q : Read). q.indirection) (sym r_is)
+    by_line (Gives m) e = absurd (let bad : Gives m ≡ Goes r = e in cc)
+
+-- ---- at the commit
+
+-- What is given stays so: the last main node of an indirection of another generation, and at some time that of any.
+pub record Stands (trie : Trie) (first : Ref → Ref) (Gave : Ref → Ref → Type 0) (g t : ℕ) : Type 0 where
+  pub final : (entry child word : Ref) (h : ℕ) → trie.node entry ≡ Indirection h word → h ≢ g → Gave entry child → trie.main trie.last entry ≡ child
+  pub once : (entry child : Ref) → Gave entry child → (u : ℕ) × (u ≤ t) × (trie.main u entry ≡ child)
+  -- an indirection that was made for the repair has its first main node
+  pub fresh : (other child word : Ref) → trie.node other ≡ Indirection g word → first other ≡ child → trie.main t other ≡ child
+
+-- a main node made of such entries is a repair
+pub repairs : (trie : Trie) (ok : IsTrie trie) (first : Ref → Ref) (Gave : Ref → Ref → Type 0) (g t : ℕ) → t ≤ trie.last → Stands trie first Gave g t →
+    (replaced fresh : Ref) → IsRepaired trie.node first Gave g replaced fresh → IsRepair trie g t (trie.node replaced) (trie.node fresh)
+repairs trie ok first Gave g t lt stands replaced fresh (done, bitmap, entries, are, all, (b, made)) =
+    contracted_repairs trie ok g t b bitmap entries done (trie.node replaced) (trie.node fresh) are.is made all
+    (λ n below. stays (slice_index_or entries.items n no_ref) (slice_index_or done n no_ref) (are.each n (omega (arith, all))))
+  where
+    stays : (entry other : Ref) → IsDone trie.node first Gave g entry other → Stays trie g t entry other
+    stays entry other (keeps same) = kept same
+    stays entry other (renews h word word' child is apart new gave at) =
+        renewed_entry trie ok g t entry other child word word' h is apart new (stands.fresh other child word' new at) (stands.final entry child word h is apart gave)
+    stays entry other (cleans h word child is gave tomb) =
+        let at = stands.once entry child gave in
+        cleaned_entry trie ok g t entry other child word h at.0 is at.1 lt at.2 tomb
