@@ -65,11 +65,14 @@ module _ (state : State) (operation : Operation) (node : Ref → Node) (first : 
   abbrev Key' : ℕ
   Key' = key_of operation.call
 
-  -- the heap has the nodes that are known: main nodes, and singles
+  -- the heap has the main node that is known; a list isn't empty
   pub record Sees (main : Ref) : Type 0 where
     pub main_is : node_at state.heap main ≡ node main
-    pub single_is : (position k v : ℕ) → node_at state.heap (entry_at state.heap main position) ≡ Single k v → node (entry_at state.heap main position) ≡ Single k v
     pub filled : (singles : ArrayVec Ref) → node main ≡ Listed singles → 0 < length singles.items
+
+  -- and the single at a position, if one stands there
+  abbrev pub SeesSingle : Ref → ℕ → Type 0
+  SeesSingle main position = (k v : ℕ) → node_at state.heap (entry_at state.heap main position) ≡ Single k v → node (entry_at state.heap main position) ≡ Single k v
 
   -- an operation of KEY on a read-only handle is a get
   abbrev pub OnlyGets : Type 0
@@ -80,9 +83,9 @@ module _ (state : State) (operation : Operation) (node : Ref → Node) (first : 
     entry_is : (n : Node) (position : ℕ) → node main ≡ n → entry_at state.heap main position ≡ slice_index_or (entries_of n) position no_ref
     entry_is n position is = ap (λ m. slice_index_or (entries_of m) position no_ref) (sees.main_is ∙ is)
 
-    single_known : (n : Node) (position k v : ℕ) → node main ≡ n → node_at state.heap (entry_at state.heap main position) ≡ Single k v →
+    single_known : (n : Node) (position k v : ℕ) → SeesSingle main position → node main ≡ n → node_at state.heap (entry_at state.heap main position) ≡ Single k v →
         node (slice_index_or (entries_of n) position no_ref) ≡ Single k v
-    single_known n position k v is e = ap node (sym (entry_is n position is)) ∙ sees.single_is position k v e
+    single_known n position k v single is e = ap node (sym (entry_is n position is)) ∙ single k v e
 
     -- ---- where the key is absent
 
@@ -161,9 +164,9 @@ module _ (state : State) (operation : Operation) (node : Ref → Node) (first : 
     main_knows gets (Indirection g w) is = tt
     main_knows gets (Single k v) is = tt
 
-    entry_knows : (position b : ℕ) (es : ArrayVec Ref) → IsFlagged known (depth_of p) Key' main position b es → (n : Node) → node_at state.heap (entry_at state.heap main position) ≡ n →
+    entry_knows : (position b : ℕ) (es : ArrayVec Ref) → SeesSingle main position → IsFlagged known (depth_of p) Key' main position b es → (n : Node) → node_at state.heap (entry_at state.heap main position) ≡ n →
         KnowsLine known Call' (key_after_entry state operation p main position n)
-    entry_knows position b es f (Indirection g w) e = by_test (is_passable operation g)
+    entry_knows position b es seen f (Indirection g w) e = by_test (is_passable operation g)
       where
         by_more : (t : Bool) → KnowsLine known Call' (cond t (line.Renew (renew.Entry p main [])) (line.Renew (renew.Branch p main [])))
         by_more true = tt
@@ -171,24 +174,24 @@ module _ (state : State) (operation : Operation) (node : Ref → Node) (first : 
         by_test : (t : Bool) → KnowsLine known Call' (cond t (going_down p (entry_at state.heap main position)) (renew_next state p main []))
         by_test true = tt
         by_test false = by_more (nat_lt 0 (length (entries_of (node_at state.heap main))))
-    entry_knows position b es f (Single k v) e = by_test (k == Key') refl
+    entry_knows position b es seen f (Single k v) e = by_test (k == Key') refl
       where
         known_single : node (slice_index_or es.items position no_ref) ≡ Single k v
-        known_single = single_known (Branch b es) position k v f.is e
+        known_single = single_known (Branch b es) position k v seen f.is e
         by_test : (t : Bool) → (k == Key') ≡ t → KnowsLine known Call' (cond t (found state operation p main position v) (absent_beside operation p main position))
         by_test true same = found_knows position v (in_branch b es f (known_single ∙ ap (λ n. Single n v) (eqb-true k Key' same)))
         by_test false apart = beside_knows position (record { bitmap = b; entries = es; branch = f; other = k; own = v; is = known_single; apart = differ k Key' apart })
-    entry_knows position b es f (Branch b' es') e = tt
-    entry_knows position b es f (Tomb s) e = tt
-    entry_knows position b es f (Listed ss) e = tt
+    entry_knows position b es seen f (Branch b' es') e = tt
+    entry_knows position b es seen f (Tomb s) e = tt
+    entry_knows position b es seen f (Listed ss) e = tt
 
     -- through a list
-    listed_knows : (position : ℕ) (ss : ArrayVec Ref) → GoesThrough known Key' main position ss → (n : Node) → node_at state.heap (entry_at state.heap main position) ≡ n →
+    listed_knows : (position : ℕ) (ss : ArrayVec Ref) → SeesSingle main position → GoesThrough known Key' main position ss → (n : Node) → node_at state.heap (entry_at state.heap main position) ≡ n →
         KnowsLine known Call' (after_listed state operation p main position n)
-    listed_knows position ss go (Single k v) e = by_test (k == Key') refl
+    listed_knows position ss seen go (Single k v) e = by_test (k == Key') refl
       where
         known_single : node (slice_index_or ss.items position no_ref) ≡ Single k v
-        known_single = single_known (Listed ss) position k v go.is e
+        known_single = single_known (Listed ss) position k v seen go.is e
         count : length (entries_of (node_at state.heap main)) ≡ length ss.items
         count = ap (λ n. length (entries_of n)) (sees.main_is ∙ go.is)
         none_more : k ≢ Key' → look_among node Key' (take (position + 1) ss.items) ≡ Absent
@@ -218,10 +221,10 @@ module _ (state : State) (operation : Operation) (node : Ref → Node) (first : 
         by_test false apart =
             subst (λ c. KnowsLine known Call' (cond (nat_lt (position + 1) c) (line.Key (key.Listed p main (position + 1))) (absent_listed operation p main c))) (sym count)
             (by_more (differ k Key' apart) (nat_lt (position + 1) (length ss.items)) refl)
-    listed_knows position ss go (Indirection g w) e = tt
-    listed_knows position ss go (Branch b es) e = tt
-    listed_knows position ss go (Tomb s) e = tt
-    listed_knows position ss go (Listed ss') e = tt
+    listed_knows position ss seen go (Indirection g w) e = tt
+    listed_knows position ss seen go (Branch b es) e = tt
+    listed_knows position ss seen go (Tomb s) e = tt
+    listed_knows position ss seen go (Listed ss') e = tt
 
     -- at a tomb a get alone looks
     tomb_knows : (position : ℕ) (s : Ref) → node main ≡ Tomb s → position ≡ 0 → IsGet operation.call → (n : Node) → KnowsLine known Call' (after_listed state operation p main position n)
@@ -251,15 +254,15 @@ module _ (state : State) (operation : Operation) (node : Ref → Node) (first : 
     tomb_knows position s is at_first get (Listed ss) = tt
 
     -- the other one of two entries
-    sibling_knows : (position former b : ℕ) (es : ArrayVec Ref) → IsFlagged known (depth_of p) Key' main position b es → node (slice_index_or es.items position no_ref) ≡ Single Key' former →
+    sibling_knows : (position former b : ℕ) (es : ArrayVec Ref) → SeesSingle main (1 - position) → IsFlagged known (depth_of p) Key' main position b es → node (slice_index_or es.items position no_ref) ≡ Single Key' former →
         length es.items ≡ 2 → when_found operation.call former ≡ Removes → (n : Node) → node_at state.heap (entry_at state.heap main (1 - position)) ≡ n →
         KnowsLine known Call' (after_sibling p main position former (entry_at state.heap main (1 - position)) n)
-    sibling_knows position former b es f single two removes (Single k v) e =
-        (former, refl, removes, of_branch b position k v es f single two (entry_is (Branch b es) (1 - position) f.is) (sees.single_is (1 - position) k v e))
-    sibling_knows position former b es f single two removes (Indirection g w) e = (former, refl, removes, in_branch b es f single)
-    sibling_knows position former b es f single two removes (Branch b' es') e = tt
-    sibling_knows position former b es f single two removes (Tomb s) e = tt
-    sibling_knows position former b es f single two removes (Listed ss) e = tt
+    sibling_knows position former b es seen f single two removes (Single k v) e =
+        (former, refl, removes, of_branch b position k v es f single two (entry_is (Branch b es) (1 - position) f.is) (seen k v e))
+    sibling_knows position former b es seen f single two removes (Indirection g w) e = (former, refl, removes, in_branch b es f single)
+    sibling_knows position former b es seen f single two removes (Branch b' es') e = tt
+    sibling_knows position former b es seen f single two removes (Tomb s) e = tt
+    sibling_knows position former b es seen f single two removes (Listed ss) e = tt
 
   -- ---- the whole of KEY
 
@@ -270,16 +273,25 @@ module _ (state : State) (operation : Operation) (node : Ref → Node) (first : 
   main_in (key.Listed p main position) = Some main
   main_in (key.Sibling p main position former) = Some main
 
-  pub key_knows : (l : KeyLine) → OnlyGets → ((main : Ref) → main_in l ≡ Some main → Sees main) → KnowsKey known operation.call l → KnowsLine known operation.call (key_after state operation l)
-  key_knows (key.Read p read) gets sees knows = by_read (read_step state operation read)
+  -- the position at which a line looks
+  abbrev pub position_in : KeyLine → Option (Ref × ℕ)
+  position_in (key.Read p read) = None
+  position_in (key.Main p main) = None
+  position_in (key.Entry p main position) = Some (main, position)
+  position_in (key.Listed p main position) = Some (main, position)
+  position_in (key.Sibling p main position former) = Some (main, 1 - position)
+
+  pub key_knows : (l : KeyLine) → OnlyGets → ((main : Ref) → main_in l ≡ Some main → Sees main) →
+      ((main : Ref) (position : ℕ) → position_in l ≡ Some (main, position) → SeesSingle main position) → KnowsKey known operation.call l → KnowsLine known operation.call (key_after state operation l)
+  key_knows (key.Read p read) gets sees single knows = by_read (read_step state operation read)
     where
       by_read : (after : After Read Ref) → KnowsLine known operation.call (key_after_read p after)
       by_read (Goes r) = tt
       by_read (Gives main) = tt
-  key_knows (key.Main p main) gets sees knows = main_knows main (sees main refl) p gets (node_at state.heap main) (sym (sees main refl).main_is)
-  key_knows (key.Entry p main position) gets sees (b, es, f) = entry_knows main (sees main refl) p position b es f (node_at state.heap (entry_at state.heap main position)) refl
-  key_knows (key.Listed p main position) gets sees (inl (ss, go)) = listed_knows main (sees main refl) p position ss go (node_at state.heap (entry_at state.heap main position)) refl
-  key_knows (key.Listed p main position) gets sees (inr (s, is, at_first, get)) =
+  key_knows (key.Main p main) gets sees single knows = main_knows main (sees main refl) p gets (node_at state.heap main) (sym (sees main refl).main_is)
+  key_knows (key.Entry p main position) gets sees single (b, es, f) = entry_knows main (sees main refl) p position b es (single main position refl) f (node_at state.heap (entry_at state.heap main position)) refl
+  key_knows (key.Listed p main position) gets sees single (inl (ss, go)) = listed_knows main (sees main refl) p position ss (single main position refl) go (node_at state.heap (entry_at state.heap main position)) refl
+  key_knows (key.Listed p main position) gets sees single (inr (s, is, at_first, get)) =
       tomb_knows main (sees main refl) p position s is at_first get (node_at state.heap (entry_at state.heap main position))
-  key_knows (key.Sibling p main position former) gets sees (b, es, f, single, two, removes) =
-      sibling_knows main (sees main refl) p position former b es f single two removes (node_at state.heap (entry_at state.heap main (1 - position))) refl
+  key_knows (key.Sibling p main position former) gets sees seen (b, es, f, single, two, removes) =
+      sibling_knows main (sees main refl) p position former b es (seen main (1 - position) refl) f single two removes (node_at state.heap (entry_at state.heap main (1 - position))) refl

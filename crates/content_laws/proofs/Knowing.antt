@@ -43,9 +43,9 @@ module _ (trie : Trie) (g t : ℕ) (i : Ref) (first : Ref → Ref) where
     pub asks : Asks call former now
     pub updates : IsOwnUpdate trie g t i (key_of call) old new former now
 
-  pub makes_update : (call : Call) (replaced fresh : Ref) (former : Option ℕ) → trie.depth i ≤ 13 → ((link : Ref) → StaysFresh link) →
-      KnowsSwap (known_in trie first) call (trie.depth i) replaced former fresh → MakesUpdate call former (trie.node replaced) (trie.node fresh)
-  makes_update call replaced fresh former deep chains (c, knows, made) = by_change c knows made
+  pub makes_update : (call : Call) (replaced fresh : Ref) (former : Option ℕ) → trie.depth i ≤ 13 → (knows : KnowsSwap (known_in trie first) call (trie.depth i) replaced former fresh) →
+      ((position : ℕ) (link : Ref) → knows.0 ≡ change.Update position link → former ≡ None → StaysFresh link) → MakesUpdate call former (trie.node replaced) (trie.node fresh)
+  makes_update call replaced fresh former deep (c, knows, made) chains = by_change c refl knows made
     where
       flag : ℕ
       flag = flag_of (hash_of trie.kind (key_of call)) (trie.depth i)
@@ -106,23 +106,23 @@ module _ (trie : Trie) (g t : ℕ) (i : Ref) (first : Ref → Ref) where
             asks = asks;
             updates = list_entombs position value singles is two lt single (built (change.Entomb other) (Listed singles) is e ∙ ap Tomb there);
           })
-      besides : (position : ℕ) (link : Ref) → former ≡ None → Asks call None (Some (value_of call)) → (beside : Neighbour (known_in trie first) (trie.depth i) (key_of call) replaced position) →
+      besides : (position : ℕ) (link : Ref) → c ≡ change.Update position link → former ≡ None → Asks call None (Some (value_of call)) → (beside : Neighbour (known_in trie first) (trie.depth i) (key_of call) replaced position) →
           (single : Ref) → trie.node single ≡ Single (key_of call) (value_of call) → LeadsToBoth (known_in trie first) call (trie.depth i) replaced position beside single (suc (trie.depth i)) link →
           trie.node fresh ≡ changed flag (trie.node replaced) (change.Update position link) → MakesUpdate call former (trie.node replaced) (trie.node fresh)
-      besides position link none asks beside single new (ind, chain) e =
+      besides position link is_change none asks beside single new (ind, chain) e =
           subst (λ o. MakesUpdate call o (trie.node replaced) (trie.node fresh)) (sym none) (record {
             now = Some (value_of call);
             asks = asks;
             updates = goes_beside beside.bitmap beside.other (value_of call) beside.own (15 - suc (trie.depth i)) ind.0 beside.entries single link ind.1 beside.branch.is beside.branch.flagged
                 (ap (λ p. trie.node (slice_index_or beside.entries.items p no_ref)) (sym beside.branch.at) ∙ beside.is) beside.apart new ind.2 (omega arith)
                 (subst (λ p. LeadsToPair trie.node (assigned trie g (suc t)) trie.kind beside.other (key_of call) (slice_index_or beside.entries.items p no_ref) single (15 - suc (trie.depth i)) (suc (trie.depth i)) link)
-                beside.branch.at (chains link beside.other (key_of call) (slice_index_or beside.entries.items position no_ref) single (15 - suc (trie.depth i)) (suc (trie.depth i)) chain))
+                beside.branch.at (chains position link is_change none beside.other (key_of call) (slice_index_or beside.entries.items position no_ref) single (15 - suc (trie.depth i)) (suc (trie.depth i)) chain))
                 (built (change.Update position link) (Branch beside.bitmap beside.entries) beside.branch.is e ∙ ap (λ p. updated beside.bitmap beside.entries.items p link) beside.branch.at);
           })
-      by_change : (c : Change) → KnowsChange (known_in trie first) call (trie.depth i) replaced former c → trie.node fresh ≡ changed flag (trie.node replaced) c →
+      by_change : (d : Change) → c ≡ d → KnowsChange (known_in trie first) call (trie.depth i) replaced former d → trie.node fresh ≡ changed flag (trie.node replaced) d →
           MakesUpdate call former (trie.node replaced) (trie.node fresh)
-      by_change (change.Insert single) ((none, ins), absence, new) e = absent single none (to_insert ins) absence new e
-      by_change (change.Update position entry) (inl (value, had, sets, presence, new)) e = present position value entry had (to_set value sets) presence new e
-      by_change (change.Update position entry) (inr ((none, ins), (beside, single, new, both))) e = besides position entry none (to_insert ins) beside single new both e
-      by_change (change.Remove position) (value, had, removes, presence) e = gone position value had (to_remove value removes) presence e
-      by_change (change.Entomb other) (value, had, removes, is) e = entombed value other had (to_remove value removes) is e
+      by_change (change.Insert single) is_change ((none, ins), absence, new) e = absent single none (to_insert ins) absence new e
+      by_change (change.Update position entry) is_change (inl (value, had, sets, presence, new)) e = present position value entry had (to_set value sets) presence new e
+      by_change (change.Update position entry) is_change (inr ((none, ins), (beside, single, new, both))) e = besides position entry is_change none (to_insert ins) beside single new both e
+      by_change (change.Remove position) is_change (value, had, removes, presence) e = gone position value had (to_remove value removes) presence e
+      by_change (change.Entomb other) is_change (value, had, removes, is) e = entombed value other had (to_remove value removes) is e

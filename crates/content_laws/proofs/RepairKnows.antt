@@ -198,23 +198,27 @@ read_stays state operation read r e = by_line (read_after state.heap operation.a
 -- ---- at the commit
 
 -- What is given stays so: the last main node of an indirection of another generation, and at some time that of any.
-pub record Stands (trie : Trie) (first : Ref → Ref) (Gave : Ref → Ref → Type 0) (g t : ℕ) : Type 0 where
+pub record Stands (trie : Trie) (Gave : Ref → Ref → Type 0) (g t : ℕ) : Type 0 where
   pub final : (entry child word : Ref) (h : ℕ) → trie.node entry ≡ Indirection h word → h ≢ g → Gave entry child → trie.main trie.last entry ≡ child
   pub once : (entry child : Ref) → Gave entry child → (u : ℕ) × (u ≤ t) × (trie.main u entry ≡ child)
-  -- an indirection that was made for the repair has its first main node
-  pub fresh : (other child word : Ref) → trie.node other ≡ Indirection g word → first other ≡ child → trie.main t other ≡ child
+
+-- the indirections that were made in the place of older ones have their first main nodes
+abbrev pub HasFresh : Trie → (Ref → Ref) → ℕ → ℕ → ArrayVec Ref → List Ref → Type 0
+HasFresh trie first g t entries done =
+    (n h : ℕ) (word word' : Ref) → trie.node (slice_index_or entries.items n no_ref) ≡ Indirection h word → h ≢ g →
+    trie.node (slice_index_or done n no_ref) ≡ Indirection g word' → trie.main t (slice_index_or done n no_ref) ≡ first (slice_index_or done n no_ref)
 
 -- a main node made of such entries is a repair
-pub repairs : (trie : Trie) (ok : IsTrie trie) (first : Ref → Ref) (Gave : Ref → Ref → Type 0) (g t : ℕ) → t ≤ trie.last → Stands trie first Gave g t →
-    (replaced fresh : Ref) → IsRepaired trie.node first Gave g replaced fresh → IsRepair trie g t (trie.node replaced) (trie.node fresh)
-repairs trie ok first Gave g t lt stands replaced fresh (done, bitmap, entries, are, all, (b, made)) =
+pub repairs : (trie : Trie) (ok : IsTrie trie) (first : Ref → Ref) (Gave : Ref → Ref → Type 0) (g t : ℕ) → t ≤ trie.last → Stands trie Gave g t →
+    (replaced fresh : Ref) → (knows : IsRepaired trie.node first Gave g replaced fresh) → HasFresh trie first g t knows.2 knows.0 → IsRepair trie g t (trie.node replaced) (trie.node fresh)
+repairs trie ok first Gave g t lt stands replaced fresh (done, bitmap, entries, are, all, (b, made)) news =
     contracted_repairs trie ok g t b bitmap entries done (trie.node replaced) (trie.node fresh) are.is made all
-    (λ n below. stays (slice_index_or entries.items n no_ref) (slice_index_or done n no_ref) (are.each n (omega (arith, all))))
+    (λ n below. stays n (slice_index_or entries.items n no_ref) (slice_index_or done n no_ref) refl refl (are.each n (omega (arith, all))))
   where
-    stays : (entry other : Ref) → IsDone trie.node first Gave g entry other → Stays trie g t entry other
-    stays entry other (keeps same) = kept same
-    stays entry other (renews h word word' child is apart new gave at) =
-        renewed_entry trie ok g t entry other child word word' h is apart new (stands.fresh other child word' new at) (stands.final entry child word h is apart gave)
-    stays entry other (cleans h word child is gave tomb) =
+    stays : (n : ℕ) (entry other : Ref) → slice_index_or entries.items n no_ref ≡ entry → slice_index_or done n no_ref ≡ other → IsDone trie.node first Gave g entry other → Stays trie g t entry other
+    stays n entry other here there (keeps same) = kept same
+    stays n entry other here there (renews h word word' child is apart new gave at) =
+        renewed_entry trie ok g t entry other child word word' h is apart new (ap (trie.main t) (sym there) ∙ news n h word word' (ap trie.node here ∙ is) apart (ap trie.node there ∙ new) ∙ ap first there ∙ at) (stands.final entry child word h is apart gave)
+    stays n entry other here there (cleans h word child is gave tomb) =
         let at = stands.once entry child gave in
         cleaned_entry trie ok g t entry other child word h at.0 is at.1 lt at.2 tomb
