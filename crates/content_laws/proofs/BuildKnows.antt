@@ -1,11 +1,11 @@
 -- Each line of BUILD hands on what it knows, with the node that it made.
-use Rattle.std.proofs.Common.{◌≡◌, ◌≢◌, ℕ, zero, suc, ◌+◌, ◌-◌, ◌<◌, ◌≤◌, ◌==◌, Bool, true, false, cond, List, [], ◌∷◌, bit_or, length, slice_index_or, Option, Some, None, ◌⊎◌, inl, inr, refl, sym, ap, ap₂, subst, ◌∙◌, arith, eqb-true}
+use Rattle.std.proofs.Common.{◌≡◌, ◌≢◌, ℕ, suc, ◌+◌, ◌-◌, ◌<◌, ◌≤◌, ◌==◌, Bool, true, false, cond, List, [], ◌∷◌, bit_or, slice_index_or, Option, None, ◌⊎◌, inl, inr, refl, sym, ap, ap₂, subst, ◌∙◌, arith, eqb-true}
 use Rattle.arrayvec.specs.ArrayVec.{ArrayVec}
 use Rattle.ctrie_base.specs.Hashes.{hash_of}
 use Rattle.ctrie_base.specs.declared.hashes.HashKind.{HashKind}
 use Rattle.slot_arena.specs.declared.refs.Ref.{Ref}
 use Rattle.slot_arena.specs.declared.nodes.Node.{Node}
-use Rattle.slot_arena.specs.declared.nodes.Node.TheVariants.{Indirection, Branch, Single, Tomb, List as Listed}
+use Rattle.slot_arena.specs.declared.nodes.Node.TheVariants.{Indirection, Branch, Single, List as Listed}
 use Rattle.slot_arena.specs.Heaps.{node_at, entry_at, entries_of, entries_from, no_ref}
 use Rattle.nodes.specs.Levels.{list_depth, index_in, flag_of, parting}
 use Rattle.nodes.specs.Builders.{pair, rung, by_index}
@@ -19,14 +19,13 @@ use Rattle.machine_model.specs.declared.building.Change.{Change}
 use Rattle.machine_model.specs.declared.building.Change.TheVariants as change
 use Rattle.machine_model.specs.declared.building.BuildLine.{BuildLine}
 use Rattle.machine_model.specs.declared.building.BuildLine.TheVariants as build
-use Rattle.machine_model.specs.declared.lines.Line.{Line}
 use Rattle.machine_model.specs.declared.lines.Line.TheVariants as line
 use Rattle.machine_model.specs.Calls.{key_of, value_of}
 use Rattle.machine_model.specs.States.{State}
 use Rattle.machine_model.specs.Paths as path
 use Rattle.machine_model.specs.Paths.{depth_of, hash_in, start_of}
-use Rattle.machine_model.specs.Building.{changed, pair_depth, key_in, old_hash, after_single, after_link, build_after_made}
-use Rattle.content_laws.specs.Knowing.{Known, IsFlagged, Absence, no_flag, not_listed, Presence, in_branch, in_list, Neighbour, IsOther, of_branch, of_list, LeadsToBoth, IsAlike, LeadsBelow, by_pair, by_link, KnowsChange, KnowsBuild, KnowsLine}
+use Rattle.machine_model.specs.Building.{changed, key_in, old_hash, after_single, after_link, build_after_made}
+use Rattle.content_laws.specs.Knowing.{Known, Absence, no_flag, not_listed, Presence, in_branch, in_list, Neighbour, IsOther, of_branch, of_list, LeadsToBoth, LeadsBelow, by_pair, by_link, KnowsChange, KnowsBuild, KnowsLine}
 use Rattle.content_laws.proofs.Shapes.{list_depth-le}
 use Rattle.content_laws.proofs.KeyKnows.{known, Sees}
 
@@ -66,12 +65,18 @@ module _ (state : State) (operation : Operation) (node : Ref → Node) (first : 
     single_knows site.Absent former (ins, absence) back is = (ins, absence, made_is (Single Key' (value_of operation.call)) (λ g m e. let bad : Single Key' (value_of operation.call) ≡ Indirection g m = e in cc) is)
     single_knows (site.At position) former (value, had, sets, presence) back is =
         inl (value, had, sets, presence, made_is (Single Key' (value_of operation.call)) (λ g m e. let bad : Single Key' (value_of operation.call) ≡ Indirection g m = e in cc) is)
-    single_knows (site.Beside position) former (ins, beside) back is =
-        ((refl, ins.1), (beside, made_is (Single Key' (value_of operation.call)) (λ g m e. let bad : Single Key' (value_of operation.call) ≡ Indirection g m = e in cc) is,
-        ap (λ a. parting (list_depth state.limits.hash - (depth_of p + 1)) a (hash_of state.limits.hash Key') (depth_of p + 1)) old_is))
+    single_knows (site.Beside position) former (ins, beside) back is = (
+      (refl, ins.1),
+      (
+        beside,
+        made_is (Single Key' (value_of operation.call)) (λ g m e. let bad : Single Key' (value_of operation.call) ≡ Indirection g m = e in cc) is,
+        ap (λ a. parting (list_depth state.limits.hash - (depth_of p + 1)) a (hash_of state.limits.hash Key') (depth_of p + 1)) old_is,
+      ),
+    )
       where
         at : entry_at state.heap main position ≡ slice_index_or beside.entries.items position no_ref
         at = ap (λ n. slice_index_or (entries_of n) position no_ref) (sees.main_is ∙ beside.branch.is)
+
         old_is : old_hash state main position ≡ hash_of state.limits.hash beside.other
         old_is = ap (λ n. hash_of state.limits.hash (key_in n)) (back position beside.other beside.own (ap node at ∙ beside.is))
 
@@ -80,17 +85,26 @@ module _ (state : State) (operation : Operation) (node : Ref → Node) (first : 
         ((position k v : ℕ) → node (entry_at state.heap main position) ≡ Single k v → node_at state.heap (entry_at state.heap main position) ≡ Single k v) →
         IsMade (pair state.limits.hash depth (old_hash state main position) (hash_in state operation) (entry_at state.heap main position) single) →
         KnowsLine K operation.call (line.Build (build.Link p main position made depth))
-    pair_knows position single depth (ins, (beside, new, depth_is)) shallow back is =
-        (ins, (beside, single, new, by_pair
-        (made_is _ (pair_main state.limits.hash depth (old_hash state main position) (hash_in state operation) (entry_at state.heap main position) single) is ∙ ap₂ (λ a e. pair state.limits.hash depth a (hash_of state.limits.hash Key') e single) old_is at)
-        (subst (λ d. Parts state.limits.hash beside.other Key' d) (sym depth_is) (pair_parts state.limits.hash beside.other Key' (depth_of p) shallow))
-        (omega (arith, parts.from, depth_is)) (omega (arith, parts.within, depth_is, list_depth-le state.limits.hash))
-        (λ d le lt. parts.alike d (omega arith) (omega (arith, depth_is)))))
+    pair_knows position single depth (ins, (beside, new, depth_is)) shallow back is = (
+      ins,
+      (
+        beside,
+        single,
+        new,
+        by_pair
+            (made_is _ (pair_main state.limits.hash depth (old_hash state main position) (hash_in state operation) (entry_at state.heap main position) single) is ∙ ap₂ (λ a e. pair state.limits.hash depth a (hash_of state.limits.hash Key') e single) old_is at)
+            (subst (λ d. Parts state.limits.hash beside.other Key' d) (sym depth_is) (pair_parts state.limits.hash beside.other Key' (depth_of p) shallow))
+            (omega (arith, parts.from, depth_is)) (omega (arith, parts.within, depth_is, list_depth-le state.limits.hash))
+            (λ d le lt. parts.alike d (omega arith) (omega (arith, depth_is))),
+      ),
+    )
       where
         at : entry_at state.heap main position ≡ slice_index_or beside.entries.items position no_ref
         at = ap (λ n. slice_index_or (entries_of n) position no_ref) (sees.main_is ∙ beside.branch.is)
+
         old_is : old_hash state main position ≡ hash_of state.limits.hash beside.other
         old_is = ap (λ n. hash_of state.limits.hash (key_in n)) (back position beside.other beside.own (ap node at ∙ beside.is))
+
         parts : IsParting (list_depth state.limits.hash - (depth_of p + 1)) (hash_of state.limits.hash beside.other) (hash_of state.limits.hash Key') (depth_of p + 1)
             (parting (list_depth state.limits.hash - (depth_of p + 1)) (hash_of state.limits.hash beside.other) (hash_of state.limits.hash Key') (depth_of p + 1))
         parts = parting_is (list_depth state.limits.hash - (depth_of p + 1)) (hash_of state.limits.hash beside.other) (hash_of state.limits.hash Key') (depth_of p + 1)
@@ -100,15 +114,19 @@ module _ (state : State) (operation : Operation) (node : Ref → Node) (first : 
         IsMade (Indirection g below) → LeadsToBoth K operation.call (depth_of p) main position beside single depth made
     link_leads position below depth g beside single (by_pair is parts above deep alike) made_ =
         let l = link_is g below made_ in
-        let levels : 15 - depth ≡ suc (14 - depth) = omega arith in
-        (l.0, subst (λ n. LeadsToPair node first state.limits.hash beside.other Key' (slice_index_or beside.entries.items position no_ref) single n depth made) (sym levels)
-        (at_pair (14 - depth) depth made (ap node l.1 ∙ is) parts))
+        let levels : 15 - depth ≡ suc (14 - depth) = omega arith in (
+          l.0,
+          subst (λ n. LeadsToPair node first state.limits.hash beside.other Key' (slice_index_or beside.entries.items position no_ref) single n depth made) (sym levels)
+              (at_pair (14 - depth) depth made (ap node l.1 ∙ is) parts),
+        )
     link_leads position below depth g beside single (by_link link is (ind, rest) above alike) made_ =
         let l = link_is g below made_ in
         let deep = alike.0 in
-        let levels : 15 - depth ≡ suc (15 - suc depth) = omega arith in
-        (l.0, subst (λ n. LeadsToPair node first state.limits.hash beside.other Key' (slice_index_or beside.entries.items position no_ref) single n depth made) (sym levels)
-        (by_rung (15 - suc depth) depth made link ind.1 ind.0 (ap node l.1 ∙ is) ind.2 (alike.1 depth (omega arith) (omega arith)) rest))
+        let levels : 15 - depth ≡ suc (15 - suc depth) = omega arith in (
+          l.0,
+          subst (λ n. LeadsToPair node first state.limits.hash beside.other Key' (slice_index_or beside.entries.items position no_ref) single n depth made) (sym levels)
+              (by_rung (15 - suc depth) depth made link ind.1 ind.0 (ap node l.1 ∙ is) ind.2 (alike.1 depth (omega arith) (omega arith)) rest),
+        )
 
     -- how far the keys are alike above it
     alike_above : (position : ℕ) (below : Ref) (depth : ℕ) (beside : Neighbour K (depth_of p) Key' main position) (single : Ref) → LeadsBelow K operation.call (depth_of p) main position beside single depth below →
@@ -122,8 +140,10 @@ module _ (state : State) (operation : Operation) (node : Ref → Node) (first : 
       where
         both : LeadsToBoth K operation.call (depth_of p) main position beside single depth made
         both = link_leads position below depth (start_of operation) beside single leads made_
+
         far : (depth_of p < depth) × (depth ≤ 13) × ((d : ℕ) → suc (depth_of p) ≤ d → d < depth → index_in (hash_of state.limits.hash beside.other) d ≡ index_in (hash_of state.limits.hash Key') d)
         far = alike_above position below depth beside single leads
+
         by_test : (t : Bool) → (depth == depth_of p + 1) ≡ t →
             KnowsLine K operation.call (cond t (line.Build (build.Main p main (change.Update position made) None)) (line.Build (build.Rung p main position made (depth - 1))))
         by_test true e =
@@ -133,16 +153,31 @@ module _ (state : State) (operation : Operation) (node : Ref → Node) (first : 
             let away = differ depth (depth_of p + 1) e in
             let above = far.0 in
             let deep = far.1 in
-            let one : depth ≡ suc (depth - 1) = omega arith in
-            (ins, (beside, single, new, subst (λ d. LeadsToBoth K operation.call (depth_of p) main position beside single d made) one both, omega arith,
-            (omega arith, λ d le lt. far.2 d le (omega arith))))
+            let one : depth ≡ suc (depth - 1) = omega arith in (
+              ins,
+              (
+                beside,
+                single,
+                new,
+                subst (λ d. LeadsToBoth K operation.call (depth_of p) main position beside single d made) one both,
+                omega arith,
+                (omega arith, λ d le lt. far.2 d le (omega arith)),
+              ),
+            )
 
     -- a branch of one entry
     rung_knows : (position : ℕ) (below : Ref) (depth : ℕ) → KnowsBuild K operation.call (build.Rung p main position below depth) → IsMade (rung (hash_in state operation) depth below) →
         KnowsLine K operation.call (line.Build (build.Link p main position made depth))
-    rung_knows position below depth (ins, (beside, single, new, both, above, alike)) made_ =
-        (ins, (beside, single, new, by_link below
-        (made_is (rung (hash_of state.limits.hash Key') depth below) (λ g m e. let bad : rung (hash_of state.limits.hash Key') depth below ≡ Indirection g m = e in cc) made_) both above alike))
+    rung_knows position below depth (ins, (beside, single, new, both, above, alike)) made_ = (
+      ins,
+      (
+        beside,
+        single,
+        new,
+        by_link below
+            (made_is (rung (hash_of state.limits.hash Key') depth below) (λ g m e. let bad : rung (hash_of state.limits.hash Key') depth below ≡ Indirection g m = e in cc) made_) both above alike,
+      ),
+    )
 
     -- the new main node
     changed_main : (flag : ℕ) (n : Node) (c : Change) → ((b : ℕ) × (es : ArrayVec Ref) × (n ≡ Branch b es)) ⊎ ((ss : ArrayVec Ref) × (n ≡ Listed ss)) → (g : ℕ) (m : Ref) → changed flag n c ≢ Indirection g m
@@ -182,10 +217,13 @@ module _ (state : State) (operation : Operation) (node : Ref → Node) (first : 
 
     main_made_knows : (c : Change) (former : Option ℕ) → KnowsBuild K operation.call (build.Main p main c former) → IsMade (changed (path.flag_in state operation p) (node_at state.heap main) c) →
         KnowsLine K operation.call (build_after_made state operation (build.Main p main c former) made)
-    main_made_knows c former knows made_ =
-        (c, knows, made_is (changed (path.flag_in state operation p) (node_at state.heap main) c)
-        (subst (λ n. (g : ℕ) (m : Ref) → changed (path.flag_in state operation p) n c ≢ Indirection g m) (sym sees.main_is) (changed_main (path.flag_in state operation p) (node main) c (known_main c former knows)))
-        made_ ∙ ap (λ n. changed (path.flag_in state operation p) n c) sees.main_is)
+    main_made_knows c former knows made_ = (
+      c,
+      knows,
+      made_is (changed (path.flag_in state operation p) (node_at state.heap main) c)
+          (subst (λ n. (g : ℕ) (m : Ref) → changed (path.flag_in state operation p) n c ≢ Indirection g m) (sym sees.main_is) (changed_main (path.flag_in state operation p) (node main) c (known_main c former knows)))
+          made_ ∙ ap (λ n. changed (path.flag_in state operation p) n c) sees.main_is,
+    )
 
   -- ---- the whole of BUILD
 

@@ -1,9 +1,8 @@
 -- Each line of KEY hands on what it knows.
-use Rattle.std.proofs.Common.{◌≡◌, ◌≢◌, ℕ, zero, suc, ◌+◌, ◌-◌, ◌<◌, ◌≤◌, ◌==◌, ◌&&◌, nat_lt, nat_le, Bool, true, false, cond, List, [], ◌∷◌, ◌++◌, length, take, slice_index_or, Option, Some, None, ◌⊎◌, inl, inr, refl, sym, ap, ap₂, subst, ◌∙◌, arith, eqb-true, take_all, ltb-true, ltb-false, leb-false}
+use Rattle.std.proofs.Common.{◌≡◌, ◌≢◌, ℕ, ◌+◌, ◌-◌, ◌<◌, ◌==◌, ◌&&◌, nat_lt, nat_le, Bool, true, false, cond, List, [], ◌∷◌, length, take, slice_index_or, Option, Some, None, inl, inr, refl, sym, ap, ap₂, subst, ◌∙◌, eqb-true, take_all, ltb-true, ltb-false, leb-false}
 use Rattle.std.proofs.lemmas.Grind.{take_at_read}
 use Rattle.arrayvec.specs.ArrayVec.{ArrayVec}
 use Rattle.ctrie_base.specs.Paths.{position_of}
-use Rattle.ctrie_base.specs.Hashes.{hash_of}
 use Rattle.history.specs.declared.calls.Access.{Access}
 use Rattle.history.specs.declared.calls.Access.TheVariants.{Writable, ReadOnly}
 use Rattle.history.specs.declared.calls.Call.{Call}
@@ -24,7 +23,6 @@ use Rattle.machine_model.specs.declared.finding.KeyLine.{KeyLine}
 use Rattle.machine_model.specs.declared.finding.KeyLine.TheVariants as key
 use Rattle.machine_model.specs.declared.finding.WhenFound.{WhenFound}
 use Rattle.machine_model.specs.declared.finding.WhenFound.TheVariants.{Answers, Sets, Removes}
-use Rattle.machine_model.specs.declared.lines.Line.{Line}
 use Rattle.machine_model.specs.declared.lines.Line.TheVariants as line
 use Rattle.history.specs.declared.replies.Reply.TheVariants as reply
 use Rattle.machine_model.specs.declared.repairs.CleanLine.TheVariants as clean
@@ -36,7 +34,7 @@ use Rattle.machine_model.specs.Paths.{depth_of, is_below_root, above, current}
 use Rattle.machine_model.specs.Reading.{read_step, reading}
 use Rattle.machine_model.specs.Renewing.{renew_next}
 use Rattle.machine_model.specs.Finding.{going_down, absent, absent_beside, absent_listed, removing, found_so, found, key_after_read, after_tomb, key_after_main, is_passable, key_after_entry, after_listed, after_sibling, key_after}
-use Rattle.node_contents.specs.Looking.{Absent, look_at, look_among, or_else}
+use Rattle.node_contents.specs.Looking.{Absent, look_among, or_else}
 use Rattle.node_contents.proofs.Branches.{differ}
 use Rattle.node_contents.proofs.Changes.{look-other}
 use Rattle.node_contents.proofs.ListChanges.{look_among-append}
@@ -115,6 +113,7 @@ module _ (state : State) (operation : Operation) (node : Ref → Node) (first : 
             let es_is : es ≡ es' = cc in
             (b', es', f, single, ap (λ (l : ArrayVec Ref). length l.items) (sym es_is) ∙ eqb-true (length es.items) 2 (second_true (is_below_root p) (length es.items == 2) both), removes)
         by_presence both (in_list ss is' lt single) = absurd (let bad : Branch b es ≡ Listed ss = sym is ∙ is' in cc)
+
         by_test : (t : Bool) → (is_below_root p && (length es.items == 2)) ≡ t →
             KnowsLine known Call' (cond t (line.Key (key.Sibling p main position v)) (line.Build (build.Main p main (change.Remove position) (Some v))))
         by_test true e = by_presence e presence
@@ -127,6 +126,7 @@ module _ (state : State) (operation : Operation) (node : Ref → Node) (first : 
             let same : Listed ss ≡ Listed ss' = sym is ∙ is' in
             let ss_is : ss ≡ ss' = cc in
             of_list position ss' is' lt single (ap (λ (l : ArrayVec Ref). length l.items) (sym ss_is) ∙ two) (entry_is (Listed ss') (1 - position) is')
+
         by_test : (t : Bool) → (length ss.items == 2) ≡ t →
             KnowsLine known Call' (cond t (line.Build (build.Main p main (change.Entomb (entry_at state.heap main (1 - position))) (Some v))) (line.Build (build.Main p main (change.Remove position) (Some v))))
         by_test true e = (v, refl, removes, by_presence (eqb-true (length ss.items) 2 e) presence)
@@ -157,6 +157,7 @@ module _ (state : State) (operation : Operation) (node : Ref → Node) (first : 
         by_root : (t : Bool) → KnowsLine known Call' (cond t (line.Clean (clean.Read (above p) (reading (current (above p))))) line.Impossible)
         by_root true = tt
         by_root false = tt
+
         by_access : (a : Access) → operation.access ≡ a → KnowsLine known Call' (after_tomb a p main)
         by_access Writable e = by_root (is_below_root p)
         by_access ReadOnly e = inr (s, is, refl, gets e)
@@ -171,6 +172,7 @@ module _ (state : State) (operation : Operation) (node : Ref → Node) (first : 
         by_more : (t : Bool) → KnowsLine known Call' (cond t (line.Renew (renew.Entry p main [])) (line.Renew (renew.Branch p main [])))
         by_more true = tt
         by_more false = tt
+
         by_test : (t : Bool) → KnowsLine known Call' (cond t (going_down p (entry_at state.heap main position)) (renew_next state p main []))
         by_test true = tt
         by_test false = by_more (nat_lt 0 (length (entries_of (node_at state.heap main))))
@@ -178,6 +180,7 @@ module _ (state : State) (operation : Operation) (node : Ref → Node) (first : 
       where
         known_single : node (slice_index_or es.items position no_ref) ≡ Single k v
         known_single = single_known (Branch b es) position k v seen f.is e
+
         by_test : (t : Bool) → (k == Key') ≡ t → KnowsLine known Call' (cond t (found state operation p main position v) (absent_beside operation p main position))
         by_test true same = found_knows position v (in_branch b es f (known_single ∙ ap (λ n. Single n v) (eqb-true k Key' same)))
         by_test false apart = beside_knows position (record { bitmap = b; entries = es; branch = f; other = k; own = v; is = known_single; apart = differ k Key' apart })
@@ -192,13 +195,16 @@ module _ (state : State) (operation : Operation) (node : Ref → Node) (first : 
       where
         known_single : node (slice_index_or ss.items position no_ref) ≡ Single k v
         known_single = single_known (Listed ss) position k v seen go.is e
+
         count : length (entries_of (node_at state.heap main)) ≡ length ss.items
         count = ap (λ n. length (entries_of n)) (sees.main_is ∙ go.is)
+
         none_more : k ≢ Key' → look_among node Key' (take (position + 1) ss.items) ≡ Absent
         none_more apart =
             ap (look_among node Key') (take_at_read ss.items position no_ref go.within).1
             ∙ look_among-append node Key' (take position ss.items) (slice_index_or ss.items position no_ref ∷ [])
             ∙ ap₂ or_else go.none (ap (λ f. or_else f Absent) (look-other node Key' k v (slice_index_or ss.items position no_ref) known_single (λ same. apart (sym same))))
+
         by_room : k ≢ Key' → nat_lt (position + 1) (length ss.items) ≡ false → (t : Bool) → (inserts operation.call && nat_le 32 (length ss.items)) ≡ t →
             KnowsLine known Call' (cond t (line.End reply.Crowded) (absent operation p main))
         by_room apart past true full = tt
@@ -206,15 +212,20 @@ module _ (state : State) (operation : Operation) (node : Ref → Node) (first : 
           where
             all : take (position + 1) ss.items ≡ ss.items
             all = take_all (position + 1) ss.items (ltb-false (position + 1) (length ss.items) past)
+
             by_insert : (b : Bool) → inserts operation.call ≡ b → KnowsLine known Call' (cond b (line.Build (build.Single p main site.Absent None)) (line.End (absent_reply operation.call)))
-            by_insert true ins =
-                ((refl, ins), not_listed ss go.is (leb-false 32 (length ss.items) (not_full (inserts operation.call) (nat_le 32 (length ss.items)) ins full))
-                (ap (look_among node Key') (sym all) ∙ none_more apart))
+            by_insert true ins = (
+              (refl, ins),
+              not_listed ss go.is (leb-false 32 (length ss.items) (not_full (inserts operation.call) (nat_le 32 (length ss.items)) ins full))
+                  (ap (look_among node Key') (sym all) ∙ none_more apart),
+            )
             by_insert false ins = tt
+
         by_more : k ≢ Key' → (t : Bool) → nat_lt (position + 1) (length ss.items) ≡ t →
             KnowsLine known Call' (cond t (line.Key (key.Listed p main (position + 1))) (absent_listed operation p main (length ss.items)))
         by_more apart true more = inl (ss, record { is = go.is; within = ltb-true (position + 1) (length ss.items) more; none = none_more apart })
         by_more apart false past = by_room apart past (inserts operation.call && nat_le 32 (length ss.items)) refl
+
         by_test : (t : Bool) → (k == Key') ≡ t → KnowsLine known Call' (cond t (found state operation p main position v)
             (cond (nat_lt (position + 1) (length (entries_of (node_at state.heap main)))) (line.Key (key.Listed p main (position + 1))) (absent_listed operation p main (length (entries_of (node_at state.heap main))))))
         by_test true same = found_knows position v (in_list ss go.is go.within (known_single ∙ ap (λ n. Single n v) (eqb-true k Key' same)))
@@ -232,15 +243,19 @@ module _ (state : State) (operation : Operation) (node : Ref → Node) (first : 
       where
         answers : (when_found operation.call v ≢ Sets) × (when_found operation.call v ≢ Removes) × (inserts operation.call ≡ false)
         answers = get_answers operation.call v get
+
         count : length (entries_of (node_at state.heap main)) ≡ 1
         count = ap (λ n. length (entries_of n)) (sees.main_is ∙ is)
+
         by_case : (w : WhenFound) → when_found operation.call v ≡ w → KnowsLine known Call' (found_so state p main position v w)
         by_case (Answers answer) e = tt
         by_case Sets e = absurd (answers.0 e)
         by_case Removes e = absurd (answers.1 e)
+
         by_absent : (b : Bool) → b ≡ false → KnowsLine known Call' (cond (b && nat_le 32 1) (line.End reply.Crowded) (cond b (line.Build (build.Single p main site.Absent None)) (line.End (absent_reply operation.call))))
         by_absent true e = absurd (let bad : true ≡ false = e in cc)
         by_absent false e = tt
+
         by_test : (t : Bool) → KnowsLine known Call' (cond t (found state operation p main position v)
             (cond (nat_lt (position + 1) (length (entries_of (node_at state.heap main)))) (line.Key (key.Listed p main (position + 1))) (absent_listed operation p main (length (entries_of (node_at state.heap main))))))
         by_test true = by_case (when_found operation.call v) refl

@@ -1,23 +1,22 @@
 -- What a line knows of its change makes an own update.
-use Rattle.std.proofs.Common.{◌≡◌, ◌≢◌, ℕ, zero, suc, ◌+◌, ◌-◌, ◌<◌, ◌≤◌, Bool, true, false, List, length, slice_index_or, Option, Some, None, ◌⊎◌, inl, inr, refl, sym, ap, ap₂, subst, ◌∙◌, arith}
-use Rattle.arrayvec.specs.ArrayVec.{ArrayVec}
+use Rattle.std.proofs.Common.{◌≡◌, ℕ, suc, ◌-◌, ◌≤◌, slice_index_or, Option, Some, None, inl, inr, refl, sym, ap, subst, ◌∙◌, arith}
 use Rattle.ctrie_base.specs.Hashes.{hash_of}
 use Rattle.ctrie_base.specs.Paths.{position_of}
 use Rattle.history.specs.declared.calls.Call.{Call}
 use Rattle.slot_arena.specs.declared.refs.Ref.{Ref}
 use Rattle.slot_arena.specs.declared.nodes.Node.{Node}
-use Rattle.slot_arena.specs.declared.nodes.Node.TheVariants.{Indirection, Branch, Single, Tomb, List as Listed}
+use Rattle.slot_arena.specs.declared.nodes.Node.TheVariants.{Branch, Single, Tomb, List as Listed}
 use Rattle.slot_arena.specs.Heaps.{no_ref}
-use Rattle.nodes.specs.Levels.{flag_of, has_flag}
+use Rattle.nodes.specs.Levels.{flag_of}
 use Rattle.nodes.specs.Builders.{updated}
 use Rattle.node_contents.specs.Chains.{LeadsToPair, at_pair, by_rung}
 use Rattle.machine_model.specs.declared.building.Change.{Change}
 use Rattle.machine_model.specs.declared.building.Change.TheVariants as change
 use Rattle.machine_model.specs.Calls.{key_of, value_of}
 use Rattle.machine_model.specs.Building.{changed}
-use Rattle.content_laws.specs.Tries.{Trie, assigned, most_levels}
+use Rattle.content_laws.specs.Tries.{Trie, assigned}
 use Rattle.content_laws.specs.Steps.{IsOwnUpdate, branch_inserts, branch_updates, branch_removes, branch_entombs, goes_beside, list_inserts, list_updates, list_removes, list_entombs, Asks, to_insert, to_set, to_remove}
-use Rattle.content_laws.specs.Knowing.{Known, flag_in, IsFlagged, Absence, no_flag, not_listed, Presence, in_branch, in_list, Neighbour, IsOther, of_branch, of_list, KnowsChange, KnowsSwap, LeadsToBoth}
+use Rattle.content_laws.specs.Knowing.{Known, Absence, no_flag, not_listed, Presence, in_branch, in_list, Neighbour, IsOther, of_branch, of_list, KnowsChange, KnowsSwap, LeadsToBoth}
 
 -- a chain is the same where its indirections have the same main nodes
 pub chain_moves : (trie : Trie) (A B : Ref → Ref) (former key : ℕ) (old single : Ref) (levels depth : ℕ) (i : Ref) → ((j : Ref) → A j ≡ B j) →
@@ -49,8 +48,10 @@ module _ (trie : Trie) (g t : ℕ) (i : Ref) (first : Ref → Ref) where
     where
       flag : ℕ
       flag = flag_of (hash_of trie.kind (key_of call)) (trie.depth i)
+
       built : (c : Change) (n : Node) → trie.node replaced ≡ n → trie.node fresh ≡ changed flag (trie.node replaced) c → trie.node fresh ≡ changed flag n c
       built c n is e = e ∙ ap (λ m. changed flag m c) is
+
       absent : (single : Ref) → former ≡ None → Asks call None (Some (value_of call)) → Absence (known_in trie first) (trie.depth i) (key_of call) replaced →
           trie.node single ≡ Single (key_of call) (value_of call) → trie.node fresh ≡ changed flag (trie.node replaced) (change.Insert single) → MakesUpdate call former (trie.node replaced) (trie.node fresh)
       absent single none asks (no_flag bitmap entries is lacks) new e =
@@ -59,6 +60,7 @@ module _ (trie : Trie) (g t : ℕ) (i : Ref) (first : Ref → Ref) where
       absent single none asks (not_listed singles is room lacks) new e =
           subst (λ f. MakesUpdate call f (trie.node replaced) (trie.node fresh)) (sym none)
           (record { now = Some (value_of call); asks = asks; updates = list_inserts (value_of call) singles single is room lacks new (built (change.Insert single) (Listed singles) is e) })
+
       present : (position value : ℕ) (entry : Ref) → former ≡ Some value → Asks call (Some value) (Some (value_of call)) → Presence (known_in trie first) (trie.depth i) (key_of call) replaced position value →
           trie.node entry ≡ Single (key_of call) (value_of call) → trie.node fresh ≡ changed flag (trie.node replaced) (change.Update position entry) →
           MakesUpdate call former (trie.node replaced) (trie.node fresh)
@@ -75,6 +77,7 @@ module _ (trie : Trie) (g t : ℕ) (i : Ref) (first : Ref → Ref) where
             asks = asks;
             updates = list_updates position value (value_of call) singles entry is lt single new (built (change.Update position entry) (Listed singles) is e);
           })
+
       gone : (position value : ℕ) → former ≡ Some value → Asks call (Some value) None → Presence (known_in trie first) (trie.depth i) (key_of call) replaced position value →
           trie.node fresh ≡ changed flag (trie.node replaced) (change.Remove position) → MakesUpdate call former (trie.node replaced) (trie.node fresh)
       gone position value had asks (in_branch bitmap entries f single) e =
@@ -90,6 +93,7 @@ module _ (trie : Trie) (g t : ℕ) (i : Ref) (first : Ref → Ref) where
             asks = asks;
             updates = list_removes position value singles is lt single (built (change.Remove position) (Listed singles) is e);
           })
+
       entombed : (value : ℕ) (other : Ref) → former ≡ Some value → Asks call (Some value) None → IsOther (known_in trie first) (trie.depth i) (key_of call) replaced other value →
           trie.node fresh ≡ changed flag (trie.node replaced) (change.Entomb other) → MakesUpdate call former (trie.node replaced) (trie.node fresh)
       entombed value other had asks (of_branch bitmap position own own_value entries f single two is left) e =
@@ -106,6 +110,7 @@ module _ (trie : Trie) (g t : ℕ) (i : Ref) (first : Ref → Ref) where
             asks = asks;
             updates = list_entombs position value singles is two lt single (built (change.Entomb other) (Listed singles) is e ∙ ap Tomb there);
           })
+
       besides : (position : ℕ) (link : Ref) → c ≡ change.Update position link → former ≡ None → Asks call None (Some (value_of call)) → (beside : Neighbour (known_in trie first) (trie.depth i) (key_of call) replaced position) →
           (single : Ref) → trie.node single ≡ Single (key_of call) (value_of call) → LeadsToBoth (known_in trie first) call (trie.depth i) replaced position beside single (suc (trie.depth i)) link →
           trie.node fresh ≡ changed flag (trie.node replaced) (change.Update position link) → MakesUpdate call former (trie.node replaced) (trie.node fresh)
@@ -119,6 +124,7 @@ module _ (trie : Trie) (g t : ℕ) (i : Ref) (first : Ref → Ref) where
                 beside.branch.at (chains position link is_change none beside.other (key_of call) (slice_index_or beside.entries.items position no_ref) single (15 - suc (trie.depth i)) (suc (trie.depth i)) chain))
                 (built (change.Update position link) (Branch beside.bitmap beside.entries) beside.branch.is e ∙ ap (λ p. updated beside.bitmap beside.entries.items p link) beside.branch.at);
           })
+
       by_change : (d : Change) → c ≡ d → KnowsChange (known_in trie first) call (trie.depth i) replaced former d → trie.node fresh ≡ changed flag (trie.node replaced) d →
           MakesUpdate call former (trie.node replaced) (trie.node fresh)
       by_change (change.Insert single) is_change ((none, ins), absence, new) e = absent single none (to_insert ins) absence new e

@@ -1,5 +1,5 @@
 -- Each line of RENEW and CLEAN hands on what it knows of the entries that are done.
-use Rattle.std.proofs.Common.{◌≡◌, ◌≢◌, ℕ, zero, suc, ◌+◌, ◌-◌, ◌<◌, ◌≤◌, ◌==◌, ◌&&◌, nat_lt, nat_eq, Bool, true, false, cond, List, [], ◌∷◌, ◌++◌, length, slice_index_or, Option, Some, None, refl, sym, ap, ap₂, subst, subst₂, ◌∙◌, arith, eqb-true, eq-eqb, ltb-true, ltb-false, length-append}
+use Rattle.std.proofs.Common.{◌≡◌, ◌≢◌, ℕ, ◌<◌, ◌≤◌, ◌&&◌, nat_lt, nat_eq, Bool, true, false, cond, List, [], ◌∷◌, ◌++◌, length, slice_index_or, Some, refl, sym, ap, subst, subst₂, ◌∙◌, arith, eq-eqb, ltb-true, ltb-false, length-append}
 use Rattle.std.specs.Option.{option_eq}
 use Rattle.std.proofs.lemmas.List.{get_or_append_left}
 use Rattle.std.proofs.Math.Seq.{get_or-append_seam}
@@ -8,17 +8,14 @@ use Rattle.arrayvec.specs.ArrayVec.{ArrayVec}
 use Rattle.slot_arena.specs.declared.refs.Ref.{Ref}
 use Rattle.slot_arena.specs.declared.nodes.Node.{Node}
 use Rattle.slot_arena.specs.declared.nodes.Node.TheVariants.{Indirection, Branch, Single, Tomb, List as Listed}
-use Rattle.slot_arena.specs.Heaps.{node_at, entry_at, entries_of, bitmap_of, no_ref}
+use Rattle.slot_arena.specs.Heaps.{node_at, entries_of, bitmap_of, no_ref}
 use Rattle.nodes.specs.Builders.{renewed, contracted}
 use Rattle.machine_model.specs.declared.operations.Operation.{Operation}
 use Rattle.machine_model.specs.declared.reading.After.{After}
 use Rattle.machine_model.specs.declared.reading.After.TheVariants.{Goes, Gives}
 use Rattle.machine_model.specs.declared.reading.Read.{Read}
-use Rattle.machine_model.specs.declared.repairs.RenewLine.{RenewLine}
 use Rattle.machine_model.specs.declared.repairs.RenewLine.TheVariants as renew
-use Rattle.machine_model.specs.declared.repairs.CleanLine.{CleanLine}
 use Rattle.machine_model.specs.declared.repairs.CleanLine.TheVariants as clean
-use Rattle.machine_model.specs.declared.lines.Purpose.TheVariants as purpose
 use Rattle.machine_model.specs.declared.lines.Line.{Line}
 use Rattle.machine_model.specs.declared.lines.Line.TheVariants as line
 use Rattle.machine_model.specs.States.{State, word_at}
@@ -29,10 +26,9 @@ use Rattle.machine_model.specs.Reading.{read_step, reading, read_after, at_indir
 use Rattle.machine_model.specs.Renewing.{renew_next, next_entry, branch_of, renew_after_entry, renew_after_read}
 use Rattle.machine_model.specs.Cleaning.{clean_next, cleaned, leaves_single, clean_after_main, clean_after_entry, after_child, clean_after_tomb}
 use Rattle.machine_model.specs.Lines.{new_try}
-use Rattle.node_contents.proofs.Branches.{differ}
 use Rattle.content_laws.specs.Tries.{Trie}
 use Rattle.content_laws.specs.Steps.{Stays, kept, IsRepair, IsTrie}
-use Rattle.content_laws.specs.Repairing.{IsDone, keeps, renews, cleans, AreDone, AllDone, SomeDone, IsLink, IsOlder, KnowsRenew, KnowsClean, IsRepaired, KnowsRepair}
+use Rattle.content_laws.specs.Repairing.{IsDone, keeps, renews, cleans, AreDone, AllDone, SomeDone, KnowsRenew, KnowsClean, IsRepaired, KnowsRepair}
 use Rattle.content_laws.proofs.Done.{cleaned_entry, renewed_entry, contracted_repairs}
 
 module _ (state : State) (operation : Operation) (node : Ref → Node) (first : Ref → Ref) (Gave : Ref → Ref → Type 0) (start : ℕ) where
@@ -79,6 +75,7 @@ module _ (state : State) (operation : Operation) (node : Ref → Node) (first : 
           by_change : (b : Bool) → AllDone node first Gave start main done → Knows (cond b new_try (line.Clean (clean.Contracted p main done)))
           by_change true all = tt
           by_change false all = all
+
           by_test : (b : Bool) → nat_lt (length done) (length (entries_of (node_at state.heap main))) ≡ b →
               Knows (cond b (line.Clean (clean.Entry p main done)) (cond (pointwise nat_eq done (entries_of (node_at state.heap main))) new_try (line.Clean (clean.Contracted p main done))))
           by_test true e = some_left e
@@ -183,9 +180,17 @@ module _ (state : State) (operation : Operation) (node : Ref → Node) (first : 
           (done, bitmap, entries, are, all, (false, made_is ∙ ap (λ n. renewed (bitmap_of n) done) (main_is ∙ are.is)))
 
       pub clean_contracted_knows : (made : Ref) → KnowsClean node first Gave start (clean.Contracted p main done) → node made ≡ cleaned state p main done → IsRepaired node first Gave start main made
-      clean_contracted_knows made (bitmap, entries, are, all) made_is =
-          (done, bitmap, entries, are, all, (is_below_root p && leaves_single state done,
-          made_is ∙ ap (λ n. contracted (is_below_root p && leaves_single state done) (bitmap_of n) done) (main_is ∙ are.is)))
+      clean_contracted_knows made (bitmap, entries, are, all) made_is = (
+        done,
+        bitmap,
+        entries,
+        are,
+        all,
+        (
+          is_below_root p && leaves_single state done,
+          made_is ∙ ap (λ n. contracted (is_below_root p && leaves_single state done) (bitmap_of n) done) (main_is ∙ are.is),
+        ),
+      )
 
 -- a READ goes on with the same indirection
 pub read_stays : (state : State) (operation : Operation) (read r : Read) → read_step state operation read ≡ Goes r → r.indirection ≡ read.indirection

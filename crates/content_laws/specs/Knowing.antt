@@ -1,6 +1,6 @@
 -- What an operation's line knows of the nodes that it has looked at and made, where it goes down to a key or builds a change of
 -- it. What stands under each reference is a function, and so is the main node with which each indirection was made.
-use Rattle.std.specs.Prelude.{◌≡◌, ◌≢◌, ℕ, suc, ◌+◌, ◌-◌, ◌<◌, ◌≤◌, ◌⊎◌, true, false, List, length, take, slice_index_or, Option, Some, None}
+use Rattle.std.specs.Prelude.{◌≡◌, ◌≢◌, ℕ, suc, ◌+◌, ◌-◌, ◌<◌, ◌≤◌, ◌⊎◌, true, false, length, take, slice_index_or, Option, Some, None}
 use Rattle.arrayvec.specs.ArrayVec.{ArrayVec}
 use Rattle.ctrie_base.specs.Paths.{position_of}
 use Rattle.ctrie_base.specs.Hashes.{hash_of}
@@ -157,14 +157,14 @@ abbrev pub KnowsBuild : Known → Call → BuildLine → Type 0
 KnowsBuild known call (build.Single path main site former) = KnowsSite known call (depth_of path) main former site
 KnowsBuild known call (build.Pair path main position single depth) =
     Inserts call None × ((beside : Neighbour known (depth_of path) (key_of call) main position) × IsNewSingle known call single
-      × (depth ≡ parting (list_depth known.kind - (depth_of path + 1)) (hash_of known.kind beside.other) (hash_of known.kind (key_of call)) (depth_of path + 1)))
+    × (depth ≡ parting (list_depth known.kind - (depth_of path + 1)) (hash_of known.kind beside.other) (hash_of known.kind (key_of call)) (depth_of path + 1)))
 KnowsBuild known call (build.Link path main position below depth) =
     Inserts call None × ((beside : Neighbour known (depth_of path) (key_of call) main position) × (single : Ref) × IsNewSingle known call single
-      × LeadsBelow known call (depth_of path) main position beside single depth below)
+    × LeadsBelow known call (depth_of path) main position beside single depth below)
 KnowsBuild known call (build.Rung path main position below depth) =
     Inserts call None × ((beside : Neighbour known (depth_of path) (key_of call) main position) × (single : Ref) × IsNewSingle known call single
-      × LeadsToBoth known call (depth_of path) main position beside single (suc depth) below × (depth_of path < depth)
-      × IsAlike known call (depth_of path) main position beside depth)
+    × LeadsToBoth known call (depth_of path) main position beside single (suc depth) below × (depth_of path < depth)
+    × IsAlike known call (depth_of path) main position beside depth)
 KnowsBuild known call (build.Main path main c former) = KnowsChange known call (depth_of path) main former c
 
 -- of lines of KEY, BUILD and the swap of a change

@@ -5,7 +5,7 @@ use Rattle.slot_arena.specs.declared.refs.Ref.{Ref}
 use Rattle.slot_arena.specs.declared.nodes.Node.{Node}
 use Rattle.slot_arena.specs.declared.nodes.Node.TheVariants.{Indirection, Branch, Tomb}
 use Rattle.slot_arena.specs.Heaps.{no_ref}
-use Rattle.nodes.specs.Builders.{renewed, contracted}
+use Rattle.nodes.specs.Builders.{contracted}
 use Rattle.machine_model.specs.declared.repairs.RenewLine.{RenewLine}
 use Rattle.machine_model.specs.declared.repairs.RenewLine.TheVariants as renew
 use Rattle.machine_model.specs.declared.repairs.CleanLine.{CleanLine}
