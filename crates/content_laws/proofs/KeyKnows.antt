@@ -49,7 +49,7 @@ not_full true b is e = e
 not_full false b is e = absurd (let bad : false ≡ true = is in cc)
 
 -- a get sets and removes nothing, and inserts nothing
-get_answers : (call : Call) (v : ℕ) → IsGet call → (when_found call v ≢ Sets) × (when_found call v ≢ Removes) × (inserts call ≡ false)
+pub get_answers : (call : Call) (v : ℕ) → IsGet call → (when_found call v ≢ Sets) × (when_found call v ≢ Removes) × (inserts call ≡ false)
 get_answers (Get h k) v is = ((λ e. cc), (λ e. cc), refl)
 get_answers call v is = absurd is
 

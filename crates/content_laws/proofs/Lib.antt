@@ -28,3 +28,5 @@ pub mod Knowing
 pub mod KeyKnows
 pub mod BuildKnows
 pub mod RepairKnows
+pub mod KeyEnds
+pub mod Answers
