@@ -30,3 +30,4 @@ pub mod BuildKnows
 pub mod RepairKnows
 pub mod KeyEnds
 pub mod Answers
+pub mod WalkKnows
