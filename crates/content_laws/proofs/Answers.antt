@@ -1,14 +1,12 @@
 -- What KEY answers without a change is right: of the content at a moment on a writable handle, of that of the end on a read-only one.
-use Rattle.std.proofs.Common.{◌≡◌, ◌≢◌, ℕ, ◌^◌, ◌<◌, ◌≤◌, true, false, length, Option, Some, None, refl, sym, ap, ap₂, ◌∙◌, arith}
-use Rattle.arrayvec.specs.ArrayVec.{ArrayVec}
+use Rattle.std.proofs.Common.{◌≡◌, ◌≢◌, ℕ, ◌^◌, ◌<◌, true, false, Option, Some, None, refl, sym, ap, ap₂, ◌∙◌, arith}
 use Rattle.ctrie_base.specs.Hashes.{hash_of}
 use Rattle.history.specs.declared.calls.Access.TheVariants.{Writable, ReadOnly}
 use Rattle.history.specs.declared.calls.Call.{Call}
 use Rattle.history.specs.declared.calls.Call.TheVariants.{Get}
-use Rattle.history.specs.declared.replies.Reply.{Reply}
 use Rattle.history.specs.declared.replies.Reply.TheVariants as reply
 use Rattle.slot_arena.specs.declared.refs.Ref.{Ref}
-use Rattle.slot_arena.specs.declared.nodes.Node.TheVariants.{Tomb, List as Listed}
+use Rattle.slot_arena.specs.declared.nodes.Node.TheVariants.{Tomb}
 use Rattle.machine_model.specs.declared.operations.Operation.{Operation}
 use Rattle.machine_model.specs.declared.finding.WhenFound.TheVariants.{Answers}
 use Rattle.machine_model.specs.Calls.{key_of, inserts, absent_reply, when_found}
@@ -48,6 +46,7 @@ module _ (trie : Trie) (ok : IsTrie trie) (state : State) (operation : Operation
     where
       in_end : (found : Found) → look trie.node (hash_of state.limits.hash) depth (key_of operation.call) (trie.node main) ≡ found → says trie trie.last (key_of operation.call) (trie.depth i) i ≡ found
       in_end found e = ap (λ m. look trie.node (hash_of trie.kind) (trie.depth i) (key_of operation.call) (trie.node m)) final ∙ said found e
+
       by_call : (call : Call) → operation.call ≡ call → IsGet call →
           Answering state operation trie.node first (λ answer. act_in (hash_of trie.kind) ReadOnly operation.call (content trie g trie.last) ≡ Some (answer, content trie g trie.last)) depth main
       by_call (Get h k) is get = record {

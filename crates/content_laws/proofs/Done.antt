@@ -1,5 +1,5 @@
 -- What RENEW, CLEAN and CLIMB have done to a branch's entries makes a repair.
-use Rattle.std.proofs.Common.{◌≡◌, ◌≢◌, ℕ, ◌<◌, ◌≤◌, ◌==◌, Bool, true, false, cond, List, [], ◌∷◌, length, set, slice_index_or, slice_set, refl, sym, ap, subst₂, ◌∙◌, arith, length-set, eqb-true}
+use Rattle.std.proofs.Common.{subst, ◌≡◌, ◌≢◌, ℕ, ◌<◌, ◌≤◌, ◌==◌, Bool, true, false, cond, List, [], ◌∷◌, length, set, slice_index_or, slice_set, refl, sym, ap, subst₂, ◌∙◌, arith, length-set, eqb-true}
 use Rattle.std.proofs.lemmas.List.{get_or-set_same, get_or-set_other}
 use Rattle.arrayvec.specs.ArrayVec.{ArrayVec}
 use Rattle.slot_arena.specs.declared.refs.Ref.{Ref}

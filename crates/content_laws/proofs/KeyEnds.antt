@@ -1,5 +1,5 @@
 -- Where KEY ends without a change it answers what the main node says of its key.
-use Rattle.std.proofs.Common.{◌≡◌, ◌≢◌, ℕ, zero, suc, ◌+◌, ◌-◌, ◌<◌, ◌≤◌, ◌==◌, ◌&&◌, nat_lt, nat_le, Bool, true, false, cond, List, [], ◌∷◌, ◌++◌, length, take, drop, slice_index_or, Option, Some, None, ◌⊎◌, inl, inr, refl, sym, ap, ap₂, subst, ◌∙◌, arith, eqb-true, take_all, ltb-true, ltb-false, leb-true, take-append-drop}
+use Rattle.std.proofs.Common.{◌≡◌, ◌≢◌, ℕ, ◌+◌, ◌-◌, ◌≤◌, ◌==◌, ◌&&◌, nat_lt, nat_le, Bool, true, false, cond, List, [], ◌∷◌, length, take, drop, slice_index_or, Some, None, refl, sym, ap, ap₂, subst, ◌∙◌, eqb-true, take_all, ltb-false, leb-true, take-append-drop}
 use Rattle.std.proofs.lemmas.Grind.{take_at_read}
 use Rattle.arrayvec.specs.ArrayVec.{ArrayVec}
 use Rattle.ctrie_base.specs.Paths.{position_of}
@@ -17,7 +17,6 @@ use Rattle.machine_model.specs.declared.operations.Operation.{Operation}
 use Rattle.machine_model.specs.declared.building.Site.TheVariants as site
 use Rattle.machine_model.specs.declared.building.Change.TheVariants as change
 use Rattle.machine_model.specs.declared.building.BuildLine.TheVariants as build
-use Rattle.machine_model.specs.declared.finding.KeyLine.{KeyLine}
 use Rattle.machine_model.specs.declared.finding.KeyLine.TheVariants as key
 use Rattle.machine_model.specs.declared.finding.WhenFound.{WhenFound}
 use Rattle.machine_model.specs.declared.finding.WhenFound.TheVariants.{Answers, Sets, Removes}
@@ -109,6 +108,7 @@ module _ (state : State) (operation : Operation) (node : Ref → Node) (first : 
       where
         entry : Ref
         entry = slice_index_or es.items (position_of (path.flag_in state operation p) b) no_ref
+
         by_test : (t : Bool) → has_flag b (path.flag_in state operation p) ≡ t →
             EndsRight (cond t (line.Key (key.Entry p main (position_of (path.flag_in state operation p) b))) (absent operation p main))
         by_test true e = tt
@@ -119,6 +119,7 @@ module _ (state : State) (operation : Operation) (node : Ref → Node) (first : 
         by_root : (t : Bool) → EndsRight (cond t (line.Clean (clean.Read (above p) (reading (current (above p))))) line.Impossible)
         by_root true = tt
         by_root false = tt
+
         by_access : (access : Access) → EndsRight (after_tomb access p main)
         by_access Writable = by_root (is_below_root p)
         by_access ReadOnly = tt
@@ -133,6 +134,7 @@ module _ (state : State) (operation : Operation) (node : Ref → Node) (first : 
         by_more : (t : Bool) → EndsRight (cond t (line.Renew (renew.Entry p main [])) (line.Renew (renew.Branch p main [])))
         by_more true = tt
         by_more false = tt
+
         by_test : (t : Bool) → EndsRight (cond t (going_down p (entry_at state.heap main position)) (renew_next state p main []))
         by_test true = tt
         by_test false = by_more (nat_lt 0 (length (entries_of (node_at state.heap main))))
@@ -140,10 +142,13 @@ module _ (state : State) (operation : Operation) (node : Ref → Node) (first : 
       where
         entry : Ref
         entry = slice_index_or es.items (position_of (path.flag_in state operation p) b) no_ref
+
         single : node entry ≡ Single k v
         single = ap node (sym (entry_is (Branch b es) position f.is ∙ ap (λ n. slice_index_or es.items n no_ref) f.at)) ∙ seen k v e
+
         says_is : says ≡ look_at Key' entry (node entry)
         says_is = ap (look node (hash_of state.limits.hash) (depth_of p) Key') f.is ∙ ap (λ t. cond t (look_at Key' entry (node entry)) Absent) f.flagged
+
         by_test : (t : Bool) → (k == Key') ≡ t → EndsRight (cond t (found state operation p main position v) (absent_beside operation p main position))
         by_test true same = found_ends position v (says_is ∙ look-same node Key' v entry (single ∙ ap (λ n. Single n v) (eqb-true k Key' same)))
         by_test false apart = beside_ends position (says_is ∙ look-other node Key' k v entry single (λ same. differ k Key' apart (sym same)))
@@ -157,38 +162,48 @@ module _ (state : State) (operation : Operation) (node : Ref → Node) (first : 
       where
         here : Ref
         here = slice_index_or ss.items position no_ref
+
         single : node here ≡ Single k v
         single = ap node (sym (entry_is (Listed ss) position go.is)) ∙ seen k v e
+
         count : length (entries_of (node_at state.heap main)) ≡ length ss.items
         count = ap (λ n. length (entries_of n)) (sees.main_is ∙ go.is)
+
         upto : (f : Found) → look_at Key' here (node here) ≡ f → look_among node Key' (take (position + 1) ss.items) ≡ or_else f Absent
         upto f is =
             ap (look_among node Key') (take_at_read ss.items position no_ref go.within).1
             ∙ look_among-append node Key' (take position ss.items) (here ∷ []) ∙ ap₂ or_else go.none (ap (λ f. or_else f Absent) is)
+
         says_list : says ≡ look_among node Key' ss.items
         says_list = ap (look node (hash_of state.limits.hash) (depth_of p) Key') go.is
+
         has : k ≡ Key' → says ≡ Has v
         has same =
             says_list ∙ ap (look_among node Key') (sym (take-append-drop (position + 1) ss.items))
             ∙ look_among-append node Key' (take (position + 1) ss.items) (drop (position + 1) ss.items)
             ∙ ap (λ f. or_else f (look_among node Key' (drop (position + 1) ss.items))) (upto (Has v) (look-same node Key' v here (single ∙ ap (λ n. Single n v) same)))
+
         none : k ≢ Key' → nat_lt (position + 1) (length ss.items) ≡ false → look_among node Key' ss.items ≡ Absent
         none apart past =
             ap (look_among node Key') (sym (take_all (position + 1) ss.items (ltb-false (position + 1) (length ss.items) past)))
             ∙ upto Absent (look-other node Key' k v here single (λ same. apart (sym same)))
+
         both_true : (b c : Bool) → (b && c) ≡ true → (b ≡ true) × (c ≡ true)
         both_true true c e = (refl, e)
         both_true false c e = absurd (let bad : false ≡ true = e in cc)
+
         by_room : k ≢ Key' → nat_lt (position + 1) (length ss.items) ≡ false → (t : Bool) → (inserts operation.call && nat_le 32 (length ss.items)) ≡ t →
             EndsRight (cond t (line.End reply.Crowded) (absent operation p main))
         by_room apart past true full =
             let parts = both_true (inserts operation.call) (nat_le 32 (length ss.items)) full in
             a.where_crowded ss go.is (leb-true 32 (length ss.items) parts.1) (none apart past) parts.0
         by_room apart past false room = absent_ends (says_list ∙ none apart past)
+
         by_more : k ≢ Key' → (t : Bool) → nat_lt (position + 1) (length ss.items) ≡ t →
             EndsRight (cond t (line.Key (key.Listed p main (position + 1))) (absent_listed operation p main (length ss.items)))
         by_more apart true more = tt
         by_more apart false past = by_room apart past (inserts operation.call && nat_le 32 (length ss.items)) refl
+
         by_test : (t : Bool) → (k == Key') ≡ t → EndsRight (cond t (found state operation p main position v)
             (cond (nat_lt (position + 1) (length (entries_of (node_at state.heap main)))) (line.Key (key.Listed p main (position + 1))) (absent_listed operation p main (length (entries_of (node_at state.heap main))))))
         by_test true same = found_ends position v (has (eqb-true k Key' same))
@@ -207,15 +222,20 @@ module _ (state : State) (operation : Operation) (node : Ref → Node) (first : 
       where
         answers : (when_found operation.call v ≢ Sets) × (when_found operation.call v ≢ Removes) × (inserts operation.call ≡ false)
         answers = get_answers operation.call v get
+
         count : length (entries_of (node_at state.heap main)) ≡ 1
         count = ap (λ n. length (entries_of n)) (sees.main_is ∙ is)
+
         single : node s ≡ Single k v
         single = ap node (sym (entry_is (Tomb s) position is ∙ ap (λ n. slice_index_or (s ∷ []) n no_ref) at_first)) ∙ seen k v e
+
         says_is : says ≡ look_at Key' s (node s)
         says_is = ap (look node (hash_of state.limits.hash) (depth_of p) Key') is
+
         by_absent : k ≢ Key' → (b : Bool) → inserts operation.call ≡ b → EndsRight (cond (b && nat_le 32 1) (line.End reply.Crowded) (cond b (line.Build (build.Single p main site.Absent None)) (line.End (absent_reply operation.call))))
         by_absent apart true e = absurd (let bad : true ≡ false = sym e ∙ answers.2 in cc)
         by_absent apart false e = a.where_absent (says_is ∙ look-other node Key' k v s single (λ same. apart (sym same))) e
+
         by_test : (t : Bool) → (k == Key') ≡ t → EndsRight (cond t (found state operation p main position v)
             (cond (nat_lt (position + 1) (length (entries_of (node_at state.heap main)))) (line.Key (key.Listed p main (position + 1))) (absent_listed operation p main (length (entries_of (node_at state.heap main))))))
         by_test true same = found_ends position v (says_is ∙ look-same node Key' v s (single ∙ ap (λ n. Single n v) (eqb-true k Key' same)))
