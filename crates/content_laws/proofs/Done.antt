@@ -1,5 +1,5 @@
 -- What RENEW, CLEAN and CLIMB have done to a branch's entries makes a repair.
-use Rattle.std.proofs.Common.{◌≡◌, ◌≢◌, ℕ, ◌<◌, ◌≤◌, ◌==◌, Bool, true, false, cond, List, [], ◌∷◌, length, set, slice_index_or, slice_set, refl, sym, ap, subst₂, ◌∙◌, arith, length-set, eqb-true}
+use Rattle.std.proofs.Common.{subst, ◌≡◌, ◌≢◌, ℕ, ◌<◌, ◌≤◌, ◌==◌, Bool, true, false, cond, List, [], ◌∷◌, length, set, slice_index_or, slice_set, refl, sym, ap, subst₂, ◌∙◌, arith, length-set, eqb-true}
 use Rattle.std.proofs.lemmas.List.{get_or-set_same, get_or-set_other}
 use Rattle.arrayvec.specs.ArrayVec.{ArrayVec}
 use Rattle.slot_arena.specs.declared.refs.Ref.{Ref}
@@ -60,3 +60,11 @@ module _ (trie : Trie) (ok : IsTrie trie) (g t : ℕ) where
           subst₂ (λ e f. Stays trie g t e f) (ap (λ n. slice_index_or entries.items n no_ref) (sym at))
           (sym (ap (λ n. slice_index_or (set entries.items p single) n no_ref) at ∙ get_or-set_same entries.items p single no_ref (omega (arith, at, lt)))) stay
       by_place m lt false apart = kept (sym (get_or-set_other entries.items p m single no_ref (differ m p apart)))
+
+  -- CLIMB: the entry whose main node was once a tomb gives way to the tomb's single
+  pub climbs : (b : Bool) (bitmap p h u : ℕ) (entries : ArrayVec Ref) (below single main word : Ref) (old new : Node) → old ≡ Branch bitmap entries →
+      slice_index_or entries.items p no_ref ≡ below → trie.node below ≡ Indirection h word → u ≤ t → t ≤ trie.last → trie.main u below ≡ main → trie.node main ≡ Tomb single →
+      new ≡ contracted b bitmap (slice_set entries.items p single) → IsRepair trie g t old new
+  climbs b bitmap p h u entries below single main word old new o at is le lt given tomb n =
+      climbed_repairs b bitmap p entries single old new o n
+      (subst (λ e. Stays trie g t e single) (sym at) (cleaned_entry below single main word h u is le lt given tomb))

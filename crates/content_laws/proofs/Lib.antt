@@ -24,3 +24,10 @@ pub mod ListShaping
 pub mod HeapPairs
 pub mod Walks
 pub mod Started
+pub mod Knowing
+pub mod KeyKnows
+pub mod BuildKnows
+pub mod RepairKnows
+pub mod KeyEnds
+pub mod Answers
+pub mod WalkKnows

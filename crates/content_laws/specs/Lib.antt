@@ -7,3 +7,5 @@ pub mod Pairs
 pub mod Shapes
 pub mod InUse
 pub mod Grows
+pub mod Knowing
+pub mod Repairing

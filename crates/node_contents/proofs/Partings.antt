@@ -1,5 +1,5 @@
 -- Where the paths of two hashes part.
-use Rattle.std.proofs.Common.{◌≡◌, ◌≢◌, ℕ, zero, suc, ◌+◌, ◌-◌, ◌<◌, ◌≤◌, ◌==◌, Bool, true, false, cond, ◌⊎◌, inl, inr, ⊎_elim, refl, sym, ap, subst, ◌∙◌, arith, eqb-true}
+use Rattle.std.proofs.Common.{◌≡◌, ◌≢◌, ℕ, zero, suc, ◌+◌, ◌-◌, ◌<◌, ◌≤◌, ◌==◌, Bool, true, false, cond, ◌⊎◌, inl, inr, ⊎_elim, refl, sym, subst, ◌∙◌, arith, eqb-true}
 use Rattle.ctrie_base.specs.Hashes.{hash_of}
 use Rattle.ctrie_base.specs.declared.hashes.HashKind.{HashKind}
 use Rattle.nodes.specs.Levels.{list_depth, index_in, parting}
@@ -19,6 +19,7 @@ parting_is (suc left) a b depth = by_test (parting_is left a b (depth + 1)) (ind
   where
     next : ℕ
     next = parting left a b (depth + 1)
+
     by_test : IsParting left a b (depth + 1) next → (t : Bool) → (index_in a depth == index_in b depth) ≡ t → IsParting (suc left) a b depth (cond t next depth)
     by_test rest false e = record { from = omega arith; within = omega arith; alike = λ d le lt. absurd (omega arith); apart = inr (differ _ _ e) }
     by_test rest true e = record {
