@@ -19,6 +19,7 @@ pub mod LineKeeps
 pub mod LineReads
 pub mod LineTurns
 pub mod FirstWords
+pub mod EachLine
 pub mod RunWords
 pub mod Moments
 pub mod InHeap
@@ -26,4 +27,3 @@ pub mod FromHeap
 pub mod OtherLayers
 pub mod SwapLines
 pub mod Laws
-pub mod EachLine
