@@ -27,3 +27,4 @@ pub mod FromHeap
 pub mod OtherLayers
 pub mod SwapLines
 pub mod Laws
+pub mod FromMemory
