@@ -27,4 +27,3 @@ pub mod FromHeap
 pub mod OtherLayers
 pub mod SwapLines
 pub mod Laws
-pub mod FromMemory
