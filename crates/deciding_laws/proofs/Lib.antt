@@ -28,3 +28,4 @@ pub mod OtherLayers
 pub mod SwapLines
 pub mod SwapEnds
 pub mod Laws
+pub mod FromMemory
