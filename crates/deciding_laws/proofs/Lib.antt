@@ -28,4 +28,3 @@ pub mod OtherLayers
 pub mod SwapLines
 pub mod SwapEnds
 pub mod Laws
-pub mod FromMemory
