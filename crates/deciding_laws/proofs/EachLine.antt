@@ -1,6 +1,6 @@
 -- What each running operation's line remembers, along a run: whatever is so of each main node that a READ of the operation gave, and
 -- stays so, is so of those that its line remembers. This needs nothing of memory.
-use Rattle.std.proofs.Common.{◌≡◌, ℕ, zero, suc, ◌<◌, ◌≤◌, ◌⊎◌, Bool, true, false, cond, ◌==◌, Option, Some, None, inl, inr, refl, sym, ◌∙◌, ap, subst, arith}
+use Rattle.std.proofs.Common.{◌≡◌, ℕ, zero, suc, ◌<◌, ◌≤◌, ◌⊎◌, Bool, true, false, cond, ◌==◌, Option, Some, None, inl, inr, sym, ◌∙◌, ap, subst, arith}
 use Rattle.std.proofs.lemmas.Bool.{cases_eq}
 use Rattle.history.specs.declared.calls.Access.TheVariants.{Writable}
 use Rattle.history.specs.declared.calls.Call.{Call}
@@ -61,7 +61,8 @@ of_begun G state call x (inr e) = subst (λ y. OfActor G y) (sym e) (at_first _ 
 module _ (limits : Limits) (states : ℕ → State) (last : ℕ) (run : IsRun limits states last) (G : ℕ → ℕ → ℕ → Ref → Ref → Type 0)
     (more : (t k id : ℕ) (i m : Ref) → G t k id i m → G (suc t) k id i m)
     (now : (t : ℕ) → t < last → (k : ℕ) (operation : Operation) (o : Outcome) → Machine.Moves (states t) (step.Go k) o (states (suc t)) →
-    operation_of (states t) k ≡ Some operation → (i : Ref) (x : ReadLine) (m : Ref) → stage_of operation.line ≡ Reads i x →
+    operation_of (states t) k ≡ Some operation → states (suc t) ≡ settled (states t) (gone (states t) k operation) → (i : Ref) (x : ReadLine) (m : Ref) →
+    stage_of operation.line ≡ Reads i x →
     read_after (states t).heap operation.access (word_at (states t) (handle_of operation.call)) i x ≡ Gives m → G (suc t) k operation.id i m) where
   abbrev At : ℕ → ℕ → Type 0
   At t k = OfActor (G t k) (operation_of (states t) k)
@@ -83,11 +84,11 @@ module _ (limits : Limits) (states : ℕ → State) (last : ℕ) (run : IsRun li
       (begin_own (states t) actor call (begun_operation (states t) call)))) k (cases_eq k actor)
   each_next t h so_far (IsGo actor operation o m is g e) k =
       let own : operation_of (states (suc t)) actor ≡ after_mark (marks_by (states t) (Some operation)) (Some (operation_after (states t) operation)) =
-          ap (λ (s : State). operation_of s actor) e ∙ go_own (states t) actor operation is in
+      ap (λ (s : State). operation_of s actor) e ∙ go_own (states t) actor operation is in
       let before : OfActor (G t actor) (Some operation) = subst (λ x. OfActor (G t actor) x) is (so_far actor) in
       let after : OfActor (G (suc t) actor) (Some (operation_after (states t) operation)) =
-          line_keeps (states t) operation (λ i x. G t actor operation.id i x) (λ i x. G (suc t) actor operation.id i x) (λ i x given. more t actor operation.id i x given)
-          operation.line (λ i x main on gives. now t h actor operation o m is i x main on gives) before in
+      line_keeps (states t) operation (λ i x. G t actor operation.id i x) (λ i x. G (suc t) actor operation.id i x) (λ i x given. more t actor operation.id i x given)
+      operation.line (λ i x main on gives. now t h actor operation o m is e i x main on gives) before in
       each_by t (marks_by (states t) (Some operation)) actor so_far
       (λ j apart. ap (λ (s : State). operation_of s j) e ∙ go_others (states t) actor operation (actor_counts (states t) actor operation is) j apart)
       (subst (λ x. OfActor (G (suc t) actor) x) (sym own) (of_mark (G (suc t) actor) (marks_by (states t) (Some operation)) (Some (operation_after (states t) operation)) after))

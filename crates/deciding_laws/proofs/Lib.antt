@@ -19,12 +19,13 @@ pub mod LineKeeps
 pub mod LineReads
 pub mod LineTurns
 pub mod FirstWords
+pub mod EachLine
 pub mod RunWords
 pub mod Moments
 pub mod InHeap
 pub mod FromHeap
 pub mod OtherLayers
 pub mod SwapLines
+pub mod SwapEnds
 pub mod Laws
 pub mod FromMemory
-pub mod EachLine

@@ -34,7 +34,7 @@ use Rattle.machine_model.specs.declared.lines.Line.{Line}
 use Rattle.machine_model.specs.declared.lines.Line.TheVariants as line
 use Rattle.machine_model.specs.States.{State}
 use Rattle.machine_model.specs.Reading.{read_action}
-use Rattle.machine_model.specs.Swapping.{complete_action_at, action_at}
+use Rattle.machine_model.specs.Swapping.{action_at}
 use Rattle.machine_model.specs.Operations.{line_action, read_of}
 use Rattle.machine_model.specs.Orders.{counted_from}
 use Rattle.deciding_laws.proofs.Words.{Stage, Rests, Reads, counts_at}

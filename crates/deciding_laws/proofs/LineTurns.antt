@@ -107,12 +107,17 @@ module _ (limits : Limits) (states : ℕ → State) (last : ℕ) (known : Known 
   ToldOpen = (r : Ref) → word ≡ Plain r → (c : ℕ) → known.closing (generation_at heap r) ≡ Some c → t ≤ c
 
   -- what is known of a step from this line
-  pub record LineStep (l : Line) : Type 0 where
+  pub record LineFacts (l : Line) : Type 0 where
     pub acts : ActsOn states t (line_action (states t) operation l)
     pub commits : (states (suc t)).commits ≡ commits_after (states t) (committed_in (states t) (read_of l))
     pub asks : (i m p : Ref) → read_of l ≡ Some (record { indirection = i; line = read.AskRoot m p }) → W → ToldOpen
     pub stage : w.stage t k ≡ stage_of l
     pub built : (main : Ref) → BuildsFrom l main → HasSolid (states t) main
+
+  -- and of what it remembers
+  pub record LineStep (l : Line) : Type 0 where
+    pub facts : LineFacts l
+    pub open facts use *
     pub remembers : Remembers G W l
 
   -- what a READ gave, and may be replaced
@@ -434,10 +439,11 @@ module _ (limits : Limits) (states : ℕ → State) (last : ℕ) (known : Known 
 
   -- ---- the READ of a line
 
-  pub own_turn : (l : Line) → LineStep l → (i : Ref) (x : ReadLine) → stage_of l ≡ Reads i x → ReadTurn w t i x (read_after heap operation.access word i x)
-  own_turn l s i x on =
-      let so : ReadsSo (states t) operation G W l (Reads i x) = on_stage (states t) operation G W l i x on in
-      own_read i x (subst (λ a. ActsOn states t a) so.0 s.acts) (s.commits ∙ ap (λ r. commits_after (states t) (committed_in (states t) r)) so.1) (so.2 s.remembers)
+  pub own_turn : (l : Line) → LineFacts l → (i : Ref) (x : ReadLine) → stage_of l ≡ Reads i x → (H : Ref → Ref → Type 0) → Remembers H W l →
+      ReadTurn w t i x (read_after heap operation.access word i x)
+  own_turn l s i x on H r =
+      let so : ReadsSo (states t) operation H W l (Reads i x) = on_stage (states t) operation H W l i x on in
+      own_read i x (subst (λ a. ActsOn states t a) so.0 s.acts) (s.commits ∙ ap (λ c. commits_after (states t) (committed_in (states t) c)) so.1) (so.2 r)
       (asks_of l i x so.1 s.asks)
 
   -- ---- all lines

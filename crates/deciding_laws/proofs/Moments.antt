@@ -29,9 +29,8 @@ use Rattle.deciding_laws.proofs.Stages.{stage_of, stage_of_actor, from_of_actor}
 use Rattle.deciding_laws.proofs.Known.{Known}
 use Rattle.deciding_laws.proofs.GrownWords.{words_of, commit_of}
 use Rattle.deciding_laws.proofs.StepsAt.{gone_commits, commit_here, commit_kept}
-use Rattle.deciding_laws.proofs.LineTurns.{own_turn}
 use Rattle.deciding_laws.proofs.LineReads.{ReadsSo, on_stage, read_counts}
-use Rattle.deciding_laws.proofs.RunWords.{line_step, remembers_at, protocol}
+use Rattle.deciding_laws.proofs.RunWords.{reading_turn, protocol}
 
 -- ---- the moment of the definition
 
@@ -101,13 +100,11 @@ module _ (limits : Limits) (states : ℕ → State) (last : ℕ) (known : Known 
   read_commits_after = ap (λ (s : State). s.commits) e ∙ gone_commits (states t) actor operation ∙ ap (λ r. commits_after (states t) (committed_in (states t) r)) so.1
 
   -- it is a turn of the protocol
-  pub reading_turn : ReadTurn w t i x out
-  reading_turn =
-      own_turn limits states last known t h actor operation operation.line
-      (line_step limits states last known t h (remembers_at limits states last known t (omega arith)) actor operation o moves is e) i x stage
+  turn : ReadTurn w t i x out
+  turn = reading_turn limits states last known t h actor operation o moves is e i x stage
 
   gives_turn : (m : Ref) → out ≡ Gives m → ReadTurn w t i x (Gives m)
-  gives_turn m gives = subst (λ y. ReadTurn w t i x y) gives reading_turn
+  gives_turn m gives = subst (λ y. ReadTurn w t i x y) gives turn
 
   -- whence it counts is what the operation's field is afterwards
   counts_from : read_at_after (states t) operation ≡ counts_at x t (w.from t actor)
@@ -125,7 +122,7 @@ module _ (limits : Limits) (states : ℕ → State) (last : ℕ) (known : Known 
   uncommitted : (m : Ref) → out ≡ Gives m → committed_by (states t).heap i x ≡ Some m → commit_of (states t) m ≡ None
   uncommitted m gives c =
       let p : Protocol = protocol limits states last known in
-      let committed = read_commits (states t).heap w t i x out reading_turn m gives c in
+      let committed = read_commits (states t).heap w t i x out turn m gives c in
       first_commit p t (omega arith) (commits_at p t (omega arith)) m committed.0 committed.1
 
   -- the fields tell the moment
