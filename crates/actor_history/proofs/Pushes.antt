@@ -1,6 +1,6 @@
 -- An account after one event more.
 use Rattle.std.specs.Prelude.{◌≡◌, ℕ, ◌+◌, List, [], ◌∷◌, ◌++◌, length}
-use Rattle.std.proofs.Common.{refl, ap, ◌∙◌, arith}
+use Rattle.std.proofs.Common.{ap, ◌∙◌, arith}
 use Rattle.history.specs.declared.events.Event.{Event}
 use Rattle.actor_history.specs.Accounts.{Account, empty_account, account_after, account_from, account_of}
 

@@ -1,6 +1,6 @@
 -- What the accounts say of running operations is what the machine runs, along every run.
-use Rattle.std.specs.Prelude.{replicate, ◌≡◌, ℕ, zero, suc, ◌+◌, ◌<◌, ◌==◌, ◌⊎◌, Bool, true, false, List, [], ◌∷◌, ◌++◌, length, map, count_by, Option, Some, None, if◌then◌else◌, cond}
-use Rattle.std.proofs.Common.{refl, sym, ap, subst, ◌∙◌, set, inl, inr, arith, eq-eqb, ne_eqb}
+use Rattle.std.specs.Prelude.{replicate, ◌≡◌, ℕ, zero, suc, ◌+◌, ◌<◌, ◌⊎◌, List, [], ◌∷◌, ◌++◌, length, Option, Some, None, cond}
+use Rattle.std.proofs.Common.{refl, sym, ap, subst, ◌∙◌, inl, inr, arith, eq-eqb, ne_eqb}
 use Rattle.std.proofs.lemmas.Bool.{cases_eq}
 use Rattle.std.proofs.lemmas.List.{length-set, length-map, length-replicate}
 use Rattle.std.proofs.lemmas.List.Sums.{sum_by-append}
@@ -15,12 +15,10 @@ use Rattle.machine_model.specs.declared.steps.Limits.{Limits}
 use Rattle.machine_model.specs.declared.steps.Step.{Step}
 use Rattle.machine_model.specs.declared.steps.Outcome.{Outcome}
 use Rattle.machine_model.specs.States.{State, first_state, operation_of}
-use Rattle.machine_model.specs.Machine.{run, with_begin}
-use Rattle.machine_model.specs.Acting.{marked, gone}
+use Rattle.machine_model.specs.Machine.{run}
 use Rattle.machine_model.proofs.Moves.{Moves, Begins, Goes, Ends, Sweeps, begun_operation}
 use Rattle.machine_model.proofs.Actors.{after_marks, marks_by, gone_actors, begin_actors}
 use Rattle.machine_model.proofs.Frames.{limits_kept}
-use Rattle.machine_model.proofs.Found.{none_found}
 use Rattle.machine_model.proofs.Along.{along}
 use Rattle.actor_history.specs.declared.accounts.Running.{Running}
 use Rattle.actor_history.specs.Accounts.{Account, account_of, account_after, account_ended, account_from, begun_at, answered_at}

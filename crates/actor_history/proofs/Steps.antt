@@ -1,16 +1,15 @@
 -- The laws, from what each step does.
-use Rattle.std.specs.Prelude.{◌≡◌, ℕ, zero, suc, List, length, Option, Some, None, Ok}
-use Rattle.std.proofs.Common.{refl, sym, ap, subst, ◌∙◌, arith}
+use Rattle.std.specs.Prelude.{◌≡◌, ℕ, zero, suc, length, Option, Some, None}
+use Rattle.std.proofs.Common.{refl, sym, ap, subst, ◌∙◌}
 use Rattle.std.proofs.lemmas.Option.{none-some}
 use Rattle.machine_model.specs.declared.operations.Operation.{Operation}
-use Rattle.machine_model.specs.declared.steps.Limits.{Limits}
 use Rattle.machine_model.specs.declared.steps.Step.{Step}
 use Rattle.machine_model.specs.declared.steps.Outcome.{Outcome}
 use Rattle.machine_model.specs.States.{State, operation_of}
-use Rattle.machine_model.specs.Machine.{next, run}
+use Rattle.machine_model.specs.Machine.{run}
 use Rattle.machine_model.proofs.Moves.{moved}
 use Rattle.actor_history.specs.declared.accounts.Running.{Running}
-use Rattle.actor_history.specs.Accounts.{Account, account_of, account_after}
+use Rattle.actor_history.specs.Accounts.{account_of}
 use Rattle.actor_history.specs.Laws.{IsStepOf, IsMadeBy, RunningIdsDiffer, OthersLeaveTheAccount, OwnStepsMakeTheAccount}
 use Rattle.actor_history.proofs.Turns.{Shown, shown, Turns, Comes, Stays, Leaves, Rests, turns}
 use Rattle.actor_history.proofs.Sound.{told, Sound, sound_along, fits_after, begin_own, begin_other, come_account, leave_other, leave_own}

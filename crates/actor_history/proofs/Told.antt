@@ -1,5 +1,5 @@
 -- An account's answers are the actor's ended operations, along every run.
-use Rattle.std.specs.Prelude.{◌≡◌, ℕ, zero, suc, ◌+◌, ◌<◌, ◌==◌, ◌⊎◌, Bool, true, false, List, [], ◌∷◌, ◌++◌, length, Option, Some, None, slice_get}
+use Rattle.std.specs.Prelude.{◌≡◌, ℕ, suc, ◌+◌, ◌<◌, ◌⊎◌, List, [], ◌∷◌, ◌++◌, length, Option, Some, slice_get}
 use Rattle.std.proofs.Common.{refl, sym, ap, subst, ◌∙◌, inl, inr, arith}
 use Rattle.std.proofs.lemmas.Bool.{cases_eq}
 use Rattle.std.proofs.lemmas.Option.{none-some, same_Some, slice_get_within}
@@ -16,12 +16,12 @@ use Rattle.machine_model.specs.Machine.{run}
 use Rattle.machine_model.proofs.Along.{along}
 use Rattle.actor_history.specs.declared.accounts.Answer.{Answer}
 use Rattle.actor_history.specs.declared.accounts.Running.{Running}
-use Rattle.actor_history.specs.Accounts.{Account, account_of, account_after, account_from, begun_at, answered_at}
+use Rattle.actor_history.specs.Accounts.{account_of, account_from, begun_at, answered_at}
 use Rattle.actor_history.specs.Answers.{IsOperationOf, IsToldIn, AreAnswersOf}
 use Rattle.actor_history.specs.Laws.{AnswersAreThoseOfTheHistory}
 use Rattle.actor_history.proofs.Places.{get_left, get_last, get_push}
 use Rattle.actor_history.proofs.Pushes.{account_push}
-use Rattle.actor_history.proofs.Turns.{Shown, Turns, Comes, Stays, Leaves, Rests, turns}
+use Rattle.actor_history.proofs.Turns.{Turns, Comes, Stays, Leaves, Rests, turns}
 use Rattle.actor_history.proofs.Sound.{Sound, IsAnswered, sound_along, fits_after, begun_begin, begun_end, begin_own, begin_other, leave_other, leave_own}
 
 -- ---- events

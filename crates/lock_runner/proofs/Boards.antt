@@ -4,7 +4,7 @@ use Rattle.std.proofs.Common.{refl, sym, ap, ◌∙◌, append_assoc, append-nil
 use Rattle.std.proofs.lemmas.List.Sums.{sum_by-append}
 use Rattle.machine_model.specs.declared.steps.Step.{Step}
 use Rattle.step_machine.specs.Machines.{Taken, with_step}
-use Rattle.lock_runner.specs.Boards.{account_in, is_sweep, sweeps_in, GoesOn, HasFollowed, HasWorked}
+use Rattle.lock_runner.specs.Boards.{is_sweep, sweeps_in, GoesOn, HasFollowed, HasWorked}
 
 pub goes_on_same : (steps : List Step) → GoesOn steps steps
 goes_on_same steps = ([], sym (append-nil steps))

@@ -1,5 +1,5 @@
 -- The rule at the calls of the table.
-use Rattle.std.specs.Prelude.{◌≡◌, ℕ, ◌==◌, List, [], ◌∷◌}
+use Rattle.std.specs.Prelude.{◌≡◌, ℕ, ◌==◌, [], ◌∷◌}
 use Rattle.std.proofs.Common.{sym, subst}
 use mathlib.Core.Option.{none}
 use prog.Atomic.{either}

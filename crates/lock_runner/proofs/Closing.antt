@@ -1,6 +1,6 @@
 -- Where one seat has all actors, the gate is open and the board is at home.
-use Rattle.std.specs.Prelude.{◌≡◌, ℕ, zero, suc, ◌+◌, ◌<◌, ◌≤◌, ◌⊎◌, List, [], ◌∷◌, length, sum_by}
-use Rattle.std.proofs.Common.{refl, sym, ap, subst, ◌∙◌, inl, inr, arith}
+use Rattle.std.specs.Prelude.{◌≡◌, ℕ, ◌≤◌, List, [], ◌∷◌, sum_by}
+use Rattle.std.proofs.Common.{refl, sym, ap, ◌∙◌, inl, inr, arith}
 use Rattle.std.proofs.lemmas.Bool.{cases_eq}
 use mathlib.Core.Option.{some, some-injective}
 use lib.ListN.{get_elem?}
@@ -9,11 +9,10 @@ use Rattle.step_machine.specs.Machines.{Taken}
 use Rattle.lock_runner.specs.declared.gate.Terms.{Terms}
 use Rattle.lock_runner.specs.declared.gate.Entry.{Entry}
 use Rattle.lock_runner.specs.declared.gate.View.{View}
-use Rattle.lock_runner.specs.Boards.{sweeps_in, HasFollowed}
+use Rattle.lock_runner.specs.Boards.{sweeps_in}
 use Rattle.lock_runner.specs.Plays.{crew_view, HaveFollowed}
-use Rattle.lock_runner.specs.Gate.{IsKept, Stands, EachStands, HasSeen, HasActor, AreAll, all_sweeps, sweeps_of}
+use Rattle.lock_runner.specs.Gate.{IsKept, EachStands, HasSeen, HasActor, AreAll, sweeps_of}
 use Rattle.lock_runner.proofs.Lists.{one_counts}
-use Rattle.lock_runner.proofs.Keeping.{owner_of}
 
 -- whose actor is here is its owner, and one of the seats'
 stands_of : (terms : Terms) (board : Taken) (owner : ℕ → ℕ) (seat actor : ℕ) (es : List Entry) → EachStands terms board owner seat es → HasActor actor es →

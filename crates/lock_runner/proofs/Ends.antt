@@ -1,5 +1,5 @@
 -- The end of a runner.
-use Rattle.std.specs.Prelude.{◌≡◌, ℕ, zero, suc, ◌+◌, ◌<◌, ◌≤◌, List, [], ◌∷◌, ◌++◌, map, Option, Some, None, slice_get, slice_index_or, unwrap_or, All, sum_by, length, Result, Ok, Err, IfOk, IfErr, Vec}
+use Rattle.std.specs.Prelude.{◌≡◌, ℕ, zero, suc, List, [], ◌∷◌, ◌++◌, map, Some, slice_get, slice_index_or, unwrap_or, All, sum_by, length, Result, Ok, Err, IfOk, IfErr, Vec}
 use Rattle.std.proofs.Common.{refl, sym, ap, subst, ◌∙◌, inl, inr, append_assoc, arith}
 use Rattle.std.proofs.lemmas.List.{map-append}
 use Rattle.std.proofs.lemmas.List.Sums.{sum_by-cons}
@@ -18,11 +18,11 @@ use Rattle.actor_history.proofs.Told.{answers_are_those_of_the_history}
 use Rattle.lock_runner.specs.declared.gate.Terms.{Terms}
 use Rattle.lock_runner.specs.declared.gate.Entry.{Entry}
 use Rattle.lock_runner.specs.declared.gate.View.{View}
-use Rattle.lock_runner.specs.Boards.{account_in, sweeps_in, GoesOn, HasFollowed}
+use Rattle.lock_runner.specs.Boards.{account_in, HasFollowed}
 use Rattle.lock_runner.specs.Plays.{entry, crew_view, outside, gathered, HaveFollowed}
 use Rattle.lock_runner.specs.Gate.{IsKept, HasActor, AreAll}
 use Rattle.lock_runner.specs.Seats.{Room, Seated}
-use Rattle.lock_runner.specs.Finishing.{IsHere, AreHere, all_swept, IsGathered, recorded, IsFinished}
+use Rattle.lock_runner.specs.Finishing.{AreHere, all_swept, IsGathered, recorded, IsFinished}
 use Rattle.lock_runner.proofs.Crews.{join_allowed}
 use Rattle.lock_runner.proofs.Closing.{IsClosed, closes}
 
@@ -100,6 +100,7 @@ swept_alike (s ∷ seats) =
 from_closed : (runner : Room) (terms : Terms) (seats : List Seated) (board : Taken) → terms.limits ≡ runner.limits → AreTold seats → IsClosed terms (entries_of seats) board → IsGathered runner seats board
 from_closed runner terms seats board same told closed = record {
   limits = closed.limits ∙ same;
+  sizes = λ k seat e. (each_followed board seats closed.followed k seat e).limits;
   steps = λ k seat e. (each_followed board seats closed.followed k seat e).steps;
   answers = λ k seat e.
       let account = (each_followed board seats closed.followed k seat e).account ∙ told k seat e in

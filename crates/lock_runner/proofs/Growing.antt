@@ -1,5 +1,5 @@
 -- Steps are counted.
-use Rattle.std.specs.Prelude.{◌≡◌, ℕ, ◌+◌, ◌≤◌, List, [], ◌∷◌, ◌++◌, Ok}
+use Rattle.std.specs.Prelude.{◌≡◌, ℕ, ◌+◌, ◌≤◌, List, [], ◌∷◌, Ok}
 use Rattle.std.proofs.Common.{refl, sym, ap, subst, ◌∙◌, arith}
 use Rattle.machine_model.specs.declared.steps.Limits.{Limits}
 use Rattle.machine_model.specs.declared.steps.Step.{Step}
@@ -10,7 +10,7 @@ use Rattle.machine_model.proofs.Moves.{moved}
 use Rattle.machine_model.proofs.Along.{run-append, kept_by_moves, along}
 use Rattle.machine_model.proofs.Frames.{steps_counted, limits_kept}
 use Rattle.step_machine.specs.Machines.{Taken, state_of}
-use Rattle.lock_runner.specs.Boards.{GoesOn, HasFollowed}
+use Rattle.lock_runner.specs.Boards.{HasFollowed}
 
 -- one step more, or none
 step_grows : (base : ℕ) (state : State) (s : Step) → base ≤ state.steps → base ≤ (next_state state s).steps

@@ -1,5 +1,5 @@
 -- One hold of the gate.
-use Rattle.std.specs.Prelude.{◌≡◌, ℕ, ◌+◌, ◌-◌, List, [], ◌∷◌, ◌++◌, Result, Ok, Err}
+use Rattle.std.specs.Prelude.{◌≡◌, ℕ, List, [], ◌∷◌, Result, Ok, Err}
 use Rattle.std.proofs.Common.{refl, sym, ap, subst, ◌∙◌}
 use Rattle.machine_model.specs.declared.steps.Step.{Step}
 use Rattle.machine_model.specs.declared.steps.Step.TheVariants as step
@@ -12,8 +12,8 @@ use Rattle.actor_history.proofs.Steps.{others_leave_the_account}
 use Rattle.lock_runner.specs.declared.gate.View.{View}
 use Rattle.lock_runner.specs.declared.seats.Stop.{Stop}
 use Rattle.lock_runner.specs.declared.seats.Stop.TheVariants.{Denied, Memory, Ahead}
-use Rattle.lock_runner.specs.Boards.{account_in, sweeps_in, HasFollowed, HasWorked}
-use Rattle.lock_runner.specs.Plays.{inside, outside, outside_of}
+use Rattle.lock_runner.specs.Boards.{HasFollowed, HasWorked}
+use Rattle.lock_runner.specs.Plays.{inside, outside_of}
 use Rattle.lock_runner.specs.Seats.{seen_in, count_in, no_board}
 use Rattle.lock_runner.specs.Holds.{Worked, Held, IsDoneBy}
 use Rattle.lock_runner.proofs.Boards.{has_worked_same}

@@ -1,6 +1,6 @@
 -- Where a step of an actor's operation is denied since it runs none.
-use Rattle.std.specs.Prelude.{◌≡◌, ℕ, ◌≤◌, ◌↔◌, ◌&&◌, Bool, true, false, not, is_some, nat_lt, nat_le, MatchOption, [], ◌∷◌, Option, Some, None, Ok, Err}
-use Rattle.std.proofs.Common.{refl, sym, ap, subst, ◌∙◌, lt-ltb, le-leb, arith}
+use Rattle.std.specs.Prelude.{◌≡◌, ℕ, ◌≤◌, ◌↔◌, ◌&&◌, Bool, true, false, not, is_some, nat_lt, nat_le, MatchOption, [], ◌∷◌, Option, Some, None, Err}
+use Rattle.std.proofs.Common.{refl, sym, ap, ◌∙◌, lt-ltb, le-leb, arith}
 use Rattle.std.proofs.lemmas.Option.{none-some}
 use Rattle.ctrie_base.specs.declared.refusals.Refusal.{Refusal}
 use Rattle.ctrie_base.specs.declared.refusals.Refusal.TheVariants as refuse
@@ -9,10 +9,10 @@ use Rattle.machine_model.specs.declared.steps.Step.TheVariants as step
 use Rattle.machine_model.specs.declared.steps.Outcome.{Outcome}
 use Rattle.machine_model.specs.States.{State, operation_of}
 use Rattle.machine_model.specs.Operations.{action_of}
-use Rattle.machine_model.specs.Machine.{next, go_unless, go_on, go_denial, first_reason, is_actor, is_running, is_spent, settled_after, went}
+use Rattle.machine_model.specs.Machine.{next, go_unless, go_on, first_reason, is_actor, is_running, is_spent, settled_after, went}
 use Rattle.step_machine.specs.Machines.{Taken, state_of}
 use Rattle.actor_history.specs.declared.accounts.Running.{Running}
-use Rattle.actor_history.proofs.Turns.{Shown, shown}
+use Rattle.actor_history.proofs.Turns.{shown}
 use Rattle.actor_history.proofs.Sound.{told, sound_along}
 use Rattle.lock_runner.specs.Boards.{account_in}
 use Rattle.lock_runner.proofs.Growing.{run_limits}

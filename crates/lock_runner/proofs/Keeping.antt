@@ -1,19 +1,17 @@
 -- Each step on the gate's word keeps the rule.
-use Rattle.std.specs.Prelude.{◌≡◌, ℕ, zero, suc, ◌+◌, ◌-◌, ◌<◌, ◌≤◌, ◌==◌, ◌⊎◌, List, [], ◌∷◌, ◌++◌, slice_set, slice_index, length, sum_by}
-use Rattle.std.proofs.Common.{refl, sym, ap, subst, ◌∙◌, inl, inr, ⊎_elim, arith}
-use Rattle.std.proofs.lemmas.Bool.{cases_eq}
-use Rattle.std.proofs.lemmas.List.Sums.{sum_by-cons}
+use Rattle.std.specs.Prelude.{◌≡◌, ℕ, zero, suc, ◌+◌, ◌-◌, ◌<◌, ◌==◌, List, [], ◌∷◌, slice_set, slice_index, length}
+use Rattle.std.proofs.Common.{refl, sym, ap, subst, ◌∙◌, inl, inr, arith}
 use mathlib.Core.Option.{none, some, some-ne-none}
 use lib.ListN.{get_elem?}
 use prog.Atomic.{either}
-use Rattle.atomic_table.specs.Table.{State, Me, Act, Allows, Valid, carried_after, stepped, step, takes, gives, keeps}
-use Rattle.atomic_table.proofs.Lists.{at_set, set_here, set_else, set_again, exchanged}
+use Rattle.atomic_table.specs.Table.{State, Act, Allows, Valid, carried_after, stepped, step, takes, gives, keeps}
+use Rattle.atomic_table.proofs.Lists.{at_set, set_here, set_again, exchanged}
 use Rattle.step_machine.specs.Machines.{Taken}
 use Rattle.lock_runner.specs.declared.gate.Terms.{Terms}
 use Rattle.lock_runner.specs.declared.gate.Entry.{Entry}
 use Rattle.lock_runner.specs.declared.gate.View.{View}
-use Rattle.lock_runner.specs.Boards.{sweeps_in, HasFollowed, HasWorked}
-use Rattle.lock_runner.specs.Plays.{entry, outside, inside, seeing, entered, leaving, has_left}
+use Rattle.lock_runner.specs.Boards.{sweeps_in, HasWorked}
+use Rattle.lock_runner.specs.Plays.{entry, outside, inside, entered, has_left}
 use Rattle.lock_runner.specs.Gate.{IsKept, Stands, EachStands, HasSeen, all_sweeps, sweeps_of}
 use Rattle.lock_runner.proofs.Lists.{sum_set}
 use Rattle.lock_runner.proofs.Boards.{has_followed_same, still_followed, sweeps_grow}

@@ -1,5 +1,5 @@
 -- Seats that are made, and seats that are looked for.
-use Rattle.std.specs.Prelude.{◌≡◌, ℕ, zero, suc, ◌+◌, ◌-◌, ◌<◌, ◌≤◌, ◌⊎◌, Bool, true, false, IsTrue, All, List, [], ◌∷◌, ◌++◌, None}
+use Rattle.std.specs.Prelude.{◌≡◌, ℕ, zero, suc, ◌+◌, ◌-◌, ◌<◌, ◌≤◌, ◌⊎◌, Bool, false, IsTrue, All, List, [], ◌∷◌, ◌++◌, None}
 use Rattle.std.proofs.Common.{refl, sym, ap, subst, ◌∙◌, inl, inr, arith}
 use Rattle.std.proofs.lemmas.Bool.{cases_eq}
 use Rattle.std.proofs.lemmas.List.Elements.{All-nil, All-cons}
@@ -8,7 +8,7 @@ use Rattle.machine_model.specs.States.{first_state}
 use Rattle.machine_model.specs.Machine.{run_from}
 use Rattle.atomic_table.specs.Table.{Me, Splits}
 use Rattle.atomic_table.specs.Seated.{TableId}
-use Rattle.step_machine.specs.Machines.{Taken, fresh, state_of}
+use Rattle.step_machine.specs.Machines.{Taken, fresh}
 use Rattle.actor_history.specs.declared.accounts.Answer.{Answer}
 use Rattle.actor_history.specs.Accounts.{empty_account, account_from}
 use Rattle.lock_runner.specs.declared.gate.Terms.{Terms}
@@ -16,10 +16,10 @@ use Rattle.lock_runner.specs.declared.gate.View.{View}
 use Rattle.lock_runner.specs.Boards.{account_in}
 use Rattle.lock_runner.specs.Plays.{entry, crew_view, outside, first_of, rest_of}
 use Rattle.lock_runner.specs.Gate.{IsKept, crew}
-use Rattle.lock_runner.specs.Seats.{Seated, seated, seen_in, IsSeated}
+use Rattle.lock_runner.specs.Seats.{Seated, seated, IsSeated}
 use Rattle.lock_runner.specs.Opening.{fresh_seat, fresh_seats}
 use Rattle.lock_runner.specs.Finishing.{IsHere, IsMissing}
-use Rattle.lock_runner.proofs.Crews.{AreOthers, crew_others, cut_allowed}
+use Rattle.lock_runner.proofs.Crews.{crew_others, cut_allowed}
 
 -- ---- looking for seats
 

@@ -1,30 +1,24 @@
 -- What a seat keeps after one hold of the gate.
-use Rattle.std.specs.Prelude.{◌≡◌, ℕ, ◌+◌, ◌-◌, ◌<◌, ◌≤◌, ◌^◌, List, [], ◌∷◌, ◌++◌, Option, Some, None, Result, Ok, Err, length, true, false, cond}
-use Rattle.std.proofs.Common.{refl, sym, ap, subst, ◌∙◌, arith}
-use Rattle.std.proofs.lemmas.Option.{none-some, same_Some}
-use Rattle.history.specs.declared.calls.Call.{Call}
-use Rattle.history.specs.declared.replies.Reply.{Reply}
+use Rattle.std.specs.Prelude.{◌≡◌, ℕ, ◌+◌, ◌-◌, ◌<◌, ◌≤◌, ◌^◌, List, [], Option, Result, Ok, true, false, cond}
+use Rattle.std.proofs.Common.{sym, ap, subst, ◌∙◌, arith}
 use Rattle.machine_model.specs.declared.steps.Step.{Step}
 use Rattle.machine_model.specs.declared.steps.Step.TheVariants as step
 use Rattle.machine_model.specs.declared.steps.Outcome.{Outcome}
-use Rattle.machine_model.specs.declared.steps.Outcome.TheVariants as outcome
 use Rattle.machine_model.specs.Machine.{next}
 use Rattle.atomic_table.specs.Table.{Me}
 use Rattle.step_machine.specs.Machines.{Taken, state_of, with_step}
 use Rattle.step_machine.proofs.Sweeping.{nearer}
 use Rattle.actor_history.specs.declared.accounts.Answer.{Answer}
 use Rattle.actor_history.specs.declared.accounts.Running.{Running}
-use Rattle.actor_history.specs.Accounts.{Account, account_of, begun_at, answered_at}
 use Rattle.actor_history.specs.Laws.{IsStepOf, IsMadeBy}
 use Rattle.actor_history.proofs.Steps.{others_leave_the_account, own_steps_make_the_account}
 use Rattle.lock_runner.specs.declared.gate.View.{View}
 use Rattle.lock_runner.specs.declared.seats.Stop.{Stop}
-use Rattle.lock_runner.specs.declared.seats.Stop.TheVariants.{Denied, Memory, Ahead}
-use Rattle.lock_runner.specs.Boards.{account_in, sweeps_in, is_sweep, GoesOn, HasFollowed}
+use Rattle.lock_runner.specs.Boards.{account_in, sweeps_in, is_sweep}
 use Rattle.lock_runner.specs.Plays.{outside}
-use Rattle.lock_runner.specs.Seats.{seen_in, count_in, IsOutside, IsSeated}
-use Rattle.lock_runner.specs.Holds.{events_in, Worked, Held}
-use Rattle.lock_runner.proofs.Boards.{goes_on_same, goes_on_more, sweeps_push}
+use Rattle.lock_runner.specs.Seats.{seen_in, count_in, IsSeated}
+use Rattle.lock_runner.specs.Holds.{Held}
+use Rattle.lock_runner.proofs.Boards.{sweeps_push}
 use Rattle.lock_runner.proofs.Growing.{steps_grow, one_step}
 
 -- what the seat keeps, where the board tells this of its actor and so many steps of the sweep were counted

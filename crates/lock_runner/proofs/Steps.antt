@@ -1,8 +1,7 @@
 -- What one step makes of a seat: the facts of the hold, told of the seat.
-use Rattle.std.specs.Prelude.{◌≡◌, ℕ, ◌+◌, ◌<◌, ◌≤◌, ◌^◌, Bool, true, false, not, is_some, MatchOption, List, [], ◌∷◌, ◌++◌, Option, Some, None, Result, Ok, Err, length}
+use Rattle.std.specs.Prelude.{◌≡◌, ℕ, ◌+◌, ◌<◌, ◌≤◌, ◌^◌, true, false, MatchOption, List, [], ◌∷◌, ◌++◌, Option, Some, None, Result, Ok, Err}
 use Rattle.std.proofs.Common.{refl, sym, ap, subst, ◌∙◌, arith}
-use Rattle.std.proofs.lemmas.Option.{none-some, same_Some}
-use Rattle.ctrie_base.specs.declared.refusals.Refusal.{Refusal}
+use Rattle.std.proofs.lemmas.Option.{same_Some}
 use Rattle.ctrie_base.specs.declared.refusals.Refusal.TheVariants as refuse
 use Rattle.history.specs.declared.calls.Call.{Call}
 use Rattle.history.specs.declared.replies.Reply.{Reply}
@@ -18,7 +17,7 @@ use Rattle.actor_history.proofs.Sound.{sound_along}
 use Rattle.machine_model.specs.Machine.{next}
 use Rattle.atomic_table.specs.Table.{Me}
 use Rattle.atomic_table.specs.Seated.{TableId}
-use Rattle.step_machine.specs.Machines.{Taken, state_of, with_step}
+use Rattle.step_machine.specs.Machines.{Taken, state_of}
 use Rattle.actor_history.specs.declared.accounts.Answer.{Answer}
 use Rattle.actor_history.specs.declared.accounts.Running.{Running}
 use Rattle.actor_history.specs.Accounts.{Account, begun_at, answered_at}
@@ -26,10 +25,10 @@ use Rattle.actor_history.specs.Laws.{IsMadeBy}
 use Rattle.lock_runner.specs.declared.gate.View.{View}
 use Rattle.lock_runner.specs.declared.seats.Stop.{Stop}
 use Rattle.lock_runner.specs.declared.seats.Stop.TheVariants.{Denied, Memory, Ahead}
-use Rattle.lock_runner.specs.Boards.{account_in, GoesOn, HasFollowed}
+use Rattle.lock_runner.specs.Boards.{account_in}
 use Rattle.lock_runner.specs.Seats.{Seated, seated, seen_in, IsSeated}
 use Rattle.lock_runner.specs.Holds.{events_in, Worked, Held, IsDoneBy}
-use Rattle.lock_runner.specs.Stepping.{HasGoneOn, IsUntold, IsDenied, Runs, IsNotBegun, Begins, IsAnswered, IsNotTaken, Goes, IsSwept, IsNotSwept, Sweeps}
+use Rattle.lock_runner.specs.Stepping.{HasGoneOn, IsUntold, IsNotBegun, Begins, IsNotTaken, Goes, IsNotSwept, Sweeps}
 use Rattle.lock_runner.proofs.Boards.{goes_on_more}
 use Rattle.lock_runner.proofs.Holds.{has_worked}
 use Rattle.lock_runner.proofs.Idle.{idle_only}

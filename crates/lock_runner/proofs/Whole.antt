@@ -1,6 +1,6 @@
 -- Whole calls, from their steps.
-use Rattle.std.specs.Prelude.{◌≡◌, ℕ, ◌≤◌, ◌-◌, List, [], ◌∷◌, ◌++◌, Option, Some, None, Result, Ok, Err, length, slice_get}
-use Rattle.std.proofs.Common.{refl, sym, ap, subst, ◌∙◌, inl, inr, arith, length-append}
+use Rattle.std.specs.Prelude.{◌≡◌, ◌-◌, List, [], ◌∷◌, ◌++◌, Some, Result, Ok, Err, length, slice_get}
+use Rattle.std.proofs.Common.{refl, sym, ap, ◌∙◌, inl, inr, arith, length-append}
 use Rattle.std.proofs.lemmas.Option.{same_Some}
 use Rattle.history.specs.declared.calls.Call.{Call}
 use Rattle.history.specs.declared.replies.Reply.{Reply}
@@ -9,7 +9,7 @@ use Rattle.actor_history.specs.declared.accounts.Answer.{Answer}
 use Rattle.actor_history.specs.declared.accounts.Running.{Running}
 use Rattle.lock_runner.specs.declared.seats.Stop.{Stop}
 use Rattle.lock_runner.specs.Seats.{Seated}
-use Rattle.lock_runner.specs.Stepping.{HasGoneOn, IsUntold, IsAnswered, Runs, IsNotBegun, IsNotTaken, Begins, Goes}
+use Rattle.lock_runner.specs.Stepping.{HasGoneOn, IsUntold, IsAnswered, Begins, Goes}
 use Rattle.lock_runner.specs.Performing.{CarriesOn, CarriesOut, IsPerformed}
 use Rattle.lock_runner.proofs.Boards.{goes_on_same, goes_on_more}
 

@@ -28,6 +28,7 @@ all_swept seats = sum_by (λ seat. seat.sweeps) seats
 -- operations of its actor; and its steps of the sweep are those of the seats.
 pub record IsGathered (runner : Room) (seats : List Seated) (machine : Taken) : Type 0 where
   pub limits : machine.limits ≡ runner.limits
+  pub sizes : (k : ℕ) (seat : Seated) → slice_get seats k ≡ Some seat → machine.limits ≡ seat.seen.limits
   pub steps : (k : ℕ) (seat : Seated) → slice_get seats k ≡ Some seat → GoesOn seat.seen.steps machine.steps
   pub answers : (k : ℕ) (seat : Seated) → slice_get seats k ≡ Some seat → AreAnswersOf seat.actor (state_of machine).events seat.answers
   pub sweeps : sweeps_in machine ≡ all_swept seats

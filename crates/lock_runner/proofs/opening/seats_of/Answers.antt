@@ -1,4 +1,4 @@
-use Rattle.std.proofs.Common.{rules, ◌≡◌, sym, ap, ◌∙◌, arith}
+use Rattle.std.proofs.Common.{rules, ◌≡◌, ◌∙◌, arith}
 use Rattle.lock_runner.proofs.Making.{split_allowed, cut_off, left_over, fresh_seated, seat_is_fresh, one_more_fresh, all_fresh}
 use Rattle.std.proofs.lemmas.List.Elements.{All-same}
 use Rattle.lock_runner.specs.Seats.{Seated}

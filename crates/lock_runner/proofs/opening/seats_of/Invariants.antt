@@ -1,4 +1,4 @@
-use Rattle.std.proofs.Common.{◌≡◌, ◌+◌, ◌-◌, [], ◌≤◌}
+use Rattle.std.proofs.Common.{◌≡◌, ◌+◌, ◌-◌, []}
 use Rattle.step_machine.specs.Machines.{fresh}
 use Rattle.lock_runner.specs.Gate.{crew}
 use Rattle.lock_runner.specs.Plays.{crew_view}

@@ -1,4 +1,3 @@
-use Rattle.std.proofs.Common.{rules, refl, sym, ap, ◌∙◌}
 use Rattle.std.proofs.lemmas.Result.{err_from_is_err_and}
 use Rattle.lock_runner.proofs.Whole.{stopped_at_once, begun_and}
 use Rattle.lock_runner.proofs.runner.Runner.carry_out.Goals as goal

@@ -1,4 +1,4 @@
-use Rattle.std.proofs.Common.{rules, ◌≡◌, [], ◌∷◌, ◌++◌, refl, ap, sym, subst, ◌∙◌, append-nil}
+use Rattle.std.proofs.Common.{rules, ◌≡◌, [], ◌++◌, ap, sym, ◌∙◌, append-nil}
 use Rattle.std.proofs.lemmas.Option.{none-some}
 use Rattle.lock_runner.specs.Seats.{IsSeatOf}
 use Rattle.lock_runner.proofs.Crews.{sit_allowed}

@@ -1,4 +1,4 @@
-use Rattle.std.proofs.Common.{rules, ◌≡◌, ◌≤◌, ◌<◌, ap, sym, subst, ◌∙◌, arith}
+use Rattle.std.proofs.Common.{rules, ap, arith}
 use Rattle.lock_runner.proofs.Making.{one_missing, one_more_here}
 use Rattle.lock_runner.proofs.runner.Runner.has_all.Goals as goal
 

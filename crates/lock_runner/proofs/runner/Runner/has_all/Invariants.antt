@@ -1,4 +1,4 @@
-use Rattle.std.proofs.Common.{◌≡◌, ℕ, ◌≤◌}
+use Rattle.std.proofs.Common.{ℕ, ◌≤◌}
 use Rattle.lock_runner.specs.Finishing.{IsHere}
 use Rattle.lock_runner.proofs.runner.Runner.has_all.Given as goal
 

@@ -1,4 +1,4 @@
-use Rattle.std.proofs.Common.{rules, ap, sym, subst, ◌∙◌}
+use Rattle.std.proofs.Common.{subst}
 use Rattle.lock_runner.specs.Seats.{count_in}
 use Rattle.lock_runner.specs.Holds.{Worked}
 use Rattle.lock_runner.proofs.Holds.{lent, middle, counted, has_worked, held}

@@ -1,4 +1,4 @@
-use Rattle.std.proofs.Common.{rules, [], ◌∷◌, ◌++◌, ap, sym, subst, ◌∙◌}
+use Rattle.std.proofs.Common.{[], ◌∷◌, ◌++◌, ap, ◌∙◌}
 use Rattle.lock_runner.specs.declared.gate.Terms.{Terms}
 use Rattle.lock_runner.proofs.Crews.{opening_kept}
 use Rattle.lock_runner.proofs.runner.Runner.new.Goals as goal

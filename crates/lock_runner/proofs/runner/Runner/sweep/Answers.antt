@@ -1,4 +1,4 @@
-use Rattle.std.proofs.Common.{refl, arith}
+use Rattle.std.proofs.Common.{refl}
 use Rattle.std.proofs.lemmas.Result.{err_from_is_err_and}
 use Rattle.lock_runner.proofs.Steps.{stopped, swept, only_swept, sweep_stops, sweep_goes}
 use Rattle.lock_runner.proofs.runner.Runner.sweep.Goals as goal
