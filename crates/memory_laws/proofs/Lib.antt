@@ -56,3 +56,4 @@ pub mod LevelNext
 pub mod LevelStates
 pub mod LevelRuns
 pub mod Measure
+pub mod Shapes
