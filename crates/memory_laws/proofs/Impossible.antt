@@ -48,7 +48,7 @@ abbrev pub IsImpossible : Line → Type 0
 IsImpossible line.Impossible = Unit {0}
 IsImpossible l = ⊥
 
-abbrev is_tomb : Node → Bool
+abbrev pub is_tomb : Node → Bool
 is_tomb (Tomb single) = true
 is_tomb node = false
 

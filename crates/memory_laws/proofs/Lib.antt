@@ -57,3 +57,4 @@ pub mod LevelStates
 pub mod LevelRuns
 pub mod Measure
 pub mod Shapes
+pub mod ShapeStates

@@ -144,7 +144,7 @@ key_main_shapeless : (state : State) (operation : Operation) (path : List Ref) (
 key_main_shapeless state operation path main node = grind arith
 
 -- lists stand below a level at least
-deep_low : (kind : HashKind) → 1 ≤ list_depth kind
+pub deep_low : (kind : HashKind) → 1 ≤ list_depth kind
 deep_low Low = omega arith
 deep_low Fold = omega arith
 deep_low Wide = omega arith
@@ -266,7 +266,7 @@ module _ (lv : Ref → ℕ) (state : State) (operation : Operation) (S : Ref →
 
   -- ---- what is made
 
-  abbrev ActionShape : ℕ → Action → Type 0
+  abbrev pub ActionShape : ℕ → Action → Type 0
   ActionShape level (act.Make node) = ShapeAt deep level node
   ActionShape level (act.MakeRoot main) = level ≤ deep + 1
   ActionShape level action = Unit {0}
