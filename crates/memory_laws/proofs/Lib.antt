@@ -13,9 +13,11 @@
 -- What a step leaves safe: `step_carries` (Invariant); of one operation's own step: `gone_carries`, `made_fresh`. An invariant of each operation over one step:
 -- `each_after` (EachStep); over root words: `put_words`, `begin_words` (Words).
 --
--- Levels: `has_levels` (LevelRuns) gives each reference of a run its level for life: 0 for a single, 1 for a root, one more for each indirection further down.
+-- Levels: `has_levels` (LevelRuns) gives each reference of a run its level for life: 0 for a single, 1 for a root, one more for each indirection further
+-- down. `has_shapes` (ShapeStates) says which nodes stand at which levels: tombs below the root's, lists below all levels of a hash, branches above them.
+-- `along_levels` carries more facts on levels along a run.
 --
--- The impossible line: `never_impossible` (Never), where no line is strange (Impossible).
+-- The impossible line: `none_impossible` (ShapeStates), by `impossible_strange` (Impossible), `never_after` (Never) and `none_strange`.
 pub mod Ones
 pub mod Under
 pub mod Claims

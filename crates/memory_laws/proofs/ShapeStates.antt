@@ -1,5 +1,5 @@
 -- Nodes stand at their levels in every reachable state; so no operation comes to the impossible line.
-use Rattle.std.proofs.Common.{◌≡◌, ℕ, zero, suc, ◌+◌, ◌-◌, ◌<◌, ◌≤◌, ◌||◌, Bool, true, false, nat_lt, List, [], ◌∷◌, map, length, get_or, Option, Some, None, is_some, refl, sym, ap, ◌∙◌, subst, ◌⊎◌, inl, inr, ltb-true, ltb-false, arith}
+use Rattle.std.proofs.Common.{◌≡◌, ℕ, zero, suc, ◌+◌, ◌-◌, ◌<◌, ◌≤◌, true, false, nat_lt, List, map, length, get_or, Option, Some, None, refl, sym, ap, ◌∙◌, subst, ◌⊎◌, inl, inr, ltb-true, ltb-false, arith}
 use Rattle.std.proofs.lemmas.Bool.{cases_eq, false≢true}
 use Rattle.std.proofs.lemmas.Option.{none-some, same_Some}
 use Rattle.std.proofs.lemmas.List.{length-take-le}
@@ -13,7 +13,7 @@ use Rattle.slot_arena.specs.declared.nodes.Node.{Node}
 use Rattle.slot_arena.specs.declared.nodes.Node.TheVariants.{Indirection, Branch, Single, Tomb, List as Listed}
 use Rattle.slot_arena.specs.declared.nodes.Prev.TheVariants as prev
 use Rattle.slot_arena.specs.declared.nodes.Slot.{Slot}
-use Rattle.slot_arena.specs.Heaps.{Heap, node_at, with_main_word, main_changed, prev_changed, next_ref, no_ref}
+use Rattle.slot_arena.specs.Heaps.{node_at, with_main_word, main_changed, prev_changed, next_ref, no_ref}
 use Rattle.nodes.specs.Levels.{list_depth}
 use Rattle.epochs.specs.Sweeping.{ripe}
 use Rattle.machine_model.specs.declared.actions.Action.{Action}
@@ -23,14 +23,12 @@ use Rattle.machine_model.specs.declared.lines.Line.{Line}
 use Rattle.machine_model.specs.declared.lines.Line.TheVariants as line
 use Rattle.machine_model.specs.declared.finding.KeyLine.TheVariants as key
 use Rattle.machine_model.specs.declared.repairs.ClimbLine.TheVariants as climb
-use Rattle.machine_model.specs.declared.repairs.Climb.{Climb}
 use Rattle.machine_model.specs.declared.steps.Limits.{Limits}
 use Rattle.machine_model.specs.declared.steps.Outcome.{Outcome}
 use Rattle.machine_model.specs.declared.steps.Step.{Step}
-use Rattle.machine_model.specs.declared.steps.Step.TheVariants as step
 use Rattle.machine_model.specs.Calls.{handle_of}
 use Rattle.machine_model.specs.States.{State, first_state, operation_of}
-use Rattle.machine_model.specs.Paths.{above, depth_of, is_below_root}
+use Rattle.machine_model.specs.Paths.{above, depth_of}
 use Rattle.machine_model.specs.Operations.{action_of, first_line}
 use Rattle.machine_model.specs.Acting.{operation_after, gone}
 use Rattle.machine_model.specs.Counting.{settled}
@@ -38,15 +36,15 @@ use Rattle.machine_model.specs.Machine.{AreLimits, run, pin_of}
 use Rattle.machine_model.proofs.Along.{along}
 use Rattle.machine_model.proofs.Found.{none_found}
 use Rattle.machine_model.proofs.Frames.{limits_kept}
-use Rattle.machine_model.proofs.Moves.{Moves, Begins, Goes, Ends, Sweeps, GoesOn, begun_operation}
+use Rattle.machine_model.proofs.Moves.{Moves, Begins, Goes, Ends, Sweeps, begun_operation}
 use Rattle.machine_model.proofs.Actors.{mark_one, mark_only}
 use Rattle.machine_model.proofs.HeapMoves.{begin_heap}
 use Rattle.machine_model.proofs.InUse.{InUse}
 use Rattle.machine_model.proofs.Slots.{ripe_in_use}
 use Rattle.machine_model.proofs.Grown.{standing}
-use Rattle.memory_laws.specs.Wants.{AnIndirection, is_list, is_indirection, Is, Each, Holds, AllHold, line_wants}
+use Rattle.memory_laws.specs.Wants.{is_list, is_indirection, AllHold, line_wants}
 use Rattle.memory_laws.specs.Laws.{IsInUse}
-use Rattle.memory_laws.proofs.Claims.{safe_of, meets_of, all_of, fact_of}
+use Rattle.memory_laws.proofs.Claims.{safe_of, all_of, fact_of}
 use Rattle.memory_laws.proofs.Under.{node_under, fresh_slot, taken_all}
 use Rattle.memory_laws.proofs.EachStep.{each_after}
 use Rattle.memory_laws.proofs.Next.{made_node}
@@ -59,7 +57,7 @@ use Rattle.memory_laws.proofs.Impossible.{IsImpossible, IsStrange, is_tomb}
 use Rattle.memory_laws.proofs.Never.{NoneRuns, never_after, none_at_first}
 use Rattle.memory_laws.proofs.First.{first_stands, safe_at_first}
 use Rattle.memory_laws.proofs.Levels.{LineLevel, made_level}
-use Rattle.memory_laws.proofs.LevelStates.{HasLevels, GivesLevel, heaped_in_use, level_under, births_same, levels_after}
+use Rattle.memory_laws.proofs.LevelStates.{HasLevels, GivesLevel, heaped_in_use, births_same, levels_after}
 use Rattle.memory_laws.proofs.LevelRuns.{levels_of, along_levels, levels_at_first, root_level, branch_level, old_level}
 use Rattle.memory_laws.proofs.Shapes.{ShapeAt, LineShape, ActionShape, line_shape_next, line_makes, deep_low}
 
@@ -91,7 +89,7 @@ module _ (lv : Ref → ℕ) (state : State) (deep : ℕ) (f g : Ref → Option S
     | inr other ↦ elim (cases_eq r new_main) [
       | inl s ↦ here r new_main slot (prev_changed (prev.Pending replaced) new) s g_fresh h (old new_main new f_fresh)
       | inr another ↦ old r slot (sym (others r other another) ∙ h)
-      ]
+    ]
   ]
   slots_shape (restores actor operation i main previous was takes f_i m g_i others) r slot h = elim (cases_eq r i) [
     | inl s ↦ here r i slot (main_changed previous was) s g_i h (main_shape deep (lv i) previous was.node (old i was f_i))
@@ -119,12 +117,12 @@ module _ (lv : Ref → ℕ) (state : State) (I : IsSafe state) (h : HasLevels lv
       made_node state (action_of state operation) ≡ Some node
   gone_makes actor operation k found (Some other) a node made e none new =
       let stood = ap (λ heap. standing heap made) (made_heap _ (handle_of operation.call) (action_of state operation) other made a e)
-          ∙ (taken_all state.limits.slots state.heap (I.sound.heap) (I.small) other made e).0 in
+      ∙ (taken_all state.limits.slots state.heap (I.sound.heap) (I.small) other made e).0 in
       a ∙ ap (λ (x : Slot). Some x.node) (same_Some _ _ (sym stood ∙ new))
   gone_makes actor operation k found None a node made e none new =
       elim (stood_or_made _ _ _ _ _ _ (gone_effect state I actor k operation found) made (fresh_slot state.heap node) new) [
-      | inl stood ↦ absurd (none-some stood.0 (sym none ∙ stood.1))
-      | inr born ↦ absurd (no_birth (births_same _ (handle_of operation.call) (action_of state operation) a) born.1)
+        | inl stood ↦ absurd (none-some stood.0 (sym none ∙ stood.1))
+        | inr born ↦ absurd (no_birth (births_same _ (handle_of operation.call) (action_of state operation) a) born.1)
       ]
     where
       no_birth : (settled state (gone state actor operation)).heap.births ≡ state.heap.births → (settled state (gone state actor operation)).heap.births ≡ state.heap.births + 1 → ⊥
@@ -146,11 +144,11 @@ module _ (lv : Ref → ℕ) (state : State) (I : IsSafe state) (h : HasLevels lv
   makes_shape operation c l s (act.Make other) a node is =
       subst (ShapeAt deep (made_level operation.line)) (same_Some _ _ is)
       (subst (ActionShape lv state operation (IsInUse state.heap) (heaped_in_use state I) shape_under (made_level operation.line)) a
-        (line_makes lv state operation (IsInUse state.heap) (heaped_in_use state I) shape_under operation.line c l s))
+      (line_makes lv state operation (IsInUse state.heap) (heaped_in_use state I) shape_under operation.line c l s))
   makes_shape operation c l s (act.MakeRoot main) a node is =
       subst (ShapeAt deep (made_level operation.line)) (same_Some _ _ is)
       (subst (ActionShape lv state operation (IsInUse state.heap) (heaped_in_use state I) shape_under (made_level operation.line)) a
-        (line_makes lv state operation (IsInUse state.heap) (heaped_in_use state I) shape_under operation.line c l s))
+      (line_makes lv state operation (IsInUse state.heap) (heaped_in_use state I) shape_under operation.line c l s))
   makes_shape operation c l s action a node is = absurd (none-some node is)
 
   fresh_shape : (s : Step) (o : Outcome) (after : State) → Moves state s o after → GivesLevel lv state s → Fresh after
@@ -163,7 +161,7 @@ module _ (lv : Ref → ℕ) (state : State) (I : IsSafe state) (h : HasLevels lv
   fresh_shape s o after (Ends d is a) gives = nothing_new after (λ r. inl refl)
   fresh_shape s o after (Sweeps spent) gives =
       nothing_new after (sweep_goes state I (map pin_of state.actors) (ripe state.epoch state.limbo)
-        (λ q due. stands_in_use state.heap q (omega (arith, I.small, I.sound.heap.size)) (ripe_in_use (InUse state.heap) state.epoch state.limbo (I.sound.limbo) q due)))
+      (λ q due. stands_in_use state.heap q (omega (arith, I.small, I.sound.heap.size)) (ripe_in_use (InUse state.heap) state.epoch state.limbo (I.sound.limbo) q due)))
 
   nodes_shape : (s : Step) (o : Outcome) (after : State) → Moves state s o after → GivesLevel lv state s → (r : Ref) (slot : Slot) → standing after.heap r ≡ Some slot → ShapeAt deep (lv r) slot.node
   nodes_shape s o after m gives r slot e = by_move (standing_move state I s o after m)
@@ -184,7 +182,7 @@ module _ (lv : Ref → ℕ) (state : State) (I : IsSafe state) (h : HasLevels lv
   lines_shape =
       each_after state (λ k operation. get_or state.actors k None ≡ Some operation) (λ after k operation. LineShape deep operation.line) (λ k operation e. e) (λ actor call k own d. first_shape deep call)
       (λ actor operation k own is goes found. marked_shape _ (operation_after state operation)
-        (line_shape_next lv state operation (IsInUse state.heap) (heaped_in_use state I) shape_under operation.line (line_finds state I actor operation is) (h.lines k operation found) (g.lines k operation found)))
+      (line_shape_next lv state operation (IsInUse state.heap) (heaped_in_use state I) shape_under operation.line (line_finds state I actor operation is) (h.lines k operation found) (g.lines k operation found)))
       (λ s o after m k other operation found e. marked_shape _ operation (g.lines k operation found))
 
   pub shapes_after : (s : Step) (o : Outcome) (after : State) → Moves state s o after → GivesLevel lv state s → HasShapes lv after
@@ -258,6 +256,7 @@ module _ (limits : Limits) (ok : AreLimits limits) (steps : List Step) where
     where
       at_root : (level : ℕ) → level ≡ 1 → level ≤ list_depth limits.hash + 1
       at_root level e = omega arith
+
       at_branch : (level : ℕ) → level ≡ 1 → 1 ≤ list_depth limits.hash → level ≤ list_depth limits.hash
       at_branch level e low = omega arith
 
@@ -271,9 +270,9 @@ pub none_impossible : (limits : Limits) → AreLimits limits → (steps : List S
 none_impossible limits ok =
     along limits (NoneRuns (λ state operation. IsImpossible operation.line)) (none_at_first limits)
     (λ steps s o after m before.
-      let I = safe_along limits ok steps in
-      let both = has_shapes limits ok steps in
-      never_after (run limits steps) I (none_strange (levels_of limits steps) (run limits steps) I both.0 both.1) before s o after m)
+    let I = safe_along limits ok steps in
+    let both = has_shapes limits ok steps in
+    never_after (run limits steps) I (none_strange (levels_of limits steps) (run limits steps) I both.0 both.1) before s o after m)
 
 pub never_there : (limits : Limits) → AreLimits limits → (steps : List Step) (actor : ℕ) (operation : Operation) → operation_of (run limits steps) actor ≡ Some operation → operation.line ≡ line.Impossible → ⊥
 never_there limits ok steps zero operation found e = none-some operation found

@@ -1,16 +1,15 @@
 -- Which nodes stand at which levels: a tomb below the root's level, a list below all levels of a hash, branches above it, indirections no deeper than lists.
 -- So neither a tomb at a root nor a list as parent comes about.
-use Rattle.std.proofs.Common.{◌≡◌, ℕ, zero, suc, ◌+◌, ◌-◌, ◌/◌, ◌<◌, ◌≤◌, ◌==◌, ◌&&◌, ◌||◌, Bool, true, false, cond, nat_lt, nat_le, List, [], ◌∷◌, ◌++◌, All, length, get_or, set, take, Option, Some, None, refl, sym, ap, ◌∙◌, subst, inl, inr, ltb-true, eqb-true, arith}
+use Rattle.std.proofs.Common.{◌≡◌, ℕ, zero, suc, ◌+◌, ◌-◌, ◌<◌, ◌≤◌, ◌==◌, ◌&&◌, Bool, true, false, nat_lt, nat_le, List, [], ◌∷◌, length, Option, Some, None, refl, sym, ap, ◌∙◌, subst, ltb-true, eqb-true, arith}
 use Rattle.std.proofs.lemmas.Bool.{false≢true, cond_both, eqb-false, and_parts}
-use Rattle.arrayvec.specs.ArrayVec.{ArrayVec}
 use Rattle.ctrie_base.specs.declared.hashes.HashKind.{HashKind}
 use Rattle.ctrie_base.specs.declared.hashes.HashKind.TheVariants.{Low, Fold, Wide, Block}
 use Rattle.slot_arena.specs.declared.refs.Ref.{Ref}
 use Rattle.slot_arena.specs.declared.nodes.Node.{Node as SlotNode}
 use Rattle.slot_arena.specs.declared.nodes.Node.TheVariants.{Indirection, Branch, Single, Tomb, List as Listed}
-use Rattle.slot_arena.specs.Heaps.{Heap, node_at, entry_at, entries_of, bitmap_of, next_ref}
+use Rattle.slot_arena.specs.Heaps.{node_at, entry_at, entries_of, bitmap_of, next_ref}
 use Rattle.nodes.specs.Levels.{parting, index_in, list_depth}
-use Rattle.nodes.specs.Builders.{pair, contracted, renewed}
+use Rattle.nodes.specs.Builders.{pair, contracted}
 use Rattle.machine_model.specs.declared.operations.Operation.{Operation}
 use Rattle.machine_model.specs.declared.actions.Action.{Action}
 use Rattle.machine_model.specs.declared.actions.Action.TheVariants as act
@@ -58,9 +57,9 @@ use Rattle.machine_model.specs.Calls.{key_of, inserts, when_found}
 use Rattle.machine_model.specs.States.{State}
 use Rattle.machine_model.specs.Paths.{above, depth_of, is_below_root, flag_in, hash_in}
 use Rattle.machine_model.specs.Operations.{line_action, line_after}
-use Rattle.machine_model.specs.Finding.{key_after, removing, found_so, absent, absent_beside, absent_listed, key_after_main, key_after_entry, after_listed, after_sibling, is_passable}
-use Rattle.machine_model.specs.Renewing.{renew_after, renew_next}
-use Rattle.machine_model.specs.Building.{build_action, build_after, build_after_made, build_if_made, after_single, after_link, pair_depth, old_hash, changed}
+use Rattle.machine_model.specs.Finding.{key_after, removing, found_so, absent, key_after_main, key_after_entry, after_listed, after_sibling, is_passable}
+use Rattle.machine_model.specs.Renewing.{renew_after}
+use Rattle.machine_model.specs.Building.{build_action, build_after, build_after_made, build_if_made, after_single, pair_depth, old_hash, changed}
 use Rattle.machine_model.specs.Cleaning.{clean_after, leaves_single}
 use Rattle.machine_model.specs.Climbing.{climb_after}
 use Rattle.machine_model.specs.Copying.{copy_after}
@@ -210,7 +209,7 @@ module _ (lv : Ref → ℕ) (state : State) (operation : Operation) (S : Ref →
   listed_shape path main position (Single k v) s e =
       cond_both (k == key_of operation.call) _ _ L (λ x. found_shape path main position v (when_found operation.call v) s e)
       (λ x. cond_both (nat_lt (position + 1) (length (entries_of (node_at state.heap main)))) _ _ L (λ y. tt)
-        (λ y. cond_both (inserts operation.call && nat_le 32 (length (entries_of (node_at state.heap main)))) _ _ L (λ z. tt) (λ z. absent_shape path main)))
+      (λ y. cond_both (inserts operation.call && nat_le 32 (length (entries_of (node_at state.heap main)))) _ _ L (λ z. tt) (λ z. absent_shape path main)))
   listed_shape path main position node s e = tt
 
   sibling_shape : (path : List Ref) (main : Ref) (position former : ℕ) (other : Ref) (node : SlotNode) → 1 ≤ depth_of path → L (after_sibling path main position former other node)
