@@ -15,7 +15,7 @@
 --
 -- Levels: `has_levels` (LevelRuns) gives each reference of a run its level for life: 0 for a single, 1 for a root, one more for each indirection further
 -- down. `has_shapes` (ShapeStates) says which nodes stand at which levels: tombs below the root's, lists below all levels of a hash, branches above them.
--- `along_levels` carries more facts on levels along a run.
+-- `shapes_at` has both at each time of a run, with one function of levels for all times; `along_levels` and `levels_at` carry more facts on levels along a run.
 --
 -- The impossible line: `none_impossible` (ShapeStates), by `impossible_strange` (Impossible), `never_after` (Never) and `none_strange`.
 pub mod Ones

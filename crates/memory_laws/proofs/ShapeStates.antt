@@ -32,7 +32,8 @@ use Rattle.machine_model.specs.Paths.{above, depth_of}
 use Rattle.machine_model.specs.Operations.{action_of, first_line}
 use Rattle.machine_model.specs.Acting.{operation_after, gone}
 use Rattle.machine_model.specs.Counting.{settled}
-use Rattle.machine_model.specs.Machine.{AreLimits, run, pin_of}
+use Rattle.machine_model.specs.Machine.{AreLimits, run, pin_of, taken_steps}
+use Rattle.machine_model.proofs.Times.{states_of}
 use Rattle.machine_model.proofs.Along.{along}
 use Rattle.machine_model.proofs.Found.{none_found}
 use Rattle.machine_model.proofs.Frames.{limits_kept}
@@ -58,7 +59,7 @@ use Rattle.memory_laws.proofs.Never.{NoneRuns, never_after, none_at_first}
 use Rattle.memory_laws.proofs.First.{first_stands, safe_at_first}
 use Rattle.memory_laws.proofs.Levels.{LineLevel, made_level}
 use Rattle.memory_laws.proofs.LevelStates.{HasLevels, GivesLevel, heaped_in_use, births_same, levels_after}
-use Rattle.memory_laws.proofs.LevelRuns.{levels_of, along_levels, levels_at_first, root_level, branch_level, old_level}
+use Rattle.memory_laws.proofs.LevelRuns.{levels_of, levels_at, along_levels, levels_at_first, root_level, branch_level, old_level}
 use Rattle.memory_laws.proofs.Shapes.{ShapeAt, LineShape, ActionShape, line_shape_next, line_makes, deep_low}
 
 pub record HasShapes (lv : Ref → ℕ) (state : State) : Type 0 where
@@ -264,6 +265,14 @@ module _ (limits : Limits) (ok : AreLimits limits) (steps : List Step) where
   has_shapes =
       along_levels limits ok steps (λ state. HasLevels lv state × HasShapes lv state) (levels_at_first limits ok steps, first_shapes)
       (λ state I both s o after m gives. (levels_after lv state I both.0 s o after m gives, shapes_after lv state I both.0 both.1 s o after m gives))
+
+-- levels and shapes at each time of a run, with one function for all times
+pub shapes_at : (limits : Limits) → AreLimits limits → (steps : List Step) (t : ℕ) →
+    HasLevels (levels_of limits (taken_steps limits steps)) (states_of limits steps t) × HasShapes (levels_of limits (taken_steps limits steps)) (states_of limits steps t)
+shapes_at limits ok steps =
+    let levels = levels_of limits (taken_steps limits steps) in
+    levels_at limits ok steps (λ state. HasLevels levels state × HasShapes levels state) (levels_at_first limits ok (taken_steps limits steps), first_shapes limits ok (taken_steps limits steps))
+    (λ state I both s o after m gives. (levels_after levels state I both.0 s o after m gives, shapes_after levels state I both.0 both.1 s o after m gives))
 
 -- no operation comes to the impossible line
 pub none_impossible : (limits : Limits) → AreLimits limits → (steps : List Step) → NoneRuns (λ state operation. IsImpossible operation.line) (run limits steps)
