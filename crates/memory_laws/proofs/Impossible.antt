@@ -1,5 +1,5 @@
 -- Which lines can lead to the impossible line: two alone, a tomb at the end of a path of one indirection and a list as the parent in CLIMB. That these don't come
--- about is for the layer of levels, which cites `never_impossible`.
+-- about is shown by levels.
 use Rattle.std.proofs.Common.{◌≡◌, ℕ, ◌+◌, ◌-◌, ◌==◌, ◌&&◌, Bool, true, false, nat_lt, nat_eq, List, [], ◌∷◌, ◌++◌, Option, Some, None, length, refl, ap, arith}
 use Rattle.std.specs.Cmp.Lexicographic.{pointwise}
 use Rattle.std.proofs.lemmas.Bool.{false≢true, cond_both}
@@ -48,7 +48,7 @@ abbrev pub IsImpossible : Line → Type 0
 IsImpossible line.Impossible = Unit {0}
 IsImpossible l = ⊥
 
-abbrev is_tomb : Node → Bool
+abbrev pub is_tomb : Node → Bool
 is_tomb (Tomb single) = true
 is_tomb node = false
 

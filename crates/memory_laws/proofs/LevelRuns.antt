@@ -1,5 +1,5 @@
 -- Every run gives each reference a level, once, where it is made.
-use Rattle.std.proofs.Common.{◌≡◌, ℕ, ◌+◌, ◌<◌, ◌≤◌, true, cond, List, [], ◌∷◌, Option, Some, None, Ok, Err, refl, sym, ap, ◌∙◌, eqb-true, eq-eqb, arith}
+use Rattle.std.proofs.Common.{zero, suc, ◌≡◌, ℕ, ◌+◌, ◌<◌, ◌≤◌, true, cond, List, [], ◌∷◌, Option, Some, None, Ok, Err, refl, sym, ap, ◌∙◌, eqb-true, eq-eqb, arith}
 use Rattle.std.proofs.lemmas.Bool.{cond_both, false≢true}
 use Rattle.std.proofs.lemmas.Option.{none-some}
 use Rattle.std.proofs.lemmas.List.Elements.{All-nil}
@@ -17,7 +17,8 @@ use Rattle.machine_model.specs.Calls.{handle_of}
 use Rattle.machine_model.specs.States.{State, first_state, operation_of}
 use Rattle.machine_model.specs.Operations.{action_of}
 use Rattle.machine_model.specs.Acting.{gone}
-use Rattle.machine_model.specs.Machine.{Answer, AreLimits, run, run_from, next, next_state, state_after, is_number}
+use Rattle.machine_model.specs.Machine.{Answer, AreLimits, run, run_from, next, next_state, state_after, is_number, taken_steps}
+use Rattle.machine_model.proofs.Times.{states_from, states_of}
 use Rattle.machine_model.proofs.Found.{none_found}
 use Rattle.machine_model.proofs.Moves.{Moves, Begins, Goes, Ends, Sweeps, MovesIfTaken, moves}
 use Rattle.memory_laws.proofs.Claims.{safe_of}
@@ -145,20 +146,30 @@ module _ (lv : Ref → ℕ) (state : State) (I : IsSafe state) (s : Step) (steps
       level_is : (actor : ℕ) (operation : Operation) → s ≡ step.Go actor → operation_of state actor ≡ Some operation → level_now state s ≡ made_level operation.line
       level_is actor operation is running = ap (level_now state) is ∙ ap level_by running
 
--- one more step, taken or denied
-levels_by : (lv : Ref → ℕ) (state : State) → IsSafe state → HasLevels lv state → (s : Step) (steps : List Step) (answer : Answer) → MovesIfTaken state s answer →
-    ((r : Ref) → state.heap.births < birth_of r → lv r ≡ given state s answer (levels_from (state_after state answer) steps r) r) →
-    ((after : State) → IsSafe after → HasLevels lv after → Agrees lv after steps → HasLevels lv (run_from after steps)) → HasLevels lv (run_from (state_after state answer) steps)
-levels_by lv state I h s steps (Err why) m agrees go_on = go_on state I h agrees
-levels_by lv state I h s steps (Ok done) m agrees go_on =
-    let both = agrees_by lv state I s steps done.0 done.1 m agrees in go_on done.1 (safe_after state I s done.0 done.1 m) (levels_after lv state I h s done.0 done.1 m both.0) both.1
+-- what is kept by each step that gives what it makes its level
+module _ (lv : Ref → ℕ) (P : State → Type 0) (keeps : (state : State) → IsSafe state → P state → (s : Step) (o : Outcome) (after : State) → Moves state s o after → GivesLevel lv state s → P after) where
+  -- one more step, taken or denied
+  kept_by : (X : State → Type 0) (state : State) → IsSafe state → P state → (s : Step) (steps : List Step) (answer : Answer) → MovesIfTaken state s answer →
+      ((r : Ref) → state.heap.births < birth_of r → lv r ≡ given state s answer (levels_from (state_after state answer) steps r) r) →
+      ((after : State) → IsSafe after → P after → Agrees lv after steps → X after) → X (state_after state answer)
+  kept_by X state I h s steps (Err why) m agrees go_on = go_on state I h agrees
+  kept_by X state I h s steps (Ok done) m agrees go_on =
+      let both = agrees_by lv state I s steps done.0 done.1 m agrees in go_on done.1 (safe_after state I s done.0 done.1 m) (keeps state I h s done.0 done.1 m both.0) both.1
 
--- levels along a run
-levels_along : (lv : Ref → ℕ) (steps : List Step) (state : State) → IsSafe state → HasLevels lv state → Agrees lv state steps → HasLevels lv (run_from state steps)
-unfolding run_from levels_from
-levels_along lv [] state I h agrees = h
-levels_along lv (s ∷ steps) state I h agrees =
-    levels_by lv state I h s steps (next state s) (moves state s) agrees (λ after J g later. levels_along lv steps after J g later)
+  -- holds along a run
+  pub kept_along : (steps : List Step) (state : State) → IsSafe state → P state → Agrees lv state steps → P (run_from state steps)
+  unfolding run_from levels_from
+  kept_along [] state I h agrees = h
+  kept_along (s ∷ steps) state I h agrees =
+      kept_by (λ after. P (run_from after steps)) state I h s steps (next state s) (moves state s) agrees (λ after J g later. kept_along steps after J g later)
+
+  -- and at each time of it
+  pub kept_at : (steps : List Step) (state : State) → IsSafe state → P state → Agrees lv state steps → (t : ℕ) → P (states_from state steps t)
+  unfolding states_from levels_from
+  kept_at [] state I h agrees t = h
+  kept_at (s ∷ steps) state I h agrees zero = h
+  kept_at (s ∷ steps) state I h agrees (suc t) =
+      kept_by (λ after. P (states_from after steps t)) state I h s steps (next state s) (moves state s) agrees (λ after J g later. kept_at steps after J g later t)
 
 -- ---- from the first state
 
@@ -176,7 +187,7 @@ old_by state I s steps (Ok done) m r low go_on =
     still x y = omega arith
 
 -- what was drawn before has level 1
-old_level : (steps : List Step) (state : State) → IsSafe state → (r : Ref) → birth_of r ≤ state.heap.births → levels_from state steps r ≡ 1
+pub old_level : (steps : List Step) (state : State) → IsSafe state → (r : Ref) → birth_of r ≤ state.heap.births → levels_from state steps r ≡ 1
 unfolding levels_from
 old_level [] state I r low = refl
 old_level (s ∷ steps) state I r low = old_by state I s steps (next state s) (moves state s) r low (λ after J still. old_level steps after J r still)
@@ -186,10 +197,10 @@ module _ (limits : Limits) (ok : AreLimits limits) (lv : Ref → ℕ) (old : (r 
   unfolding first_state
   root_old = let (slot, found) = safe_of ((safe_at_first limits ok).words 0 _ refl).0 in (safe_at_first limits ok).births (ref_to 2 1) slot found
 
-  root_level : lv (ref_to 2 1) ≡ 1
+  pub root_level : lv (ref_to 2 1) ≡ 1
   root_level = old (ref_to 2 1) root_old
 
-  branch_level : lv (ref_to 1 0) ≡ 1
+  pub branch_level : lv (ref_to 1 0) ≡ 1
   branch_level = old (ref_to 1 0) (lower root_old)
     where
       lower : birth_of (ref_to 2 1) ≤ (first_state limits).heap.births → birth_of (ref_to 1 0) ≤ (first_state limits).heap.births
@@ -211,7 +222,21 @@ module _ (limits : Limits) (ok : AreLimits limits) (lv : Ref → ℕ) (old : (r 
 abbrev pub levels_of : Limits → List Step → Ref → ℕ
 levels_of limits steps = levels_from (first_state limits) steps
 
+-- what the first state has, and each step keeps that gives what it makes its level
+pub along_levels : (limits : Limits) (ok : AreLimits limits) (steps : List Step) (P : State → Type 0) → P (first_state limits) →
+    ((state : State) → IsSafe state → P state → (s : Step) (o : Outcome) (after : State) → Moves state s o after → GivesLevel (levels_of limits steps) state s → P after) → P (run limits steps)
+along_levels limits ok steps P first keeps = kept_along (levels_of limits steps) P keeps steps (first_state limits) (safe_at_first limits ok) first (λ r high. refl)
+
+-- the same at each time of the steps that are taken, where one function gives the levels for all times
+pub levels_at : (limits : Limits) (ok : AreLimits limits) (steps : List Step) (P : State → Type 0) → P (first_state limits) →
+    ((state : State) → IsSafe state → P state → (s : Step) (o : Outcome) (after : State) → Moves state s o after → GivesLevel (levels_of limits (taken_steps limits steps)) state s → P after) →
+    (t : ℕ) → P (states_of limits steps t)
+levels_at limits ok steps P first keeps =
+    kept_at (levels_of limits (taken_steps limits steps)) P keeps (taken_steps limits steps) (first_state limits) (safe_at_first limits ok) first (λ r high. refl)
+
+pub levels_at_first : (limits : Limits) (ok : AreLimits limits) (steps : List Step) → HasLevels (levels_of limits steps) (first_state limits)
+levels_at_first limits ok steps = first_levels limits ok (levels_of limits steps) (old_level steps (first_state limits) (safe_at_first limits ok))
+
 pub has_levels : (limits : Limits) → AreLimits limits → (steps : List Step) → HasLevels (levels_of limits steps) (run limits steps)
 has_levels limits ok steps =
-    let I = safe_at_first limits ok in
-    levels_along (levels_of limits steps) steps (first_state limits) I (first_levels limits ok (levels_of limits steps) (old_level steps (first_state limits) I)) (λ r high. refl)
+    along_levels limits ok steps (HasLevels (levels_of limits steps)) (levels_at_first limits ok steps) (λ state I h s o after m gives. levels_after (levels_of limits steps) state I h s o after m gives)

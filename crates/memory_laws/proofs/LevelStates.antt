@@ -158,7 +158,7 @@ decided_births heap main previous Fails = prev_births heap main (prev.Failed pre
 decided_births heap main previous (Overtaken licensed) = refl
 
 -- an action that makes no node draws no birth
-births_same : (state : State) (handle : ℕ) (action : Action) → made_node state action ≡ None → (acted state handle action).heap.births ≡ state.heap.births
+pub births_same : (state : State) (handle : ℕ) (action : Action) → made_node state action ≡ None → (acted state handle action).heap.births ≡ state.heap.births
 births_same state handle (act.Abort offer) e = ap (λ (heap : Heap). heap.births) (aborted_heap state handle offer)
 births_same state handle (act.Offer offer) e = ap (λ (heap : Heap). heap.births) (offered_heap state handle offer)
 births_same state handle (act.Complete offer main) e = ap (λ (heap : Heap). heap.births) (completed_heap state handle offer main)
@@ -173,7 +173,7 @@ births_same state handle action e = refl
 
 -- ---- each step
 
-heaped_in_use : (state : State) → IsSafe state → Heaped (IsInUse state.heap) state.heap
+pub heaped_in_use : (state : State) → IsSafe state → Heaped (IsInUse state.heap) state.heap
 heaped_in_use state I = record {
   inside = λ r u. subst (λ node. AllHold (IsInUse state.heap) state.heap (node_wants node)) (sym (node_under state.heap r u.0 u.1))
       (first_hold (IsInUse state.heap) state.heap (node_wants u.0.node) (prev_wants u.0.prev) ((I.nodes r u.0 u.1).0));
@@ -183,7 +183,7 @@ heaped_in_use state I = record {
 }
 
 module _ (lv : Ref → ℕ) (state : State) (I : IsSafe state) (h : HasLevels lv state) where
-  level_under : (r : Ref) → IsInUse state.heap r → NodeLevel lv r (node_at state.heap r) × PrevLevel lv r (prev_at state.heap r)
+  pub level_under : (r : Ref) → IsInUse state.heap r → NodeLevel lv r (node_at state.heap r) × PrevLevel lv r (prev_at state.heap r)
   level_under r u =
       (subst (NodeLevel lv r) (sym (node_under state.heap r u.0 u.1)) ((h.nodes r u.0 u.1).0), subst (PrevLevel lv r) (sym (prev_under state.heap r u.0 u.1)) ((h.nodes r u.0 u.1).1))
 

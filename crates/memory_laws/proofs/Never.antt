@@ -31,7 +31,7 @@ first_possible call i = i
 marked_possible : (m : Option ℕ) (operation : Operation) → (IsImpossible operation.line → ⊥) → IsImpossible (mark_one m operation).line → ⊥
 marked_possible m operation h i = h (subst (λ (o : Operation). IsImpossible o.line) (mark_only m operation) i)
 
-never_after : (state : State) → IsSafe state → NoneRuns (λ state operation. IsStrange state operation.line) state → NoneRuns (λ state operation. IsImpossible operation.line) state →
+pub never_after : (state : State) → IsSafe state → NoneRuns (λ state operation. IsStrange state operation.line) state → NoneRuns (λ state operation. IsImpossible operation.line) state →
     (s : Step) (o : Outcome) (after : State) → Moves state s o after → NoneRuns (λ state operation. IsImpossible operation.line) after
 never_after state I strange before s o after m =
     each_after state (λ k operation. get_or state.actors k None ≡ Some operation) (λ after k operation. IsImpossible operation.line → ⊥) (λ k operation e. e)
@@ -41,7 +41,7 @@ never_after state I strange before s o after m =
     (impossible_strange state operation (Safe state operation.epoch) (heaped state I operation.epoch) (I.fits k operation found) operation.line (I.lines k operation found) (before k operation found) i)))
     (λ s o after m k other operation found e. marked_possible _ operation (before k operation found)) s o after m
 
-none_at_first : (limits : Limits) → NoneRuns (λ state operation. IsImpossible operation.line) (first_state limits)
+pub none_at_first : (limits : Limits) → NoneRuns (λ state operation. IsImpossible operation.line) (first_state limits)
 unfolding first_state
 none_at_first limits k operation found i = none_found limits.actors k operation found
 

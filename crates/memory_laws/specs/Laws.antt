@@ -97,6 +97,12 @@ RootsFind =
     ((is_end operation.line || is_some (root_at (run limits steps) (handle_of operation.call))) ≡ true)
     × (is_past_root operation.line ≡ true → is_some operation.generation ≡ true)
 
+-- no operation comes to the impossible line
+abbrev pub NeverImpossible : Type 0
+NeverImpossible =
+    (limits : Limits) (steps : List Step) (actor : ℕ) (operation : Operation) → AreLimits limits → operation_of (run limits steps) actor ≡ Some operation →
+    ¬ (operation.line ≡ line.Impossible)
+
 -- ---- counts
 
 -- a slot in use to which nothing refers

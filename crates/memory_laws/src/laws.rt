@@ -1,6 +1,6 @@
 //! Laws of memory, for every list of steps.
 
-ghost use Rattle.memory_laws.specs.Laws.{HeldInUse, StandingInUse, DrawnOnce, OneNodeForEver, LinesFind, NodesFind, RootsFind, LimboIsExact, LimboIsRecent, FreedLate, SweepLeaves, Reclaimed};
+ghost use Rattle.memory_laws.specs.Laws.{HeldInUse, StandingInUse, DrawnOnce, OneNodeForEver, LinesFind, NodesFind, RootsFind, NeverImpossible, LimboIsExact, LimboIsRecent, FreedLate, SweepLeaves, Reclaimed};
 
 /// A law: each reference that a running operation has got since its begin (`held`), or that stands in a root
 /// word, a private list or a slot in use (`standing`), names a slot in use, under that very birth.
@@ -23,6 +23,11 @@ pub fn each_lookup_finds()
     ensures lines { LinesFind }
     ensures nodes { NodesFind }
     ensures roots { RootsFind }
+{}
+
+/// A law: no operation comes to the impossible line.
+pub fn never_impossible()
+    ensures { NeverImpossible }
 {}
 
 /// A law: a slot is freed by the sweep alone, and only when nothing has referred to it for two epochs.

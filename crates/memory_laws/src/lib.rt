@@ -5,5 +5,5 @@ mod laws;
 
 pub use laws::{
     births_never_repeat, each_lookup_finds, freed_when_zero_for_two_epochs, limbo_is_right,
-    reclaimed, references_in_use, sweep_leaves,
+    never_impossible, reclaimed, references_in_use, sweep_leaves,
 };
