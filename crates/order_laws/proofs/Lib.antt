@@ -34,3 +34,4 @@ pub mod Candidates
 pub mod Explained
 pub mod Unconditional
 pub mod HaveBegun
+pub mod Phases

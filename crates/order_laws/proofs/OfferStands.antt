@@ -48,16 +48,16 @@ use Rattle.order_laws.proofs.Offers.{Stands, Offers, same_try, same_found, fits_
 -- ---- who is marked
 
 -- what a step marks is the operation whose offer it carries out
-record Marks (state : State) (s : Step) (id : ℕ) : Type 0 where
-  k : ℕ
-  operation : Operation
-  offer : Descriptor
-  main : Ref
-  is_step : s ≡ step.Go (suc k)
-  runs : Runs state k operation
-  does : action_of state operation ≡ act.Complete offer main
-  carried : is_carried_out (word_at state (handle_of operation.call)) offer main ≡ true
-  marks : offer.operation ≡ id
+pub record Marks (state : State) (s : Step) (id : ℕ) : Type 0 where
+  pub k : ℕ
+  pub operation : Operation
+  pub offer : Descriptor
+  pub main : Ref
+  pub is_step : s ≡ step.Go (suc k)
+  pub runs : Runs state k operation
+  pub does : action_of state operation ≡ act.Complete offer main
+  pub carried : is_carried_out (word_at state (handle_of operation.call)) offer main ≡ true
+  pub marks : offer.operation ≡ id
 
 marks_action : (state : State) (handle : ℕ) (action : Action) (id : ℕ) → marks_of state handle action ≡ Some id →
     (offer : Descriptor) × (main : Ref) × (action ≡ act.Complete offer main) × (is_carried_out (word_at state handle) offer main ≡ true) × (offer.operation ≡ id)
@@ -76,7 +76,7 @@ marks_go state actor id (Some operation) is e =
     let (offer, main, does, carried, marks) = marks_action state (handle_of operation.call) (action_of state operation) id e in
     record { k = k; operation = operation; offer = offer; main = main; is_step = ap step.Go actors; runs = runs; does = does; carried = carried; marks = marks }
 
-marks_says : (state : State) (s : Step) (id : ℕ) → marks_in state s ≡ Some id → Marks state s id
+pub marks_says : (state : State) (s : Step) (id : ℕ) → marks_in state s ≡ Some id → Marks state s id
 marks_says state (step.Begin actor call) id e = absurd (none-some id e)
 marks_says state (step.Go actor) id e = marks_go state actor id (operation_of state actor) refl e
 marks_says state step.Sweep id e = absurd (none-some id e)
