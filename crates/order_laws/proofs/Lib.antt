@@ -35,3 +35,4 @@ pub mod Explained
 pub mod Unconditional
 pub mod HaveBegun
 pub mod Phases
+pub mod Answering

@@ -242,7 +242,7 @@ first_words limits (suc n) d e = by (get_or (replicate handle_limit None) (suc n
         nothing d e = grind arith
     by (Some root) is e = none_found handle_limit (suc n) root is
 
-nobody : (limits : Limits) (k : ℕ) (operation : Operation) → Runs (first_state limits) k operation → ⊥
+pub nobody : (limits : Limits) (k : ℕ) (operation : Operation) → Runs (first_state limits) k operation → ⊥
 unfolding first_state
 nobody limits k operation at_k = none_found limits.actors k operation at_k
 

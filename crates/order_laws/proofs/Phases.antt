@@ -91,7 +91,7 @@ marked_or (Some id) operation e = by (operation.id == id) refl e
     by true is e = inr (ap Some (sym (eqb-true operation.id id is)))
     by false is e = inl e
 
-stays_marked : (m : Option ℕ) (operation : Operation) → operation.is_marked ≡ true → (mark_one m operation).is_marked ≡ true
+pub stays_marked : (m : Option ℕ) (operation : Operation) → operation.is_marked ≡ true → (mark_one m operation).is_marked ≡ true
 stays_marked None operation e = e
 stays_marked (Some id) operation e = by (operation.id == id)
   where
@@ -99,7 +99,7 @@ stays_marked (Some id) operation e = by (operation.id == id)
     by true = refl
     by false = e
 
-is_marked_now : (m : Option ℕ) (operation : Operation) → m ≡ Some operation.id → (mark_one m operation).is_marked ≡ true
+pub is_marked_now : (m : Option ℕ) (operation : Operation) → m ≡ Some operation.id → (mark_one m operation).is_marked ≡ true
 is_marked_now m operation e = ap (λ x. (mark_one x operation).is_marked) e ∙ by (operation.id == operation.id) refl
   where
     by : (b : Bool) → (operation.id == operation.id) ≡ b → (cond b (record operation { is_marked = true }) operation).is_marked ≡ true
@@ -109,7 +109,7 @@ is_marked_now m operation e = ap (λ x. (mark_one x operation).is_marked) e ∙ 
 marked_before : (mark : Bool) (action : Action) → mark_after mark action ≡ true → mark ≡ true
 marked_before mark action e = grind arith
 
-mark_kept : (mark : Bool) (action : Action) → ((offer : Descriptor) → action ≡ act.Offer offer → ⊥) → mark_after mark action ≡ mark
+pub mark_kept : (mark : Bool) (action : Action) → ((offer : Descriptor) → action ≡ act.Offer offer → ⊥) → mark_after mark action ≡ mark
 mark_kept mark (act.Offer offer) other = absurd (other offer refl)
 mark_kept mark action other = refl
 
@@ -122,7 +122,7 @@ done_as m operation (inl (c, at)) e = inl (c, ap (λ (o : Operation). o.line) (m
 done_as m operation (inr at) e =
     inr (ap (λ (o : Operation). o.line) (mark_only m operation) ∙ at ∙ ap (λ (o : Operation). line.End (copied_reply o.call o.opens)) (sym (mark_only m operation)))
 
-own_marks : (state : State) (s : Step) (k : ℕ) (operation : Operation) → s ≡ step.Go (suc k) → Runs state k operation → marks_in state s ≡ marks_by state (Some operation)
+pub own_marks : (state : State) (s : Step) (k : ℕ) (operation : Operation) → s ≡ step.Go (suc k) → Runs state k operation → marks_in state s ≡ marks_by state (Some operation)
 own_marks state s k operation e runs = ap (marks_in state) e ∙ ap (marks_by state) runs
 
 -- in its own step
@@ -145,7 +145,7 @@ stepped_done state s offers k operation runs e goes done (inr marked) =
     subst (λ l. ((c : Complete) × (line_after state operation l ≡ line.Copy (copy.Complete c))) ⊎ (line_after state operation l ≡ line.End (copied_reply operation.call operation.opens)))
     (sym at) (completes_on state operation c (λ gives. absurd (gives_carried state operation c it.offer it.main does carried gives)))
 
-done_by : (state : State) (s : Step) → Offers state → ((k : ℕ) (operation : Operation) → Runs state k operation → IsDone operation) → (k : ℕ) (found : Operation) → From state s k found → IsDone found
+pub done_by : (state : State) (s : Step) → Offers state → ((k : ℕ) (operation : Operation) → Runs state k operation → IsDone operation) → (k : ℕ) (found : Operation) → From state s k found → IsDone found
 done_by state s offers each k found (began new) e = absurd (false≢true (ap (λ (x : Operation). x.is_marked) (sym new.is_it) ∙ e))
 done_by state s offers each k found (kept operation runs is other) e =
     subst IsDone (sym is) (by (marked_or (marks_in state s) operation (ap (λ (x : Operation). x.is_marked) (sym is) ∙ e))) e
