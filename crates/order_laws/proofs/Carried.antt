@@ -13,10 +13,13 @@ use Rattle.machine_model.specs.States.{State, word_at}
 use Rattle.machine_model.specs.Swapping.{stands_in}
 use Rattle.machine_model.specs.Orders.{is_placed}
 use Rattle.machine_model.proofs.Moves.{Moves}
-use Rattle.order_laws.specs.Facts.{Runs, On, IsFresh, Opens, CarriesOut, Facts}
+use Rattle.order_laws.specs.Facts.{IsReply, Runs, On, IsFresh, Opens, CarriesOut, Facts}
 use Rattle.order_laws.proofs.Running.{place_of_actor}
 use Rattle.order_laws.proofs.EachStep.{HonestIn}
 use Rattle.order_laws.proofs.OfferLines.{Settles, settles_held}
+use Rattle.machine_model.specs.Copying.{copied_reply}
+use Rattle.machine_model.proofs.Times.{IsRun}
+use Rattle.order_laws.proofs.Answering.{carried_reply}
 use Rattle.order_laws.proofs.Offers.{Offers, own_offer, same_found}
 
 -- offers are found as they were made
@@ -32,15 +35,17 @@ pub record Carried (states : ℕ → State) (last : ℕ) (V : ℕ → ℕ → Ke
   pub runs : Runs (states t) k offerer
   pub is_its : offerer.id ≡ offer.operation
   pub number : offerer.opens ≡ offer.opens
+  -- it answers that it was carried out
+  pub agrees : IsReply (states last).events offer.operation (copied_reply offerer.call offerer.opens)
   pub unplaced : is_placed (states t) offer.operation ≡ false
   pub stands : On states t handle (generation_at (states t).heap offer.root)
   pub is_fresh : IsFresh (states t) (generation_at (states t).heap offer.successor)
   pub opens : Opens states last V t handle (generation_at (states t).heap offer.root) offer offerer.call
 
 -- the facts, of the operation that made it
-pub carried : (limits : Limits) (states : ℕ → State) (last : ℕ) (V : ℕ → ℕ → KeyMap) → Facts limits states last V → (t : ℕ) (s : Step) (o : Outcome) → t < last →
+pub carried : (limits : Limits) (states : ℕ → State) (last : ℕ) → IsRun limits states last → (V : ℕ → ℕ → KeyMap) → Facts limits states last V → (t : ℕ) (s : Step) (o : Outcome) → t < last →
     Moves (states t) s o (states (suc t)) → (handle : ℕ) (offer : Descriptor) → CarriesOut (states t) s handle offer → Offers (states t) → Carried states last V t handle offer
-carried limits states last V facts t s o lt m handle offer carries offers =
+carried limits states last r V facts t s o lt m handle offer carries offers =
     let (actor, operation, main, is_step, is, does, on, out) = carries in
     let standing_there = (and_parts (stands_in (word_at (states t) handle) offer) _ out).0 in
     let there = subst (λ h. stands_in (word_at (states t) h) offer ≡ true) (sym on) standing_there in
@@ -54,6 +59,7 @@ carried limits states last V facts t s o lt m handle offer carries offers =
       runs = st.runs;
       is_its = st.id;
       number = sym own.opens ∙ ap (λ (x : Descriptor). x.opens) st.its;
+      agrees = carried_reply limits states last r t s o lt m handle offer carries st.k st.operation st.runs st.id;
       unplaced = facts_of.unplaced;
       stands = facts_of.stands;
       is_fresh = facts_of.is_fresh;
