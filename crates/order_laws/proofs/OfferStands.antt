@@ -3,7 +3,6 @@ use Rattle.std.proofs.Common.{◌≡◌, ℕ, zero, suc, ◌+◌, ◌≤◌, ◌
 use native.Mathlib.Decide.{ℕ_discrete}
 use Rattle.std.proofs.lemmas.Bool.{and_parts}
 use Rattle.std.proofs.lemmas.Option.{none-some, same_Some}
-use Rattle.history.specs.declared.calls.Access.TheVariants.{Writable}
 use Rattle.slot_arena.specs.declared.refs.Ref.{Ref}
 use Rattle.slot_arena.specs.Refs.{ref_to}
 use Rattle.machine_model.specs.declared.actions.Action.{Action}
@@ -42,6 +41,7 @@ use Rattle.order_laws.proofs.AllBooks.{books_kept, first_books}
 use Rattle.order_laws.proofs.Growing.{IsKept}
 use Rattle.order_laws.proofs.OfferLines.{Settles, FitsCopy, Own, copying_of, settles_held, offers_so}
 use Rattle.order_laws.proofs.OfferWords.{Leaves, StandsFrom, stood, put, words_after}
+use Rattle.order_laws.proofs.Changes.{first_root}
 use Rattle.order_laws.proofs.OneStep.{from, stays, steps_on}
 use Rattle.order_laws.proofs.Offers.{Stands, Offers, same_try, same_found, fits_kept, held_by}
 
@@ -223,9 +223,6 @@ offers_kept state s o after m offers = record {
 }
 
 -- ---- at each time
-
-abbrev first_root : Option Root
-first_root = Some (record { access = Writable; word = Plain (ref_to 2 1) })
 
 first_words : (limits : Limits) (h : ℕ) (d : Descriptor) → word_at (first_state limits) h ≡ Offer d → ⊥
 unfolding first_state

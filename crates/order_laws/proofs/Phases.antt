@@ -1,47 +1,34 @@
 -- The operations of snapshots, freezes and clears: on which lines they stand, and that a marked one answers that it was carried
 -- out.
-use Rattle.std.proofs.Common.{◌≡◌, ℕ, zero, suc, ◌+◌, ◌<◌, ◌==◌, ◌&&◌, ◌||◌, ◌⊎◌, inl, inr, cond, Bool, true, false, List, [], ◌∷◌, Option, Some, None, refl, sym, ap, ◌∙◌, subst, eqb-true, eq-eqb, arith}
+use Rattle.std.proofs.Common.{◌≡◌, ℕ, suc, ◌==◌, ◌⊎◌, inl, inr, cond, Bool, true, false, Option, Some, None, refl, sym, ap, ◌∙◌, subst, eqb-true, eq-eqb, arith}
 use Rattle.std.proofs.lemmas.Bool.{true≢false, false≢true, and_parts}
-use Rattle.std.proofs.lemmas.Option.{none-some, same_Some}
-use Rattle.history.specs.declared.calls.Call.{Call}
-use Rattle.history.specs.declared.calls.Call.TheVariants.{Clear, Snapshot, Freeze}
-use Rattle.history.specs.declared.replies.Reply.{Reply}
-use Rattle.history.specs.declared.replies.Reply.TheVariants as reply
 use Rattle.slot_arena.specs.declared.refs.Ref.{Ref}
-use Rattle.slot_arena.specs.Heaps.{next_ref}
 use Rattle.machine_model.specs.declared.actions.Action.{Action}
 use Rattle.machine_model.specs.declared.actions.Action.TheVariants as act
 use Rattle.machine_model.specs.declared.operations.Operation.{Operation}
-use Rattle.machine_model.specs.declared.roots.RootWord.{RootWord}
-use Rattle.machine_model.specs.declared.roots.RootWord.TheVariants.{Offer}
 use Rattle.machine_model.specs.declared.roots.Descriptor.{Descriptor}
 use Rattle.machine_model.specs.declared.roots.Complete.{Complete}
-use Rattle.machine_model.specs.declared.roots.RootLine.{RootLine}
 use Rattle.machine_model.specs.declared.reading.After.{After}
 use Rattle.machine_model.specs.declared.reading.After.TheVariants.{Goes, Gives}
-use Rattle.machine_model.specs.declared.copying.CopyLine.{CopyLine}
 use Rattle.machine_model.specs.declared.copying.CopyLine.TheVariants as copy
-use Rattle.machine_model.specs.declared.lines.Line.{Line}
 use Rattle.machine_model.specs.declared.lines.Line.TheVariants as line
-use Rattle.machine_model.specs.declared.steps.Outcome.{Outcome}
 use Rattle.machine_model.specs.declared.steps.Step.{Step}
 use Rattle.machine_model.specs.declared.steps.Step.TheVariants as step
-use Rattle.machine_model.specs.declared.steps.Limits.{Limits}
 use Rattle.machine_model.specs.Calls.{handle_of}
-use Rattle.machine_model.specs.States.{State, first_state, word_at}
-use Rattle.machine_model.specs.Swapping.{complete_after, complete_action, root_after, stands_in, is_carried_out}
+use Rattle.machine_model.specs.States.{State, word_at}
+use Rattle.machine_model.specs.Swapping.{complete_after, complete_action, stands_in, is_carried_out}
 use Rattle.machine_model.specs.Copying.{copied_reply, copy_after_complete}
-use Rattle.machine_model.specs.Operations.{action_of, line_action, line_after, first_line, after_root, from_root}
+use Rattle.machine_model.specs.Operations.{action_of, line_action, line_after}
 use Rattle.machine_model.specs.Acting.{mark_after, operation_after}
-use Rattle.machine_model.proofs.Moves.{Moves, GoesOn, begun_operation}
+use Rattle.machine_model.proofs.Moves.{GoesOn}
 use Rattle.machine_model.proofs.Actors.{mark_one, mark_only, marks_in, marks_by}
 use Rattle.order_laws.specs.Facts.{Runs}
 use Rattle.order_laws.proofs.Running.{one_at}
 use Rattle.order_laws.proofs.Books.{one_by_id}
-use Rattle.order_laws.proofs.OfferLines.{Settles, settles_held, offers_so}
+use Rattle.order_laws.proofs.OfferLines.{Settles, settles_held}
 use Rattle.order_laws.proofs.Offers.{Offers, same_found}
 use Rattle.order_laws.proofs.OfferStands.{Marks, marks_says}
-use Rattle.order_laws.proofs.OneStep.{From, began, kept, stepped, from}
+use Rattle.order_laws.proofs.OneStep.{From, began, kept, stepped}
 
 -- ---- what a marked operation does
 

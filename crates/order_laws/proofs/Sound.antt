@@ -9,8 +9,6 @@ use Rattle.history.specs.declared.calls.Call.{Call}
 use Rattle.slot_arena.specs.declared.refs.Ref.{Ref}
 use Rattle.slot_arena.specs.Heaps.{generation_at}
 use Rattle.machine_model.specs.declared.roots.Root.{Root}
-use Rattle.machine_model.specs.declared.roots.RootWord.TheVariants.{Plain}
-use Rattle.slot_arena.specs.Refs.{ref_to}
 use Rattle.machine_model.specs.declared.roots.Descriptor.{Descriptor}
 use Rattle.machine_model.specs.declared.steps.Limits.{Limits}
 use Rattle.machine_model.specs.States.{State, first_state, root_at, closed_at, handle_limit}
@@ -19,14 +17,11 @@ use Rattle.machine_model.proofs.Found.{none_found, found_elsewhere}
 use Rattle.machine_model.proofs.Times.{IsRun}
 use Rattle.order_laws.specs.Facts.{standing_of, standing, On, IsFresh, Facts, Opens, clears, snapshots, freezes}
 use Rattle.order_laws.proofs.Carried.{Carried}
-use Rattle.order_laws.proofs.Changes.{roots_swapped}
+use Rattle.order_laws.proofs.Changes.{first_root, roots_swapped}
 use Rattle.order_laws.proofs.Handles.{opens_in_range}
 use Rattle.order_laws.proofs.Standing.{standing_root, here_none, here_some, there_some, else_none, else_some}
 use Rattle.order_laws.proofs.StepsOfRun.{Kind, plain, updates, answers, closes, swaps, kind_at}
 use Rattle.order_laws.proofs.Closed.{closed_in, closed_other}
-
-abbrev first_root : Option Root
-first_root = Some (record { access = Writable; word = Plain (ref_to 2 1) })
 
 -- the standing at first: handle 0 alone is open
 pub first_standing : (limits : Limits) (handle : ℕ) (access : Access) (generation : ℕ) → standing (first_state limits) handle ≡ Some (access, generation) → handle ≡ 0
