@@ -62,29 +62,29 @@ pub record Phased (state : State) : Type 0 where
   pub offers : Offers state
   pub done : (k : ℕ) (operation : Operation) → Runs state k operation → IsDone operation
 
-phased_kept : IsKept Phased
+pub phased_kept : IsKept Phased
 phased_kept state s o after m h = record {
   offers = offers_kept state s o after m h.offers;
   done = λ k found at_k. done_by state s h.offers h.done k found (from state s o after m k found at_k);
 }
 
-first_phased : (limits : Limits) → Phased (first_state limits)
+pub first_phased : (limits : Limits) → Phased (first_state limits)
 first_phased limits = record { offers = first_offers limits; done = λ k operation at_k. absurd (nobody limits k operation at_k) }
 
 -- ---- once its offer is carried out
 
 -- it is marked while it runs, and has this answer once it has ended
-record Settled (id : ℕ) (call : Call) (opens : Option ℕ) (state : State) : Type 0 where
-  phased : Phased state
-  begun_before : id < begun state.events
-  marked : (k : ℕ) (operation : Operation) → Runs state k operation → operation.id ≡ id → (operation.is_marked ≡ true) × (operation.call ≡ call) × (operation.opens ≡ opens)
-  answered : (answer : Reply) → HasEnded state.events id answer → answer ≡ copied_reply call opens
+pub record Settled (id : ℕ) (call : Call) (opens : Option ℕ) (state : State) : Type 0 where
+  pub phased : Phased state
+  pub begun_before : id < begun state.events
+  pub marked : (k : ℕ) (operation : Operation) → Runs state k operation → operation.id ≡ id → (operation.is_marked ≡ true) × (operation.call ≡ call) × (operation.opens ≡ opens)
+  pub answered : (answer : Reply) → HasEnded state.events id answer → answer ≡ copied_reply call opens
 
 complete_no_end : (c : Complete) (answer : Reply) → complete_action c ≡ act.End answer → ⊥
 complete_no_end c answer e = grind arith
 
 -- a marked operation makes no offer
-no_offer : (state : State) (operation : Operation) → IsDone operation → operation.is_marked ≡ true → (offer : Descriptor) → action_of state operation ≡ act.Offer offer → ⊥
+pub no_offer : (state : State) (operation : Operation) → IsDone operation → operation.is_marked ≡ true → (offer : Descriptor) → action_of state operation ≡ act.Offer offer → ⊥
 no_offer state operation done marked offer does = by (offers_so state operation operation.line offer does) (done marked)
   where
     by : operation.line ≡ line.Copy (copy.Offer offer) → ((c : Complete) × (operation.line ≡ line.Copy (copy.Complete c))) ⊎ (operation.line ≡ line.End (copied_reply operation.call operation.opens)) → ⊥
@@ -187,7 +187,7 @@ module _ (state : State) (s : Step) (o : Outcome) (after : State) (m : Moves sta
       let wrong : act.Complete offer main ≡ act.End answer = sym completes ∙ ap (action_of state) one ∙ does in
       cc wrong
 
-  settled_now : Settled offer.operation offerer.call offerer.opens after
+  pub settled_now : Settled offer.operation offerer.call offerer.opens after
   unfolding NowFits
   settled_now =
       let low = running_below state phased.offers.books k offerer runs in

@@ -20,13 +20,20 @@ use Rattle.order_laws.proofs.OfferLines.{Settles, settles_held}
 use Rattle.machine_model.specs.Copying.{copied_reply}
 use Rattle.machine_model.proofs.Times.{IsRun}
 use Rattle.order_laws.proofs.Answering.{carried_reply}
-use Rattle.order_laws.proofs.Offers.{Offers, own_offer, same_found}
+use Rattle.order_laws.proofs.Offers.{Offers, Stands, own_offer, same_found}
 
 -- offers are found as they were made
 pub honest : (state : State) → Offers state → HonestIn state
 honest state offers actor operation offer is settles stands =
     let (k, actors, runs) = place_of_actor state actor operation is in
     same_found state offers (handle_of operation.call) offer (offers.held k operation offer runs (settles_held state operation operation.line offer settles)) stands
+
+-- the operation whose offer is carried out
+pub offerer_of : (state : State) → Offers state → (s : Step) (handle : ℕ) (offer : Descriptor) → CarriesOut state s handle offer → Stands state handle offer
+offerer_of state offers s handle offer (actor, operation, main, is_step, is, does, on, out) =
+    let there = subst (λ h. stands_in (word_at state h) offer ≡ true) (sym on) ((and_parts (stands_in (word_at state handle) offer) _ out).0) in
+    let word = honest state offers actor operation offer is (subst (λ a. Settles a offer) (sym does) refl) there in
+    offers.words handle offer (ap (word_at state) (sym on) ∙ word)
 
 -- an offer that is carried out, with the operation that made it
 pub record Carried (states : ℕ → State) (last : ℕ) (V : ℕ → ℕ → KeyMap) (t handle : ℕ) (offer : Descriptor) : Type 0 where
@@ -46,11 +53,7 @@ pub record Carried (states : ℕ → State) (last : ℕ) (V : ℕ → ℕ → Ke
 pub carried : (limits : Limits) (states : ℕ → State) (last : ℕ) → IsRun limits states last → (V : ℕ → ℕ → KeyMap) → Facts limits states last V → (t : ℕ) (s : Step) (o : Outcome) → t < last →
     Moves (states t) s o (states (suc t)) → (handle : ℕ) (offer : Descriptor) → CarriesOut (states t) s handle offer → Offers (states t) → Carried states last V t handle offer
 carried limits states last r V facts t s o lt m handle offer carries offers =
-    let (actor, operation, main, is_step, is, does, on, out) = carries in
-    let standing_there = (and_parts (stands_in (word_at (states t) handle) offer) _ out).0 in
-    let there = subst (λ h. stands_in (word_at (states t) h) offer ≡ true) (sym on) standing_there in
-    let word = honest (states t) offers actor operation offer is (subst (λ a. Settles a offer) (sym does) refl) there in
-    let st = offers.words handle offer (ap (word_at (states t)) (sym on) ∙ word) in
+    let st = offerer_of (states t) offers s handle offer carries in
     let own = own_offer (states t) offers st.k st.operation st.c st.runs st.at in
     let facts_of = facts.swaps t s o lt m handle offer carries st.k st.operation st.runs st.id in
     record {

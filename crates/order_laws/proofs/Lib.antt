@@ -36,3 +36,4 @@ pub mod Unconditional
 pub mod HaveBegun
 pub mod Phases
 pub mod Answering
+pub mod Reserved
