@@ -1,5 +1,5 @@
--- Offers are found as they were made, and the operation whose offer is carried out runs.
-use Rattle.std.proofs.Common.{◌≡◌, ℕ, suc, ◌<◌, true, false, refl, sym, ap, ◌∙◌, subst}
+-- An offer that is carried out, with the operation that made it and what the facts say of it.
+use Rattle.std.proofs.Common.{◌≡◌, ℕ, suc, ◌<◌, true, false, refl, sym, ap, ◌∙◌, subst, Some, None, arith}
 use Rattle.std.proofs.lemmas.Bool.{and_parts}
 use Rattle.history.specs.Worlds.{KeyMap}
 use Rattle.slot_arena.specs.Heaps.{generation_at}
@@ -9,7 +9,7 @@ use Rattle.machine_model.specs.declared.steps.Outcome.{Outcome}
 use Rattle.machine_model.specs.declared.steps.Step.{Step}
 use Rattle.machine_model.specs.declared.steps.Limits.{Limits}
 use Rattle.machine_model.specs.Calls.{handle_of}
-use Rattle.machine_model.specs.States.{State, word_at}
+use Rattle.machine_model.specs.States.{State, root_at, word_at}
 use Rattle.machine_model.specs.Swapping.{stands_in}
 use Rattle.machine_model.specs.Orders.{is_placed}
 use Rattle.machine_model.proofs.Moves.{Moves}
@@ -20,20 +20,9 @@ use Rattle.order_laws.proofs.OfferLines.{Settles, settles_held}
 use Rattle.machine_model.specs.Copying.{copied_reply}
 use Rattle.machine_model.proofs.Times.{IsRun}
 use Rattle.order_laws.proofs.Answering.{carried_reply}
+use Rattle.order_laws.proofs.Honest.{offerer_of}
+use Rattle.order_laws.proofs.Reserved.{reserved_at}
 use Rattle.order_laws.proofs.Offers.{Offers, Stands, own_offer, same_found}
-
--- offers are found as they were made
-pub honest : (state : State) → Offers state → HonestIn state
-honest state offers actor operation offer is settles stands =
-    let (k, actors, runs) = place_of_actor state actor operation is in
-    same_found state offers (handle_of operation.call) offer (offers.held k operation offer runs (settles_held state operation operation.line offer settles)) stands
-
--- the operation whose offer is carried out
-pub offerer_of : (state : State) → Offers state → (s : Step) (handle : ℕ) (offer : Descriptor) → CarriesOut state s handle offer → Stands state handle offer
-offerer_of state offers s handle offer (actor, operation, main, is_step, is, does, on, out) =
-    let there = subst (λ h. stands_in (word_at state h) offer ≡ true) (sym on) ((and_parts (stands_in (word_at state handle) offer) _ out).0) in
-    let word = honest state offers actor operation offer is (subst (λ a. Settles a offer) (sym does) refl) there in
-    offers.words handle offer (ap (word_at state) (sym on) ∙ word)
 
 -- an offer that is carried out, with the operation that made it
 pub record Carried (states : ℕ → State) (last : ℕ) (V : ℕ → ℕ → KeyMap) (t handle : ℕ) (offer : Descriptor) : Type 0 where
@@ -42,6 +31,8 @@ pub record Carried (states : ℕ → State) (last : ℕ) (V : ℕ → ℕ → Ke
   pub runs : Runs (states t) k offerer
   pub is_its : offerer.id ≡ offer.operation
   pub number : offerer.opens ≡ offer.opens
+  -- the number that it opens isn't open
+  pub free : (n : ℕ) → offer.opens ≡ Some n → root_at (states t) n ≡ None
   -- it answers that it was carried out
   pub agrees : IsReply (states last).events offer.operation (copied_reply offerer.call offerer.opens)
   pub unplaced : is_placed (states t) offer.operation ≡ false
@@ -62,6 +53,7 @@ carried limits states last r V facts t s o lt m handle offer carries offers =
       runs = st.runs;
       is_its = st.id;
       number = sym own.opens ∙ ap (λ (x : Descriptor). x.opens) st.its;
+      free = λ n e. (reserved_at limits states last r t (omega arith)).closed st.k st.operation n st.runs (st.unmarked, sym own.opens ∙ ap (λ (x : Descriptor). x.opens) st.its ∙ e);
       agrees = carried_reply limits states last r t s o lt m handle offer carries st.k st.operation st.runs st.id;
       unplaced = facts_of.unplaced;
       stands = facts_of.stands;

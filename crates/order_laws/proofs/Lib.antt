@@ -14,6 +14,7 @@ pub mod OfferWords
 pub mod OneStep
 pub mod Offers
 pub mod OfferStands
+pub mod Honest
 pub mod Carried
 pub mod Handles
 pub mod Standing

@@ -151,7 +151,7 @@ module _ (limits : Limits) (states : ℕ → State) (last : ℕ) (r : IsRun limi
         (recalled (Clear handle) None reply.Cleared c e (agrees_as (Clear handle) None c e))
         (acts_on (hash_of limits.hash) Writable (Clear handle) None at_last (V old last) reply.Cleared fin.empty (but_here (at_time t) handle (Some (named Writable (V old last)))) refl))
         (λ other. clear_behind e empty other (ℕ_discrete other handle))
-    opens_lead call c (snapshots n second e s free fresh differ first copy) =
+    opens_lead call c (snapshots n second e s fresh differ first copy) =
         let stands : On states (suc t) n (generation_at (states t).heap second) =
         stands_there limits states last r V facts t handle lt offer swap roots heap n e ∙ ap (λ o. standing_of (states t).heap (Some (opened_root offer o))) s in
         let opened : at_time (suc t) n ≡ Some (named Writable (V old last)) =
@@ -159,17 +159,17 @@ module _ (limits : Limits) (states : ℕ → State) (last : ℕ) (r : IsRun limi
         leads_same (hash_of limits.hash) (states last).events (place ∷ []) at_last (but at_last n (Some (named Writable (V old last)))) (at_time (suc t))
         (leads_one (hash_of limits.hash) (states last).events place (record { call = Snapshot handle; opens = Some n; answer = reply.Opened n }) at_last _
         (recalled (Snapshot handle) (Some n) (reply.Opened n) c e (agrees_as (Snapshot handle) (Some n) c e))
-        (copies (hash_of limits.hash) (Snapshot handle) at_last handle n Writable (V old last) (λ w. refl) (there_last n e free Writable first opened) (not_there n e free Writable first opened)))
-        (λ other. copy_by n e free Writable first opened other (ℕ_discrete other n) (ℕ_discrete other handle))
-    opens_lead call c (freezes n e s free first) =
+        (copies (hash_of limits.hash) (Snapshot handle) at_last handle n Writable (V old last) (λ w. refl) (there_last n e (swap.free n e) Writable first opened) (not_there n e (swap.free n e) Writable first opened)))
+        (λ other. copy_by n e (swap.free n e) Writable first opened other (ℕ_discrete other n) (ℕ_discrete other handle))
+    opens_lead call c (freezes n e s first) =
         let stands : standing (states (suc t)) n ≡ Some (ReadOnly, old) =
         stands_there limits states last r V facts t handle lt offer swap roots heap n e ∙ ap (λ o. standing_of (states t).heap (Some (opened_root offer o))) s in
         let opened : at_time (suc t) n ≡ Some (named ReadOnly (V old last)) = view_read_only limits states last V (suc t) n old stands in
         leads_same (hash_of limits.hash) (states last).events (place ∷ []) at_last (but at_last n (Some (named ReadOnly (V old last)))) (at_time (suc t))
         (leads_one (hash_of limits.hash) (states last).events place (record { call = Freeze handle; opens = Some n; answer = reply.Opened n }) at_last _
         (recalled (Freeze handle) (Some n) (reply.Opened n) c e (agrees_as (Freeze handle) (Some n) c e))
-        (copies (hash_of limits.hash) (Freeze handle) at_last handle n ReadOnly (V old last) (λ w. refl) (there_last n e free ReadOnly first opened) (not_there n e free ReadOnly first opened)))
-        (λ other. copy_by n e free ReadOnly first opened other (ℕ_discrete other n) (ℕ_discrete other handle))
+        (copies (hash_of limits.hash) (Freeze handle) at_last handle n ReadOnly (V old last) (λ w. refl) (there_last n e (swap.free n e) ReadOnly first opened) (not_there n e (swap.free n e) ReadOnly first opened)))
+        (λ other. copy_by n e (swap.free n e) ReadOnly first opened other (ℕ_discrete other n) (ℕ_discrete other handle))
 
     -- the swap itself
     pub swap_leads : LeadsOn (place ∷ []) at_last (at_time (suc t))

@@ -28,7 +28,7 @@ use Rattle.order_laws.proofs.Changes.{footing_of, footing, roots_swapped}
 use Rattle.order_laws.proofs.EachStep as each
 use Rattle.order_laws.proofs.EachStep.{Changes, changes}
 use Rattle.order_laws.proofs.Offers.{own_offer}
-use Rattle.order_laws.proofs.Carried.{honest, offerer_of}
+use Rattle.order_laws.proofs.Honest.{honest, offerer_of}
 use Rattle.order_laws.proofs.Running.{IsBegun, one_at, ran_before}
 use Rattle.order_laws.proofs.Growing.{IsKept}
 use Rattle.order_laws.proofs.Handles.{least_in_range, opens_allowed}

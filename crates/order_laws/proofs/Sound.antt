@@ -91,9 +91,9 @@ module _ (limits : Limits) (states : ℕ → State) (last : ℕ) (r : IsRun limi
         own_generation other generation same (stands_here None e (λ n is. absurd (none-some n is))) on
     was_on call (clears e empty) other generation on (no apart) =
         before apart (sym (stands_else None other e apart (λ n is. absurd (none-some n is))) ∙ on)
-    was_on call (snapshots n second e s free fresh differ first copy) other generation on (yes same) =
-        own_generation other generation same (stands_here (Some n) e (λ m is. subst (λ x. root_at (states t) x ≡ None) (same_Some n m is) free)) on
-    was_on call (snapshots n second e s free fresh differ first copy) other generation on (no apart) = by (ℕ_discrete other n)
+    was_on call (snapshots n second e s fresh differ first copy) other generation on (yes same) =
+        own_generation other generation same (stands_here (Some n) e (λ m is. subst (λ x. root_at (states t) x ≡ None) (same_Some n m is) (swap.free n e))) on
+    was_on call (snapshots n second e s fresh differ first copy) other generation on (no apart) = by (ℕ_discrete other n)
       where
         by : Dec (other ≡ n) → WasOn other generation
         by (yes same) =
@@ -101,9 +101,9 @@ module _ (limits : Limits) (states : ℕ → State) (last : ℕ) (r : IsRun limi
             ap (standing (states (suc t))) same ∙ stands_there n e ∙ ap (λ o. standing_of (states t).heap (Some (opened_root offer o))) s in
             opened second (e ∙ ap Some (sym same)) (some_pair_parts Writable Writable _ _ (sym on ∙ there)).1 fresh differ
         by (no away) = before apart (sym (stands_else (Some n) other e apart (λ m is same. away (same ∙ sym (same_Some n m is)))) ∙ on)
-    was_on call (freezes n e s free first) other generation on (yes same) =
-        own_generation other generation same (stands_here (Some n) e (λ m is. subst (λ x. root_at (states t) x ≡ None) (same_Some n m is) free)) on
-    was_on call (freezes n e s free first) other generation on (no apart) = by (ℕ_discrete other n)
+    was_on call (freezes n e s first) other generation on (yes same) =
+        own_generation other generation same (stands_here (Some n) e (λ m is. subst (λ x. root_at (states t) x ≡ None) (same_Some n m is) (swap.free n e))) on
+    was_on call (freezes n e s first) other generation on (no apart) = by (ℕ_discrete other n)
       where
         by : Dec (other ≡ n) → WasOn other generation
         by (yes same) =

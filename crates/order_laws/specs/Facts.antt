@@ -126,12 +126,12 @@ pub record Update (limits : Limits) (states : ℕ → State) (last : ℕ) (V : �
 pub data Opens (states : ℕ → State) (last : ℕ) (V : ℕ → ℕ → KeyMap) (t handle generation : ℕ) (offer : Descriptor) : Call → Type 0 where
   clears : offer.opens ≡ None → V (generation_at (states t).heap offer.successor) (suc t) ≡ map.empty →
       Opens states last V t handle generation offer (Clear handle)
-  snapshots : (n : ℕ) (second : Ref) → offer.opens ≡ Some n → offer.second ≡ Some second → root_at (states t) n ≡ None →
+  snapshots : (n : ℕ) (second : Ref) → offer.opens ≡ Some n → offer.second ≡ Some second →
       IsFresh (states t) (generation_at (states t).heap second) →
       generation_at (states t).heap second ≢ generation_at (states t).heap offer.successor →
       V (generation_at (states t).heap offer.successor) (suc t) ≡ V generation last → V (generation_at (states t).heap second) (suc t) ≡ V generation last →
       Opens states last V t handle generation offer (Snapshot handle)
-  freezes : (n : ℕ) → offer.opens ≡ Some n → offer.second ≡ None → root_at (states t) n ≡ None →
+  freezes : (n : ℕ) → offer.opens ≡ Some n → offer.second ≡ None →
       V (generation_at (states t).heap offer.successor) (suc t) ≡ V generation last →
       Opens states last V t handle generation offer (Freeze handle)
 
