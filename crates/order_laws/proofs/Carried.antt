@@ -1,6 +1,5 @@
 -- An offer that is carried out, with the operation that made it and what the facts say of it.
-use Rattle.std.proofs.Common.{◌≡◌, ℕ, suc, ◌<◌, true, false, refl, sym, ap, ◌∙◌, subst, Some, None, arith}
-use Rattle.std.proofs.lemmas.Bool.{and_parts}
+use Rattle.std.proofs.Common.{◌≡◌, ℕ, suc, ◌<◌, false, sym, ap, ◌∙◌, Some, None, arith}
 use Rattle.history.specs.Worlds.{KeyMap}
 use Rattle.slot_arena.specs.Heaps.{generation_at}
 use Rattle.machine_model.specs.declared.operations.Operation.{Operation}
@@ -8,21 +7,16 @@ use Rattle.machine_model.specs.declared.roots.Descriptor.{Descriptor}
 use Rattle.machine_model.specs.declared.steps.Outcome.{Outcome}
 use Rattle.machine_model.specs.declared.steps.Step.{Step}
 use Rattle.machine_model.specs.declared.steps.Limits.{Limits}
-use Rattle.machine_model.specs.Calls.{handle_of}
-use Rattle.machine_model.specs.States.{State, root_at, word_at}
-use Rattle.machine_model.specs.Swapping.{stands_in}
+use Rattle.machine_model.specs.States.{State, root_at}
 use Rattle.machine_model.specs.Orders.{is_placed}
 use Rattle.machine_model.proofs.Moves.{Moves}
 use Rattle.order_laws.specs.Facts.{IsReply, Runs, On, IsFresh, Opens, CarriesOut, Facts}
-use Rattle.order_laws.proofs.Running.{place_of_actor}
-use Rattle.order_laws.proofs.EachStep.{HonestIn}
-use Rattle.order_laws.proofs.OfferLines.{Settles, settles_held}
 use Rattle.machine_model.specs.Copying.{copied_reply}
 use Rattle.machine_model.proofs.Times.{IsRun}
 use Rattle.order_laws.proofs.Answering.{carried_reply}
 use Rattle.order_laws.proofs.Honest.{offerer_of}
 use Rattle.order_laws.proofs.Reserved.{reserved_at}
-use Rattle.order_laws.proofs.Offers.{Offers, Stands, own_offer, same_found}
+use Rattle.order_laws.proofs.Offers.{Offers, own_offer}
 
 -- an offer that is carried out, with the operation that made it
 pub record Carried (states : ℕ → State) (last : ℕ) (V : ℕ → ℕ → KeyMap) (t handle : ℕ) (offer : Descriptor) : Type 0 where

@@ -1,26 +1,16 @@
 -- Offers are found as they were made, by the operation that is completing them.
-use Rattle.std.proofs.Common.{◌≡◌, ℕ, suc, ◌<◌, true, false, refl, sym, ap, ◌∙◌, subst}
+use Rattle.std.proofs.Common.{◌≡◌, ℕ, true, refl, sym, ap, ◌∙◌, subst}
 use Rattle.std.proofs.lemmas.Bool.{and_parts}
-use Rattle.history.specs.Worlds.{KeyMap}
-use Rattle.slot_arena.specs.Heaps.{generation_at}
-use Rattle.machine_model.specs.declared.operations.Operation.{Operation}
 use Rattle.machine_model.specs.declared.roots.Descriptor.{Descriptor}
-use Rattle.machine_model.specs.declared.steps.Outcome.{Outcome}
 use Rattle.machine_model.specs.declared.steps.Step.{Step}
-use Rattle.machine_model.specs.declared.steps.Limits.{Limits}
 use Rattle.machine_model.specs.Calls.{handle_of}
 use Rattle.machine_model.specs.States.{State, word_at}
 use Rattle.machine_model.specs.Swapping.{stands_in}
-use Rattle.machine_model.specs.Orders.{is_placed}
-use Rattle.machine_model.proofs.Moves.{Moves}
-use Rattle.order_laws.specs.Facts.{IsReply, Runs, On, IsFresh, Opens, CarriesOut, Facts}
+use Rattle.order_laws.specs.Facts.{CarriesOut}
 use Rattle.order_laws.proofs.Running.{place_of_actor}
 use Rattle.order_laws.proofs.EachStep.{HonestIn}
 use Rattle.order_laws.proofs.OfferLines.{Settles, settles_held}
-use Rattle.machine_model.specs.Copying.{copied_reply}
-use Rattle.machine_model.proofs.Times.{IsRun}
-use Rattle.order_laws.proofs.Answering.{carried_reply}
-use Rattle.order_laws.proofs.Offers.{Offers, Stands, own_offer, same_found}
+use Rattle.order_laws.proofs.Offers.{Offers, Stands, same_found}
 
 -- offers are found as they were made
 pub honest : (state : State) → Offers state → HonestIn state

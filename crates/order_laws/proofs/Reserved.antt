@@ -1,5 +1,5 @@
 -- A handle number that an operation is to open isn't open, and no other operation is to open it.
-use Rattle.std.proofs.Common.{◌≡◌, ℕ, zero, suc, ◌+◌, ◌<◌, ◌≤◌, ◌==◌, ◌||◌, ◌⊎◌, inl, inr, cond, Bool, true, false, nat_le, is_some, List, [], ◌∷◌, set, get_or, Option, Some, None, refl, sym, ap, ◌∙◌, subst, eq-eqb, arith}
+use Rattle.std.proofs.Common.{◌≡◌, ℕ, zero, suc, ◌+◌, ◌<◌, ◌≤◌, ◌⊎◌, inl, inr, cond, Bool, true, false, is_some, List, [], ◌∷◌, set, get_or, Option, Some, None, refl, sym, ap, ◌∙◌, subst, eq-eqb, arith}
 use native.Mathlib.Decide.{ℕ_discrete}
 use Rattle.std.specs.List.{list_any}
 use Rattle.std.proofs.lemmas.Bool.{true≢false, false≢true, or_parts}
@@ -7,8 +7,7 @@ use Rattle.std.proofs.lemmas.Option.{none-some, same_Some}
 use Rattle.history.specs.declared.calls.Call.{Call}
 use Rattle.machine_model.specs.declared.operations.Operation.{Operation}
 use Rattle.machine_model.specs.declared.roots.Root.{Root}
-use Rattle.machine_model.specs.declared.roots.RootWord.{RootWord}
-use Rattle.machine_model.specs.declared.roots.RootWord.TheVariants.{Plain, Offer}
+use Rattle.machine_model.specs.declared.roots.RootWord.TheVariants.{Plain}
 use Rattle.machine_model.specs.declared.roots.Descriptor.{Descriptor}
 use Rattle.machine_model.specs.declared.steps.Outcome.{Outcome}
 use Rattle.machine_model.specs.declared.steps.Step.{Step}
@@ -16,13 +15,13 @@ use Rattle.machine_model.specs.declared.steps.Step.TheVariants as step
 use Rattle.machine_model.specs.declared.steps.Limits.{Limits}
 use Rattle.machine_model.specs.Calls.{opens_handle}
 use Rattle.machine_model.specs.States.{State, first_state, root_at, rewritten, handle_limit}
-use Rattle.machine_model.specs.Acting.{operation_after, opened_root}
+use Rattle.machine_model.specs.Acting.{operation_after}
 use Rattle.machine_model.specs.Operations.{action_of}
 use Rattle.machine_model.specs.Machine.{begin_denial, reserved_by, is_number, is_taken, least_from, least_free}
 use Rattle.machine_model.proofs.Moves.{Moves, Begins, Goes, Ends, Sweeps, begun_operation}
 use Rattle.machine_model.proofs.Times.{IsRun, at_each_time}
-use Rattle.machine_model.proofs.Actors.{mark_one, mark_only, marks_in, marks_by}
-use Rattle.machine_model.proofs.Found.{found_within, found_elsewhere}
+use Rattle.machine_model.proofs.Actors.{mark_only, marks_in, marks_by}
+use Rattle.machine_model.proofs.Found.{found_elsewhere}
 use Rattle.order_laws.specs.Facts.{Runs, CarriesOut}
 use Rattle.order_laws.proofs.Changes.{footing_of, footing, roots_swapped}
 use Rattle.order_laws.proofs.EachStep as each
@@ -155,6 +154,7 @@ stays_closed state s after n (each.swaps handle offer carries none places closin
             gone : (o : Option Root) → o ≡ None → footing_of (get_or (set state.roots handle (rewritten (Plain offer.successor) o)) handle None) ≡ None
             gone o none = ap footing_of (ap (λ x. get_or (set state.roots handle (rewritten (Plain offer.successor) x)) handle None) none ∙ put_none state.roots handle)
         within (no away) = found_elsewhere state.roots handle n _ away ∙ e
+
     by : (opens : Option ℕ) → (opens ≡ Some n → ⊥) → get_or (roots_swapped state handle offer opens) n None ≡ None
     by None apart = written
     by (Some m) apart = found_elsewhere _ m n _ (λ same. apart (ap Some (sym same))) ∙ written
@@ -185,7 +185,7 @@ module _ (state : State) (s : Step) (o : Outcome) (after : State) (m : Moves sta
   closed_by k found n at_k reserves = elim (reserves_before state s h.phased k found n reserves (from state s o after m k found at_k)) [
     | inl new ↦
         stays_closed state s after n change (taken_root state n (begun_free state s o after m k found n new reserves.1)) (λ handle offer carries opens.
-            let steps : step.Begin (suc k) new.call ≡ step.Go carries.0 = sym new.is_step ∙ carries.3 in cc steps)
+        let steps : step.Begin (suc k) new.call ≡ step.Go carries.0 = sym new.is_step ∙ carries.3 in cc steps)
     | inr old ↦
         let (operation, runs, before) = old in
         stays_closed state s after n change (h.closed k operation n runs before) (opens_own k found operation n at_k reserves runs before)
