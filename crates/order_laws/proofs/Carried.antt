@@ -1,6 +1,5 @@
--- Offers are found as they were made, and the operation whose offer is carried out runs.
-use Rattle.std.proofs.Common.{◌≡◌, ℕ, suc, ◌<◌, true, false, refl, sym, ap, ◌∙◌, subst}
-use Rattle.std.proofs.lemmas.Bool.{and_parts}
+-- An offer that is carried out, with the operation that made it and what the facts say of it.
+use Rattle.std.proofs.Common.{◌≡◌, ℕ, suc, ◌<◌, false, sym, ap, ◌∙◌, Some, None, arith}
 use Rattle.history.specs.Worlds.{KeyMap}
 use Rattle.slot_arena.specs.Heaps.{generation_at}
 use Rattle.machine_model.specs.declared.operations.Operation.{Operation}
@@ -8,22 +7,16 @@ use Rattle.machine_model.specs.declared.roots.Descriptor.{Descriptor}
 use Rattle.machine_model.specs.declared.steps.Outcome.{Outcome}
 use Rattle.machine_model.specs.declared.steps.Step.{Step}
 use Rattle.machine_model.specs.declared.steps.Limits.{Limits}
-use Rattle.machine_model.specs.Calls.{handle_of}
-use Rattle.machine_model.specs.States.{State, word_at}
-use Rattle.machine_model.specs.Swapping.{stands_in}
+use Rattle.machine_model.specs.States.{State, root_at}
 use Rattle.machine_model.specs.Orders.{is_placed}
 use Rattle.machine_model.proofs.Moves.{Moves}
-use Rattle.order_laws.specs.Facts.{Runs, On, IsFresh, Opens, CarriesOut, Facts}
-use Rattle.order_laws.proofs.Running.{place_of_actor}
-use Rattle.order_laws.proofs.EachStep.{HonestIn}
-use Rattle.order_laws.proofs.OfferLines.{Settles, settles_held}
-use Rattle.order_laws.proofs.Offers.{Offers, own_offer, same_found}
-
--- offers are found as they were made
-pub honest : (state : State) → Offers state → HonestIn state
-honest state offers actor operation offer is settles stands =
-    let (k, actors, runs) = place_of_actor state actor operation is in
-    same_found state offers (handle_of operation.call) offer (offers.held k operation offer runs (settles_held state operation operation.line offer settles)) stands
+use Rattle.order_laws.specs.Facts.{IsReply, Runs, On, IsFresh, Opens, CarriesOut, Facts}
+use Rattle.machine_model.specs.Copying.{copied_reply}
+use Rattle.machine_model.proofs.Times.{IsRun}
+use Rattle.order_laws.proofs.Answering.{carried_reply}
+use Rattle.order_laws.proofs.Honest.{offerer_of}
+use Rattle.order_laws.proofs.Reserved.{reserved_at}
+use Rattle.order_laws.proofs.Offers.{Offers, own_offer}
 
 -- an offer that is carried out, with the operation that made it
 pub record Carried (states : ℕ → State) (last : ℕ) (V : ℕ → ℕ → KeyMap) (t handle : ℕ) (offer : Descriptor) : Type 0 where
@@ -32,20 +25,20 @@ pub record Carried (states : ℕ → State) (last : ℕ) (V : ℕ → ℕ → Ke
   pub runs : Runs (states t) k offerer
   pub is_its : offerer.id ≡ offer.operation
   pub number : offerer.opens ≡ offer.opens
+  -- the number that it opens isn't open
+  pub free : (n : ℕ) → offer.opens ≡ Some n → root_at (states t) n ≡ None
+  -- it answers that it was carried out
+  pub agrees : IsReply (states last).events offer.operation (copied_reply offerer.call offerer.opens)
   pub unplaced : is_placed (states t) offer.operation ≡ false
   pub stands : On states t handle (generation_at (states t).heap offer.root)
   pub is_fresh : IsFresh (states t) (generation_at (states t).heap offer.successor)
   pub opens : Opens states last V t handle (generation_at (states t).heap offer.root) offer offerer.call
 
 -- the facts, of the operation that made it
-pub carried : (limits : Limits) (states : ℕ → State) (last : ℕ) (V : ℕ → ℕ → KeyMap) → Facts limits states last V → (t : ℕ) (s : Step) (o : Outcome) → t < last →
+pub carried : (limits : Limits) (states : ℕ → State) (last : ℕ) → IsRun limits states last → (V : ℕ → ℕ → KeyMap) → Facts limits states last V → (t : ℕ) (s : Step) (o : Outcome) → t < last →
     Moves (states t) s o (states (suc t)) → (handle : ℕ) (offer : Descriptor) → CarriesOut (states t) s handle offer → Offers (states t) → Carried states last V t handle offer
-carried limits states last V facts t s o lt m handle offer carries offers =
-    let (actor, operation, main, is_step, is, does, on, out) = carries in
-    let standing_there = (and_parts (stands_in (word_at (states t) handle) offer) _ out).0 in
-    let there = subst (λ h. stands_in (word_at (states t) h) offer ≡ true) (sym on) standing_there in
-    let word = honest (states t) offers actor operation offer is (subst (λ a. Settles a offer) (sym does) refl) there in
-    let st = offers.words handle offer (ap (word_at (states t)) (sym on) ∙ word) in
+carried limits states last r V facts t s o lt m handle offer carries offers =
+    let st = offerer_of (states t) offers s handle offer carries in
     let own = own_offer (states t) offers st.k st.operation st.c st.runs st.at in
     let facts_of = facts.swaps t s o lt m handle offer carries st.k st.operation st.runs st.id in
     record {
@@ -54,6 +47,8 @@ carried limits states last V facts t s o lt m handle offer carries offers =
       runs = st.runs;
       is_its = st.id;
       number = sym own.opens ∙ ap (λ (x : Descriptor). x.opens) st.its;
+      free = λ n e. (reserved_at limits states last r t (omega arith)).closed st.k st.operation n st.runs (st.unmarked, sym own.opens ∙ ap (λ (x : Descriptor). x.opens) st.its ∙ e);
+      agrees = carried_reply limits states last r t s o lt m handle offer carries st.k st.operation st.runs st.id;
       unplaced = facts_of.unplaced;
       stands = facts_of.stands;
       is_fresh = facts_of.is_fresh;

@@ -4,6 +4,8 @@ use native.Mathlib.Decide.{ℕ_discrete}
 use Rattle.std.proofs.lemmas.Bool.{cases_lt, true≢false, false≢true}
 use Rattle.std.proofs.lemmas.List.{get_or_past, get_or-set_same, length-set}
 use Rattle.history.specs.declared.calls.Access.{Access}
+use Rattle.history.specs.declared.calls.Access.TheVariants.{Writable}
+use Rattle.slot_arena.specs.Refs.{ref_to}
 use Rattle.history.specs.declared.replies.Reply.{Reply}
 use Rattle.slot_arena.specs.declared.refs.Ref.{Ref}
 use Rattle.machine_model.specs.declared.operations.Operation.{Operation}
@@ -24,6 +26,10 @@ use Rattle.machine_model.proofs.Found.{found_elsewhere}
 use Rattle.order_laws.proofs.OfferLines.{Settles}
 
 -- ---- the roots of handles
+
+-- the one that is open at first
+abbrev pub first_root : Option Root
+first_root = Some (record { access = Writable; word = Plain (ref_to 2 1) })
 
 -- the kind of an open handle, and its root
 abbrev pub footing_of : Option Root → Option (Access × Ref)

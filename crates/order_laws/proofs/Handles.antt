@@ -99,7 +99,7 @@ least_found state zero n =
     inr (omega arith)
 least_found state (suc left) n = least_by state left n (is_taken state n) refl (least_found state left (n + 1))
 
-least_in_range : (state : State) → nat_le handle_limit (handles_taken state) ≡ false → least_free state < handle_limit
+pub least_in_range : (state : State) → nat_le handle_limit (handles_taken state) ≡ false → least_free state < handle_limit
 unfolding taken_below
 least_in_range state e = elim (least_found state 256 0) [
   | inl lt ↦ lt
@@ -109,7 +109,7 @@ least_in_range state e = elim (least_found state 256 0) [
     full : (n : ℕ) → n ≡ 0 + 256 → nat_le 256 n ≡ false → ⊥
     full n is e = grind arith
 
-opens_allowed : (state : State) (actor : ℕ) (call : Call) → begin_denial state actor call ≡ None → opens_handle call ≡ true → nat_le handle_limit (handles_taken state) ≡ false
+pub opens_allowed : (state : State) (actor : ℕ) (call : Call) → begin_denial state actor call ≡ None → opens_handle call ≡ true → nat_le handle_limit (handles_taken state) ≡ false
 opens_allowed state actor call d o = grind arith
 
 -- ---- what an operation opens is in range

@@ -1,14 +1,13 @@
 -- Each operation that has a place has begun.
-use Rattle.std.proofs.Common.{◌≡◌, ℕ, zero, suc, ◌<◌, ◌==◌, ◌&&◌, ◌⊎◌, inl, inr, cond, Bool, true, false, if◌then◌else◌, List, [], ◌∷◌, ◌++◌, get_or, length, Option, Some, None, slice_get, refl, sym, ap, ◌∙◌, subst, append-nil, arith}
+use Rattle.std.proofs.Common.{◌≡◌, ℕ, zero, suc, ◌⊎◌, inl, inr, Bool, true, false, if◌then◌else◌, List, [], ◌∷◌, ◌++◌, get_or, length, Option, Some, None, slice_get, refl, sym, ap, ◌∙◌, subst}
 use Rattle.std.proofs.lemmas.Bool.{and_parts}
-use Rattle.std.proofs.lemmas.Option.{none-some}
 use Rattle.history.specs.declared.calls.Call.{Call}
 use Rattle.history.specs.declared.calls.Call.TheVariants.{Close}
 use Rattle.history.specs.declared.replies.Reply.{Reply}
 use Rattle.history.specs.declared.replies.Reply.TheVariants as reply
 use Rattle.history.specs.declared.events.Event.{Event}
 use Rattle.history.specs.declared.events.Event.TheVariants.{Begin}
-use Rattle.history.specs.Histories.{Operation as Told, HasBegun, begun}
+use Rattle.history.specs.Histories.{Operation as Told, HasBegun}
 use Rattle.history.specs.Orders.{OrderedAt}
 use Rattle.history.proofs.Places.{at_push}
 use Rattle.slot_arena.specs.declared.refs.Ref.{Ref}
@@ -26,7 +25,7 @@ use Rattle.machine_model.specs.States.{State, first_state, word_at, operation_of
 use Rattle.machine_model.specs.Operations.{action_of}
 use Rattle.machine_model.specs.Swapping.{stands_in, is_carried_out}
 use Rattle.machine_model.specs.Orders.{place_of, is_placed, closing_for, committed_now, order_of}
-use Rattle.machine_model.specs.Acting.{swaps_in, entered, entered_by, entered_at_end, acted, gone}
+use Rattle.machine_model.specs.Acting.{swaps_in, entered, entered_by, entered_at_end, acted}
 use Rattle.machine_model.specs.Machine.{with_begin, run}
 use Rattle.machine_model.proofs.Moves.{Moves, Begins, Goes, Ends, Sweeps, begun_operation}
 use Rattle.machine_model.proofs.Along.{along}

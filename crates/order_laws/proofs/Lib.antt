@@ -14,6 +14,7 @@ pub mod OfferWords
 pub mod OneStep
 pub mod Offers
 pub mod OfferStands
+pub mod Honest
 pub mod Carried
 pub mod Handles
 pub mod Standing
@@ -34,3 +35,6 @@ pub mod Candidates
 pub mod Explained
 pub mod Unconditional
 pub mod HaveBegun
+pub mod Phases
+pub mod Answering
+pub mod Reserved

@@ -3,7 +3,6 @@ use Rattle.std.proofs.Common.{◌≡◌, ℕ, zero, suc, ◌+◌, ◌≤◌, ◌
 use native.Mathlib.Decide.{ℕ_discrete}
 use Rattle.std.proofs.lemmas.Bool.{and_parts}
 use Rattle.std.proofs.lemmas.Option.{none-some, same_Some}
-use Rattle.history.specs.declared.calls.Access.TheVariants.{Writable}
 use Rattle.slot_arena.specs.declared.refs.Ref.{Ref}
 use Rattle.slot_arena.specs.Refs.{ref_to}
 use Rattle.machine_model.specs.declared.actions.Action.{Action}
@@ -42,22 +41,23 @@ use Rattle.order_laws.proofs.AllBooks.{books_kept, first_books}
 use Rattle.order_laws.proofs.Growing.{IsKept}
 use Rattle.order_laws.proofs.OfferLines.{Settles, FitsCopy, Own, copying_of, settles_held, offers_so}
 use Rattle.order_laws.proofs.OfferWords.{Leaves, StandsFrom, stood, put, words_after}
+use Rattle.order_laws.proofs.Changes.{first_root}
 use Rattle.order_laws.proofs.OneStep.{from, stays, steps_on}
 use Rattle.order_laws.proofs.Offers.{Stands, Offers, same_try, same_found, fits_kept, held_by}
 
 -- ---- who is marked
 
 -- what a step marks is the operation whose offer it carries out
-record Marks (state : State) (s : Step) (id : ℕ) : Type 0 where
-  k : ℕ
-  operation : Operation
-  offer : Descriptor
-  main : Ref
-  is_step : s ≡ step.Go (suc k)
-  runs : Runs state k operation
-  does : action_of state operation ≡ act.Complete offer main
-  carried : is_carried_out (word_at state (handle_of operation.call)) offer main ≡ true
-  marks : offer.operation ≡ id
+pub record Marks (state : State) (s : Step) (id : ℕ) : Type 0 where
+  pub k : ℕ
+  pub operation : Operation
+  pub offer : Descriptor
+  pub main : Ref
+  pub is_step : s ≡ step.Go (suc k)
+  pub runs : Runs state k operation
+  pub does : action_of state operation ≡ act.Complete offer main
+  pub carried : is_carried_out (word_at state (handle_of operation.call)) offer main ≡ true
+  pub marks : offer.operation ≡ id
 
 marks_action : (state : State) (handle : ℕ) (action : Action) (id : ℕ) → marks_of state handle action ≡ Some id →
     (offer : Descriptor) × (main : Ref) × (action ≡ act.Complete offer main) × (is_carried_out (word_at state handle) offer main ≡ true) × (offer.operation ≡ id)
@@ -76,7 +76,7 @@ marks_go state actor id (Some operation) is e =
     let (offer, main, does, carried, marks) = marks_action state (handle_of operation.call) (action_of state operation) id e in
     record { k = k; operation = operation; offer = offer; main = main; is_step = ap step.Go actors; runs = runs; does = does; carried = carried; marks = marks }
 
-marks_says : (state : State) (s : Step) (id : ℕ) → marks_in state s ≡ Some id → Marks state s id
+pub marks_says : (state : State) (s : Step) (id : ℕ) → marks_in state s ≡ Some id → Marks state s id
 marks_says state (step.Begin actor call) id e = absurd (none-some id e)
 marks_says state (step.Go actor) id e = marks_go state actor id (operation_of state actor) refl e
 marks_says state step.Sweep id e = absurd (none-some id e)
@@ -224,9 +224,6 @@ offers_kept state s o after m offers = record {
 
 -- ---- at each time
 
-abbrev first_root : Option Root
-first_root = Some (record { access = Writable; word = Plain (ref_to 2 1) })
-
 first_words : (limits : Limits) (h : ℕ) (d : Descriptor) → word_at (first_state limits) h ≡ Offer d → ⊥
 unfolding first_state
 first_words limits zero d e = plain d e
@@ -242,7 +239,7 @@ first_words limits (suc n) d e = by (get_or (replicate handle_limit None) (suc n
         nothing d e = grind arith
     by (Some root) is e = none_found handle_limit (suc n) root is
 
-nobody : (limits : Limits) (k : ℕ) (operation : Operation) → Runs (first_state limits) k operation → ⊥
+pub nobody : (limits : Limits) (k : ℕ) (operation : Operation) → Runs (first_state limits) k operation → ⊥
 unfolding first_state
 nobody limits k operation at_k = none_found limits.actors k operation at_k
 

@@ -63,7 +63,7 @@ pub own_offer : (state : State) → Offers state → (k : ℕ) (operation : Oper
     Own operation c.offer operation.attempt
 own_offer state offers k operation c runs at = subst (λ l. FitsCopy operation operation.attempt (copying_of l)) at (offers.fits k operation runs)
 
-running_below : (state : State) → Books state → (k : ℕ) (operation : Operation) → Runs state k operation → operation.id < begun state.events
+pub running_below : (state : State) → Books state → (k : ℕ) (operation : Operation) → Runs state k operation → operation.id < begun state.events
 running_below state books k operation runs =
     let told = books.told k operation runs in
     let says : Told = record { actor = suc k; call = operation.call; opens = operation.opens } in

@@ -1,8 +1,7 @@
 -- What a step makes of each running operation, exactly.
-use Rattle.std.proofs.Common.{◌≡◌, ℕ, suc, ◌-◌, ◌<◌, List, set, get_or, Option, Some, None, refl, sym, ap, ◌∙◌, subst, arith}
+use Rattle.std.proofs.Common.{◌≡◌, ℕ, suc, ◌-◌, List, set, get_or, Option, Some, None, refl, sym, ap, ◌∙◌, subst, arith}
 use Rattle.std.proofs.Math.ListN.{get_or-map}
 use Rattle.std.proofs.lemmas.List.{get_or-set_same}
-use Rattle.history.specs.declared.calls.Call.{Call}
 use Rattle.machine_model.specs.declared.operations.Operation.{Operation}
 use Rattle.machine_model.specs.declared.steps.Outcome.{Outcome}
 use Rattle.machine_model.specs.declared.steps.Step.{Step}
@@ -11,12 +10,11 @@ use Rattle.machine_model.specs.Calls.{handle_of}
 use Rattle.machine_model.specs.States.{State}
 use Rattle.machine_model.specs.Operations.{action_of}
 use Rattle.machine_model.specs.Acting.{marked, operation_after}
-use Rattle.machine_model.specs.Machine.{begin_denial, go_denial}
 use Rattle.machine_model.proofs.Moves.{Moves, Begins, Goes, Ends, Sweeps, GoesOn, begun_operation}
 use Rattle.machine_model.proofs.Found.{found_within, found_elsewhere}
 use Rattle.machine_model.proofs.Actors.{IsOf, is_of, mark_one, marks_in, marks_by, marks_of, after_marks, of_others, of_itself, of_begin, of_end, gone_actors, begin_actors}
 use Rattle.order_laws.specs.Facts.{Runs}
-use Rattle.order_laws.proofs.Running.{IsBegun, own_step, at_place, one_at, begin_not_running}
+use Rattle.order_laws.proofs.Running.{begin_counts, go_counts, IsBegun, own_step, at_place, one_at, begin_not_running}
 
 -- where an operation that runs behind a step comes from
 pub data From (state : State) (s : Step) (k : ℕ) (found : Operation) : Type 0 where
@@ -44,12 +42,6 @@ from state s o after m k found at_k = from_by state s o after m k found at_k (is
 marked_at : (m : Option ℕ) (xs : List (Option Operation)) (k : ℕ) (operation : Operation) → get_or xs k None ≡ Some operation → get_or (after_marks m xs) k None ≡ Some (mark_one m operation)
 marked_at None xs k operation e = e
 marked_at (Some id) xs k operation e = get_or-map (marked id) xs k None ∙ ap (marked id) e
-
-go_counts : (state : State) (actor : ℕ) → go_denial state actor ≡ None → 0 < actor
-go_counts state actor d = grind arith
-
-begin_counts : (state : State) (actor : ℕ) → (call : Call) → begin_denial state actor call ≡ None → 0 < actor
-begin_counts state actor call d = grind arith
 
 -- an operation whose actor takes no step runs on, but for marks
 pub stays : (state : State) (s : Step) (o : Outcome) (after : State) → Moves state s o after → (k : ℕ) (operation : Operation) → Runs state k operation → (s ≡ step.Go (suc k) → ⊥) →

@@ -19,6 +19,7 @@ use Rattle.places.specs.Places.{on_time}
 use Rattle.machine_model.specs.declared.roots.Descriptor.{Descriptor}
 use Rattle.machine_model.specs.declared.steps.Limits.{Limits}
 use Rattle.machine_model.specs.States.{State, root_at}
+use Rattle.machine_model.specs.Copying.{copied_reply}
 use Rattle.machine_model.specs.Acting.{opened_root}
 use Rattle.machine_model.proofs.Times.{IsRun}
 use Rattle.order_laws.specs.Facts.{standing, standing_of, On, IsReply, Facts, Opens, clears, snapshots, freezes}
@@ -89,6 +90,12 @@ module _ (limits : Limits) (states : ℕ → State) (last : ℕ) (r : IsRun limi
         let with_call = subst (λ x. Recalls (states last).events offer.operation (record { call = x; opens = swap.offerer.opens; answer = answer })) c here in
         subst (λ x. Recalls (states last).events offer.operation (record { call = call; opens = x; answer = answer })) (swap.number ∙ o) with_call
 
+    -- its reply
+    agrees_as : (call : Call) (opens : Option ℕ) → swap.offerer.call ≡ call → offer.opens ≡ opens → IsReply (states last).events offer.operation (copied_reply call opens)
+    agrees_as call opens c o =
+        subst (λ x. IsReply (states last).events offer.operation (copied_reply call x)) (swap.number ∙ o)
+        (subst (λ x. IsReply (states last).events offer.operation (copied_reply x swap.offerer.opens)) c swap.agrees)
+
     -- a handle that isn't touched shows the same
     untouched : (opens : Option ℕ) (other : ℕ) → offer.opens ≡ opens → (other ≡ handle → ⊥) → ((n : ℕ) → opens ≡ Some n → other ≡ n → ⊥) → at_time t other ≡ at_time (suc t) other
     untouched opens other e apart away =
@@ -138,31 +145,31 @@ module _ (limits : Limits) (states : ℕ → State) (last : ℕ) (r : IsRun limi
       there_last = but_here (at_time t) handle (Some (named Writable (V old last)))
 
     opens_lead : (call : Call) → swap.offerer.call ≡ call → Opens states last V t handle old offer call → LeadsOn (place ∷ []) at_last (at_time (suc t))
-    opens_lead call c (clears e empty is) =
+    opens_lead call c (clears e empty) =
         leads_same (hash_of limits.hash) (states last).events (place ∷ []) at_last (but at_last handle (Some (named Writable fin.empty))) (at_time (suc t))
         (leads_one (hash_of limits.hash) (states last).events place (record { call = Clear handle; opens = None; answer = reply.Cleared }) at_last _
-        (recalled (Clear handle) None reply.Cleared c e is)
+        (recalled (Clear handle) None reply.Cleared c e (agrees_as (Clear handle) None c e))
         (acts_on (hash_of limits.hash) Writable (Clear handle) None at_last (V old last) reply.Cleared fin.empty (but_here (at_time t) handle (Some (named Writable (V old last)))) refl))
         (λ other. clear_behind e empty other (ℕ_discrete other handle))
-    opens_lead call c (snapshots n second e s free fresh differ first copy is) =
+    opens_lead call c (snapshots n second e s fresh differ first copy) =
         let stands : On states (suc t) n (generation_at (states t).heap second) =
         stands_there limits states last r V facts t handle lt offer swap roots heap n e ∙ ap (λ o. standing_of (states t).heap (Some (opened_root offer o))) s in
         let opened : at_time (suc t) n ≡ Some (named Writable (V old last)) =
         view_writable limits states last V (suc t) n (generation_at (states t).heap second) stands ∙ ap (λ x. Some (named Writable x)) copy in
         leads_same (hash_of limits.hash) (states last).events (place ∷ []) at_last (but at_last n (Some (named Writable (V old last)))) (at_time (suc t))
         (leads_one (hash_of limits.hash) (states last).events place (record { call = Snapshot handle; opens = Some n; answer = reply.Opened n }) at_last _
-        (recalled (Snapshot handle) (Some n) (reply.Opened n) c e is)
-        (copies (hash_of limits.hash) (Snapshot handle) at_last handle n Writable (V old last) (λ w. refl) (there_last n e free Writable first opened) (not_there n e free Writable first opened)))
-        (λ other. copy_by n e free Writable first opened other (ℕ_discrete other n) (ℕ_discrete other handle))
-    opens_lead call c (freezes n e s free first is) =
+        (recalled (Snapshot handle) (Some n) (reply.Opened n) c e (agrees_as (Snapshot handle) (Some n) c e))
+        (copies (hash_of limits.hash) (Snapshot handle) at_last handle n Writable (V old last) (λ w. refl) (there_last n e (swap.free n e) Writable first opened) (not_there n e (swap.free n e) Writable first opened)))
+        (λ other. copy_by n e (swap.free n e) Writable first opened other (ℕ_discrete other n) (ℕ_discrete other handle))
+    opens_lead call c (freezes n e s first) =
         let stands : standing (states (suc t)) n ≡ Some (ReadOnly, old) =
         stands_there limits states last r V facts t handle lt offer swap roots heap n e ∙ ap (λ o. standing_of (states t).heap (Some (opened_root offer o))) s in
         let opened : at_time (suc t) n ≡ Some (named ReadOnly (V old last)) = view_read_only limits states last V (suc t) n old stands in
         leads_same (hash_of limits.hash) (states last).events (place ∷ []) at_last (but at_last n (Some (named ReadOnly (V old last)))) (at_time (suc t))
         (leads_one (hash_of limits.hash) (states last).events place (record { call = Freeze handle; opens = Some n; answer = reply.Opened n }) at_last _
-        (recalled (Freeze handle) (Some n) (reply.Opened n) c e is)
-        (copies (hash_of limits.hash) (Freeze handle) at_last handle n ReadOnly (V old last) (λ w. refl) (there_last n e free ReadOnly first opened) (not_there n e free ReadOnly first opened)))
-        (λ other. copy_by n e free ReadOnly first opened other (ℕ_discrete other n) (ℕ_discrete other handle))
+        (recalled (Freeze handle) (Some n) (reply.Opened n) c e (agrees_as (Freeze handle) (Some n) c e))
+        (copies (hash_of limits.hash) (Freeze handle) at_last handle n ReadOnly (V old last) (λ w. refl) (there_last n e (swap.free n e) ReadOnly first opened) (not_there n e (swap.free n e) ReadOnly first opened)))
+        (λ other. copy_by n e (swap.free n e) ReadOnly first opened other (ℕ_discrete other n) (ℕ_discrete other handle))
 
     -- the swap itself
     pub swap_leads : LeadsOn (place ∷ []) at_last (at_time (suc t))

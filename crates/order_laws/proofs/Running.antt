@@ -113,10 +113,11 @@ begin_not_running state k actor call operation d own is = denied (subst (λ a. o
     denied : operation_of state actor ≡ Some operation → ⊥
     denied e = grind arith
 
-begin_counts : (state : State) (actor : ℕ) (call : Call) → begin_denial state actor call ≡ None → 0 < actor
+-- an actor whose step is taken isn't 0
+pub begin_counts : (state : State) (actor : ℕ) (call : Call) → begin_denial state actor call ≡ None → 0 < actor
 begin_counts state actor call d = grind arith
 
-go_counts : (state : State) (actor : ℕ) → go_denial state actor ≡ None → 0 < actor
+pub go_counts : (state : State) (actor : ℕ) → go_denial state actor ≡ None → 0 < actor
 go_counts state actor d = grind arith
 
 -- the step is the end of this operation

@@ -9,8 +9,6 @@ use Rattle.history.specs.declared.calls.Call.{Call}
 use Rattle.slot_arena.specs.declared.refs.Ref.{Ref}
 use Rattle.slot_arena.specs.Heaps.{generation_at}
 use Rattle.machine_model.specs.declared.roots.Root.{Root}
-use Rattle.machine_model.specs.declared.roots.RootWord.TheVariants.{Plain}
-use Rattle.slot_arena.specs.Refs.{ref_to}
 use Rattle.machine_model.specs.declared.roots.Descriptor.{Descriptor}
 use Rattle.machine_model.specs.declared.steps.Limits.{Limits}
 use Rattle.machine_model.specs.States.{State, first_state, root_at, closed_at, handle_limit}
@@ -19,14 +17,11 @@ use Rattle.machine_model.proofs.Found.{none_found, found_elsewhere}
 use Rattle.machine_model.proofs.Times.{IsRun}
 use Rattle.order_laws.specs.Facts.{standing_of, standing, On, IsFresh, Facts, Opens, clears, snapshots, freezes}
 use Rattle.order_laws.proofs.Carried.{Carried}
-use Rattle.order_laws.proofs.Changes.{roots_swapped}
+use Rattle.order_laws.proofs.Changes.{first_root, roots_swapped}
 use Rattle.order_laws.proofs.Handles.{opens_in_range}
 use Rattle.order_laws.proofs.Standing.{standing_root, here_none, here_some, there_some, else_none, else_some}
 use Rattle.order_laws.proofs.StepsOfRun.{Kind, plain, updates, answers, closes, swaps, kind_at}
 use Rattle.order_laws.proofs.Closed.{closed_in, closed_other}
-
-abbrev first_root : Option Root
-first_root = Some (record { access = Writable; word = Plain (ref_to 2 1) })
 
 -- the standing at first: handle 0 alone is open
 pub first_standing : (limits : Limits) (handle : ℕ) (access : Access) (generation : ℕ) → standing (first_state limits) handle ≡ Some (access, generation) → handle ≡ 0
@@ -92,13 +87,13 @@ module _ (limits : Limits) (states : ℕ → State) (last : ℕ) (r : IsRun limi
 
     was_on : (call : Call) → Opens states last V t handle (generation_at (states t).heap offer.root) offer call → (other generation : ℕ) → On states (suc t) other generation →
         Dec (other ≡ handle) → WasOn other generation
-    was_on call (clears e empty reply) other generation on (yes same) =
+    was_on call (clears e empty) other generation on (yes same) =
         own_generation other generation same (stands_here None e (λ n is. absurd (none-some n is))) on
-    was_on call (clears e empty reply) other generation on (no apart) =
+    was_on call (clears e empty) other generation on (no apart) =
         before apart (sym (stands_else None other e apart (λ n is. absurd (none-some n is))) ∙ on)
-    was_on call (snapshots n second e s free fresh differ first copy reply) other generation on (yes same) =
-        own_generation other generation same (stands_here (Some n) e (λ m is. subst (λ x. root_at (states t) x ≡ None) (same_Some n m is) free)) on
-    was_on call (snapshots n second e s free fresh differ first copy reply) other generation on (no apart) = by (ℕ_discrete other n)
+    was_on call (snapshots n second e s fresh differ first copy) other generation on (yes same) =
+        own_generation other generation same (stands_here (Some n) e (λ m is. subst (λ x. root_at (states t) x ≡ None) (same_Some n m is) (swap.free n e))) on
+    was_on call (snapshots n second e s fresh differ first copy) other generation on (no apart) = by (ℕ_discrete other n)
       where
         by : Dec (other ≡ n) → WasOn other generation
         by (yes same) =
@@ -106,9 +101,9 @@ module _ (limits : Limits) (states : ℕ → State) (last : ℕ) (r : IsRun limi
             ap (standing (states (suc t))) same ∙ stands_there n e ∙ ap (λ o. standing_of (states t).heap (Some (opened_root offer o))) s in
             opened second (e ∙ ap Some (sym same)) (some_pair_parts Writable Writable _ _ (sym on ∙ there)).1 fresh differ
         by (no away) = before apart (sym (stands_else (Some n) other e apart (λ m is same. away (same ∙ sym (same_Some n m is)))) ∙ on)
-    was_on call (freezes n e s free first reply) other generation on (yes same) =
-        own_generation other generation same (stands_here (Some n) e (λ m is. subst (λ x. root_at (states t) x ≡ None) (same_Some n m is) free)) on
-    was_on call (freezes n e s free first reply) other generation on (no apart) = by (ℕ_discrete other n)
+    was_on call (freezes n e s first) other generation on (yes same) =
+        own_generation other generation same (stands_here (Some n) e (λ m is. subst (λ x. root_at (states t) x ≡ None) (same_Some n m is) (swap.free n e))) on
+    was_on call (freezes n e s first) other generation on (no apart) = by (ℕ_discrete other n)
       where
         by : Dec (other ≡ n) → WasOn other generation
         by (yes same) =

@@ -22,7 +22,7 @@ use Rattle.history.specs.Worlds.{KeyMap}
 use Rattle.order_laws.specs.Facts.{standing_of, standing, Facts}
 use Rattle.order_laws.proofs.Changes.{footing_of, footing, roots_swapped}
 use Rattle.order_laws.proofs.OfferStands.{offers_at}
-use Rattle.order_laws.proofs.Carried.{honest}
+use Rattle.order_laws.proofs.Honest.{honest}
 use Rattle.order_laws.proofs.EachStep.{HonestIn, Changes, changes}
 
 -- ---- standing, by the root

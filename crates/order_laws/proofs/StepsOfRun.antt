@@ -152,7 +152,7 @@ module _ (limits : Limits) (states : ℕ → State) (last : ℕ) (r : IsRun limi
       (states (suc t)).closings ≡ (states t).closings ++ record { generation = generation_at (states t).heap offer.root; step = (states t).steps } ∷ [] →
       (states (suc t)).roots ≡ roots_swapped (states t) handle offer offer.opens → (states (suc t)).heap ≡ (states t).heap → Kind limits states last V t
   swap_kind t lt s o handle offer m carries none places closings roots heap =
-      swaps handle offer (carried limits states last V facts t s o lt m handle offer carries (offers_at limits states last r t (omega arith)))
+      swaps handle offer (carried limits states last r V facts t s o lt m handle offer carries (offers_at limits states last r t (omega arith)))
       (places ∙ ap (λ n. (states t).places ++ on_time n false offer.operation ∷ []) (number_at t lt))
       (closings ∙ ap (λ n. (states t).closings ++ record { generation = generation_at (states t).heap offer.root; step = n } ∷ []) (number_at t lt))
       roots heap (facts.still t s o lt m none)

@@ -125,17 +125,14 @@ pub record Update (limits : Limits) (states : ℕ → State) (last : ℕ) (V : �
 -- freeze the old root's content, as it is in the end.
 pub data Opens (states : ℕ → State) (last : ℕ) (V : ℕ → ℕ → KeyMap) (t handle generation : ℕ) (offer : Descriptor) : Call → Type 0 where
   clears : offer.opens ≡ None → V (generation_at (states t).heap offer.successor) (suc t) ≡ map.empty →
-      IsReply (states last).events offer.operation reply.Cleared →
       Opens states last V t handle generation offer (Clear handle)
-  snapshots : (n : ℕ) (second : Ref) → offer.opens ≡ Some n → offer.second ≡ Some second → root_at (states t) n ≡ None →
+  snapshots : (n : ℕ) (second : Ref) → offer.opens ≡ Some n → offer.second ≡ Some second →
       IsFresh (states t) (generation_at (states t).heap second) →
       generation_at (states t).heap second ≢ generation_at (states t).heap offer.successor →
       V (generation_at (states t).heap offer.successor) (suc t) ≡ V generation last → V (generation_at (states t).heap second) (suc t) ≡ V generation last →
-      IsReply (states last).events offer.operation (reply.Opened n) →
       Opens states last V t handle generation offer (Snapshot handle)
-  freezes : (n : ℕ) → offer.opens ≡ Some n → offer.second ≡ None → root_at (states t) n ≡ None →
+  freezes : (n : ℕ) → offer.opens ≡ Some n → offer.second ≡ None →
       V (generation_at (states t).heap offer.successor) (suc t) ≡ V generation last →
-      IsReply (states last).events offer.operation (reply.Opened n) →
       Opens states last V t handle generation offer (Freeze handle)
 
 -- An offer of an operation with this call is carried out: the operation has no place yet, the new root's generation is new, and
