@@ -6,3 +6,4 @@ pub mod OfferLines
 pub mod SameOffer
 pub mod Footings
 pub mod Marks
+pub mod Handles

@@ -145,12 +145,12 @@ next_done state operation c h = by c.line refl
         never done (Gives main) e = cc e
     by (complete.Swap main) e = ended_done operation _ (h main e)
 
-is_completing : (l : Line) → is_done l ≡ true → (state : State) (operation : Operation) → GoesOn (line_action state operation l) → (c : Complete) × (l ≡ line.Copy (copy.Complete c))
+pub is_completing : (l : Line) → is_done l ≡ true → (state : State) (operation : Operation) → GoesOn (line_action state operation l) → (c : Complete) × (l ≡ line.Copy (copy.Complete c))
 is_completing (line.Copy (copy.Complete c)) e state operation g = (c, refl)
 is_completing (line.End answer) e state operation g = absurd g
 is_completing l e state operation g = absurd (false≢true e)
 
-complete_mark : (mark : Bool) (c : Complete) → mark_after mark (complete_action c) ≡ mark
+pub complete_mark : (mark : Bool) (c : Complete) → mark_after mark (complete_action c) ≡ mark
 complete_mark mark c = grind arith
 
 or_first : (a b : Bool) → a ≡ true → (a || b) ≡ true

@@ -235,7 +235,7 @@ module _ (state : State) (I : HasOffers state) (s : Step) (o : Outcome) (after :
     known = λ k found at_k. known_by k found at_k (comes state s o after m k found at_k);
   }
 
-no_offers_at_first : (limits : Limits) → HasOffers (first_state limits)
+pub no_offers_at_first : (limits : Limits) → HasOffers (first_state limits)
 unfolding first_state
 no_offers_at_first limits = record {
   ids = ids_at_first limits;
