@@ -7,3 +7,5 @@ pub mod SameOffer
 pub mod Footings
 pub mod Marks
 pub mod Handles
+pub mod Made
+pub mod Counter
