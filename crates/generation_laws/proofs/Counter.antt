@@ -33,7 +33,7 @@ use Rattle.memory_laws.proofs.WordMoves.{WordMove, keeps, makes, publishes, rest
 
 -- ---- the counter
 
-acted_counts : (st : State) (at : ℕ) (action : Action) → st.generations ≤ (acted st at action).generations
+pub acted_counts : (st : State) (at : ℕ) (action : Action) → st.generations ≤ (acted st at action).generations
 acted_counts st at (act.Abort offer) = omega (arith, aborted_same st at offer)
   where
     aborted_same : (st : State) (at : ℕ) (offer : Descriptor) → (aborted st at offer).generations ≡ st.generations
@@ -73,7 +73,7 @@ root_counted state actor operation main made a e = acted_root _ (handle_of opera
 
 -- ---- an indirection keeps its generation
 
-generation_kept : (was now : Node) → SameNode was now → generation_of now ≡ generation_of was
+pub generation_kept : (was now : Node) → SameNode was now → generation_of now ≡ generation_of was
 generation_kept was now (m, e) = ap generation_of e ∙ same was
   where
     same : (n : Node) → generation_of (with_main_word m n) ≡ generation_of n
@@ -126,7 +126,7 @@ new_is_made state f g (fails actor operation i main previous told at_main takes 
 
 -- ---- at first all are of generation 0
 
-taken_list : (heap : Heap) (node : Node) (free : List ℕ) (k : ℕ) (slot : Slot) → get_or (take_from heap node free).slots k None ≡ Some slot → (slot.node ≡ node) ⊎ (get_or heap.slots k None ≡ Some slot)
+pub taken_list : (heap : Heap) (node : Node) (free : List ℕ) (k : ℕ) (slot : Slot) → get_or (take_from heap node free).slots k None ≡ Some slot → (slot.node ≡ node) ⊎ (get_or heap.slots k None ≡ Some slot)
 taken_list heap node [] k slot e = inr e
 taken_list heap node (n ∷ free) k slot e =
     let put : Option Slot = Some (record { birth = heap.births + 1; node = node; prev = prev.None }) in
@@ -138,7 +138,7 @@ taken_list heap node (n ∷ free) k slot e =
     node_is : (birth : ℕ) → Some (record { birth = birth; node = node; prev = prev.None }) ≡ Some slot → slot.node ≡ node
     node_is birth e = ap (λ (x : Slot). x.node) (sym (same_Some _ _ e))
 
-standing_stored : (birth : ℕ) (o : Option Slot) (slot : Slot) → of_birth birth o ≡ Some slot → o ≡ Some slot
+pub standing_stored : (birth : ℕ) (o : Option Slot) (slot : Slot) → of_birth birth o ≡ Some slot → o ≡ Some slot
 standing_stored birth None slot e = absurd (none-some slot e)
 standing_stored birth (Some now) slot e = by (now.birth == birth) e
   where
@@ -146,14 +146,13 @@ standing_stored birth (Some now) slot e = by (now.birth == birth) e
     by true e = e
     by false e = absurd (none-some slot e)
 
-first_plain : (slots : ℕ) (r : Ref) (slot : Slot) → standing (first_heap slots) r ≡ Some slot → generation_of slot.node ≡ 0
-unfolding taken stored
-first_plain slots r slot e =
-    let at_k = standing_stored (birth_of r) (stored (first_heap slots) r) slot e in
-    elim (taken_list (taken (empty_heap slots) empty_branch) (Indirection 0 (ref_to 1 0)) (taken (empty_heap slots) empty_branch).free (slot_of r) slot at_k) [
+pub first_list : (slots k : ℕ) (slot : Slot) → get_or (first_heap slots).slots k None ≡ Some slot → generation_of slot.node ≡ 0
+unfolding taken
+first_list slots k slot e =
+    elim (taken_list (taken (empty_heap slots) empty_branch) (Indirection 0 (ref_to 1 0)) (taken (empty_heap slots) empty_branch).free k slot e) [
       | inl root ↦ ap generation_of root
-      | inr before ↦ elim (taken_list (empty_heap slots) empty_branch (empty_heap slots).free (slot_of r) slot before) [
+      | inr before ↦ elim (taken_list (empty_heap slots) empty_branch (empty_heap slots).free k slot before) [
         | inl branch ↦ ap generation_of branch
-        | inr none ↦ absurd (none_found slots (slot_of r) slot none)
+        | inr none ↦ absurd (none_found slots k slot none)
       ]
     ]

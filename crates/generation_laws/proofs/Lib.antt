@@ -9,3 +9,4 @@ pub mod Marks
 pub mod Handles
 pub mod Made
 pub mod Counter
+pub mod Below
