@@ -264,7 +264,7 @@ below_after state I h s o after m = record {
 pub looked_up_below : (state : State) → IsBelow state → (r : Ref) → generation_at state.heap r < state.generations
 looked_up_below state h r = root_start state h.positive h.nodes r
 
-below_at_first : (limits : Limits) → IsBelow (first_state limits)
+pub below_at_first : (limits : Limits) → IsBelow (first_state limits)
 unfolding first_state taken
 below_at_first limits = record {
   positive = omega arith;

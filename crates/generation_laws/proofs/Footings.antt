@@ -15,7 +15,7 @@ use Rattle.machine_model.specs.States.{State, root_at, word_of, word_at, root_of
 use Rattle.machine_model.specs.Swapping.{stands_in, is_plain, is_carried_out}
 use Rattle.machine_model.specs.Acting.{acted, carried_out, opened, opened_root, new_root_taken, if_changed}
 use Rattle.machine_model.proofs.Found.{found_elsewhere, found_here, found_within}
-use Rattle.generation_laws.proofs.Offers.{settles}
+use Rattle.generation_laws.specs.Laws.{settles}
 
 -- the action carries this offer out
 pub record CarriesOut (st : State) (at : ℕ) (action : Action) (offer : Descriptor) : Type 0 where

@@ -29,7 +29,8 @@ use Rattle.machine_model.proofs.Times.{IsRun, at_each_time}
 use Rattle.machine_model.specs.Swapping.{is_carried_out}
 use Rattle.generation_laws.proofs.Running.{Runs, Comes, began, rested, went, comes, place_of_actor, one_at}
 use Rattle.generation_laws.proofs.Ids.{one_of_id}
-use Rattle.generation_laws.proofs.Offers.{settles, own_numbers, StandsBy}
+use Rattle.generation_laws.specs.Laws.{settles}
+use Rattle.generation_laws.proofs.Offers.{own_numbers, StandsBy}
 use Rattle.generation_laws.proofs.SameOffer.{HasOffers, same_offer, has_offers_after, no_offers_at_first}
 use Rattle.generation_laws.proofs.Footings.{CarriesOut, RootFrom, stood, swapped, newly, root_from, StaysOpen, stays_open}
 use Rattle.generation_laws.proofs.Marks.{AllDone, done_after, carried_stands, unmarked_before, marks_mark, is_completing, complete_mark}
@@ -298,7 +299,7 @@ module _ (state : State) (I : HasOffers state) (H : HasHandles state) where
           reserved_by_two k j n a b (ran_or_began s k a (comes state s o after m k a at_k)) (ran_or_began s j b (comes state s o after m j b at_j));
     }
 
-handles_at_first : (limits : Limits) → HasHandles (first_state limits)
+pub handles_at_first : (limits : Limits) → HasHandles (first_state limits)
 unfolding first_state
 handles_at_first limits = record {
   done = λ k operation at_k. absurd (none_found limits.actors k operation at_k);

@@ -10,3 +10,4 @@ pub mod Handles
 pub mod Made
 pub mod Counter
 pub mod Below
+pub mod Along

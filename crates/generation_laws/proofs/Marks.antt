@@ -31,7 +31,8 @@ use Rattle.machine_model.proofs.Moves.{Moves, GoesOn, begun_operation}
 use Rattle.machine_model.proofs.Actors.{mark_one, mark_only, marks_in, marks_by, marks_of}
 use Rattle.generation_laws.proofs.Running.{Runs, Comes, began, rested, went, comes, one_at}
 use Rattle.generation_laws.proofs.Ids.{one_of_id}
-use Rattle.generation_laws.proofs.Offers.{settles, own_offer, own_numbers, StandsBy, completes_it}
+use Rattle.generation_laws.specs.Laws.{settles}
+use Rattle.generation_laws.proofs.Offers.{own_offer, own_numbers, StandsBy, completes_it}
 use Rattle.generation_laws.proofs.SameOffer.{HasOffers, same_offer}
 use Rattle.generation_laws.proofs.Footings.{CarriesOut}
 
