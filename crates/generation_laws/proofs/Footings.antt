@@ -15,7 +15,7 @@ use Rattle.machine_model.specs.States.{State, root_at, word_of, word_at, root_of
 use Rattle.machine_model.specs.Swapping.{stands_in, is_plain, is_carried_out}
 use Rattle.machine_model.specs.Acting.{acted, carried_out, opened, opened_root, new_root_taken, if_changed}
 use Rattle.machine_model.proofs.Found.{found_elsewhere, found_here, found_within}
-use Rattle.generation_laws.proofs.Offers.{settles}
+use Rattle.generation_laws.specs.Laws.{settles}
 
 -- the action carries this offer out
 pub record CarriesOut (st : State) (at : ℕ) (action : Action) (offer : Descriptor) : Type 0 where
@@ -29,7 +29,7 @@ pub data RootFrom (st : State) (at : ℕ) (action : Action) (handle : ℕ) (now 
       ((offer : Descriptor) → CarriesOut st at action offer → handle ≡ at → ⊥) → RootFrom st at action handle now
   swapped : (root : Root) (offer : Descriptor) → CarriesOut st at action offer → handle ≡ at → root_at st at ≡ Some root → now ≡ record root { word = Plain offer.successor } →
       RootFrom st at action handle now
-  opens : (offer : Descriptor) (n : ℕ) → CarriesOut st at action offer → offer.opens ≡ Some n → handle ≡ n → now ≡ opened_root offer offer.second → RootFrom st at action handle now
+  newly : (offer : Descriptor) (n : ℕ) → CarriesOut st at action offer → offer.opens ≡ Some n → handle ≡ n → now ≡ opened_root offer offer.second → RootFrom st at action handle now
 
 -- a root behind a write stood there before, elsewhere, or was written
 written : (roots : List (Option Root)) (at handle : ℕ) (put : Option Root) (now : Root) → get_or (set roots at put) handle None ≡ Some now →
@@ -94,7 +94,7 @@ module _ (st : State) (at handle : ℕ) (now : Root) where
   carried_opens action own c None is e = carried_word action own c e
   carried_opens action own c (Some n) is e = elim (written (with_word st at (Plain own.successor)).roots n handle (Some (opened_root own own.second)) now e) [
     | inl old ↦ carried_word action own c old.1
-    | inr new ↦ opens own n c is new.0 (sym (same_Some _ _ new.1))
+    | inr new ↦ newly own n c is new.0 (sym (same_Some _ _ new.1))
   ]
 
   complete_from : (own : Descriptor) (main : Ref) (b e : Bool) → stands_in (word_at st at) own ≡ b → (main == own.expected) ≡ e → (b ≡ true → word_at st at ≡ Offer own) →

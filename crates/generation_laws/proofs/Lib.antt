@@ -6,3 +6,8 @@ pub mod OfferLines
 pub mod SameOffer
 pub mod Footings
 pub mod Marks
+pub mod Handles
+pub mod Made
+pub mod Counter
+pub mod Below
+pub mod Along

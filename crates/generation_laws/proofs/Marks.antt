@@ -31,7 +31,8 @@ use Rattle.machine_model.proofs.Moves.{Moves, GoesOn, begun_operation}
 use Rattle.machine_model.proofs.Actors.{mark_one, mark_only, marks_in, marks_by, marks_of}
 use Rattle.generation_laws.proofs.Running.{Runs, Comes, began, rested, went, comes, one_at}
 use Rattle.generation_laws.proofs.Ids.{one_of_id}
-use Rattle.generation_laws.proofs.Offers.{settles, own_offer, own_numbers, StandsBy, completes_it}
+use Rattle.generation_laws.specs.Laws.{settles}
+use Rattle.generation_laws.proofs.Offers.{own_offer, own_numbers, StandsBy, completes_it}
 use Rattle.generation_laws.proofs.SameOffer.{HasOffers, same_offer}
 use Rattle.generation_laws.proofs.Footings.{CarriesOut}
 
@@ -145,12 +146,12 @@ next_done state operation c h = by c.line refl
         never done (Gives main) e = cc e
     by (complete.Swap main) e = ended_done operation _ (h main e)
 
-is_completing : (l : Line) → is_done l ≡ true → (state : State) (operation : Operation) → GoesOn (line_action state operation l) → (c : Complete) × (l ≡ line.Copy (copy.Complete c))
+pub is_completing : (l : Line) → is_done l ≡ true → (state : State) (operation : Operation) → GoesOn (line_action state operation l) → (c : Complete) × (l ≡ line.Copy (copy.Complete c))
 is_completing (line.Copy (copy.Complete c)) e state operation g = (c, refl)
 is_completing (line.End answer) e state operation g = absurd g
 is_completing l e state operation g = absurd (false≢true e)
 
-complete_mark : (mark : Bool) (c : Complete) → mark_after mark (complete_action c) ≡ mark
+pub complete_mark : (mark : Bool) (c : Complete) → mark_after mark (complete_action c) ≡ mark
 complete_mark mark c = grind arith
 
 or_first : (a b : Bool) → a ≡ true → (a || b) ≡ true

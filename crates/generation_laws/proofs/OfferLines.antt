@@ -55,7 +55,7 @@ use Rattle.machine_model.specs.Climbing.{climbed, climbing, climb_after_root}
 use Rattle.machine_model.specs.declared.repairs.Climb.{Climb}
 use Rattle.history.specs.declared.calls.Call.{Call}
 use Rattle.history.specs.declared.calls.Call.TheVariants.{Clear, Snapshot, Freeze}
-use Rattle.generation_laws.proofs.Offers.{settles}
+use Rattle.generation_laws.specs.Laws.{settles}
 
 -- ---- what a line is to settle
 

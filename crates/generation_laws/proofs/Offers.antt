@@ -39,6 +39,7 @@ use Rattle.machine_model.proofs.Moves.{Moves, Begins, Goes, Ends, Sweeps, begun_
 use Rattle.machine_model.proofs.Found.{found_elsewhere, found_within}
 use Rattle.machine_model.proofs.Actors.{mark_one, mark_only, marks_in, marks_by, marks_of}
 use Rattle.generation_laws.proofs.Running.{Runs, place_of_actor, one_at, Follows, rests, steps, ends, follows}
+use Rattle.generation_laws.specs.Laws.{settles}
 use Rattle.generation_laws.proofs.Ids.{HasIds, one_of_id}
 use Rattle.generation_laws.proofs.CopyLines.{IsOwn, HasOwn, AllOwn}
 
@@ -46,12 +47,6 @@ use Rattle.generation_laws.proofs.CopyLines.{IsOwn, HasOwn, AllOwn}
 
 abbrev word_in : List (Option Root) → ℕ → RootWord
 word_in roots handle = word_of (get_or roots handle None)
-
--- the offer that an action takes back or carries out, if it is one to do so
-abbrev pub settles : Action → Option Descriptor
-settles (act.Abort offer) = Some offer
-settles (act.Complete offer main) = Some offer
-settles action = None
 
 not_offer : (r : Ref) (offer : Descriptor) → Plain r ≡ Offer offer → ⊥
 not_offer r offer e = cc e

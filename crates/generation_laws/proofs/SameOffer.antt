@@ -39,7 +39,8 @@ use Rattle.machine_model.proofs.Times.{IsRun, at_each_time}
 use Rattle.generation_laws.proofs.Running.{Runs, Comes, began, rested, went, comes, place_of_actor}
 use Rattle.generation_laws.proofs.Ids.{HasIds, one_of_id, begun_kept, ids_after, ids_at_first}
 use Rattle.generation_laws.proofs.CopyLines.{IsOwn, HasOwn, AllOwn, own_after, is_copy, no_copy_after, complete_tries, same_offer_after}
-use Rattle.generation_laws.proofs.Offers.{settles, own_offer, own_numbers, StandsBy, OffersStand, stands_as, offers_after, none_offered}
+use Rattle.generation_laws.specs.Laws.{settles}
+use Rattle.generation_laws.proofs.Offers.{own_offer, own_numbers, StandsBy, OffersStand, stands_as, offers_after, none_offered}
 use Rattle.generation_laws.proofs.OfferLines.{Holds, abort_of, completing_of, abort_after, CompletesFrom, completes_after, settles_held}
 
 -- ---- where an operation has its own offer from
@@ -235,7 +236,7 @@ module _ (state : State) (I : HasOffers state) (s : Step) (o : Outcome) (after :
     known = λ k found at_k. known_by k found at_k (comes state s o after m k found at_k);
   }
 
-no_offers_at_first : (limits : Limits) → HasOffers (first_state limits)
+pub no_offers_at_first : (limits : Limits) → HasOffers (first_state limits)
 unfolding first_state
 no_offers_at_first limits = record {
   ids = ids_at_first limits;
