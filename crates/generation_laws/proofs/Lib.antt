@@ -11,3 +11,5 @@ pub mod Made
 pub mod Counter
 pub mod Below
 pub mod Along
+pub mod RootsKept
+pub mod Swaps
