@@ -13,3 +13,4 @@ pub mod Below
 pub mod Along
 pub mod RootsKept
 pub mod Swaps
+pub mod Roots
