@@ -14,3 +14,4 @@ pub mod Along
 pub mod RootsKept
 pub mod Swaps
 pub mod Roots
+pub mod RootsAlong

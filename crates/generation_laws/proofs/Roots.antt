@@ -69,7 +69,7 @@ first_none (Close h) x r e = none-some r e
 first_none call x r e = none-some r e
 
 -- who completes an offer has its roots
-its_fresh : (l : Line) (offer : Descriptor) (x : Bool) (r : Ref) → own_offer l ≡ Some offer → fresh_of x offer ≡ Some r → fresh_in x l ≡ Some r
+pub its_fresh : (l : Line) (offer : Descriptor) (x : Bool) (r : Ref) → own_offer l ≡ Some offer → fresh_of x offer ≡ Some r → fresh_in x l ≡ Some r
 its_fresh (line.Copy (copy.Complete c)) offer x r e f = ap (fresh_of x) (same_Some _ _ e) ∙ f
 its_fresh l offer x r e f = absurd (none-some offer e)
 
@@ -90,11 +90,11 @@ drawn_by state S s o after (Ends {actor} {operation} {answer} d is action) k was
 drawn_by state S s o after (Sweeps spent) k was e at_k main r a n = let wrong : ⊥ = cc e in absurd wrong
 
 -- a call that offers needs a writable handle, and is no close
-copying_call : (call : Call) (second : Option Ref) → second_fits call second ≡ true → (is_close call ≡ false) × (needs_writable call ≡ true)
-copying_call (Clear h) second e = (refl, refl)
-copying_call (Snapshot h) second e = (refl, refl)
-copying_call (Freeze h) second e = (refl, refl)
-copying_call call second e = absurd (false≢true e)
+pub writable_call : (call : Call) (second : Option Ref) → second_fits call second ≡ true → (is_close call ≡ false) × (needs_writable call ≡ true)
+writable_call (Clear h) second e = (refl, refl)
+writable_call (Snapshot h) second e = (refl, refl)
+writable_call (Freeze h) second e = (refl, refl)
+writable_call call second e = absurd (false≢true e)
 
 both_kinds : (access : Access) → access ≡ Writable → access ≡ ReadOnly → ⊥
 both_kinds access w r = let both : Writable ≡ ReadOnly = sym w ∙ r in cc both
@@ -152,7 +152,7 @@ module _ (state : State) (S : IsSafe state) (I : HasOffers state) (H : HasHandle
     old_root : (root : Root) × (root_at state (handle_of mover.call) ≡ Some root) × (root_of root.word ≡ offer.root) × (root.access ≡ Writable)
     old_root =
         let mine = own_numbers stands.owner offer (I.own stands.k stands.owner stands.runs) stands.completes in
-        let kinds = copying_call stands.owner.call offer.second mine.second in
+        let kinds = writable_call stands.owner.call offer.second mine.second in
         let (root, found, access) = H.on_open stands.k stands.owner stands.runs kinds.0 in
         let here = ap (root_at state) (sym stands.on_handle) ∙ found in
         (root, here, ap root_of (sym (ap word_of here) ∙ carried_stands state I actor mover offer is c), access ∙ is_writable stands.owner.access (S.fits stands.k stands.owner stands.runs) kinds.1)
