@@ -15,3 +15,4 @@ pub mod RootsKept
 pub mod Swaps
 pub mod Roots
 pub mod RootsAlong
+pub mod Rooted

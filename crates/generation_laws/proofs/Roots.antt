@@ -332,3 +332,31 @@ module _ (state : State) (S : IsSafe state) (I : HasOffers state) (H : HasHandle
 
   pub roots_after : HasRoots after
   roots_after = roots_by (step_kind state I s o after m)
+
+  -- ---- what becomes of the root of a writable handle
+
+  goes_on_by : StepKind state s after → (handle : ℕ) (root now : Root) → root_at state handle ≡ Some root → root.access ≡ Writable → root_at after handle ≡ Some now → now.access ≡ Writable →
+      (gen after now ≡ gen state root) ⊎ (closed_at after (gen state root) ≡ Some state.steps)
+  goes_on_by (quiet closings roots) handle root now e w f v =
+      let (was, at_handle, access, word) = roots handle now f in
+      inl (gen_kept handle was now at_handle word ∙ ap (gen state) (same_Some _ _ (sym at_handle ∙ e)))
+  goes_on_by (swaps actor mover offer go is c closings roots) handle root now e w f v = by (behind actor mover offer go is c handle now (roots handle now f))
+    where
+      by : Behind actor mover offer go is c handle now → (gen after now ≡ gen state root) ⊎ (closed_at after (gen state root) ≡ Some state.steps)
+      by (kept was at_handle access same away) = inl (same ∙ ap (gen state) (same_Some _ _ (sym at_handle ∙ e)))
+      by (first r fresh same at_it access) =
+          let old = old_root actor mover offer go is c in
+          let one = same_Some _ _ (sym e ∙ ap (root_at state) at_it ∙ old.1) in
+          let its : gen state root ≡ generation_at state.heap offer.root = ap (gen state) one ∙ old_gen actor mover offer go is c in
+          inr (ap (closed_at after) its ∙ ap (λ l. closed_in l (generation_at state.heap offer.root)) closings
+          ∙ closed_last state.closings (closing_of state offer) (generation_at state.heap offer.root) (ap (closed_at state) (sym its) ∙ R.unclosed handle root e w) refl)
+      by (second r fresh same its access) =
+          let b = stands actor mover offer go is c in
+          let mine = own_numbers b.owner offer (I.own b.k b.owner b.runs) b.completes in
+          absurd (none-some root (sym (H.unopened b.k handle b.owner b.runs b.unmarked (sym mine.number ∙ its)) ∙ e))
+      by (frozen access same) = absurd (both_kinds now.access v access)
+
+  -- while it is open its generation stays, or the step closes that
+  pub root_goes_on : (handle : ℕ) (root now : Root) → root_at state handle ≡ Some root → root.access ≡ Writable → root_at after handle ≡ Some now → now.access ≡ Writable →
+      (gen after now ≡ gen state root) ⊎ (closed_at after (gen state root) ≡ Some state.steps)
+  root_goes_on = goes_on_by (step_kind state I s o after m)
