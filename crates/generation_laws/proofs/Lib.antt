@@ -16,3 +16,4 @@ pub mod Swaps
 pub mod Roots
 pub mod RootsAlong
 pub mod Rooted
+pub mod OpenRoots
