@@ -1,16 +1,13 @@
 -- Handles: that of a running operation is open and of its kind, and the number that an operation is to open is its own and names no open handle until it is marked.
-use Rattle.std.proofs.Common.{◌≡◌, ℕ, zero, suc, ◌+◌, ◌<◌, ◌≤◌, ◌==◌, ◌&&◌, ◌||◌, Bool, true, false, cond, nat_le, is_some, inl, inr, ◌⊎◌, List, [], ◌∷◌, set, get_or, Option, Some, None, unwrap_or, refl, sym, ap, ◌∙◌, subst, eqb-true, eq-eqb, add-one, arith}
+use Rattle.std.proofs.Common.{◌≡◌, ℕ, zero, suc, ◌+◌, ◌≤◌, Bool, true, false, cond, nat_le, is_some, inl, inr, ◌⊎◌, List, [], ◌∷◌, set, get_or, Option, Some, None, unwrap_or, refl, sym, ap, ◌∙◌, subst, eq-eqb, add-one, arith}
 use Rattle.std.specs.List.{list_any}
 use Rattle.std.proofs.lemmas.Bool.{true≢false, false≢true, cond_both, or_left, or_right, or_parts}
 use Rattle.std.proofs.lemmas.Option.{none-some, same_Some}
 use Rattle.history.specs.declared.calls.Access.{Access}
 use Rattle.history.specs.declared.calls.Access.TheVariants.{Writable}
 use Rattle.history.specs.declared.calls.Call.{Call}
-use Rattle.history.specs.declared.calls.Call.TheVariants.{Snapshot, Freeze, Close}
+use Rattle.history.specs.declared.calls.Call.TheVariants.{Close}
 use Rattle.machine_model.specs.declared.operations.Operation.{Operation}
-use Rattle.machine_model.specs.declared.lines.Line.TheVariants as line
-use Rattle.machine_model.specs.declared.actions.Action.{Action}
-use Rattle.machine_model.specs.declared.actions.Action.TheVariants as act
 use Rattle.machine_model.specs.declared.roots.Descriptor.{Descriptor}
 use Rattle.machine_model.specs.declared.roots.Root.{Root}
 use Rattle.machine_model.specs.declared.steps.Limits.{Limits}
@@ -21,16 +18,14 @@ use Rattle.machine_model.specs.Calls.{handle_of, is_close, opens_handle}
 use Rattle.machine_model.specs.States.{State, first_state, root_at, word_of, word_at, operation_of, handle_limit}
 use Rattle.machine_model.specs.Operations.{action_of, line_action, line_after}
 use Rattle.machine_model.specs.Acting.{operation_after, gone, mark_after}
-use Rattle.machine_model.specs.Machine.{begin_denial, with_begin, handle_closed, access_of, runs_on, names, is_taken, is_number, reserved_by, taken_below, handles_taken, least_from, least_free}
+use Rattle.machine_model.specs.Machine.{begin_denial, handle_closed, access_of, runs_on, names, is_taken, is_number, reserved_by, taken_below, handles_taken, least_from, least_free}
 use Rattle.machine_model.proofs.Moves.{Moves, Begins, Goes, Ends, Sweeps, GoesOn, begun_operation}
 use Rattle.machine_model.proofs.Actors.{mark_one, mark_only, marks_in, marks_by, marks_of}
 use Rattle.machine_model.proofs.Found.{found_elsewhere, found_here, none_found}
 use Rattle.machine_model.proofs.Times.{IsRun, at_each_time}
 use Rattle.machine_model.specs.Swapping.{is_carried_out}
-use Rattle.generation_laws.proofs.Running.{Runs, Comes, began, rested, went, comes, place_of_actor, one_at}
-use Rattle.generation_laws.proofs.Ids.{one_of_id}
-use Rattle.generation_laws.specs.Laws.{settles}
-use Rattle.generation_laws.proofs.Offers.{own_numbers, StandsBy}
+use Rattle.generation_laws.proofs.Running.{Runs, Comes, began, rested, went, comes, one_at}
+use Rattle.generation_laws.proofs.Offers.{own_numbers}
 use Rattle.generation_laws.proofs.SameOffer.{HasOffers, same_offer, has_offers_after, no_offers_at_first}
 use Rattle.generation_laws.proofs.Footings.{CarriesOut, RootFrom, stood, swapped, newly, root_from, StaysOpen, stays_open}
 use Rattle.generation_laws.proofs.Marks.{AllDone, done_after, carried_stands, unmarked_before, marks_mark, is_completing, complete_mark}

@@ -1,5 +1,5 @@
 -- What an operation on a writable handle finds in its root word with no offer has a generation that wasn't closed before.
-use Rattle.std.proofs.Common.{◌≡◌, ℕ, zero, suc, ◌+◌, ◌<◌, ◌≤◌, ◌==◌, Bool, true, false, inl, inr, ◌⊎◌, List, Option, Some, None, get_or, refl, sym, ap, ◌∙◌, subst, arith}
+use Rattle.std.proofs.Common.{◌≡◌, ℕ, zero, suc, ◌<◌, ◌≤◌, Bool, true, false, inl, inr, Option, Some, None, refl, sym, ap, ◌∙◌, arith}
 use Rattle.std.proofs.lemmas.Bool.{true≢false, false≢true, cases_eq}
 use Rattle.std.proofs.lemmas.Option.{none-some, same_Some}
 use Rattle.history.specs.declared.calls.Access.TheVariants.{Writable}
@@ -12,13 +12,12 @@ use Rattle.machine_model.specs.declared.lines.Line.TheVariants as line
 use Rattle.machine_model.specs.declared.operations.Operation.{Operation}
 use Rattle.machine_model.specs.declared.roots.RootWord.TheVariants.{Plain}
 use Rattle.machine_model.specs.declared.steps.Limits.{Limits}
-use Rattle.machine_model.specs.declared.steps.Outcome.{Outcome}
 use Rattle.machine_model.specs.declared.steps.Step.{Step}
 use Rattle.machine_model.specs.Calls.{handle_of, is_close}
-use Rattle.machine_model.specs.States.{State, first_state, root_at, root_of, word_of, word_at, operation_of, closed_at}
-use Rattle.machine_model.specs.Operations.{action_of, line_action, first_line}
+use Rattle.machine_model.specs.States.{State, first_state, root_of, word_of, word_at, operation_of, closed_at}
+use Rattle.machine_model.specs.Operations.{line_action, first_line}
 use Rattle.machine_model.specs.Acting.{operation_after}
-use Rattle.machine_model.proofs.Moves.{Moves, GoesOn}
+use Rattle.machine_model.proofs.Moves.{GoesOn}
 use Rattle.machine_model.proofs.Actors.{mark_only, marks_in}
 use Rattle.machine_model.proofs.Found.{none_found}
 use Rattle.machine_model.proofs.Times.{IsRun, Turn, turns, at_each_time, steps_at}

@@ -1,11 +1,7 @@
 -- The generation of an operation on a writable handle is that of its handle's root, or was so until it was closed.
-use Rattle.std.proofs.Common.{◌≡◌, ℕ, zero, suc, ◌<◌, ◌≤◌, Bool, true, false, inl, inr, ◌⊎◌, List, Option, Some, None, get_or, refl, sym, ap, ◌∙◌, subst, arith}
-use Rattle.std.proofs.lemmas.Bool.{true≢false, false≢true, cases_Bool}
+use Rattle.std.proofs.Common.{◌≡◌, ℕ, zero, suc, ◌<◌, ◌≤◌, Bool, false, inl, inr, ◌⊎◌, Some, None, get_or, refl, sym, ap, ◌∙◌, subst, arith}
 use Rattle.std.proofs.lemmas.Option.{none-some, same_Some}
-use Rattle.history.specs.declared.calls.Access.{Access}
 use Rattle.history.specs.declared.calls.Access.TheVariants.{Writable}
-use Rattle.history.specs.declared.calls.Call.{Call}
-use Rattle.history.specs.declared.calls.Call.TheVariants.{Close}
 use Rattle.slot_arena.specs.declared.refs.Ref.{Ref}
 use Rattle.slot_arena.specs.Heaps.{generation_at}
 use Rattle.machine_model.specs.declared.lines.Line.{Line}
@@ -27,7 +23,7 @@ use Rattle.machine_model.specs.States.{State, first_state, root_at, root_of, wor
 use Rattle.machine_model.specs.Swapping.{root_after, after_root_word, after_completing, complete_after}
 use Rattle.machine_model.specs.Operations.{generation_from, given_root}
 use Rattle.machine_model.specs.Acting.{operation_after}
-use Rattle.machine_model.proofs.Moves.{Moves, begun_operation}
+use Rattle.machine_model.proofs.Moves.{Moves}
 use Rattle.machine_model.proofs.Actors.{mark_only, marks_in}
 use Rattle.machine_model.proofs.Found.{none_found}
 use Rattle.machine_model.proofs.Times.{IsRun, Turn, turns, along_run, steps_at}

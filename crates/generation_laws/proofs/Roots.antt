@@ -1,6 +1,6 @@
 -- Roots: the one in a writable handle's word has a generation that is open and its own, that of a read-only handle is closed, and the fresh roots that an operation is to offer have
 -- generations that no handle has and that are open.
-use Rattle.std.proofs.Common.{◌≡◌, ℕ, suc, ◌<◌, ◌≤◌, Bool, true, false, cond, inl, inr, ◌⊎◌, List, [], ◌∷◌, ◌++◌, Option, Some, None, get_or, refl, sym, ap, ◌∙◌, subst, arith}
+use Rattle.std.proofs.Common.{◌≡◌, ℕ, suc, Bool, true, false, cond, inl, inr, ◌⊎◌, [], ◌∷◌, ◌++◌, Option, Some, None, refl, sym, ap, ◌∙◌, subst, arith}
 use Rattle.std.proofs.lemmas.Bool.{true≢false, false≢true}
 use Rattle.std.proofs.lemmas.Option.{none-some, same_Some}
 use Rattle.history.specs.declared.calls.Access.{Access}
@@ -10,25 +10,21 @@ use Rattle.history.specs.declared.calls.Call.TheVariants.{Clear, Snapshot, Freez
 use Rattle.slot_arena.specs.declared.refs.Ref.{Ref}
 use Rattle.slot_arena.specs.declared.nodes.Node.TheVariants.{Indirection}
 use Rattle.slot_arena.specs.Heaps.{generation_at, generation_of, next_ref}
-use Rattle.machine_model.specs.declared.actions.Action.{Action}
 use Rattle.machine_model.specs.declared.actions.Action.TheVariants as act
 use Rattle.machine_model.specs.declared.copying.CopyLine.TheVariants as copy
-use Rattle.machine_model.specs.declared.heaps.Closing.{Closing}
 use Rattle.machine_model.specs.declared.lines.Line.{Line}
 use Rattle.machine_model.specs.declared.lines.Line.TheVariants as line
 use Rattle.machine_model.specs.declared.operations.Operation.{Operation}
 use Rattle.machine_model.specs.declared.roots.Descriptor.{Descriptor}
 use Rattle.machine_model.specs.declared.roots.Root.{Root}
-use Rattle.machine_model.specs.declared.roots.RootWord.TheVariants.{Plain, Offer}
 use Rattle.machine_model.specs.declared.steps.Outcome.{Outcome}
 use Rattle.machine_model.specs.declared.steps.Step.{Step}
 use Rattle.machine_model.specs.declared.steps.Step.TheVariants as step
 use Rattle.machine_model.specs.Calls.{handle_of, is_close, needs_writable}
-use Rattle.machine_model.specs.States.{State, root_at, root_of, word_of, word_at, operation_of, closed_at}
-use Rattle.machine_model.specs.Operations.{action_of, line_action, first_line}
-use Rattle.machine_model.specs.Acting.{opened_root, gone}
-use Rattle.machine_model.specs.Counting.{settled}
-use Rattle.machine_model.proofs.Moves.{Moves, Begins, Goes, Ends, Sweeps, begun_operation}
+use Rattle.machine_model.specs.States.{State, root_at, root_of, word_of, operation_of, closed_at}
+use Rattle.machine_model.specs.Operations.{action_of, first_line}
+use Rattle.machine_model.specs.Acting.{opened_root}
+use Rattle.machine_model.proofs.Moves.{Moves, Begins, Goes, Ends, Sweeps}
 use Rattle.machine_model.proofs.Actors.{marks_in, marks_by, marks_of}
 use Rattle.memory_laws.proofs.Guards.{Safe}
 use Rattle.memory_laws.proofs.Next.{made_node}

@@ -1,11 +1,10 @@
 -- Roots of handles, along a run and after each list of steps.
-use Rattle.std.proofs.Common.{◌≡◌, ℕ, zero, suc, ◌<◌, ◌≤◌, Bool, true, false, inl, inr, ◌⊎◌, List, [], ◌∷◌, ◌++◌, Option, Some, None, get_or, set, replicate, refl, sym, ap, ◌∙◌, subst, arith}
+use Rattle.std.proofs.Common.{◌≡◌, ℕ, suc, ◌≤◌, Bool, true, false, inl, inr, List, [], ◌∷◌, Some, None, get_or, set, replicate, refl, sym, ap, ◌∙◌, subst, arith}
 use Rattle.std.proofs.lemmas.Bool.{true≢false, false≢true, cases_eq}
 use Rattle.std.proofs.lemmas.Option.{none-some, same_Some}
 use Rattle.history.specs.declared.calls.Access.{Access}
 use Rattle.history.specs.declared.calls.Access.TheVariants.{Writable, ReadOnly}
 use Rattle.slot_arena.specs.Refs.{ref_to}
-use Rattle.machine_model.specs.declared.operations.Operation.{Operation}
 use Rattle.machine_model.specs.declared.roots.Descriptor.{Descriptor}
 use Rattle.machine_model.specs.declared.roots.Root.{Root}
 use Rattle.machine_model.specs.declared.roots.RootWord.{RootWord}
@@ -13,16 +12,15 @@ use Rattle.machine_model.specs.declared.roots.RootWord.TheVariants.{Plain, Offer
 use Rattle.machine_model.specs.declared.steps.Limits.{Limits}
 use Rattle.machine_model.specs.declared.steps.Outcome.{Outcome}
 use Rattle.machine_model.specs.declared.steps.Step.{Step}
-use Rattle.machine_model.specs.Calls.{handle_of}
 use Rattle.machine_model.specs.States.{State, first_state, root_at, root_of, word_of, word_at, closed_at, handle_limit}
 use Rattle.machine_model.specs.Machine.{AreLimits, run, run_from, next_state}
 use Rattle.machine_model.proofs.Moves.{Moves}
-use Rattle.machine_model.proofs.Along.{along, kept_by_moves, run-append}
+use Rattle.machine_model.proofs.Along.{along, kept_by_moves}
 use Rattle.machine_model.proofs.Found.{found_elsewhere, found_here, none_found}
 use Rattle.machine_model.proofs.Times.{IsRun, Turn, turns, along_run}
 use Rattle.memory_laws.proofs.Safety.{IsSafe}
 use Rattle.memory_laws.proofs.AtEachTime.{safe_at, safe_along}
-use Rattle.generation_laws.proofs.Offers.{own_numbers, StandsBy}
+use Rattle.generation_laws.proofs.Offers.{own_numbers}
 use Rattle.generation_laws.proofs.SameOffer.{HasOffers, has_offers_after, no_offers_at_first}
 use Rattle.generation_laws.proofs.Handles.{HasHandles, handles_after, handles_at_first}
 use Rattle.generation_laws.proofs.Below.{IsBelow, below_after, below_at_first}

@@ -1,8 +1,6 @@
-use Rattle.std.proofs.Common.{ℕ, ◌≡◌, true, false, refl, sym, ap, ◌∙◌, List, ◌++◌, Some, None, subst}
+use Rattle.std.proofs.Common.{◌≡◌, true, false, refl, sym, ap, ◌∙◌, ◌++◌, Some}
 use Rattle.std.proofs.lemmas.Option.{none-some}
-use Rattle.machine_model.specs.declared.steps.Limits.{Limits}
-use Rattle.machine_model.specs.declared.steps.Step.{Step}
-use Rattle.machine_model.specs.States.{State, first_state, closed_at}
+use Rattle.machine_model.specs.States.{first_state, closed_at}
 use Rattle.machine_model.specs.Machine.{run}
 use Rattle.machine_model.proofs.Along.{run-append}
 use Rattle.memory_laws.proofs.AtEachTime.{safe_along}
