@@ -1,6 +1,5 @@
 -- After each list of steps: offers, handles and the counter.
-use Rattle.std.proofs.Common.{◌≡◌, ℕ, suc, ◌<◌, Option, Some, None, List, unwrap_or, refl, sym, ap, ◌∙◌, subst, arith}
-use Rattle.std.proofs.lemmas.Option.{none-some}
+use Rattle.std.proofs.Common.{◌≡◌, ℕ, ◌<◌, Option, Some, List, unwrap_or, ap, arith}
 use Rattle.slot_arena.specs.Refs.{birth_of, slot_of}
 use Rattle.slot_arena.specs.declared.refs.Ref.{Ref}
 use Rattle.slot_arena.specs.declared.nodes.Slot.{Slot}
@@ -9,7 +8,6 @@ use Rattle.machine_model.specs.declared.operations.Operation.{Operation}
 use Rattle.machine_model.specs.declared.steps.Limits.{Limits}
 use Rattle.machine_model.specs.declared.steps.Step.{Step}
 use Rattle.machine_model.specs.States.{State, operation_of}
-use Rattle.machine_model.specs.Paths.{start_of}
 use Rattle.machine_model.specs.Machine.{AreLimits, run}
 use Rattle.machine_model.proofs.Along.{along}
 use Rattle.machine_model.proofs.Grown.{standing}
@@ -17,8 +15,8 @@ use Rattle.memory_laws.proofs.AtEachTime.{safe_along}
 use Rattle.generation_laws.proofs.SameOffer.{HasOffers, has_offers_after, no_offers_at_first}
 use Rattle.generation_laws.proofs.Handles.{HasHandles, handles_after, handles_at_first}
 use Rattle.generation_laws.proofs.Counter.{standing_stored}
-use Rattle.generation_laws.proofs.Below.{IsBelow, NodesBelow, below_after, below_at_first}
-use Rattle.generation_laws.proofs.Running.{Runs, place_of_actor}
+use Rattle.generation_laws.proofs.Below.{IsBelow, below_after, below_at_first}
+use Rattle.generation_laws.proofs.Running.{place_of_actor}
 
 pub has_handles_along : (limits : Limits) (steps : List Step) → HasOffers (run limits steps) × HasHandles (run limits steps)
 has_handles_along limits =

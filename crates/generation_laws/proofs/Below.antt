@@ -1,18 +1,18 @@
 -- Along a run: all generations are below the counter.
-use Rattle.std.proofs.Common.{◌≡◌, ℕ, zero, suc, ◌+◌, ◌<◌, ◌≤◌, ◌==◌, Bool, true, false, cond, inl, inr, ◌⊎◌, List, [], ◌∷◌, ◌++◌, map, find, length, nat_le, set, get_or, is_some, Option, Some, None, option_map, unwrap_or, refl, sym, ap, ◌∙◌, subst, eqb-true, arith}
-use Rattle.std.proofs.lemmas.Bool.{false≢true, cases_eq, cond_both}
+use Rattle.std.proofs.Common.{◌≡◌, ℕ, suc, ◌+◌, ◌<◌, ◌≤◌, ◌==◌, Bool, true, false, cond, inl, inr, List, [], ◌∷◌, ◌++◌, map, find, length, nat_le, set, get_or, Option, Some, None, option_map, unwrap_or, refl, sym, ap, ◌∙◌, subst, eqb-true, arith}
+use Rattle.std.proofs.lemmas.Bool.{cases_eq, cond_both}
 use Rattle.std.proofs.lemmas.Option.{none-some, same_Some}
 use Rattle.history.specs.declared.calls.Call.{Call}
 use Rattle.epochs.specs.declared.limbo.Swept.{Swept}
 use Rattle.epochs.specs.Sweeping.{Reclaimer, ripe, sweep_by}
-use Rattle.slot_arena.specs.Refs.{birth_of, slot_of}
+use Rattle.slot_arena.specs.Refs.{slot_of}
 use Rattle.slot_arena.specs.declared.refs.Ref.{Ref}
 use Rattle.slot_arena.specs.declared.nodes.Node.{Node}
 use Rattle.slot_arena.specs.declared.nodes.Node.TheVariants.{Indirection}
 use Rattle.slot_arena.specs.declared.nodes.Prev.{Prev}
 use Rattle.slot_arena.specs.declared.nodes.Prev.TheVariants as prev
 use Rattle.slot_arena.specs.declared.nodes.Slot.{Slot}
-use Rattle.slot_arena.specs.Heaps.{Heap, stored, node_at, taken, take_from, generation_of, generation_at, node_of, with_main, with_prev, written, main_changed, prev_changed, freed, next_ref}
+use Rattle.slot_arena.specs.Heaps.{Heap, stored, node_at, taken, generation_of, generation_at, node_of, with_main, with_prev, written, main_changed, prev_changed, freed, next_ref}
 use Rattle.machine_model.specs.declared.actions.Action.{Action}
 use Rattle.machine_model.specs.declared.actions.Action.TheVariants as act
 use Rattle.machine_model.specs.declared.operations.Operation.{Operation}
@@ -38,7 +38,7 @@ use Rattle.generation_laws.proofs.Running.{Runs, Comes, began, rested, went, com
 use Rattle.machine_model.specs.Paths.{start_of}
 use Rattle.machine_model.specs.Reading.{Verdict, Commits, Fails, Overtaken, verdict}
 use Rattle.machine_model.specs.Operations.{action_of, generation_from, given_root}
-use Rattle.machine_model.specs.Acting.{acted, aborted, offered, completed, published, restored, decided, new_root_taken, gone, if_changed, opened, carried_out, operation_after}
+use Rattle.machine_model.specs.Acting.{acted, aborted, offered, completed, decided, new_root_taken, if_changed, opened, carried_out, operation_after}
 use Rattle.machine_model.specs.Machine.{with_begin, pin_of, reclaimer_of}
 use Rattle.machine_model.proofs.Moves.{Moves, Begins, Goes, Ends, Sweeps, begun_operation}
 use Rattle.machine_model.proofs.HeapMoves.{aborted_heap, offered_heap, completed_heap}

@@ -1,35 +1,27 @@
 -- The lines of SNAP and CLEAR: which calls stand on them, and that an operation's own offers have its id, its handle to open and the number of its try.
-use Rattle.std.proofs.Common.{◌≡◌, ℕ, ◌+◌, ◌==◌, ◌&&◌, ◌||◌, Bool, true, false, cond, nat_lt, nat_le, List, [], ◌∷◌, ◌++◌, length, Option, Some, None, get_or, refl, sym, ap, ◌∙◌, subst, arith}
+use Rattle.std.proofs.Common.{◌≡◌, ℕ, ◌+◌, ◌==◌, ◌||◌, Bool, true, false, cond, nat_lt, List, length, Option, Some, None, refl, sym, ap, subst, arith}
 use Rattle.std.proofs.lemmas.Bool.{false≢true}
 use Rattle.history.specs.declared.calls.Access.{Access}
-use Rattle.history.specs.declared.calls.Access.TheVariants.{Writable, ReadOnly}
 use Rattle.history.specs.declared.calls.Call.{Call}
 use Rattle.history.specs.declared.calls.Call.TheVariants.{Clear, Snapshot, Freeze, Close, Entries, Count}
-use Rattle.history.specs.declared.replies.Reply.TheVariants as reply
 use Rattle.slot_arena.specs.declared.refs.Ref.{Ref}
 use Rattle.slot_arena.specs.declared.nodes.Node.{Node}
-use Rattle.slot_arena.specs.declared.nodes.Node.TheVariants.{Indirection, Branch, Single, Tomb, List as Listed}
+use Rattle.slot_arena.specs.declared.nodes.Node.TheVariants.{Branch, Single, Tomb}
 use Rattle.slot_arena.specs.Heaps.{node_at, entry_at, entries_of, next_ref}
 use Rattle.ctrie_base.specs.Paths.{position_of}
 use Rattle.nodes.specs.Levels.{has_flag}
-use Rattle.machine_model.specs.declared.actions.Action.{Action}
-use Rattle.machine_model.specs.declared.actions.Action.TheVariants as act
 use Rattle.machine_model.specs.declared.operations.Operation.{Operation}
 use Rattle.machine_model.specs.declared.reading.After.{After}
 use Rattle.machine_model.specs.declared.reading.After.TheVariants.{Goes as Continues, Gives}
 use Rattle.machine_model.specs.declared.reading.Read.{Read}
 use Rattle.machine_model.specs.declared.reading.ReadLine.{ReadLine}
-use Rattle.machine_model.specs.declared.reading.ReadLine.TheVariants as read
 use Rattle.machine_model.specs.declared.reading.Swap.{Swap}
 use Rattle.machine_model.specs.declared.building.BuildLine.{BuildLine}
-use Rattle.machine_model.specs.declared.building.BuildLine.TheVariants as build
-use Rattle.machine_model.specs.declared.building.Site.TheVariants as site
 use Rattle.machine_model.specs.declared.finding.KeyLine.{KeyLine}
 use Rattle.machine_model.specs.declared.finding.KeyLine.TheVariants as key
 use Rattle.machine_model.specs.declared.finding.WhenFound.{WhenFound}
 use Rattle.machine_model.specs.declared.repairs.RenewLine.{RenewLine}
 use Rattle.machine_model.specs.declared.repairs.CleanLine.{CleanLine}
-use Rattle.machine_model.specs.declared.repairs.CleanLine.TheVariants as clean
 use Rattle.machine_model.specs.declared.repairs.ClimbLine.{ClimbLine}
 use Rattle.machine_model.specs.declared.copying.CopyLine.{CopyLine}
 use Rattle.machine_model.specs.declared.copying.CopyLine.TheVariants as copy
@@ -44,18 +36,18 @@ use Rattle.machine_model.specs.declared.lines.Line.{Line}
 use Rattle.machine_model.specs.declared.lines.Line.TheVariants as line
 use Rattle.machine_model.specs.declared.steps.Outcome.{Outcome}
 use Rattle.machine_model.specs.declared.steps.Step.{Step}
-use Rattle.machine_model.specs.Calls.{handle_of, key_of, opens_handle, inserts, absent_reply, when_found}
-use Rattle.machine_model.specs.States.{State, word_at, operation_of}
-use Rattle.machine_model.specs.Lines.{new_try, impossible}
-use Rattle.machine_model.specs.Paths.{above, current, is_below_root, flag_in}
-use Rattle.machine_model.specs.Reading.{read_action, read_step, reading}
-use Rattle.machine_model.specs.Swapping.{is_plain, completing, complete_after, complete_action, after_reading, is_carried_out, after_complete}
+use Rattle.machine_model.specs.Calls.{handle_of, key_of, opens_handle, when_found}
+use Rattle.machine_model.specs.States.{State, word_at}
+use Rattle.machine_model.specs.Lines.{new_try}
+use Rattle.machine_model.specs.Paths.{flag_in}
+use Rattle.machine_model.specs.Reading.{read_action, read_step}
+use Rattle.machine_model.specs.Swapping.{is_plain, complete_after, complete_action}
 use Rattle.machine_model.specs.Finding.{key_after, key_after_read, key_after_main, key_after_entry, after_tomb, after_listed, after_sibling, found, found_so, absent, absent_beside, absent_listed}
 use Rattle.machine_model.specs.Copying.{copy_action, copy_after, copy_after_read, copy_after_made, copy_if_made, copy_after_complete, after_successor, after_given, after_offer, offering, copied_reply}
-use Rattle.machine_model.specs.Operations.{action_of, line_action, line_after, first_line, from_root, after_root}
+use Rattle.machine_model.specs.Operations.{line_action, line_after, first_line, from_root, after_root}
 use Rattle.machine_model.specs.Acting.{operation_after, attempt_after}
-use Rattle.machine_model.proofs.Moves.{Moves, GoesOn, begun_operation}
-use Rattle.machine_model.proofs.Actors.{mark_one, mark_only, marks_in}
+use Rattle.machine_model.proofs.Moves.{Moves}
+use Rattle.machine_model.proofs.Actors.{mark_one, mark_only}
 use Rattle.generation_laws.proofs.Running.{Runs, Comes, began, rested, went, comes}
 
 -- ---- the calls

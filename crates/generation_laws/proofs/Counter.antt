@@ -1,14 +1,14 @@
 -- All generations are below the counter from which the next one is drawn: those of indirections, of operations and of closings. An indirection keeps its own.
-use Rattle.std.proofs.Common.{◌≡◌, ℕ, zero, suc, ◌+◌, ◌<◌, ◌≤◌, ◌==◌, Bool, true, false, cond, inl, inr, ◌⊎◌, List, [], ◌∷◌, ◌++◌, set, get_or, replicate, is_some, Option, Some, None, unwrap_or, refl, sym, ap, ◌∙◌, subst, arith}
-use Rattle.std.proofs.lemmas.Bool.{false≢true, cases_eq}
+use Rattle.std.proofs.Common.{◌≡◌, ℕ, ◌+◌, ◌≤◌, ◌==◌, Bool, true, false, cond, inl, inr, ◌⊎◌, List, [], ◌∷◌, set, get_or, Option, Some, None, refl, sym, ap, ◌∙◌, subst, arith}
+use Rattle.std.proofs.lemmas.Bool.{cases_eq}
 use Rattle.std.proofs.lemmas.Option.{none-some, same_Some}
-use Rattle.slot_arena.specs.Refs.{birth_of, slot_of, ref_to}
+use Rattle.slot_arena.specs.Refs.{ref_to}
 use Rattle.slot_arena.specs.declared.refs.Ref.{Ref}
 use Rattle.slot_arena.specs.declared.nodes.Node.{Node}
-use Rattle.slot_arena.specs.declared.nodes.Node.TheVariants.{Indirection, Branch, Single, Tomb, List as Listed}
+use Rattle.slot_arena.specs.declared.nodes.Node.TheVariants.{Indirection}
 use Rattle.slot_arena.specs.declared.nodes.Prev.TheVariants as prev
 use Rattle.slot_arena.specs.declared.nodes.Slot.{Slot}
-use Rattle.slot_arena.specs.Heaps.{Heap, stored, taken, take_from, generation_of, node_of, with_main_word, next_ref, empty_branch}
+use Rattle.slot_arena.specs.Heaps.{Heap, taken, take_from, generation_of, node_of, with_main_word, next_ref, empty_branch}
 use Rattle.machine_model.specs.declared.actions.Action.{Action}
 use Rattle.machine_model.specs.declared.actions.Action.TheVariants as act
 use Rattle.machine_model.specs.declared.operations.Operation.{Operation}
@@ -17,19 +17,17 @@ use Rattle.machine_model.specs.declared.steps.Limits.{Limits}
 use Rattle.machine_model.specs.declared.steps.Outcome.{Outcome}
 use Rattle.machine_model.specs.declared.steps.Step.{Step}
 use Rattle.machine_model.specs.Calls.{handle_of}
-use Rattle.machine_model.specs.States.{State, first_state, first_heap, empty_heap, operation_of}
-use Rattle.machine_model.specs.Paths.{start_of}
+use Rattle.machine_model.specs.States.{State, first_heap, empty_heap, operation_of}
 use Rattle.machine_model.specs.Operations.{action_of}
 use Rattle.machine_model.specs.Acting.{acted, aborted, offered, completed, new_root_taken, gone}
 use Rattle.machine_model.specs.Machine.{with_begin}
 use Rattle.machine_model.proofs.Moves.{Moves, Begins, Goes, Ends, Sweeps, begun_operation}
 use Rattle.machine_model.proofs.Found.{found_elsewhere, found_here, none_found}
-use Rattle.machine_model.proofs.Times.{IsRun, Turn, turns, along_run}
-use Rattle.machine_model.proofs.Grown.{standing, of_birth, grown, node_under}
+use Rattle.machine_model.proofs.Times.{IsRun}
+use Rattle.machine_model.proofs.Grown.{of_birth, grown, node_under}
 use Rattle.memory_laws.specs.Laws.{SameNode}
-use Rattle.memory_laws.proofs.Effects.{SameSlot}
 use Rattle.memory_laws.proofs.Next.{made_node}
-use Rattle.memory_laws.proofs.WordMoves.{WordMove, keeps, makes, publishes, restores, commits, fails, word_move, grown_stays}
+use Rattle.memory_laws.proofs.WordMoves.{WordMove, keeps, makes, publishes, restores, commits, fails, grown_stays}
 
 -- ---- the counter
 

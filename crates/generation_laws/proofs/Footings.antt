@@ -1,9 +1,8 @@
 -- Which handles are open after an action, of which kind and over which root: an action leaves that, but where it carries an offer out.
-use Rattle.std.proofs.Common.{◌≡◌, ℕ, ◌<◌, ◌==◌, ◌&&◌, Bool, true, false, cond, inl, inr, ◌⊎◌, List, set, get_or, length, Option, Some, None, refl, sym, ap, ◌∙◌, subst, arith, eqb-true}
+use Rattle.std.proofs.Common.{◌≡◌, ℕ, ◌==◌, Bool, true, false, cond, inl, inr, ◌⊎◌, List, set, get_or, Option, Some, None, refl, sym, ap, ◌∙◌, subst, eqb-true}
 use Rattle.std.proofs.lemmas.Bool.{cases_eq, true≢false, false≢true, and_from, and_parts}
 use Rattle.std.proofs.lemmas.List.{get_or-set_same}
 use Rattle.std.proofs.lemmas.Option.{none-some, same_Some}
-use Rattle.history.specs.declared.calls.Access.TheVariants.{Writable, ReadOnly}
 use Rattle.slot_arena.specs.declared.refs.Ref.{Ref}
 use Rattle.machine_model.specs.declared.actions.Action.{Action}
 use Rattle.machine_model.specs.declared.actions.Action.TheVariants as act

@@ -1,16 +1,13 @@
 -- Handles: that of a running operation is open and of its kind, and the number that an operation is to open is its own and names no open handle until it is marked.
-use Rattle.std.proofs.Common.{◌≡◌, ℕ, zero, suc, ◌+◌, ◌<◌, ◌≤◌, ◌==◌, ◌&&◌, ◌||◌, Bool, true, false, cond, nat_le, is_some, inl, inr, ◌⊎◌, List, [], ◌∷◌, set, get_or, Option, Some, None, unwrap_or, refl, sym, ap, ◌∙◌, subst, eqb-true, eq-eqb, add-one, arith}
+use Rattle.std.proofs.Common.{◌≡◌, ℕ, zero, suc, ◌+◌, ◌≤◌, Bool, true, false, cond, nat_le, is_some, inl, inr, ◌⊎◌, List, [], ◌∷◌, set, get_or, Option, Some, None, unwrap_or, refl, sym, ap, ◌∙◌, subst, eq-eqb, add-one, arith}
 use Rattle.std.specs.List.{list_any}
 use Rattle.std.proofs.lemmas.Bool.{true≢false, false≢true, cond_both, or_left, or_right, or_parts}
 use Rattle.std.proofs.lemmas.Option.{none-some, same_Some}
 use Rattle.history.specs.declared.calls.Access.{Access}
 use Rattle.history.specs.declared.calls.Access.TheVariants.{Writable}
 use Rattle.history.specs.declared.calls.Call.{Call}
-use Rattle.history.specs.declared.calls.Call.TheVariants.{Snapshot, Freeze, Close}
+use Rattle.history.specs.declared.calls.Call.TheVariants.{Close}
 use Rattle.machine_model.specs.declared.operations.Operation.{Operation}
-use Rattle.machine_model.specs.declared.lines.Line.TheVariants as line
-use Rattle.machine_model.specs.declared.actions.Action.{Action}
-use Rattle.machine_model.specs.declared.actions.Action.TheVariants as act
 use Rattle.machine_model.specs.declared.roots.Descriptor.{Descriptor}
 use Rattle.machine_model.specs.declared.roots.Root.{Root}
 use Rattle.machine_model.specs.declared.steps.Limits.{Limits}
@@ -19,18 +16,16 @@ use Rattle.machine_model.specs.declared.steps.Step.{Step}
 use Rattle.machine_model.specs.declared.steps.Step.TheVariants as step
 use Rattle.machine_model.specs.Calls.{handle_of, is_close, opens_handle}
 use Rattle.machine_model.specs.States.{State, first_state, root_at, word_of, word_at, operation_of, handle_limit}
-use Rattle.machine_model.specs.Operations.{action_of, line_action}
+use Rattle.machine_model.specs.Operations.{action_of, line_action, line_after}
 use Rattle.machine_model.specs.Acting.{operation_after, gone, mark_after}
-use Rattle.machine_model.specs.Machine.{begin_denial, with_begin, handle_closed, access_of, runs_on, names, is_taken, is_number, reserved_by, taken_below, handles_taken, least_from, least_free}
+use Rattle.machine_model.specs.Machine.{begin_denial, handle_closed, access_of, runs_on, names, is_taken, is_number, reserved_by, taken_below, handles_taken, least_from, least_free}
 use Rattle.machine_model.proofs.Moves.{Moves, Begins, Goes, Ends, Sweeps, GoesOn, begun_operation}
 use Rattle.machine_model.proofs.Actors.{mark_one, mark_only, marks_in, marks_by, marks_of}
 use Rattle.machine_model.proofs.Found.{found_elsewhere, found_here, none_found}
 use Rattle.machine_model.proofs.Times.{IsRun, at_each_time}
 use Rattle.machine_model.specs.Swapping.{is_carried_out}
-use Rattle.generation_laws.proofs.Running.{Runs, Comes, began, rested, went, comes, place_of_actor, one_at}
-use Rattle.generation_laws.proofs.Ids.{one_of_id}
-use Rattle.generation_laws.specs.Laws.{settles}
-use Rattle.generation_laws.proofs.Offers.{own_numbers, StandsBy}
+use Rattle.generation_laws.proofs.Running.{Runs, Comes, began, rested, went, comes, one_at}
+use Rattle.generation_laws.proofs.Offers.{own_numbers}
 use Rattle.generation_laws.proofs.SameOffer.{HasOffers, same_offer, has_offers_after, no_offers_at_first}
 use Rattle.generation_laws.proofs.Footings.{CarriesOut, RootFrom, stood, swapped, newly, root_from, StaysOpen, stays_open}
 use Rattle.generation_laws.proofs.Marks.{AllDone, done_after, carried_stands, unmarked_before, marks_mark, is_completing, complete_mark}
@@ -155,14 +150,16 @@ pub record Ran (state : State) (s : Step) (k : ℕ) (found : Operation) : Type 0
   pub call : found.call ≡ was.call
   pub access : found.access ≡ was.access
   pub opens : found.opens ≡ was.opens
+  -- it stands where it stood, or where its step leads
+  pub line : (found.line ≡ was.line) ⊎ ((s ≡ step.Go (suc k)) × (found.line ≡ line_after state was was.line))
   -- not marked: it wasn't before, and the step doesn't mark it
   pub unmarked : found.is_marked ≡ false → was.is_marked ≡ false
   pub not_marked : found.is_marked ≡ false → marks_in state s ≡ Some was.id → ⊥
 
 module _ (state : State) (I : HasOffers state) (H : HasHandles state) where
   ran_so : (s : Step) (k : ℕ) (was next found : Operation) → Runs state k was → next.id ≡ was.id → next.call ≡ was.call → next.access ≡ was.access → next.opens ≡ was.opens →
-      (next.is_marked ≡ false → was.is_marked ≡ false) → found ≡ mark_one (marks_in state s) next → Ran state s k found
-  ran_so s k was next found at_k id call access opening unmarked it =
+      ((next.line ≡ was.line) ⊎ ((s ≡ step.Go (suc k)) × (next.line ≡ line_after state was was.line))) → (next.is_marked ≡ false → was.is_marked ≡ false) → found ≡ mark_one (marks_in state s) next → Ran state s k found
+  ran_so s k was next found at_k id call access opening from unmarked it =
       let same = it ∙ mark_only (marks_in state s) next in
       record {
         was = was;
@@ -171,6 +168,10 @@ module _ (state : State) (I : HasOffers state) (H : HasHandles state) where
         call = ap (λ (x : Operation). x.call) same ∙ call;
         access = ap (λ (x : Operation). x.access) same ∙ access;
         opens = ap (λ (x : Operation). x.opens) same ∙ opening;
+        line = elim from [
+          | inl stays ↦ inl (ap (λ (x : Operation). x.line) same ∙ stays)
+          | inr goes ↦ inr (goes.0, ap (λ (x : Operation). x.line) same ∙ goes.1)
+        ];
         unmarked = λ e. unmarked (unmarked_before (marks_in state s) next (ap (λ (x : Operation). x.is_marked) (sym it) ∙ e));
         not_marked = λ e m. true≢false (sym (marks_mark (marks_in state s) next (m ∙ ap Some (sym id))) ∙ ap (λ (x : Operation). x.is_marked) (sym it) ∙ e);
       }
@@ -188,8 +189,8 @@ module _ (state : State) (I : HasOffers state) (H : HasHandles state) where
   pub ran_or_began : (s : Step) (k : ℕ) (found : Operation) → Comes state s k found →
       Ran state s k found ⊎ ((call : Call) × (s ≡ step.Begin (suc k) call) × (begin_denial state (suc k) call ≡ None) × (found ≡ begun_operation state call))
   ran_or_began s k found (began call is d it) = inr (call, is, d, it)
-  ran_or_began s k found (rested was at_k it) = inl (ran_so s k was was found at_k refl refl refl refl (λ e. e) it)
-  ran_or_began s k found (went was is at_k g it) = inl (ran_so s k was (operation_after state was) found at_k refl refl refl refl (kept_mark k was at_k g) it)
+  ran_or_began s k found (rested was at_k it) = inl (ran_so s k was was found at_k refl refl refl refl (inl refl) (λ e. e) it)
+  ran_or_began s k found (went was is at_k g it) = inl (ran_so s k was (operation_after state was) found at_k refl refl refl refl (inr (is, refl)) (kept_mark k was at_k g) it)
 
   -- ---- open handles
 

@@ -1,5 +1,5 @@
 -- Ids: each is given once, in the order of begins, so no two running operations have one id.
-use Rattle.std.proofs.Common.{◌≡◌, ℕ, suc, ◌+◌, ◌<◌, ◌≤◌, Bool, true, false, List, [], ◌∷◌, ◌++◌, Some, None, refl, sym, ap, ◌∙◌, subst, arith}
+use Rattle.std.proofs.Common.{◌≡◌, ℕ, suc, ◌+◌, ◌<◌, ◌≤◌, [], ◌∷◌, ◌++◌, refl, sym, ap, ◌∙◌, subst, arith}
 use Rattle.std.proofs.lemmas.Bool.{cond_both}
 use Rattle.history.specs.declared.calls.Call.{Call}
 use Rattle.history.specs.declared.events.Event.TheVariants.{Begin, End}
@@ -14,11 +14,11 @@ use Rattle.machine_model.specs.Calls.{handle_of, is_close}
 use Rattle.machine_model.specs.States.{State, first_state}
 use Rattle.machine_model.specs.Operations.{action_of}
 use Rattle.machine_model.specs.Acting.{operation_after, gone}
-use Rattle.machine_model.specs.Machine.{with_begin, handle_closed}
+use Rattle.machine_model.specs.Machine.{with_begin}
 use Rattle.machine_model.proofs.Moves.{Moves, Begins, Goes, Ends, Sweeps, begun_operation}
 use Rattle.machine_model.proofs.Found.{none_found}
 use Rattle.machine_model.proofs.Frames.{acted_framed}
-use Rattle.machine_model.proofs.Actors.{mark_one, mark_only, marks_in}
+use Rattle.machine_model.proofs.Actors.{mark_one, mark_only}
 use Rattle.generation_laws.proofs.Running.{Runs, Comes, began, rested, went, comes, one_at}
 
 -- ---- how many have begun

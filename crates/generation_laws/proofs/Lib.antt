@@ -13,3 +13,7 @@ pub mod Below
 pub mod Along
 pub mod RootsKept
 pub mod Swaps
+pub mod Roots
+pub mod RootsAlong
+pub mod Rooted
+pub mod OpenRoots

@@ -1,11 +1,11 @@
 -- Of which generation the nodes are that a step makes: none has another than the root that ROOT gave last, but for a new root, whose generation is drawn.
-use Rattle.std.proofs.Common.{◌≡◌, ℕ, ◌+◌, ◌<◌, ◌≤◌, ◌==◌, ◌&&◌, Bool, true, false, cond, inl, inr, ◌⊎◌, List, [], ◌∷◌, Option, Some, None, refl, sym, ap, ◌∙◌, subst, arith}
+use Rattle.std.proofs.Common.{◌≡◌, ℕ, ◌==◌, Bool, true, List, Some, refl, sym, ap, ◌∙◌, arith}
 use Rattle.std.proofs.lemmas.Bool.{false≢true, cond_both}
 use Rattle.std.proofs.lemmas.Option.{none-some, same_Some}
 use Rattle.ctrie_base.specs.declared.hashes.HashKind.{HashKind}
 use Rattle.slot_arena.specs.declared.refs.Ref.{Ref}
 use Rattle.slot_arena.specs.declared.nodes.Node.{Node}
-use Rattle.slot_arena.specs.declared.nodes.Node.TheVariants.{Indirection, Branch, Single, Tomb, List as Listed}
+use Rattle.slot_arena.specs.declared.nodes.Node.TheVariants.{Indirection, Branch, List as Listed}
 use Rattle.slot_arena.specs.Heaps.{node_at, generation_of}
 use Rattle.nodes.specs.Levels.{list_depth}
 use Rattle.nodes.specs.Builders.{pair, contracted}
@@ -37,7 +37,7 @@ use Rattle.machine_model.specs.States.{State}
 use Rattle.machine_model.specs.Paths.{start_of, flag_in}
 use Rattle.machine_model.specs.Reading.{read_action}
 use Rattle.machine_model.specs.Swapping.{complete_action}
-use Rattle.machine_model.specs.Building.{changed, changed_branch, changed_list}
+use Rattle.machine_model.specs.Building.{changed}
 use Rattle.machine_model.specs.Operations.{line_action}
 use Rattle.memory_laws.specs.Wants.{BranchOrList, meets, AllHold, line_wants}
 use Rattle.memory_laws.proofs.Claims.{meets_of}

@@ -1,8 +1,7 @@
 -- Marks: an operation that is marked has its offer carried out, and is about to end.
-use Rattle.std.proofs.Common.{◌≡◌, ℕ, suc, ◌==◌, ◌&&◌, ◌||◌, Bool, true, false, cond, List, Option, Some, None, refl, sym, ap, ◌∙◌, subst, inl, inr, eqb-true, eq-eqb, arith}
+use Rattle.std.proofs.Common.{◌≡◌, ℕ, suc, ◌==◌, ◌||◌, Bool, true, false, cond, Option, Some, None, refl, sym, ap, ◌∙◌, inl, inr, eqb-true, eq-eqb, arith}
 use Rattle.std.proofs.lemmas.Bool.{true≢false, false≢true, and_parts, cases_Bool}
 use Rattle.std.proofs.lemmas.Option.{none-some, same_Some}
-use Rattle.history.specs.declared.calls.Call.{Call}
 use Rattle.slot_arena.specs.declared.refs.Ref.{Ref}
 use Rattle.machine_model.specs.declared.actions.Action.{Action}
 use Rattle.machine_model.specs.declared.actions.Action.TheVariants as act
@@ -23,16 +22,16 @@ use Rattle.machine_model.specs.declared.steps.Step.TheVariants as step
 use Rattle.machine_model.specs.Calls.{handle_of}
 use Rattle.machine_model.specs.States.{State, word_at, operation_of}
 use Rattle.machine_model.specs.Lines.{new_try}
-use Rattle.machine_model.specs.Swapping.{is_carried_out, stands_in, complete_action, complete_after, of_offer, after_complete, after_reading}
+use Rattle.machine_model.specs.Swapping.{is_carried_out, stands_in, complete_action, of_offer, after_complete, after_reading}
 use Rattle.machine_model.specs.Copying.{copy_after_complete, copied_reply}
 use Rattle.machine_model.specs.Operations.{action_of, line_action, line_after}
 use Rattle.machine_model.specs.Acting.{operation_after, mark_after}
-use Rattle.machine_model.proofs.Moves.{Moves, GoesOn, begun_operation}
+use Rattle.machine_model.proofs.Moves.{Moves, GoesOn}
 use Rattle.machine_model.proofs.Actors.{mark_one, mark_only, marks_in, marks_by, marks_of}
-use Rattle.generation_laws.proofs.Running.{Runs, Comes, began, rested, went, comes, one_at}
+use Rattle.generation_laws.proofs.Running.{Runs, Comes, began, rested, went, comes}
 use Rattle.generation_laws.proofs.Ids.{one_of_id}
 use Rattle.generation_laws.specs.Laws.{settles}
-use Rattle.generation_laws.proofs.Offers.{own_offer, own_numbers, StandsBy, completes_it}
+use Rattle.generation_laws.proofs.Offers.{own_offer, own_numbers, completes_it}
 use Rattle.generation_laws.proofs.SameOffer.{HasOffers, same_offer}
 use Rattle.generation_laws.proofs.Footings.{CarriesOut}
 

@@ -1,15 +1,13 @@
 -- Which offers a line is to settle, and where it has them from.
-use Rattle.std.proofs.Common.{◌≡◌, ℕ, ◌+◌, ◌-◌, ◌==◌, ◌&&◌, ◌||◌, nat_lt, nat_le, cond, length, ◌⊎◌, inl, inr, Bool, true, false, List, [], ◌∷◌, Option, Some, None, refl, sym, ap, ◌∙◌, subst, arith}
+use Rattle.std.proofs.Common.{◌≡◌, ℕ, ◌+◌, ◌-◌, ◌==◌, ◌&&◌, ◌||◌, nat_lt, nat_le, cond, length, ◌⊎◌, inl, inr, Bool, true, false, List, Option, Some, None, refl, sym, ap, ◌∙◌, arith}
 use Rattle.std.proofs.lemmas.Option.{none-some, same_Some}
 use Rattle.history.specs.declared.calls.Access.{Access}
 use Rattle.history.specs.declared.calls.Access.TheVariants.{Writable, ReadOnly}
 use Rattle.slot_arena.specs.declared.refs.Ref.{Ref}
-use Rattle.slot_arena.specs.Heaps.{Heap, next_ref, generation_at, node_at, entry_at, entries_of}
-use Rattle.machine_model.specs.declared.actions.Action.{Action}
-use Rattle.machine_model.specs.declared.actions.Action.TheVariants as act
+use Rattle.slot_arena.specs.Heaps.{Heap, generation_at, node_at, entry_at, entries_of}
 use Rattle.machine_model.specs.declared.operations.Operation.{Operation}
 use Rattle.machine_model.specs.declared.roots.RootWord.{RootWord}
-use Rattle.machine_model.specs.declared.roots.RootWord.TheVariants.{Plain, Offer}
+use Rattle.machine_model.specs.declared.roots.RootWord.TheVariants.{Offer}
 use Rattle.machine_model.specs.declared.roots.Descriptor.{Descriptor}
 use Rattle.machine_model.specs.declared.roots.Complete.{Complete}
 use Rattle.machine_model.specs.declared.roots.RootLine.{RootLine}
@@ -49,12 +47,11 @@ use Rattle.machine_model.specs.Calls.{handle_of, when_found, inserts, absent_rep
 use Rattle.machine_model.specs.States.{State, word_at}
 use Rattle.machine_model.specs.Reading.{read_after, read_step, reading}
 use Rattle.machine_model.specs.Operations.{line_action, line_after, read_of, after_root, from_root}
-use Rattle.machine_model.specs.Swapping.{is_plain, completing, complete_action, complete_after, after_root_word, after_completing, root_after}
-use Rattle.machine_model.specs.Copying.{copied_reply, after_given, after_successor, after_offer, copy_action, copy_after, copy_after_read, copy_if_made, copy_after_complete}
+use Rattle.machine_model.specs.Swapping.{is_plain, completing, complete_after, after_root_word, after_completing, root_after}
+use Rattle.machine_model.specs.Copying.{copied_reply, after_offer, copy_after_complete}
 use Rattle.machine_model.specs.Climbing.{climbed, climbing, climb_after_root}
 use Rattle.machine_model.specs.declared.repairs.Climb.{Climb}
 use Rattle.history.specs.declared.calls.Call.{Call}
-use Rattle.history.specs.declared.calls.Call.TheVariants.{Clear, Snapshot, Freeze}
 use Rattle.generation_laws.specs.Laws.{settles}
 
 -- ---- what a line is to settle

@@ -1,5 +1,5 @@
 -- While an offer stands in a root word, the operation that offered it runs, on that handle and in that try, completes it, and isn't marked.
-use Rattle.std.proofs.Common.{◌≡◌, ℕ, zero, suc, ◌+◌, ◌<◌, ◌==◌, ◌&&◌, Bool, true, false, cond, inl, inr, ◌⊎◌, List, [], ◌∷◌, set, get_or, length, replicate, Option, Some, None, refl, sym, ap, ◌∙◌, subst, arith, eqb-true, eq-eqb, ne_eqb}
+use Rattle.std.proofs.Common.{◌≡◌, ℕ, zero, suc, ◌==◌, Bool, true, false, cond, inl, inr, ◌⊎◌, List, set, get_or, length, replicate, Option, Some, None, refl, sym, ap, ◌∙◌, subst, arith, eqb-true, eq-eqb, ne_eqb}
 use Rattle.std.proofs.lemmas.Bool.{cases_eq, cases_lt, true≢false, false≢true, and_parts, and_from, cond_both}
 use Rattle.std.proofs.lemmas.List.{get_or_past, get_or-set_same, length-set}
 use Rattle.std.proofs.lemmas.Option.{none-some, same_Some}
@@ -28,17 +28,17 @@ use Rattle.machine_model.specs.declared.steps.Outcome.{Outcome}
 use Rattle.machine_model.specs.declared.steps.Step.{Step}
 use Rattle.machine_model.specs.declared.steps.Step.TheVariants as step
 use Rattle.machine_model.specs.Calls.{handle_of, is_close}
-use Rattle.machine_model.specs.States.{State, first_state, root_at, word_of, word_at, operation_of, rewritten, with_word, with_root, handle_limit}
+use Rattle.machine_model.specs.States.{State, first_state, root_at, word_of, word_at, operation_of, rewritten, with_word, handle_limit}
 use Rattle.machine_model.specs.Reading.{read_action, read_after}
 use Rattle.machine_model.specs.Swapping.{stands_in, is_try, is_plain, is_carried_out, complete_action, of_offer, after_reading}
 use Rattle.machine_model.specs.Copying.{copy_after_complete, after_offer}
 use Rattle.machine_model.specs.Operations.{action_of, line_action, line_after}
-use Rattle.machine_model.specs.Acting.{acted, aborted, offered, completed, carried_out, opened, opened_root, new_root_taken, if_changed, operation_after, mark_after}
-use Rattle.machine_model.specs.Machine.{with_begin, handle_closed}
+use Rattle.machine_model.specs.Acting.{acted, carried_out, opened, opened_root, new_root_taken, if_changed, operation_after, mark_after}
+use Rattle.machine_model.specs.Machine.{handle_closed}
 use Rattle.machine_model.proofs.Moves.{Moves, Begins, Goes, Ends, Sweeps, begun_operation}
-use Rattle.machine_model.proofs.Found.{found_elsewhere, found_within}
+use Rattle.machine_model.proofs.Found.{found_elsewhere}
 use Rattle.machine_model.proofs.Actors.{mark_one, mark_only, marks_in, marks_by, marks_of}
-use Rattle.generation_laws.proofs.Running.{Runs, place_of_actor, one_at, Follows, rests, steps, ends, follows}
+use Rattle.generation_laws.proofs.Running.{Runs, place_of_actor, Follows, rests, steps, ends, follows}
 use Rattle.generation_laws.specs.Laws.{settles}
 use Rattle.generation_laws.proofs.Ids.{HasIds, one_of_id}
 use Rattle.generation_laws.proofs.CopyLines.{IsOwn, HasOwn, AllOwn}

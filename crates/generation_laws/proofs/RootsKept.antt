@@ -1,13 +1,12 @@
 -- The generations of roots stay in each step: of those in root words, and of the fresh ones that an operation is to offer.
-use Rattle.std.proofs.Common.{◌≡◌, ℕ, ◌+◌, ◌≤◌, ◌||◌, Bool, true, false, cond, inl, inr, ◌⊎◌, List, [], ◌∷◌, Option, Some, None, get_or, refl, sym, ap, ◌∙◌, subst, arith}
-use Rattle.std.proofs.lemmas.Bool.{false≢true, true≢false}
+use Rattle.std.proofs.Common.{◌≡◌, ℕ, ◌+◌, ◌≤◌, ◌||◌, Bool, true, false, cond, [], ◌∷◌, Option, Some, None, refl, sym, ap, ◌∙◌, subst, arith}
+use Rattle.std.proofs.lemmas.Bool.{false≢true}
 use Rattle.std.proofs.lemmas.Option.{none-some, same_Some}
 use Rattle.std.proofs.lemmas.List.Elements.{All-head}
 use Rattle.history.specs.declared.calls.Call.{Call}
 use Rattle.history.specs.declared.calls.Call.TheVariants.{Clear, Snapshot, Freeze}
 use Rattle.slot_arena.specs.declared.refs.Ref.{Ref}
-use Rattle.slot_arena.specs.declared.nodes.Node.TheVariants.{Indirection}
-use Rattle.slot_arena.specs.Heaps.{Heap, node_at, generation_at, generation_of, next_ref, refs_of_option}
+use Rattle.slot_arena.specs.Heaps.{Heap, node_at, generation_at, next_ref, refs_of_option}
 use Rattle.machine_model.specs.declared.actions.Action.TheVariants as act
 use Rattle.machine_model.specs.declared.copying.CopyLine.{CopyLine}
 use Rattle.machine_model.specs.declared.copying.CopyLine.TheVariants as copy
@@ -32,15 +31,14 @@ use Rattle.machine_model.specs.States.{State, root_at, root_of, word_at}
 use Rattle.machine_model.specs.Lines.{new_try}
 use Rattle.machine_model.specs.Reading.{read_step}
 use Rattle.machine_model.specs.Swapping.{is_plain, complete_after, root_after}
-use Rattle.machine_model.specs.Copying.{copy_after_read, copy_if_made, copy_after_made, after_successor, after_given, after_offer, copy_after_complete, copied_reply, offering}
-use Rattle.machine_model.specs.Operations.{action_of, line_action, line_after, from_root, after_root, first_line}
+use Rattle.machine_model.specs.Copying.{copy_after_read, copy_if_made, copy_after_made, after_successor, after_given, after_offer, copy_after_complete, copied_reply}
+use Rattle.machine_model.specs.Operations.{line_action, line_after, from_root, after_root}
 use Rattle.machine_model.proofs.Moves.{Moves}
-use Rattle.memory_laws.specs.Wants.{AnIndirection, AMain, Is, Each, Holds, AllHold, word_wants, line_wants, copy_wants, complete_wants, offer_wants, read_wants}
+use Rattle.memory_laws.specs.Wants.{AnIndirection, AMain, Is, Each, Holds, AllHold, word_wants, line_wants, complete_wants, offer_wants, read_wants}
 use Rattle.memory_laws.proofs.Claims.{Meets, safe_of, all_of, first_hold}
 use Rattle.memory_laws.proofs.Guards.{Safe}
 use Rattle.memory_laws.proofs.Safety.{IsSafe, word_in}
 use Rattle.memory_laws.proofs.Invariant.{step_carries}
-use Rattle.generation_laws.proofs.Running.{Runs}
 use Rattle.generation_laws.proofs.CopyLines.{is_copy, no_copy_after, same_offer_after}
 use Rattle.generation_laws.proofs.Counter.{generation_kept}
 

@@ -1,5 +1,5 @@
 -- Who takes an offer back or carries it out finds the very same offer: a try of an operation makes one offer alone.
-use Rattle.std.proofs.Common.{◌≡◌, ℕ, suc, ◌+◌, ◌<◌, ◌≤◌, ◌==◌, ◌||◌, Bool, true, false, cond, inl, inr, ◌⊎◌, List, Option, Some, None, refl, sym, ap, ◌∙◌, subst, arith}
+use Rattle.std.proofs.Common.{◌≡◌, ℕ, ◌+◌, ◌<◌, ◌≤◌, ◌||◌, Bool, true, false, cond, inl, inr, ◌⊎◌, Option, Some, refl, sym, ap, ◌∙◌, subst, arith}
 use Rattle.std.proofs.lemmas.Bool.{false≢true}
 use Rattle.std.proofs.lemmas.Option.{none-some, same_Some}
 use Rattle.history.specs.declared.calls.Call.{Call}
@@ -28,20 +28,20 @@ use Rattle.machine_model.specs.Calls.{handle_of}
 use Rattle.machine_model.specs.States.{State, first_state, word_at, operation_of}
 use Rattle.machine_model.specs.Lines.{new_try}
 use Rattle.machine_model.specs.Reading.{read_step}
-use Rattle.machine_model.specs.Swapping.{is_plain, stands_in, complete_after, complete_action, root_after}
+use Rattle.machine_model.specs.Swapping.{is_plain, stands_in, complete_after, root_after}
 use Rattle.machine_model.specs.Copying.{copy_after_read, copy_if_made, after_given, after_offer, copy_after_complete, copied_reply}
-use Rattle.machine_model.specs.Operations.{action_of, line_action, line_after, first_line, read_of, from_root, after_root}
+use Rattle.machine_model.specs.Operations.{action_of, line_action, line_after, first_line, from_root, after_root}
 use Rattle.machine_model.specs.Acting.{operation_after, attempt_after}
-use Rattle.machine_model.proofs.Moves.{Moves, begun_operation}
+use Rattle.machine_model.proofs.Moves.{Moves}
 use Rattle.machine_model.proofs.Found.{none_found}
-use Rattle.machine_model.proofs.Actors.{mark_one, mark_only, marks_in}
+use Rattle.machine_model.proofs.Actors.{mark_only, marks_in}
 use Rattle.machine_model.proofs.Times.{IsRun, at_each_time}
 use Rattle.generation_laws.proofs.Running.{Runs, Comes, began, rested, went, comes, place_of_actor}
 use Rattle.generation_laws.proofs.Ids.{HasIds, one_of_id, begun_kept, ids_after, ids_at_first}
-use Rattle.generation_laws.proofs.CopyLines.{IsOwn, HasOwn, AllOwn, own_after, is_copy, no_copy_after, complete_tries, same_offer_after}
+use Rattle.generation_laws.proofs.CopyLines.{AllOwn, own_after, is_copy, no_copy_after, complete_tries, same_offer_after}
 use Rattle.generation_laws.specs.Laws.{settles}
-use Rattle.generation_laws.proofs.Offers.{own_offer, own_numbers, StandsBy, OffersStand, stands_as, offers_after, none_offered}
-use Rattle.generation_laws.proofs.OfferLines.{Holds, abort_of, completing_of, abort_after, CompletesFrom, completes_after, settles_held}
+use Rattle.generation_laws.proofs.Offers.{own_offer, own_numbers, OffersStand, stands_as, offers_after, none_offered}
+use Rattle.generation_laws.proofs.OfferLines.{Holds, completing_of, abort_after, CompletesFrom, completes_after, settles_held}
 
 -- ---- where an operation has its own offer from
 

@@ -1,8 +1,9 @@
 -- Laws of generations, handles and offers, for every list of steps.
-use Rattle.std.specs.Prelude.{◌≡◌, ℕ, ◌<◌, Bool, true, false, List, Option, Some, None}
+use Rattle.std.specs.Prelude.{◌≡◌, ℕ, ◌<◌, true, false, List, ◌++◌, Option, Some, None}
+use Rattle.history.specs.declared.calls.Access.TheVariants.{Writable, ReadOnly}
 use Rattle.slot_arena.specs.declared.refs.Ref.{Ref}
 use Rattle.slot_arena.specs.declared.nodes.Slot.{Slot}
-use Rattle.slot_arena.specs.Heaps.{generation_of}
+use Rattle.slot_arena.specs.Heaps.{generation_of, generation_at}
 use Rattle.machine_model.specs.declared.actions.Action.{Action}
 use Rattle.machine_model.specs.declared.actions.Action.TheVariants as act
 use Rattle.machine_model.specs.declared.copying.CopyLine.TheVariants as copy
@@ -11,11 +12,11 @@ use Rattle.machine_model.specs.declared.operations.Operation.{Operation}
 use Rattle.machine_model.specs.declared.roots.Complete.{Complete}
 use Rattle.machine_model.specs.declared.roots.Descriptor.{Descriptor}
 use Rattle.machine_model.specs.declared.roots.Root.{Root}
-use Rattle.machine_model.specs.declared.roots.RootWord.TheVariants.{Offer}
+use Rattle.machine_model.specs.declared.roots.RootWord.TheVariants.{Plain, Offer}
 use Rattle.machine_model.specs.declared.steps.Limits.{Limits}
 use Rattle.machine_model.specs.declared.steps.Step.{Step}
 use Rattle.machine_model.specs.Calls.{handle_of, is_close}
-use Rattle.machine_model.specs.States.{State, root_at, word_at, operation_of, closed_at}
+use Rattle.machine_model.specs.States.{State, root_at, root_of, word_at, operation_of, closed_at}
 use Rattle.machine_model.specs.Operations.{action_of}
 use Rattle.machine_model.specs.Swapping.{stands_in}
 use Rattle.machine_model.specs.Machine.{AreLimits, run}
@@ -74,3 +75,42 @@ NumbersAreReserved =
     operation.opens ≡ Some n →
     (root_at (run limits steps) n ≡ None)
     × ((other : ℕ) (rival : Operation) → operation_of (run limits steps) other ≡ Some rival → rival.is_marked ≡ false → rival.opens ≡ Some n → other ≡ actor)
+
+-- ---- roots
+
+-- the generation of a root
+abbrev pub root_generation : State → Root → ℕ
+root_generation state root = generation_at state.heap (root_of root.word)
+
+-- the root of a writable handle has a generation that is open, and that no other handle's root has
+abbrev pub WritableRootsAreOwn : Type 0
+WritableRootsAreOwn =
+    (limits : Limits) (steps : List Step) (handle : ℕ) (root : Root) → AreLimits limits → root_at (run limits steps) handle ≡ Some root → root.access ≡ Writable →
+    (closed_at (run limits steps) (root_generation (run limits steps) root) ≡ None)
+    × ((other : ℕ) (rival : Root) → root_at (run limits steps) other ≡ Some rival → root_generation (run limits steps) rival ≡ root_generation (run limits steps) root → other ≡ handle)
+
+-- the root of a read-only handle has a generation that is closed, and no offer stands in its word
+abbrev pub ReadOnlyRootsAreClosed : Type 0
+ReadOnlyRootsAreClosed =
+    (limits : Limits) (steps : List Step) (handle : ℕ) (root : Root) → AreLimits limits → root_at (run limits steps) handle ≡ Some root → root.access ≡ ReadOnly →
+    (root.word ≡ Plain (root_of root.word)) × ((c : ℕ) × (closed_at (run limits steps) (root_generation (run limits steps) root) ≡ Some c))
+
+-- a generation that is closed stays so, by that very step, and is never again that of a writable handle's root
+abbrev pub ClosedForEver : Type 0
+ClosedForEver =
+    (limits : Limits) (before since : List Step) (g c : ℕ) → AreLimits limits → closed_at (run limits before) g ≡ Some c →
+    (closed_at (run limits (before ++ since)) g ≡ Some c)
+    × ((handle : ℕ) (root : Root) → root_at (run limits (before ++ since)) handle ≡ Some root → root.access ≡ Writable → ¬ (root_generation (run limits (before ++ since)) root ≡ g))
+
+-- the generation is open, and no handle's root has it
+abbrev pub IsFree : State → ℕ → Type 0
+IsFree state g = (closed_at state g ≡ None) × ((handle : ℕ) (root : Root) → root_at state handle ≡ Some root → ¬ (root_generation state root ≡ g))
+
+-- while an offer stands the roots that it brings have generations that are open, that no handle's root has, and that differ
+abbrev pub OfferedRootsAreFree : Type 0
+OfferedRootsAreFree =
+    (limits : Limits) (steps : List Step) (handle : ℕ) (offer : Descriptor) → AreLimits limits → word_at (run limits steps) handle ≡ Offer offer →
+    IsFree (run limits steps) (generation_at (run limits steps).heap offer.successor)
+    × ((second : Ref) → offer.second ≡ Some second →
+    IsFree (run limits steps) (generation_at (run limits steps).heap second)
+    × ¬ (generation_at (run limits steps).heap second ≡ generation_at (run limits steps).heap offer.successor))

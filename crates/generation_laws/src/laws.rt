@@ -1,6 +1,6 @@
 //! Laws of generations, handles and offers, for every list of steps.
 
-ghost use Rattle.generation_laws.specs.Laws.{GenerationsAreDrawn, OfferersRun, OffersAreFound, HandlesStayOpen, NumbersAreReserved};
+ghost use Rattle.generation_laws.specs.Laws.{GenerationsAreDrawn, OfferersRun, OffersAreFound, HandlesStayOpen, NumbersAreReserved, WritableRootsAreOwn, ReadOnlyRootsAreClosed, ClosedForEver, OfferedRootsAreFree};
 
 /// A law: the next generation to be drawn is greater than each that there is.
 pub fn generations_are_drawn()
@@ -19,4 +19,14 @@ pub fn offers_are_their_operations()
 pub fn handles_of_operations()
     ensures open { HandlesStayOpen }
     ensures reserved { NumbersAreReserved }
+{}
+
+/// A law: the root of a writable handle has a generation that is open and its own (`writable`); that of a
+/// read-only handle is closed, and its word is plain (`read_only`); a closed one never opens again (`closed`);
+/// the roots that an offer brings have generations of their own (`offered`).
+pub fn roots_have_own_generations()
+    ensures writable { WritableRootsAreOwn }
+    ensures read_only { ReadOnlyRootsAreClosed }
+    ensures closed { ClosedForEver }
+    ensures offered { OfferedRootsAreFree }
 {}

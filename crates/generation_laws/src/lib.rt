@@ -3,4 +3,7 @@
 
 mod laws;
 
-pub use laws::{generations_are_drawn, handles_of_operations, offers_are_their_operations};
+pub use laws::{
+    generations_are_drawn, handles_of_operations, offers_are_their_operations,
+    roots_have_own_generations,
+};

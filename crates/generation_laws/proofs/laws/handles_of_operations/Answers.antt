@@ -1,4 +1,4 @@
-use Rattle.std.proofs.Common.{ℕ, suc, ◌≡◌, sym, ap, ◌∙◌}
+use Rattle.std.proofs.Common.{suc, sym, ap, ◌∙◌}
 use Rattle.machine_model.specs.Machine.{run}
 use Rattle.generation_laws.proofs.Along.{has_handles_along}
 use Rattle.generation_laws.proofs.Running.{place_of_actor}
