@@ -10,7 +10,7 @@ use Rattle.clap.specs.declared.builder.command.Command.TheViews.{out-Command as 
 use Rattle.clap.specs.declared.error.kind.ErrorKind.{ErrorKind}
 use Rattle.clap.specs.declared.error.kind.ErrorKind.TheVariants as kind
 use Rattle.ctrie.specs.declared.arguments.Request.{Request}
-use Rattle.ctrie.specs.declared.arguments.Request.TheVariants.{Check, Run}
+use Rattle.ctrie.specs.declared.arguments.Request.TheVariants.{Check, Run, Threads}
 use Rattle.counted_io.specs.declared.faults.Fault.{Fault}
 use Rattle.counted_io.specs.declared.faults.Fault.TheVariants.{Memory, Usage}
 
@@ -35,7 +35,8 @@ has_globals command = (fields_of command).has_globals
 unfoldable pub program : App
 program =
     with_subcommand
-    (with_subcommand (on_top (λ s. record s { subcommand_required = true }) (new_app (codes "ctrie"))) (wants_file (codes "run")).top)
+    (with_subcommand (with_subcommand (on_top (λ s. record s { subcommand_required = true }) (new_app (codes "ctrie"))) (wants_file (codes "run")).top)
+    (wants_file (codes "threads")).top)
     (wants_file (codes "check")).top
 
 -- the file behind the subcommand with this name, if it is the one that was met
@@ -58,7 +59,9 @@ asked_file name words = if takes words then file_of name (met words) else None
 abbrev pub Answers : List Text → Result Request Fault → Type 0
 Answers words (Ok (Check path)) = asked_file (codes "check") words ≡ Some path.now
 Answers words (Ok (Run path)) = asked_file (codes "run") words ≡ Some path.now
-Answers words (Err Usage) = (asked_file (codes "check") words ≡ None) × (asked_file (codes "run") words ≡ None)
+Answers words (Ok (Threads path)) = asked_file (codes "threads") words ≡ Some path.now
+Answers words (Err Usage) =
+    (asked_file (codes "check") words ≡ None) × (asked_file (codes "run") words ≡ None) × (asked_file (codes "threads") words ≡ None)
 Answers words (Err Memory) = Unit {0}
 Answers words (Err fault) = ⊥
 
@@ -66,4 +69,6 @@ Answers words (Err fault) = ⊥
 abbrev pub IsMatched : Option (Text × List Row) → Option Request → Type 0
 IsMatched subcommand (Some (Check path)) = file_of (codes "check") subcommand ≡ Some path.now
 IsMatched subcommand (Some (Run path)) = file_of (codes "run") subcommand ≡ Some path.now
-IsMatched subcommand None = (file_of (codes "check") subcommand ≡ None) × (file_of (codes "run") subcommand ≡ None)
+IsMatched subcommand (Some (Threads path)) = file_of (codes "threads") subcommand ≡ Some path.now
+IsMatched subcommand None =
+    (file_of (codes "check") subcommand ≡ None) × (file_of (codes "run") subcommand ≡ None) × (file_of (codes "threads") subcommand ≡ None)

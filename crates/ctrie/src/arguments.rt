@@ -17,6 +17,8 @@ pub enum Request<'a> {
     Check(&'a str),
     /// To run the script in this file.
     Run(&'a str),
+    /// To run the script in this file by threads.
+    Threads(&'a str),
 }
 
 /// Want of memory, or words that are no command or ask for help.
@@ -39,6 +41,8 @@ fn matched<'a>(matches: &ArgMatches<'a>) -> Option<Request<'a>>
         Some(Request::Check(path))
     } else if name == "run" {
         Some(Request::Run(path))
+    } else if name == "threads" {
+        Some(Request::Threads(path))
     } else {
         None
     }
@@ -61,10 +65,12 @@ pub fn request_of<'a, S: AsStr>(alloc: Global, words: &'a [S]) -> Result<Request
     ensures { Answers (map S.text words.entry.now) result }
 {
     let run = wants_file(alloc, "run")?;
+    let threads = wants_file(alloc, "threads")?;
     let check = wants_file(alloc, "check")?;
     let program = clap::Command::new(alloc, "ctrie")
         .subcommand_required(true)
         .subcommand(run)?
+        .subcommand(threads)?
         .subcommand(check)?;
     match program.try_get_matches_from(words) {
         Ok(matches) => matched(&matches).ok_or(Fault::Usage),

@@ -6,15 +6,17 @@ ghost use Rattle.counted_io.specs.Counts.{failures};
 ghost use Rattle.ctrie.specs.Statuses.{exit_status_of};
 
 use crate::arguments::{Request, request_of};
-use ctrie_commands::{Counted, Fault, check_history, run_script};
+use ctrie_commands::{Between, Counted, Fault, check_history, run_script, run_threads};
 use std::fs::File;
 use std::io::ErrorKind;
 use std::rt::{Env, Files};
+use std::sync::Wait;
+use std::thread::Threads;
 use std::{env, io};
 
 /// Carries out what the program's words ask for, and gives its exit status, 0 to 3. What stands in the
 /// way is told on standard error.
-pub fn run<R: AllocGlobal + Env + Files + Print + Eprint>(rt: &R) -> u8
+pub fn run<R: AllocGlobal + Env + Files + Print + Eprint + Threads + Wait + Sync>(rt: &R) -> u8
     ensures { result ≤ 3 }
 {
     let outcome = carry_out(rt);
@@ -36,12 +38,18 @@ pub fn exit_status(outcome: &Result<bool, Fault>) -> u8
     }
 }
 
-fn carry_out<R: AllocGlobal + Env + Files + Print>(rt: &R) -> Result<bool, Fault> {
+fn carry_out<R: AllocGlobal + Env + Files + Print + Threads + Wait + Sync>(
+    rt: &R,
+) -> Result<bool, Fault> {
     let words = words_of(rt)?;
     match request_of(rt.alloc(), words.as_slice())? {
         Request::Check(path) => check_file(rt, path),
         Request::Run(path) => {
             run_file(rt, path)?;
+            Ok(true)
+        }
+        Request::Threads(path) => {
+            run_file_by_threads(rt, path)?;
             Ok(true)
         }
     }
@@ -73,6 +81,25 @@ pub fn run_file<R: AllocGlobal + Files + Print>(rt: &R, path: &str) -> Result<()
     let mut input = opened(rt, path)?;
     let mut output = Counted::new(io::writer(rt));
     run_script(rt.alloc(), &mut input, &mut output)
+}
+
+/// Runs the script in this file by threads, and writes the report to standard output.
+pub fn run_file_by_threads<R: AllocGlobal + Files + Print + Threads + Wait + Sync>(
+    rt: &R,
+    path: &str,
+) -> Result<(), Fault>
+    ensures { result ≢ Err Fault.Usage }
+{
+    let mut input = opened(rt, path)?;
+    let mut output = Counted::new(io::writer(rt));
+    run_threads(rt, rt.alloc(), &mut input, &mut output, &Nothing)
+}
+
+/// Nothing is done between two steps of a call.
+struct Nothing;
+
+impl Between for Nothing {
+    fn between(&self, _seat: u8, _taken: u64) {}
 }
 
 /// The file, of which no call has failed.

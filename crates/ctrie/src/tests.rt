@@ -1,7 +1,7 @@
 //! The program's words, its files and its exit statuses.
 
 use crate::arguments::{Request, request_of};
-use crate::program::{check_file, exit_status, run_file};
+use crate::program::{check_file, exit_status, run_file, run_file_by_threads};
 use ctrie_base::Refusal;
 use ctrie_commands::Fault;
 use std::test::Fail;
@@ -13,6 +13,9 @@ fn reads_words(rt: HostRuntime) -> Result<(), Fail> {
         ("ctrie check -- -a", Ok(Request::Check("-a"))),
         ("ctrie run a.script", Ok(Request::Run("a.script"))),
         ("ctrie run check", Ok(Request::Run("check"))),
+        ("ctrie threads a.script", Ok(Request::Threads("a.script"))),
+        ("ctrie threads", Err(Fault::Usage)),
+        ("ctrie threads a b", Err(Fault::Usage)),
         ("ctrie run", Err(Fault::Usage)),
         ("ctrie run a b", Err(Fault::Usage)),
         ("ctrie", Err(Fault::Usage)),
@@ -43,6 +46,7 @@ fn reads_words(rt: HostRuntime) -> Result<(), Fail> {
 fn misses_a_file(rt: HostRuntime) {
     assert_eq!(rt; check_file(&rt, "no-such.history"), Err(Fault::Read));
     assert_eq!(rt; run_file(&rt, "no-such.script"), Err(Fault::Read));
+    assert_eq!(rt; run_file_by_threads(&rt, "no-such.script"), Err(Fault::Read));
 }
 
 #[test]

@@ -6,11 +6,13 @@ mod hashes;
 mod kinds;
 mod paths;
 mod refusals;
+mod ticks;
 
 pub use hashes::{Block, Fold, HashKind, KeyHash, Low, Wide, hash_fits};
 pub use kinds::Kind;
 pub use paths::flag_position;
 pub use refusals::Refusal;
+pub use ticks::Ticks;
 
 #[cfg(test)]
 mod tests;

@@ -13,6 +13,7 @@ use Rattle.slot_arena.specs.Heaps.{in_use}
 use Rattle.machine_model.specs.States.{State, first_state}
 use Rattle.machine_model.specs.Orders.{order_of}
 use Rattle.machine_model.specs.Machine.{run}
+use Rattle.step_machine.specs.declared.records.Record.{Record}
 use Rattle.script_text.specs.declared.commands.Command.{Command}
 use Rattle.script_text.specs.declared.commands.Command.TheVariants.{Begin, Go, Until, Finish, Do, Sweep}
 use Rattle.script_text.specs.Reading.{Reading}
@@ -65,9 +66,12 @@ unfoldable pub all_told : State → List Command → List ℕ
 all_told state [] = []
 all_told state (command ∷ more) = told state command ++ all_told (after_command state command) more
 
--- the last lines, of the state after the run
+-- the last lines: the order and the slots; and those of the state after a run
+abbrev pub end_lines : List ℕ → ℕ → ℕ → ℕ → List ℕ
+end_lines order used free limbo = line (order_text order) ++ line (slots_text used free limbo)
+
 abbrev pub last_lines : State → List ℕ
-last_lines state = line (order_text (order_of state)) ++ line (slots_text (length (in_use state.heap)) (length state.heap.free) (length state.limbo))
+last_lines state = end_lines (order_of state) (length (in_use state.heap)) (length state.heap.free) (length state.limbo)
 
 -- the state after the steps that all lines of the script name
 abbrev pub last_state : Reading → State
@@ -76,3 +80,12 @@ last_state script = run script.limits (all_steps (first_state script.limits) scr
 -- the report
 unfoldable pub report : Reading → List ℕ
 report script = line (hash_text script.limits.hash) ++ (all_told (first_state script.limits) script.commands ++ last_lines (last_state script))
+
+-- a line for each denial of an actor
+abbrev pub denied_lines : ℕ → List Refusal → List ℕ
+denied_lines actor denied = flat_map (λ refusal. line (denied_text actor refusal)) denied
+
+-- the report of a record, with these lines behind the events
+abbrev pub record_report : Record → List ℕ → List ℕ
+record_report made denied =
+    line (hash_text made.limits.hash) ++ (event_lines made.events.items ++ (denied ++ end_lines made.order.items made.used made.free made.limbo))

@@ -6,10 +6,14 @@ mod checking;
 mod reports;
 mod running;
 mod stepping;
+mod threads;
+mod working;
 
 pub use checking::check_history;
 pub use counted_io::{Counted, Fault};
+pub use lock_runner::Between;
 pub use running::run_script;
+pub use threads::run_threads;
 
 #[cfg(test)]
 mod tests;

@@ -6,7 +6,7 @@ ghost use Rattle.machine_model.specs.Machine.{run_from};
 ghost use Rattle.script_text.specs.Steps.{after_command, all_steps};
 ghost use Rattle.script_text.specs.Views.{read};
 ghost use Rattle.step_machine.specs.Machines.{state_of};
-ghost use Rattle.ctrie_commands.specs.Reports.{denied_text, slots_text, event_lines, actor_of, told, all_told, last_lines, report};
+ghost use Rattle.ctrie_commands.specs.Reports.{denied_text, slots_text, event_lines, actor_of, told, all_told, end_lines, last_lines, report, denied_lines, record_report};
 
 use crate::stepping::carry_out;
 use ctrie_base::Refusal;
@@ -15,7 +15,7 @@ use history_text::{EventText, OrderText};
 use script_text::{Command, Script};
 use std::alloc::{AllocError, Global};
 use std::fmt;
-use step_machine::Machine;
+use step_machine::{Machine, Record};
 
 /// A denied line, as `denied 1 5 Busy`.
 #[derive(Clone, Copy)]
@@ -141,9 +141,47 @@ fn tell_last(text: &mut String, machine: &Machine) -> Result<(), AllocError>
     let Ok(order) = machine.order() else {
         return Err(AllocError);
     };
-    writeln!(text, "{}", OrderText(&order))?;
     let used = machine.used();
     let free = machine.free_slots();
     let limbo = machine.limbo_len();
-    writeln!(text, "{}", SlotsText { used, free, limbo })
+    tell_end(text, &order, SlotsText { used, free, limbo })
+}
+
+/// Adds the line of the order and that of the slots.
+fn tell_end(text: &mut String, order: &[u64], slots: SlotsText) -> Result<(), AllocError>
+    ensures { OnOk result (string_bytes text.new ≡ string_bytes text.old ++ end_lines order.now slots.used slots.free slots.limbo) }
+{
+    writeln!(text, "{}", OrderText(order))?;
+    writeln!(text, "{slots}")
+}
+
+/// The report of what threads did, with the lines of their denials behind the events.
+pub fn report_of_record(alloc: Global, made: &Record, denied: &str) -> Result<String, AllocError>
+    ensures { IfOk result (λ text. string_bytes text ≡ record_report made.now denied.now) }
+{
+    let mut text = String::new(alloc);
+    writeln!(text, "hash {}", made.limits.hash)?;
+    tell_events(&mut text, &made.events)?;
+    text.push_str(denied)?;
+    let slots = SlotsText {
+        used: made.used,
+        free: made.free,
+        limbo: made.limbo,
+    };
+    tell_end(&mut text, &made.order, slots)?;
+    Ok(text)
+}
+
+/// Adds a line for each of an actor's denials.
+pub fn tell_denied(text: &mut String, actor: u8, denied: &[Refusal]) -> Result<(), AllocError>
+    ensures { OnOk result (string_bytes text.new ≡ string_bytes text.old ++ denied_lines actor denied.now) }
+{
+    for refusal in denied {
+        let line = DeniedText {
+            actor,
+            refusal: *refusal,
+        };
+        writeln!(text, "{line}")?;
+    }
+    Ok(())
 }

@@ -3,6 +3,7 @@
 
 mod rows;
 mod scripts;
+mod threads;
 
 use crate::{Counted, Fault, check_history, run_script};
 use ctrie_base::Refusal;

@@ -1,2 +1,5 @@
 pub mod Limbo
 pub mod Sweeping
+pub mod Rings
+pub mod Memories
+pub mod Settling

@@ -1,6 +1,13 @@
 //! Which slots may be freed, and when: limbo, epochs and the sweep.
 #![tactic(auto)]
 
+mod heap;
 mod limbo;
+mod ring;
+mod settling;
 
+pub use heap::Heap;
 pub use limbo::{Swept, Zeroed};
+
+#[cfg(test)]
+mod tests;

@@ -1,5 +1,5 @@
 -- The end of a runner.
-use Rattle.std.specs.Prelude.{◌≡◌, ℕ, zero, suc, List, [], ◌∷◌, ◌++◌, map, Some, slice_get, slice_index_or, unwrap_or, All, sum_by, length, Result, Ok, Err, IfOk, IfErr, Vec}
+use Rattle.std.specs.Prelude.{◌≡◌, ℕ, zero, suc, List, [], ◌∷◌, ◌++◌, map, Some, slice_get, slice_index_or, unwrap_or, All, sum_by, length, Result, Ok, Err, IfOk, OnOk, IfErr, Vec}
 use Rattle.std.proofs.Common.{refl, sym, ap, subst, ◌∙◌, inl, inr, append_assoc, arith}
 use Rattle.std.proofs.lemmas.List.{map-append}
 use Rattle.std.proofs.lemmas.List.Sums.{sum_by-cons}
@@ -7,7 +7,7 @@ use Rattle.std.proofs.lemmas.Option.{none-some, same_Some, slice_get_within, unw
 use mathlib.Core.Option.{some, some-injective}
 use lib.ListN.{get_elem?}
 use Rattle.atomic_table.specs.Table.{Me, Joins, Final, Seen}
-use Rattle.step_machine.specs.Machines.{Taken, state_of}
+use Rattle.step_machine.specs.Machines.{Taken, state_of, AreTaken}
 use Rattle.step_machine.specs.declared.records.Record.{Record}
 use Rattle.step_machine.specs.Records.{IsRecordOf}
 use Rattle.lock_runner.specs.declared.finishing.Unfinished.{Unfinished}
@@ -131,9 +131,9 @@ not_missing : {A : Type 0} (runner : Room) (seats : Vec _ _) (machine : Taken) �
 not_missing runner seats machine e = cc
 
 pub finished : (runner : Room) (seats : List Seated) (machine : Taken) (result : Result Record Unfinished) → AreHere runner.seats seats → IsGathered runner seats machine →
-    IfOk result (IsRecordOf machine) → IfErr result (λ why. why ≡ Memory machine) → IsFinished runner seats result
-finished runner seats machine (Ok made) here all is none =
+    IfOk result (IsRecordOf machine) → OnOk result (AreTaken machine.limits machine.steps) → IfErr result (λ why. why ≡ Memory machine) → IsFinished runner seats result
+finished runner seats machine (Ok made) here all is taken none =
     let same = told_machine machine made is in
-    (here, subst (λ m. IsRecordOf m made) same is, subst (λ m. IsGathered runner seats m) same all)
-finished runner seats machine (Err (Memory back)) here all is why = (here, subst (λ m. IsGathered runner seats m) (sym (same_machine back machine why)) all)
-finished runner seats machine (Err (Missing back handed)) here all is why = not_missing back handed machine why
+    (here, subst (λ m. IsRecordOf m made) same is, subst (λ m. IsGathered runner seats m) same all, subst (λ (m : Taken). AreTaken m.limits m.steps) same taken)
+finished runner seats machine (Err (Memory back)) here all is taken why = (here, subst (λ m. IsGathered runner seats m) (sym (same_machine back machine why)) all)
+finished runner seats machine (Err (Missing back handed)) here all is taken why = not_missing back handed machine why

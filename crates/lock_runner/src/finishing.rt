@@ -1,5 +1,6 @@
 //! The end of a runner: one record of all steps.
-ghost use Rattle.std.specs.Prelude.{◌≡◌, ◌↔◌, [], false, IsTrue, IfOk, IfErr};
+ghost use Rattle.std.specs.Prelude.{◌≡◌, ◌↔◌, [], false, IsTrue, IfOk, OnOk, IfErr};
+ghost use Rattle.step_machine.specs.Machines.{AreTaken};
 ghost use Rattle.step_machine.specs.Records.{IsRecordOf};
 ghost use Rattle.lock_runner.specs.Boards.{account_in};
 ghost use Rattle.lock_runner.specs.Plays.{outside};
@@ -91,6 +92,7 @@ fn has_seat(seats: &[Seat], actor: u8) -> bool
 /// What the machine has done; or the machine, where the order found no memory.
 fn record_of(machine: Machine) -> Result<Record, Unfinished>
     ensures record { IfOk result (IsRecordOf machine) }
+    ensures taken { OnOk result (AreTaken machine.limits machine.steps) }
     ensures memory { IfErr result (λ why. why ≡ Unfinished.Memory machine) }
 {
     let Ok(order) = machine.order() else {

@@ -51,7 +51,7 @@ impl Runner {
 
 impl Seat {
     /// The actor whose seat it is.
-    pub(crate) fn actor(&self) -> u8
+    pub fn actor(&self) -> u8
         ensures { result ≡ self.now.actor }
     {
         self.actor

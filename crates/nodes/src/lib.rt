@@ -1,2 +1,20 @@
-//! The nodes that changes of a map make, built from the nodes before: for now their definitions alone.
+//! The nodes that changes of a map make, built from the nodes before. None of the calls takes memory.
+//!
+//! Each gives exactly the node of the definition. What it does to the finite map that is a node's content
+//! is said by the laws of `node_contents`, which speak of the same nodes.
 #![tactic(auto)]
+
+mod branches;
+mod entries;
+mod levels;
+mod lists;
+mod pairs;
+
+pub use branches::{compressed, contracted, inserted, removed, renewed, updated};
+pub use entries::{MOST_ENTRIES, has_room};
+pub use levels::{flag_of, has_flag, index_in, list_depth, parting, position_of};
+pub use lists::{list_inserted, list_removed, list_updated};
+pub use pairs::{pair, rung};
+
+#[cfg(test)]
+mod tests;

@@ -12,7 +12,7 @@ use Rattle.history.specs.declared.replies.Reply.TheVariants as reply
 use Rattle.history.specs.Worlds.{KeyMap, HandleState, HandleMap}
 use Rattle.history.specs.Effects.{Effect, effect, changing, copying, naming}
 use Rattle.machine_model.specs.Calls.{handle_of}
-use Rattle.order_laws.specs.Facts.{act_in}
+use Rattle.content_laws.specs.Effects.{act_in}
 use Rattle.order_laws.proofs.Views.{View, Shows, but}
 
 -- a handle that names this map

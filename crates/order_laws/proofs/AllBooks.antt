@@ -22,9 +22,10 @@ use Rattle.machine_model.proofs.Frames.{acted_framed, limits_kept}
 use Rattle.machine_model.proofs.Found.{none_found}
 use Rattle.machine_model.proofs.Times.{IsRun, at_each_time}
 use Rattle.machine_model.proofs.Actors.{after_marks, gone_actors, begin_actors, of_end}
+use Rattle.generation_laws.proofs.Running.{place_of_actor, one_at}
 use Rattle.order_laws.specs.Facts.{Runs}
 use Rattle.order_laws.proofs.Elements.{no_last}
-use Rattle.order_laws.proofs.Running.{IsSame, IsBegun, IsEnded, ran_before, runs_on, place_of_actor, one_at}
+use Rattle.order_laws.proofs.Running.{IsSame, IsBegun, IsEnded, ran_before, runs_on}
 use Rattle.order_laws.proofs.Books.{IsTold, Books, told_same, one_by_id, quiet_books, begins_books, begin_events}
 
 -- ---- an end

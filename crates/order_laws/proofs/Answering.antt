@@ -23,20 +23,22 @@ use Rattle.machine_model.specs.Acting.{operation_after}
 use Rattle.machine_model.proofs.Moves.{Moves, Begins, Goes, Ends, Sweeps, begun_operation}
 use Rattle.machine_model.proofs.Times.{IsRun, at_each_time}
 use Rattle.machine_model.proofs.Actors.{mark_one, mark_only, marks_in, marks_by, marks_of}
+use Rattle.generation_laws.proofs.Marks.{marks_mark}
+use Rattle.generation_laws.proofs.Offers.{offer_line}
+use Rattle.generation_laws.proofs.Running.{place_of_actor, one_at}
 use Rattle.order_laws.specs.Facts.{Runs, IsReply, CarriesOut}
-use Rattle.order_laws.proofs.Running.{place_of_actor, at_place, one_at}
+use Rattle.order_laws.proofs.Running.{at_place}
 use Rattle.order_laws.proofs.Books.{one_by_id, begin_events}
 use Rattle.order_laws.proofs.AllBooks.{gone_events}
 use Rattle.order_laws.proofs.Growing.{IsKept, ended_before, events_grow, holds_later}
 use Rattle.order_laws.proofs.Recalling.{begun_more_or_same}
-use Rattle.order_laws.proofs.OfferLines.{offers_so}
 use Rattle.order_laws.proofs.Offers.{Offers, running_below}
 use Rattle.order_laws.proofs.OfferStands.{offers_kept, first_offers, nobody}
 use Rattle.order_laws.proofs.OneStep.{From, began, kept, stepped, from}
-use Rattle.order_laws.proofs.Phases.{IsDone, done_by, stays_marked, is_marked_now, mark_kept, own_marks}
+use Rattle.order_laws.proofs.Phases.{IsDone, done_by, stays_marked, mark_kept, own_marks}
 
 -- an end that a step tells is of an operation that takes it
-ended_now : (state : State) (s : Step) (o : Outcome) (after : State) → Moves state s o after → (id : ℕ) (answer : Reply) → HasEnded after.events id answer →
+pub ended_now : (state : State) (s : Step) (o : Outcome) (after : State) → Moves state s o after → (id : ℕ) (answer : Reply) → HasEnded after.events id answer →
     HasEnded state.events id answer
     ⊎ ((k : ℕ) × (operation : Operation) × (s ≡ step.Go (suc k)) × Runs state k operation × (operation.id ≡ id) × (action_of state operation ≡ act.End answer))
 ended_now state s o after (Begins {actor} {call} d) id answer ended =
@@ -85,7 +87,7 @@ complete_no_end c answer e = grind arith
 
 -- a marked operation makes no offer
 pub no_offer : (state : State) (operation : Operation) → IsDone operation → operation.is_marked ≡ true → (offer : Descriptor) → action_of state operation ≡ act.Offer offer → ⊥
-no_offer state operation done marked offer does = by (offers_so state operation operation.line offer does) (done marked)
+no_offer state operation done marked offer does = by (offer_line state operation operation.line offer does) (done marked)
   where
     by : operation.line ≡ line.Copy (copy.Offer offer) → ((c : Complete) × (operation.line ≡ line.Copy (copy.Complete c))) ⊎ (operation.line ≡ line.End (copied_reply operation.call operation.opens)) → ⊥
     by at (inl (c, e)) = let wrong : line.Copy (copy.Offer offer) ≡ line.Copy (copy.Complete c) = sym at ∙ e in cc wrong
@@ -145,7 +147,7 @@ module _ (id : ℕ) (call : Call) (opens : Option ℕ) where
 
 -- ---- from the step that carries it out
 
-carried_marks : (state : State) (s : Step) (handle : ℕ) (offer : Descriptor) → CarriesOut state s handle offer → marks_in state s ≡ Some offer.operation
+pub carried_marks : (state : State) (s : Step) (handle : ℕ) (offer : Descriptor) → CarriesOut state s handle offer → marks_in state s ≡ Some offer.operation
 carried_marks state s handle offer (actor, operation, main, e, is, does, on, out) =
     ap (marks_in state) e ∙ ap (marks_by state) is ∙ ap (marks_of state (handle_of operation.call)) does
     ∙ ap (λ b. cond b (Some offer.operation) None) (ap (λ h. is_carried_out (word_at state h) offer main) on ∙ out)
@@ -158,7 +160,7 @@ module _ (state : State) (s : Step) (o : Outcome) (after : State) (m : Moves sta
   now_marked : (x : Operation) (marks : Option ℕ) → marks ≡ Some offer.operation → x.id ≡ offer.operation → x.call ≡ offerer.call → x.opens ≡ offerer.opens → NowFits (mark_one marks x)
   unfolding NowFits
   now_marked x marks is same calls number =
-      (is_marked_now marks x (is ∙ ap Some (sym same)), ap (λ (q : Operation). q.call) (mark_only marks x) ∙ calls, ap (λ (q : Operation). q.opens) (mark_only marks x) ∙ number)
+      (marks_mark marks x (is ∙ ap Some (sym same)), ap (λ (q : Operation). q.call) (mark_only marks x) ∙ calls, ap (λ (q : Operation). q.opens) (mark_only marks x) ∙ number)
 
   now_by : (j : ℕ) (found : Operation) → found.id ≡ offer.operation → From state s j found → NowFits found
   unfolding NowFits

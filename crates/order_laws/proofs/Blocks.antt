@@ -17,7 +17,8 @@ use Rattle.order_laws.proofs.Elements.{no_members, Among, equals}
 use Rattle.order_laws.proofs.Sorting.{timing, role, number_below, among_rising}
 use Rattle.order_laws.proofs.Views.{View, Leads, leads_none, leads_all, leads_parts}
 use Rattle.order_laws.proofs.StepsOfRun.{ClosesNone, Kind, plain, updates, answers, closes, swaps, kind_at}
-use Rattle.order_laws.proofs.Closed.{closed_in, closed_from}
+use Rattle.generation_laws.proofs.Swaps.{closed_in}
+use Rattle.order_laws.proofs.Closed.{closed_from}
 use Rattle.order_laws.proofs.Origins.{Why, by_update, by_answer, by_change, origin, place_says, late_says}
 use Rattle.order_laws.proofs.Timeline.{view}
 use Rattle.order_laws.proofs.Members.{sorted, block, lates, timely, in_lates, sorted_along, block_along, timely_along, step_within, none_changing}

@@ -18,8 +18,9 @@ use Rattle.machine_model.specs.Calls.{opens_handle}
 use Rattle.machine_model.specs.States.{State}
 use Rattle.machine_model.specs.Machine.{begin_denial, with_begin, least_free}
 use Rattle.machine_model.proofs.Moves.{Moves, begun_operation}
+use Rattle.generation_laws.proofs.Running.{one_at}
 use Rattle.order_laws.specs.Facts.{Runs}
-use Rattle.order_laws.proofs.Running.{begin_not_running, IsSame, IsBegun, IsEnded, ran_before, runs_on, one_at}
+use Rattle.order_laws.proofs.Running.{begin_not_running, IsSame, IsBegun, IsEnded, ran_before, runs_on}
 
 -- ---- histories
 
@@ -114,7 +115,7 @@ begin_events state actor call operation = grind arith
 opens_rightly : (call : Call) (n : ℕ) → OpensRightly call (cond (opens_handle call) (Some n) None)
 opens_rightly call n = grind arith
 
-within_actors : (state : State) (actor : ℕ) (call : Call) → begin_denial state actor call ≡ None → (0 < actor) × (actor ≤ state.limits.actors)
+pub within_actors : (state : State) (actor : ℕ) (call : Call) → begin_denial state actor call ≡ None → (0 < actor) × (actor ≤ state.limits.actors)
 within_actors state actor call d = (grind arith, grind arith)
 
 begin_follows : (state : State) (actor : ℕ) (call : Call) → begin_denial state actor call ≡ None → Books state →

@@ -1,5 +1,5 @@
 -- An offer that is carried out, with the operation that made it and what the facts say of it.
-use Rattle.std.proofs.Common.{◌≡◌, ℕ, suc, ◌<◌, false, sym, ap, ◌∙◌, Some, None, arith}
+use Rattle.std.proofs.Common.{◌≡◌, ℕ, suc, ◌<◌, false, ◌∙◌, Some, None, arith}
 use Rattle.history.specs.Worlds.{KeyMap}
 use Rattle.slot_arena.specs.Heaps.{generation_at}
 use Rattle.machine_model.specs.declared.operations.Operation.{Operation}
@@ -10,13 +10,13 @@ use Rattle.machine_model.specs.declared.steps.Limits.{Limits}
 use Rattle.machine_model.specs.States.{State, root_at}
 use Rattle.machine_model.specs.Orders.{is_placed}
 use Rattle.machine_model.proofs.Moves.{Moves}
+use Rattle.generation_laws.proofs.Handles.{has_handles_at}
 use Rattle.order_laws.specs.Facts.{IsReply, Runs, On, IsFresh, Opens, CarriesOut, Facts}
 use Rattle.machine_model.specs.Copying.{copied_reply}
 use Rattle.machine_model.proofs.Times.{IsRun}
 use Rattle.order_laws.proofs.Answering.{carried_reply}
 use Rattle.order_laws.proofs.Honest.{offerer_of}
-use Rattle.order_laws.proofs.Reserved.{reserved_at}
-use Rattle.order_laws.proofs.Offers.{Offers, own_offer}
+use Rattle.order_laws.proofs.Offers.{Offers}
 
 -- an offer that is carried out, with the operation that made it
 pub record Carried (states : ℕ → State) (last : ℕ) (V : ℕ → ℕ → KeyMap) (t handle : ℕ) (offer : Descriptor) : Type 0 where
@@ -39,15 +39,14 @@ pub carried : (limits : Limits) (states : ℕ → State) (last : ℕ) → IsRun 
     Moves (states t) s o (states (suc t)) → (handle : ℕ) (offer : Descriptor) → CarriesOut (states t) s handle offer → Offers (states t) → Carried states last V t handle offer
 carried limits states last r V facts t s o lt m handle offer carries offers =
     let st = offerer_of (states t) offers s handle offer carries in
-    let own = own_offer (states t) offers st.k st.operation st.c st.runs st.at in
     let facts_of = facts.swaps t s o lt m handle offer carries st.k st.operation st.runs st.id in
     record {
       k = st.k;
       offerer = st.operation;
       runs = st.runs;
       is_its = st.id;
-      number = sym own.opens ∙ ap (λ (x : Descriptor). x.opens) st.its;
-      free = λ n e. (reserved_at limits states last r t (omega arith)).closed st.k st.operation n st.runs (st.unmarked, sym own.opens ∙ ap (λ (x : Descriptor). x.opens) st.its ∙ e);
+      number = st.opens;
+      free = λ n e. (has_handles_at limits states last r t (omega arith)).1.unopened st.k n st.operation st.runs st.unmarked (st.opens ∙ e);
       agrees = carried_reply limits states last r t s o lt m handle offer carries st.k st.operation st.runs st.id;
       unplaced = facts_of.unplaced;
       stands = facts_of.stands;

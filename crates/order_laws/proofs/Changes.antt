@@ -23,7 +23,7 @@ use Rattle.machine_model.specs.Swapping.{stands_in, is_plain, is_carried_out}
 use Rattle.machine_model.specs.Orders.{committed_in}
 use Rattle.machine_model.specs.Acting.{if_changed, acted, aborted, offered, completed, carried_out, opened, opened_root, new_root_taken}
 use Rattle.machine_model.proofs.Found.{found_elsewhere}
-use Rattle.order_laws.proofs.OfferLines.{Settles}
+use Rattle.generation_laws.specs.Laws.{settles}
 
 -- ---- the roots of handles
 
@@ -68,7 +68,7 @@ carries state handle action = false
 
 -- an offer that is found by its number is the very same one
 abbrev pub Honest : State → ℕ → Action → Type 0
-Honest state handle action = (offer : Descriptor) → Settles action offer → stands_in (word_at state handle) offer ≡ true → word_at state handle ≡ Offer offer
+Honest state handle action = (offer : Descriptor) → settles action ≡ Some offer → stands_in (word_at state handle) offer ≡ true → word_at state handle ≡ Offer offer
 
 completed_places : (state : State) (handle : ℕ) (offer : Descriptor) (main : Ref) → is_carried_out (word_at state handle) offer main ≡ false →
     ((completed state handle offer main).places ≡ state.places) × ((completed state handle offer main).closings ≡ state.closings)

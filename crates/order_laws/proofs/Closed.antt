@@ -1,64 +1,14 @@
 -- When a generation was closed.
-use Rattle.std.proofs.Common.{◌≡◌, ℕ, zero, suc, ◌<◌, ◌≤◌, ◌==◌, Bool, true, false, cond, List, [], ◌∷◌, ◌++◌, find, Option, Some, None, refl, sym, ap, ◌∙◌, arith, eqb-true, ne_eqb, eq-eqb}
+use Rattle.std.proofs.Common.{◌≡◌, ℕ, zero, suc, ◌<◌, ◌≤◌, Option, Some, None, refl, sym, ap, ◌∙◌, arith}
 use Rattle.std.proofs.lemmas.Option.{none-some, same_Some}
 use Rattle.history.specs.Worlds.{KeyMap}
-use Rattle.machine_model.specs.declared.heaps.Closing.{Closing}
 use Rattle.machine_model.specs.declared.steps.Limits.{Limits}
-use Rattle.machine_model.specs.States.{State, first_state, closed_at, step_of}
+use Rattle.machine_model.specs.States.{State, first_state, closed_at}
 use Rattle.machine_model.proofs.Times.{IsRun}
+use Rattle.generation_laws.proofs.Swaps.{closed_in, closed_kept, closed_new}
 use Rattle.order_laws.specs.Facts.{Facts}
 use Rattle.order_laws.proofs.Growing.{IsKept, holds_later, closings_grow}
 use Rattle.order_laws.proofs.StepsOfRun.{Kind, plain, updates, answers, closes, swaps, ClosesNone, kind_at}
-
--- the step that closed a generation, by the list of closings
-abbrev pub closed_in : List Closing → ℕ → Option ℕ
-closed_in closings generation = step_of (find (λ c. c.generation == generation) closings)
-
-kept_by : (xs ys : List Closing) (x : Closing) (generation c : ℕ) (b : Bool) → step_of (cond b (Some x) (find (λ c. c.generation == generation) xs)) ≡ Some c →
-    (closed_in xs generation ≡ Some c → closed_in (xs ++ ys) generation ≡ Some c) → step_of (cond b (Some x) (find (λ c. c.generation == generation) (xs ++ ys))) ≡ Some c
-kept_by xs ys x generation c true e rest = e
-kept_by xs ys x generation c false e rest = rest e
-
--- more closings don't change it
-pub closed_kept : (xs ys : List Closing) (generation c : ℕ) → closed_in xs generation ≡ Some c → closed_in (xs ++ ys) generation ≡ Some c
-closed_kept [] ys generation c e = absurd (none-some c e)
-closed_kept (x ∷ xs) ys generation c e = kept_by xs ys x generation c (x.generation == generation) e (closed_kept xs ys generation c)
-
-new_by : (xs : List Closing) (x new : Closing) (generation c : ℕ) (b : Bool) → step_of (cond b (Some x) (find (λ c. c.generation == generation) xs)) ≡ None →
-    step_of (cond b (Some x) (find (λ c. c.generation == generation) (xs ++ new ∷ []))) ≡ Some c →
-    (closed_in xs generation ≡ None → closed_in (xs ++ new ∷ []) generation ≡ Some c → (new.generation ≡ generation) × (new.step ≡ c)) → (new.generation ≡ generation) × (new.step ≡ c)
-new_by xs x new generation c true none e rest = absurd (none-some x.step (sym none))
-new_by xs x new generation c false none e rest = rest none e
-
-last_by : (new : Closing) (generation c : ℕ) (b : Bool) → (new.generation == generation) ≡ b → step_of (cond b (Some new) None) ≡ Some c → (new.generation ≡ generation) × (new.step ≡ c)
-last_by new generation c true is e = (eqb-true new.generation generation is, same_Some new.step c e)
-last_by new generation c false is e = absurd (none-some c e)
-
--- who wasn't closed and is closed with one more closing is closed by it
-pub closed_new : (xs : List Closing) (new : Closing) (generation c : ℕ) → closed_in xs generation ≡ None → closed_in (xs ++ new ∷ []) generation ≡ Some c →
-    (new.generation ≡ generation) × (new.step ≡ c)
-closed_new [] new generation c none e = last_by new generation c (new.generation == generation) refl e
-closed_new (x ∷ xs) new generation c none e = new_by xs x new generation c (x.generation == generation) none e (closed_new xs new generation c)
-
-none_by : (xs : List Closing) (x new : Closing) (generation : ℕ) (b : Bool) → step_of (cond b (Some x) (find (λ c. c.generation == generation) xs)) ≡ None →
-    (closed_in xs generation ≡ None → closed_in (xs ++ new ∷ []) generation ≡ None) → step_of (cond b (Some x) (find (λ c. c.generation == generation) (xs ++ new ∷ []))) ≡ None
-none_by xs x new generation true none rest = absurd (none-some x.step (sym none))
-none_by xs x new generation false none rest = rest none
-
--- a closing of another generation doesn't close it
-pub closed_other : (xs : List Closing) (new : Closing) (generation : ℕ) → closed_in xs generation ≡ None → (new.generation ≡ generation → ⊥) → closed_in (xs ++ new ∷ []) generation ≡ None
-closed_other [] new generation none other = ap (λ b. step_of (cond b (Some new) None)) (ne_eqb new.generation generation other)
-closed_other (x ∷ xs) new generation none other = none_by xs x new generation (x.generation == generation) none (λ e. closed_other xs new generation e other)
-
-last_closed_by : (xs : List Closing) (x new : Closing) (generation : ℕ) (b : Bool) → step_of (cond b (Some x) (find (λ c. c.generation == generation) xs)) ≡ None →
-    (closed_in xs generation ≡ None → closed_in (xs ++ new ∷ []) generation ≡ Some new.step) → step_of (cond b (Some x) (find (λ c. c.generation == generation) (xs ++ new ∷ []))) ≡ Some new.step
-last_closed_by xs x new generation true none rest = absurd (none-some x.step (sym none))
-last_closed_by xs x new generation false none rest = rest none
-
--- a closing of it closes it, where it wasn't closed
-pub closed_last : (xs : List Closing) (new : Closing) (generation : ℕ) → closed_in xs generation ≡ None → new.generation ≡ generation → closed_in (xs ++ new ∷ []) generation ≡ Some new.step
-closed_last [] new generation none is = ap (λ b. step_of (cond b (Some new) None)) (eq-eqb new.generation generation is)
-closed_last (x ∷ xs) new generation none is = last_closed_by xs x new generation (x.generation == generation) none (λ e. closed_last xs new generation e is)
 
 kept_closed : (generation c : ℕ) → IsKept (λ state. closed_at state generation ≡ Some c)
 kept_closed generation c state s o after m e =

@@ -28,13 +28,13 @@ use Rattle.machine_model.specs.Machine.{begin_denial, with_begin}
 use Rattle.machine_model.proofs.Moves.{Moves, Begins, Goes, Ends, Sweeps, begun_operation}
 use Rattle.machine_model.proofs.Found.{found_within, found_elsewhere}
 use Rattle.order_laws.specs.Facts.{committed_of, committed_by_step, entered_by_step, CarriesOut}
-use Rattle.order_laws.proofs.OfferLines.{Settles}
+use Rattle.generation_laws.specs.Laws.{settles}
 use Rattle.order_laws.proofs.Changes.{footing_of, footing, carries, acted_places, acted_footing, completed_is, roots_swapped, carried_roots, same_swapped, complete_commits, end_commits}
 
 -- offers are honest in each step from this state
 abbrev pub HonestIn : State → Type 0
 HonestIn state =
-    (actor : ℕ) (operation : Operation) (offer : Descriptor) → operation_of state actor ≡ Some operation → Settles (action_of state operation) offer →
+    (actor : ℕ) (operation : Operation) (offer : Descriptor) → operation_of state actor ≡ Some operation → settles (action_of state operation) ≡ Some offer →
     stands_in (word_at state (handle_of operation.call)) offer ≡ true → word_at state (handle_of operation.call) ≡ Offer offer
 
 pub data Changes (state : State) (s : Step) (after : State) : Type 0 where

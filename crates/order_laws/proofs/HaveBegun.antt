@@ -1,5 +1,5 @@
 -- Each operation that has a place has begun.
-use Rattle.std.proofs.Common.{◌≡◌, ℕ, zero, suc, ◌⊎◌, inl, inr, Bool, true, false, if◌then◌else◌, List, [], ◌∷◌, ◌++◌, get_or, length, Option, Some, None, slice_get, refl, sym, ap, ◌∙◌, subst}
+use Rattle.std.proofs.Common.{◌≡◌, ℕ, zero, suc, ◌⊎◌, inl, inr, Bool, true, false, if◌then◌else◌, List, [], ◌∷◌, ◌++◌, get_or, length, Option, Some, None, slice_get, ◌<◌, ◌≤◌, refl, sym, ap, ◌∙◌, subst}
 use Rattle.std.proofs.lemmas.Bool.{and_parts}
 use Rattle.history.specs.declared.calls.Call.{Call}
 use Rattle.history.specs.declared.calls.Call.TheVariants.{Close}
@@ -7,7 +7,7 @@ use Rattle.history.specs.declared.replies.Reply.{Reply}
 use Rattle.history.specs.declared.replies.Reply.TheVariants as reply
 use Rattle.history.specs.declared.events.Event.{Event}
 use Rattle.history.specs.declared.events.Event.TheVariants.{Begin}
-use Rattle.history.specs.Histories.{Operation as Told, HasBegun}
+use Rattle.history.specs.Histories.{Operation as Told, HasBegun, begun}
 use Rattle.history.specs.Orders.{OrderedAt}
 use Rattle.history.proofs.Places.{at_push}
 use Rattle.slot_arena.specs.declared.refs.Ref.{Ref}
@@ -29,16 +29,18 @@ use Rattle.machine_model.specs.Acting.{swaps_in, entered, entered_by, entered_at
 use Rattle.machine_model.specs.Machine.{with_begin, run}
 use Rattle.machine_model.proofs.Moves.{Moves, Begins, Goes, Ends, Sweeps, begun_operation}
 use Rattle.machine_model.proofs.Along.{along}
+use Rattle.machine_model.proofs.Times.{IsRun, at_each_time}
+use Rattle.generation_laws.specs.Laws.{settles}
+use Rattle.generation_laws.proofs.SameOffer.{same_offer}
+use Rattle.generation_laws.proofs.Running.{place_of_actor}
 use Rattle.order_laws.specs.Facts.{Runs}
 use Rattle.order_laws.proofs.Elements.{Among, among_get, among_mapped, among_either, among_flat_map}
 use Rattle.order_laws.proofs.Sorting.{among_rising}
-use Rattle.order_laws.proofs.Running.{place_of_actor}
-use Rattle.order_laws.proofs.Books.{Books, begin_events}
+use Rattle.order_laws.proofs.Books.{Books, begin_events, id_below}
 use Rattle.order_laws.proofs.Changes.{carries, acted_places, completed_is, carried_roots}
 use Rattle.order_laws.proofs.Growing.{Grows, get_grown, events_grow}
 use Rattle.order_laws.proofs.Origins.{place_says}
-use Rattle.order_laws.proofs.OfferLines.{Settles, settles_held}
-use Rattle.order_laws.proofs.Offers.{Offers, same_found}
+use Rattle.order_laws.proofs.Offers.{Offers, stands}
 use Rattle.order_laws.proofs.OfferStands.{offers_kept, first_offers}
 
 -- who runs has begun
@@ -48,7 +50,7 @@ runs_begun state books k operation runs =
     let says : Told = record { actor = suc k; call = operation.call; opens = operation.opens } in
     (told.place, says, told.begins)
 
-among_runs : (actors : List (Option Operation)) (operation : Operation) → Among (Some operation) actors → (k : ℕ) × (get_or actors k None ≡ Some operation)
+pub among_runs : (actors : List (Option Operation)) (operation : Operation) → Among (Some operation) actors → (k : ℕ) × (get_or actors k None ≡ Some operation)
 among_runs [] operation a = absurd a
 among_runs (x ∷ xs) operation (inl e) = (zero, sym e)
 among_runs (x ∷ xs) operation (inr a) = let (k, e) = among_runs xs operation a in (suc k, e)
@@ -76,10 +78,8 @@ entered_begun state books (Some main) p a =
 carried_begun : (state : State) → Offers state → (actor : ℕ) (operation : Operation) (offer : Descriptor) (main : Ref) → operation_of state actor ≡ Some operation →
     action_of state operation ≡ act.Complete offer main → is_carried_out (word_at state (handle_of operation.call)) offer main ≡ true → HasBegun state.events offer.operation
 carried_begun state offers actor operation offer main is does carried =
-    let (k, actors, runs) = place_of_actor state actor operation is in
-    let known = offers.held k operation offer runs (settles_held state operation operation.line offer (subst (λ a. Settles a offer) (sym does) refl)) in
-    let word = same_found state offers (handle_of operation.call) offer known ((and_parts (stands_in (word_at state (handle_of operation.call)) offer) _ carried).0) in
-    let st = offers.words (handle_of operation.call) offer word in
+    let there = (and_parts (stands_in (word_at state (handle_of operation.call)) offer) _ carried).0 in
+    let st = stands state offers (handle_of operation.call) offer (same_offer state offers.own actor operation offer is (ap settles does) (handle_of operation.call) there) in
     subst (λ i. HasBegun state.events i) st.id (runs_begun state offers.books st.k st.operation st.runs)
 
 acted_begun : (base : State) (handle : ℕ) (action : Action) (carried : Bool) → carries base handle action ≡ carried → (p : Place) → Among p (acted base handle action).places →
@@ -170,6 +170,13 @@ first_begun limits = record { offers = first_offers limits; each = λ p a. absur
 -- after each list of steps
 pub placed_begun : (limits : Limits) (steps : List Step) (p : Place) → Among p (run limits steps).places → HasBegun (run limits steps).events p.id
 placed_begun limits steps = (along limits Begun (first_begun limits) (λ before s o after m h. begun_kept (run limits before) s o after m h) steps).each
+
+-- at each time of a run the ids of places are below the number of those that have begun
+pub places_below : (limits : Limits) (states : ℕ → State) (last : ℕ) → IsRun limits states last → (t : ℕ) → t ≤ last → (p : Place) → Among p (states t).places → p.id < begun (states t).events
+places_below limits states last r t le p a =
+    let h = at_each_time limits states last r Begun (first_begun limits) begun_kept t le in
+    let (place, told, at) = h.each p a in
+    id_below (states t).events place p.id told h.offers.books.well_formed at
 
 -- so each id of the order has
 pub ordered_begun : (limits : Limits) (steps : List Step) (i id : ℕ) → OrderedAt (order_of (run limits steps)) i id → HasBegun (run limits steps).events id

@@ -1,26 +1,24 @@
 -- Offers are found as they were made, by the operation that is completing them.
-use Rattle.std.proofs.Common.{◌≡◌, ℕ, true, refl, sym, ap, ◌∙◌, subst}
+use Rattle.std.proofs.Common.{◌≡◌, ℕ, true, sym, ap, ◌∙◌, subst}
 use Rattle.std.proofs.lemmas.Bool.{and_parts}
 use Rattle.machine_model.specs.declared.roots.Descriptor.{Descriptor}
 use Rattle.machine_model.specs.declared.steps.Step.{Step}
 use Rattle.machine_model.specs.Calls.{handle_of}
 use Rattle.machine_model.specs.States.{State, word_at}
 use Rattle.machine_model.specs.Swapping.{stands_in}
+use Rattle.generation_laws.specs.Laws.{settles}
+use Rattle.generation_laws.proofs.SameOffer.{same_offer}
 use Rattle.order_laws.specs.Facts.{CarriesOut}
-use Rattle.order_laws.proofs.Running.{place_of_actor}
 use Rattle.order_laws.proofs.EachStep.{HonestIn}
-use Rattle.order_laws.proofs.OfferLines.{Settles, settles_held}
-use Rattle.order_laws.proofs.Offers.{Offers, Stands, same_found}
+use Rattle.order_laws.proofs.Offers.{Offers, Stands, stands}
 
 -- offers are found as they were made
 pub honest : (state : State) → Offers state → HonestIn state
-honest state offers actor operation offer is settles stands =
-    let (k, actors, runs) = place_of_actor state actor operation is in
-    same_found state offers (handle_of operation.call) offer (offers.held k operation offer runs (settles_held state operation operation.line offer settles)) stands
+honest state offers actor operation offer is settled found = same_offer state offers.own actor operation offer is settled (handle_of operation.call) found
 
 -- the operation whose offer is carried out
 pub offerer_of : (state : State) → Offers state → (s : Step) (handle : ℕ) (offer : Descriptor) → CarriesOut state s handle offer → Stands state handle offer
 offerer_of state offers s handle offer (actor, operation, main, is_step, is, does, on, out) =
     let there = subst (λ h. stands_in (word_at state h) offer ≡ true) (sym on) ((and_parts (stands_in (word_at state handle) offer) _ out).0) in
-    let word = honest state offers actor operation offer is (subst (λ a. Settles a offer) (sym does) refl) there in
-    offers.words handle offer (ap (word_at state) (sym on) ∙ word)
+    let word = honest state offers actor operation offer is (ap settles does) there in
+    stands state offers handle offer (ap (word_at state) (sym on) ∙ word)

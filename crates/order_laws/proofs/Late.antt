@@ -17,7 +17,8 @@ use Rattle.machine_model.specs.Calls.{handle_of}
 use Rattle.machine_model.specs.States.{State, closed_at}
 use Rattle.machine_model.specs.Orders.{place_of, closing_for, closed_after}
 use Rattle.machine_model.proofs.Times.{IsRun}
-use Rattle.order_laws.specs.Facts.{act_in, On, IsRooted, HasStood, Facts, Update, Replied, on_writable, on_read_only}
+use Rattle.content_laws.specs.Effects.{act_in}
+use Rattle.order_laws.specs.Facts.{On, IsRooted, HasStood, Facts, Update, Replied, on_writable, on_read_only}
 use Rattle.order_laws.proofs.Carried.{Carried}
 use Rattle.order_laws.proofs.Elements.{no_members, Among, each_of, equals, among_right, filter_among}
 use Rattle.order_laws.proofs.Sorting.{role, number_below, only_one}
@@ -25,7 +26,8 @@ use Rattle.order_laws.proofs.Views.{View, but, Leads, leads_none, leads_same, le
 use Rattle.order_laws.proofs.Acts.{named, but_same}
 use Rattle.order_laws.proofs.Growing.{IsKept, holds_later, among_grown, places_grow}
 use Rattle.order_laws.proofs.StepsOfRun.{Enters, IsStill, Kind, plain, updates, answers, closes, swaps, kind_at}
-use Rattle.order_laws.proofs.Closed.{closed_in, closed_new, closed_last, closed_from, closed_later}
+use Rattle.generation_laws.proofs.Swaps.{closed_in, closed_new, closed_last}
+use Rattle.order_laws.proofs.Closed.{closed_from, closed_later}
 use Rattle.order_laws.proofs.Sound.{sound_at}
 use Rattle.order_laws.proofs.Origins.{place_says, late_says}
 use Rattle.order_laws.proofs.Timeline.{view, view_writable, but_here, but_there, update_leads, reader_leads}

@@ -9,7 +9,6 @@ pub mod Changes
 pub mod EachStep
 pub mod Growing
 pub mod Past
-pub mod OfferLines
 pub mod OfferWords
 pub mod OneStep
 pub mod Offers
@@ -37,4 +36,3 @@ pub mod Unconditional
 pub mod HaveBegun
 pub mod Phases
 pub mod Answering
-pub mod Reserved

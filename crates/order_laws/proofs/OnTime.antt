@@ -12,13 +12,15 @@ use Rattle.machine_model.specs.Calls.{handle_of}
 use Rattle.machine_model.specs.States.{State, closed_at}
 use Rattle.machine_model.specs.Orders.{place_of, closing_for}
 use Rattle.machine_model.proofs.Times.{IsRun}
-use Rattle.order_laws.specs.Facts.{act_in, standing, On, IsRooted, Facts, Update, Replied, on_writable, on_read_only}
+use Rattle.content_laws.specs.Effects.{act_in}
+use Rattle.order_laws.specs.Facts.{standing, On, IsRooted, Facts, Update, Replied, on_writable, on_read_only}
 use Rattle.order_laws.proofs.Elements.{no_members, Among, each_of, equals, filter_among}
 use Rattle.order_laws.proofs.Sorting.{role, only_one}
 use Rattle.order_laws.proofs.Views.{View, but, Leads, leads_none, leads_same, leads_each}
 use Rattle.order_laws.proofs.Acts.{named}
 use Rattle.order_laws.proofs.StepsOfRun.{Enters, KeepsAll, IsStill}
-use Rattle.order_laws.proofs.Closed.{closed_in, closed_from, closed_later}
+use Rattle.generation_laws.proofs.Swaps.{closed_in}
+use Rattle.order_laws.proofs.Closed.{closed_from, closed_later}
 use Rattle.order_laws.proofs.Sound.{sound_at}
 use Rattle.order_laws.proofs.Origins.{place_says, on_time_says, late_says}
 use Rattle.order_laws.proofs.Timeline.{view, view_writable, view_read_only, view_stays, but_here, but_there, update_leads, reader_leads}

@@ -67,7 +67,7 @@ same_last (z ∷ xs) x y e = same_last xs x y (tails e)
     tails e = cc e
 
 -- nothing is placed at first
-nothing_placed : (limits : Limits) → (first_state limits).places ≡ []
+pub nothing_placed : (limits : Limits) → (first_state limits).places ≡ []
 unfolding first_state
 nothing_placed limits = refl
 

@@ -1,7 +1,8 @@
 -- The operations of snapshots, freezes and clears: on which lines they stand, and that a marked one answers that it was carried
 -- out.
-use Rattle.std.proofs.Common.{◌≡◌, ℕ, suc, ◌==◌, ◌⊎◌, inl, inr, cond, Bool, true, false, Option, Some, None, refl, sym, ap, ◌∙◌, subst, eqb-true, eq-eqb, arith}
-use Rattle.std.proofs.lemmas.Bool.{true≢false, false≢true, and_parts}
+use Rattle.std.proofs.Common.{◌≡◌, ℕ, suc, ◌==◌, ◌⊎◌, inl, inr, cond, Bool, true, false, Option, Some, None, refl, sym, ap, ◌∙◌, subst, eqb-true, arith}
+use Rattle.std.proofs.lemmas.Bool.{false≢true}
+use Rattle.std.proofs.lemmas.Option.{same_Some}
 use Rattle.slot_arena.specs.declared.refs.Ref.{Ref}
 use Rattle.machine_model.specs.declared.actions.Action.{Action}
 use Rattle.machine_model.specs.declared.actions.Action.TheVariants as act
@@ -15,19 +16,17 @@ use Rattle.machine_model.specs.declared.lines.Line.TheVariants as line
 use Rattle.machine_model.specs.declared.steps.Step.{Step}
 use Rattle.machine_model.specs.declared.steps.Step.TheVariants as step
 use Rattle.machine_model.specs.Calls.{handle_of}
-use Rattle.machine_model.specs.States.{State, word_at}
-use Rattle.machine_model.specs.Swapping.{complete_after, complete_action, stands_in, is_carried_out}
+use Rattle.machine_model.specs.States.{State, word_at, operation_of}
+use Rattle.machine_model.specs.Swapping.{complete_after, complete_action, is_carried_out}
 use Rattle.machine_model.specs.Copying.{copied_reply, copy_after_complete}
 use Rattle.machine_model.specs.Operations.{action_of, line_action, line_after}
 use Rattle.machine_model.specs.Acting.{mark_after, operation_after}
 use Rattle.machine_model.proofs.Moves.{GoesOn}
 use Rattle.machine_model.proofs.Actors.{mark_one, mark_only, marks_in, marks_by}
+use Rattle.generation_laws.proofs.Marks.{Marks, marked_in}
+use Rattle.generation_laws.proofs.Offers.{completes_it}
 use Rattle.order_laws.specs.Facts.{Runs}
-use Rattle.order_laws.proofs.Running.{one_at}
-use Rattle.order_laws.proofs.Books.{one_by_id}
-use Rattle.order_laws.proofs.OfferLines.{Settles, settles_held}
-use Rattle.order_laws.proofs.Offers.{Offers, same_found}
-use Rattle.order_laws.proofs.OfferStands.{Marks, marks_says}
+use Rattle.order_laws.proofs.Offers.{Offers}
 use Rattle.order_laws.proofs.OneStep.{From, began, kept, stepped}
 
 -- ---- what a marked operation does
@@ -39,16 +38,11 @@ IsDone operation =
 
 -- who is marked by a step completes its offer
 marked_completes : (state : State) (s : Step) → Offers state → (k : ℕ) (operation : Operation) → Runs state k operation → marks_in state s ≡ Some operation.id →
-    (it : Marks state s operation.id) × (c : Complete) × (operation.line ≡ line.Copy (copy.Complete c))
+    (it : Marks state s k operation) × (c : Complete) × (operation.line ≡ line.Copy (copy.Complete c))
 marked_completes state s offers k operation runs e =
-    let it = marks_says state s operation.id e in
-    let by_it : Operation = it.operation in
-    let there = handle_of by_it.call in
-    let known = offers.held it.k by_it it.offer it.runs (settles_held state by_it by_it.line it.offer (subst (λ a. Settles a it.offer) (sym it.does) refl)) in
-    let stands = same_found state offers there it.offer known ((and_parts (stands_in (word_at state there) it.offer) _ it.carried).0) in
-    let other = offers.words there it.offer stands in
-    let one = (one_by_id state offers.books other.k k other.operation operation other.runs runs (other.id ∙ it.marks)).1 in
-    (it, other.c, ap (λ (x : Operation). x.line) (sym one) ∙ other.at)
+    let it = marked_in state offers.own s k operation runs e in
+    let (c, at, its) = completes_it operation.line it.offer it.completes in
+    (it, c, at)
 
 -- from the COMPLETE it goes on, or answers once it is marked or has carried the offer out itself
 completes_on : (state : State) (operation : Operation) (c : Complete) → (complete_after state.heap operation.access (word_at state (handle_of operation.call)) c ≡ Gives false → operation.is_marked ≡ true) →
@@ -86,13 +80,6 @@ stays_marked (Some id) operation e = by (operation.id == id)
     by true = refl
     by false = e
 
-pub is_marked_now : (m : Option ℕ) (operation : Operation) → m ≡ Some operation.id → (mark_one m operation).is_marked ≡ true
-is_marked_now m operation e = ap (λ x. (mark_one x operation).is_marked) e ∙ by (operation.id == operation.id) refl
-  where
-    by : (b : Bool) → (operation.id == operation.id) ≡ b → (cond b (record operation { is_marked = true }) operation).is_marked ≡ true
-    by true is = refl
-    by false is = absurd (true≢false (sym (eq-eqb operation.id operation.id refl) ∙ is))
-
 marked_before : (mark : Bool) (action : Action) → mark_after mark action ≡ true → mark ≡ true
 marked_before mark action e = grind arith
 
@@ -124,13 +111,14 @@ stepped_done state s offers k operation runs e goes done (inl marked) = elim (do
 ]
 stepped_done state s offers k operation runs e goes done (inr marked) =
     let (it, c, at) = marked_completes state s offers k operation runs marked in
-    let steps : step.Go (suc it.k) ≡ step.Go (suc k) = sym it.is_step ∙ e in
-    let place : it.k ≡ k = cc steps in
-    let one = one_at state k it.operation operation (subst (λ j. Runs state j it.operation) place it.runs) runs in
-    let does : complete_action c ≡ act.Complete it.offer it.main = sym (ap (line_action state operation) at) ∙ ap (action_of state) (sym one) ∙ it.does in
-    let carried = ap (λ (x : Operation). is_carried_out (word_at state (handle_of x.call)) it.offer it.main) (sym one) ∙ it.carried in
+    let steps : step.Go it.actor ≡ step.Go (suc k) = sym it.is_step ∙ e in
+    let actors : it.actor ≡ suc k = cc steps in
+    let one : it.mover ≡ operation = same_Some _ _ (sym it.moves ∙ ap (operation_of state) actors ∙ runs) in
+    let main : Ref = it.carries.main in
+    let does : complete_action c ≡ act.Complete it.offer main = sym (ap (line_action state operation) at) ∙ ap (action_of state) (sym one) ∙ it.carries.is_it in
+    let carried = ap (λ (x : Operation). is_carried_out (word_at state (handle_of x.call)) it.offer main) (sym one) ∙ it.carries.carried in
     subst (λ l. ((c : Complete) × (line_after state operation l ≡ line.Copy (copy.Complete c))) ⊎ (line_after state operation l ≡ line.End (copied_reply operation.call operation.opens)))
-    (sym at) (completes_on state operation c (λ gives. absurd (gives_carried state operation c it.offer it.main does carried gives)))
+    (sym at) (completes_on state operation c (λ gives. absurd (gives_carried state operation c it.offer main does carried gives)))
 
 pub done_by : (state : State) (s : Step) → Offers state → ((k : ℕ) (operation : Operation) → Runs state k operation → IsDone operation) → (k : ℕ) (found : Operation) → From state s k found → IsDone found
 done_by state s offers each k found (began new) e = absurd (false≢true (ap (λ (x : Operation). x.is_marked) (sym new.is_it) ∙ e))

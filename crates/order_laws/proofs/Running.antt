@@ -1,9 +1,8 @@
 -- Which operations run before and after a step: each keeps its id, its call, its handle to open and its kind.
-use Rattle.std.proofs.Common.{◌≡◌, ℕ, zero, suc, ◌-◌, ◌<◌, ◌⊎◌, inl, inr, List, [], ◌∷◌, ◌++◌, set, get_or, Option, Some, None, refl, sym, ap, ◌∙◌, subst, arith}
+use Rattle.std.proofs.Common.{◌≡◌, ℕ, suc, ◌-◌, ◌<◌, ◌⊎◌, inl, inr, List, [], ◌∷◌, ◌++◌, set, get_or, Option, Some, None, refl, sym, ap, ◌∙◌, subst, arith}
 use native.Mathlib.Decide.{ℕ_discrete}
 use Rattle.std.proofs.Math.ListN.{get_or-map}
 use Rattle.std.proofs.lemmas.List.{get_or-set_same}
-use Rattle.std.proofs.lemmas.Option.{none-some, same_Some}
 use Rattle.history.specs.declared.calls.Call.{Call}
 use Rattle.history.specs.declared.replies.Reply.{Reply}
 use Rattle.history.specs.declared.events.Event.TheVariants.{End}
@@ -19,6 +18,7 @@ use Rattle.machine_model.specs.Machine.{begin_denial, go_denial}
 use Rattle.machine_model.proofs.Moves.{Moves, Begins, Goes, Ends, Sweeps, begun_operation}
 use Rattle.machine_model.proofs.Found.{found_within, found_elsewhere}
 use Rattle.machine_model.proofs.Actors.{IsOf, is_of, mark_one, mark_only, marks_by, after_marks, of_others, of_itself, of_begin, of_end, gone_actors, begin_actors}
+use Rattle.generation_laws.proofs.Running.{one_at}
 use Rattle.order_laws.specs.Facts.{Runs}
 
 -- it is the same operation, further on
@@ -29,7 +29,7 @@ pub record IsSame (before after : Operation) : Type 0 where
   pub access : after.access ≡ before.access
 
 -- with a mark it is the same
-marked_same : (m : Option ℕ) (operation : Operation) → IsSame operation (mark_one m operation)
+pub marked_same : (m : Option ℕ) (operation : Operation) → IsSame operation (mark_one m operation)
 marked_same m operation = record {
   id = ap (λ (o : Operation). o.id) (mark_only m operation);
   call = ap (λ (o : Operation). o.call) (mark_only m operation);
@@ -38,21 +38,12 @@ marked_same m operation = record {
 }
 
 -- and after its step
-after_same : (state : State) (m : Option ℕ) (operation : Operation) → IsSame operation (mark_one m (operation_after state operation))
+pub after_same : (state : State) (m : Option ℕ) (operation : Operation) → IsSame operation (mark_one m (operation_after state operation))
 after_same state m operation = let s = marked_same m (operation_after state operation) in record { id = s.id; call = s.call; opens = s.opens; access = s.access }
 
 -- an actor's operation by its place
 pub at_place : (state : State) (actor k : ℕ) (operation : Operation) → actor ≡ suc k → operation_of state actor ≡ Some operation → Runs state k operation
 at_place state actor k operation own is = subst (λ a. operation_of state a ≡ Some operation) own is
-
--- an actor whose operation is told has a place
-pub place_of_actor : (state : State) (actor : ℕ) (operation : Operation) → operation_of state actor ≡ Some operation → (k : ℕ) × (actor ≡ suc k) × Runs state k operation
-place_of_actor state zero operation is = absurd (none-some operation is)
-place_of_actor state (suc k) operation is = (k, refl, is)
-
--- two that have one place are one
-pub one_at : (state : State) (k : ℕ) (a b : Operation) → Runs state k a → Runs state k b → a ≡ b
-one_at state k a b at_a at_b = same_Some a b (sym at_a ∙ at_b)
 
 -- ---- backwards
 
@@ -99,7 +90,7 @@ marked_runs None xs k operation at_k = (operation, at_k, record { id = refl; cal
 marked_runs (Some id) xs k operation at_k =
     (mark_one (Some id) operation, get_or-map (marked id) xs k None ∙ ap (marked id) at_k, marked_same (Some id) operation)
 
-same_trans : (a b c : Operation) → IsSame a b → IsSame b c → IsSame a c
+pub same_trans : (a b c : Operation) → IsSame a b → IsSame b c → IsSame a c
 same_trans a b c p q = record { id = q.id ∙ p.id; call = q.call ∙ p.call; opens = q.opens ∙ p.opens; access = q.access ∙ p.access }
 
 -- the actor whose place it is

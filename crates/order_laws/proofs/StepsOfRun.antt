@@ -26,10 +26,10 @@ use Rattle.machine_model.specs.Orders.{place_of, is_placed}
 use Rattle.machine_model.specs.Acting.{entered_at_end}
 use Rattle.machine_model.proofs.Moves.{Moves}
 use Rattle.machine_model.proofs.Times.{IsRun, steps_at}
+use Rattle.generation_laws.proofs.Running.{place_of_actor}
 use Rattle.order_laws.specs.Facts.{standing_of, standing, HasStood, Runs, IsReply, entered_by_step, CarriesOut, Facts, Update, Replied}
 use Rattle.order_laws.proofs.Carried.{Carried, carried}
 use Rattle.order_laws.proofs.OfferStands.{offers_at}
-use Rattle.order_laws.proofs.Running.{place_of_actor}
 use Rattle.order_laws.proofs.Changes.{footing, roots_swapped}
 use Rattle.order_laws.proofs.EachStep as each
 use Rattle.order_laws.proofs.EachStep.{Changes}

@@ -13,7 +13,8 @@ use Rattle.machine_model.specs.Calls.{handle_of}
 use Rattle.machine_model.specs.States.{State}
 use Rattle.machine_model.specs.Orders.{place_of, closing_for}
 use Rattle.machine_model.proofs.Times.{IsRun}
-use Rattle.order_laws.specs.Facts.{standing, On, Runs, IsReply, act_in, Update}
+use Rattle.content_laws.specs.Effects.{act_in}
+use Rattle.order_laws.specs.Facts.{standing, On, Runs, IsReply, Update}
 use Rattle.order_laws.proofs.Views.{View, but, Leads, leads_one, leads_same}
 use Rattle.order_laws.proofs.Acts.{named, but_same, acts_on}
 use Rattle.order_laws.proofs.Recalling.{recalls_running}

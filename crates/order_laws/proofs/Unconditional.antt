@@ -8,17 +8,15 @@ use Rattle.history.specs.Histories.{HasEnded}
 use Rattle.history.specs.Orders.{OrderedAt}
 use Rattle.places.specs.declared.place.Place.{Place}
 use Rattle.places.specs.Places.{is_before, placed, rising, ids_by_place}
-use Rattle.machine_model.specs.declared.operations.Operation.{Operation}
 use Rattle.machine_model.specs.declared.steps.Limits.{Limits}
 use Rattle.machine_model.specs.declared.steps.Step.{Step}
-use Rattle.machine_model.specs.States.{State, first_state, operation_of}
+use Rattle.machine_model.specs.States.{State, first_state}
 use Rattle.machine_model.specs.Orders.{order_of}
 use Rattle.machine_model.specs.Machine.{next_state, run_from, run}
 use Rattle.machine_model.proofs.Along.{along, run-append, kept_by_moves}
 use Rattle.order_laws.proofs.Elements.{among_map, get_among}
 use Rattle.order_laws.proofs.Sorting.{Rises, rising_rises, rising_among}
-use Rattle.order_laws.proofs.Running.{place_of_actor}
-use Rattle.order_laws.proofs.Books.{Books, one_by_id}
+use Rattle.order_laws.proofs.Books.{Books}
 use Rattle.order_laws.proofs.AllBooks.{books_kept, first_books}
 use Rattle.order_laws.proofs.Growing.{Answered, answered_kept, first_answered, Grows, grows_same, grows_trans, places_grow}
 
@@ -39,13 +37,6 @@ ordered limits steps id answer ended other =
     let places = (run limits steps).places in
     let (i, at) = get_among (order_of (run limits steps)) p.id (among_map (λ (q : Place). q.id) (rising places) p (rising_among places p within)) in
     (i, at ∙ ap Some same)
-
--- running operations have distinct ids
-pub differ : (limits : Limits) (steps : List Step) (a b : ℕ) (x y : Operation) → operation_of (run limits steps) a ≡ Some x → operation_of (run limits steps) b ≡ Some y → x.id ≡ y.id → a ≡ b
-differ limits steps a b x y at_a at_b same =
-    let (j, own_a, runs_a) = place_of_actor (run limits steps) a x at_a in
-    let (k, own_b, runs_b) = place_of_actor (run limits steps) b y at_b in
-    own_a ∙ ap suc (one_by_id (run limits steps) (books_of limits steps) j k x y runs_a runs_b same).0 ∙ sym own_b
 
 -- the places grow along more steps
 stay_from : (first state : State) (more : List Step) → Grows first.places state.places → Grows first.places (run_from state more).places

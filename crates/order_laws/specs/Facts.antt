@@ -6,16 +6,16 @@ use Rattle.ctrie_base.specs.Hashes.{hash_of}
 use Rattle.history.specs.declared.calls.Access.{Access}
 use Rattle.history.specs.declared.calls.Access.TheVariants.{Writable, ReadOnly}
 use Rattle.history.specs.declared.calls.Call.{Call}
-use Rattle.history.specs.declared.calls.Call.TheVariants.{Get, Clear, Snapshot, Freeze, Entries, Count}
+use Rattle.history.specs.declared.calls.Call.TheVariants.{Clear, Snapshot, Freeze}
 use Rattle.history.specs.declared.replies.Reply.{Reply}
 use Rattle.history.specs.declared.replies.Reply.TheVariants as reply
 use Rattle.history.specs.declared.events.Event.{Event}
 use Rattle.history.specs.Worlds.{KeyMap}
-use Rattle.history.specs.Changes.{change_in}
 use Rattle.history.specs.Histories.{HasEnded}
 use Rattle.slot_arena.specs.declared.refs.Ref.{Ref}
 use Rattle.slot_arena.specs.Heaps.{Heap, generation_at}
 use Rattle.places.specs.declared.place.Place.{Place}
+pub use Rattle.content_laws.specs.Effects.{act_in}
 use Rattle.machine_model.specs.declared.actions.Action.TheVariants as act
 use Rattle.machine_model.specs.declared.operations.Operation.{Operation}
 use Rattle.machine_model.specs.declared.roots.Root.{Root}
@@ -65,14 +65,6 @@ abbrev pub Runs : State → ℕ → Operation → Type 0
 Runs state k operation = slice_index_or state.actors k None ≡ Some operation
 
 -- ---- what calls do
-
--- what a call does to the map of a handle of this kind: its reply, and the map after it
-abbrev pub act_in : (ℕ → ℕ) → Access → Call → KeyMap → Option (Reply × KeyMap)
-act_in hash access (Get h k) m = Some (reply.Found (map.get m k), m)
-act_in hash ReadOnly (Entries h) m = Some (reply.Pairs (map.entries m), m)
-act_in hash ReadOnly (Count h) m = Some (reply.Count (map.len m), m)
-act_in hash ReadOnly call m = None
-act_in hash Writable call m = change_in hash call m
 
 -- the reply is the one with which the operation ends, if it does
 abbrev pub IsReply : List Event → ℕ → Reply → Type 0

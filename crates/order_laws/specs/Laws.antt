@@ -10,11 +10,10 @@ use Rattle.history.specs.Histories.{HasBegun, HasEnded, IsWellFormed}
 use Rattle.history.specs.Orders.{OrderedAt, Explains}
 use Rattle.places.specs.declared.place.Place.{Place}
 use Rattle.places.specs.Places.{is_before, rising}
-use Rattle.machine_model.specs.declared.operations.Operation.{Operation}
 use Rattle.machine_model.specs.declared.roots.Root.{Root}
 use Rattle.machine_model.specs.declared.steps.Limits.{Limits}
 use Rattle.machine_model.specs.declared.steps.Step.{Step}
-use Rattle.machine_model.specs.States.{State, root_at, operation_of}
+use Rattle.machine_model.specs.States.{State, root_at}
 use Rattle.machine_model.specs.Orders.{order_of}
 use Rattle.machine_model.specs.Contents.{content_at}
 use Rattle.machine_model.specs.Machine.{AreLimits, run}
@@ -57,12 +56,6 @@ AnsweredAreOrdered =
 -- Each operation in the order has begun.
 abbrev pub OrderedHaveBegun : Type 0
 OrderedHaveBegun = (limits : Limits) (steps : List Step) (i id : ℕ) → OrderedAt (order_of (run limits steps)) i id → HasBegun (run limits steps).events id
-
--- Running operations have distinct ids.
-abbrev pub RunningDiffer : Type 0
-RunningDiffer =
-    (limits : Limits) (steps : List Step) (a b : ℕ) (x y : Operation) → operation_of (run limits steps) a ≡ Some x → operation_of (run limits steps) b ≡ Some y →
-    x.id ≡ y.id → a ≡ b
 
 -- Places once told stay: later steps add places, and change none.
 abbrev pub PlacesStay : Type 0

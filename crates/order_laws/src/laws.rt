@@ -1,6 +1,6 @@
 //! Laws of the order, for every list of steps.
 
-ghost use Rattle.order_laws.specs.Laws.{LegalByFacts, HistoriesWellFormed, AnsweredAreOrdered, OrderedHaveBegun, RunningDiffer, PlacesStay, RisingSorts};
+ghost use Rattle.order_laws.specs.Laws.{LegalByFacts, HistoriesWellFormed, AnsweredAreOrdered, OrderedHaveBegun, PlacesStay, RisingSorts};
 
 /// A law: from the facts about the contents of generations it follows that the order is legal, and leads
 /// to a world that shows the machine's contents.
@@ -21,11 +21,6 @@ pub fn answered_are_ordered()
 /// A law: each operation in the order has begun.
 pub fn ordered_have_begun()
     ensures { OrderedHaveBegun }
-{}
-
-/// A law: running operations have distinct ids.
-pub fn running_differ()
-    ensures { RunningDiffer }
 {}
 
 /// A law: places once told stay. Later steps add places, and change none.

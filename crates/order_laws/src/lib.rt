@@ -5,5 +5,5 @@ mod laws;
 
 pub use laws::{
     answered_are_ordered, histories_well_formed, legal_by_facts, ordered_have_begun, places_stay,
-    rising_sorts, running_differ,
+    rising_sorts,
 };

@@ -1,6 +1,13 @@
-//! Places of operations in the order.
+//! Places of operations in the order, and the order by them.
 #![tactic(auto)]
 
+mod arrivals;
 mod place;
+mod places;
+mod segment;
 
 pub use place::Place;
+pub use places::Places;
+
+#[cfg(test)]
+mod tests;

@@ -7,7 +7,7 @@
 ghost use Rattle.lock_runner.specs.Seats.{IsSeatOf};
 
 use ctrie_base::{HashKind, Refusal};
-use history::{Call, is_order};
+use history::{Call, Event, is_order};
 use lock_runner::{Between, Runner, Seat};
 use machine_model::Limits;
 use std::alloc::Global;
@@ -101,8 +101,16 @@ fn is_right(alloc: Global, record: &Record) -> Result<bool, Refusal> {
     )
 }
 
+/// What came of a load.
+#[derive(Clone, Copy)]
+struct Judged {
+    is_right: bool,
+    operations: usize,
+    steps: usize,
+}
+
 /// Performs the load, and judges its record.
-fn stress<R: Threads + Wait + Sync>(rt: &R, alloc: Global, load: Load) -> Result<bool, Refusal> {
+fn stress<R: Threads + Wait + Sync>(rt: &R, alloc: Global, load: Load) -> Result<Judged, Refusal> {
     let count = load.limits.actors;
     let (runner, mut seats) = Runner::new(alloc, load.limits, count)?;
     thread::for_each_mut(
@@ -112,9 +120,21 @@ fn stress<R: Threads + Wait + Sync>(rt: &R, alloc: Global, load: Load) -> Result
         &|k, seat| work(rt, &runner, seat, load, k),
     );
     match runner.finish(seats) {
-        Ok(record) => is_right(alloc, &record),
+        Ok(record) => Ok(Judged {
+            is_right: is_right(alloc, &record)?,
+            operations: begins(record.events.as_slice()),
+            steps: record.steps.len(),
+        }),
         Err(_) => Err(Refusal::Memory),
     }
+}
+
+/// How many operations began.
+fn begins(events: &[Event]) -> usize {
+    events
+        .iter()
+        .filter(|event| matches!(event, Event::Begin { .. }))
+        .count()
 }
 
 /// The number that a word is.
@@ -158,18 +178,30 @@ fn main(rt: HostRuntime) -> ExitCode {
     let Ok(words) = words.skip(1).collect::<Vec<String>>(rt.alloc()) else {
         return ExitCode::from(2);
     };
-    let load = match load_of(words.as_slice()) {
+    let asked = load_of(words.as_slice());
+    let load = match asked {
         Some(load) => load,
         None => small(),
     };
-    let told = match stress(&rt, rt.alloc(), load) {
-        Ok(true) => "legal, and the same when run again",
-        Ok(false) => "wrong",
-        Err(_) => "refused",
+    let Ok(judged) = stress(&rt, rt.alloc(), load) else {
+        let _ = println!(rt; "refused");
+        return ExitCode::from(2);
     };
+    let told = if judged.is_right {
+        "legal, and the same when run again"
+    } else {
+        "wrong"
+    };
+    // How many began hangs on the schedule.
+    if asked.is_some() {
+        let _ = println!(rt;
+            "{} operations in {} steps",
+            judged.operations, judged.steps
+        );
+    }
     let _ = println!(rt;
-        "{} threads, {} calls each: {told}",
-        load.threads, load.calls
+        "{} threads, {} calls each on {} keys: {told}",
+        load.threads, load.calls, load.keys
     );
-    ExitCode::from(if told == "wrong" { 3 } else { 0 })
+    ExitCode::from(if judged.is_right { 0 } else { 3 })
 }

@@ -7,7 +7,9 @@ mod headers;
 mod names;
 mod reading;
 
+pub use command_words::command_of;
 pub use commands::Command;
+pub use headers::{actors_of, slots_of};
 pub use reading::{Script, read_script};
 pub use text_lines::Told;
 

@@ -1,3 +1,9 @@
 pub mod Refs
 pub mod Heaps
 pub mod Counts
+pub mod Times
+pub mod Tallies
+pub mod Chains
+pub mod Cells
+pub mod Arenas
+pub mod Kept

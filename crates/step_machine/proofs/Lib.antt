@@ -4,3 +4,6 @@ pub mod Going
 pub mod Completing
 pub mod Sweeping
 pub mod Recording
+pub mod Reclaiming
+pub mod Telling
+pub mod Legality

@@ -1,14 +1,16 @@
 -- What a step that is taken does to the run that led to it.
 use Rattle.std.specs.Prelude.{◌≡◌, List, [], ◌∷◌, ◌++◌, Ok}
+use Rattle.std.proofs.lemmas.List.Elements.{All-push}
 use Rattle.std.proofs.Common.{refl, sym, ap, subst}
 use Rattle.machine_model.specs.declared.steps.Limits.{Limits}
 use Rattle.machine_model.specs.declared.steps.Step.{Step}
 use Rattle.machine_model.specs.declared.steps.Outcome.{Outcome}
 use Rattle.machine_model.specs.States.{State, first_state}
-use Rattle.machine_model.specs.Machine.{next, run}
+use Rattle.machine_model.specs.Machine.{AreLimits, next, run}
 use Rattle.machine_model.proofs.Moves.{moved}
 use Rattle.machine_model.proofs.Along.{run_push}
 use Rattle.machine_model.proofs.Frames.{limits_kept}
+use Rattle.machine_model.specs.Keys.{FitsKey, KeysFit}
 use Rattle.step_machine.specs.Machines.{IsTaken, AreTaken}
 
 -- the sizes stay
@@ -59,3 +61,18 @@ all_taken before steps s o after led all e =
     let last : IsTaken before s = rw e refl in
     subst (λ limits. AreTaken limits (steps ++ s ∷ [])) (sym (kept_limits before s o after e))
     (taken_push before.limits steps s all (subst (λ state. IsTaken state s) led last))
+
+-- ---- keys
+
+-- one step more whose key fits
+keys_with : (steps : List Step) (s : Step) → KeysFit steps → FitsKey s → KeysFit (steps ++ s ∷ [])
+keys_with steps s all last = All-push FitsKey steps s all last
+
+-- ---- what holds of a machine holds of it with a step more
+
+pub holds_after : (before after : State) (steps items : List Step) (s : Step) (o : Outcome) → next before s ≡ Ok (o, after) → items ≡ steps ++ s ∷ [] →
+    before ≡ run before.limits steps → AreLimits before.limits → AreTaken before.limits steps → KeysFit steps → FitsKey s →
+    (after ≡ run after.limits items) × AreLimits after.limits × AreTaken after.limits items × KeysFit items
+holds_after before after steps items s o e is led sizes all keys last =
+    subst (λ xs. (after ≡ run after.limits xs) × AreLimits after.limits × AreTaken after.limits xs × KeysFit xs) (sym is)
+    (next_run before steps s o after led e, subst AreLimits (sym (kept_limits before s o after e)) sizes, all_taken before steps s o after led all e, keys_with steps s keys last)

@@ -1,3 +1,5 @@
 pub mod Machines
 pub mod Callers
 pub mod Records
+pub mod Reclaiming
+pub mod Legality

@@ -1,10 +1,14 @@
 //! Calls that take many steps.
 
-ghost use Rattle.std.specs.Prelude.{◌≡◌, List, [], ◌∷◌, ◌++◌, OnOk, OnErr, IsOkUnless};
+ghost use Rattle.std.specs.Prelude.{◌≡◌, false, List, [], ◌∷◌, ◌++◌, OnOk, OnErr, IsOkUnless};
 ghost use Rattle.machine_model.specs.declared.steps.Limits.{Limits};
 ghost use Rattle.machine_model.specs.declared.steps.Step.{Step};
 ghost use Rattle.step_machine.specs.Records.{IsAfter};
+ghost use Rattle.step_machine.specs.Machines.{state_of};
 ghost use Rattle.step_machine.specs.Callers.{Stepped, Resumes, Completes, Reclaims};
+ghost use Rattle.machine_model.specs.Machine.{is_busy};
+ghost use Rattle.step_machine.specs.Reclaiming.{UsesReached, LooksSame};
+ghost use Rattle.step_machine.specs.Legality.{ActedAlone};
 
 use crate::machine::Machine;
 use ctrie_base::Refusal;
@@ -18,9 +22,22 @@ impl Machine {
     /// Begins the call and takes steps of it until it ends; none where 16,384 steps didn't end it. What
     /// denies the begin is answered, and nothing has changed then. After `Memory` or `Spent` the steps taken
     /// so far stand: an operation that began still runs. `Memory` is answered only where nothing denies the
-    /// next step.
-    #[tactic(auto, using(crate::proofs::Completing::not_begun, crate::proofs::Completing::begun))]
+    /// next step. From rest, an operation that ends enters the order last, and the contents change by its
+    /// call, with its reply; where it is refused for want of slots, neither changes.
     pub fn complete(&mut self, actor: u8, call: Call) -> Result<Option<Reply>, Refusal>
+        ensures steps { Completes result self.old actor call self.new }
+        ensures alone { is_busy (state_of self.old) ≡ false → ActedAlone result self.old call self.new }
+    {
+        let _ = self.limits();
+        let result = self.begin_and_go(actor, call);
+        let _ = self.steps();
+        legal_order::alone_it_acts();
+        result
+    }
+
+    /// The same, of the steps alone.
+    #[tactic(auto, using(crate::proofs::Completing::not_begun, crate::proofs::Completing::begun))]
+    fn begin_and_go(&mut self, actor: u8, call: Call) -> Result<Option<Reply>, Refusal>
         ensures { Completes result self.old actor call self.new }
     {
         self.take(Step::Begin { actor, call })?;
@@ -42,11 +59,25 @@ impl Machine {
         Ok(None)
     }
 
-    /// Takes steps of the sweep until limbo is empty. `Busy` while any operation runs: nothing has changed
-    /// then. After `Memory` or `Spent` the steps taken so far stand; `Spent` where the machine has taken all
-    /// its steps, and `Memory` only where it hasn't.
-    #[tactic(auto, using(crate::proofs::Sweeping::unswept, crate::proofs::Sweeping::finished, crate::proofs::Sweeping::nearer))]
+    /// Takes steps of the sweep until limbo is empty: the slots in use are then exactly those that the open
+    /// handles reach. History, order and contents stay as they are. `Busy` while any operation runs: nothing
+    /// has changed then. After `Memory` or `Spent` the steps taken so far stand; `Spent` where the machine has
+    /// taken all its steps, and `Memory` only where it hasn't.
     pub fn reclaim(&mut self) -> Result<(), Refusal>
+        ensures steps { Reclaims result self.old self.new }
+        ensures reached { OnOk result (UsesReached (state_of self.new)) }
+        ensures same { LooksSame (state_of self.old) (state_of self.new) }
+    {
+        let _ = self.limits();
+        let result = self.sweep_all();
+        memory_laws::sweep_leaves();
+        memory_laws::reclaimed();
+        result
+    }
+
+    /// Takes steps of the sweep until limbo is empty, where no operation runs.
+    #[tactic(auto, using(crate::proofs::Sweeping::unswept, crate::proofs::Sweeping::finished, crate::proofs::Sweeping::nearer))]
+    fn sweep_all(&mut self) -> Result<(), Refusal>
         ensures { Reclaims result self.old self.new }
     {
         if self.is_busy() {

@@ -9,9 +9,12 @@ ghost use Rattle.machine_model.specs.States.{root_at, operation_of};
 ghost use Rattle.slot_arena.specs.Heaps.{in_use};
 ghost use Rattle.machine_model.specs.Orders.{order_of};
 ghost use Rattle.machine_model.specs.Contents.{content_at};
+ghost use Rattle.machine_model.specs.Keys.{FitsKey, KeysFit};
 ghost use Rattle.machine_model.specs.Machine.{AreLimits, denial_of, is_running, is_busy, runs_on, next_kind, handles_taken, is_access, access_of};
 ghost use Rattle.machine_model.specs.Refusing.{RefusesLimits, RefusesContent};
 ghost use Rattle.step_machine.specs.Machines.{Taken, fresh, state_of, AreTaken, Applied, FoundNoSlot};
+ghost use Rattle.order_laws.specs.Laws.{IsExplained};
+ghost use Rattle.step_machine.specs.Legality.{IsLegalFor, IsInOrder};
 
 use ctrie_base::{Kind, Refusal};
 use history::{Access, Event};
@@ -31,6 +34,7 @@ pub struct Machine {
 impl Model for Machine {
     ghost use Rattle.std.specs.Prelude.{◌≡◌};
     ghost use Rattle.machine_model.specs.Machine.{AreLimits, run};
+    ghost use Rattle.machine_model.specs.Keys.{KeysFit};
     ghost use Rattle.step_machine.specs.Machines.{Taken, AreTaken};
 
     ghost Value = { Taken };
@@ -38,7 +42,7 @@ impl Model for Machine {
     ghost view = { λ m. record { limits = m.plain.limits; steps = m.steps.items } };
 
     ghost invariant = { λ m. (m.plain ≡ run m.plain.limits m.steps.items) × AreLimits m.plain.limits
-        × AreTaken m.plain.limits m.steps.items };
+        × AreTaken m.plain.limits m.steps.items × KeysFit m.steps.items };
 }
 
 impl Machine {
@@ -59,7 +63,7 @@ impl Machine {
     /// Takes a step. Where it is refused, for want of memory too, nothing has changed; `Memory` is answered
     /// only where nothing else denies the step. A reply `NoSlots` comes only where the actor's step before
     /// was to make a node, and no slot was free before it.
-    #[tactic(auto, using(crate::proofs::Steps::kept_limits, crate::proofs::Steps::next_run, crate::proofs::Steps::all_taken, crate::proofs::Denials::wanting_applied, crate::proofs::Denials::refused_applied))]
+    #[tactic(auto, using(crate::proofs::Steps::kept_limits, crate::proofs::Steps::next_run, crate::proofs::Steps::holds_after, crate::proofs::Denials::wanting_applied, crate::proofs::Denials::refused_applied))]
     pub fn apply(&mut self, step: Step) -> Result<Outcome, Refusal>
         ensures applied { Applied result self.old step self.new }
         ensures want { (actor id : ℕ) → step ≡ Step.Go actor → result ≡ Ok (Outcome.Ended id NoSlots) → FoundNoSlot self.old actor id }
@@ -70,8 +74,27 @@ impl Machine {
         }
         let outcome = self.plain.apply(step)?;
         let _ = self.steps.push(step);
+        Machine::fits(step);
         machine_model::refused_for_want_alone();
         Ok(outcome)
+    }
+
+    /// The order explains the history, and leads to the contents.
+    pub(crate) fn explained(&self)
+        ensures { IsExplained self.now.limits (state_of self.now) }
+    {
+        let _ = self.steps();
+        let _ = self.limits();
+        legal_order::every_order_is_legal();
+    }
+
+    /// The key of a step has 64 bits, since it is one of the program's.
+    fn fits(step: Step)
+        ensures { FitsKey step }
+    {
+        if let Step::Begin { call, .. } = step {
+            let _ = plain_reading::key_of(call);
+        }
     }
 
     /// Why a step is denied, if it is: what `apply` answers, but for want of memory.
@@ -81,34 +104,58 @@ impl Machine {
         self.plain.denial(step)
     }
 
-    /// All events so far, in order of time.
+    /// All events so far, in order of time. The order that `order` gives is legal for them.
     pub fn events(&self) -> &[Event]
-        ensures { result.now ≡ (state_of self.now).events }
+        ensures events { result.now ≡ (state_of self.now).events }
+        ensures legal { IsLegalFor self.now (order_of (state_of self.now)) }
     {
+        self.explained();
         self.plain.events()
     }
 
     /// The steps that were taken, in order of time. The definition takes each of them, in the state that
-    /// those before it lead to.
+    /// those before it lead to. Their keys have 64 bits.
     pub fn steps(&self) -> &[Step]
         ensures steps { result.now ≡ self.now.steps }
         ensures taken { AreTaken self.now.limits self.now.steps }
+        ensures keys { KeysFit self.now.steps }
     {
         self.steps.as_slice()
     }
 
-    /// The ids of the operations in the order that explains their replies: by rising place. Only `Memory`
-    /// is refused.
+    /// The ids of the operations in the order that explains their replies, by rising place: it is legal for
+    /// what `events` gives. Only `Memory` is refused.
     pub fn order(&self) -> Result<Vec<u64>, Refusal>
+        ensures order { IfOk result (λ order. order.items ≡ order_of (state_of self.now)) }
+        ensures legal { IfOk result (λ order. IsLegalFor self.now order.items) }
+        ensures only_memory { IsOkUnless result Refusal.Memory }
+    {
+        self.explained();
+        self.ids_by_place()
+    }
+
+    /// The order, without what the laws say of it.
+    fn ids_by_place(&self) -> Result<Vec<u64>, Refusal>
         ensures order { IfOk result (λ order. order.items ≡ order_of (state_of self.now)) }
         ensures only_memory { IsOkUnless result Refusal.Memory }
     {
         self.plain.order()
     }
 
-    /// The content of a handle's map, by rising key. `NoHandle` exactly where it isn't open, and else only
-    /// `Memory`.
+    /// The content of a handle's map, by rising key: that of the handle's map in the world to which the order
+    /// leads. `NoHandle` exactly where it isn't open, and else only `Memory`.
     pub fn content(&self, handle: u16) -> Result<Vec<(u64, u64)>, Refusal>
+        ensures pairs { IfOk result (λ pairs. pairs.items ≡ content_at (state_of self.now) handle) }
+        ensures in_order { IfOk result (λ pairs. IsInOrder self.now handle pairs.items) }
+        ensures open { OnOk result (IsSome (root_at (state_of self.now) handle)) }
+        ensures refused { IfErr result (λ refusal. RefusesContent (state_of self.now) handle refusal) }
+    {
+        self.explained();
+        self.pairs_of(handle)
+    }
+
+    /// The content, without what the laws say of it.
+    fn pairs_of(&self, handle: u16) -> Result<Vec<(u64, u64)>, Refusal>
         ensures pairs { IfOk result (λ pairs. pairs.items ≡ content_at (state_of self.now) handle) }
         ensures open { OnOk result (IsSome (root_at (state_of self.now) handle)) }
         ensures refused { IfErr result (λ refusal. RefusesContent (state_of self.now) handle refusal) }
@@ -210,6 +257,7 @@ impl Machine {
     /// The steps and the history, handed out. It takes no memory.
     pub fn into_parts(self) -> (Vec<Step>, Vec<Event>)
         ensures steps { result.0.items ≡ self.steps }
+        ensures taken { AreTaken self.limits self.steps }
         ensures events { result.1.items ≡ (state_of self).events }
     {
         let Machine { plain, steps } = self;

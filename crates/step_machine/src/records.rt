@@ -4,6 +4,7 @@ ghost use Rattle.std.specs.Prelude.{◌≡◌, IfOk, IfErr, OnOk, IsOkUnless};
 ghost use Rattle.machine_model.specs.Machine.{AreLimits};
 ghost use Rattle.machine_model.specs.Refusing.{RefusesLimits};
 ghost use Rattle.step_machine.specs.Records.{IsAfter, IsRecordOf, IsRecord};
+ghost use Rattle.step_machine.specs.Legality.{IsLegalRecord};
 
 use crate::machine::Machine;
 use ctrie_base::Refusal;
@@ -29,11 +30,12 @@ pub struct Record {
     pub limbo: u32,
 }
 
-/// The record of a machine that takes these steps, those left out that are denied. `BadLimits` exactly
-/// where a limit is out of range, and else only `Memory`.
+/// The record of a machine that takes these steps, those left out that are denied. Its order is legal for
+/// its history. `BadLimits` exactly where a limit is out of range, and else only `Memory`.
 #[tactic(auto, using(crate::proofs::Recording::if_recorded))]
 pub fn run(alloc: Global, limits: Limits, steps: &[Step]) -> Result<Record, Refusal>
     ensures record { IfOk result (IsRecord limits steps.now) }
+    ensures legal { IfOk result IsLegalRecord }
     ensures in_range { OnOk result (AreLimits limits) }
     ensures refused { IfErr result (λ refusal. RefusesLimits limits refusal) }
 {
@@ -57,6 +59,16 @@ fn machine_after(alloc: Global, limits: Limits, steps: &[Step]) -> Result<Machin
 
 /// What a machine has done.
 fn record_of(machine: Machine) -> Result<Record, Refusal>
+    ensures record { IfOk result (IsRecordOf machine) }
+    ensures legal { IfOk result IsLegalRecord }
+    ensures only_memory { IsOkUnless result Refusal.Memory }
+{
+    machine.explained();
+    parts_of(machine)
+}
+
+/// Its record, part by part.
+fn parts_of(machine: Machine) -> Result<Record, Refusal>
     ensures record { IfOk result (IsRecordOf machine) }
     ensures only_memory { IsOkUnless result Refusal.Memory }
 {

@@ -13,7 +13,8 @@ returns-in_err-path c =
     let is_file = sym (first_value-rows (found_of c.in_ok-name.found.now) (codes "FILE")) ∙ sym c.in_err-path.ensures in
     let check = file_met (codes "check") _ _ _ _ is_name (sym c.in_ok-name.ensures.rows) is_file in
     let run = file_met (codes "run") _ _ _ _ is_name (sym c.in_ok-name.ensures.rows) is_file in
-    rw none (check ∙ chosen_same _ _, run ∙ chosen_same _ _)
+    let threads = file_met (codes "threads") _ _ _ _ is_name (sym c.in_ok-name.ensures.rows) is_file in
+    rw none (check ∙ chosen_same _ _, run ∙ chosen_same _ _, threads ∙ chosen_same _ _)
 
 pub returns-then-eq : goal.returns-then-eq
 returns-then-eq c =
@@ -28,3 +29,10 @@ returns-then-eq-2 c =
     let is_name = rows-name _ ∙ sym c.in_ok-name.ensures.name in
     let is_file = sym (first_value-rows (found_of c.in_ok-name.found.now) (codes "FILE")) ∙ sym c.in_ok-path.ensures in
     rw is_run at (file_met (codes "run") _ _ _ _ is_name (sym c.in_ok-name.ensures.rows) is_file)
+
+pub returns-then-eq-3 : goal.returns-then-eq-3
+returns-then-eq-3 c =
+    let is_threads : bytes_eq c.in_ok-name.name.now (codes "threads") ≡ true = search rules in
+    let is_name = rows-name _ ∙ sym c.in_ok-name.ensures.name in
+    let is_file = sym (first_value-rows (found_of c.in_ok-name.found.now) (codes "FILE")) ∙ sym c.in_ok-path.ensures in
+    rw is_threads at (file_met (codes "threads") _ _ _ _ is_name (sym c.in_ok-name.ensures.rows) is_file)

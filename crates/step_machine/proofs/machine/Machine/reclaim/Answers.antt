@@ -1,13 +1,10 @@
-use Rattle.std.proofs.Common.{arith}
-use Rattle.step_machine.proofs.Sweeping.{again, refused}
+use Rattle.step_machine.proofs.Reclaiming.{looks_same, on_ok}
 use Rattle.step_machine.proofs.machine.Machine.reclaim.Goals as goal
 
-pub returns-in_err-take : goal.returns-in_err-take
-returns-in_err-take c =
-    refused c.args.self.now c.loop-self.self c.take.new.self c.in_err-take.field-0.0 c.from_residual.result
-    (grind (arith, c.if-is_busy.false, c.is_busy.ensures)) c.loop-self.invariant (λ empty. grind (arith, empty, c.limbo_len.ensures, c.loop-self-test.true)) c.in_err-take.ensures
-    (grind (arith, c.from_residual.ensures))
+pub returns-clause-reached : goal.returns-clause-reached
+returns-clause-reached c =
+    on_ok c.sweep_leaves.ensures c.sweep_all-result.result c.args.self.now c.sweep_all-result.new.self c.reclaimed.ensures c.limits.ensures.in_range c.sweep_all-result.ensures
 
-pub loop-self-preserved : goal.loop-self-preserved
-loop-self-preserved c =
-    again c.args.self.now c.loop-self.self c.take.new.self c.loop-self.invariant (λ empty. grind (arith, empty, c.limbo_len.ensures, c.loop-self-test.true)) c.in_ok-take.ensures
+pub returns-clause-same : goal.returns-clause-same
+returns-clause-same c =
+    looks_same c.sweep_leaves.ensures c.sweep_all-result.result c.args.self.now c.sweep_all-result.new.self c.limits.ensures.in_range c.sweep_all-result.ensures

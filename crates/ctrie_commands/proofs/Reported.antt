@@ -1,0 +1,108 @@
+-- The report of what threads did, from their workers and the record.
+use Rattle.std.proofs.Common.{◌≡◌, ℕ, zero, suc, ◌+◌, ◌-◌, ◌<◌, ◌≤◌, List, [], ◌∷◌, ◌++◌, map, length, refl, ap, subst, ◌∙◌, arith}
+use Rattle.std.specs.Prelude.{Ok, Some, slice_get, All, sum_by}
+use Rattle.std.proofs.lemmas.List.Elements.{All-nil, All-cons, All-same, All-map}
+use Rattle.std.proofs.lemmas.List.{length-map}
+use Rattle.ctrie_base.specs.declared.refusals.Refusal.{Refusal}
+use Rattle.ctrie_base.specs.declared.hashes.HashKind.{HashKind}
+use Rattle.machine_model.specs.declared.steps.Limits.{Limits}
+use Rattle.actor_history.specs.Answers.{AreAnswersOf}
+use Rattle.step_machine.specs.Machines.{Taken, state_of}
+use Rattle.step_machine.specs.Records.{IsRecordOf}
+use Rattle.step_machine.specs.declared.records.Record.{Record}
+use Rattle.lock_runner.specs.Boards.{sweeps_in}
+use Rattle.lock_runner.specs.Seats.{Room, Seated, IsSeatOf, AreSeatsOf}
+use Rattle.lock_runner.specs.Opening.{IsMade}
+use Rattle.lock_runner.specs.Finishing.{IsHere, IsMissing, IsGathered, IsFinished, recorded}
+use Rattle.thread_script.specs.Reading.{Reading}
+use Rattle.ctrie_commands.specs.declared.working.Worker.{Worker}
+use Rattle.ctrie_commands.specs.Reports.{line, hash_text, event_lines, last_lines, record_report}
+use Rattle.ctrie_commands.specs.Working.{calls_of, times_of, Performed, answered_calls}
+use Rattle.ctrie_commands.specs.Threads.{with_sweeper, IsPerformedBy, IsCarriedOut, all_denied, IsReportOf}
+use Rattle.ctrie_commands.proofs.Ranks.{AreRanked, from_map, to_map, swept_by_last}
+
+-- ---- all seats came back
+
+all_of : {A : Type 0} (P : A → Type 0) (xs : List A) → ((k : ℕ) (x : A) → slice_get xs k ≡ Some x → P x) → All P xs
+all_of P [] each = All-nil P
+all_of P (x ∷ xs) each = All-cons P x xs (each zero x refl) (all_of P xs (λ k y e. each (suc k) y e))
+
+pub seats_came : (script : Reading) (runner : Room) (workers : List Worker) (seats : List Seated) → AreRanked script runner.id workers → seats ≡ map (λ (w : Worker). w.seat) workers →
+    AreSeatsOf runner seats
+seats_came script runner workers seats ranks are =
+    All-same (λ (s : Seated). IsSeatOf runner s) seats _ are
+    (All-map (λ (s : Seated). IsSeatOf runner s) (λ (w : Worker). w.seat) workers (all_of (λ (w : Worker). IsSeatOf runner w.seat) workers (λ k w e. (ranks.each k w e).runner)))
+
+at_place : {A : Type 0} (xs : List A) (k : ℕ) → k < length xs → (x : A) × (slice_get xs k ≡ Some x)
+at_place [] k below = absurd (omega arith)
+at_place (x ∷ xs) zero below = (x, refl)
+at_place (x ∷ xs) (suc k) below = at_place xs k (omega (arith, below))
+
+is_here : (script : Reading) (runner : Room) (workers : List Worker) (seats : List Seated) (actor : ℕ) → AreRanked script runner.id workers → seats ≡ map (λ (w : Worker). w.seat) workers →
+    1 ≤ actor → actor ≤ script.limits.actors + 1 → IsHere actor seats
+is_here script runner workers seats actor ranks are low high =
+    let at = at_place workers (actor - 1) (omega (arith, ranks.number)) in (
+      actor - 1,
+      at.0.seat,
+      ap (λ ss. slice_get ss (actor - 1)) are ∙ to_map (λ (w : Worker). w.seat) workers (actor - 1) at.0 at.1,
+      (ranks.each (actor - 1) at.0 at.1).actor ∙ omega arith,
+    )
+
+pub none_missing : (script : Reading) (limits : Limits) (runner : Room) (made : List Seated) (workers : List Worker) (seats : List Seated) → IsMade limits (script.limits.actors + 1) runner made →
+    AreRanked script runner.id workers → seats ≡ map (λ (w : Worker). w.seat) workers → IsMissing runner.seats seats → ⊥
+none_missing script limits runner made workers seats is ranks are (actor, low, high, missing) =
+    missing (is_here script runner workers seats actor ranks are low (omega (arith, is.number, high)))
+
+-- ---- what was done
+
+calls_done : (script : Reading) (runner : Room) (workers : List Worker) (seats : List Seated) (board : Taken) (k : ℕ) (denied : List Refusal) → AreRanked script runner.id workers →
+    seats ≡ map (λ (w : Worker). w.seat) workers → IsGathered runner seats board → k < script.limits.actors →
+    slice_get (map (λ (w : Worker). w.denied.items) workers) k ≡ Some denied → IsPerformedBy (k + 1) script board denied
+calls_done script runner workers seats board k denied ranks are gathered below at =
+    let found = from_map (λ (w : Worker). w.denied.items) workers k denied at in
+    let worker : Worker = found.0 in
+    let rank = ranks.each k worker found.1 in
+    let seat : slice_get seats k ≡ Some worker.seat = ap (λ ss. slice_get ss k) are ∙ to_map (λ (w : Worker). w.seat) workers k worker found.1 in (
+      worker.seat.answers,
+      subst (λ a. AreAnswersOf a (state_of board).events worker.seat.answers) rank.actor (gathered.answers k worker.seat seat),
+      subst (λ ds. Performed (calls_of (k + 1) script.lines) (answered_calls worker.seat.answers) ds) found.2 (rank.calls below).0,
+    )
+
+sweeps_done : (script : Reading) (runner : Room) (workers : List Worker) (seats : List Seated) (board : Taken) → AreRanked script runner.id workers →
+    seats ≡ map (λ (w : Worker). w.seat) workers → IsGathered runner seats board → slice_get (map (λ (w : Worker). w.denied.items) workers) script.limits.actors ≡ Some [] →
+    sweeps_in board ≡ times_of script.lines
+sweeps_done script runner workers seats board ranks are gathered at =
+    let n = script.limits.actors in
+    let found = from_map (λ (w : Worker). w.denied.items) workers n [] at in
+    gathered.sweeps ∙ ap (λ ss. sum_by (λ (s : Seated). s.sweeps) ss) are
+    ∙ swept_by_last workers n found.0 ranks.number (λ k w below e. ((ranks.each k w e).calls below).1) found.1
+    ∙ (ranks.each n found.0 found.1).sweeps refl found.2
+
+carried_out : (script : Reading) (runner : Room) (made : List Seated) (workers : List Worker) (seats : List Seated) (told : Record) →
+    IsMade (with_sweeper script.limits) (script.limits.actors + 1) runner made → AreRanked script runner.id workers → seats ≡ map (λ (w : Worker). w.seat) workers →
+    IsFinished runner seats (Ok told) → IsCarriedOut script (recorded told) (map (λ (w : Worker). w.denied.items) workers)
+carried_out script runner made workers seats told is ranks are (here, its, gathered, taken) = record {
+  limits = gathered.limits ∙ is.sizes;
+  taken = taken;
+  number = length-map workers (λ (w : Worker). w.denied.items) ∙ ranks.number;
+  calls = λ k denied below at. calls_done script runner workers seats (recorded told) k denied ranks are gathered below at;
+  sweeps = λ at. sweeps_done script runner workers seats (recorded told) ranks are gathered at;
+}
+
+-- ---- the report
+
+text_of : (limits : Limits) (told : Record) (text : List ℕ) (hash : HashKind) → IsRecordOf (recorded told) told → told.limits.hash ≡ hash →
+    record_report told text ≡ line (hash_text hash) ++ (event_lines (state_of (recorded told)).events ++ (text ++ last_lines (state_of (recorded told))))
+text_of limits told text hash its same = rw (its.history, its.order, its.used, its.free, its.limbo, same) refl
+
+pub reported : (script : Reading) (runner : Room) (made : List Seated) (workers : List Worker) (seats : List Seated) (told : Record) (text bytes : List ℕ) →
+    IsMade (with_sweeper script.limits) (script.limits.actors + 1) runner made → AreRanked script runner.id workers → seats ≡ map (λ (w : Worker). w.seat) workers →
+    text ≡ all_denied 1 (map (λ (w : Worker). w.denied.items) workers) → IsFinished runner seats (Ok told) → bytes ≡ record_report told text → IsReportOf script bytes
+reported script runner made workers seats told text bytes is ranks are denied (here, its, gathered, taken) written =
+    let hash : told.limits.hash ≡ script.limits.hash = ap (λ (l : Limits). l.hash) (gathered.limits ∙ is.sizes) in (
+      recorded told,
+      map (λ (w : Worker). w.denied.items) workers,
+      carried_out script runner made workers seats told is ranks are (here, its, gathered, taken),
+      written ∙ text_of told.limits told text script.limits.hash its hash
+          ∙ ap (λ t. line (hash_text script.limits.hash) ++ (event_lines (state_of (recorded told)).events ++ (t ++ last_lines (state_of (recorded told))))) denied,
+    )

@@ -1,0 +1,11 @@
+-- So many steps were taken, and none was denied.
+use Rattle.std.proofs.Common.{◌≡◌, ◌+◌}
+use Rattle.ctrie_commands.specs.Working.{IsSameSeat}
+use Rattle.ctrie_commands.proofs.working.Worker.sweep_often.Given as goal
+
+abbrev pub invariant-loop : goal.invariant-loop
+invariant-loop g l = record {
+  seat : IsSameSeat l.initial.self.seat l.self.seat;
+  sweeps : l.self.seat.sweeps ≡ l.initial.self.seat.sweeps + l.counter;
+  denied : l.self.denied.items ≡ l.initial.self.denied.items;
+}

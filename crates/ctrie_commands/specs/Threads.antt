@@ -1,0 +1,77 @@
+-- What a script for threads comes to.
+use Rattle.std.specs.Prelude.{◌≡◌, ℕ, ◌+◌, ◌<◌, List, [], ◌∷◌, ◌++◌, length, Option, Some, Ok, Err, slice_get}
+use Rattle.std.specs.Io.KnownBytes.{Appends}
+use Rattle.ctrie_base.specs.declared.refusals.Refusal.{Refusal}
+use Rattle.ctrie_base.specs.declared.hashes.HashKind.{HashKind}
+use Rattle.counted_io.specs.Beginnings.{AppendsBeginning}
+use Rattle.counted_io.specs.declared.faults.Fault.{Fault}
+use Rattle.counted_io.specs.declared.faults.Fault.TheVariants.{Line, Memory}
+use Rattle.machine_model.specs.declared.steps.Limits.{Limits}
+use Rattle.machine_model.specs.States.{State}
+use Rattle.step_machine.specs.Machines.{Taken, state_of, AreTaken}
+use Rattle.actor_history.specs.declared.accounts.Answer.{Answer}
+use Rattle.actor_history.specs.Answers.{AreAnswersOf}
+use Rattle.lock_runner.specs.Boards.{sweeps_in}
+use Rattle.thread_script.specs.Reading.{Reading, thread_script_of}
+use Rattle.ctrie_commands.specs.Reports.{line, hash_text, event_lines, last_lines, denied_lines}
+use Rattle.ctrie_commands.specs.Working.{calls_of, times_of, Performed, answered_calls}
+
+-- ---- what was done
+
+-- the sizes of the machine: one more actor takes the steps of the sweep
+abbrev pub with_sweeper : Limits → Limits
+with_sweeper limits = record limits { actors = limits.actors + 1 }
+
+-- the answers of the actor in the history are those of its calls in the lines, in their order, but for the denied ones
+abbrev pub IsPerformedBy : ℕ → Reading → Taken → List Refusal → Type 0
+IsPerformedBy actor script board denied =
+    (answers : List Answer) × AreAnswersOf actor (state_of board).events answers × Performed (calls_of actor script.lines) (answered_calls answers) denied
+
+-- The machine has taken each of its steps. The denials of actor k + 1 stand at the place k, the sweep's behind all others.
+-- Each actor's calls were performed in the order of the lines; and the steps of the sweep are as many as the lines name,
+-- unless one was denied.
+pub record IsCarriedOut (script : Reading) (board : Taken) (denials : List (List Refusal)) : Type 0 where
+  pub limits : board.limits ≡ with_sweeper script.limits
+  pub taken : AreTaken board.limits board.steps
+  pub number : length denials ≡ script.limits.actors + 1
+  pub calls : (k : ℕ) (denied : List Refusal) → k < script.limits.actors → slice_get denials k ≡ Some denied → IsPerformedBy (k + 1) script board denied
+  pub sweeps : slice_get denials script.limits.actors ≡ Some [] → sweeps_in board ≡ times_of script.lines
+
+-- ---- the report
+
+-- a line for each denial of this actor and of all behind it
+abbrev pub all_denied : ℕ → List (List Refusal) → List ℕ
+all_denied actor [] = []
+all_denied actor (denied ∷ more) = denied_lines actor denied ++ all_denied (actor + 1) more
+
+-- the report: all events, behind them the denied lines by rising actor, and the last lines of the state
+abbrev pub thread_report : HashKind → State → List (List Refusal) → List ℕ
+thread_report hash state denials = line (hash_text hash) ++ (event_lines state.events ++ (all_denied 1 denials ++ last_lines state))
+
+-- ---- what is answered and written
+
+-- these bytes are the report of a run in which the script was carried out
+abbrev pub IsReportOf : Reading → List ℕ → Type 0
+IsReportOf script bytes =
+    (board : Taken) × (denials : List (List Refusal)) × IsCarriedOut script board denials × (bytes ≡ thread_report script.limits.hash (state_of board) denials)
+
+-- the text is a script for threads without a fault, and the bytes are such a report
+abbrev pub IsThreadReport : List ℕ → List ℕ → Type 0
+IsThreadReport text bytes = (script : Reading) × (thread_script_of text ≡ Ok script) × IsReportOf script bytes
+
+-- the text's first line with a fault is this one, with this fault
+abbrev pub HasThreadFault : List ℕ → ℕ → Refusal → Type 0
+HasThreadFault text number refusal = thread_script_of text ≡ Err (record { line = number; refusal = refusal })
+
+-- known bytes grow by such a report, and by a beginning of one
+abbrev pub AppendsThreadReport : Option (List ℕ) → Option (List ℕ) → List ℕ → Type 0
+AppendsThreadReport old new text = (bytes : List ℕ) × IsThreadReport text bytes × Appends old new bytes
+
+abbrev pub AppendsThreadReportPart : Option (List ℕ) → Option (List ℕ) → List ℕ → Type 0
+AppendsThreadReportPart old new text = (bytes : List ℕ) × IsThreadReport text bytes × AppendsBeginning old new bytes
+
+-- the fault is want of memory, or the text's own
+abbrev pub IsOfThreadScript : List ℕ → Fault → Type 0
+IsOfThreadScript text (Line number refusal) = HasThreadFault text number refusal
+IsOfThreadScript text Memory = Unit {0}
+IsOfThreadScript text fault = ⊥

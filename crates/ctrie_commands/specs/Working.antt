@@ -1,0 +1,103 @@
+-- What a thread does with the lines of a script that are its actor's.
+use Rattle.std.specs.Prelude.{◌≡◌, ℕ, ◌+◌, ◌<◌, ◌≤◌, ◌==◌, ◌⊎◌, List, [], ◌∷◌, ◌++◌, map, length, slice_get, Some, Result, Ok, sum_by, if◌then◌else◌}
+use Rattle.std.specs.List.{flat_map}
+use Rattle.std.specs.declared.alloc.AllocError.{AllocError}
+use Rattle.ctrie_base.specs.declared.refusals.Refusal.{Refusal}
+use Rattle.history.specs.declared.calls.Call.{Call}
+use Rattle.actor_history.specs.declared.accounts.Answer.{Answer}
+use Rattle.lock_runner.specs.Seats.{Seated}
+use Rattle.thread_script.specs.declared.lines.ThreadLine.{ThreadLine}
+use Rattle.thread_script.specs.declared.lines.ThreadLine.TheVariants.{Do, Sweep}
+use Rattle.thread_script.specs.Reading.{Reading}
+use Rattle.ctrie_commands.specs.Reports.{denied_lines}
+use Rattle.ctrie_commands.specs.declared.working.Worker.{Worker}
+
+-- ---- what the lines name
+
+-- the calls that a line, and that these lines, name for an actor
+abbrev pub calls_in : ℕ → ThreadLine → List Call
+calls_in actor (Do owner call) = if owner == actor then call ∷ [] else []
+calls_in actor (Sweep times) = []
+
+abbrev pub calls_of : ℕ → List ThreadLine → List Call
+calls_of actor lines = flat_map (λ line. calls_in actor line) lines
+
+-- how many steps of the sweep a line, and these lines, name
+abbrev pub times_in : ThreadLine → ℕ
+times_in (Do owner call) = 0
+times_in (Sweep times) = times
+
+abbrev pub times_of : List ThreadLine → ℕ
+times_of lines = sum_by times_in lines
+
+-- ---- what came of them
+
+-- Calls were performed, one after the other: these of them were answered, and the others were denied, for these reasons.
+pub data Performed : List Call → List Call → List Refusal → Type 0 where
+  None : Performed [] [] []
+  Answered : (calls answered : List Call) (denied : List Refusal) (call : Call) → Performed calls answered denied →
+      Performed (calls ++ call ∷ []) (answered ++ call ∷ []) denied
+  Denied : (calls answered : List Call) (denied : List Refusal) (call : Call) (refusal : Refusal) → Performed calls answered denied →
+      Performed (calls ++ call ∷ []) answered (denied ++ refusal ∷ [])
+
+-- the calls that were answered
+abbrev pub answered_calls : List Answer → List Call
+answered_calls answers = map (λ answer. answer.call) answers
+
+-- ---- one thread
+
+-- a seat that was not used
+pub record IsUnused (seat : Seated) : Type 0 where
+  pub answers : seat.answers ≡ []
+  pub sweeps : seat.sweeps ≡ 0
+  pub heard : seat.heard ≡ 0
+
+-- the seat is the same one, and has heard of nothing more
+pub record IsSameSeat (before after : Seated) : Type 0 where
+  pub runner : after.runner ≡ before.runner
+  pub actor : after.actor ≡ before.actor
+  pub heard : after.heard ≡ before.heard
+
+-- one call more was performed
+abbrev pub HasPerformed : Call → Worker → Worker → Type 0
+HasPerformed call before after =
+    ((answer : Answer) × (after.seat.answers ≡ before.seat.answers ++ answer ∷ []) × (answer.call ≡ call) × (after.denied.items ≡ before.denied.items))
+    ⊎ ((after.seat.answers ≡ before.seat.answers) × (refusal : Refusal) × (after.denied.items ≡ before.denied.items ++ refusal ∷ []))
+
+-- the call that a line names, if it names one, was performed
+abbrev pub HasPerformedLine : List Call → Worker → Worker → Type 0
+HasPerformedLine [] before after = (after.seat.answers ≡ before.seat.answers) × (after.denied.items ≡ before.denied.items)
+HasPerformedLine (call ∷ more) before after = HasPerformed call before after
+
+-- so many steps of the sweep were taken, or it was denied
+abbrev pub HasSwept : ℕ → Worker → Worker → Type 0
+HasSwept times before after =
+    ((after.seat.sweeps ≡ before.seat.sweeps + times) × (after.denied.items ≡ before.denied.items))
+    ⊎ ((refusal : Refusal) × (after.denied.items ≡ before.denied.items ++ refusal ∷ []))
+
+-- the actor's calls in these lines were performed, by a seat that doesn't sweep
+abbrev pub HasPerformedAll : ℕ → List ThreadLine → Worker → Type 0
+HasPerformedAll actor lines worker = Performed (calls_of actor lines) (answered_calls worker.seat.answers) worker.denied.items
+
+-- the steps of the sweep that these lines name were taken, unless one was denied
+abbrev pub HasSweptAll : List ThreadLine → Worker → Type 0
+HasSweptAll lines worker = worker.denied.items ≡ [] → worker.seat.sweeps ≡ times_of lines
+
+-- What a thread does with a script: the calls that its lines name for an actor, or for the last actor the sweep's steps.
+pub record HasWorked (script : Reading) (seat : Seated) (worker : Worker) : Type 0 where
+  pub runner : worker.seat.runner ≡ seat.runner
+  pub actor : worker.seat.actor ≡ seat.actor
+  pub calls : seat.actor ≤ script.limits.actors → HasPerformedAll seat.actor script.lines worker × (worker.seat.sweeps ≡ 0)
+  pub sweeps : script.limits.actors < seat.actor → HasSweptAll script.lines worker
+
+-- one thread for each seat, which has done so unless a growth was refused
+pub record HaveWorked (script : Reading) (seats : List Seated) (results : List (Result Worker AllocError)) : Type 0 where
+  pub number : length results ≡ length seats
+  pub each : (k : ℕ) (seat : Seated) (worker : Worker) → slice_get seats k ≡ Some seat → slice_get results k ≡ Some (Ok worker) → HasWorked script seat worker
+
+-- all of them have, and these are their seats and the lines of their denials
+pub record AreGathered (results : List (Result Worker AllocError)) (seats : List Seated) (denied : List ℕ) : Type 0 where
+  pub workers : List Worker
+  pub all : results ≡ map Ok workers
+  pub seats_are : seats ≡ map (λ worker. worker.seat) workers
+  pub denied_are : denied ≡ flat_map (λ worker. denied_lines worker.seat.actor worker.denied.items) workers

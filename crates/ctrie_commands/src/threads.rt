@@ -1,0 +1,182 @@
+//! Carrying out a script for threads.
+
+ghost use Rattle.std.specs.Prelude.{◌≡◌, ◌≢◌, ◌<◌, ◌≤◌, ◌+◌, ◌^◌, ℕ, All, IfOk, OnOk, IfErr, IfSome, Err};
+ghost use Rattle.std.specs.Io.KnownBytes.{Keeps, IsAtEnd};
+ghost use Rattle.std.specs.String.{string_bytes};
+ghost use Rattle.counted_io.specs.Counts.{inner_of, failures};
+ghost use Rattle.lock_runner.specs.Seats.{IsSeatOf, AreSeatsOf};
+ghost use Rattle.lock_runner.specs.Opening.{IsMade};
+ghost use Rattle.thread_script.specs.Views.{read};
+ghost use Rattle.ctrie_commands.specs.Working.{IsUnused, HasWorked, HaveWorked, AreGathered};
+ghost use Rattle.ctrie_commands.specs.Threads.{with_sweeper, IsReportOf, IsThreadReport, HasThreadFault, AppendsThreadReport, AppendsThreadReportPart, IsOfThreadScript};
+
+use crate::reports::{report_of_record, tell_denied};
+use crate::working::Worker;
+use counted_io::{Counted, Fault, read_all, write_all};
+use history_text::Told;
+use lock_runner::{Between, Runner, Seat, Unfinished};
+use machine_model::Limits;
+use std::alloc::{AllocError, Global};
+use std::io::{Read, Write};
+use std::sync::Wait;
+use std::thread;
+use std::thread::Threads;
+use thread_script::{ThreadScript, read_thread_script};
+
+/// What one thread does: the calls that the lines name for the seat's actor, or for the last actor the steps
+/// of the sweep.
+fn work<R: Wait, B: Between>(
+    rt: &R,
+    alloc: Global,
+    runner: &Runner,
+    script: &ThreadScript,
+    between: &B,
+    seat: Seat,
+) -> Result<Worker, AllocError>
+    requires seat { IsSeatOf runner.now seat }
+    requires unused { IsUnused seat }
+    ensures { IfOk result (HasWorked (read script.now) seat) }
+{
+    let performs = seat.actor() <= script.limits.actors;
+    let mut worker = Worker {
+        seat,
+        denied: Vec::new(alloc),
+    };
+    if performs {
+        worker.perform_lines(rt, runner, &script.lines, between)?;
+    } else {
+        worker.sweep_lines(rt, runner, &script.lines)?;
+    }
+    Ok(worker)
+}
+
+/// A runner with a seat for each of the actors, and one more for the sweep.
+fn runner_of(alloc: Global, limits: Limits) -> Result<(Runner, Vec<Seat>), Fault>
+    requires { limits.actors ≤ 63 }
+    ensures made { IfOk result (λ made. IsMade (with_sweeper limits) (limits.actors + 1) made.0 made.1.items) }
+    ensures seats { IfOk result (λ made. AreSeatsOf made.0 made.1.items) }
+    ensures memory { IfErr result (λ fault. fault ≡ Fault.Memory) }
+{
+    let actors = limits.actors + 1;
+    // The limits that a script says are in range.
+    match Runner::new(alloc, Limits { actors, ..limits }, actors) {
+        Ok(made) => Ok(made),
+        Err(_) => Err(Fault::Memory),
+    }
+}
+
+/// Each seat's thread carries out the lines that are its actor's. Where no thread can be made, the caller does.
+fn work_all<R: Threads + Wait + Sync, B: Between + Sync>(
+    rt: &R,
+    alloc: Global,
+    runner: &Runner,
+    script: &ThreadScript,
+    between: &B,
+    seats: Vec<Seat>,
+) -> Result<Vec<Result<Worker, AllocError>>, AllocError>
+    requires seats { AreSeatsOf runner.now seats.items }
+    requires unused { All IsUnused seats.items }
+    ensures { IfOk result (λ results. HaveWorked (read script.now) seats.items results.items) }
+{
+    thread::map_vec(
+        rt,
+        seats,
+        &|seat: Seat| work(rt, alloc, runner, script, between, seat),
+    )
+}
+
+/// The seats, and the lines of their denials; unless a growth was refused to one.
+fn gathered(
+    alloc: Global,
+    results: Vec<Result<Worker, AllocError>>,
+) -> Result<(Vec<Seat>, String), AllocError>
+    ensures { IfOk result (λ got. AreGathered results.items got.0.items (string_bytes got.1)) }
+{
+    let mut seats = Vec::new(alloc);
+    let mut denied = String::new(alloc);
+    for result in results {
+        let worker = result?;
+        tell_denied(&mut denied, worker.seat.actor(), &worker.denied)?;
+        seats.push(worker.seat)?;
+    }
+    Ok((seats, denied))
+}
+
+/// The report of what threads made of the script.
+fn reported<R: Threads + Wait + Sync, B: Between + Sync>(
+    rt: &R,
+    alloc: Global,
+    script: &ThreadScript,
+    between: &B,
+) -> Result<String, Fault>
+    ensures report { IfOk result (λ text. IsReportOf (read script.now) (string_bytes text)) }
+    ensures memory { IfErr result (λ fault. fault ≡ Fault.Memory) }
+{
+    let (runner, seats) = runner_of(alloc, script.limits)?;
+    let results = work_all(rt, alloc, &runner, script, between, seats)?;
+    let (seats, denied) = gathered(alloc, results)?;
+    match runner.finish(seats) {
+        Ok(record) => Ok(report_of_record(alloc, &record, denied.as_str())?),
+        Err(Unfinished::Memory(_)) => Err(Fault::Memory),
+        // All seats came back.
+        Err(Unfinished::Missing(_, _)) => unreachable!(),
+    }
+}
+
+/// The report of what threads made of the script that the text is.
+fn carried_out<R: Threads + Wait + Sync, B: Between + Sync>(
+    rt: &R,
+    alloc: Global,
+    text: &[u8],
+    between: &B,
+) -> Result<String, Fault>
+    ensures report { IfOk result (λ report. IsThreadReport text.now (string_bytes report)) }
+    ensures faults { IfErr result (IsOfThreadScript text.now) }
+{
+    match read_thread_script(alloc, text) {
+        Ok(script) => reported(rt, alloc, &script, between),
+        Err(Told::Line(number, refusal)) => Err(Fault::Line(number, refusal)),
+        Err(Told::Memory) => Err(Fault::Memory),
+    }
+}
+
+/// Reads a script for threads to its end, carries it out, and writes the report of what came of it.
+///
+/// Each actor is a thread that performs the calls of its lines in their order, and one actor more takes the
+/// steps of the sweep. Where a thread can't be made, the caller does what it had to do. `between` is called
+/// between two steps of a call.
+pub fn run_threads<R: Threads + Wait + Sync, I: Read, W: Write, B: Between + Sync>(
+    rt: &R,
+    alloc: Global,
+    input: &mut Counted<I>,
+    output: &mut Counted<W>,
+    between: &B,
+) -> Result<(), Fault>
+    requires input_count { failures input.old < 2 ^ 63 }
+    requires output_count { failures output.old < 2 ^ 63 }
+
+    // What the reader had is a script without a fault, and just the report of a run was written in which
+    // the calls of each actor's lines were performed in their order, but for those that it tells as denied,
+    // and all steps of the sweep were taken, unless it tells one as denied.
+    ensures written { OnOk result (IfSome (I.remaining (inner_of input.old)) (λ text.
+        AppendsThreadReport (W.contents (inner_of output.old)) (W.contents (inner_of output.new)) text)) }
+    ensures all_read { OnOk result (IsAtEnd (I.remaining (inner_of input.new))) }
+
+    // What each fault tells.
+    ensures line { (number : ℕ) (refusal : _) → result ≡ Err (Fault.Line number refusal)
+        → IfSome (I.remaining (inner_of input.old)) (λ text. HasThreadFault text number refusal) }
+    ensures read { result ≡ Err Fault.Read → failures input.old < failures input.new }
+    ensures write { result ≡ Err Fault.Write → failures output.old < failures output.new }
+    ensures never_usage { result ≢ Err Fault.Usage }
+
+    // Nothing was written before a fault but one of writing, and before that a beginning of the report.
+    ensures silent { IfErr result (λ fault. fault ≢ Fault.Write →
+        Keeps (W.contents (inner_of output.old)) (W.contents (inner_of output.new))) }
+    ensures part { result ≡ Err Fault.Write → IfSome (I.remaining (inner_of input.old)) (λ text.
+        AppendsThreadReportPart (W.contents (inner_of output.old)) (W.contents (inner_of output.new)) text) }
+{
+    let text = read_all(alloc, input)?;
+    let report = carried_out(rt, alloc, text.as_slice(), between)?;
+    write_all(output, report.as_bytes())?;
+    Ok(())
+}

@@ -1,0 +1,25 @@
+use Rattle.std.proofs.Common.{◌≡◌, ℕ, ◌+◌, ◌-◌, ◌<◌, ◌≤◌, Bool, true, false, List, [], ◌∷◌, ◌++◌, length, map, set, get_or, slice_index, refl, sym, ap, ◌∙◌, subst, arith}
+use Rattle.std.proofs.lemmas.List.{get_or_read}
+use Rattle.slot_arena.specs.declared.refs.Ref.{Ref}
+use Rattle.slot_arena.specs.Refs.{slot_of}
+use Rattle.slot_arena.specs.Times.{times, other_slots}
+use Rattle.slot_arena.specs.Tallies.{naming}
+use Rattle.slot_arena.proofs.Times.{bit}
+use Rattle.epochs.specs.Rings.{Bags, IsRing, all_of}
+use Rattle.epochs.proofs.Bags.{naming_map, marked_there, member_below}
+use Rattle.epochs.proofs.Turns.{last_linked, entered_ring, below, before_linked, behind_linked, left_ring, turned_ring, first_none, first_some, new_ring}
+use Rattle.epochs.proofs.ring.Ring.first.Goals as goal
+
+pub returns-then-first-self-clause-first : goal.returns-then-first-self-clause-first
+returns-then-first-self-clause-first c = sym (ap (λ (b : Bags). b.oldest) c.self.view_is) ∙ first_none c.self.inside.next c.self.inside.back c.self.inside.is_in.items c.self.inside.size c.self.inside.first c.self.inside.second c.self.inside.third c.self.inside.len c.self.inside.oldest.items c.self.inside.middle.items c.self.inside.present.items c.self.invariant c.read-first.result c.read-first.ensures.link c.if-first-self.true
+
+pub overflow_cast-result : goal.overflow_cast-result
+overflow_cast-result c =
+    let found = first_some c.self.inside.next c.self.inside.back c.self.inside.is_in.items c.self.inside.size c.self.inside.first c.self.inside.second c.self.inside.third c.self.inside.len c.self.inside.oldest.items c.self.inside.middle.items c.self.inside.present.items c.self.invariant c.read-first.result c.read-first.ensures.link c.if-first-self.false in
+    let few = c.self.invariant.few in
+    omega arith
+
+pub returns-clause-first : goal.returns-clause-first
+returns-clause-first c =
+    let found = first_some c.self.inside.next c.self.inside.back c.self.inside.is_in.items c.self.inside.size c.self.inside.first c.self.inside.second c.self.inside.third c.self.inside.len c.self.inside.oldest.items c.self.inside.middle.items c.self.inside.present.items c.self.invariant c.read-first.result c.read-first.ensures.link c.if-first-self.false in
+    (found.0, found.1, sym (ap (λ (b : Bags). b.oldest) c.self.view_is) ∙ found.2, found.3, omega (arith, ap (λ (b : Bags). b.size) c.self.view_is))

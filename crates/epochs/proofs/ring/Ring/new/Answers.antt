@@ -1,0 +1,23 @@
+use Rattle.std.proofs.Common.{◌≡◌, ℕ, ◌+◌, ◌-◌, ◌<◌, ◌≤◌, Bool, true, false, List, [], ◌∷◌, ◌++◌, length, map, set, get_or, slice_index, refl, sym, ap, ◌∙◌, subst, replicate, arith, rules}
+use Rattle.std.proofs.lemmas.List.{get_or_read}
+use Rattle.slot_arena.specs.declared.refs.Ref.{Ref}
+use Rattle.slot_arena.specs.Refs.{slot_of}
+use Rattle.slot_arena.specs.Times.{times, other_slots}
+use Rattle.slot_arena.specs.Tallies.{naming}
+use Rattle.slot_arena.proofs.Times.{bit}
+use Rattle.epochs.specs.Rings.{Bags, IsRing, all_of}
+use Rattle.epochs.proofs.Bags.{naming_map, marked_there, member_below}
+use Rattle.epochs.proofs.Turns.{last_linked, entered_ring, below, before_linked, behind_linked, left_ring, turned_ring, first_none, first_some, new_ring}
+use Rattle.epochs.proofs.ring.Ring.new.Goals as goal
+
+pub invariant_of-result : goal.invariant_of-result
+invariant_of-result c =
+    let n : ℕ = c.args.size in
+    let marks : c.in_ok-vec.field-0.items ≡ replicate n false = search rules in
+    let next : List ℕ = c.in_ok-beginnings.field-0 in
+    let back : List ℕ = c.in_ok-beginnings-2.field-0 in
+    subst (λ ms. IsRing next back ms n n (n + 1) (n + 2) 0 c.new.result.items c.new-2.result.items c.new-3.result.items) (sym marks)
+    (subst (λ rs. IsRing next back (replicate n false) n n (n + 1) (n + 2) 0 rs c.new-2.result.items c.new-3.result.items) (sym c.new.ensures)
+    (subst (λ rs. IsRing next back (replicate n false) n n (n + 1) (n + 2) 0 [] rs c.new-3.result.items) (sym c.new-2.ensures)
+    (subst (λ rs. IsRing next back (replicate n false) n n (n + 1) (n + 2) 0 [] [] rs) (sym c.new-3.ensures)
+    (new_ring next back n c.requires c.in_ok-beginnings.ensures c.in_ok-beginnings-2.ensures))))

@@ -1,0 +1,4 @@
+pub mod Given
+pub mod Climbing
+pub mod Knowing
+pub mod Commits

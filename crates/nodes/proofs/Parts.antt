@@ -1,0 +1,27 @@
+-- Lists of references in parts, of which a node has room for 32.
+use Rattle.std.specs.Prelude.{◌≡◌, ℕ, ◌+◌, ◌-◌, ◌<◌, ◌≤◌, List, [], ◌∷◌, ◌++◌, length, take, drop, slice_set, remove}
+use Rattle.std.proofs.Common.{arith, sym, length-append, length-drop}
+use Rattle.std.proofs.lemmas.List.{take_all, append-nil, append_assoc, set_split}
+use Rattle.slot_arena.specs.declared.refs.Ref.{Ref}
+
+-- where there is room all stand
+pub whole : (rs : List Ref) → length rs ≤ 32 → take 32 rs ≡ rs
+whole rs room = take_all 32 rs room
+
+-- three lists, one added after the other
+pub three : (front middle back : List Ref) → length front + length middle + length back ≤ 32 → front ++ middle ++ back ≡ take 32 (front ++ middle ++ back)
+three front middle back room =
+    let all : length (front ++ middle ++ back) ≤ 32 = omega (arith, room, length-append (front ++ middle) back, length-append front middle) in
+    sym (whole (front ++ middle ++ back) all)
+
+-- the part of a list from a position on
+behind : (rs : List Ref) (i : ℕ) → take (length rs - i) (drop i rs) ≡ drop i rs
+behind rs i = take_all (length rs - i) (drop i rs) (omega (arith, length-drop i rs))
+
+-- another reference at a position, in three parts
+pub set_parts : (rs : List Ref) (i : ℕ) (r : Ref) → i < length rs → take i rs ++ r ∷ [] ++ take (length rs - (i + 1)) (drop (i + 1) rs) ≡ slice_set rs i r
+set_parts rs i r inside = grind (arith, behind rs (i + 1), set_split rs i r inside, append_assoc (take i rs) (r ∷ []) (drop (i + 1) rs))
+
+-- without a position, in three parts
+pub remove_parts : (rs : List Ref) (i : ℕ) → take i rs ++ [] ++ take (length rs - (i + 1)) (drop (i + 1) rs) ≡ remove rs i
+remove_parts rs i = grind (arith, behind rs (i + 1), append-nil (take i rs))

@@ -1,0 +1,56 @@
+-- Where an operation has its root from: it keeps it in a step, or its step gives it that of its handle.
+use Rattle.std.proofs.Common.{◌≡◌, Bool, false, ◌⊎◌, inl, inr, Some, refl, ap}
+use Rattle.slot_arena.specs.declared.refs.Ref.{Ref}
+use Rattle.slot_arena.specs.Heaps.{generation_at}
+use Rattle.machine_model.specs.declared.lines.Line.{Line}
+use Rattle.machine_model.specs.declared.lines.Line.TheVariants as line
+use Rattle.machine_model.specs.declared.operations.Operation.{Operation}
+use Rattle.machine_model.specs.declared.reading.After.{After}
+use Rattle.machine_model.specs.declared.reading.After.TheVariants.{Goes as Continues, Gives}
+use Rattle.machine_model.specs.declared.roots.Complete.{Complete}
+use Rattle.machine_model.specs.declared.roots.RootLine.{RootLine}
+use Rattle.machine_model.specs.declared.roots.RootLine.TheVariants as root
+use Rattle.machine_model.specs.declared.roots.RootWord.{RootWord}
+use Rattle.machine_model.specs.declared.roots.RootWord.TheVariants.{Plain, Offer}
+use Rattle.machine_model.specs.Calls.{handle_of}
+use Rattle.machine_model.specs.States.{State, word_at}
+use Rattle.machine_model.specs.Swapping.{root_after, after_root_word, after_completing, complete_after}
+use Rattle.machine_model.specs.Operations.{generation_from, given_root, line_after, after_root, from_root}
+use Rattle.memory_laws.specs.Laws.{is_end}
+
+-- ROOT gives the plain root of the word
+root_given : (state : State) (operation : Operation) (l : RootLine) (r : Ref) → root_after state.heap operation.access (word_at state (handle_of operation.call)) l ≡ Gives r →
+    word_at state (handle_of operation.call) ≡ Plain r
+root_given state operation root.Read r e = by (word_at state (handle_of operation.call)) e
+  where
+    by : (word : RootWord) → after_root_word word ≡ Gives r → word ≡ Plain r
+    by (Plain q) e = let same : q ≡ r = cc e in ap Plain same
+    by (Offer offer) e = let wrong : ⊥ = cc e in absurd wrong
+root_given state operation (root.Completing c) r e = absurd (by (complete_after state.heap operation.access (word_at state (handle_of operation.call)) c) e)
+  where
+    by : (a : After Complete Bool) → after_completing a ≡ Gives r → ⊥
+    by (Continues next) e = cc e
+    by (Gives done) e = cc e
+
+-- the step gives the operation the root of its handle, and leads below it
+pub record GetsRoot (state : State) (operation : Operation) (l : Line) : Type 0 where
+  pub root : Ref
+  pub word : word_at state (handle_of operation.call) ≡ Plain root
+  pub its : generation_from state operation l ≡ Some (generation_at state.heap root)
+  pub below : line_after state operation l ≡ from_root operation.call root
+  pub goes_on : is_end l ≡ false
+
+root_cases : (state : State) (operation : Operation) (l : RootLine) (a : After RootLine Ref) →
+    root_after state.heap operation.access (word_at state (handle_of operation.call)) l ≡ a → (generation_from state operation (line.Root l) ≡ operation.generation) ⊎ GetsRoot state operation (line.Root l)
+root_cases state operation l (Continues next) e = inl (ap (λ a. given_root state a operation.generation) e)
+root_cases state operation l (Gives r) e = inr (record {
+  root = r;
+  word = root_given state operation l r e;
+  its = ap (λ a. given_root state a operation.generation) e;
+  below = ap (after_root operation) e;
+  goes_on = refl;
+})
+
+pub root_or_same : (state : State) (operation : Operation) (l : Line) → (generation_from state operation l ≡ operation.generation) ⊎ GetsRoot state operation l
+root_or_same state operation (line.Root l) = root_cases state operation l _ refl
+root_or_same state operation l = inl refl

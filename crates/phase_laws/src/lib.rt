@@ -1,0 +1,2 @@
+//! In which phase of an operation it has its place in the order.
+#![tactic(auto)]

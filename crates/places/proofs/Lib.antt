@@ -1,0 +1,4 @@
+pub mod Comparing
+pub mod Rising
+pub mod Cuts
+pub mod Kept

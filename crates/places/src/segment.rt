@@ -1,0 +1,51 @@
+//! Places in the order in which they were written.
+
+ghost use Rattle.std.specs.Prelude.{◌≡◌, ◌+◌, ◌<◌, ◌≤◌, ◌++◌, ◌∷◌, [], OnOk, vec_len, vec_capacity};
+
+use crate::place::Place;
+use ctrie_base::Ticks;
+use std::alloc::{AllocError, Global};
+
+/// Places in the order in which they were written. The call that writes one counts one tick.
+#[derive(Drop)]
+pub(crate) struct Segment {
+    places: Vec<Place>,
+}
+
+impl Segment {
+    /// No places. It takes no memory.
+    pub(crate) fn new(alloc: Global) -> Segment
+        ensures { result.places.items ≡ [] }
+    {
+        Segment {
+            places: Vec::new(alloc),
+        }
+    }
+
+    /// Makes room for one place more.
+    pub(crate) fn room(&mut self) -> Result<(), AllocError>
+        ensures same { self.new.places.items ≡ self.old.places.items }
+        ensures room { OnOk result (vec_len self.new.places < vec_capacity self.new.places) }
+        ensures capacity { vec_capacity self.old.places ≤ vec_capacity self.new.places }
+    {
+        self.places.reserve(1)
+    }
+
+    /// Writes one place.
+    pub(crate) fn push(&mut self, place: Place, ticks: &mut Ticks)
+        requires { vec_len self.old.places < vec_capacity self.old.places }
+        ensures places { self.new.places.items ≡ self.old.places.items ++ place ∷ [] }
+        ensures capacity { vec_capacity self.new.places ≡ vec_capacity self.old.places }
+        ensures ticks { ticks.new.count ≡ ticks.old.count + 1 }
+    {
+        ticks.add();
+        self.places.push_reserved(place);
+    }
+
+    /// The places.
+    pub(crate) fn as_slice(&self) -> &[Place]
+        ensures { result.now ≡ self.now.places.items }
+    {
+        self.places.as_slice()
+    }
+}

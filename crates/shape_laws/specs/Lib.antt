@@ -1,0 +1,5 @@
+pub mod Sites
+pub mod LineSites
+pub mod SitesAt
+pub mod Shaped
+pub mod Laws

@@ -1,0 +1,83 @@
+-- A slot is made.
+use Rattle.std.proofs.Common.{◌≡◌, ℕ, zero, suc, ◌+◌, ◌-◌, ◌*◌, ◌<◌, ◌≤◌, ◌^◌, ◌==◌, Bool, true, false, cond, List, [], ◌∷◌, ◌++◌, length, get_or, set, slice_index, All, Option, Some, None, is_some, count_by, refl, sym, ap, ◌∙◌, subst, inl, inr, arith}
+use Rattle.std.proofs.lemmas.Bool.{cases_eq, cases_Bool, cases_lt, false≢true}
+use Rattle.std.proofs.lemmas.List.{get_or_past, get_or-set_same, get_or-set_other, length-set}
+use Rattle.std.proofs.lemmas.List.Elements.{All-nil, All-cons}
+use Rattle.std.proofs.lemmas.List.Sums.{sum_by-set, get_or-le-sum_by}
+use Rattle.slot_arena.specs.declared.refs.Ref.{Ref}
+use Rattle.slot_arena.specs.declared.nodes.Node.{Node}
+use Rattle.slot_arena.specs.declared.nodes.Prev.{Prev}
+use Rattle.slot_arena.specs.declared.nodes.Prev.TheVariants as prev
+use Rattle.slot_arena.specs.declared.nodes.Slot.{Slot}
+use Rattle.slot_arena.specs.Refs.{ref_to, slot_of, birth_of}
+use Rattle.slot_arena.specs.Heaps.{node_of, refs_of_node, refs_of_prev, refs_of_slot}
+use Rattle.slot_arena.specs.Times.{times, without}
+use Rattle.slot_arena.specs.Tallies.{naming}
+use Rattle.slot_arena.specs.Chains.{Chain}
+use Rattle.slot_arena.specs.Arenas.{has_birth}
+use Rattle.slot_arena.specs.Kept.{live, found, counted, IsKept}
+use Rattle.slot_arena.proofs.Times.{once, once_same, once_other, times-cons, times-append, times-without}
+use Rattle.slot_arena.proofs.Live.{live_times, dead_times, unnamed, one_live, live_within}
+use Rattle.slot_arena.proofs.Exact.{exact_live, exact_dead, part_live, part_counted}
+use Rattle.slot_arena.proofs.Changed.{found_set, live_here, live_there, dead_stays, exact_same, counted_none}
+use Rattle.slot_arena.proofs.Written.{used_set, each_set, not_used}
+
+-- the first free slot isn't in use
+pub first_unused : (slots : List (Option Slot)) (counts : List ℕ) (free : Chain) (used : ℕ) (outside : List Ref) → IsKept slots counts free used outside → (k : ℕ) (rest : List ℕ) →
+    free.slots ≡ k ∷ rest → get_or slots k None ≡ None
+first_unused slots counts free used outside kept k rest first = by_slot (get_or slots k None) refl
+  where
+    by_slot : (o : Option Slot) → get_or slots k None ≡ o → o ≡ None
+    by_slot None none = refl
+    by_slot (Some slot) some = absurd (omega (arith, kept.apart k (ap is_some some), ap (times k) first, times-cons k k rest, once_same k))
+
+module _
+    (slots : List (Option Slot)) (counts counts' : List ℕ) (free free' : Chain) (used : ℕ) (outside : List Ref) (kept : IsKept slots counts free used outside)
+    (k birth : ℕ) (node : Node) (first : free.slots ≡ k ∷ free'.slots) (size : free'.size ≡ free.size) (below : k < free.size) (once_only : times k free'.slots ≡ 0)
+    (sizes : length counts' ≡ length counts) (raised : (i : ℕ) → slice_index counts' i ≡ slice_index counts i + naming i (refs_of_node node))
+    (all : All (λ q. live slots q ≡ true) (refs_of_node node)) (few : length (refs_of_node node) ≤ 32)
+  where
+    abbrev made : Option Slot
+    made = Some (record { birth = birth; node = node; prev = prev.None })
+
+    within : k < length slots
+    within = let is = kept.chained in omega arith
+
+    empty : get_or slots k None ≡ None
+    empty = first_unused slots counts free used outside kept k free'.slots first
+
+    zero_there : slice_index counts' k ≡ 0
+    zero_there = omega (arith, raised k, kept.unused k empty, unnamed slots k (refs_of_node node) empty all)
+
+    refs_made : (r : Ref) → times r (refs_of_slot made) ≡ times r (refs_of_node node)
+    refs_made r = omega (arith, times-append r (refs_of_node node) [])
+
+    moved : (r : ℕ) → found (set slots k made) outside r + times r [] ≡ found slots outside r + times r (refs_of_node node)
+    moved r = omega (arith, found_set slots k made outside outside r within, refs_made r, ap (λ o. times r (refs_of_slot o)) empty)
+
+    exact : (r : ℕ) → found (set slots k made) outside r ≡ counted (set slots k made) counts' r
+    exact r = elim (cases_eq (slot_of r) k) [
+      | inl same ↦
+          dead_stays slots (set slots k made) counts counts' outside outside (refs_of_node node) [] kept.exact moved (λ i. omega (arith, raised i)) all (All-nil (λ (q : Ref). live slots q ≡ true)) r
+          (ap (λ i. has_birth (birth_of r) (get_or slots i None)) same ∙ ap (has_birth (birth_of r)) empty)
+          ∙ sym (counted_none (set slots k made) counts' r (ap (slice_index counts') same ∙ zero_there))
+      | inr other ↦
+          exact_same slots (set slots k made) counts counts' outside outside (refs_of_node node) [] kept.exact moved (λ i. omega (arith, raised i)) all (All-nil (λ (q : Ref). live slots q ≡ true)) r
+          (live_there slots k made r other)
+    ]
+
+    pub make_kept : IsKept (set slots k made) counts' free' (used + 1) outside
+    make_kept = record {
+      few = let is = kept.few in omega (arith, length-set slots k made);
+      sizes = let is = kept.sizes in omega (arith, length-set slots k made);
+      chained = let is = kept.chained in omega (arith, length-set slots k made);
+      exact = exact;
+      unused = each_set (λ i o. o ≡ None → slice_index counts' i ≡ 0) slots k made within (λ none. absurd (not_used _ none))
+          (λ i other none. omega (arith, raised i, kept.unused i none, unnamed slots i (refs_of_node node) none all));
+      apart = each_set (λ i o. is_some o ≡ true → times i free'.slots ≡ 0) slots k made within (λ some. once_only)
+          (λ i other some. omega (arith, kept.apart i some, ap (times i) first, times-cons i k free'.slots));
+      in_use = let was = ap (λ (o : Option Slot). cond {A = ℕ} (is_some o) 1 0) empty in let is = kept.in_use in omega (arith, used_set slots k made within);
+      all = let is = kept.all in omega (arith, length-set slots k made, ap length first);
+      narrow = each_set (λ i o. length (refs_of_node (node_of o)) ≤ 32) slots k made within few (λ i other. kept.narrow i);
+      held = kept.held;
+    }

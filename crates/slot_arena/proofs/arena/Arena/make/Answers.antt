@@ -1,0 +1,100 @@
+use Rattle.std.proofs.Common.{◌≡◌, ℕ, ◌+◌, ◌-◌, ◌*◌, ◌<◌, ◌≤◌, ◌^◌, ◌==◌, Bool, true, false, List, [], ◌∷◌, ◌++◌, length, get_or, set, slice_index, All, Option, Some, None, is_some, refl, sym, ap, ◌∙◌, subst, arith, eq-eqb}
+use Rattle.slot_arena.specs.declared.refs.Ref.{Ref}
+use Rattle.slot_arena.specs.declared.nodes.Slot.{Slot}
+use Rattle.slot_arena.specs.Refs.{ref_to, slot_of, birth_of}
+use Rattle.slot_arena.specs.Heaps.{Heap, node_of, prev_of, refs_of_node, refs_of_prev, refs_of_slot}
+use Rattle.slot_arena.specs.Times.{times, without}
+use Rattle.slot_arena.specs.Tallies.{Tally, naming, NotesZeros}
+use Rattle.slot_arena.specs.Chains.{Chain}
+use Rattle.slot_arena.specs.Arenas.{Contents, IsLive, NotesWaiting}
+use Rattle.slot_arena.specs.Kept.{live, found, counted, IsKept}
+use Rattle.slot_arena.proofs.Times.{once, once_same, times-cons, times-without}
+use Rattle.slot_arena.proofs.Live.{live_within, all_within}
+use Rattle.slot_arena.proofs.Exact.{count_found, exact_live, part_live, part_counted}
+use Rattle.slot_arena.proofs.Changed.{counts_small}
+use Rattle.slot_arena.proofs.Waiting.{born, notes_waiting}
+use Rattle.slot_arena.proofs.Reading.{live_seen, all_seen, slot_seen, used_seen, node_seen, prev_seen, taken_none, taken_first}
+use Rattle.slot_arena.proofs.Marks.{zeros_trans}
+use Rattle.slot_arena.proofs.Makes.{make_kept, first_unused}
+use Rattle.slot_arena.proofs.Written.{born_set, live_stays}
+use Rattle.slot_arena.proofs.Reading.{live_shown}
+use Rattle.slot_arena.proofs.Changed.{live_here}
+use Rattle.slot_arena.proofs.Live.{slot_of_ref, birth_of_ref}
+use Rattle.slot_arena.specs.declared.nodes.Prev.TheVariants as prev
+use Rattle.slot_arena.proofs.arena.Arena.make.Goals as goal
+
+pub returns-in_err-slot-clause-heap : goal.returns-in_err-slot-clause-heap
+returns-in_err-slot-clause-heap c =
+    let free = ap (λ (a : Contents). a.heap.free) c.self.view_is in
+    let heap = ap (λ (a : Contents). a.heap) c.self.view_is in
+    ap (λ f. record { slots = c.self.inside.cells; free = f; births = c.self.inside.births }) (c.in_err-slot.ensures.slots.1 ∙ sym c.in_err-slot.ensures.slots.0) ∙ heap
+    ∙ sym (taken_none c.args.self.now.heap c.args.node (sym free ∙ c.in_err-slot.ensures.slots.0))
+
+pub raise_all-requires-clause-within : goal.raise_all-requires-clause-within
+raise_all-requires-clause-within c =
+    let slots = ap (λ (a : Contents). a.heap.slots) c.self.view_is in
+    let all : All (λ q. live c.self.inside.cells q ≡ true) (refs_of_node c.args.node) = subst (λ s. All (λ q. live s q ≡ true) (refs_of_node c.args.node)) (sym slots) (all_seen c.args.self.now.heap (refs_of_node c.args.node) c.requires.live) in
+    subst (λ rs. All (λ r. slot_of r < length c.note.new.self.counts) rs) (sym c.refs_of.ensures.refs)
+    (all_within c.self.inside.cells (length c.note.new.self.counts) (refs_of_node c.args.node) (sym (ap length c.note.ensures.counts ∙ c.self.invariant.sizes)) all)
+
+pub raise_all-requires-clause-room : goal.raise_all-requires-clause-room
+raise_all-requires-clause-room c slot =
+    omega (
+      arith,
+      c.refs_of.ensures.few,
+      ap (λ cs. slice_index cs slot) c.note.ensures.counts,
+      counts_small c.self.inside.cells c.self.inside.tally.counts c.self.inside.free c.self.inside.used c.self.inside.outside.items c.self.invariant slot,
+    )
+
+pub invariant_of-self-2 : goal.invariant_of-self-2
+invariant_of-self-2 c =
+    let slots = ap (λ (a : Contents). a.heap.slots) c.self.view_is in
+    let all : All (λ q. live c.self.inside.cells q ≡ true) (refs_of_node c.args.node) = subst (λ s. All (λ q. live s q ≡ true) (refs_of_node c.args.node)) (sym slots) (all_seen c.args.self.now.heap (refs_of_node c.args.node) c.requires.live) in
+    subst (λ s. IsKept s c.raise_all.new.self.counts c.take.new.self (c.self.inside.used + 1) c.self.inside.outside.items) (sym c.fill.ensures)
+    (make_kept c.self.inside.cells c.self.inside.tally.counts c.raise_all.new.self.counts c.self.inside.free c.take.new.self c.self.inside.used c.self.inside.outside.items c.self.invariant
+    c.in_ok-slot.slot (c.self.inside.births + 1) c.args.node c.in_ok-slot.ensures.slots.0 c.in_ok-slot.ensures.size c.in_ok-slot.ensures.slots.1 c.in_ok-slot.ensures.slots.2
+    (c.raise_all.ensures.size ∙ ap length c.note.ensures.counts)
+    (λ i. omega (arith, c.raise_all.ensures.counts i, ap (λ cs. slice_index cs i) c.note.ensures.counts, ap (naming i) c.refs_of.ensures.refs))
+    all (omega (arith, c.refs_of.ensures.few, ap length c.refs_of.ensures.refs)))
+
+pub returns-clause-heap : goal.returns-clause-heap
+returns-clause-heap c =
+    let free = ap (λ (a : Contents). a.heap.free) c.self.view_is in
+    let slots = ap (λ (a : Contents). a.heap.slots) c.self.view_is in
+    let births = ap (λ (a : Contents). a.heap.births) c.self.view_is in
+    ap (λ s. record { slots = s; free = c.take.new.self.slots; births = c.self.inside.births + 1 }) (c.fill.ensures
+    ∙ ap (λ s. set s c.in_ok-slot.slot (Some (record { birth = c.self.inside.births + 1; node = c.args.node; prev = prev.None }))) slots)
+    ∙ ap (λ b. record { slots = set c.args.self.now.heap.slots c.in_ok-slot.slot (Some (record { birth = b + 1; node = c.args.node; prev = prev.None })); free = c.take.new.self.slots; births = b + 1 }) births
+    ∙ sym (taken_first c.args.self.now.heap c.args.node c.in_ok-slot.slot c.take.new.self.slots (sym free ∙ c.in_ok-slot.ensures.slots.0))
+
+pub returns-clause-noted : goal.returns-clause-noted
+returns-clause-noted c =
+    let was : Contents = record { heap = record { slots = c.self.inside.cells; free = c.self.inside.free.slots; births = c.self.inside.births }; outside = c.self.inside.outside.items; noted = c.self.inside.tally.noted; ticks = c.self.inside.ticks.count } in
+    let now : Contents = record { heap = record { slots = c.fill.new.self; free = c.take.new.self.slots; births = c.self.inside.births + 1 }; outside = c.self.inside.outside.items; noted = c.raise_all.new.self.noted; ticks = c.take.new.ticks.count } in
+    let zeros = zeros_trans c.self.inside.tally c.note.new.self c.raise_all.new.self c.note.ensures.others c.raise_all.ensures.noted in
+    subst (λ (a : Contents). NotesWaiting a now) c.self.view_is
+    (notes_waiting was now c.self.inside.tally.counts c.raise_all.new.self.counts c.self.inside.free c.take.new.self c.self.inside.used (c.self.inside.used + 1) c.self.invariant (invariant_of-self-2 c) zeros
+    (λ k none. born_set c.self.inside.cells c.in_ok-slot.slot k _ (λ same. let step = (c.raise_all.ensures.noted k none).0 in let there = c.note.ensures.noted in omega (arith, ap (λ i. times i c.note.new.self.noted) same))
+    ∙ sym (ap (λ s. born (get_or s k None)) c.fill.ensures)))
+
+pub returns-clause-stay : goal.returns-clause-stay
+returns-clause-stay c q has =
+    let slots = ap (λ (a : Contents). a.heap.slots) c.self.view_is in
+    let was : live c.self.inside.cells q ≡ true = ap (λ s. live s q) slots ∙ live_seen c.args.self.now.heap q has in
+    let empty = first_unused c.self.inside.cells c.self.inside.tally.counts c.self.inside.free c.self.inside.used c.self.inside.outside.items c.self.invariant c.in_ok-slot.slot c.take.new.self.slots c.in_ok-slot.ensures.slots.0 in
+    live_shown (record { slots = c.fill.new.self; free = c.take.new.self.slots; births = c.self.inside.births + 1 }) q
+    (ap (λ s. live s q) c.fill.ensures ∙ live_stays c.self.inside.cells c.in_ok-slot.slot _ q was empty)
+
+pub returns-in_err-slot-clause-stay : goal.returns-in_err-slot-clause-stay
+returns-in_err-slot-clause-stay c q has = subst (λ (h : Heap). IsLive h q) (sym (returns-in_err-slot-clause-heap c ∙ taken_none c.args.self.now.heap c.args.node (sym (ap (λ (a : Contents). a.heap.free) c.self.view_is) ∙ c.in_err-slot.ensures.slots.0))) has
+
+pub returns-clause-lives : goal.returns-clause-lives
+returns-clause-lives c =
+    let k : ℕ = c.in_ok-slot.slot in
+    let b : ℕ = c.self.inside.births + 1 in
+    let small : k < 2 ^ 16 = let few = c.self.invariant.few in let is = c.self.invariant.chained in let below = c.in_ok-slot.ensures.slots.1 in omega arith in
+    let within : k < length c.self.inside.cells = let is = c.self.invariant.chained in let below = c.in_ok-slot.ensures.slots.1 in omega arith in
+    live_shown (record { slots = c.fill.new.self; free = c.take.new.self.slots; births = b }) c.new.result
+    (ap (λ r. live c.fill.new.self r) c.new.ensures ∙ ap (λ s. live s (ref_to b k)) c.fill.ensures
+    ∙ live_here c.self.inside.cells k (Some (record { birth = b; node = c.args.node; prev = prev.None })) (ref_to b k) within (slot_of_ref b k small)
+    ∙ eq-eqb b (birth_of (ref_to b k)) (sym (birth_of_ref b k small)))

@@ -1,0 +1,14 @@
+-- A chain through links: each link leads to the next slot of the chain, and the last one to the end.
+use Rattle.std.specs.Prelude.{◌≡◌, ℕ, ◌<◌, List, [], ◌∷◌, slice_index}
+use Rattle.slot_arena.specs.Times.{times}
+
+pub record Chain : Type 0 where
+  -- the slots of the chain, the first one first
+  pub slots : List ℕ
+  -- slots are below this number
+  pub size : ℕ
+
+-- from this link the chain leads through these slots, each once, to the end
+abbrev pub LeadsTo : List ℕ → ℕ → ℕ → List ℕ → Type 0
+LeadsTo links end from [] = slice_index links from ≡ end
+LeadsTo links end from (slot ∷ slots) = (slice_index links from ≡ slot) × (slot < end) × (times slot slots ≡ 0) × LeadsTo links end slot slots

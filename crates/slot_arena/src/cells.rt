@@ -1,0 +1,131 @@
+//! What stands in the slots.
+
+ghost use Rattle.std.specs.Prelude.{◌≡◌, ◌<◌, length, replicate, slice_index_or, slice_set, option_map, IsSome, Some, None, IfOk};
+ghost use Rattle.slot_arena.specs.Heaps.{node_of, prev_of, with_main_word, main_changed, prev_changed};
+ghost use Rattle.slot_arena.specs.Cells.{birth_of_slot};
+
+use crate::nodes::{Node, Prev, Slot};
+use crate::refs::Ref;
+use std::alloc::{AllocError, Global};
+use std::marker::Model;
+
+/// What stands in the slots, part by part. A slot without a birth isn't in use, and what stands in it
+/// doesn't matter.
+#[derive(Drop)]
+pub(crate) struct Cells {
+    births: Vec<u64>,
+    nodes: Vec<Node>,
+    prevs: Vec<Prev>,
+}
+
+impl Model for Cells {
+    ghost use Rattle.std.specs.Prelude.{◌≡◌, List, Option, length};
+    ghost use Rattle.slot_arena.specs.declared.nodes.Slot.{Slot};
+    ghost use Rattle.slot_arena.specs.Cells.{slots_from};
+
+    ghost Value = { List (Option Slot) };
+
+    ghost view = { λ c. slots_from c.births.items c.nodes.items c.prevs.items };
+
+    ghost invariant = { λ c. (length c.nodes.items ≡ length c.births.items) × (length c.prevs.items ≡ length c.births.items) };
+}
+
+impl Cells {
+    /// So many slots, none in use.
+    pub(crate) fn new(alloc: Global, slots: usize) -> Result<Cells, AllocError>
+        ensures { IfOk result (λ cells. cells ≡ replicate slots None) }
+    {
+        Ok(Cells {
+            births: vec![in alloc; 0; slots]?,
+            nodes: unused_nodes(alloc, slots)?,
+            prevs: vec![in alloc; Prev::None; slots]?,
+        })
+    }
+
+    /// How many slots there are.
+    pub(crate) fn len(&self) -> usize
+        ensures { result ≡ length self.now }
+    {
+        self.births.len()
+    }
+
+    /// The birth of what stands in a slot, 0 where it isn't in use.
+    pub(crate) fn birth(&self, slot: u16) -> u64
+        requires { slot < length self.now }
+        ensures birth { result ≡ birth_of_slot (slice_index_or self.now slot None) }
+        ensures unused { result ≡ 0 → slice_index_or self.now slot None ≡ None }
+    {
+        self.births[slot as usize]
+    }
+
+    /// The node that stands in a slot.
+    pub(crate) fn node(&self, slot: u16) -> &Node
+        requires { IsSome (slice_index_or self.now slot None) }
+        ensures { result.now ≡ node_of (slice_index_or self.now slot None) }
+    {
+        &self.nodes[slot as usize]
+    }
+
+    /// The `prev` word that stands in a slot.
+    pub(crate) fn prev(&self, slot: u16) -> Prev
+        requires { IsSome (slice_index_or self.now slot None) }
+        ensures { result ≡ prev_of (slice_index_or self.now slot None) }
+    {
+        self.prevs[slot as usize]
+    }
+
+    /// Puts a node into a slot, under a birth.
+    pub(crate) fn fill(&mut self, slot: u16, birth: u64, node: Node)
+        requires within { slot < length self.old }
+        requires born { 0 < birth }
+        ensures { self.new ≡ slice_set self.old slot (Some (record { birth = birth; node = node; prev = Prev.None })) }
+    {
+        self.births[slot as usize] = birth;
+        self.nodes[slot as usize] = node;
+        self.prevs[slot as usize] = Prev::None;
+    }
+
+    /// Changes the main word of an indirection.
+    pub(crate) fn set_main(&mut self, slot: u16, main: Ref)
+        requires { slot < length self.old }
+        ensures { self.new ≡ slice_set self.old slot (option_map (main_changed main) (slice_index_or self.old slot None)) }
+    {
+        set_main_word(&mut self.nodes[slot as usize], main);
+    }
+
+    /// Changes the `prev` word of a main node.
+    pub(crate) fn set_prev(&mut self, slot: u16, prev: Prev)
+        requires { slot < length self.old }
+        ensures { self.new ≡ slice_set self.old slot (option_map (prev_changed prev) (slice_index_or self.old slot None)) }
+    {
+        self.prevs[slot as usize] = prev;
+    }
+
+    /// Takes a slot out of use.
+    pub(crate) fn clear(&mut self, slot: u16)
+        requires { slot < length self.old }
+        ensures { self.new ≡ slice_set self.old slot None }
+    {
+        self.births[slot as usize] = 0;
+    }
+}
+
+/// Changes the main word of an indirection.
+fn set_main_word(node: &mut Node, word: Ref)
+    ensures { node.new ≡ with_main_word word node.old }
+{
+    if let Node::Indirection { main, .. } = node {
+        *main = word;
+    }
+}
+
+/// So many nodes, for slots that aren't in use.
+fn unused_nodes(alloc: Global, count: usize) -> Result<Vec<Node>, AllocError>
+    ensures { IfOk result (λ nodes. length nodes.items ≡ count) }
+{
+    let mut nodes = Vec::with_capacity(alloc, count)?;
+    for _ in 0..count {
+        nodes.push(Node::Single { key: 0, value: 0 })?;
+    }
+    Ok(nodes)
+}

@@ -1,0 +1,82 @@
+//! The free slots, as a chain through them.
+
+ghost use Rattle.std.specs.Prelude.{◌≡◌, ℕ, ◌+◌, ◌<◌, ◌≤◌, [], ◌∷◌, IfOk, MatchOption};
+ghost use Rattle.std.specs.List.{range_with_len};
+ghost use Rattle.slot_arena.specs.Times.{times};
+
+use crate::links::Links;
+use crate::traces::Trace;
+use ctrie_base::Ticks;
+use std::alloc::{AllocError, Global};
+use std::marker::Model;
+
+/// The free slots, the next one first: a link for each slot, and behind them the end, whose link leads
+/// to the first one.
+#[derive(Drop)]
+pub(crate) struct FreeSlots {
+    links: Links,
+    end: u32,
+    slots: Trace,
+}
+
+impl Model for FreeSlots {
+    ghost use Rattle.std.specs.Prelude.{◌≡◌, ◌+◌, ◌≤◌, ℕ, length};
+    ghost use Rattle.slot_arena.specs.Chains.{Chain, LeadsTo};
+
+    ghost Value = { Chain };
+
+    ghost view = { λ f. record { slots = f.slots.items; size = f.end } };
+
+    ghost invariant = { λ f. LeadsTo f.links f.end f.end f.slots.items × (length f.links ≡ f.end + 1) × (f.end ≤ 65536) };
+}
+
+impl FreeSlots {
+    /// The slots from 0 on, so many.
+    pub(crate) fn new(alloc: Global, slots: u32) -> Result<FreeSlots, AllocError>
+        requires { slots ≤ 65536 }
+        ensures { IfOk result (λ free. free ≡ record { slots = range_with_len 0 slots; size = slots }) }
+    {
+        let mut ticks = Ticks::new();
+        let mut links = Links::new(alloc, slots as usize + 1)?;
+        for slot in 0..slots {
+            links.write(slot as usize, slot + 1, &mut ticks);
+        }
+        Ok(FreeSlots {
+            links,
+            end: slots,
+            slots: Trace::numbers_below(&slots),
+        })
+    }
+
+    /// Takes the first one.
+    pub(crate) fn take(&mut self, ticks: &mut Ticks) -> Option<u16>
+        ensures slots { MatchOption result ((self.old.slots ≡ []) × (self.new.slots ≡ [])) (λ slot. (self.old.slots ≡ slot ∷ self.new.slots) × (slot < self.old.size) × (times slot self.new.slots ≡ 0)) }
+        ensures size { self.new.size ≡ self.old.size }
+        ensures ticks { ticks.new.count ≤ ticks.old.count + 3 }
+    {
+        let end = self.end as usize;
+        let first = self.links.read(end, ticks);
+        if first == self.end {
+            return None;
+        }
+        let next = self.links.read(first as usize, ticks);
+        self.links.write(end, next, ticks);
+        self.slots = Trace::rest(&self.slots);
+        Some(first as u16)
+    }
+
+    /// Puts a slot in front.
+    pub(crate) fn put(&mut self, slot: u16, ticks: &mut Ticks)
+        requires within { slot < self.old.size }
+        requires apart { times slot self.old.slots ≡ 0 }
+        ensures slots { self.new.slots ≡ slot ∷ self.old.slots }
+        ensures size { self.new.size ≡ self.old.size }
+        ensures ticks { ticks.new.count ≤ ticks.old.count + 3 }
+    {
+        let end = self.end as usize;
+        let first = self.links.read(end, ticks);
+        self.links.write(slot as usize, first, ticks);
+        self.links.write(end, slot as u32, ticks);
+        self.slots = Trace::with_number(&self.slots, &slot);
+    }
+}

@@ -1,0 +1,135 @@
+//! The counts of references, by slot.
+
+ghost use Rattle.std.specs.Prelude.{◌≡◌, ℕ, ◌+◌, ◌-◌, ◌<◌, ◌≤◌, ◌^◌, [], ◌∷◌, ◌++◌, length, replicate, slice_index, slice_set, All, IfOk, MatchOption};
+ghost use Rattle.slot_arena.specs.Refs.{slot_of};
+ghost use Rattle.slot_arena.specs.Times.{times};
+ghost use Rattle.slot_arena.specs.Tallies.{naming, NotesZeros};
+
+use crate::refs::Ref;
+use std::alloc::{AllocError, Global};
+use std::marker::Model;
+
+/// How many references each slot has, and the slots whose count reached or left zero, each once.
+#[derive(Drop)]
+pub(crate) struct Tally {
+    counts: Vec<u32>,
+    noted: Vec<u16>,
+    /// Whether the slot is noted, by slot: so the list never lacks room.
+    is_noted: Vec<bool>,
+}
+
+impl Model for Tally {
+    ghost use Rattle.std.specs.Prelude.{◌≡◌, ◌≤◌, ℕ, List, length, vec_capacity};
+    ghost use Rattle.slot_arena.specs.Tallies.{Tally as Tallied, AreMarks};
+
+    ghost Value = { Tallied };
+
+    ghost view = { λ t. record { counts = t.counts.items; noted = t.noted.items } };
+
+    ghost invariant = { λ t. AreMarks t.noted.items t.is_noted.items × (length t.is_noted.items ≡ length t.counts.items) × (length t.counts.items ≤ vec_capacity t.noted) };
+}
+
+impl Tally {
+    /// So many slots, none with a reference.
+    pub(crate) fn new(alloc: Global, slots: usize) -> Result<Tally, AllocError>
+        ensures { IfOk result (λ tally. tally ≡ record { counts = replicate slots 0; noted = [] }) }
+    {
+        Ok(Tally {
+            counts: vec![in alloc; 0; slots]?,
+            noted: Vec::with_capacity(alloc, slots)?,
+            is_noted: vec![in alloc; false; slots]?,
+        })
+    }
+
+    /// The count of a slot.
+    pub(crate) fn count(&self, slot: u16) -> u32
+        requires { slot < length self.now.counts }
+        ensures { result ≡ slice_index self.now.counts slot }
+    {
+        self.counts[slot as usize]
+    }
+
+    /// Notes a slot.
+    pub(crate) fn note(&mut self, slot: u16)
+        requires { slot < length self.old.counts }
+        ensures counts { self.new.counts ≡ self.old.counts }
+        ensures noted { 0 < times slot self.new.noted }
+        ensures others { NotesZeros self.old self.new }
+    {
+        if !self.is_noted[slot as usize] {
+            self.is_noted[slot as usize] = true;
+            self.noted.push_reserved(slot);
+        }
+    }
+
+    /// How many slots are noted.
+    pub(crate) fn noted_len(&self) -> usize
+        ensures noted { result ≡ length self.now.noted }
+        ensures few { result ≤ length self.now.counts }
+    {
+        let _ = &self.is_noted;
+        self.noted.len()
+    }
+
+    /// Takes a noted slot out of the notes.
+    pub(crate) fn take_noted(&mut self) -> Option<u16>
+        ensures counts { self.new.counts ≡ self.old.counts }
+        ensures noted { MatchOption result ((self.old.noted ≡ []) × (self.new.noted ≡ [])) (λ slot. (self.old.noted ≡ self.new.noted ++ slot ∷ []) × (times slot self.new.noted ≡ 0) × (slot < length self.new.counts)) }
+    {
+        let slot = self.noted.pop()?;
+        self.is_noted[slot as usize] = false;
+        Some(slot)
+    }
+
+    /// Counts one reference more to a slot.
+    pub(crate) fn raise(&mut self, slot: u16)
+        requires within { slot < length self.old.counts }
+        requires room { slice_index self.old.counts slot + 1 < 2 ^ 32 }
+        ensures counts { self.new.counts ≡ slice_set self.old.counts slot (slice_index self.old.counts slot + 1) }
+        ensures noted { NotesZeros self.old self.new }
+    {
+        if self.counts[slot as usize] == 0 {
+            self.note(slot);
+        }
+        self.counts[slot as usize] += 1;
+    }
+
+    /// Counts one reference less to a slot.
+    pub(crate) fn lower(&mut self, slot: u16)
+        requires within { slot < length self.old.counts }
+        requires some { 0 < slice_index self.old.counts slot }
+        ensures counts { self.new.counts ≡ slice_set self.old.counts slot (slice_index self.old.counts slot - 1) }
+        ensures noted { NotesZeros self.old self.new }
+    {
+        if self.counts[slot as usize] == 1 {
+            self.note(slot);
+        }
+        self.counts[slot as usize] -= 1;
+    }
+
+    /// Counts each of these references one more to the slot that it names.
+    pub(crate) fn raise_all(&mut self, refs: &[Ref])
+        requires within { All (λ r. slot_of r < length self.old.counts) refs.now }
+        requires room { (slot : ℕ) → slice_index self.old.counts slot + length refs.now < 2 ^ 32 }
+        ensures size { length self.new.counts ≡ length self.old.counts }
+        ensures counts { (slot : ℕ) → slice_index self.new.counts slot ≡ slice_index self.old.counts slot + naming slot refs.now }
+        ensures noted { NotesZeros self.old self.new }
+    {
+        for one in refs {
+            self.raise(one.slot());
+        }
+    }
+
+    /// Counts each of these references one less to the slot that it names.
+    pub(crate) fn lower_all(&mut self, refs: &[Ref])
+        requires within { All (λ r. slot_of r < length self.old.counts) refs.now }
+        requires some { (slot : ℕ) → naming slot refs.now ≤ slice_index self.old.counts slot }
+        ensures size { length self.new.counts ≡ length self.old.counts }
+        ensures counts { (slot : ℕ) → slice_index self.new.counts slot + naming slot refs.now ≡ slice_index self.old.counts slot }
+        ensures noted { NotesZeros self.old self.new }
+    {
+        for one in refs {
+            self.lower(one.slot());
+        }
+    }
+}

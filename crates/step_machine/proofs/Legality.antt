@@ -1,0 +1,93 @@
+-- The legal order of a machine, from the laws.
+use Rattle.std.specs.Prelude.{◌≡◌, ℕ, List, ◌++◌, Option, Some, None, Result, Ok, Err, IfOk, OnOk, IsSome, Vec, Bool, false}
+use Rattle.std.specs.FinMap as map
+use Rattle.std.proofs.Common.{refl, sym, ap, subst, ◌∙◌, inl, inr}
+use Rattle.std.specs.declared.alloc.Global.{Global}
+use Rattle.ctrie_base.specs.Hashes.{hash_of}
+use Rattle.ctrie_base.specs.declared.refusals.Refusal.{Refusal}
+use Rattle.ctrie_base.specs.declared.refusals.Refusal.TheVariants as refuse
+use Rattle.history.specs.declared.calls.Call.{Call}
+use Rattle.history.specs.declared.replies.Reply.{Reply}
+use Rattle.history.specs.Worlds.{HandleMap, HandleState}
+use Rattle.history.specs.Orders.{IsLegal}
+use Rattle.machine_model.specs.declared.roots.Root.{Root}
+use Rattle.machine_model.specs.declared.steps.Step.TheVariants as step
+use Rattle.machine_model.specs.States.{State, root_at}
+use Rattle.machine_model.specs.Orders.{order_of}
+use Rattle.machine_model.specs.Contents.{content_at}
+use Rattle.machine_model.specs.Keys.{KeysFit}
+use Rattle.machine_model.specs.Machine.{AreLimits, next, denial_of, begin_denial, begin_unless, is_busy, run}
+use Rattle.order_laws.specs.Laws.{Names, ShowsContents, IsExplained}
+use Rattle.legal_order.specs.Laws.{AloneItActs, RanAlone, Does}
+use Rattle.step_machine.specs.Machines.{Taken, state_of, with_step}
+use Rattle.step_machine.specs.Callers.{going_on, go_limit, Resumes, Completes, CompletesUnless}
+use Rattle.step_machine.specs.declared.records.Record.{Record}
+use Rattle.step_machine.specs.Records.{IsRecordOf}
+use Rattle.step_machine.specs.Legality.{IsLegalFor, IsLegalRecord, IsInOrder, ActedAlone}
+use Rattle.step_machine.proofs.Telling.{Tells, tells}
+
+module _ (machine : Taken) (explained : IsExplained machine.limits (state_of machine)) where
+  pub legal : (order : List ℕ) → order ≡ order_of (state_of machine) → IsLegalFor machine order
+  legal order is = subst (IsLegalFor machine) (sym is) (explained.0, explained.1)
+
+  pub if_legal : (result : Result (Vec ℕ Global) Refusal) → IfOk result (λ order. order.items ≡ order_of (state_of machine)) → IfOk result (λ order. IsLegalFor machine order.items)
+  if_legal (Ok order) is = legal order.items is
+  if_legal (Err why) is = tt
+
+  in_order : (handle : ℕ) (pairs : List (ℕ × ℕ)) (o : Option Root) → root_at (state_of machine) handle ≡ o → IsSome o → pairs ≡ content_at (state_of machine) handle → IsInOrder machine handle pairs
+  in_order handle pairs None is_open some is = cc some
+  in_order handle pairs (Some root) is_open some is =
+      let (world, explains, shows) = explained in
+      let (m, at, same) = subst (λ o. Names o (content_at (state_of machine) handle) (map.get world handle)) is_open (shows handle) in
+      (world, explains, (root.access, m, at, same ∙ sym is))
+
+  pub if_in_order : (handle : ℕ) (result : Result (Vec (ℕ × ℕ) Global) Refusal) → IfOk result (λ pairs. pairs.items ≡ content_at (state_of machine) handle) →
+      OnOk result (IsSome (root_at (state_of machine) handle)) → IfOk result (λ pairs. IsInOrder machine handle pairs.items)
+  if_in_order handle (Ok pairs) is is_open = in_order handle pairs.items (root_at (state_of machine) handle) refl is_open is
+  if_in_order handle (Err why) is is_open = tt
+
+-- ---- a record
+
+record_legal : (machine : Taken) → IsExplained machine.limits (state_of machine) → (made : Record) → IsRecordOf machine made → IsLegalRecord made
+record_legal machine explained made is =
+    subst (λ sizes. IsLegal (hash_of sizes.hash) made.events.items made.order.items) (sym is.sizes)
+    (subst (λ events. IsLegal (hash_of machine.limits.hash) events made.order.items) (sym is.history) (legal machine explained made.order.items is.order))
+
+pub if_record_legal : (machine : Taken) → IsExplained machine.limits (state_of machine) → (result : Result Record Refusal) → IfOk result (IsRecordOf machine) → IfOk result IsLegalRecord
+if_record_legal machine explained (Ok made) is = record_legal machine explained made is
+if_record_legal machine explained (Err why) is = tt
+
+-- ---- a call that runs alone
+
+taken_begin : (state : State) (actor : ℕ) (call : Call) (denial : Option Refusal) → denial ≡ None → (o : _) × (after : State) × (begin_unless state actor call denial ≡ Ok (o, after))
+taken_begin state actor call None e = (_, _, refl)
+taken_begin state actor call (Some refusal) e = cc e
+
+module _ (law : AloneItActs) (before after : Taken) (actor : ℕ) (call : Call) (sizes : AreLimits before.limits) (keys : KeysFit after.steps) (rest : is_busy (state_of before) ≡ false) where
+  acted_by : (answer : Reply) → Tells before after actor call answer → ActedAlone (Ok (Some answer)) before call after
+  acted_by answer told =
+      let led = told.led in
+      let same : state_of after ≡ run before.limits (before.steps ++ led.more) = ap (λ l. run l after.steps) led.limits ∙ ap (run before.limits) led.steps in
+      let alone : RanAlone (state_of before) (run before.limits (before.steps ++ led.more)) told.id actor call told.opens answer = record { rest = rest; told = sym (ap (λ (s : State). s.events) same) ∙ led.events } in
+      let acts = law before.limits before.steps led.more told.id actor call told.opens answer sizes (subst KeysFit led.steps keys) alone in
+      subst (λ s. (id : ℕ) × (opens : Option ℕ) × (world next : HandleMap) × ShowsContents world (state_of before) × ShowsContents next s
+      × Does (hash_of before.limits.hash) (state_of before) s id call opens answer world next) (sym same)
+      (told.id, told.opens, acts.0, acts.1, acts.2, acts.3, acts.4)
+
+  goes_on : (answer : Reply) → begin_denial (state_of before) actor call ≡ None → Resumes (Ok (Some answer)) (with_step before (step.Begin actor call)) actor after →
+      ActedAlone (Ok (Some answer)) before call after
+  unfolding next
+  goes_on answer d goes =
+      let (o, state, is) = taken_begin (state_of before) actor call (begin_denial (state_of before) actor call) d in
+      acted_by answer (tells before after actor call answer goes o state is)
+
+  by_denial : (denial : Option Refusal) (answer : Reply) → begin_denial (state_of before) actor call ≡ denial → CompletesUnless denial (Ok (Some answer)) before actor call after →
+      ActedAlone (Ok (Some answer)) before call after
+  by_denial (Some refusal) answer d c = cc c.0
+  by_denial None answer d (inl memory) = cc memory.0
+  by_denial None answer d (inr goes) = goes_on answer d goes
+
+  pub acted : (result : Result (Option Reply) Refusal) → Completes result before actor call after → ActedAlone result before call after
+  acted (Ok (Some answer)) c = by_denial (begin_denial (state_of before) actor call) answer refl c
+  acted (Ok None) c = tt
+  acted (Err why) c = tt

@@ -1,0 +1,91 @@
+-- From when on a READ counts for a path, and that what a line knows of its path stays while others move.
+use Rattle.std.proofs.Common.{◌≡◌, ℕ, suc, ◌≤◌, Bool, ap, arith}
+use Rattle.history.specs.declared.calls.Access.{Access}
+use Rattle.slot_arena.specs.declared.refs.Ref.{Ref}
+use Rattle.machine_model.specs.declared.finding.KeyLine.TheVariants as key
+use Rattle.machine_model.specs.declared.lines.Purpose.TheVariants as purpose
+use Rattle.machine_model.specs.declared.lines.Line.{Line}
+use Rattle.machine_model.specs.declared.lines.Line.TheVariants as line
+use Rattle.machine_model.specs.declared.operations.Operation.{Operation}
+use Rattle.machine_model.specs.declared.reading.After.{After}
+use Rattle.machine_model.specs.declared.reading.After.TheVariants.{Goes, Gives}
+use Rattle.machine_model.specs.declared.reading.ReadLine.{ReadLine}
+use Rattle.machine_model.specs.declared.reading.ReadLine.TheVariants as read
+use Rattle.machine_model.specs.declared.roots.Complete.{Complete}
+use Rattle.machine_model.specs.declared.roots.RootLine.{RootLine}
+use Rattle.machine_model.specs.declared.roots.RootLine.TheVariants as root
+use Rattle.machine_model.specs.declared.roots.RootWord.{RootWord}
+use Rattle.machine_model.specs.declared.roots.RootWord.TheVariants.{Plain, Offer}
+use Rattle.machine_model.specs.Calls.{handle_of}
+use Rattle.machine_model.specs.States.{State, word_at}
+use Rattle.machine_model.specs.Reading.{at_indirection}
+use Rattle.machine_model.specs.Swapping.{root_after, after_root_word, after_completing, complete_after}
+use Rattle.deciding_laws.proofs.Words.{counts_at}
+use Rattle.content_laws.specs.Tries.{Trie}
+use Rattle.trie_laws.proofs.Routes.{since, LineRoute, route_later}
+
+-- ---- from when on a READ counts
+
+pub counts_since : (l : ReadLine) (t b : ℕ) → b ≤ t → (since t b l ≤ counts_at l t b) × (counts_at l t b ≤ t)
+counts_since read.Main t b le = (omega arith, omega arith)
+counts_since (read.Restore m p) t b le = (omega arith, omega arith)
+counts_since (read.Prev m) t b le = (omega arith, omega arith)
+counts_since (read.AskRoot m p) t b le = (omega arith, omega arith)
+counts_since (read.Abort m p offer) t b le = (omega arith, omega arith)
+counts_since (read.Decide m p told) t b le = (omega arith, omega arith)
+
+pub since_next : (l : ReadLine) (t b c : ℕ) → c ≤ b → b ≤ t → c ≤ since (suc t) b l
+since_next read.Main t b c le within = omega arith
+since_next (read.Restore m p) t b c le within = omega arith
+since_next (read.Prev m) t b c le within = omega arith
+since_next (read.AskRoot m p) t b c le within = omega arith
+since_next (read.Abort m p offer) t b c le within = omega arith
+since_next (read.Decide m p told) t b c le within = omega arith
+
+pub since_later : (l : ReadLine) (t b : ℕ) → since t b l ≤ since (suc t) b l
+since_later read.Main t b = omega arith
+since_later (read.Restore m p) t b = omega arith
+since_later (read.Prev m) t b = omega arith
+since_later (read.AskRoot m p) t b = omega arith
+since_later (read.Abort m p offer) t b = omega arith
+since_later (read.Decide m p told) t b = omega arith
+
+pub given_read : (i : Ref) (out : After ReadLine Ref) (m : Ref) → at_indirection i out ≡ Gives m → out ≡ Gives m
+given_read i (Gives x) m e = cc
+given_read i (Goes l) m e = let wrong : ⊥ = cc in absurd wrong
+
+-- what ROOT gives is the plain root of the word
+pub root_given : (state : State) (operation : Operation) (l : RootLine) (r : Ref) → root_after state.heap operation.access (word_at state (handle_of operation.call)) l ≡ Gives r →
+    word_at state (handle_of operation.call) ≡ Plain r
+root_given state operation root.Read r e = by_word (word_at state (handle_of operation.call)) e
+  where
+    by_word : (word : RootWord) → after_root_word word ≡ Gives r → word ≡ Plain r
+    by_word (Plain q) e = let same : q ≡ r = cc e in ap Plain same
+    by_word (Offer offer) e = let wrong : ⊥ = cc e in absurd wrong
+root_given state operation (root.Completing c) r e = absurd (by_end (complete_after state.heap operation.access (word_at state (handle_of operation.call)) c) e)
+  where
+    by_end : (a : After Complete Bool) → after_completing a ≡ Gives r → ⊥
+    by_end (Goes next) e = cc e
+    by_end (Gives done) e = cc e
+
+-- ---- while others move
+
+pub later : (trie : Trie) (access : Access) (g q t b mu : ℕ) (l : Line) → LineRoute trie access g q t b mu l → LineRoute trie access g q (suc t) b mu l
+later trie access g q t b mu (line.Key (key.Read p r)) h = (route_later trie access g q (since t b r.line) (since (suc t) b r.line) p (since_later r.line t b) h.0, h.1)
+later trie access g q t b mu (line.Key (key.Main p main)) h = record { past = omega (arith, h.past); route = h.route; given = h.given }
+later trie access g q t b mu (line.Key (key.Entry p main position)) h = record { past = omega (arith, h.past); route = h.route; given = h.given }
+later trie access g q t b mu (line.Key (key.Listed p main position)) h = record { past = omega (arith, h.past); route = h.route; given = h.given }
+later trie access g q t b mu (line.Key (key.Sibling p main position former)) h = record { past = omega (arith, h.past); route = h.route; given = h.given }
+later trie access g q t b mu (line.Build l) h = route_later trie access g q t (suc t) _ (omega arith) h
+later trie access g q t b mu (line.Renew l) h = route_later trie access g q t (suc t) _ (omega arith) h
+later trie access g q t b mu (line.Swap (purpose.Update p former) s) h = route_later trie access g q t (suc t) p (omega arith) h
+later trie access g q t b mu (line.Swap (purpose.Renew p) s) h = route_later trie access g q t (suc t) p (omega arith) h
+later trie access g q t b mu (line.Swap purpose.Clean s) h = tt
+later trie access g q t b mu (line.Swap (purpose.Climb c) s) h = tt
+later trie access g q t b mu (line.Root l) h = tt
+later trie access g q t b mu (line.Clean l) h = tt
+later trie access g q t b mu (line.Climb l) h = tt
+later trie access g q t b mu (line.Copy l) h = tt
+later trie access g q t b mu (line.Walk l) h = tt
+later trie access g q t b mu (line.End answer) h = tt
+later trie access g q t b mu line.Impossible h = tt

@@ -1,0 +1,122 @@
+-- What the layers below show, in the words in which it is taken here.
+use Rattle.std.specs.Prelude.{ℕ, suc, ◌<◌, ◌≤◌, ◌^◌}
+use Rattle.std.proofs.Common.{refl, ap, arith, ◌∙◌}
+use Rattle.slot_arena.specs.declared.refs.Ref.{Ref}
+use Rattle.machine_model.specs.declared.lines.Line.{Line}
+use Rattle.machine_model.specs.declared.lines.Line.TheVariants as line
+use Rattle.machine_model.specs.declared.lines.Purpose.{Purpose}
+use Rattle.machine_model.specs.declared.lines.Purpose.TheVariants as purpose
+use Rattle.machine_model.specs.declared.operations.Operation.{Operation}
+use Rattle.machine_model.specs.declared.reading.SwapLine.TheVariants as swap
+use Rattle.machine_model.specs.declared.reading.SwapLine.TheVariants.{Deciding}
+use Rattle.machine_model.specs.declared.repairs.CleanLine.TheVariants as clean
+use Rattle.machine_model.specs.declared.repairs.RenewLine.TheVariants as renew
+use Rattle.machine_model.specs.declared.steps.Limits.{Limits}
+use Rattle.machine_model.specs.declared.steps.Step.{Step}
+use Rattle.machine_model.specs.Calls.{key_of}
+use Rattle.machine_model.specs.States.{State, root_of}
+use Rattle.machine_model.proofs.Grown.{node_under}
+use Rattle.machine_model.proofs.Times.{IsRun}
+use Rattle.deciding_laws.specs.Deciding.{IsNoSwap}
+use Rattle.content_laws.specs.Repairing.{IsRepaired}
+use Rattle.generation_laws.specs.Laws.{root_generation}
+use Rattle.order_laws.specs.Facts.{Runs}
+use Rattle.line_laws.specs.Given.{ReadsBelow, GaveBelow}
+use Rattle.line_laws.specs.Commits.{KnowsFresh, assigned_at}
+use Rattle.line_laws.proofs.RepairMore.{repair_more}
+use Rattle.falling_laws.specs.Falling as falling
+use Rattle.falling_laws.specs.Falling.{WasGiven}
+use Rattle.falling_laws.proofs.Final.{repairs_are_given}
+use Rattle.opening_laws.proofs.RootOf.{roots_are_one}
+use Rattle.shape_laws.specs.Sites.{depth_of_run}
+use Rattle.shape_laws.specs.SitesAt.{TakesSteps, StepsFit}
+use Rattle.shape_laws.proofs.SitesAt.{lines_have_sites, updates_have_sites}
+use Rattle.trie_laws.specs.Below.{IsRepairing, RepairsAreKnown, SitesOfUpdates, RootsAreKept}
+
+-- ---- repairs
+
+same_below : (l : Line) → ReadsBelow l → falling.ReadsBelow l
+same_below (line.Renew (renew.Read path main done r)) b = tt
+same_below (line.Renew (renew.Entry path main done)) b = absurd b
+same_below (line.Renew (renew.Link path main done child)) b = absurd b
+same_below (line.Renew (renew.Branch path main done)) b = absurd b
+same_below (line.Clean (clean.Child path main done r)) b = tt
+same_below (line.Clean (clean.Read path r)) b = absurd b
+same_below (line.Clean (clean.Main path main)) b = absurd b
+same_below (line.Clean (clean.Entry path main done)) b = absurd b
+same_below (line.Clean (clean.Tomb path main done child)) b = absurd b
+same_below (line.Clean (clean.Contracted path main done)) b = absurd b
+same_below (line.Root l) b = absurd b
+same_below (line.Key l) b = absurd b
+same_below (line.Build l) b = absurd b
+same_below (line.Swap why s) b = absurd b
+same_below (line.Climb l) b = absurd b
+same_below (line.Copy l) b = absurd b
+same_below (line.Walk l) b = absurd b
+same_below (line.End answer) b = absurd b
+same_below line.Impossible b = absurd b
+
+below_no_swap : (l : Line) → ReadsBelow l → IsNoSwap l
+below_no_swap (line.Swap why s) b = absurd b
+below_no_swap (line.Root l) b = tt
+below_no_swap (line.Key l) b = tt
+below_no_swap (line.Build l) b = tt
+below_no_swap (line.Climb l) b = tt
+below_no_swap (line.Copy l) b = tt
+below_no_swap (line.Walk l) b = tt
+below_no_swap (line.End answer) b = tt
+below_no_swap (line.Renew l) b = tt
+below_no_swap (line.Clean l) b = tt
+below_no_swap line.Impossible b = tt
+
+module _ (limits : Limits) (states : ℕ → State) (last : ℕ) (run : IsRun limits states last) where
+  -- what a repair's READ gave was given
+  was_given : (t actor id start : ℕ) (i m : Ref) → t ≤ last → GaveBelow states last t actor id start i m → WasGiven states last start t i m
+  was_given t actor id start i m within g =
+      let given = repairs_are_given limits states last run g.at (omega (arith, g.past, within)) actor g.operation start i m (record {
+        outcome = g.outcome;
+        moves = g.moves;
+        runs = g.runs;
+        no_swap = below_no_swap g.operation.line g.below;
+        read = g.read;
+        reads = g.reads;
+        of = g.of;
+        gives = g.gives;
+      }) g.its (same_below g.operation.line g.below) in
+      ((given.0.0, omega (arith, given.0.1, g.past), given.0.2), given.1)
+
+  pub repairs_are_known : RepairsAreKnown limits states last
+  repairs_are_known t s within own repairing = by own.why repairing own.knows
+    where
+      more : (i m : Ref) → GaveBelow states last t own.actor own.owner.id own.start i m → WasGiven states last own.start t i m
+      more i m g = was_given t own.actor own.owner.id own.start i m (omega (arith, within)) g
+
+      by : (why : Purpose) → IsRepairing why → KnowsFresh limits states last (assigned_at states last) t own.actor own.start own.owner own.replaced own.fresh why →
+          IsRepaired (node_under states last) (assigned_at states last own.start t) (WasGiven states last own.start t) own.start own.replaced own.fresh
+      by (purpose.Renew path) r k =
+          repair_more (node_under states last) (assigned_at states last own.start t) (GaveBelow states last t own.actor own.owner.id own.start) (WasGiven states last own.start t) more own.start
+          (line.Swap (purpose.Renew path) (record { indirection = own.indirection; replaced = own.replaced; fresh = own.fresh; line = swap.Check })) k
+      by purpose.Clean r k =
+          repair_more (node_under states last) (assigned_at states last own.start t) (GaveBelow states last t own.actor own.owner.id own.start) (WasGiven states last own.start t) more own.start
+          (line.Swap purpose.Clean (record { indirection = own.indirection; replaced = own.replaced; fresh = own.fresh; line = swap.Check })) k
+      by (purpose.Update path former) r k = absurd r
+      by (purpose.Climb c) r k = absurd r
+
+  -- ---- roots
+
+  pub roots_are_kept : RootsAreKept states last
+  roots_are_kept t handle root within e =
+      (roots_are_one limits states last run t handle (root_of root.word) (root_generation (states t) root) within (record { root = root; is_open = e; is = refl; its = refl })).0
+
+  -- ---- sites
+
+  module _ (steps : ℕ → Step) (takes : TakesSteps states steps last) (keys : StepsFit steps last) where
+    pub sites_of_updates : SitesOfUpdates limits states last (depth_of_run states steps last)
+    sites_of_updates t s within own path former why =
+        let site = updates_have_sites limits states steps last run takes keys t (omega (arith, within)) own.actor own.owner own.runs path former
+        (record { indirection = own.indirection; replaced = own.replaced; fresh = own.fresh; line = Deciding own.deciding })
+        (own.swaps ∙ ap (λ w. line.Swap w (record { indirection = own.indirection; replaced = own.replaced; fresh = own.fresh; line = Deciding own.deciding })) why) in
+        (site.1, omega (arith, site.1, site.2))
+
+    pub keys_of_operations : (t : ℕ) → t ≤ last → (k : ℕ) (operation : Operation) → Runs (states t) k operation → key_of operation.call < 2 ^ 64
+    keys_of_operations t within k operation runs = (lines_have_sites limits states steps last run takes keys t within (suc k) operation runs).2

@@ -1,0 +1,4 @@
+pub mod Below
+pub mod Paths
+pub mod Laws
+pub mod OfLists

@@ -1,0 +1,4 @@
+pub mod Orders
+pub mod Machines
+pub mod Runs
+pub mod Laws
