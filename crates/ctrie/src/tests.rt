@@ -46,7 +46,10 @@ fn reads_words(rt: HostRuntime) -> Result<(), Fail> {
 fn misses_a_file(rt: HostRuntime) {
     assert_eq!(rt; check_file(&rt, "no-such.history"), Err(Fault::Read));
     assert_eq!(rt; run_file(&rt, "no-such.script"), Err(Fault::Read));
-    assert_eq!(rt; run_file_by_threads(&rt, "no-such.script"), Err(Fault::Read));
+    assert_eq!(rt;
+        run_file_by_threads(&rt, "no-such.script"),
+        Err(Fault::Read)
+    );
 }
 
 #[test]

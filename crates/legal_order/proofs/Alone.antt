@@ -31,7 +31,6 @@ use Rattle.order_laws.proofs.AllBooks.{books_at}
 use Rattle.order_laws.proofs.Origins.{apart_at}
 use Rattle.order_laws.proofs.Members.{step_within}
 use Rattle.legal_order.specs.Laws.{RanAlone, Does, refused as does_nothing, acts as does_act}
-
 use Rattle.legal_order.proofs.Longer.{same_states, last_longer}
 use Rattle.legal_order.proofs.AtRest.{all_ended}
 use Rattle.legal_order.proofs.SortedLast.{ids_last}
@@ -131,7 +130,7 @@ module _ (limits : Limits) (steps more : List Step) (ok : AreLimits limits) (id 
           let all = states_of limits (steps ++ more) in
           let within = last_longer limits steps more in
           let contained : Contains (all (last_of limits (steps ++ more))).places p =
-              contains_among _ p (subst (λ (s : State). Among p s.places) (sym (run_ends limits (steps ++ more))) (subst (Among p) (sym grown.1) (among_right before.places grown.0 p a))) in
+          contains_among _ p (subst (λ (s : State). Among p s.places) (sym (run_ends limits (steps ++ more))) (subst (Among p) (sym grown.1) (among_right before.places grown.0 p a))) in
           let (k, operation, runs, same) = facts1.runs_behind p contained in
           let told = (books_at limits all (last_of limits (steps ++ more)) (run_is limits (steps ++ more) ok) (suc p.step) (omega (arith, low, within))).told k operation runs in
           let begun : HasBegun (all (suc p.step)).events p.id = subst (HasBegun (all (suc p.step)).events) same (told.place, record { actor = suc k; call = operation.call; opens = operation.opens }, told.begins) in

@@ -124,11 +124,10 @@ module _ (history : List Event) (id actor : ℕ) (call : Call) (opens : Option �
   -- ---- what is recalled of the others
 
   recalls_on : (x : ℕ) (one : Answered) → HasBegun history x → Recalls history x one → Recalls longer x one
-  recalls_on x one begun_x ((place, told, at, same_call, same_opens), answers) =
-      (
-        (place, told, get_before history (Begin id actor call opens ∷ End id answer ∷ []) place (Begin x told.actor told.call told.opens) at, same_call, same_opens),
-        λ other ended. elim (ended_back x other ended) [ inl old ↦ answers other old | inr bad ↦ absurd (another x begun_x bad) ],
-      )
+  recalls_on x one begun_x ((place, told, at, same_call, same_opens), answers) = (
+    (place, told, get_before history (Begin id actor call opens ∷ End id answer ∷ []) place (Begin x told.actor told.call told.opens) at, same_call, same_opens),
+    λ other ended. elim (ended_back x other ended) [ inl old ↦ answers other old | inr bad ↦ absurd (another x begun_x bad) ],
+  )
 
   pub each_on : (ids : List ℕ) (calls : List Answered) → ((i x : ℕ) → OrderedAt ids i x → HasBegun history x) → RecallsEach history ids calls → RecallsEach longer ids calls
   each_on [] [] all r = r
@@ -141,7 +140,7 @@ module _ (history : List Event) (id actor : ℕ) (call : Call) (opens : Option �
   its_own one ((place, told, at, same_call, same_opens), answers) =
       let here : place ≡ length history = begins_once longer place (length history) id told its well at begins_here in
       let event : Begin id actor call opens ≡ Begin id told.actor told.call told.opens =
-          same_Some (Begin id actor call opens) (Begin id told.actor told.call told.opens) (sym begins_here ∙ ap (slice_get longer) (sym here) ∙ at) in
+      same_Some (Begin id actor call opens) (Begin id told.actor told.call told.opens) (sym begins_here ∙ ap (slice_get longer) (sym here) ∙ at) in
       let calls : call ≡ told.call = cc event in
       let opened : opens ≡ told.opens = cc event in
       (sym same_call ∙ sym calls, sym same_opens ∙ sym opened, answers answer ends_here)
@@ -152,8 +151,8 @@ module _ (history : List Event) (id actor : ℕ) (call : Call) (opens : Option �
   acts_last hash order world next old new =
       let l = last_of hash longer order id new.replayed.0 first_world next new.replayed.1 new.replayed.2 in
       let same : l.between ≡ world =
-          one_world hash longer order l.calls old.replayed.0 first_world l.between world well l.recalls l.replays
-          (each_on order old.replayed.0 (λ i x at. old.candidate.has_begun i x at) old.replayed.1) old.replayed.2 in
+      one_world hash longer order l.calls old.replayed.0 first_world l.between world well l.recalls l.replays
+      (each_on order old.replayed.0 (λ i x at. old.candidate.has_begun i x at) old.replayed.1) old.replayed.2 in
       let own = its_own l.one l.recalled in
       subst (λ w. Effect hash w call opens answer next) same
       (subst (λ c. Effect hash l.between c opens answer next) own.0 (subst (λ h. Effect hash l.between l.one.call h answer next) own.1 (subst (λ a. Effect hash l.between l.one.call l.one.opens a next) own.2 l.acts)))
