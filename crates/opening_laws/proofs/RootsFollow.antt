@@ -33,7 +33,7 @@ use Rattle.opening_laws.proofs.RootOf.{root_in_use}
 use Rattle.opening_laws.proofs.SwapState.{old_stands, successor_stands, second_stands}
 
 -- the logical main node of an indirection in use is in use
-logical_in_use : (state : State) → IsSafe state → (r : Ref) → IsInUse state.heap r → is_link (node_at state.heap r) ≡ true → IsInUse state.heap (logical_main state.heap r)
+pub logical_in_use : (state : State) → IsSafe state → (r : Ref) → IsInUse state.heap r → is_link (node_at state.heap r) ≡ true → IsInUse state.heap (logical_main state.heap r)
 logical_in_use state S r used l = over_main (prev_at state.heap (main_at state.heap r)) refl
   where
     by_node : (n : Node) → is_link n ≡ true → AllHold (IsInUse state.heap) state.heap (node_wants n) → IsInUse state.heap (main_of n)

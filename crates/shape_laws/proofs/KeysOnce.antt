@@ -61,7 +61,7 @@ module _ (node : Ref → Node) (main : Ref → Ref) where
   bare_pairs (suc levels) r = bare_pairs_of (pairs_from (λ q. bare (node q)) main levels) (pairs_from node main levels) (bare_pairs levels) r (node r)
 
 -- the shape doesn't ask for times and roots
-same_shape : (trie : Trie) (last : ℕ) (main : ℕ → Ref → Ref) (root : ℕ → Ref) (i : Ref) (n : Node) → IsShaped trie i n → IsShaped (record trie { last = last; main = main; root = root }) i n
+pub same_shape : (trie : Trie) (last : ℕ) (main : ℕ → Ref → Ref) (root : ℕ → Ref) (i : Ref) (n : Node) → IsShaped trie i n → IsShaped (record trie { last = last; main = main; root = root }) i n
 same_shape trie last main root i n (branch b es places is has shallow in_place led children) =
     branch b es places is has shallow in_place led (λ x g child w at its. let c = children x g child w at its in record { deeper = c.deeper; led = c.led; older = c.older })
 same_shape trie last main root i n (list ss is are most deep one_hash) = list ss is are most deep one_hash
