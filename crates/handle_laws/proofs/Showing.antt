@@ -11,7 +11,6 @@ use Rattle.machine_model.specs.declared.roots.Root.{Root}
 use Rattle.machine_model.specs.declared.steps.Limits.{Limits}
 use Rattle.machine_model.specs.declared.steps.Step.{Step}
 use Rattle.machine_model.specs.Contents.{content_at, pairs_at, pairs_below}
-use Rattle.machine_model.specs.Contents.{most_levels as levels_of_content}
 use Rattle.machine_model.specs.Pairs.{by_key}
 use Rattle.machine_model.specs.States.{State, root_at, root_of, word_of}
 use Rattle.machine_model.proofs.Grown.{node_under}
@@ -24,7 +23,6 @@ use Rattle.memory_laws.proofs.Safety.{IsSafe}
 use Rattle.memory_laws.proofs.Standing.{in_any_slot}
 use Rattle.memory_laws.proofs.Under as Under
 use Rattle.memory_laws.proofs.WordMoves.{grown_in_use}
-use Rattle.deciding_laws.proofs.Known.{is_link}
 use Rattle.content_laws.specs.Pairs.{pairs_of, pairs_from}
 use Rattle.content_laws.specs.Runs.{main_at}
 use Rattle.content_laws.specs.Steps.{IsTrie}
@@ -66,9 +64,6 @@ bare_pairs_at below heap r (Single k v) = refl
 bare_pairs_at below heap r (Tomb s) = refl
 bare_pairs_at below heap r (Listed ss) = refl
 
-linked : (n : Node) → is_indirection n ≡ true → is_link n ≡ true
-linked n e = grind arith
-
 module _ (limits : Limits) (states : ℕ → State) (steps : ℕ → Step) (last : ℕ) (run : IsRun limits states last) (takes : TakesSteps states steps last) (keys : StepsFit steps last)
     (t : ℕ) (within : t ≤ last) where
   abbrev trie : Trie
@@ -91,10 +86,10 @@ module _ (limits : Limits) (states : ℕ → State) (steps : ℕ → Step) (last
   link_same r used = sym (bare_link (node_at heap r)) ∙ ap is_indirection (node_same r used) ∙ bare_link (node_under states last r)
 
   pub main_same : (r : Ref) → IsInUse heap r → is_indirection (node_under states last r) ≡ true → logical_main heap r ≡ main_at states last t r
-  main_same r used link = main_there limits states last run t r within used (linked (node_under states last r) link)
+  main_same r used link = main_there limits states last run t r within used link
 
   pub main_used : (r : Ref) → IsInUse heap r → is_indirection (node_under states last r) ≡ true → IsInUse heap (logical_main heap r)
-  main_used r used link = logical_in_use (states t) safe r used (linked (node_at heap r) (link_same r used ∙ link))
+  main_used r used link = logical_in_use (states t) safe r used (link_same r used ∙ link)
 
   -- the entries of a main node
   pub entries_same : (r : Ref) → IsInUse heap r → is_indirection (node_under states last r) ≡ true →
@@ -178,6 +173,6 @@ module _ (limits : Limits) (states : ℕ → State) (steps : ℕ → Step) (last
 
     pub content_shown : content_at (states t) handle ≡ entries (map_of trie.keys (value_below trie t r))
     content_shown =
-        ap (λ o. by_key (pairs_below levels_of_content heap (root_of (word_of o)))) at ∙ ap by_key (pairs_shown levels_of_content r root_used)
+        ap (λ o. by_key (pairs_below most_levels heap (root_of (word_of o)))) at ∙ ap by_key (pairs_shown most_levels r root_used)
         ∙ reached_entries now is_trie_now 0 (link_node (node_under states last r) root_link).0 (link_node (node_under states last r) root_link).1 (link_node (node_under states last r) root_link).2
         ∙ ap entries content_now
