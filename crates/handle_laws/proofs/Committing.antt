@@ -11,11 +11,12 @@ use Rattle.machine_model.specs.declared.reading.SwapLine.TheVariants.{Deciding}
 use Rattle.machine_model.specs.declared.roots.Descriptor.{Descriptor}
 use Rattle.machine_model.specs.declared.steps.Limits.{Limits}
 use Rattle.machine_model.specs.declared.steps.Step.{Step}
+use Rattle.machine_model.specs.declared.steps.Step.TheVariants as step
 use Rattle.machine_model.specs.States.{State, operation_of}
 use Rattle.order_laws.specs.Facts.{CarriesOut, committed_of, committed_by_step}
 use Rattle.order_laws.proofs.Changes.{complete_commits}
 use Rattle.line_laws.specs.Commits.{OwnCommit, CommitsNone, begins, goes, sweeps, assigned_at}
-use Rattle.handle_laws.specs.Touching.{CommitsUpdate}
+use Rattle.handle_laws.specs.Touching.{CommitsUpdate, CommitsRepair}
 
 module _ (limits : Limits) (states : ℕ → State) (last : ℕ) (t : ℕ) (s : Step) where
   abbrev Own : Type 0
@@ -88,6 +89,36 @@ module _ (limits : Limits) (states : ℕ → State) (last : ℕ) (t : ℕ) (s : 
 
       same_swap : its_swap own ≡ u.swap
       same_swap = let e = same_line in cc
+
+  -- ---- repairs
+
+  -- whose node is committed by a repair commits no update
+  pub no_owner : (own : Own) (r : CommitsRepair (states t) s) (path : List Ref) (former : Option ℕ) → own.why ≡ purpose.Update path former → ⊥
+  no_owner own r path former e = r.repairs path former (sym same_purpose ∙ e)
+    where
+      same_fresh : r.swap.fresh ≡ own.fresh
+      same_fresh = same_Some _ _ (sym r.commits ∙ own_committed own)
+
+      same_actor : r.actor ≡ own.actor
+      same_actor =
+          own.alone r.actor r.operation r.swap.indirection r.swap.replaced r.swap.line r.runs
+          (r.why, r.swaps ∙ ap (λ f. line.Swap r.why (record { indirection = r.swap.indirection; replaced = r.swap.replaced; fresh = f; line = r.swap.line })) same_fresh)
+
+      same_owner : own.owner ≡ r.operation
+      same_owner = same_Some _ _ (sym own.runs ∙ ap (operation_of (states t)) (sym same_actor) ∙ r.runs)
+
+      same_line : line.Swap own.why (its_swap own) ≡ line.Swap r.why r.swap
+      same_line = sym own.swaps ∙ ap (λ (x : Operation). x.line) same_owner ∙ r.swaps
+
+      same_purpose : own.why ≡ r.why
+      same_purpose = let e = same_line in cc
+
+  -- who commits nothing commits no repair, nor does who begins
+  pub no_repair : CommitsNone (states t) s → CommitsRepair (states t) s → ⊥
+  no_repair none r = none-some r.swap.fresh (sym (none_committed none) ∙ r.commits)
+
+  pub begins_none : (actor : ℕ) (call : Call) → s ≡ step.Begin actor call → CommitsRepair (states t) s → ⊥
+  begins_none actor call e r = none-some r.swap.fresh (sym (ap (committed_by_step (states t)) e) ∙ r.commits)
 
   -- who carries an offer out commits nothing
   pub carries_nothing : (handle : ℕ) (offer : Descriptor) → CarriesOut (states t) s handle offer → Own → ⊥

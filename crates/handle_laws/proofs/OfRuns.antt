@@ -3,7 +3,7 @@ use Rattle.std.proofs.Common.{ℕ, suc, ◌⊎◌, inl, inr, List, Option, Some,
 use Rattle.history.specs.declared.calls.Access.{Access}
 use Rattle.history.specs.declared.calls.Access.TheVariants.{Writable, ReadOnly}
 use Rattle.history.specs.declared.calls.Call.{Call}
-use Rattle.history.specs.declared.calls.Call.TheVariants.{Clear, Snapshot, Freeze}
+use Rattle.history.specs.declared.calls.Call.TheVariants.{Clear, Snapshot, Freeze, Close}
 use Rattle.machine_model.specs.declared.steps.Limits.{Limits}
 use Rattle.machine_model.specs.declared.steps.Outcome.{Outcome}
 use Rattle.machine_model.specs.declared.steps.Step.{Step}
@@ -11,14 +11,16 @@ use Rattle.machine_model.specs.Contents.{content_at}
 use Rattle.machine_model.specs.States.{State}
 use Rattle.machine_model.proofs.Moves.{Moves}
 use Rattle.machine_model.proofs.Times.{IsRun}
+use Rattle.line_laws.specs.Commits.{OwnCommit, MainStep, assigned_at}
+use Rattle.line_laws.specs.Commits.{stays as stays_all, changes as changes_one}
 use Rattle.opening_laws.specs.Openings.{Brings}
 use Rattle.opening_laws.proofs.Brings.{swaps_bring}
 use Rattle.shape_laws.specs.Shaped.{trie_of_run}
 use Rattle.shape_laws.specs.SitesAt.{TakesSteps, StepsFit}
-use Rattle.handle_laws.specs.Laws.{Holds, UntouchedStay, UpdatesChange, ClearsEmpty, ClosesTake, OpenedCopy}
+use Rattle.handle_laws.specs.Laws.{Holds, UntouchedStay, UpdatesChange, RepairsStay, ClearsEmpty, ClosesTake, OpenedCopy}
 use Rattle.handle_laws.specs.Touching.{CarriesOutCall, Touches, updates, clears, closes}
-use Rattle.handle_laws.proofs.Committing.{commits_own}
-use Rattle.handle_laws.proofs.Kept.{values_stay, content_later}
+use Rattle.handle_laws.proofs.Committing.{commits_own, owned, no_owner, no_repair, begins_none, carries_nothing}
+use Rattle.handle_laws.proofs.Kept.{main_step, values_stay, content_later}
 use Rattle.handle_laws.proofs.Roots.{HandleStep, keeps, changes_root, is_closed, handle_step, swap_of, IsOpened, opened_step, closed_handle}
 use Rattle.handle_laws.proofs.Showing.{content_shown}
 use Rattle.handle_laws.proofs.Swapping.{its_call, carries_call, brings, copies, copied_root, cleared, Copied, by_snapshot, by_freeze, copied}
@@ -65,6 +67,23 @@ module _ (limits : Limits) (states : ℕ → State) (steps : ℕ → Step) (t : 
             handle stands.root stands.is_open stands.over ∙ holds.content;
       }
       by_root (is_closed actor e gone) = absurd (untouched (closes actor e))
+
+  -- ---- repairs
+
+  repaired : RepairsStay limits (states t) s (states (suc t))
+  repaired handle access pairs holds r = stays handle access pairs holds untouched
+    where
+      by_own : MainStep limits states (suc t) (assigned_at states (suc t)) t s → ((own : OwnCommit limits states (suc t) (assigned_at states (suc t)) t s) → ⊥) → ⊥
+      by_own (stays_all none same) wrong = no_repair limits states (suc t) t s none r
+      by_own (changes_one own) wrong = wrong own
+
+      untouched : Touches (states t) s handle → ⊥
+      untouched (updates i call former u reach) =
+          by_own (main_step limits states steps t run takes keys s o m)
+          (λ own. let w = owned limits states (suc t) t s own i call former u in no_owner limits states (suc t) t s own r w.path former w.purpose_is)
+      untouched (clears opens c) =
+          by_own (main_step limits states steps t run takes keys s o m) (carries_nothing limits states (suc t) t s c.handle c.offer c.carries)
+      untouched (closes actor e) = begins_none limits states (suc t) t s actor (Close handle) e r
 
   -- ---- own updates
 
@@ -114,6 +133,9 @@ untouched_stay limits states steps t run takes keys s o m = stays limits states 
 
 pub updates_change : OfLastSteps UpdatesChange
 updates_change limits states steps t run takes keys s o m = changes limits states steps t run takes keys s o m
+
+pub repairs_stay : OfLastSteps RepairsStay
+repairs_stay limits states steps t run takes keys s o m = repaired limits states steps t run takes keys s o m
 
 pub clears_empty : OfLastSteps ClearsEmpty
 clears_empty limits states steps t run takes keys s o m = empties limits states steps t run takes keys s o m

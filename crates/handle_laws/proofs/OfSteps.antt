@@ -14,7 +14,7 @@ use Rattle.shape_laws.specs.Sites.{steps_of}
 use Rattle.shape_laws.specs.SitesAt.{TakesSteps, StepsFit}
 use Rattle.shape_laws.proofs.Fixed.{keys_fit, states_from-append, taken-append}
 use Rattle.shape_laws.proofs.Stepped.{takes_steps}
-use Rattle.handle_laws.specs.Laws.{OfEachStep, UntouchedStay, UpdatesChange, ClearsEmpty, ClosesTake, OpenedCopy}
+use Rattle.handle_laws.specs.Laws.{OfEachStep, UntouchedStay, UpdatesChange, RepairsStay, ClearsEmpty, ClosesTake, OpenedCopy}
 use Rattle.handle_laws.proofs.OfRuns.{OfLastSteps}
 use Rattle.handle_laws.proofs.OfRuns as of_runs
 
@@ -60,6 +60,9 @@ untouched_stay = of_each_step UntouchedStay of_runs.untouched_stay
 
 pub updates_change : OfEachStep UpdatesChange
 updates_change = of_each_step UpdatesChange of_runs.updates_change
+
+pub repairs_stay : OfEachStep RepairsStay
+repairs_stay = of_each_step RepairsStay of_runs.repairs_stay
 
 pub clears_empty : OfEachStep ClearsEmpty
 clears_empty = of_each_step ClearsEmpty of_runs.clears_empty

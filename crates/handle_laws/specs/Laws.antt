@@ -19,7 +19,7 @@ use Rattle.machine_model.specs.Contents.{content_at}
 use Rattle.machine_model.specs.Keys.{KeysFit}
 use Rattle.machine_model.specs.Machine.{AreLimits, next, run}
 use Rattle.machine_model.specs.States.{State, root_at}
-use Rattle.handle_laws.specs.Touching.{Reaches, CommitsUpdate, CarriesOutCall, Touches}
+use Rattle.handle_laws.specs.Touching.{Reaches, CommitsUpdate, CommitsRepair, CarriesOutCall, Touches}
 
 -- of the states before and after each step that is taken
 abbrev pub OfEachStep : (Limits → State → Step → State → Type 0) → Type 0
@@ -52,6 +52,11 @@ abbrev pub UpdatesChange : Limits → State → Step → State → Type 0
 UpdatesChange limits before s after =
     (handle : ℕ) (access : Access) (pairs : List (ℕ × ℕ)) (i : Ref) (call : Call) (former : Option ℕ) → Holds before handle access pairs → CommitsUpdate before s i call former →
     Reaches before handle i → (later : List (ℕ × ℕ)) × Holds after handle access later × Turns (hash_of limits.hash) call former pairs later
+
+-- the commit of a node made by renewing, cleaning or climbing leaves all handles and their contents alone
+abbrev pub RepairsStay : Limits → State → Step → State → Type 0
+RepairsStay limits before s after =
+    (handle : ℕ) (access : Access) (pairs : List (ℕ × ℕ)) → Holds before handle access pairs → CommitsRepair before s → Holds after handle access pairs
 
 -- a clear that is carried out leaves its handle empty
 abbrev pub ClearsEmpty : Limits → State → Step → State → Type 0

@@ -1,11 +1,12 @@
 -- What a step does to handles: which of their contents it touches.
-use Rattle.std.specs.Prelude.{◌≡◌, ℕ, List, Contains, Option, Some}
+use Rattle.std.specs.Prelude.{◌≡◌, ◌≢◌, ℕ, List, Contains, Option, Some}
 use Rattle.history.specs.declared.calls.Call.{Call}
 use Rattle.history.specs.declared.calls.Call.TheVariants.{Clear, Close}
 use Rattle.slot_arena.specs.declared.refs.Ref.{Ref}
 use Rattle.slot_arena.specs.declared.nodes.Node.TheVariants.{Indirection}
 use Rattle.slot_arena.specs.Heaps.{node_at, logical_main, entries_of}
 use Rattle.machine_model.specs.declared.lines.Line.TheVariants as line
+use Rattle.machine_model.specs.declared.lines.Purpose.{Purpose}
 use Rattle.machine_model.specs.declared.lines.Purpose.TheVariants as purpose
 use Rattle.machine_model.specs.declared.operations.Operation.{Operation}
 use Rattle.machine_model.specs.declared.reading.Swap.{Swap}
@@ -32,6 +33,17 @@ pub record CommitsUpdate (state : State) (s : Step) (indirection : Ref) (call : 
   pub swap : Swap
   pub swaps : operation.line ≡ line.Swap (purpose.Update path former) swap
   pub into : swap.indirection ≡ indirection
+  pub commits : committed_by_step state s ≡ Some swap.fresh
+
+-- the step commits a main node that an operation made otherwise: by renewing, cleaning or climbing
+pub record CommitsRepair (state : State) (s : Step) : Type 0 where
+  pub actor : ℕ
+  pub operation : Operation
+  pub runs : operation_of state actor ≡ Some operation
+  pub why : Purpose
+  pub swap : Swap
+  pub swaps : operation.line ≡ line.Swap why swap
+  pub repairs : (path : List Ref) (former : Option ℕ) → why ≢ purpose.Update path former
   pub commits : committed_by_step state s ≡ Some swap.fresh
 
 -- the step carries out the offer of an operation with this call, which may open a handle
