@@ -17,7 +17,7 @@ use Rattle.step_machine.specs.Callers.{swept, Reclaims, ReclaimsUnless}
 use Rattle.step_machine.specs.Reclaiming.{UsesReached, LooksSame}
 
 pub same_looks : (state : State) → LooksSame state state
-same_looks state = record { events = refl; order = refl; roots = λ handle. refl; contents = λ handle root e. refl; }
+same_looks state = record { events = refl; order = refl; roots = λ handle. refl; contents = λ handle root e. refl }
 
 looks_on : (a b c : State) → LooksSame a b → LooksSame b c → LooksSame a c
 looks_on a b c x y = record {

@@ -128,7 +128,7 @@ begun_runs : (state after : State) (actor : ℕ) (call : Call) (opens : Option �
 begun_runs state after actor call opens before books told =
     let id = begun state.events in
     let at : BeginsAt after.events (length state.events) id (record { actor = actor; call = call; opens = opens }) =
-        subst (λ h. slice_get h (length state.events) ≡ Some (Begin id actor call opens)) (sym told) (get_at_end state.events (Begin id actor call opens)) in
+    subst (λ h. slice_get h (length state.events) ≡ Some (Begin id actor call opens)) (sym told) (get_at_end state.events (Begin id actor call opens)) in
     let unended : (answer : Reply) → ¬ HasEnded after.events id answer = λ answer ended. elim (ended_before state.events (Begin id actor call opens) id answer (subst (λ h. HasEnded h id answer) told ended)) [
       | inl old ↦ let low = ended_below state.events old.0 id answer before.well_formed old.1 in omega (arith, low)
       | inr bad ↦ cc bad
@@ -148,7 +148,7 @@ tells before after actor call answer goes o state e =
     let led : state_of middle ≡ state = stepped before (step.Begin actor call) o state e in
     let opens = (begun_operation (state_of before) call).opens in
     let told : (state_of middle).events ≡ (state_of before).events ++ Begin (begun (state_of before).events) actor call opens ∷ [] =
-        ap (λ (s : State). s.events) led ∙ begin_event (state_of before) (step.Begin actor call) o state (moved (state_of before) (step.Begin actor call) o state e) actor call refl in
+    ap (λ (s : State). s.events) led ∙ begin_event (state_of before) (step.Begin actor call) o state (moved (state_of before) (step.Begin actor call) o state e) actor call refl in
     let (operation, runs, same) = begun_runs (state_of before) (state_of middle) actor call opens (books_of before.limits before.steps) (books_of middle.limits middle.steps) told in
     record {
       id = begun (state_of before).events;
