@@ -52,7 +52,7 @@ flat_map-same f g [] h = refl
 flat_map-same f g (r ∷ rs) h = ap₂ (λ a b. a ++ b) (h r (0, omega arith, refl)) (flat_map-same f g rs (λ q c. h q (suc c.0, omega (arith, c.1), c.2)))
 
 -- entries are references of the node
-entry_refs : (n : Node) (r : Ref) → Contains (entries_of n) r → Contains (refs_of_node n) r
+pub entry_refs : (n : Node) (r : Ref) → Contains (entries_of n) r → Contains (refs_of_node n) r
 entry_refs (Indirection g m) r c = absurd (omega (arith, c.1))
 entry_refs (Branch bitmap es) r c = c
 entry_refs (Single k v) r c = c

@@ -73,3 +73,9 @@ KnowsRepair node first Gave start (line.Clean l) = KnowsClean node first Gave st
 KnowsRepair node first Gave start (line.Swap (purpose.Renew path) s) = IsRepaired node first Gave start s.replaced s.fresh
 KnowsRepair node first Gave start (line.Swap purpose.Clean s) = IsRepaired node first Gave start s.replaced s.fresh
 KnowsRepair node first Gave start l = Unit {0}
+
+-- the line is one of a repair that reads below the path's end: RENEW's and CLEAN's
+abbrev pub ReadsBelow : Line → Type 0
+ReadsBelow (line.Renew (renew.Read path main done r)) = Unit {0}
+ReadsBelow (line.Clean (clean.Child path main done r)) = Unit {0}
+ReadsBelow l = ⊥

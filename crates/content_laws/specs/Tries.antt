@@ -11,6 +11,7 @@ use Rattle.slot_arena.specs.declared.nodes.Node.{Node}
 use Rattle.slot_arena.specs.declared.nodes.Node.TheVariants.{Indirection, Branch, Single, Tomb, List as Listed}
 use Rattle.slot_arena.specs.Heaps.{generation_of}
 use Rattle.nodes.specs.Levels.{list_depth}
+pub use Rattle.machine_model.specs.Contents.{most_levels}
 use Rattle.node_contents.specs.Branches.{HasPlaces, at_place}
 use Rattle.node_contents.specs.Looking.{Found, Has, Below, look_among, find_at}
 use Rattle.node_contents.specs.Lists.{AreSingles}
@@ -31,10 +32,6 @@ pub record Trie : Type 0 where
   pub path : Ref → ℕ
   -- the keys of all singles
   pub keys : List ℕ
-
--- a root, 13 levels below it, and one that is never reached
-abbrev pub most_levels : ℕ
-most_levels = 15
 
 abbrev pub generation : Trie → Ref → ℕ
 generation trie i = generation_of (trie.node i)

@@ -8,7 +8,8 @@ use Rattle.machine_model.specs.declared.steps.Step.{Step}
 use Rattle.machine_model.specs.declared.steps.Step.TheVariants.{Begin, Go, Sweep}
 use Rattle.machine_model.specs.States.{State}
 use Rattle.machine_model.specs.Machine.{next_kind, next, next_state, run_from, begin_denial, begin_unless}
-use Rattle.script_text.specs.Steps.{stops, going, most_steps, doing}
+use Rattle.machine_model.specs.Going.{go_limit}
+use Rattle.script_text.specs.Steps.{stops, going, doing}
 use Rattle.ctrie_commands.specs.Denials.{denial_in}
 
 -- a begin is denied for the reason that the definition lists
@@ -53,7 +54,7 @@ sweeping_on m n state after e is = rw (e, add-one, is) refl
 
 -- a begin that isn't denied, and the steps behind it
 pub performed : (denial : Option Refusal) (actor : ℕ) (begins : Step) (state middle after : State) → None ≡ denial →
-    middle ≡ run_from state (begins ∷ []) → after ≡ run_from middle (going most_steps None actor middle) → after ≡ run_from state (doing actor begins denial state)
+    middle ≡ run_from state (begins ∷ []) → after ≡ run_from middle (going go_limit None actor middle) → after ≡ run_from state (doing actor begins denial state)
 unfolding run_from
 performed (Some refusal) actor begins state middle after none begun gone = absurd cc
-performed None actor begins state middle after none begun gone = gone ∙ ap (λ (s : State). run_from s (going most_steps None actor s)) begun
+performed None actor begins state middle after none begun gone = gone ∙ ap (λ (s : State). run_from s (going go_limit None actor s)) begun

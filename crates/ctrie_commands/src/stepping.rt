@@ -16,7 +16,7 @@ use step_machine::{GO_LIMIT, Machine};
 
 /// Carries out one command, and gives why it is denied, if it is. After an error some of its steps may
 /// have been taken.
-#[tactic(auto, unfolding(script_text::specs::Steps::steps_of, script_text::specs::Steps::denial_of, script_text::specs::Steps::most_steps))]
+#[tactic(auto, unfolding(script_text::specs::Steps::steps_of, script_text::specs::Steps::denial_of))]
 pub fn carry_out(machine: &mut Machine, command: Command) -> Result<Option<Refusal>, AllocError>
     ensures state { OnOk result (state_of machine.new ≡ after_command (state_of machine.old) command) }
     ensures denial { IfOk result (λ denial. denial ≡ denial_of (state_of machine.old) command) }
@@ -53,7 +53,6 @@ fn begin(machine: &mut Machine, actor: u8, call: Call) -> Result<Option<Refusal>
 }
 
 /// Begins the actor's operation and, if it may begin, takes steps until it has ended.
-#[tactic(auto, unfolding(script_text::specs::Steps::most_steps))]
 fn perform(machine: &mut Machine, actor: u8, call: Call) -> Result<Option<Refusal>, AllocError>
     ensures state { OnOk result (state_of machine.new ≡ run_from (state_of machine.old)
         (doing actor (Begin actor call) (begin_denial (state_of machine.old) actor call) (state_of machine.old))) }

@@ -5,6 +5,7 @@ use Rattle.slot_arena.specs.declared.refs.Ref.{Ref}
 use Rattle.slot_arena.specs.declared.nodes.Prev.TheVariants as over
 use Rattle.deciding_laws.proofs.Words.{Words, Leaves, Makes, SwapsIn, PutsBack, CommitsNode, FailsNode}
 use Rattle.deciding_laws.proofs.Stood.{Stood, Decided, Private, IsOver, StandsOver, AreSound, stood_later, stands_now, stood_cases, none≢pending, none≢failed, pending≢failed, same_pending, over_pending, over_failed, over_none, not_both}
+use Rattle.memory_laws.specs.Wants.{is_indirection}
 
 -- a node that a new indirection may name
 pub record IsSettled (w : Words) (t : ℕ) (m : Ref) : Type 0 where
@@ -86,8 +87,8 @@ comes_now : (w : Words) (t : ℕ) → AreSound w t → (e : Effect w t) (q m : R
     Stood w t q m ⊎ Brings w t e q m
 comes_now w t h (Nothing e) q m l s = inl (as_before w t q m (e.main q) (e.makes.link q) l s)
 comes_now w t h (Made n e settled) q m l s = made_now w t n e settled q m (cases_eq q n) l s
-comes_now w t h (SwappedIn i a f is_link e p d) q m l s = swapped_now w t i a f e q m (cases_eq q i) l s
-comes_now w t h (PutBack i x p is_link e failed st) q m l s =
+comes_now w t h (SwappedIn i a f is_indirection e p d) q m l s = swapped_now w t i a f e q m (cases_eq q i) l s
+comes_now w t h (PutBack i x p is_indirection e failed st) q m l s =
     inl (put_back_now w t i x p e (stood_below w t h i x p failed st) q m (cases_eq q i) l s)
 comes_now w t h (Committed x p e) q m l s = inl (as_before w t q m (e.main q) (e.makes.link q) l s)
 comes_now w t h (Failed x p e) q m l s = inl (as_before w t q m (e.main q) (e.makes.link q) l s)

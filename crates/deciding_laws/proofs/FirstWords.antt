@@ -13,7 +13,7 @@ use Rattle.machine_model.specs.States.{State, first_state, first_heap, operation
 use Rattle.machine_model.specs.Machine.{AreLimits}
 use Rattle.machine_model.proofs.Found.{none_found}
 use Rattle.machine_model.proofs.Grown.{grown, standing, of_birth}
-use Rattle.deciding_laws.proofs.Known.{is_link}
+use Rattle.memory_laws.specs.Wants.{is_indirection}
 
 -- the slots of the first heap
 abbrev first_slots : ℕ → List (Option Slot)
@@ -53,19 +53,19 @@ first_prev n (suc (suc j)) = ap prev_of (none_of n j _ refl)
 
 -- ---- a main word names what was made
 
-birth_link : (b : ℕ) (o : Option Slot) → is_link (node_of (of_birth b o)) ≡ true → (is_link (node_of o) ≡ true) × (main_of (node_of (of_birth b o)) ≡ main_of (node_of o))
+birth_link : (b : ℕ) (o : Option Slot) → is_indirection (node_of (of_birth b o)) ≡ true → (is_indirection (node_of o) ≡ true) × (main_of (node_of (of_birth b o)) ≡ main_of (node_of o))
 birth_link b None e = absurd (true≢false (sym e))
 birth_link b (Some slot) e = by_test (slot.birth == b) e
   where
-    by_test : (c : Bool) → is_link (node_of (cond c (Some slot) None)) ≡ true →
-        (is_link (node_of (Some slot)) ≡ true) × (main_of (node_of (cond c (Some slot) None)) ≡ main_of (node_of (Some slot)))
+    by_test : (c : Bool) → is_indirection (node_of (cond c (Some slot) None)) ≡ true →
+        (is_indirection (node_of (Some slot)) ≡ true) × (main_of (node_of (cond c (Some slot) None)) ≡ main_of (node_of (Some slot)))
     by_test true e = (e, refl)
     by_test false e = absurd (true≢false (sym e))
 
-first_main : (n j : ℕ) → is_link (node_of (get_or (first_slots n) j None)) ≡ true → main_of (node_of (get_or (first_slots n) j None)) ≡ ref_to 1 0
+first_main : (n j : ℕ) → is_indirection (node_of (get_or (first_slots n) j None)) ≡ true → main_of (node_of (get_or (first_slots n) j None)) ≡ ref_to 1 0
 first_main n zero e = absurd (true≢false (sym e))
 first_main n (suc zero) e = refl
-first_main n (suc (suc j)) e = absurd (true≢false (sym e ∙ ap (λ o. is_link (node_of o)) (none_of n j _ refl)))
+first_main n (suc (suc j)) e = absurd (true≢false (sym e ∙ ap (λ o. is_indirection (node_of o)) (none_of n j _ refl)))
 
 -- ---- of a run
 
@@ -81,9 +81,9 @@ module _ (limits : Limits) (ok : AreLimits limits) (states : ℕ → State) (fir
   pub prev_at_first : (m : Ref) → prev_of (grown states zero m) ≡ over.None
   prev_at_first m = ap prev_of (grown_at_first m) ∙ birth_prev (birth_of m) _ (first_prev (limits.slots - 2) (slot_of m))
 
-  pub made_at_first : (i : Ref) → is_link (node_of (grown states zero i)) ≡ true → is_some (grown states zero (main_of (node_of (grown states zero i)))) ≡ true
+  pub made_at_first : (i : Ref) → is_indirection (node_of (grown states zero i)) ≡ true → is_some (grown states zero (main_of (node_of (grown states zero i)))) ≡ true
   made_at_first i l =
-      let link = birth_link (birth_of i) _ (ap (λ o. is_link (node_of o)) (sym (grown_at_first i)) ∙ l) in
+      let link = birth_link (birth_of i) _ (ap (λ o. is_indirection (node_of o)) (sym (grown_at_first i)) ∙ l) in
       let main : main_of (node_of (grown states zero i)) ≡ ref_to 1 0 =
       ap (λ o. main_of (node_of o)) (grown_at_first i) ∙ link.1 ∙ first_main (limits.slots - 2) (slot_of i) link.0 in
       ap (λ r. is_some (grown states zero r)) main ∙ ap is_some (grown_at_first (ref_to 1 0))

@@ -20,7 +20,7 @@ use Rattle.machine_model.specs.States.{State, operation_of}
 use Rattle.machine_model.specs.Operations.{action_of}
 use Rattle.machine_model.proofs.Times.{IsRun}
 use Rattle.machine_model.proofs.Grown.{standing}
-use Rattle.memory_laws.specs.Wants.{Wanted, AnIndirection, AMain, ABranch, BranchOrList, line_wants, meets, Is, Holds, AllHold, action_wants, node_wants, prev_wants, place_wants, change_wants, flag_on}
+use Rattle.memory_laws.specs.Wants.{Wanted, AnIndirection, AMain, ABranch, BranchOrList, line_wants, meets, Is, Holds, AllHold, action_wants, node_wants, prev_wants, place_wants, change_wants, flag_on, is_indirection}
 use Rattle.memory_laws.specs.Laws.{IsInUse}
 use Rattle.memory_laws.proofs.Claims.{safe_of, meets_of, first_hold}
 use Rattle.memory_laws.proofs.Under.{node_under, taken_all}
@@ -28,15 +28,12 @@ use Rattle.memory_laws.proofs.Safety.{IsSafe}
 use Rattle.memory_laws.proofs.AtEachTime.{safe_at}
 use Rattle.memory_laws.proofs.AtTimes.{action_at, line_at}
 use Rattle.memory_laws.proofs.WordMoves.{not_yet_drawn}
-use Rattle.deciding_laws.proofs.Known.{is_link, is_solid, BuildsFrom, HasSolid}
+use Rattle.deciding_laws.proofs.Known.{is_solid, BuildsFrom, HasSolid}
 use Rattle.deciding_laws.proofs.OtherLayers.{HasLink, HasMain, Finds, Draws, Memory}
 use Rattle.deciding_laws.proofs.Laws.{MemoryOfRuns}
 use Rattle.machine_model.proofs.Times.{states_of, last_of, run_is}
 
-link_met : (node : Node) → meets AnIndirection node ≡ true → is_link node ≡ true
-link_met node e = grind arith
-
-main_met : (node : Node) → meets AMain node ≡ true → is_link node ≡ false
+main_met : (node : Node) → meets AMain node ≡ true → is_indirection node ≡ false
 main_met node e = grind arith
 
 built_solid : (node : Node) → meets BranchOrList node ≡ true → is_solid node ≡ true
@@ -54,7 +51,7 @@ has_solid state m wanted f h =
 has_link : (state : State) (i : Ref) → Holds (IsInUse state.heap) state.heap (Is i AnIndirection) → HasLink state i
 has_link state i h =
     let (slot, found) = safe_of h in
-    record { slot = slot; stands = found; link = link_met slot.node (ap (meets AnIndirection) (sym (node_under state.heap i slot found)) ∙ meets_of h) }
+    record { slot = slot; stands = found; link = ap is_indirection (sym (node_under state.heap i slot found)) ∙ meets_of h }
 
 has_main : (state : State) (m : Ref) → Holds (IsInUse state.heap) state.heap (Is m AMain) → HasMain state m
 has_main state m h =
@@ -79,12 +76,12 @@ module _ (limits : Limits) (states : ℕ → State) (last : ℕ) (run : IsRun li
       let all = taken_all (states t).limits.slots (states t).heap (I.sound.heap) (I.small) node n e in
       record { new = not_yet_drawn limits states last run t (omega arith) n e; birth = (states t).heap.births + 1; here = all.0; elsewhere = all.2 }
 
-  mains_stand : (t : ℕ) → t ≤ last → (i : Ref) (slot : Slot) → standing (states t).heap i ≡ Some slot → is_link slot.node ≡ true →
+  mains_stand : (t : ℕ) → t ≤ last → (i : Ref) (slot : Slot) → standing (states t).heap i ≡ Some slot → is_indirection slot.node ≡ true →
       (main : Slot) × (standing (states t).heap (main_of slot.node) ≡ Some main)
   mains_stand t h i slot e l =
       by_node slot.node l (first_hold (IsInUse (states t).heap) (states t).heap (node_wants slot.node) (prev_wants slot.prev) ((safe_at limits states last run t h).nodes i slot e).0)
     where
-      by_node : (node : Node) → is_link node ≡ true → AllHold (IsInUse (states t).heap) (states t).heap (node_wants node) →
+      by_node : (node : Node) → is_indirection node ≡ true → AllHold (IsInUse (states t).heap) (states t).heap (node_wants node) →
           (main : Slot) × (standing (states t).heap (main_of node) ≡ Some main)
       by_node (Indirection g m) l w = safe_of w.0
       by_node (Branch b es) l w = absurd (true≢false (sym l))

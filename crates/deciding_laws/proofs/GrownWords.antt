@@ -14,7 +14,8 @@ use Rattle.machine_model.specs.States.{State, operation_of}
 use Rattle.machine_model.proofs.Grown.{grown, node_under, main_word, prev_word}
 use Rattle.deciding_laws.proofs.Words.{Words, Kept, Written, MakesNothing, Leaves, Makes, SwapsIn, PutsBack, CommitsNode, FailsNode}
 use Rattle.deciding_laws.proofs.Stages.{stage_of_actor, from_of_actor}
-use Rattle.deciding_laws.proofs.Known.{is_link, is_solid, GrownStays, GrownChanges, GrownSwaps, GrownTakes}
+use Rattle.deciding_laws.proofs.Known.{is_solid, GrownStays, GrownChanges, GrownSwaps, GrownTakes}
+use Rattle.memory_laws.specs.Wants.{is_indirection}
 
 -- the step in which a main node was committed, if it was
 abbrev pub commit_of : State → Ref → Option ℕ
@@ -27,7 +28,7 @@ words_of states last closing = record {
   prev = λ t m. prev_word states t m;
   generation = λ i. generation_of (node_under states last i);
   made = λ t r. is_some (grown states t r);
-  link = λ t r. is_link (node_under states t r);
+  link = λ t r. is_indirection (node_under states t r);
   solid = λ r. is_solid (node_under states last r);
   commit = λ t m. commit_of (states t) m;
   closing = closing;
@@ -37,14 +38,14 @@ words_of states last closing = record {
 
 -- ---- a slot with another main word, or another prev word
 
-main_written : (x : Ref) (n : Node) → is_link n ≡ true → main_of (with_main_word x n) ≡ x
+main_written : (x : Ref) (n : Node) → is_indirection n ≡ true → main_of (with_main_word x n) ≡ x
 main_written x (Indirection g y) e = refl
 main_written x (Branch b es) e = absurd (true≢false (sym e))
 main_written x (Single k v) e = absurd (true≢false (sym e))
 main_written x (Tomb s) e = absurd (true≢false (sym e))
 main_written x (Listed s) e = absurd (true≢false (sym e))
 
-link_kept : (x : Ref) (n : Node) → is_link (with_main_word x n) ≡ is_link n
+link_kept : (x : Ref) (n : Node) → is_indirection (with_main_word x n) ≡ is_indirection n
 link_kept x (Indirection g y) = refl
 link_kept x n = refl
 
@@ -57,11 +58,11 @@ solid_kept x (Indirection g y) = refl
 solid_kept x n = refl
 
 -- of what stands under a reference
-slot_main : (x : Ref) (o : Option Slot) → is_link (node_of o) ≡ true → main_of (node_of (option_map (main_changed x) o)) ≡ x
+slot_main : (x : Ref) (o : Option Slot) → is_indirection (node_of o) ≡ true → main_of (node_of (option_map (main_changed x) o)) ≡ x
 slot_main x None e = absurd (true≢false (sym e))
 slot_main x (Some slot) e = main_written x slot.node e
 
-pub slot_main_link : (x : Ref) (o : Option Slot) → is_link (node_of (option_map (main_changed x) o)) ≡ is_link (node_of o)
+pub slot_main_link : (x : Ref) (o : Option Slot) → is_indirection (node_of (option_map (main_changed x) o)) ≡ is_indirection (node_of o)
 slot_main_link x None = refl
 slot_main_link x (Some slot) = link_kept x slot.node
 
@@ -99,7 +100,7 @@ module _ (states : ℕ → State) (last : ℕ) (closing : ℕ → Option ℕ) (t
   leaves_words e c = record {
     main = λ r. ap (λ o. main_of (node_of o)) (e r);
     prev = λ r. ap prev_of (e r);
-    makes = record { made = λ r. ap is_some (e r); link = λ r. ap (λ o. is_link (node_of o)) (e r) };
+    makes = record { made = λ r. ap is_some (e r); link = λ r. ap (λ o. is_indirection (node_of o)) (e r) };
     commit = c;
   }
 
@@ -117,7 +118,7 @@ module _ (states : ℕ → State) (last : ℕ) (closing : ℕ → Option ℕ) (t
   prev_makes : (v : Prev) (m : Ref) → GrownChanges states t (prev_changed v) m → MakesNothing w t
   prev_makes v m e = record {
     made = changes_kept (prev_changed v) m e is_some (slot_kept (prev_changed v));
-    link = changes_kept (prev_changed v) m e (λ o. is_link (node_of o)) (λ o. ap is_link (slot_prev_node v o));
+    link = changes_kept (prev_changed v) m e (λ o. is_indirection (node_of o)) (λ o. ap is_indirection (slot_prev_node v o));
   }
 
   prev_main : (v : Prev) (m : Ref) → GrownChanges states t (prev_changed v) m → Kept (w.main t) (w.main (suc t))
@@ -147,7 +148,7 @@ module _ (states : ℕ → State) (last : ℕ) (closing : ℕ → Option ℕ) (t
     commit = c;
   }
 
-  pub puts_back_words : (i m p : Ref) → is_link (node_under states t i) ≡ true → w.main t i ≡ m → GrownChanges states t (main_changed p) i →
+  pub puts_back_words : (i m p : Ref) → is_indirection (node_under states t i) ≡ true → w.main t i ≡ m → GrownChanges states t (main_changed p) i →
       Kept (w.commit t) (w.commit (suc t)) → PutsBack w t i m p
   puts_back_words i m p l is e c = record {
     stood = is;
@@ -155,7 +156,7 @@ module _ (states : ℕ → State) (last : ℕ) (closing : ℕ → Option ℕ) (t
     prev = changes_kept (main_changed p) i e prev_of (slot_main_prev p);
     makes = record {
       made = changes_kept (main_changed p) i e is_some (slot_kept (main_changed p));
-      link = changes_kept (main_changed p) i e (λ o. is_link (node_of o)) (slot_main_link p);
+      link = changes_kept (main_changed p) i e (λ o. is_indirection (node_of o)) (slot_main_link p);
     };
     commit = c;
   }
@@ -186,7 +187,7 @@ module _ (states : ℕ → State) (last : ℕ) (closing : ℕ → Option ℕ) (t
       ap (λ x. prev_word states (suc t) x) is ∙ ap prev_of e.main ∙ slot_main_prev f (grown states t i) ∙ ap (λ x. prev_word states t x) (sym is)
   swaps_prev_by i a f e q other (inr apart) = ap prev_of (e.elsewhere q apart other)
 
-  pub swaps_words : (i a f : Ref) → is_link (node_under states t i) ≡ true → is_some (grown states t f) ≡ true → w.main t i ≡ a → GrownSwaps states t i a f →
+  pub swaps_words : (i a f : Ref) → is_indirection (node_under states t i) ≡ true → is_some (grown states t f) ≡ true → w.main t i ≡ a → GrownSwaps states t i a f →
       Kept (w.commit t) (w.commit (suc t)) → SwapsIn w t i a f
   swaps_words i a f l is stood e c = record {
     stood = stood;
@@ -194,7 +195,7 @@ module _ (states : ℕ → State) (last : ℕ) (closing : ℕ → Option ℕ) (t
     prev = record { here = ap prev_of e.prev ∙ slot_prev (over.Pending a) (grown states t f) is; elsewhere = λ q other. swaps_prev_by i a f e q other (cases_eq q i) };
     makes = record {
       made = swaps_kept i a f e is_some (slot_kept (main_changed f)) (slot_kept (prev_changed (over.Pending a)));
-      link = swaps_kept i a f e (λ o. is_link (node_of o)) (slot_main_link f) (λ o. ap is_link (slot_prev_node (over.Pending a) o));
+      link = swaps_kept i a f e (λ o. is_indirection (node_of o)) (slot_main_link f) (λ o. ap is_indirection (slot_prev_node (over.Pending a) o));
     };
     commit = c;
   }
@@ -206,10 +207,10 @@ module _ (states : ℕ → State) (last : ℕ) (closing : ℕ → Option ℕ) (t
   pub makes_words : (n : Ref) (node : Node) → GrownTakes states t n node → Kept (w.commit t) (w.commit (suc t)) → Makes w t n
   makes_words n node e c = record {
     was_unmade = ap is_some e.new;
-    was_no_link = ap (λ o. is_link (node_of o)) e.new;
+    was_no_link = ap (λ o. is_indirection (node_of o)) e.new;
     is_made = ap is_some e.here;
     made = λ q apart. ap is_some (e.elsewhere q apart);
-    link = λ q apart. ap (λ o. is_link (node_of o)) (e.elsewhere q apart);
+    link = λ q apart. ap (λ o. is_indirection (node_of o)) (e.elsewhere q apart);
     main = λ q apart. ap (λ o. main_of (node_of o)) (e.elsewhere q apart);
     prev = λ q. takes_prev_by n node e q (cases_eq q n);
     prev_none = ap prev_of e.new;

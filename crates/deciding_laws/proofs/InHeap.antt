@@ -1,29 +1,23 @@
 -- What the heap that only grows says is what the machine's heap says, of what is in use; and the states of a run by number.
-use Rattle.std.proofs.Common.{◌≡◌, ℕ, zero, suc, ◌+◌, ◌^◌, ◌<◌, ◌≤◌, Bool, true, false, cond, ◌==◌, List, [], ◌∷◌, length, take, get_or, slice_get, Option, Some, None, Ok, Err, refl, sym, ◌∙◌, ap, subst, arith}
-use Rattle.std.proofs.lemmas.Bool.{true≢false, eq-eqb}
-use Rattle.std.proofs.lemmas.List.Elements.{All-contains}
+use Rattle.std.proofs.Common.{◌≡◌, ℕ, zero, suc, ◌≤◌, Bool, true, false, cond, ◌==◌, List, [], ◌∷◌, take, slice_get, Option, Some, None, Ok, Err, refl, sym, ◌∙◌, ap, subst}
 use Rattle.std.proofs.lemmas.Option.{none-some, same_Some}
-use Rattle.slot_arena.specs.Refs.{ref_to, slot_of, birth_of}
+use Rattle.slot_arena.specs.Refs.{birth_of}
 use Rattle.slot_arena.specs.declared.refs.Ref.{Ref}
-use Rattle.slot_arena.specs.declared.nodes.Node.{Node}
-use Rattle.slot_arena.specs.declared.nodes.Node.TheVariants.{Indirection}
 use Rattle.slot_arena.specs.declared.nodes.Slot.{Slot}
-use Rattle.slot_arena.specs.Heaps.{Heap, stored, node_at, node_of, prev_at, prev_of, main_of, logical, logical_main, in_use}
+use Rattle.slot_arena.specs.Heaps.{Heap, stored, node_at, node_of, prev_at, prev_of, main_of, logical, logical_main}
 use Rattle.machine_model.specs.declared.steps.Limits.{Limits}
 use Rattle.machine_model.specs.declared.steps.Outcome.{Outcome}
 use Rattle.machine_model.specs.declared.steps.Step.{Step}
 use Rattle.machine_model.specs.States.{State, first_state}
-use Rattle.machine_model.specs.Machine.{Answer, AreLimits, next, next_state, state_after, is_taken_step, run_from, run, taken_from, taken_steps}
-use Rattle.machine_model.proofs.Found.{found_within}
-use Rattle.machine_model.proofs.InUse.{InUse, all_in_use}
-use Rattle.machine_model.proofs.Slots.{sound_along}
+use Rattle.machine_model.specs.Machine.{Answer, next, next_state, state_after, is_taken_step, run_from, run, taken_from, taken_steps}
 use Rattle.machine_model.proofs.Moves.{Moves, moved}
 use Rattle.machine_model.proofs.Times.{states_from, states_of}
 use Rattle.machine_model.proofs.Grown.{standing, of_birth, or_before, grown, node_under, prev_word}
 use Rattle.deciding_laws.proofs.Words.{main_at}
-use Rattle.deciding_laws.proofs.Known.{is_link, Known}
+use Rattle.deciding_laws.proofs.Known.{Known}
 use Rattle.deciding_laws.proofs.GrownWords.{words_of}
-use Rattle.deciding_laws.specs.Runs.{state_before, IsInUse, IsIndirection}
+use Rattle.deciding_laws.specs.Runs.{state_before}
+use Rattle.memory_laws.specs.Wants.{is_indirection}
 
 -- ---- states by number
 
@@ -82,36 +76,6 @@ pub step_leads : (limits : Limits) (steps : List Step) (n : ℕ) (s : Step) → 
     (o : Outcome) × Moves (states_of limits steps n) s o (states_of limits steps (suc n))
 step_leads limits steps n s at = found_leads (first_state limits) steps n s at
 
--- ---- references in use
-
-test_same : (b : ℕ) (slot : Slot) → slot.birth ≡ b → of_birth b (Some slot) ≡ Some slot
-test_same b slot e = by_test (slot.birth == b) (eq-eqb slot.birth b e)
-  where
-    by_test : (c : Bool) → c ≡ true → cond c (Some slot) None ≡ Some slot
-    by_test true is = refl
-    by_test false is = absurd (true≢false (sym is))
-
-birth_back : (birth k n : ℕ) → k < n → n ≤ 2 ^ 16 → birth_of (ref_to birth (0 + k)) ≡ birth
-birth_back birth k n h small = omega arith
-
-slot_back : (birth k n : ℕ) → k < n → n ≤ 2 ^ 16 → slot_of (ref_to birth (0 + k)) ≡ k
-slot_back birth k n h small = omega arith
-
--- what is named as in use stands under that very reference
-stands_by : (heap : Heap) (r : Ref) → length heap.slots ≤ 2 ^ 16 → InUse heap r → (slot : Slot) × (standing heap r ≡ Some slot)
-unfolding stored
-stands_by heap r small (k, slot, at_k, is) =
-    let within = found_within heap.slots k slot at_k in
-    let its_slot : slot_of r ≡ k = ap (λ q. slot_of q) is ∙ slot_back slot.birth k (length heap.slots) within small in
-    let its_birth : birth_of r ≡ slot.birth = ap (λ q. birth_of q) is ∙ birth_back slot.birth k (length heap.slots) within small in
-    (slot, ap (λ j. of_birth (birth_of r) (get_or heap.slots j None)) its_slot ∙ ap (of_birth (birth_of r)) at_k ∙ test_same (birth_of r) slot (sym its_birth))
-
-pub in_use_stands : (limits : Limits) → AreLimits limits → (steps : List Step) (r : Ref) → IsInUse (run limits steps) r →
-    (slot : Slot) × (standing (run limits steps).heap r ≡ Some slot)
-in_use_stands limits ok steps r h =
-    stands_by (run limits steps).heap r (omega (arith, ok.1, (sound_along limits ok steps).heap.size))
-    (All-contains (InUse (run limits steps).heap) (in_use (run limits steps).heap) r (all_in_use (run limits steps).heap) h)
-
 -- ---- the heap that only grows
 
 module _ (states : ℕ → State) where
@@ -139,17 +103,12 @@ module _ (states : ℕ → State) where
   unfolding prev_at
   prev_standing t r slot e = ap prev_of (stored_standing (states t).heap r slot e) ∙ sym (ap prev_of (grown_standing t r slot e))
 
--- an indirection
-pub link_of : (node : Node) → IsIndirection node → is_link node ≡ true
-link_of (Indirection g m) h = refl
-link_of node h = absurd h
-
 -- the logical main node of an indirection in use
 pub logical_standing : (limits : Limits) (states : ℕ → State) (last : ℕ) (known : Known limits states last) (t : ℕ) → t ≤ last → (i : Ref) (slot : Slot) →
-    standing (states t).heap i ≡ Some slot → is_link (node_under states t i) ≡ true → logical_main (states t).heap i ≡ main_at (words_of states last known.closing) t i
+    standing (states t).heap i ≡ Some slot → is_indirection (node_under states t i) ≡ true → logical_main (states t).heap i ≡ main_at (words_of states last known.closing) t i
 logical_standing limits states last known t h i slot e l =
     let node : node_under states t i ≡ slot.node = ap node_of (grown_standing states t i slot e) in
-    let main = known.mains_stand t h i slot e (subst (λ x. is_link x ≡ true) node l) in
+    let main = known.mains_stand t h i slot e (subst (λ x. is_indirection x ≡ true) node l) in
     let word = ap main_of (node_standing states t i slot e) in
     let stands : standing (states t).heap (main_of (node_under states t i)) ≡ Some main.0 = subst (λ x. standing (states t).heap (main_of x) ≡ Some main.0) (sym node) main.1 in
     ap (λ x. logical x (prev_at (states t).heap x)) word ∙ ap (logical (main_of (node_under states t i))) (prev_standing states t (main_of (node_under states t i)) main.0 stands)

@@ -31,12 +31,9 @@ use Rattle.machine_model.specs.Reading.{Verdict, Commits, Fails, Overtaken, verd
 use Rattle.machine_model.proofs.Moves.{Moves}
 use Rattle.machine_model.proofs.Times.{IsRun}
 use Rattle.machine_model.proofs.Grown.{standing, grown, node_under, main_word, prev_word}
+use Rattle.memory_laws.specs.Wants.{is_indirection}
 
 -- ---- what a step does to the heap that only grows
-
-abbrev pub is_link : Node → Bool
-is_link (Indirection generation main) = true
-is_link node = false
 
 -- it stays
 abbrev pub GrownStays : (ℕ → State) → ℕ → Type 0
@@ -64,13 +61,13 @@ pub record GrownTakes (states : ℕ → State) (t : ℕ) (n : Ref) (node : Node)
 
 -- an indirection stands under the reference, and its main word is that of the heap that only grows
 pub record FindsMain (states : ℕ → State) (t : ℕ) (i : Ref) : Type 0 where
-  pub link : is_link (node_under states t i) ≡ true
+  pub link : is_indirection (node_under states t i) ≡ true
   pub main : main_at (states t).heap i ≡ main_word states t i
 
 -- a main node does, and so is its prev word
 pub record FindsPrev (states : ℕ → State) (t : ℕ) (m : Ref) : Type 0 where
   pub made : is_some (grown states t m) ≡ true
-  pub no_link : is_link (node_under states t m) ≡ false
+  pub no_link : is_indirection (node_under states t m) ≡ false
   pub prev : prev_at (states t).heap m ≡ prev_word states t m
 
 abbrev pub Either : Bool → Type 0 → Type 0 → Type 0
@@ -144,7 +141,7 @@ pub record Known (limits : Limits) (states : ℕ → State) (last : ℕ) : Type 
   pub built_from : (t : ℕ) → t < last → (actor : ℕ) (operation : Operation) → operation_of (states t) actor ≡ Some operation → (main : Ref) →
       BuildsFrom operation.line main → HasSolid (states t) main
   -- memory: the main word of an indirection in use names what is in use
-  pub mains_stand : (t : ℕ) → t ≤ last → (i : Ref) (slot : Slot) → standing (states t).heap i ≡ Some slot → is_link slot.node ≡ true →
+  pub mains_stand : (t : ℕ) → t ≤ last → (i : Ref) (slot : Slot) → standing (states t).heap i ≡ Some slot → is_indirection slot.node ≡ true →
       (main : Slot) × (standing (states t).heap (main_of slot.node) ≡ Some main)
   -- roots: where a READ on a writable handle asks for the root, and finds it with no offer, the root's generation wasn't closed before
   pub open_root : (t : ℕ) → t < last → (actor : ℕ) (operation : Operation) → operation_of (states t) actor ≡ Some operation → (i main previous : Ref) →

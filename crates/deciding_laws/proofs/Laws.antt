@@ -1,5 +1,5 @@
 -- The laws, from what other layers give of each run.
-use Rattle.std.proofs.Common.{◌≡◌, ℕ, suc, ◌+◌, ◌<◌, ◌≤◌, ◌⊎◌, true, false, List, take, Some, inl, inr, refl, sym, ◌∙◌, ap, subst, add-one, arith}
+use Rattle.std.proofs.Common.{◌≡◌, ℕ, suc, ◌+◌, ◌<◌, ◌≤◌, ◌⊎◌, true, false, List, Some, inl, inr, refl, sym, ◌∙◌, ap, subst, add-one, arith}
 use Rattle.std.proofs.lemmas.Bool.{cases_eq}
 use Rattle.std.proofs.lemmas.Option.{same_Some}
 use Rattle.history.specs.declared.replies.Reply.{Reply}
@@ -8,7 +8,6 @@ use Rattle.slot_arena.specs.declared.nodes.Node.{Node}
 use Rattle.slot_arena.specs.declared.nodes.Node.TheVariants.{Tomb}
 use Rattle.std.specs.Prelude.{is_some}
 use Rattle.slot_arena.specs.declared.nodes.Prev.TheVariants as over
-use Rattle.slot_arena.specs.declared.nodes.Slot.{Slot}
 use Rattle.slot_arena.specs.Heaps.{main_of, generation_of, main_at, prev_at, generation_at, node_at, logical_main}
 use Rattle.machine_model.specs.declared.actions.Action.TheVariants as act
 use Rattle.machine_model.specs.declared.operations.Operation.{Operation}
@@ -28,15 +27,15 @@ use Rattle.machine_model.specs.Operations.{action_of}
 use Rattle.machine_model.specs.Orders.{read_at_after, moment_after}
 use Rattle.machine_model.specs.Acting.{gone}
 use Rattle.machine_model.specs.Counting.{settled}
-use Rattle.machine_model.specs.Machine.{AreLimits, run, taken_steps}
+use Rattle.machine_model.specs.Machine.{AreLimits, run}
 use Rattle.machine_model.proofs.Moves as Machine
 use Rattle.machine_model.proofs.Times.{states_of, last_of, run_ends}
-use Rattle.machine_model.proofs.Grown.{standing, node_under}
-use Rattle.deciding_laws.proofs.Words.{Words, Rests, Reads, Decides, CommitsNode, FailsNode, Protocol}
+use Rattle.machine_model.proofs.Grown.{node_under}
+use Rattle.deciding_laws.proofs.Words.{Words, Rests, Reads, Protocol}
 use Rattle.deciding_laws.proofs.Words as Protocol'
 use Rattle.deciding_laws.proofs.Stood.{Stood, stood_still, none≢pending, stands_now, over_pending}
 use Rattle.deciding_laws.proofs.Effects.{Becomes, Same, GoesIn, IsCommitted, IsFailed, becomes}
-use Rattle.deciding_laws.proofs.Owners.{HasFresh, IsSound}
+use Rattle.deciding_laws.proofs.Owners.{HasFresh}
 use Rattle.deciding_laws.proofs.Owners as Owned
 use Rattle.deciding_laws.proofs.Sounds.{sound_at, swapper}
 use Rattle.deciding_laws.proofs.Finals.{effect, none_final, failed_final, Fate, StillPending, HasFailed as FateFailed, HasCommitted, fate}
@@ -45,17 +44,19 @@ use Rattle.deciding_laws.proofs.Readings.{IsMoment, closed_once, given_for_good 
 use Rattle.deciding_laws.proofs.Closings.{commits_early}
 use Rattle.deciding_laws.proofs.Swaps.{checked, tomb_stays}
 use Rattle.deciding_laws.proofs.Stages.{stage_of, stage_of_actor}
-use Rattle.deciding_laws.proofs.Known.{is_link, is_solid, Known}
+use Rattle.deciding_laws.proofs.Known.{is_solid, Known}
 use Rattle.deciding_laws.proofs.OtherLayers.{Memory, OtherLayers, known_of_memory, known}
 use Rattle.deciding_laws.proofs.GrownWords.{words_of}
 use Rattle.deciding_laws.proofs.ReadTurns.{generation_stays, solid_stays}
 use Rattle.deciding_laws.proofs.LineReads.{ends_at_end}
 use Rattle.deciding_laws.proofs.RunWords.{protocol}
 use Rattle.deciding_laws.proofs.Moments.{moment_at}
-use Rattle.deciding_laws.proofs.InHeap.{grown_standing, states_are, step_leads, in_use_stands, node_standing, prev_standing, link_of, logical_standing}
+use Rattle.deciding_laws.proofs.InHeap.{grown_standing, states_are, step_leads, node_standing, prev_standing, logical_standing}
 use Rattle.deciding_laws.proofs.SwapLines.{runs_deciding, runs_publishing, in_swap_fresh, reads_stage}
-use Rattle.deciding_laws.specs.Runs.{steps_taken, state_before, IsInUse, HasIndirection}
+use Rattle.deciding_laws.specs.Runs.{steps_taken, state_before, HasIndirection}
 use Rattle.deciding_laws.specs.Deciding.{IsInSwap, Owner, PendingHasOwner, PrevChange, Stays, IsSwappedIn, IsCommitted as ChangeCommitted, HasFailed, PrevWordsChange, DecidedForGood, CommitsMain, MainsChangeByCommits, ReplacedForGood, IsGiven, MomentIsFirst, GivenForGood, CheckedIsDecided, ChangesLate, LateStoodBefore, LateOnce, IsTomb, TombsStay}
+use Rattle.memory_laws.specs.Wants.{is_indirection}
+use Rattle.memory_laws.specs.Laws.{IsInUse}
 
 -- what other layers give of every run
 abbrev pub LayersOfRuns : Type 0
@@ -76,18 +77,12 @@ known_of layers limits steps ok = known limits (states_of limits steps) (last_of
 same_states : (limits : Limits) (steps : List Step) → states_of limits steps ≡ state_before limits steps
 same_states limits steps = λ i n. states_are limits steps n i
 
--- what is in use before a step stands under its reference
-stands_at : (limits : Limits) → AreLimits limits → (steps : List Step) (t : ℕ) (r : Ref) → IsInUse (states_of limits steps t) r →
-    (slot : Slot) × (standing (states_of limits steps t).heap r ≡ Some slot)
-stands_at limits ok steps t r =
-    subst (λ (s : State). IsInUse s r → (slot : Slot) × (standing s.heap r ≡ Some slot)) (sym (states_are limits steps t)) (in_use_stands limits ok (take t (taken_steps limits steps)) r)
-
 -- ---- owners
 
 -- of one state
 abbrev OwnedIn : State → Type 0
 OwnedIn state =
-    (fresh replaced : Ref) → IsInUse state fresh → prev_at state.heap fresh ≡ over.Pending replaced →
+    (fresh replaced : Ref) → IsInUse state.heap fresh → prev_at state.heap fresh ≡ over.Pending replaced →
     (indirection : Ref) × (owner : Owner state indirection replaced fresh)
     × ((actor : ℕ) (operation : Operation) (i r : Ref) (l : SwapLine) → operation_of state actor ≡ Some operation → IsInSwap operation i r fresh l → actor ≡ owner.actor)
 
@@ -104,8 +99,8 @@ module _ (limits : Limits) (ok : AreLimits limits) (steps : List Step) (known : 
   abbrev w : Words
   w = words_of states last known.closing
 
-  prev_in_use : (t : ℕ) (m : Ref) → IsInUse (states t) m → prev_at (states t).heap m ≡ w.prev t m
-  prev_in_use t m h = let s = stands_at limits ok steps t m h in prev_standing states t m s.0 s.1
+  prev_in_use : (t : ℕ) (m : Ref) → IsInUse (states t).heap m → prev_at (states t).heap m ≡ w.prev t m
+  prev_in_use t m h = prev_standing states t m h.0 h.1
 
   -- the owner in the protocol is one in the machine
   machine_owner : (t : ℕ) (m q : Ref) (o : Owned.Owner w t m q) → Owner (states t) o.link q m
@@ -131,7 +126,7 @@ module _ (limits : Limits) (ok : AreLimits limits) (steps : List Step) (known : 
 
   -- ---- prev words
 
-  prev_change_by : (n : ℕ) → n < last → (m : Ref) → IsInUse (states n) m → IsInUse (states (suc n)) m → Becomes w n m → PrevChange (states n) (states (suc n)) m
+  prev_change_by : (n : ℕ) → n < last → (m : Ref) → IsInUse (states n).heap m → IsInUse (states (suc n)).heap m → Becomes w n m → PrevChange (states n) (states (suc n)) m
   prev_change_by n h m used still (Same e) = Stays (prev_in_use (suc n) m still ∙ e ∙ sym (prev_in_use n m used))
   prev_change_by n h m used still (GoesIn i a l x private d) =
       let by = swapper w n (sound_at p n (omega arith)) (p.turn n h) m a private.none x.prev.here in
@@ -140,7 +135,7 @@ module _ (limits : Limits) (ok : AreLimits limits) (steps : List Step) (known : 
   prev_change_by n h m used still (IsCommitted q x) = ChangeCommitted (prev_in_use n m used ∙ x.was) (prev_in_use (suc n) m still ∙ x.prev.here)
   prev_change_by n h m used still (IsFailed q x) = HasFailed (prev_in_use n m used ∙ x.was) (prev_in_use (suc n) m still ∙ x.prev.here)
 
-  prev_changes : (n : ℕ) → n < last → (m : Ref) → IsInUse (states n) m → IsInUse (states (suc n)) m → PrevChange (states n) (states (suc n)) m
+  prev_changes : (n : ℕ) → n < last → (m : Ref) → IsInUse (states n).heap m → IsInUse (states (suc n)).heap m → PrevChange (states n) (states (suc n)) m
   prev_changes n h m used still = prev_change_by n h m used still (becomes w n (effect p n h) m)
 
   decided_by : (n k l : ℕ) → n ≤ k → k ≤ l → l ≤ last → (m q i : Ref) → Stood w n i m → (w.prev k m ≡ over.Pending q → ⊥) → Fate w n k m q → w.prev l m ≡ w.prev k m
@@ -148,7 +143,7 @@ module _ (limits : Limits) (ok : AreLimits limits) (steps : List Step) (known : 
   decided_by n k l nk kl h m q i s other (FateFailed e) = failed_final p m q k l kl h e ∙ sym e
   decided_by n k l nk kl h m q i s other (HasCommitted c e) = none_final p i m k l kl h (stood_still nk s) e ∙ sym e
 
-  decided_for_good_at : (n k l : ℕ) → n ≤ k → k ≤ l → l ≤ last → (m q : Ref) → IsInUse (states n) m → IsInUse (states k) m → IsInUse (states l) m →
+  decided_for_good_at : (n k l : ℕ) → n ≤ k → k ≤ l → l ≤ last → (m q : Ref) → IsInUse (states n).heap m → IsInUse (states k).heap m → IsInUse (states l).heap m →
       prev_at (states n).heap m ≡ over.Pending q → (prev_at (states k).heap m ≡ over.Pending q → ⊥) → prev_at (states l).heap m ≡ prev_at (states k).heap m
   decided_for_good_at n k l nk kl h m q at_n at_k at_l pend other =
       let was = sym (prev_in_use n m at_n) ∙ pend in
@@ -159,14 +154,14 @@ module _ (limits : Limits) (ok : AreLimits limits) (steps : List Step) (known : 
 
   -- ---- logical main nodes
 
-  node_in_use : (t : ℕ) (i : Ref) → IsInUse (states t) i → node_at (states t).heap i ≡ node_under states t i
-  node_in_use t i h = let s = stands_at limits ok steps t i h in node_standing states t i s.0 s.1
+  node_in_use : (t : ℕ) (i : Ref) → IsInUse (states t).heap i → node_at (states t).heap i ≡ node_under states t i
+  node_in_use t i h = node_standing states t i h.0 h.1
 
-  link_in_use : (t : ℕ) (i : Ref) → HasIndirection (states t) i → is_link (node_under states t i) ≡ true
-  link_in_use t i h = subst (λ x. is_link x ≡ true) (node_in_use t i h.0) (link_of (node_at (states t).heap i) h.1)
+  link_in_use : (t : ℕ) (i : Ref) → HasIndirection (states t) i → is_indirection (node_under states t i) ≡ true
+  link_in_use t i h = subst (λ x. is_indirection x ≡ true) (node_in_use t i h.0) h.1
 
   main_in_use : (t : ℕ) → t ≤ last → (i : Ref) → HasIndirection (states t) i → logical_main (states t).heap i ≡ Protocol'.main_at w t i
-  main_in_use t h i has = let s = stands_at limits ok steps t i has.0 in logical_standing limits states last known t h i s.0 s.1 (link_in_use t i has)
+  main_in_use t h i has = logical_standing limits states last known t h i has.0.0 has.0.1 (link_in_use t i has)
 
   main_change_by : (n : ℕ) → n < last → (i : Ref) → HasIndirection (states n) i → HasIndirection (states (suc n)) i → MainStep w n i →
       (logical_main (states (suc n)).heap i ≡ logical_main (states n).heap i) ⊎ CommitsMain (states n) (states (suc n)) i
@@ -201,11 +196,10 @@ module _ (limits : Limits) (ok : AreLimits limits) (steps : List Step) (known : 
   not_solid node h = absurd h
 
   tomb_at : (n k : ℕ) → n ≤ k → k ≤ last → (i a : Ref) → HasIndirection (states n) i → HasIndirection (states k) i → logical_main (states n).heap i ≡ a →
-      IsInUse (states n) a → IsTomb (node_at (states n).heap a) → logical_main (states k).heap i ≡ a
+      IsInUse (states n).heap a → IsTomb (node_at (states n).heap a) → logical_main (states k).heap i ≡ a
   tomb_at n k nk h i a at_n at_k is used tomb =
-      let s = stands_at limits ok steps n a used in
       let solid : w.solid a ≡ false =
-      solid_stays limits states last known n a (omega arith) (ap is_some (grown_standing states n a s.0 s.1)) ∙ ap is_solid (sym (node_in_use n a used))
+      solid_stays limits states last known n a (omega arith) (ap is_some (grown_standing states n a used.0 used.1)) ∙ ap is_solid (sym (node_in_use n a used))
       ∙ not_solid (node_at (states n).heap a) tomb in
       main_in_use k h i at_k ∙ tomb_stays p i a n k nk h (link_in_use n i at_n) solid (sym (main_in_use n (omega arith) i at_n) ∙ is)
 
@@ -319,7 +313,7 @@ module _ (limits : Limits) (ok : AreLimits limits) (steps : List Step) (known : 
       (link_in_use k i has_k) y.stands y.commits
 
   checked_at : (t : ℕ) → t ≤ last → (actor : ℕ) (operation : Operation) (i a f q : Ref) → operation_of (states t) actor ≡ Some operation → IsInSwap operation i a f swap.Check →
-      IsInUse (states t) f → prev_at (states t).heap f ≡ over.Pending q → ⊥
+      IsInUse (states t).heap f → prev_at (states t).heap f ≡ over.Pending q → ⊥
   checked_at t h actor operation i a f q runs swaps used pend =
       checked w t actor (sound_at p t h) i a f (ap stage_of_actor runs ∙ ap stage_of swaps.1) q (sym (prev_in_use t f used) ∙ pend)
 
@@ -338,13 +332,13 @@ next_state P states n h = subst (λ k. P (states n) (states k)) (sym (add-one n)
 
 pub prev_words_change : MemoryOfRuns → PrevWordsChange
 prev_words_change memory limits steps ok =
-    subst (λ (s : ℕ → State). (n : ℕ) → n < steps_taken limits steps → (main : Ref) → IsInUse (s n) main → IsInUse (s (n + 1)) main → PrevChange (s n) (s (n + 1)) main)
+    subst (λ (s : ℕ → State). (n : ℕ) → n < steps_taken limits steps → (main : Ref) → IsInUse (s n).heap main → IsInUse (s (n + 1)).heap main → PrevChange (s n) (s (n + 1)) main)
     (same_states limits steps)
-    (λ n h main. next_state (λ a b. IsInUse a main → IsInUse b main → PrevChange a b main) (states_of limits steps) n (prev_changes limits ok steps (known_from memory limits steps ok) n h main))
+    (λ n h main. next_state (λ (a b : State). IsInUse a.heap main → IsInUse b.heap main → PrevChange a b main) (states_of limits steps) n (prev_changes limits ok steps (known_from memory limits steps ok) n h main))
 
 pub decided_for_good : MemoryOfRuns → DecidedForGood
 decided_for_good memory limits steps ok =
-    subst (λ (s : ℕ → State). (n k l : ℕ) → n ≤ k → k ≤ l → l ≤ steps_taken limits steps → (main replaced : Ref) → IsInUse (s n) main → IsInUse (s k) main → IsInUse (s l) main →
+    subst (λ (s : ℕ → State). (n k l : ℕ) → n ≤ k → k ≤ l → l ≤ steps_taken limits steps → (main replaced : Ref) → IsInUse (s n).heap main → IsInUse (s k).heap main → IsInUse (s l).heap main →
     prev_at (s n).heap main ≡ over.Pending replaced → (prev_at (s k).heap main ≡ over.Pending replaced → ⊥) → prev_at (s l).heap main ≡ prev_at (s k).heap main)
     (same_states limits steps) (decided_for_good_at limits ok steps (known_from memory limits steps ok))
 
@@ -419,12 +413,12 @@ late_once layers limits steps ok closed n k i x y =
 
 pub checked_is_decided : MemoryOfRuns → CheckedIsDecided
 checked_is_decided memory limits steps ok =
-    subst (λ (s : State). (actor : ℕ) (operation : Operation) (i a f q : Ref) → operation_of s actor ≡ Some operation → IsInSwap operation i a f swap.Check → IsInUse s f →
+    subst (λ (s : State). (actor : ℕ) (operation : Operation) (i a f q : Ref) → operation_of s actor ≡ Some operation → IsInSwap operation i a f swap.Check → IsInUse s.heap f →
     prev_at s.heap f ≡ over.Pending q → ⊥) (run_ends limits steps)
     (checked_at limits ok steps (known_from memory limits steps ok) (last_of limits steps) (omega arith))
 
 pub tombs_stay : MemoryOfRuns → TombsStay
 tombs_stay memory limits steps ok =
     subst (λ (s : ℕ → State). (n k : ℕ) → n ≤ k → k ≤ steps_taken limits steps → (i a : Ref) → HasIndirection (s n) i → HasIndirection (s k) i → logical_main (s n).heap i ≡ a →
-    IsInUse (s n) a → IsTomb (node_at (s n).heap a) → logical_main (s k).heap i ≡ a)
+    IsInUse (s n).heap a → IsTomb (node_at (s n).heap a) → logical_main (s k).heap i ≡ a)
     (same_states limits steps) (tomb_at limits ok steps (known_from memory limits steps ok))

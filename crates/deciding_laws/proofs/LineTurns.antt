@@ -74,7 +74,7 @@ use Rattle.machine_model.proofs.Grown.{node_under}
 use Rattle.machine_model.proofs.Moves.{GoesOn}
 use Rattle.deciding_laws.proofs.Words.{Words, HasMade, Stage, Rests, Reads, Holds, Publishes, Decides, Checks, IsFree, MayName, Given, ReadTurn, Moves, Idles, MakesNode, SwapsNode, ReadsOn, DecidesOn, after_read}
 use Rattle.deciding_laws.proofs.Stages.{stage_of, ReadRemembers, Remembers}
-use Rattle.deciding_laws.proofs.Known.{is_link, is_solid, BuildsFrom, HasSolid, GrownStays, GrownSwaps, FindsMain, FindsPrev, Either, Taken, ActsOn, Known}
+use Rattle.deciding_laws.proofs.Known.{is_solid, BuildsFrom, HasSolid, GrownStays, GrownSwaps, FindsMain, FindsPrev, Either, Taken, ActsOn, Known}
 use Rattle.deciding_laws.proofs.GrownWords.{words_of, leaves_words, swaps_words, makes_words, takes_node}
 use Rattle.deciding_laws.proofs.ReadTurns.{no_commit, solid_stays, read_turn}
 use Rattle.deciding_laws.proofs.InHeap.{grown_standing, node_standing}
@@ -83,7 +83,8 @@ use Rattle.machine_model.specs.declared.building.Site.{Site}
 use Rattle.machine_model.specs.declared.building.Site.TheVariants as site
 use Rattle.deciding_laws.proofs.LineReads.{ReadsSo, on_stage}
 use Rattle.deciding_laws.proofs.LineRests
-use Rattle.deciding_laws.proofs.LineRests.{AtRest, AfterMade}
+use Rattle.deciding_laws.proofs.LineRests.{AtRest}
+use Rattle.memory_laws.specs.Wants.{is_indirection}
 
 module _ (limits : Limits) (states : ℕ → State) (last : ℕ) (known : Known limits states last) (t : ℕ) (h : t < last) (k : ℕ) (operation : Operation) where
   abbrev w : Words
@@ -130,7 +131,7 @@ module _ (limits : Limits) (states : ℕ → State) (last : ℕ) (known : Known 
       let found = grown_standing states t m x.slot x.stands in
       solid_stays limits states last known t m (omega arith) (ap is_some found) ∙ ap (λ o. is_solid (node_of o)) found ∙ x.solid
 
-  solid_no_link : (node : Node) → is_solid node ≡ true → is_link node ≡ false
+  solid_no_link : (node : Node) → is_solid node ≡ true → is_indirection node ≡ false
   solid_no_link (Indirection x y) e = absurd (true≢false (sym e))
   solid_no_link (Branch b es) e = refl
   solid_no_link (Single k v) e = refl
@@ -138,8 +139,8 @@ module _ (limits : Limits) (states : ℕ → State) (last : ℕ) (known : Known 
   solid_no_link (Listed s) e = refl
 
   -- and is no indirection
-  link_of_solid : (m : Ref) → HasSolid (states t) m → is_link (node_at heap m) ≡ false
-  link_of_solid m x = ap is_link (node_standing states t m x.slot x.stands ∙ ap node_of (grown_standing states t m x.slot x.stands)) ∙ solid_no_link x.slot.node x.solid
+  link_of_solid : (m : Ref) → HasSolid (states t) m → is_indirection (node_at heap m) ≡ false
+  link_of_solid m x = ap is_indirection (node_standing states t m x.slot x.stands ∙ ap node_of (grown_standing states t m x.slot x.stands)) ∙ solid_no_link x.slot.node x.solid
 
   -- a turn that leads to this line
   abbrev pub NextLine : Stage → Line → Type 0
@@ -151,19 +152,19 @@ module _ (limits : Limits) (states : ℕ → State) (last : ℕ) (known : Known 
   rest_turn s l free e c r = Idles (leaves_words states last known.closing t e (no_commit limits states last known t h c)) free r.0
 
   make_turn : (s : Stage) → IsFree s → (node : Node) (after : Option Ref → Line) → (states (suc t)).commits ≡ (states t).commits → AtRest G W (after None) →
-      ((n : Ref) → HasMade GS n (stage_of (after (Some n)))) → (is_link node ≡ true → MayName w t k s (main_of node)) → (made : Option Ref) → Taken states t node made →
+      ((n : Ref) → HasMade GS n (stage_of (after (Some n)))) → (is_indirection node ≡ true → MayName w t k s (main_of node)) → (made : Option Ref) → Taken states t node made →
       NextLine s (after made)
   make_turn s free node after c none some name None e = rest_turn s (after None) free e c none
   make_turn s free node after c none some name (Some n) e =
       let is : node_under states (suc t) n ≡ node = takes_node states last known.closing t n node e in
       MakesNode n (makes_words states last known.closing t n node e (no_commit limits states last known t h c)) free
-      (λ l. subst (λ x. MayName w t k s (main_of x)) (sym is) (name (subst (λ x. is_link x ≡ true) is l))) (some n)
+      (λ l. subst (λ x. MayName w t k s (main_of x)) (sym is) (name (subst (λ x. is_indirection x ≡ true) is l))) (some n)
 
   -- no indirection is made
   abbrev IsNoLink : Node → Type 0
-  IsNoLink node = is_link node ≡ false
+  IsNoLink node = is_indirection node ≡ false
 
-  names_none : (s : Stage) (node : Node) → IsNoLink node → is_link node ≡ true → MayName w t k s (main_of node)
+  names_none : (s : Stage) (node : Node) → IsNoLink node → is_indirection node ≡ true → MayName w t k s (main_of node)
   names_none s node none is = absurd (true≢false (sym is ∙ none))
 
   -- a step of a READ

@@ -32,9 +32,10 @@ use Rattle.machine_model.specs.Machine.{with_begin, reclaimer_of}
 use Rattle.machine_model.proofs.Moves.{Moves, Begins, Goes, Ends, Sweeps, begun_operation}
 use Rattle.machine_model.proofs.Times.{IsRun}
 use Rattle.machine_model.proofs.Grown.{standing, or_before, grown}
-use Rattle.deciding_laws.proofs.Known.{is_link, GrownStays, GrownChanges, GrownSwaps, FindsMain, FindsPrev, Either, Decided, Taken, ActsOn, IsNoGo, BuildsFrom, HasSolid, Known}
+use Rattle.deciding_laws.proofs.Known.{GrownStays, GrownChanges, GrownSwaps, FindsMain, FindsPrev, Either, Decided, Taken, ActsOn, IsNoGo, BuildsFrom, HasSolid, Known}
 use Rattle.deciding_laws.proofs.InHeap.{grown_standing, node_standing, prev_standing}
 use Rattle.deciding_laws.proofs.FromHeap.{main_here, main_other, prev_here, prev_other, freed_before}
+use Rattle.memory_laws.specs.Wants.{is_indirection}
 
 -- ---- what memory gives
 
@@ -42,13 +43,13 @@ use Rattle.deciding_laws.proofs.FromHeap.{main_here, main_other, prev_here, prev
 pub record HasLink (state : State) (i : Ref) : Type 0 where
   pub slot : Slot
   pub stands : standing state.heap i ≡ Some slot
-  pub link : is_link slot.node ≡ true
+  pub link : is_indirection slot.node ≡ true
 
 -- what stands there isn't one
 pub record HasMain (state : State) (m : Ref) : Type 0 where
   pub slot : Slot
   pub stands : standing state.heap m ≡ Some slot
-  pub no_link : is_link slot.node ≡ false
+  pub no_link : is_indirection slot.node ≡ false
 
 -- the words that an action reads or writes are there
 abbrev pub Finds : State → Action → Type 0
@@ -79,7 +80,7 @@ pub record Memory (limits : Limits) (states : ℕ → State) (last : ℕ) : Type
   pub built_from : (t : ℕ) → t < last → (actor : ℕ) (operation : Operation) → operation_of (states t) actor ≡ Some operation → (main : Ref) →
       BuildsFrom operation.line main → HasSolid (states t) main
   -- the main word of an indirection in use names what is in use
-  pub mains_stand : (t : ℕ) → t ≤ last → (i : Ref) (slot : Slot) → standing (states t).heap i ≡ Some slot → is_link slot.node ≡ true →
+  pub mains_stand : (t : ℕ) → t ≤ last → (i : Ref) (slot : Slot) → standing (states t).heap i ≡ Some slot → is_indirection slot.node ≡ true →
       (main : Slot) × (standing (states t).heap (main_of slot.node) ≡ Some main)
 
 -- roots: where a READ on a writable handle asks for the root, and finds it with no offer, the root's generation wasn't closed before
@@ -141,14 +142,14 @@ module _ (states : ℕ → State) (t : ℕ) where
 
   finds_main : (i : Ref) → HasLink (states t) i → FindsMain states t i
   finds_main i h = record {
-    link = ap (λ o. is_link (node_of o)) (grown_standing states t i h.slot h.stands) ∙ h.link;
+    link = ap (λ o. is_indirection (node_of o)) (grown_standing states t i h.slot h.stands) ∙ h.link;
     main = ap main_of (node_standing states t i h.slot h.stands);
   }
 
   finds_prev : (m : Ref) → HasMain (states t) m → FindsPrev states t m
   finds_prev m h = record {
     made = ap is_some (grown_standing states t m h.slot h.stands);
-    no_link = ap (λ o. is_link (node_of o)) (grown_standing states t m h.slot h.stands) ∙ h.no_link;
+    no_link = ap (λ o. is_indirection (node_of o)) (grown_standing states t m h.slot h.stands) ∙ h.no_link;
     prev = prev_standing states t m h.slot h.stands;
   }
 
@@ -173,7 +174,7 @@ module _ (states : ℕ → State) (t : ℕ) where
   differ : (i f : Ref) → HasLink (states t) i → HasMain (states t) f → i ≡ f → ⊥
   differ i f h g same =
       let slots = same_Some _ _ (sym h.stands ∙ ap (λ q. standing H q) same ∙ g.stands) in
-      true≢false (sym h.link ∙ ap (λ (s : Slot). is_link s.node) slots ∙ g.no_link)
+      true≢false (sym h.link ∙ ap (λ (s : Slot). is_indirection s.node) slots ∙ g.no_link)
 
   swap_written : (i a f : Ref) → HasLink (states t) i → HasMain (states t) f → (states (suc t)).heap ≡ with_prev (with_main H i f) f (over.Pending a) → GrownSwaps states t i a f
   swap_written i a f h g e =

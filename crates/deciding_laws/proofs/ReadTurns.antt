@@ -28,9 +28,10 @@ use Rattle.machine_model.proofs.Times.{steps_at}
 use Rattle.machine_model.proofs.Grown.{grown, node_under, prev_word}
 use Rattle.deciding_laws.proofs.Words.{Words, Kept, Leaves, ReadTurn, ReadsMain, FindsDecided, FindsFailed, FindsPending, DecidesAtOnce, Asks, FindsOffer, Aborts, Commits as CommitsTurn, Fails as FailsTurn, Overtaken as OvertakenTurn, Restores, FindsAnother}
 use Rattle.deciding_laws.proofs.Finals.{from_time}
-use Rattle.deciding_laws.proofs.Known.{is_link, is_solid, GrownStays, GrownChanges, GrownSwaps, GrownTakes, FindsMain, FindsPrev, Either, Decided, Taken, ActsOn, Known}
+use Rattle.deciding_laws.proofs.Known.{is_solid, GrownStays, GrownChanges, GrownSwaps, GrownTakes, FindsMain, FindsPrev, Either, Decided, Taken, ActsOn, Known}
 use Rattle.deciding_laws.proofs.GrownWords.{words_of, leaves_words, commits_words, fails_words, puts_back_words, slot_generation, slot_main_link, slot_prev_node, slot_solid, slot_kept}
 use Rattle.deciding_laws.proofs.StepsAt.{StepAt, IsBegin, IsGo, IsEnd, IsSweep, step_at, commit_here, commit_elsewhere, commit_kept}
+use Rattle.memory_laws.specs.Wants.{is_indirection}
 
 -- ---- generations stay
 
@@ -81,40 +82,40 @@ grown_step_of limits states last k t h (IsSweep o m e) = Stays (k.stays t h step
 
 -- what an indirection keeps
 abbrev KeepsLink : (ℕ → State) → ℕ → Ref → Type 0
-KeepsLink states t i = (is_link (node_under states (suc t) i) ≡ true) × (generation_of (node_under states (suc t) i) ≡ generation_of (node_under states t i))
+KeepsLink states t i = (is_indirection (node_under states (suc t) i) ≡ true) × (generation_of (node_under states (suc t) i) ≡ generation_of (node_under states t i))
 
-same_link : (states : ℕ → State) (t : ℕ) (i : Ref) → is_link (node_under states t i) ≡ true → grown states (suc t) i ≡ grown states t i → KeepsLink states t i
-same_link states t i l e = (ap (λ o. is_link (node_of o)) e ∙ l, ap (λ o. generation_of (node_of o)) e)
+same_link : (states : ℕ → State) (t : ℕ) (i : Ref) → is_indirection (node_under states t i) ≡ true → grown states (suc t) i ≡ grown states t i → KeepsLink states t i
+same_link states t i l e = (ap (λ o. is_indirection (node_of o)) e ∙ l, ap (λ o. generation_of (node_of o)) e)
 
-main_link : (states : ℕ → State) (t : ℕ) (x i : Ref) → is_link (node_under states t i) ≡ true → grown states (suc t) i ≡ option_map (main_changed x) (grown states t i) → KeepsLink states t i
+main_link : (states : ℕ → State) (t : ℕ) (x i : Ref) → is_indirection (node_under states t i) ≡ true → grown states (suc t) i ≡ option_map (main_changed x) (grown states t i) → KeepsLink states t i
 main_link states t x i l e =
-    (ap (λ o. is_link (node_of o)) e ∙ slot_main_link x (grown states t i) ∙ l, ap (λ o. generation_of (node_of o)) e ∙ slot_generation x (grown states t i))
+    (ap (λ o. is_indirection (node_of o)) e ∙ slot_main_link x (grown states t i) ∙ l, ap (λ o. generation_of (node_of o)) e ∙ slot_generation x (grown states t i))
 
-prev_link : (states : ℕ → State) (t : ℕ) (v : Prev) (i : Ref) → is_link (node_under states t i) ≡ true → grown states (suc t) i ≡ option_map (prev_changed v) (grown states t i) → KeepsLink states t i
+prev_link : (states : ℕ → State) (t : ℕ) (v : Prev) (i : Ref) → is_indirection (node_under states t i) ≡ true → grown states (suc t) i ≡ option_map (prev_changed v) (grown states t i) → KeepsLink states t i
 prev_link states t v i l e = (
-  ap (λ o. is_link (node_of o)) e ∙ ap is_link (slot_prev_node v (grown states t i)) ∙ l,
+  ap (λ o. is_indirection (node_of o)) e ∙ ap is_indirection (slot_prev_node v (grown states t i)) ∙ l,
   ap (λ o. generation_of (node_of o)) e ∙ ap generation_of (slot_prev_node v (grown states t i)),
 )
 
-main_link_by : (states : ℕ → State) (t : ℕ) (x r i : Ref) → is_link (node_under states t i) ≡ true → GrownChanges states t (main_changed x) r → (i ≡ r) ⊎ (i ≡ r → ⊥) → KeepsLink states t i
+main_link_by : (states : ℕ → State) (t : ℕ) (x r i : Ref) → is_indirection (node_under states t i) ≡ true → GrownChanges states t (main_changed x) r → (i ≡ r) ⊎ (i ≡ r → ⊥) → KeepsLink states t i
 main_link_by states t x r i l e (inl is) = main_link states t x i l (subst (λ q. grown states (suc t) q ≡ option_map (main_changed x) (grown states t q)) (sym is) e.here)
 main_link_by states t x r i l e (inr apart) = same_link states t i l (e.elsewhere i apart)
 
-prev_link_by : (states : ℕ → State) (t : ℕ) (v : Prev) (r i : Ref) → is_link (node_under states t i) ≡ true → GrownChanges states t (prev_changed v) r → (i ≡ r) ⊎ (i ≡ r → ⊥) → KeepsLink states t i
+prev_link_by : (states : ℕ → State) (t : ℕ) (v : Prev) (r i : Ref) → is_indirection (node_under states t i) ≡ true → GrownChanges states t (prev_changed v) r → (i ≡ r) ⊎ (i ≡ r → ⊥) → KeepsLink states t i
 prev_link_by states t v r i l e (inl is) = prev_link states t v i l (subst (λ q. grown states (suc t) q ≡ option_map (prev_changed v) (grown states t q)) (sym is) e.here)
 prev_link_by states t v r i l e (inr apart) = same_link states t i l (e.elsewhere i apart)
 
-swap_link_by : (states : ℕ → State) (t : ℕ) (r a f i : Ref) → is_link (node_under states t i) ≡ true → GrownSwaps states t r a f → (i ≡ r) ⊎ (i ≡ r → ⊥) → (i ≡ f) ⊎ (i ≡ f → ⊥) → KeepsLink states t i
+swap_link_by : (states : ℕ → State) (t : ℕ) (r a f i : Ref) → is_indirection (node_under states t i) ≡ true → GrownSwaps states t r a f → (i ≡ r) ⊎ (i ≡ r → ⊥) → (i ≡ f) ⊎ (i ≡ f → ⊥) → KeepsLink states t i
 swap_link_by states t r a f i l e (inl is) other = main_link states t f i l (subst (λ q. grown states (suc t) q ≡ option_map (main_changed f) (grown states t q)) (sym is) e.main)
 swap_link_by states t r a f i l e (inr apart) (inl is) =
     prev_link states t (over.Pending a) i l (subst (λ q. grown states (suc t) q ≡ option_map (prev_changed (over.Pending a)) (grown states t q)) (sym is) e.prev)
 swap_link_by states t r a f i l e (inr apart) (inr other) = same_link states t i l (e.elsewhere i apart other)
 
-take_link_by : (states : ℕ → State) (t : ℕ) (n : Ref) (node : Node) (i : Ref) → is_link (node_under states t i) ≡ true → GrownTakes states t n node → (i ≡ n) ⊎ (i ≡ n → ⊥) → KeepsLink states t i
-take_link_by states t n node i l e (inl is) = absurd (true≢false (sym l ∙ ap (λ q. is_link (node_under states t q)) is ∙ ap (λ o. is_link (node_of o)) e.new))
+take_link_by : (states : ℕ → State) (t : ℕ) (n : Ref) (node : Node) (i : Ref) → is_indirection (node_under states t i) ≡ true → GrownTakes states t n node → (i ≡ n) ⊎ (i ≡ n → ⊥) → KeepsLink states t i
+take_link_by states t n node i l e (inl is) = absurd (true≢false (sym l ∙ ap (λ q. is_indirection (node_under states t q)) is ∙ ap (λ o. is_indirection (node_of o)) e.new))
 take_link_by states t n node i l e (inr apart) = same_link states t i l (e.elsewhere i apart)
 
-keeps_link : (states : ℕ → State) (t : ℕ) (i : Ref) → is_link (node_under states t i) ≡ true → GrownStep states t → KeepsLink states t i
+keeps_link : (states : ℕ → State) (t : ℕ) (i : Ref) → is_indirection (node_under states t i) ≡ true → GrownStep states t → KeepsLink states t i
 keeps_link states t i l (Stays e) = same_link states t i l (e i)
 keeps_link states t i l (MainChanges x r e) = main_link_by states t x r i l e (cases_eq i r)
 keeps_link states t i l (PrevChanges v r e) = prev_link_by states t v r i l e (cases_eq i r)
@@ -122,10 +123,10 @@ keeps_link states t i l (Swaps r a f e) = swap_link_by states t r a f i l e (cas
 keeps_link states t i l (Takes n node e) = take_link_by states t n node i l e (cases_eq i n)
 
 -- an indirection's generation is that at the end
-pub generation_stays : (limits : Limits) (states : ℕ → State) (last : ℕ) → Known limits states last → (t : ℕ) (i : Ref) → t ≤ last → is_link (node_under states t i) ≡ true →
+pub generation_stays : (limits : Limits) (states : ℕ → State) (last : ℕ) → Known limits states last → (t : ℕ) (i : Ref) → t ≤ last → is_indirection (node_under states t i) ≡ true →
     generation_of (node_under states last i) ≡ generation_of (node_under states t i)
 generation_stays limits states last k t i within l =
-    (from_time (λ v. (is_link (node_under states v i) ≡ true) × (generation_of (node_under states v i) ≡ generation_of (node_under states t i))) t last (l, refl)
+    (from_time (λ v. (is_indirection (node_under states v i) ≡ true) × (generation_of (node_under states v i) ≡ generation_of (node_under states t i))) t last (l, refl)
     (λ v before h so_far. let kept = keeps_link states v i so_far.0 (grown_step_of limits states last k v h (step_at (states v) (states (suc v)) (k.run.turn v h))) in
     (kept.0, kept.1 ∙ so_far.1)) last within (omega arith)).1
 

@@ -22,7 +22,8 @@ use Rattle.machine_model.specs.Reading.{read_step}
 use Rattle.machine_model.specs.Operations.{read_of}
 use Rattle.machine_model.specs.Acting.{operation_after}
 use Rattle.machine_model.specs.Machine.{AreLimits, run, taken_steps}
-use Rattle.deciding_laws.specs.Runs.{steps_taken, state_before, IsInUse, HasIndirection}
+use Rattle.deciding_laws.specs.Runs.{steps_taken, state_before, HasIndirection}
+use Rattle.memory_laws.specs.Laws.{IsInUse}
 
 -- ---- owners
 
@@ -42,7 +43,7 @@ pub record Owner (state : State) (indirection replaced fresh : Ref) : Type 0 whe
 -- a pending node has one running operation that swapped it in, still in that SWAP; nobody else is in a SWAP of it
 abbrev pub PendingHasOwner : Type 0
 PendingHasOwner =
-    (limits : Limits) (steps : List Step) → AreLimits limits → (fresh replaced : Ref) → IsInUse (run limits steps) fresh →
+    (limits : Limits) (steps : List Step) → AreLimits limits → (fresh replaced : Ref) → IsInUse (run limits steps).heap fresh →
     prev_at (run limits steps).heap fresh ≡ prev.Pending replaced →
     (indirection : Ref) × (owner : Owner (run limits steps) indirection replaced fresh)
     × ((actor : ℕ) (operation : Operation) (at before : Ref) (l : SwapLine) → operation_of (run limits steps) actor ≡ Some operation → IsInSwap operation at before fresh l →
@@ -52,7 +53,7 @@ PendingHasOwner =
 abbrev pub CheckedIsDecided : Type 0
 CheckedIsDecided =
     (limits : Limits) (steps : List Step) → AreLimits limits → (actor : ℕ) (operation : Operation) (indirection replaced fresh other : Ref) →
-    operation_of (run limits steps) actor ≡ Some operation → IsInSwap operation indirection replaced fresh Check → IsInUse (run limits steps) fresh →
+    operation_of (run limits steps) actor ≡ Some operation → IsInSwap operation indirection replaced fresh Check → IsInUse (run limits steps).heap fresh →
     ¬ (prev_at (run limits steps).heap fresh ≡ prev.Pending other)
 
 -- ---- prev words
@@ -71,14 +72,14 @@ pub data PrevChange (before after : State) (main : Ref) : Type 0 where
 abbrev pub PrevWordsChange : Type 0
 PrevWordsChange =
     (limits : Limits) (steps : List Step) → AreLimits limits → (n : ℕ) → n < steps_taken limits steps → (main : Ref) →
-    IsInUse (state_before limits steps n) main → IsInUse (state_before limits steps (n + 1)) main →
+    IsInUse (state_before limits steps n).heap main → IsInUse (state_before limits steps (n + 1)).heap main →
     PrevChange (state_before limits steps n) (state_before limits steps (n + 1)) main
 
 -- once it was pending and isn't any more, it stays as it is
 abbrev pub DecidedForGood : Type 0
 DecidedForGood =
     (limits : Limits) (steps : List Step) → AreLimits limits → (n k l : ℕ) → n ≤ k → k ≤ l → l ≤ steps_taken limits steps → (main replaced : Ref) →
-    IsInUse (state_before limits steps n) main → IsInUse (state_before limits steps k) main → IsInUse (state_before limits steps l) main →
+    IsInUse (state_before limits steps n).heap main → IsInUse (state_before limits steps k).heap main → IsInUse (state_before limits steps l).heap main →
     prev_at (state_before limits steps n).heap main ≡ prev.Pending replaced → ¬ (prev_at (state_before limits steps k).heap main ≡ prev.Pending replaced) →
     prev_at (state_before limits steps l).heap main ≡ prev_at (state_before limits steps k).heap main
 
@@ -118,7 +119,7 @@ abbrev pub TombsStay : Type 0
 TombsStay =
     (limits : Limits) (steps : List Step) → AreLimits limits → (n k : ℕ) → n ≤ k → k ≤ steps_taken limits steps → (indirection tomb : Ref) →
     HasIndirection (state_before limits steps n) indirection → HasIndirection (state_before limits steps k) indirection →
-    logical_main (state_before limits steps n).heap indirection ≡ tomb → IsInUse (state_before limits steps n) tomb → IsTomb (node_at (state_before limits steps n).heap tomb) →
+    logical_main (state_before limits steps n).heap indirection ≡ tomb → IsInUse (state_before limits steps n).heap tomb → IsTomb (node_at (state_before limits steps n).heap tomb) →
     logical_main (state_before limits steps k).heap indirection ≡ tomb
 
 -- ---- what a READ gives

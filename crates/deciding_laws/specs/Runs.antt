@@ -1,13 +1,13 @@
 -- Words for laws over the whole of a run.
-use Rattle.std.specs.Prelude.{ℕ, List, length, take, Contains}
+use Rattle.std.specs.Prelude.{◌≡◌, ℕ, true, List, length, take}
 use Rattle.slot_arena.specs.declared.refs.Ref.{Ref}
-use Rattle.slot_arena.specs.declared.nodes.Node.{Node}
-use Rattle.slot_arena.specs.declared.nodes.Node.TheVariants.{Indirection}
-use Rattle.slot_arena.specs.Heaps.{node_at, in_use}
+use Rattle.slot_arena.specs.Heaps.{node_at}
 use Rattle.machine_model.specs.declared.steps.Limits.{Limits}
 use Rattle.machine_model.specs.declared.steps.Step.{Step}
 use Rattle.machine_model.specs.States.{State}
 use Rattle.machine_model.specs.Machine.{run, taken_steps}
+use Rattle.memory_laws.specs.Laws.{IsInUse}
+use Rattle.memory_laws.specs.Wants.{is_indirection}
 
 -- how many of these steps are taken: they have the numbers below it
 abbrev pub steps_taken : Limits → List Step → ℕ
@@ -17,14 +17,6 @@ steps_taken limits steps = length (taken_steps limits steps)
 abbrev pub state_before : Limits → List Step → ℕ → State
 state_before limits steps n = run limits (take n (taken_steps limits steps))
 
--- the reference names a slot in use
-abbrev pub IsInUse : State → Ref → Type 0
-IsInUse state r = Contains (in_use state.heap) r
-
--- an indirection stands under it
-abbrev pub IsIndirection : Node → Type 0
-IsIndirection (Indirection generation main) = Unit {0}
-IsIndirection node = ⊥
-
+-- an indirection in use
 abbrev pub HasIndirection : State → Ref → Type 0
-HasIndirection state i = IsInUse state i × IsIndirection (node_at state.heap i)
+HasIndirection state i = IsInUse state.heap i × (is_indirection (node_at state.heap i) ≡ true)

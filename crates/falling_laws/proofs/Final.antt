@@ -29,7 +29,6 @@ use Rattle.machine_model.specs.Reading.{read_after}
 use Rattle.machine_model.proofs.Times.{IsRun}
 use Rattle.machine_model.proofs.Grown.{grown, main_before}
 use Rattle.deciding_laws.proofs.Finals.{link_stays}
-use Rattle.deciding_laws.proofs.Known.{is_link}
 use Rattle.deciding_laws.proofs.Moments.{moment_at}
 use Rattle.deciding_laws.proofs.Readings.{IsMoment, given_for_good}
 use Rattle.deciding_laws.proofs.Stages.{stage_of}
@@ -37,7 +36,7 @@ use Rattle.deciding_laws.proofs.SwapLines.{reads_stage}
 use Rattle.deciding_laws.proofs.Words.{Reads}
 use Rattle.content_laws.proofs.Runs.{main_at-made}
 use Rattle.content_laws.specs.Runs.{main_at}
-use Rattle.falling_laws.specs.Falling.{ClosedBeforeRead, ReadsClosed, ReadsBelow, IsLate, GivesAt, GivenOnce, GivenForEver, RepairsAreGiven}
+use Rattle.falling_laws.specs.Falling.{ClosedBeforeRead, ReadsClosed, IsLate, GivesAt, GivenOnce, GivenForEver, RepairsAreGiven}
 use Rattle.falling_laws.proofs.KnownRoots.{words, known, protocol_of}
 use Rattle.falling_laws.proofs.Opened.{closed_until}
 use Rattle.falling_laws.proofs.Knows.{Knows, IsInner, KnowsRenew, KnowsClean}
@@ -45,6 +44,8 @@ use Rattle.falling_laws.proofs.ReaderFalls.{KnowsReader, ReaderKey, ReaderWalk}
 use Rattle.falling_laws.proofs.ReadsGive.{gone_is, gives_so, reads_on, late_after}
 use Rattle.falling_laws.proofs.RunFalls.{gen_of, IsOwn, FitsBelow, FallsBelow, LateBelow, Ends, Shut, LateEnd, KnowsGenerations}
 use Rattle.falling_laws.proofs.Paths.{knows_at}
+use Rattle.content_laws.specs.Repairing.{ReadsBelow}
+use Rattle.memory_laws.specs.Wants.{is_indirection}
 
 -- ---- what lines say of their READs
 
@@ -117,7 +118,7 @@ below_inner (line.Walk l) b = absurd b
 below_inner (line.End answer) b = absurd b
 below_inner line.Impossible b = absurd b
 
-made_link : (o : Option Slot) → is_link (node_of o) ≡ true → is_some o ≡ true
+made_link : (o : Option Slot) → is_indirection (node_of o) ≡ true → is_some o ≡ true
 made_link None e = absurd (true≢false (sym e))
 made_link (Some slot) e = refl
 

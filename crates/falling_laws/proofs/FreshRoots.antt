@@ -35,14 +35,12 @@ use Rattle.machine_model.specs.States.{State}
 use Rattle.machine_model.proofs.Times.{IsRun}
 use Rattle.machine_model.proofs.Grown.{grown}
 use Rattle.memory_laws.specs.Laws.{IsInUse}
-use Rattle.memory_laws.specs.Wants.{AnIndirection, Is, Each, Holds, AllHold, line_wants, complete_wants, offer_wants}
+use Rattle.memory_laws.specs.Wants.{AnIndirection, Is, Each, Holds, AllHold, line_wants, complete_wants, offer_wants, is_indirection}
 use Rattle.memory_laws.proofs.AtEachTime.{safe_at}
 use Rattle.memory_laws.proofs.AtTimes.{line_finds, node_found}
 use Rattle.memory_laws.proofs.Claims.{Meets, all_of, safe_of, meets_of, from_meets}
-use Rattle.deciding_laws.proofs.Known.{is_link}
 use Rattle.deciding_laws.proofs.Stood.{Stood}
 use Rattle.generation_laws.proofs.Below.{below_at, looked_up_below}
-use Rattle.generation_laws.proofs.Rooted.{IsRooted}
 use Rattle.generation_laws.proofs.Roots.{IsUnused}
 use Rattle.generation_laws.proofs.RootsAlong.{ordered_at}
 use Rattle.generation_laws.proofs.RootsKept.{fresh_in, fresh_of}
@@ -55,6 +53,8 @@ use Rattle.falling_laws.proofs.Counted.{fresh_used}
 use Rattle.falling_laws.proofs.MainsNext.{inner_rooted, swaps_in}
 use Rattle.falling_laws.proofs.Brought.{Brought, makes, swaps, comes_in}
 use Rattle.falling_laws.proofs.ReaderKnows.{indirection_is}
+use Rattle.generation_laws.specs.Standing.{IsRooted}
+use Rattle.generation_laws.proofs.Rooted.{standing_root}
 
 -- ---- a fresh root is an indirection
 
@@ -79,8 +79,8 @@ module _ (S : Ref → Type 0) (heap : Heap) where
   fresh_link state operation l h x r e = absurd (none-some r e)
 
 -- a generation that no root has isn't that of an operation
-not_rooted : (states : ℕ → State) (t handle g : ℕ) → IsUnused (states t) g → IsRooted states t handle g → ⊥
-not_rooted states t handle g u (inl on) = u.alone handle on.root on.is_open on.its
+pub not_rooted : (states : ℕ → State) (t handle g : ℕ) → IsUnused (states t) g → IsRooted states t handle g → ⊥
+not_rooted states t handle g u (inl on) = let (root, is, writable, its) = standing_root (states t) handle Writable g on in u.alone handle root is its
 not_rooted states t handle g u (inr (c, before, closed, on)) = none-some c (sym u.unclosed ∙ closed)
 
 module _ (limits : Limits) (states : ℕ → State) (last : ℕ) (run : IsRun limits states last) where
@@ -88,7 +88,7 @@ module _ (limits : Limits) (states : ℕ → State) (last : ℕ) (run : IsRun li
   fresh_stands t within k operation x r runs e =
       let claim = fresh_link (IsInUse (states t).heap) (states t).heap (states t) operation operation.line (line_finds (states t) (safe_at limits states last run t within) (suc k) operation runs) x r e in
       let (h, word, is) = indirection_is (node_at (states t).heap r) (meets_of claim) in
-      ap is_link (sym (node_found states t r (safe_of claim)) ∙ is)
+      ap is_indirection (sym (node_found states t r (safe_of claim)) ∙ is)
 
   module _ (t : ℕ) (lt : t < last) (know : AllKnow states last t) (k : ℕ) (was : Operation) (x : Bool) (r : Ref) (runs : Runs (states t) k was) (unmarked : was.is_marked ≡ false) (has : fresh_in x was.line ≡ Some r)
       (falls : FreshFalls states last t was r) where
@@ -147,10 +147,10 @@ module _ (limits : Limits) (states : ℕ → State) (last : ℕ) (run : IsRun li
     unmade = not_yet_drawn limits states last run t (omega arith) r takes
 
     no_link : (words states last).link t r ≡ false
-    no_link = ap (λ q. is_link (node_of q)) unmade
+    no_link = ap (λ q. is_indirection (node_of q)) unmade
 
-    new_only_by : (i : Ref) (before : Option Slot) → grown states t i ≡ before → is_link (node_of before) ≡ false → (words states last).link (suc t) i ≡ true → i ≡ r
-    new_only_by i before was none now = same_Some _ _ (sym (new_link limits states last run t lt know i (ap (λ q. is_link (node_of q)) was ∙ none) now).takes ∙ takes)
+    new_only_by : (i : Ref) (before : Option Slot) → grown states t i ≡ before → is_indirection (node_of before) ≡ false → (words states last).link (suc t) i ≡ true → i ≡ r
+    new_only_by i before was none now = same_Some _ _ (sym (new_link limits states last run t lt know i (ap (λ q. is_indirection (node_of q)) was ∙ none) now).takes ∙ takes)
 
     new_only : (i : Ref) (before : Option Slot) → grown states t i ≡ before → (words states last).link (suc t) i ≡ true → gen_of states last i ≡ gen_of states last r → i ≡ r
     new_only i None was now same = new_only_by i None was refl now

@@ -32,7 +32,7 @@ use Rattle.deciding_laws.proofs.SwapLines.{runs_publishing}
 use Rattle.deciding_laws.specs.Deciding.{IsInSwap}
 use Rattle.generation_laws.proofs.Offers.{StandsBy, own_offer, completes_it}
 use Rattle.generation_laws.proofs.OpenRoots.{no_close_at}
-use Rattle.generation_laws.proofs.Rooted.{IsRooted, rooted_at}
+use Rattle.generation_laws.proofs.Rooted.{rooted_at}
 use Rattle.generation_laws.proofs.Roots.{its_fresh}
 use Rattle.generation_laws.proofs.RootsKept.{fresh_in}
 use Rattle.generation_laws.proofs.Running.{Runs, place_of_actor}
@@ -46,6 +46,7 @@ use Rattle.falling_laws.proofs.RunFalls.{gen_of, IsOwn, FitsBelow, FallsBelow, N
 use Rattle.falling_laws.proofs.NewLinks.{NewLink, new_link}
 use Rattle.falling_laws.proofs.Counted.{drawn_unopened, start_below}
 use Rattle.falling_laws.proofs.Brought.{Brought, makes, swaps, comes_in}
+use Rattle.generation_laws.specs.Standing.{IsRooted}
 
 inner_goes : (l : Line) → IsInner l → is_end l ≡ false
 inner_goes (line.End answer) i = absurd i

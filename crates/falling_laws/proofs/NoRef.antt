@@ -15,9 +15,9 @@ use Rattle.memory_laws.proofs.AtEachTime.{safe_at}
 use Rattle.memory_laws.proofs.First.{first_stands}
 use Rattle.memory_laws.proofs.Under.{taken_all}
 use Rattle.memory_laws.proofs.WordMoves.{word_move}
-use Rattle.deciding_laws.proofs.Known.{is_link}
 use Rattle.generation_laws.proofs.Counter.{new_is_made}
 use Rattle.content_laws.specs.Runs.{is_made, main_within, main_at}
+use Rattle.memory_laws.specs.Wants.{is_indirection}
 
 module _ (limits : Limits) (states : ℕ → State) (last : ℕ) (run : IsRun limits states last) where
   first_none : grown states zero no_ref ≡ None
@@ -55,7 +55,7 @@ module _ (limits : Limits) (states : ℕ → State) (last : ℕ) (run : IsRun li
   pub no_node : (t : ℕ) → t ≤ last → node_under states t no_ref ≡ empty_branch
   no_node t h = ap node_of (nothing_stands t h)
 
-  no_main : (n : Node) → is_link n ≡ false → main_of n ≡ no_ref
+  no_main : (n : Node) → is_indirection n ≡ false → main_of n ≡ no_ref
   no_main (Indirection h word) e = absurd (true≢false e)
   no_main (Branch b es) e = refl
   no_main (Single k v) e = refl
@@ -63,7 +63,7 @@ module _ (limits : Limits) (states : ℕ → State) (last : ℕ) (run : IsRun li
   no_main (Listed s) e = refl
 
   -- what is no indirection has no main node
-  pub no_main_before : (t : ℕ) → t ≤ last → (i : Ref) → is_link (node_under states t i) ≡ false → main_before states t i ≡ no_ref
+  pub no_main_before : (t : ℕ) → t ≤ last → (i : Ref) → is_indirection (node_under states t i) ≡ false → main_before states t i ≡ no_ref
   no_main_before t h i e =
       let word : main_word states t i ≡ no_ref = no_main (node_under states t i) e in
       ap (λ w. logical w (prev_word states t w)) word ∙ ap (logical no_ref) (ap prev_of (nothing_stands t h))

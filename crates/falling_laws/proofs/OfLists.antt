@@ -1,5 +1,5 @@
 -- The laws, from what holds along runs.
-use Rattle.std.proofs.Common.{◌≡◌, ℕ, ◌≤◌, ◌⊎◌, true, List, Contains, Some, inl, inr, refl, sym, ap, ◌∙◌, subst, arith}
+use Rattle.std.proofs.Common.{◌≡◌, ℕ, ◌≤◌, ◌⊎◌, true, List, Contains, Some, inl, inr, sym, ap, ◌∙◌, subst, arith}
 use Rattle.std.specs.List.{All}
 use Rattle.std.proofs.lemmas.List.Elements.{All-contains, All-weaker, All-nil}
 use Rattle.slot_arena.specs.Heaps.{Heap, generation_of}
@@ -8,14 +8,11 @@ use Rattle.machine_model.specs.declared.lines.Purpose.{Purpose}
 use Rattle.machine_model.specs.declared.operations.Operation.{Operation}
 use Rattle.machine_model.specs.declared.reading.Swap.{Swap}
 use Rattle.machine_model.specs.States.{root_at, operation_of, closed_at}
-use Rattle.machine_model.proofs.Grown.{standing}
-use Rattle.memory_laws.specs.Wants.{AnEntry, ASingle, line_wants}
+use Rattle.memory_laws.specs.Wants.{AnEntry, ASingle, line_wants, is_indirection}
 use Rattle.memory_laws.proofs.AtTimes.{line_finds, node_found, main_found}
 use Rattle.memory_laws.proofs.Claims.{Meets}
 use Rattle.memory_laws.proofs.Under.{prev_under}
-use Rattle.deciding_laws.specs.Runs as InUse
 use Rattle.deciding_laws.proofs.InHeap.{logical_standing}
-use Rattle.deciding_laws.proofs.Known.{is_link}
 use Rattle.deciding_laws.proofs.Stood.{Stood, stands_now}
 use Rattle.generation_laws.specs.Laws.{root_generation}
 use Rattle.falling_laws.specs.Falling.{WasOpened, MayStandBelow, IsIndirectionOf}
@@ -46,10 +43,10 @@ use Rattle.memory_laws.proofs.AtEachTime.{safe_at}
 use Rattle.memory_laws.proofs.Claims.{safe_of, all_of, first_hold, last_hold}
 use Rattle.memory_laws.proofs.Safety.{IsSafe}
 use Rattle.memory_laws.proofs.Under as Under
-use Rattle.deciding_laws.specs.Runs.{IsIndirection, HasIndirection}
-use Rattle.deciding_laws.proofs.InHeap.{in_use_stands, states_are}
+use Rattle.deciding_laws.proofs.InHeap.{states_are}
 use Rattle.falling_laws.specs.Laws.{FallBelow, IsBelow, IsOpened, HasMain}
 use Rattle.falling_laws.proofs.KnownRoots.{words}
+use Rattle.falling_laws.proofs.ReaderKnows.{indirection_is}
 
 -- ---- what is in use
 
@@ -60,10 +57,6 @@ entries_used S heap (Branch bitmap entries) w = All-weaker (Meets S heap AnEntry
 entries_used S heap (Single key value) w = All-nil S
 entries_used S heap (Tomb single) w = one_of S single (safe_of w.0)
 entries_used S heap (Listed singles) w = All-weaker (Meets S heap ASingle) S (λ r m. m.0) singles.items (all_of w.0)
-
-link_of : (n : Node) → IsIndirection n → (h : ℕ) × (word : Ref) × (n ≡ Indirection h word)
-link_of (Indirection h word) l = (h, word, refl)
-link_of n l = absurd l
 
 module _ (state : State) (I : IsSafe state) where
   abbrev S : Ref → Type 0
@@ -77,9 +70,9 @@ module _ (state : State) (I : IsSafe state) where
   prev_claims r (slot, found) =
       subst (λ v. AllHold S state.heap (prev_wants v)) (sym (prev_under state.heap r slot found)) (last_hold S state.heap (node_wants slot.node) (prev_wants slot.prev) (I.nodes r slot found).0)
 
-  main_used : (i : Ref) → S i → IsIndirection (node_at state.heap i) → S (main_at state.heap i)
+  main_used : (i : Ref) → S i → is_indirection (node_at state.heap i) ≡ true → S (main_at state.heap i)
   main_used i used l =
-      let (h, word, is) = link_of (node_at state.heap i) l in
+      let (h, word, is) = indirection_is (node_at state.heap i) l in
       subst S (sym (ap main_of is)) (safe_of (subst (λ n. AllHold S state.heap (node_wants n)) is (node_claims i used)).0)
 
   logical_by : (m : Ref) → S m → (v : Prev) → AllHold S state.heap (prev_wants v) → S (logical m v)
@@ -87,7 +80,7 @@ module _ (state : State) (I : IsSafe state) where
   logical_by m used (prev.Pending p) w = safe_of w.0
   logical_by m used (prev.Failed p) w = safe_of w.0
 
-  has_main_used : (i m : Ref) → S i → IsIndirection (node_at state.heap i) → HasMain state i m → S m
+  has_main_used : (i m : Ref) → S i → is_indirection (node_at state.heap i) ≡ true → HasMain state i m → S m
   has_main_used i m used l (inl counts) =
       let main = main_used i used l in
       subst S counts (logical_by (main_at state.heap i) main (prev_at state.heap (main_at state.heap i)) (prev_claims (main_at state.heap i) main))
@@ -102,11 +95,11 @@ module _ (limits : Limits) (states : ℕ → State) (last : ℕ) (run : IsRun li
   within : last ≤ last
   within = omega arith
 
-  main_stands : (i m : Ref) → U i → IsIndirection (node_at (states last).heap i) → HasMain (states last) i m → Stood (words states last) last i m
+  main_stands : (i m : Ref) → U i → is_indirection (node_at (states last).heap i) ≡ true → HasMain (states last) i m → Stood (words states last) last i m
   main_stands i m used l has = by has
     where
       link : (words states last).link last i ≡ true
-      link = let (h, word, is) = link_of (node_at (states last).heap i) l in ap is_link (sym (node_found states last i used) ∙ is)
+      link = let (h, word, is) = indirection_is (node_at (states last).heap i) l in ap is_indirection (sym (node_found states last i used) ∙ is)
 
       by : HasMain (states last) i m → Stood (words states last) last i m
       by (inl counts) =
@@ -122,13 +115,13 @@ module _ (limits : Limits) (states : ℕ → State) (last : ℕ) (run : IsRun li
     link : IsIndirectionOf states last (generation_at (states last).heap child) child
     its : gen_of states last i ≡ generation_at (states last).heap i
 
-  below_so : (i child : Ref) → U i → U child → (m : Ref) → U m → IsIndirection (node_at (states last).heap i) → HasMain (states last) i m →
-      Contains (entries_of (node_at (states last).heap m)) child → IsIndirection (node_at (states last).heap child) → Below i child
+  below_so : (i child : Ref) → U i → U child → (m : Ref) → U m → is_indirection (node_at (states last).heap i) ≡ true → HasMain (states last) i m →
+      Contains (entries_of (node_at (states last).heap m)) child → is_indirection (node_at (states last).heap child) ≡ true → Below i child
   below_so i child used used_child m used_main l has among link = record {
     main = m;
     stood = main_stands i m used l has;
     among = subst (λ es. Contains es child) (sym (used_entries limits states last run last within m used_main)) among;
-    link = let (h, word, is) = link_of (node_at (states last).heap child) link in
+    link = let (h, word, is) = indirection_is (node_at (states last).heap child) link in
         subst (λ g. IsIndirectionOf states last g child) (sym (ap generation_of is)) (link_used limits states last run last within child used_child h word is);
     its = used_generation limits states last run last within i used;
   }
@@ -163,12 +156,6 @@ module _ (limits : Limits) (steps : List Step) (ok : AreLimits limits) where
   abbrev is_run : IsRun limits states last
   is_run = run_is limits steps ok
 
-  -- what is in use at the end
-  used_at_end : (r : Ref) → InUse.IsInUse (states last) r → IsInUse (states last).heap r
-  used_at_end r used =
-      let (slot, found) = in_use_stands limits ok steps r (subst (λ (s : State). InUse.IsInUse s r) (run_ends limits steps) used) in
-      (slot, ap (λ (s : State). standing s.heap r) (run_ends limits steps) ∙ found)
-
   opened_so : (g : ℕ) → IsOpened limits steps g → WasOpened states last g
   opened_so g (n, le, (handle, root, is, its)) =
       (n, le, (handle, root, ap (λ (s : State). root_at s handle) (states_are limits steps n) ∙ is, ap (λ (s : State). root_generation s root) (states_are limits steps n) ∙ its))
@@ -184,7 +171,7 @@ module _ (limits : Limits) (steps : List Step) (ok : AreLimits limits) where
   unfolding FallsIn
   falls_at_end i child b =
       let I = safe_at limits states last is_run last (omega arith) in
-      let used = used_at_end i b.has.0 in
+      let used = b.has.0 in
       let main = has_main_used (states last) I i b.main used b.has.1 b.is_main in
       let used_child =
       All-contains (IsInUse (states last).heap) (entries_of (node_at (states last).heap b.main)) child (entries_used (IsInUse (states last).heap) (states last).heap (node_at (states last).heap b.main)

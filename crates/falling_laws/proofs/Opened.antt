@@ -30,12 +30,14 @@ use Rattle.generation_laws.proofs.Footings.{CarriesOut, RootFrom, stood, swapped
 use Rattle.generation_laws.proofs.Marks.{carried_stands}
 use Rattle.generation_laws.proofs.Offers.{StandsBy}
 use Rattle.generation_laws.proofs.Roots.{gen}
-use Rattle.generation_laws.proofs.Rooted.{IsRooted}
 use Rattle.generation_laws.proofs.RootsAlong.{IsOrdered, ordered_at, closed_stays}
 use Rattle.generation_laws.proofs.RootsKept.{root_kept, fresh_of}
 use Rattle.generation_laws.proofs.Swaps.{StepKind, quiet, swaps, step_kind, closing_of, closed_in, closed_new, closed_last}
 use Rattle.falling_laws.specs.Falling.{WasOpened, WasClosed, MayStandBelow}
 use Rattle.falling_laws.proofs.Nodes.{used_generation}
+use Rattle.generation_laws.specs.Standing.{IsRooted}
+use Rattle.generation_laws.proofs.Rooted.{standing_root}
+use Rattle.history.specs.declared.calls.Access.TheVariants.{Writable}
 
 -- ---- what stays
 
@@ -48,8 +50,8 @@ opened_now states t handle root e = (t, omega arith, (handle, root, e, refl))
 
 -- the generation of an operation's root
 pub opened_rooted : (states : ℕ → State) (t handle g : ℕ) → IsRooted states t handle g → WasOpened states t g
-opened_rooted states t handle g (inl on) = (t, omega arith, (handle, on.root, on.is_open, on.its))
-opened_rooted states t handle g (inr (c, before, closed, on)) = (c, omega (arith, before), (handle, on.root, on.is_open, on.its))
+opened_rooted states t handle g (inl on) = let (root, is, writable, its) = standing_root (states t) handle Writable g on in (t, omega arith, (handle, root, is, its))
+opened_rooted states t handle g (inr (c, before, closed, on)) = let (root, is, writable, its) = standing_root (states c) handle Writable g on in (c, omega (arith, before), (handle, root, is, its))
 
 -- the root in a word is in use
 root_used : (state : State) → IsSafe state → (handle : ℕ) (root : Root) → root_at state handle ≡ Some root → IsInUse state.heap (root_of root.word)

@@ -9,14 +9,12 @@ use Rattle.machine_model.specs.declared.steps.Step.{Step}
 use Rattle.machine_model.specs.States.{State, operation_of, closed_at}
 use Rattle.machine_model.specs.Operations.{read_of}
 use Rattle.machine_model.specs.Orders.{read_at_after}
-use Rattle.machine_model.specs.Machine.{AreLimits, taken_steps}
+use Rattle.machine_model.specs.Machine.{AreLimits}
 use Rattle.machine_model.proofs.Times.{IsRun, states_of, last_of, run_is, run_ends}
 use Rattle.deciding_laws.specs.Deciding.{IsNoSwap}
-use Rattle.deciding_laws.specs.Runs as InUse
 use Rattle.deciding_laws.specs.Runs.{state_before, HasIndirection}
-use Rattle.machine_model.proofs.Grown.{standing}
 use Rattle.memory_laws.specs.Laws.{IsInUse}
-use Rattle.deciding_laws.proofs.InHeap.{states_are, in_use_stands}
+use Rattle.deciding_laws.proofs.InHeap.{states_are}
 use Rattle.deciding_laws.proofs.Laws.{law_given_for_good}
 use Rattle.deciding_laws.proofs.SwapLines.{reads_stage}
 use Rattle.content_laws.specs.Runs.{trie_of}
@@ -65,10 +63,8 @@ module _ (limits : Limits) (steps : List Step) (ok : AreLimits limits) (n : ℕ)
         late_after limits states last is_run n within actor operation runs r (reads_stage operation.line r no_swap reads) c before since,
       )
 
-  used_in : (r : Ref) → InUse.IsInUse (state_before limits steps n) r → IsInUse (states n).heap r
-  used_in r used =
-      let (slot, found) = in_use_stands limits ok (take n (taken_steps limits steps)) r used in
-      (slot, ap (λ (s : State). standing s.heap r) (states_are limits steps n) ∙ found)
+  used_in : (r : Ref) → IsInUse (state_before limits steps n).heap r → IsInUse (states n).heap r
+  used_in r used = subst (λ (s : State). IsInUse s.heap r) (sym (states_are limits steps n)) used
 
   generation_so : (i : Ref) → HasIndirection (state_before limits steps n) i → gen_of states last i ≡ generation_at (state_before limits steps n).heap i
   generation_so i has =

@@ -39,6 +39,7 @@ use Rattle.deciding_laws.specs.Deciding.{IsNoSwap}
 use Rattle.generation_laws.specs.Laws.{root_generation}
 use Rattle.content_laws.specs.Tries.{generation, node_in}
 use Rattle.content_laws.specs.Runs.{is_made, main_at, trie_of}
+use Rattle.content_laws.specs.Repairing.{ReadsBelow}
 
 -- ---- what falls
 
@@ -152,12 +153,6 @@ SwapsInOwnGeneration states last =
     (operation.access ≡ Writable) × (operation.generation ≡ Some (generation_of (node_under states last s.indirection)))
 
 -- ---- what is final
-
--- the line is one of a repair that reads below the path's end: RENEW's and CLEAN's
-abbrev pub ReadsBelow : Line → Type 0
-ReadsBelow (line.Renew (renew.Read path main done r)) = Unit {0}
-ReadsBelow (line.Clean (clean.Child path main done r)) = Unit {0}
-ReadsBelow l = ⊥
 
 -- the operation is on a read-only handle, or a repair of it reads an indirection of another generation than that of its root
 abbrev pub ReadsClosed : Operation → ℕ → Type 0

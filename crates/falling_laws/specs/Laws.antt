@@ -1,5 +1,5 @@
 -- Laws of generations along paths, for every list of steps.
-use Rattle.std.specs.Prelude.{◌≡◌, ℕ, ◌<◌, ◌≤◌, ◌⊎◌, List, Contains, Some}
+use Rattle.std.specs.Prelude.{◌≡◌, ℕ, ◌<◌, ◌≤◌, ◌⊎◌, List, Contains, Some, true}
 use Rattle.history.specs.declared.calls.Access.TheVariants.{Writable}
 use Rattle.slot_arena.specs.declared.refs.Ref.{Ref}
 use Rattle.slot_arena.specs.Heaps.{node_at, main_at, generation_at, entries_of, logical_main}
@@ -12,10 +12,11 @@ use Rattle.machine_model.specs.declared.steps.Limits.{Limits}
 use Rattle.machine_model.specs.declared.steps.Step.{Step}
 use Rattle.machine_model.specs.States.{State, root_at, operation_of, closed_at}
 use Rattle.machine_model.specs.Machine.{AreLimits, run}
-use Rattle.deciding_laws.specs.Runs.{steps_taken, state_before, IsIndirection, HasIndirection}
+use Rattle.deciding_laws.specs.Runs.{steps_taken, state_before, HasIndirection}
 use Rattle.deciding_laws.specs.Deciding.{IsGiven, after_given}
 use Rattle.generation_laws.specs.Laws.{root_generation}
 use Rattle.falling_laws.specs.Falling.{ReadsClosed}
+use Rattle.memory_laws.specs.Wants.{is_indirection}
 
 -- after some of the steps a handle's root had this generation
 abbrev pub IsOpened : Limits → List Step → ℕ → Type 0
@@ -33,7 +34,7 @@ pub record IsBelow (state : State) (i child : Ref) : Type 0 where
   pub main : Ref
   pub is_main : HasMain state i main
   pub among : Contains (entries_of (node_at state.heap main)) child
-  pub link : IsIndirection (node_at state.heap child)
+  pub link : is_indirection (node_at state.heap child) ≡ true
 
 -- Below an indirection none has a greater generation. Once its own generation was opened, each has the same, or one that is closed; before that it is a new
 -- root, below which stands what stands below the root that it is to follow.

@@ -1,6 +1,7 @@
 -- The generation of an operation on a writable handle is that of its handle's root, or was so until it was closed.
-use Rattle.std.proofs.Common.{◌≡◌, ℕ, zero, suc, ◌<◌, ◌≤◌, Bool, false, inl, inr, ◌⊎◌, Some, None, get_or, refl, sym, ap, ◌∙◌, subst, arith}
-use Rattle.std.proofs.lemmas.Option.{none-some, same_Some}
+use Rattle.std.proofs.Common.{◌≡◌, ℕ, zero, suc, ◌≤◌, Bool, false, inl, inr, ◌⊎◌, Option, Some, None, get_or, refl, sym, ap, ◌∙◌, subst, arith}
+use Rattle.std.proofs.lemmas.Option.{none-some, same_Some, some_pair_parts}
+use Rattle.history.specs.declared.calls.Access.{Access}
 use Rattle.history.specs.declared.calls.Access.TheVariants.{Writable}
 use Rattle.slot_arena.specs.declared.refs.Ref.{Ref}
 use Rattle.slot_arena.specs.Heaps.{generation_at}
@@ -29,28 +30,35 @@ use Rattle.machine_model.proofs.Found.{none_found}
 use Rattle.machine_model.proofs.Times.{IsRun, Turn, turns, along_run, steps_at}
 use Rattle.memory_laws.proofs.Safety.{IsSafe}
 use Rattle.memory_laws.proofs.AtEachTime.{safe_at}
+use Rattle.generation_laws.specs.Standing.{standing_of, standing, On, IsRooted}
 use Rattle.generation_laws.proofs.Running.{Runs, Comes, began, rested, went, comes}
 use Rattle.generation_laws.proofs.Roots.{gen, root_goes_on}
 use Rattle.generation_laws.proofs.RootsAlong.{IsOrdered, ordered_at, ordered_after, closed_stays}
 
--- the handle is writable, and its root has this generation
-pub record IsOn (state : State) (handle generation : ℕ) : Type 0 where
-  pub root : Root
-  pub is_open : root_at state handle ≡ Some root
-  pub writable : root.access ≡ Writable
-  pub its : gen state root ≡ generation
+-- the root behind a standing
+pub standing_root : (state : State) (handle : ℕ) (access : Access) (generation : ℕ) → standing state handle ≡ Some (access, generation) →
+    (root : Root) × (root_at state handle ≡ Some root) × (root.access ≡ access) × (generation_at state.heap (root_of root.word) ≡ generation)
+standing_root state handle access generation e = by (root_at state handle) refl
+  where
+    by : (o : Option Root) → root_at state handle ≡ o → (root : Root) × (root_at state handle ≡ Some root) × (root.access ≡ access) × (generation_at state.heap (root_of root.word) ≡ generation)
+    by None is = absurd (none-some (access, generation) (ap (standing_of state.heap) (sym is) ∙ e))
+    by (Some root) is =
+        let parts = some_pair_parts root.access access (generation_at state.heap (root_of root.word)) generation (ap (standing_of state.heap) (sym is) ∙ e) in
+        (root, is, parts.0, parts.1)
 
--- it has it, or had it until it was closed
-abbrev pub IsRooted : (ℕ → State) → ℕ → ℕ → ℕ → Type 0
-IsRooted states t handle generation = IsOn (states t) handle generation ⊎ ((c : ℕ) × (c < t) × (closed_at (states t) generation ≡ Some c) × IsOn (states c) handle generation)
+-- and the other way round
+stands : (states : ℕ → State) (t handle generation : ℕ) (root : Root) → root_at (states t) handle ≡ Some root → root.access ≡ Writable → gen (states t) root ≡ generation → On states t handle generation
+stands states t handle generation root is writable its =
+    ap (standing_of (states t).heap) is ∙ ap (λ a. Some (a, gen (states t) root)) writable ∙ ap (λ g. Some (Writable, g)) its
 
 -- while the handle is open and writable
 rooted_next : (states : ℕ → State) (t handle generation : ℕ) (s : Step) (o : Outcome) → IsSafe (states t) → IsOrdered (states t) → (states t).steps ≡ t → Moves (states t) s o (states (suc t)) →
     (now : Root) → root_at (states (suc t)) handle ≡ Some now → now.access ≡ Writable → IsRooted states t handle generation → IsRooted states (suc t) handle generation
 rooted_next states t handle generation s o S I count m now e w (inl on) =
-    elim (root_goes_on (states t) S I.offers I.handles I.below I.roots s o (states (suc t)) m handle on.root now on.is_open on.writable e w) [
-      | inl same ↦ inl (record { root = now; is_open = e; writable = w; its = same ∙ on.its })
-      | inr closed ↦ inr (t, omega arith, ap (closed_at (states (suc t))) (sym on.its) ∙ closed ∙ ap Some count, on)
+    let (root, is_open, writable, its) = standing_root (states t) handle Writable generation on in
+    elim (root_goes_on (states t) S I.offers I.handles I.below I.roots s o (states (suc t)) m handle root now is_open writable e w) [
+      | inl same ↦ inl (stands states (suc t) handle generation now e w (same ∙ its))
+      | inr closed ↦ inr (t, omega arith, ap (closed_at (states (suc t))) (sym its) ∙ closed ∙ ap Some count, on)
     ]
 rooted_next states t handle generation s o S I count m now e w (inr (c, before, closed, on)) =
     inr (c, omega (arith, before), closed_stays (states t) I.offers s o (states (suc t)) m generation c closed, on)
@@ -102,7 +110,7 @@ module _ (states : ℕ → State) (t : ℕ) (S : IsSafe (states t)) (I : IsOrder
   before_by k was g at_k no_close w (inl same) = all k was g at_k no_close w same
   before_by k was g at_k no_close w (inr (r, word, its)) =
       let (root, found, access) = I.handles.on_open k was at_k no_close in
-      inl (record { root = root; is_open = found; writable = access ∙ w; its = ap (λ x. generation_at (states t).heap (root_of x)) (sym (ap word_of found) ∙ word) ∙ its })
+      inl (stands states t (handle_of was.call) g root found (access ∙ w) (ap (λ x. generation_at (states t).heap (root_of x)) (sym (ap word_of found) ∙ word) ∙ its))
 
   from_before : (k : ℕ) (found : Operation) (g : ℕ) → Comes (states t) s k found → is_close found.call ≡ false → found.access ≡ Writable → found.generation ≡ Some g → IsRooted states t (handle_of found.call) g
   unfolding GivenFrom

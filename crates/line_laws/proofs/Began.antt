@@ -20,7 +20,7 @@ use Rattle.deciding_laws.proofs.Words.{Words, Stage, Rests, Reads, IsAtRest, May
 use Rattle.deciding_laws.proofs.Finals.{link_stays}
 use Rattle.deciding_laws.proofs.Readings.{IsMoment}
 use Rattle.deciding_laws.proofs.Stages.{stage_of}
-use Rattle.deciding_laws.proofs.Known.{Known, is_link}
+use Rattle.deciding_laws.proofs.Known.{Known}
 use Rattle.deciding_laws.proofs.GrownWords.{words_of}
 use Rattle.deciding_laws.proofs.StepsAt.{after_mark, go_own}
 use Rattle.deciding_laws.proofs.LineReads.{CountsTo, line_counts}
@@ -33,6 +33,7 @@ use Rattle.line_laws.specs.Knowing.{OfEachAt}
 use Rattle.line_laws.proofs.EachAt.{GoesAt, each_at}
 use Rattle.line_laws.proofs.Nodes.{known_run}
 use Rattle.line_laws.proofs.Was.{link_made}
+use Rattle.memory_laws.specs.Wants.{is_indirection}
 
 -- what an actor runs after a step of its operation: what the step makes of it, with a mark or none
 pub record RunsAfter (state : State) (actor : ℕ) (made : Operation) : Type 0 where
@@ -154,7 +155,7 @@ module _ (limits : Limits) (states : ℕ → State) (last : ℕ) (run : IsRun li
       let r = reading_at t (omega arith) actor operation go.runs i x is in
       let moment : IsMoment w i m (read_at_after (states t) operation) (moment_after (states t) operation) t =
       moment_at limits states last known t h actor operation go.o go.moves go.runs go.after i x is m gives in
-      let linked : is_link (node_under states (suc (moment_after (states t) operation)) i) ≡ true =
+      let linked : is_indirection (node_under states (suc (moment_after (states t) operation)) i) ≡ true =
       link_stays (protocol limits states last known) i (suc (read_at_after (states t) operation)) (suc (moment_after (states t) operation)) (omega (arith, moment.from)) (omega (arith, moment.past)) moment.link in
       record {
         began = r.began;

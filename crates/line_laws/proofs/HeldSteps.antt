@@ -19,7 +19,7 @@ use Rattle.memory_laws.proofs.Levels.{LineLevel}
 use Rattle.memory_laws.proofs.Invariant.{of_actor}
 use Rattle.deciding_laws.proofs.Words.{Protocol}
 use Rattle.deciding_laws.proofs.Stood.{Stood, Private, stood_cases, stands_now}
-use Rattle.deciding_laws.proofs.Known.{GrownTakes, is_link}
+use Rattle.deciding_laws.proofs.Known.{GrownTakes}
 use Rattle.deciding_laws.proofs.RunWords.{protocol}
 use Rattle.content_laws.specs.Runs.{is_made}
 use Rattle.content_laws.proofs.Runs.{made_next}
@@ -32,6 +32,7 @@ use Rattle.line_laws.proofs.Entries.{no_entry, contains_or_not}
 use Rattle.line_laws.proofs.MadeNodes.{is_making, quiet_step, new_is, new_names, entries_made}
 use Rattle.line_laws.proofs.Fresh.{IsHeld, IsNamed, StandsIn, held_by}
 use Rattle.line_laws.proofs.HeldLines.{NamedOrHeld}
+use Rattle.memory_laws.specs.Wants.{is_indirection}
 
 module _ (limits : Limits) (states : ℕ → State) (last : ℕ) (run : IsRun limits states last) (t : ℕ) (h : t < last) (actor : ℕ) (operation : Operation) (go : GoesAt states t actor operation) where
   abbrev heap : Heap
@@ -112,7 +113,7 @@ module _ (limits : Limits) (states : ℕ → State) (last : ℕ) (run : IsRun li
         x = takes limits states last run t h actor operation go _ a made next
 
         is_link_now : p.words.link (suc t) made ≡ true
-        is_link_now = ap (λ o. is_link (node_of o)) x.here
+        is_link_now = ap (λ o. is_indirection (node_of o)) x.here
 
         main_is : p.words.main (suc t) made ≡ below
         main_is = ap (λ o. main_of (node_of o)) x.here
@@ -125,7 +126,7 @@ module _ (limits : Limits) (states : ℕ → State) (last : ℕ) (run : IsRun li
             by_ref (inl it) = it
             by_ref (inr apart) =
                 let same = x.elsewhere i apart in
-                absurd (private.apart i (stands_now (ap (λ o. is_link (node_of o)) (sym same) ∙ l) (ap (λ o. main_of (node_of o)) (sym same) ∙ m)))
+                absurd (private.apart i (stands_now (ap (λ o. is_indirection (node_of o)) (sym same) ∙ l) (ap (λ o. main_of (node_of o)) (sym same) ∙ m)))
 
   -- ---- BUILD
 

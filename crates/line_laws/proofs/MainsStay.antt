@@ -18,22 +18,22 @@ use Rattle.deciding_laws.proofs.Stood.{stands_now, none≢pending}
 use Rattle.deciding_laws.proofs.Sounds.{sound_at}
 use Rattle.deciding_laws.proofs.Finals.{first_commit, commits_at}
 use Rattle.deciding_laws.proofs.Mains.{MainStep, MainStays, MainChanges, main_step}
-use Rattle.deciding_laws.proofs.Known.{is_link}
 use Rattle.deciding_laws.proofs.RunWords.{protocol}
 use Rattle.content_laws.specs.Runs.{is_made, main_at}
 use Rattle.content_laws.proofs.Runs.{main_at-stays}
 use Rattle.line_laws.proofs.Nodes.{known_run}
 use Rattle.line_laws.proofs.NoRef.{never_made}
+use Rattle.memory_laws.specs.Wants.{is_indirection}
 
 -- what isn't an indirection has no main word
-no_main : (n : Node) → is_link n ≡ false → main_of n ≡ no_ref
+no_main : (n : Node) → is_indirection n ≡ false → main_of n ≡ no_ref
 no_main (Indirection g w) e = absurd (true≢false e)
 no_main (Branch b es) e = refl
 no_main (Single k v) e = refl
 no_main (Tomb s) e = refl
 no_main (Listed ss) e = refl
 
-link_kept : (m : Ref) (n : Node) → is_link (with_main_word m n) ≡ is_link n
+link_kept : (m : Ref) (n : Node) → is_indirection (with_main_word m n) ≡ is_indirection n
 link_kept m (Indirection g w) = refl
 link_kept m (Branch b es) = refl
 link_kept m (Single k v) = refl
@@ -45,25 +45,25 @@ module _ (limits : Limits) (states : ℕ → State) (last : ℕ) (run : IsRun li
   p = protocol limits states last (known_run limits states last run)
 
   -- what was made stays what it is
-  link_next : (t : ℕ) → t < last → (i : Ref) → is_made states t i ≡ true → is_link (node_under states (suc t) i) ≡ is_link (node_under states t i)
+  link_next : (t : ℕ) → t < last → (i : Ref) → is_made states t i ≡ true → is_indirection (node_under states (suc t) i) ≡ is_indirection (node_under states t i)
   link_next t h i made = by_slot (grown states t i) refl made
     where
-      by_slot : (o : Option Slot) → grown states t i ≡ o → is_some o ≡ true → is_link (node_under states (suc t) i) ≡ is_link (node_under states t i)
+      by_slot : (o : Option Slot) → grown states t i ≡ o → is_some o ≡ true → is_indirection (node_under states (suc t) i) ≡ is_indirection (node_under states t i)
       by_slot None e made = absurd (true≢false (sym made))
       by_slot (Some slot) e made =
           let now = grown_stays limits states last run t (suc t) (omega arith) h i slot e in
-          ap (λ o. is_link (node_of o)) now.1 ∙ ap is_link now.2.0.1 ∙ link_kept now.2.0.0 slot.node ∙ sym (ap (λ o. is_link (node_of o)) e)
+          ap (λ o. is_indirection (node_of o)) now.1 ∙ ap is_indirection now.2.0.1 ∙ link_kept now.2.0.0 slot.node ∙ sym (ap (λ o. is_indirection (node_of o)) e)
 
   -- a reference to something else has no main node
-  other_main : (t : ℕ) → t ≤ last → (i : Ref) → is_link (node_under states t i) ≡ false → main_before states t i ≡ no_ref
+  other_main : (t : ℕ) → t ≤ last → (i : Ref) → is_indirection (node_under states t i) ≡ false → main_before states t i ≡ no_ref
   other_main t h i e =
       ap (λ m. logical m (prev_word states t m)) (no_main (node_under states t i) e) ∙ ap (λ o. logical no_ref (prev_of o)) (never_made limits states last run t h)
 
   -- the main node of any reference, by that of indirections
-  pub mains_by : (t : ℕ) → t < last → (i : Ref) → (is_link (node_under states t i) ≡ true → main_before states (suc t) i ≡ main_before states t i) → main_at states last (suc t) i ≡ main_at states last t i
-  mains_by t h i links = main_at-stays states last t i h (λ made. by_test made (is_link (node_under states t i)) refl)
+  pub mains_by : (t : ℕ) → t < last → (i : Ref) → (is_indirection (node_under states t i) ≡ true → main_before states (suc t) i ≡ main_before states t i) → main_at states last (suc t) i ≡ main_at states last t i
+  mains_by t h i links = main_at-stays states last t i h (λ made. by_test made (is_indirection (node_under states t i)) refl)
     where
-      by_test : is_made states t i ≡ true → (b : Bool) → is_link (node_under states t i) ≡ b → main_before states (suc t) i ≡ main_before states t i
+      by_test : is_made states t i ≡ true → (b : Bool) → is_indirection (node_under states t i) ≡ b → main_before states (suc t) i ≡ main_before states t i
       by_test made true e = links e
       by_test made false e = other_main (suc t) h i (link_next t h i made ∙ e) ∙ sym (other_main t (omega arith) i e)
 
@@ -88,11 +88,11 @@ module _ (limits : Limits) (states : ℕ → State) (last : ℕ) (run : IsRun li
 
   one_step : (t : ℕ) → t < last → (link x q j : Ref) → CommitsNode p.words t x q → p.words.link t link ≡ true → p.words.main t link ≡ x → (j ≡ link → ⊥) → p.words.link t j ≡ true →
       MainStep p.words t j → main_before states (suc t) j ≡ main_before states t j
-  one_step t h link x q j c is_link stands apart l (MainStays e) = e
-  one_step t h link x q j c is_link stands apart l (MainChanges d) =
+  one_step t h link x q j c is_indirection stands apart l (MainStays e) = e
+  one_step t h link x q j c is_indirection stands apart l (MainChanges d) =
       let same : d.fresh ≡ x = same_commit t x q d.fresh d.replaced c d.commits (cases_eq d.fresh x) in
-      absurd (apart ((sound_at p t (omega arith)).words.one_word x j link (λ none. none≢pending none c.was) (stands_now l (d.stands ∙ same)) (stands_now is_link stands)))
+      absurd (apart ((sound_at p t (omega arith)).words.one_word x j link (λ none. none≢pending none c.was) (stands_now l (d.stands ∙ same)) (stands_now is_indirection stands)))
 
   pub others_stay : (t : ℕ) → t < last → (link x q : Ref) → CommitsNode p.words t x q → p.words.link t link ≡ true → p.words.main t link ≡ x → (j : Ref) → j ≢ link →
       main_at states last (suc t) j ≡ main_at states last t j
-  others_stay t h link x q c is_link stands j apart = mains_by t h j (λ l. one_step t h link x q j c is_link stands apart l (main_step p t h j l))
+  others_stay t h link x q c is_indirection stands j apart = mains_by t h j (λ l. one_step t h link x q j c is_indirection stands apart l (main_step p t h j l))

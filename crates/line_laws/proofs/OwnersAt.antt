@@ -21,7 +21,7 @@ use Rattle.deciding_laws.proofs.Owners.{Owner, HasFresh}
 use Rattle.deciding_laws.proofs.Sounds.{sound_at}
 use Rattle.deciding_laws.proofs.Mains.{MainStep, MainStays, MainChanges, main_step}
 use Rattle.deciding_laws.proofs.Stages.{stage_of_actor}
-use Rattle.deciding_laws.proofs.Known.{ActsOn, Decided, GrownChanges, is_link}
+use Rattle.deciding_laws.proofs.Known.{ActsOn, Decided, GrownChanges}
 use Rattle.deciding_laws.proofs.SwapLines.{RunsSwap, runs_deciding, in_swap_fresh}
 use Rattle.deciding_laws.proofs.RunWords.{protocol}
 use Rattle.content_laws.specs.Runs.{main_at}
@@ -30,6 +30,7 @@ use Rattle.line_laws.proofs.Nodes.{known_run}
 use Rattle.line_laws.proofs.Deciders.{DecidesNode, was_pending}
 use Rattle.line_laws.proofs.Was.{main_linked, commit_is}
 use Rattle.line_laws.proofs.MainsStay.{others_stay}
+use Rattle.memory_laws.specs.Wants.{is_indirection}
 
 none_set : (o : Option Slot) → prev_of (option_map (prev_changed over.None) o) ≡ over.None
 none_set None = refl
@@ -62,7 +63,7 @@ module _ (limits : Limits) (states : ℕ → State) (last : ℕ) (run : IsRun li
 
   after_is : Words.main_at p.words (suc t) owner_then.link ≡ x
   after_is =
-      let apart : owner_then.link ≡ x → ⊥ = λ same. true≢false (sym owner_then.is_link ∙ ap (λ r. is_link (node_under states t r)) same ∙ acts.1.no_link) in
+      let apart : owner_then.link ≡ x → ⊥ = λ same. true≢false (sym owner_then.is_link ∙ ap (λ r. is_indirection (node_under states t r)) same ∙ acts.1.no_link) in
       let word : p.words.main (suc t) owner_then.link ≡ x = ap (λ o. main_of (node_of o)) (changes.elsewhere owner_then.link apart) ∙ owner_then.stands in
       ap (λ m. logical m (p.words.prev (suc t) m)) word ∙ ap (logical x) (ap prev_of changes.here ∙ none_set (grown states t x))
 

@@ -38,9 +38,9 @@ use Rattle.deciding_laws.proofs.Finals.{none_final}
 use Rattle.deciding_laws.proofs.Stages.{stage_of}
 use Rattle.deciding_laws.proofs.RunWords.{protocol}
 use Rattle.content_laws.specs.Knowing.{KnowsKey}
-use Rattle.content_laws.specs.Repairing.{KnowsRenew, KnowsClean, KnowsRepair}
+use Rattle.content_laws.specs.Repairing.{KnowsRenew, KnowsClean, KnowsRepair, ReadsBelow}
 use Rattle.content_laws.proofs.RepairKnows.{renew_starts, clean_starts, renew_entry_knows, renew_read_knows, renew_link_knows, renew_branch_knows, clean_entry_knows, clean_child_knows, clean_tomb_knows, clean_contracted_knows, read_stays}
-use Rattle.line_laws.specs.Given.{ReadsBelow, GaveBelow}
+use Rattle.line_laws.specs.Given.{GaveBelow}
 use Rattle.line_laws.specs.Knowing.{known_with, first_main}
 use Rattle.line_laws.proofs.EachAt.{GoesAt}
 use Rattle.line_laws.proofs.Nodes.{known_run, IsNoLink, link_known, made_node, made_link, first_is}

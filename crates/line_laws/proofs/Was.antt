@@ -19,16 +19,16 @@ use Rattle.deciding_laws.proofs.Sounds.{sound_at}
 use Rattle.deciding_laws.proofs.Finals.{link_stays, pending_stands}
 use Rattle.deciding_laws.proofs.Swaps.{succeeded}
 use Rattle.deciding_laws.proofs.Readings.{later_of, gives_moment}
-use Rattle.deciding_laws.proofs.Known.{is_link}
 use Rattle.deciding_laws.proofs.GrownWords.{words_of}
 use Rattle.deciding_laws.proofs.RunWords.{protocol}
 use Rattle.content_laws.specs.Runs.{main_at}
 use Rattle.content_laws.proofs.Runs.{main_at-made}
 use Rattle.line_laws.specs.Given.{Was}
 use Rattle.line_laws.proofs.Nodes.{known_run}
+use Rattle.memory_laws.specs.Wants.{is_indirection}
 
 -- an indirection was made
-pub link_made : (o : Option Slot) → is_link (node_of o) ≡ true → is_some o ≡ true
+pub link_made : (o : Option Slot) → is_indirection (node_of o) ≡ true → is_some o ≡ true
 link_made None e = absurd (true≢false (sym e))
 link_made (Some slot) e = refl
 
@@ -40,14 +40,14 @@ module _ (limits : Limits) (states : ℕ → State) (last : ℕ) (run : IsRun li
   p = protocol limits states last (known_run limits states last run)
 
   -- the main nodes of indirections that are made
-  pub main_linked : (t : ℕ) (i : Ref) → is_link (node_under states t i) ≡ true → main_at states last t i ≡ main_before states t i
+  pub main_linked : (t : ℕ) (i : Ref) → is_indirection (node_under states t i) ≡ true → main_at states last t i ≡ main_before states t i
   main_linked t i link = main_at-made states last t i (link_made (grown states t i) link)
 
   -- an indirection is one in the end
-  pub link_in_end : (t : ℕ) (i : Ref) → t ≤ last → is_link (node_under states t i) ≡ true → (g : ℕ) × (w : Ref) × (node_under states last i ≡ Indirection g w)
+  pub link_in_end : (t : ℕ) (i : Ref) → t ≤ last → is_indirection (node_under states t i) ≡ true → (g : ℕ) × (w : Ref) × (node_under states last i ≡ Indirection g w)
   link_in_end t i h link = by_node (node_under states last i) refl (link_stays p i t last h (omega arith) link)
     where
-      by_node : (n : Node) → node_under states last i ≡ n → is_link n ≡ true → (g : ℕ) × (w : Ref) × (node_under states last i ≡ Indirection g w)
+      by_node : (n : Node) → node_under states last i ≡ n → is_indirection n ≡ true → (g : ℕ) × (w : Ref) × (node_under states last i ≡ Indirection g w)
       by_node (Indirection g w) e l = (g, w, e)
       by_node (Branch b es) e l = absurd (true≢false (sym l))
       by_node (Single k v) e l = absurd (true≢false (sym l))

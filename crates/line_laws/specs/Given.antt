@@ -1,12 +1,8 @@
 -- What a READ of an operation gave of an indirection, when the READ began, and from when on that was so.
 use Rattle.std.specs.Prelude.{◌≡◌, ℕ, suc, ◌≤◌, ◌<◌, Some, None}
 use Rattle.slot_arena.specs.declared.refs.Ref.{Ref}
-use Rattle.machine_model.specs.declared.lines.Line.{Line}
-use Rattle.machine_model.specs.declared.lines.Line.TheVariants as line
 use Rattle.machine_model.specs.declared.operations.Operation.{Operation}
 use Rattle.machine_model.specs.declared.reading.Read.{Read}
-use Rattle.machine_model.specs.declared.repairs.CleanLine.TheVariants as clean
-use Rattle.machine_model.specs.declared.repairs.RenewLine.TheVariants as renew
 use Rattle.machine_model.specs.declared.steps.Outcome.{Outcome}
 use Rattle.machine_model.specs.declared.steps.Step.TheVariants.{Go}
 use Rattle.machine_model.specs.declared.reading.After.TheVariants.{Gives}
@@ -22,6 +18,7 @@ use Rattle.deciding_laws.proofs.Stages.{stage_of}
 use Rattle.deciding_laws.proofs.GrownWords.{words_of}
 use Rattle.deciding_laws.proofs.Readings.{IsMoment}
 use Rattle.content_laws.specs.Runs.{main_at}
+use Rattle.content_laws.specs.Repairing.{ReadsBelow}
 
 -- the actor's operation of this id stands on this line of a READ of the indirection
 pub record IsReading (state : State) (actor id : ℕ) (i : Ref) (line : ReadLine) : Type 0 where
@@ -60,12 +57,6 @@ pub record Gave (states : ℕ → State) (last t actor id : ℕ) (i m : Ref) : T
   pub gives : read_after (states at).heap gave.operation.access (word_at (states at) (handle_of gave.operation.call)) i line ≡ Gives m
   pub is_moment : IsMoment (words_of states last (λ g. None)) i m from moment at
   pub is : main_at states last (suc moment) i ≡ m
-
--- the line is one of a repair that reads below the path's end: RENEW's and CLEAN's
-abbrev pub ReadsBelow : Line → Type 0
-ReadsBelow (line.Renew (renew.Read path main done r)) = Unit {0}
-ReadsBelow (line.Clean (clean.Child path main done r)) = Unit {0}
-ReadsBelow l = ⊥
 
 -- A READ of a repair gave it, in the try in which the operation's root has this generation.
 pub record GaveBelow (states : ℕ → State) (last t actor id start : ℕ) (i m : Ref) : Type 0 where

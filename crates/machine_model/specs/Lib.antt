@@ -18,6 +18,7 @@ pub mod Acting
 pub mod Counting
 pub mod Machine
 pub mod Contents
+pub mod Going
 pub mod Keys
 pub mod Refusing
 pub mod Runs

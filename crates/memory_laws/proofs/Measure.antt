@@ -12,7 +12,7 @@ use Rattle.slot_arena.specs.Heaps.{node_at, refs_of_node, refs_of_prev}
 use Rattle.machine_model.specs.States.{State}
 use Rattle.machine_model.specs.Contents.{IsReached}
 use Rattle.machine_model.specs.Machine.{is_busy}
-use Rattle.memory_laws.specs.Wants.{AMain, ASingle, is_indirection, is_main, meets, Is, Holds, AllHold, node_wants, prev_wants}
+use Rattle.memory_laws.specs.Wants.{AMain, ASingle, is_indirection, is_main_node, meets, Is, Holds, AllHold, node_wants, prev_wants}
 use Rattle.memory_laws.specs.Laws.{IsInUse}
 use Rattle.memory_laws.proofs.Claims.{Meets, safe_of, meets_of, all_of, from_meets, first_hold, last_hold}
 use Rattle.memory_laws.proofs.Under.{node_under}
@@ -57,7 +57,7 @@ module _ (state : State) (I : IsSafe state) (lv : Ref → ℕ) (h : HasLevels lv
   single_zero : (r : Ref) → Holds (IsInUse state.heap) state.heap (Is r ASingle) → lv r ≡ 0
   single_zero r c = single_by r (node_at state.heap r) (meets_of c) (level_at r (safe_of c))
 
-  main_by : (r : Ref) (node : Node) → is_main node ≡ true → NodeLevel lv r node → 1 ≤ lv r
+  main_by : (r : Ref) (node : Node) → is_main_node node ≡ true → NodeLevel lv r node → 1 ≤ lv r
   main_by r (Branch bitmap entries) e n = n.1
   main_by r (Tomb single) e n = n.1
   main_by r (Listed singles) e n = n.1
@@ -66,7 +66,7 @@ module _ (state : State) (I : IsSafe state) (lv : Ref → ℕ) (h : HasLevels lv
   main_above : (r : Ref) → Holds (IsInUse state.heap) state.heap (Is r AMain) → 1 ≤ lv r
   main_above r c = main_by r (node_at state.heap r) (meets_of c) (level_at r (safe_of c))
 
-  no_indirection : (node : Node) → is_main node ≡ true → is_indirection node ≡ false
+  no_indirection : (node : Node) → is_main_node node ≡ true → is_indirection node ≡ false
   no_indirection (Indirection generation main) e = absurd (false≢true e)
   no_indirection (Branch bitmap entries) e = refl
   no_indirection (Single key value) e = refl

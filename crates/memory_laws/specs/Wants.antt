@@ -53,6 +53,7 @@ use Rattle.machine_model.specs.declared.lines.Line.TheVariants as line
 use Rattle.machine_model.specs.Calls.{key_of}
 use Rattle.machine_model.specs.Paths.{above, depth_of}
 use Rattle.machine_model.specs.Cleaning.{is_single}
+pub use Rattle.slot_arena.specs.Arenas.{is_indirection, is_main_node}
 
 -- ---- what a node is taken for
 
@@ -76,15 +77,6 @@ pub data Wanted : Type 0 where
   WithFlag : (flag : ℕ) → Wanted
   -- one that an entry can be taken out of: a branch with this flag, or a list of three or more
   ToSpare : (flag : ℕ) → Wanted
-
-abbrev pub is_indirection : Node → Bool
-is_indirection (Indirection generation main) = true
-is_indirection node = false
-
-abbrev pub is_main : Node → Bool
-is_main (Indirection generation main) = false
-is_main (Single key value) = false
-is_main node = true
 
 abbrev pub is_branch : Node → Bool
 is_branch (Branch bitmap entries) = true
@@ -122,7 +114,7 @@ spares flag node = false
 abbrev pub meets : Wanted → Node → Bool
 meets Anything node = true
 meets AnIndirection node = is_indirection node
-meets AMain node = is_main node
+meets AMain node = is_main_node node
 meets ABranch node = is_branch node
 meets AList node = is_list node
 meets BranchOrList node = is_branch_or_list node

@@ -12,14 +12,13 @@ use Rattle.machine_model.specs.States.{State, root_at, root_of}
 use Rattle.machine_model.proofs.Grown.{node_under}
 use Rattle.machine_model.proofs.Times.{IsRun}
 use Rattle.memory_laws.specs.Laws.{IsInUse}
-use Rattle.memory_laws.specs.Wants.{AnIndirection, AllHold, meets, word_wants}
+use Rattle.memory_laws.specs.Wants.{AnIndirection, AllHold, meets, word_wants, is_indirection}
 use Rattle.memory_laws.proofs.AtEachTime.{safe_at}
 use Rattle.memory_laws.proofs.AtTimes.{node_found}
 use Rattle.memory_laws.proofs.Claims.{meets_of}
 use Rattle.memory_laws.proofs.WordMoves.{grown_in_use}
 use Rattle.deciding_laws.proofs.Finals.{link_stays}
 use Rattle.deciding_laws.proofs.InHeap.{logical_standing}
-use Rattle.deciding_laws.proofs.Known.{is_link}
 use Rattle.deciding_laws.proofs.RunWords.{protocol}
 use Rattle.generation_laws.specs.Laws.{root_generation}
 use Rattle.content_laws.specs.Runs as trie
@@ -34,10 +33,7 @@ use Rattle.opening_laws.proofs.NoLateCommit.{no_late_commit}
 use Rattle.opening_laws.proofs.RootOf.{roots_are_one, root_in_use}
 use Rattle.opening_laws.proofs.SwapState.{old_stands}
 
-link_met : (n : Node) → meets AnIndirection n ≡ true → is_link n ≡ true
-link_met n e = grind arith
-
-link_kept : (m : Ref) (n : Node) → is_link (with_main_word m n) ≡ is_link n
+link_kept : (m : Ref) (n : Node) → is_indirection (with_main_word m n) ≡ is_indirection n
 link_kept m (Indirection g word) = refl
 link_kept m n = refl
 
@@ -54,23 +50,23 @@ module _ (limits : Limits) (states : ℕ → State) (last : ℕ) (run : IsRun li
       sym (root_is n handle a le e) ∙ ap (trie.root_at states last) same ∙ root_is k other b within f
 
   -- it is an indirection for ever
-  pub root_link : (t handle : ℕ) (root : Root) → t ≤ last → root_at (states t) handle ≡ Some root → is_link (node_under states last (root_of root.word)) ≡ true
+  pub root_link : (t handle : ℕ) (root : Root) → t ≤ last → root_at (states t) handle ≡ Some root → is_indirection (node_under states last (root_of root.word)) ≡ true
   root_link t handle root within e =
       let used = root_in_use limits states last run t handle (root_of root.word) (root_generation (states t) root) within (stands t handle root e) in
       link_stays (protocol limits states last (known_run limits states last run)) (root_of root.word) t last within (omega arith)
-      (ap is_link (sym (node_found states t (root_of root.word) used)) ∙ link_met _ (by root.word ((safe_at limits states last run t within).words handle root e)))
+      (ap is_indirection (sym (node_found states t (root_of root.word) used)) ∙ (by root.word ((safe_at limits states last run t within).words handle root e)))
     where
       by : (word : RootWord) → AllHold (IsInUse (states t).heap) (states t).heap (word_wants word) → meets AnIndirection (node_at (states t).heap (root_of word)) ≡ true
       by (Plain r) h = meets_of h.0
       by (Offer offer) h = meets_of h.0
 
   -- while it is in use its main node in the heap is the trie's
-  pub main_there : (t : ℕ) (r : Ref) → t ≤ last → IsInUse (states t).heap r → is_link (node_under states last r) ≡ true → logical_main (states t).heap r ≡ main_at states last t r
+  pub main_there : (t : ℕ) (r : Ref) → t ≤ last → IsInUse (states t).heap r → is_indirection (node_under states last r) ≡ true → logical_main (states t).heap r ≡ main_at states last t r
   main_there t r within used l =
       let there = grown_in_use states t r used.0 used.1 in
       let now = nodes_stay limits states last run t last within (omega arith) r used.0 there in
-      let link : is_link (node_under states t r) ≡ true =
-      ap (λ o. is_link (node_of o)) there ∙ sym (link_kept now.2.0 used.0.node) ∙ ap is_link (sym now.2.1) ∙ sym (ap (λ o. is_link (node_of o)) now.1) ∙ l in
+      let link : is_indirection (node_under states t r) ≡ true =
+      ap (λ o. is_indirection (node_of o)) there ∙ sym (link_kept now.2.0 used.0.node) ∙ ap is_indirection (sym now.2.1) ∙ sym (ap (λ o. is_indirection (node_of o)) now.1) ∙ l in
       logical_standing limits states last (known_run limits states last run) t within r used.0 used.1 link ∙ sym (main_at-made states last t r (ap is_some there))
 
   -- the root of a generation has one main node from its closing on

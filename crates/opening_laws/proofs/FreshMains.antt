@@ -27,7 +27,7 @@ use Rattle.deciding_laws.proofs.Words.{Given}
 use Rattle.deciding_laws.proofs.Owners.{IsSound, Staged}
 use Rattle.deciding_laws.proofs.Sounds.{sound_at}
 use Rattle.deciding_laws.proofs.Finals.{link_stays}
-use Rattle.deciding_laws.proofs.Known.{is_link, ActsOn, Taken, GrownTakes}
+use Rattle.deciding_laws.proofs.Known.{ActsOn, Taken, GrownTakes}
 use Rattle.deciding_laws.proofs.RunWords.{protocol, remembers_at}
 use Rattle.deciding_laws.proofs.Stages.{Remembers, stage_of, stage_of_actor}
 use Rattle.generation_laws.proofs.Running.{Runs}
@@ -44,6 +44,7 @@ use Rattle.opening_laws.proofs.CompleteTimes.{w, known_run}
 use Rattle.opening_laws.proofs.MainChanges.{unused_stays}
 use Rattle.opening_laws.proofs.CopyLines.{copied, copied_kept, copied_made, MakesOver, over_found, over_branch, makes_over}
 use Rattle.opening_laws.proofs.Branches.{IsCleared, empty_at}
+use Rattle.memory_laws.specs.Wants.{is_indirection}
 
 -- ---- along a run
 
@@ -55,7 +56,7 @@ module _ (limits : Limits) (states : ℕ → State) (last : ℕ) (run : IsRun li
 
   -- what is known of a fresh root that an operation has at this time
   pub record Shows (t : ℕ) (operation : Operation) (q : Ref) : Type 0 where
-    pub link : is_link (node_under states t q) ≡ true
+    pub link : is_indirection (node_under states t q) ≡ true
     pub main_is : ShowsMain (is_clear operation.call) (copied operation.line).1 (main_at states last t q)
 
   abbrev AllShow : ℕ → Type 0
@@ -69,7 +70,7 @@ module _ (limits : Limits) (states : ℕ → State) (last : ℕ) (run : IsRun li
 
   -- a fresh root's main node stays in a step
   pub fresh_stays : (t : ℕ) → t < last → (k : ℕ) (operation : Operation) (x : Bool) (q : Ref) → Runs (states t) k operation → operation.is_marked ≡ false → fresh_in x operation.line ≡ Some q →
-      is_link (node_under states t q) ≡ true → main_at states last (suc t) q ≡ main_at states last t q
+      is_indirection (node_under states t q) ≡ true → main_at states last (suc t) q ≡ main_at states last t q
   fresh_stays t within k operation x q at_k unmarked e l =
       let used : IsInUse (states t).heap q =
       fresh_safe (IsInUse (states t).heap) (states t) operation operation.line (line_finds (states t) (S t (omega arith)) (suc k) operation at_k) x q e in
@@ -151,7 +152,7 @@ module _ (limits : Limits) (states : ℕ → State) (last : ℕ) (run : IsRun li
         let same : copied found.line ≡ copied ran.was.line = ap copied goes ∙ copied_made (states t) ran.was ran.was.line main q does n in
         let new = takes k ran.was main q ran.at_k go does n in
         record {
-          link = ap (λ y. is_link (node_of y)) new.here;
+          link = ap (λ y. is_indirection (node_of y)) new.here;
           main_is =
               subst (λ c. ShowsMain (is_clear c) (copied found.line).1 (main_at states last (suc t) q)) (sym ran.call)
               (subst (λ p. ShowsMain (is_clear ran.was.call) p.1 (main_at states last (suc t) q)) (sym same)

@@ -1,6 +1,5 @@
 -- A main node changes by the commit of an operation that stands in a SWAP there; so none does in a generation that no handle has had, and that isn't closed.
-use Rattle.std.proofs.Common.{◌≡◌, ℕ, suc, ◌<◌, ◌≤◌, true, false, ◌⊎◌, inl, inr, Some, sym, ap, ◌∙◌, arith}
-use Rattle.std.proofs.lemmas.Option.{none-some}
+use Rattle.std.proofs.Common.{◌≡◌, ℕ, suc, ◌<◌, ◌≤◌, true, false, ◌⊎◌, inl, inr, Some, ap, ◌∙◌, arith}
 use Rattle.slot_arena.specs.declared.refs.Ref.{Ref}
 use Rattle.slot_arena.specs.Heaps.{generation_of}
 use Rattle.machine_model.specs.declared.lines.Line.TheVariants as line
@@ -17,15 +16,16 @@ use Rattle.deciding_laws.proofs.Stood.{none≢pending, stands_now}
 use Rattle.deciding_laws.proofs.Owners.{IsSound}
 use Rattle.deciding_laws.proofs.Sounds.{sound_at}
 use Rattle.deciding_laws.proofs.Mains.{MainStep, MainStays, MainChanges, main_step}
-use Rattle.deciding_laws.proofs.Known.{is_link}
 use Rattle.deciding_laws.proofs.SwapLines.{runs_deciding}
 use Rattle.deciding_laws.proofs.RunWords.{protocol}
 use Rattle.generation_laws.proofs.Running.{place_of_actor}
 use Rattle.generation_laws.proofs.OpenRoots.{no_close_at}
 use Rattle.generation_laws.proofs.Roots.{IsUnused}
-use Rattle.generation_laws.proofs.Rooted.{IsRooted, rooted_at}
+use Rattle.generation_laws.proofs.Rooted.{rooted_at}
 use Rattle.falling_laws.proofs.Paths.{swaps_in_own_generation}
 use Rattle.opening_laws.proofs.CompleteTimes.{w, known_run}
+use Rattle.memory_laws.specs.Wants.{is_indirection}
+use Rattle.falling_laws.proofs.FreshRoots.{not_rooted}
 
 -- an operation stands in a SWAP into this indirection
 pub record SwapsInto (state : State) (i : Ref) : Type 0 where
@@ -41,7 +41,7 @@ module _ (limits : Limits) (states : ℕ → State) (last : ℕ) (run : IsRun li
   sound : (t : ℕ) → t ≤ last → IsSound (w limits states last run) t
   sound t within = sound_at (protocol limits states last (known_run limits states last run)) t within
 
-  changes_by : (t : ℕ) → t < last → (i : Ref) → is_link (node_under states t i) ≡ true → MainStep (w limits states last run) t i →
+  changes_by : (t : ℕ) → t < last → (i : Ref) → is_indirection (node_under states t i) ≡ true → MainStep (w limits states last run) t i →
       (main_before states (suc t) i ≡ main_before states t i) ⊎ SwapsInto (states t) i
   changes_by t within i l (MainStays e) = inl e
   changes_by t within i l (MainChanges c) =
@@ -52,7 +52,7 @@ module _ (limits : Limits) (states : ℕ → State) (last : ℕ) (run : IsRun li
       inr (record { actor = o.actor; operation = r.operation; runs = r.is; why = r.swaps.0; at = _; stands = r.swaps.1; into = same })
 
   -- who changes a main node swapped into that indirection
-  pub main_changes : (t : ℕ) → t < last → (i : Ref) → is_link (node_under states t i) ≡ true → (main_before states (suc t) i ≡ main_before states t i) ⊎ SwapsInto (states t) i
+  pub main_changes : (t : ℕ) → t < last → (i : Ref) → is_indirection (node_under states t i) ≡ true → (main_before states (suc t) i ≡ main_before states t i) ⊎ SwapsInto (states t) i
   main_changes t within i l = changes_by t within i l (main_step (protocol limits states last (known_run limits states last run)) t within i l)
 
   -- nobody swaps in a generation that is on no handle and isn't closed
@@ -61,15 +61,12 @@ module _ (limits : Limits) (states : ℕ → State) (last : ℕ) (run : IsRun li
       let (writable, its) = swaps_in_own_generation limits states last run t (omega arith) s.actor s.operation s.runs s.why s.at s.stands in
       let (k, place, at_k) = place_of_actor (states t) s.actor s.operation s.runs in
       let going : is_end s.operation.line ≡ false = ap is_end s.stands in
-      by (rooted_at limits states last run t (omega arith) k s.operation (generation_of (node_under states last i)) at_k (no_close_at limits states last run t (omega arith) k s.operation at_k going) writable
+      not_rooted states t (handle_of s.operation.call) (generation_of (node_under states last i)) unused
+      (rooted_at limits states last run t (omega arith) k s.operation (generation_of (node_under states last i)) at_k (no_close_at limits states last run t (omega arith) k s.operation at_k going) writable
       (its ∙ ap (λ r. Some (generation_of (node_under states last r))) s.into))
-    where
-      by : IsRooted states t (handle_of s.operation.call) (generation_of (node_under states last i)) → ⊥
-      by (inl on) = unused.alone (handle_of s.operation.call) on.root on.is_open on.its
-      by (inr (c, before, closed, on)) = none-some c (sym unused.unclosed ∙ closed)
 
   -- so its main nodes stay
-  pub unused_stays : (t : ℕ) → t < last → (i : Ref) → is_link (node_under states t i) ≡ true → IsUnused (states t) (generation_of (node_under states last i)) →
+  pub unused_stays : (t : ℕ) → t < last → (i : Ref) → is_indirection (node_under states t i) ≡ true → IsUnused (states t) (generation_of (node_under states last i)) →
       main_before states (suc t) i ≡ main_before states t i
   unused_stays t within i l unused = elim (main_changes t within i l) [
     | inl same ↦ same

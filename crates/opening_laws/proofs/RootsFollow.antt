@@ -14,13 +14,12 @@ use Rattle.machine_model.specs.States.{State}
 use Rattle.machine_model.proofs.Grown.{node_under}
 use Rattle.machine_model.proofs.Times.{IsRun}
 use Rattle.memory_laws.specs.Laws.{IsInUse}
-use Rattle.memory_laws.specs.Wants.{AllHold, node_wants, prev_wants}
+use Rattle.memory_laws.specs.Wants.{AllHold, node_wants, prev_wants, is_indirection}
 use Rattle.memory_laws.proofs.AtEachTime.{safe_at}
 use Rattle.memory_laws.proofs.Claims.{safe_of, first_hold, last_hold}
 use Rattle.memory_laws.proofs.Safety.{IsSafe}
 use Rattle.memory_laws.proofs.Under as Under
 use Rattle.memory_laws.proofs.WordMoves.{grown_in_use}
-use Rattle.deciding_laws.proofs.Known.{is_link}
 use Rattle.content_laws.specs.Runs as trie
 use Rattle.opening_laws.specs.Openings.{IsRootOf, IsSwap, Brings}
 use Rattle.opening_laws.specs.Openings as opening
@@ -33,10 +32,10 @@ use Rattle.opening_laws.proofs.RootOf.{root_in_use}
 use Rattle.opening_laws.proofs.SwapState.{old_stands, successor_stands, second_stands}
 
 -- the logical main node of an indirection in use is in use
-logical_in_use : (state : State) → IsSafe state → (r : Ref) → IsInUse state.heap r → is_link (node_at state.heap r) ≡ true → IsInUse state.heap (logical_main state.heap r)
+pub logical_in_use : (state : State) → IsSafe state → (r : Ref) → IsInUse state.heap r → is_indirection (node_at state.heap r) ≡ true → IsInUse state.heap (logical_main state.heap r)
 logical_in_use state S r used l = over_main (prev_at state.heap (main_at state.heap r)) refl
   where
-    by_node : (n : Node) → is_link n ≡ true → AllHold (IsInUse state.heap) state.heap (node_wants n) → IsInUse state.heap (main_of n)
+    by_node : (n : Node) → is_indirection n ≡ true → AllHold (IsInUse state.heap) state.heap (node_wants n) → IsInUse state.heap (main_of n)
     by_node (Indirection g m) l h = safe_of h.0
     by_node (Branch bitmap entries) l h = absurd (true≢false (sym l))
     by_node (Single key value) l h = absurd (true≢false (sym l))
@@ -49,7 +48,7 @@ logical_in_use state S r used l = over_main (prev_at state.heap (main_at state.h
     main_used : IsInUse state.heap (main_at state.heap r)
     main_used =
         subst (λ n. IsInUse state.heap (main_of n)) (sym its)
-        (by_node used.0.node (ap is_link (sym its) ∙ l) (first_hold (IsInUse state.heap) state.heap (node_wants used.0.node) (prev_wants used.0.prev) (S.nodes r used.0 used.1).0))
+        (by_node used.0.node (ap is_indirection (sym its) ∙ l) (first_hold (IsInUse state.heap) state.heap (node_wants used.0.node) (prev_wants used.0.prev) (S.nodes r used.0 used.1).0))
 
     by_prev : (p : Prev) → AllHold (IsInUse state.heap) state.heap (prev_wants p) → IsInUse state.heap (logical (main_at state.heap r) p)
     by_prev over.None h = main_used
@@ -72,19 +71,19 @@ module _ (limits : Limits) (states : ℕ → State) (last : ℕ) (run : IsRun li
     used : IsInUse (states t).heap r
     used = root_in_use limits states last run t handle r generation within stands
 
-    link : is_link (node_under states last r) ≡ true
-    link = ap (λ q. is_link (node_under states last q)) (sym stands.is) ∙ root_link limits states last run t handle stands.root within stands.is_open
+    link : is_indirection (node_under states last r) ≡ true
+    link = ap (λ q. is_indirection (node_under states last q)) (sym stands.is) ∙ root_link limits states last run t handle stands.root within stands.is_open
 
     -- the main node of a handle's root is the trie's
     root_main : logical_main (states t).heap r ≡ trie.main_at states last t r
     root_main = main_there limits states last run t r within used link
 
-    link_then : is_link (node_at (states t).heap r) ≡ true
+    link_then : is_indirection (node_at (states t).heap r) ≡ true
     link_then =
         let now = nodes_stay limits states last run t last within (omega arith) r used.0 (grown_in_use states t r used.0 used.1) in
-        ap is_link (Under.node_under (states t).heap r used.0 used.1) ∙ sym (kept now.2.0 used.0.node) ∙ ap is_link (sym now.2.1) ∙ sym (ap (λ o. is_link (node_of o)) now.1) ∙ link
+        ap is_indirection (Under.node_under (states t).heap r used.0 used.1) ∙ sym (kept now.2.0 used.0.node) ∙ ap is_indirection (sym now.2.1) ∙ sym (ap (λ o. is_indirection (node_of o)) now.1) ∙ link
       where
-        kept : (m : Ref) (n : Node) → is_link (with_main_word m n) ≡ is_link n
+        kept : (m : Ref) (n : Node) → is_indirection (with_main_word m n) ≡ is_indirection n
         kept m (Indirection g word) = refl
         kept m n = refl
 

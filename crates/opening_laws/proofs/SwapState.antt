@@ -112,7 +112,7 @@ module _ (limits : Limits) (states : ℕ → State) (last : ℕ) (r : IsRun limi
     offers = own_numbers offerer.owner offer ((ordered limits states last r t handle offer swap).offers.own offerer.k offerer.owner offerer.runs) offerer.completes
 
     -- the handle that it opens isn't open
-    unopened : (n : ℕ) → offer.opens ≡ Some n → root_at (states t) n ≡ None
+    pub unopened : (n : ℕ) → offer.opens ≡ Some n → root_at (states t) n ≡ None
     unopened n e = (ordered limits states last r t handle offer swap).handles.unopened offerer.k n offerer.owner offerer.runs offerer.unmarked (sym offers.number ∙ e)
 
     here : get_or (set (states t).roots handle (rewritten (Plain offer.successor) (root_at (states t) handle))) handle None ≡ Some (record old.root { word = Plain offer.successor })

@@ -19,9 +19,10 @@ use Rattle.order_laws.specs.Facts.{standing_of, standing, On, IsFresh, Facts, Op
 use Rattle.order_laws.proofs.Carried.{Carried}
 use Rattle.order_laws.proofs.Changes.{first_root, roots_swapped}
 use Rattle.order_laws.proofs.Handles.{opens_in_range}
-use Rattle.order_laws.proofs.Standing.{standing_root, here_none, here_some, there_some, else_none, else_some}
+use Rattle.order_laws.proofs.Standing.{here_none, here_some, there_some, else_none, else_some}
 use Rattle.order_laws.proofs.StepsOfRun.{Kind, plain, updates, answers, closes, swaps, kind_at}
 use Rattle.generation_laws.proofs.Swaps.{closed_in, closed_other}
+use Rattle.generation_laws.proofs.Rooted.{standing_root}
 
 -- the standing at first: handle 0 alone is open
 pub first_standing : (limits : Limits) (handle : ℕ) (access : Access) (generation : ℕ) → standing (first_state limits) handle ≡ Some (access, generation) → handle ≡ 0

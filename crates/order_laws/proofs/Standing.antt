@@ -1,7 +1,7 @@
 -- Which generations stand on which handles, along a run: what each step leaves, and what a swap makes of it.
 use Rattle.std.proofs.Common.{◌≡◌, ℕ, suc, ◌<◌, List, set, get_or, length, Option, Some, None, refl, sym, ap, ◌∙◌, length-set, arith}
 use Rattle.std.proofs.lemmas.List.{get_or-set_same}
-use Rattle.std.proofs.lemmas.Option.{none-some, some_pair_parts}
+use Rattle.std.proofs.lemmas.Option.{none-some}
 use Rattle.history.specs.declared.calls.Access.{Access}
 use Rattle.history.specs.declared.calls.Access.TheVariants.{Writable}
 use Rattle.slot_arena.specs.declared.refs.Ref.{Ref}
@@ -42,17 +42,6 @@ same_standing : (heap later : Heap) (before after : Option Root) → footing_of 
 unfolding of_footing
 same_standing heap later None after e keeps = standing_by later after ∙ ap (of_footing later) e
 same_standing heap later (Some root) after e keeps = standing_by later after ∙ ap (of_footing later) e ∙ ap (λ g. Some (root.access, g)) (keeps root refl)
-
--- the root behind a standing
-pub standing_root : (state : State) (handle : ℕ) (access : Access) (generation : ℕ) → standing state handle ≡ Some (access, generation) →
-    (root : Root) × (root_at state handle ≡ Some root) × (root.access ≡ access) × (generation_at state.heap (root_of root.word) ≡ generation)
-standing_root state handle access generation e = by (root_at state handle) refl
-  where
-    by : (o : Option Root) → root_at state handle ≡ o → (root : Root) × (root_at state handle ≡ Some root) × (root.access ≡ access) × (generation_at state.heap (root_of root.word) ≡ generation)
-    by None is = absurd (none-some (access, generation) (ap (standing_of state.heap) (sym is) ∙ e))
-    by (Some root) is =
-        let parts = some_pair_parts root.access access (generation_at state.heap (root_of root.word)) generation (ap (standing_of state.heap) (sym is) ∙ e) in
-        (root, is, parts.0, parts.1)
 
 -- ---- after a swap
 

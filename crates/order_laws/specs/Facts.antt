@@ -1,6 +1,6 @@
 -- From what the legal order of a run follows: facts about the contents of the generations. State t is the state before
 -- step t, and V g t the content of generation g before step t, as it looks from the end of the run.
-use Rattle.std.specs.Prelude.{◌≡◌, ◌≢◌, ℕ, suc, ◌≤◌, ◌<◌, ◌⊎◌, true, false, List, [], ◌∷◌, Contains, Option, Some, None, slice_index_or}
+use Rattle.std.specs.Prelude.{◌≡◌, ◌≢◌, ℕ, suc, ◌≤◌, ◌<◌, true, false, List, [], ◌∷◌, Contains, Option, Some, None}
 use Rattle.std.specs.FinMap as map
 use Rattle.ctrie_base.specs.Hashes.{hash_of}
 use Rattle.history.specs.declared.calls.Access.{Access}
@@ -13,9 +13,11 @@ use Rattle.history.specs.declared.events.Event.{Event}
 use Rattle.history.specs.Worlds.{KeyMap}
 use Rattle.history.specs.Histories.{HasEnded}
 use Rattle.slot_arena.specs.declared.refs.Ref.{Ref}
-use Rattle.slot_arena.specs.Heaps.{Heap, generation_at}
+use Rattle.slot_arena.specs.Heaps.{generation_at}
 use Rattle.places.specs.declared.place.Place.{Place}
 pub use Rattle.content_laws.specs.Effects.{act_in}
+pub use Rattle.generation_laws.proofs.Running.{Runs}
+pub use Rattle.generation_laws.specs.Standing.{standing_of, standing, On, IsRooted}
 use Rattle.machine_model.specs.declared.actions.Action.TheVariants as act
 use Rattle.machine_model.specs.declared.operations.Operation.{Operation}
 use Rattle.machine_model.specs.declared.roots.Root.{Root}
@@ -35,34 +37,13 @@ use Rattle.machine_model.proofs.Moves.{Moves}
 
 -- ---- what stands
 
--- the kind of an open handle, and the generation of its root
-abbrev pub standing_of : Heap → Option Root → Option (Access × ℕ)
-standing_of heap None = None
-standing_of heap (Some root) = Some (root.access, generation_at heap (root_of root.word))
-
-abbrev pub standing : State → ℕ → Option (Access × ℕ)
-standing state handle = standing_of state.heap (root_at state handle)
-
--- at this time the handle is writable, and its root has this generation
-abbrev pub On : (ℕ → State) → ℕ → ℕ → ℕ → Type 0
-On states t handle generation = standing (states t) handle ≡ Some (Writable, generation)
-
 -- at this time the generation is, or was once, that of a writable handle's root
 abbrev pub HasStood : (ℕ → State) → ℕ → ℕ → Type 0
 HasStood states t generation = (u handle : ℕ) × (u ≤ t) × On states u handle generation
 
--- the root of the writable handle has this generation, or had it until it was closed
-abbrev pub IsRooted : (ℕ → State) → ℕ → ℕ → ℕ → Type 0
-IsRooted states t handle generation =
-    On states t handle generation ⊎ ((c : ℕ) × (c < t) × (closed_at (states t) generation ≡ Some c) × On states c handle generation)
-
 -- no handle's root has the generation, and it isn't closed
 abbrev pub IsFresh : State → ℕ → Type 0
 IsFresh state generation = (closed_at state generation ≡ None) × ((handle : ℕ) (access : Access) → standing state handle ≢ Some (access, generation))
-
--- the actor k + 1 runs this operation
-abbrev pub Runs : State → ℕ → Operation → Type 0
-Runs state k operation = slice_index_or state.actors k None ≡ Some operation
 
 -- ---- what calls do
 

@@ -31,13 +31,13 @@ use Rattle.order_laws.proofs.EachStep.{changes}
 use Rattle.order_laws.proofs.Honest.{honest, offerer_of}
 use Rattle.order_laws.proofs.OfferStands.{offers_at}
 use Rattle.order_laws.proofs.Origins.{nothing_placed, place_says, on_time_says, late_says}
-use Rattle.order_laws.proofs.Standing.{standing_root}
 use Rattle.phase_laws.specs.Phases.{PlacesRunBehind}
 use Rattle.phase_laws.specs.Times.{Try, has_read}
 use Rattle.phase_laws.proofs.Closers.{begun_runs, closes_placed}
 use Rattle.phase_laws.proofs.Entering.{Enters, commits, at_end, at_close, carried, entering}
 use Rattle.phase_laws.proofs.Placed.{end_line}
 use Rattle.phase_laws.proofs.Since.{run_since}
+use Rattle.generation_laws.proofs.Rooted.{standing_root}
 
 module _ (limits : Limits) (states : ℕ → State) (last : ℕ) (r : IsRun limits states last) where
   -- an operation with this id runs just behind the step

@@ -31,15 +31,6 @@ use Rattle.phase_laws.proofs.Since.{run_since}
 
 -- ---- writable handles
 
-on_so : (state : State) (handle generation : ℕ) → roots.IsOn state handle generation → standing state handle ≡ Some (Writable, generation)
-on_so state handle generation on =
-    ap (standing_of state.heap) on.is_open ∙ ap (λ a. Some (a, generation_at state.heap (root_of on.root.word))) on.writable ∙ ap (λ g. Some (Writable, g)) on.its
-
--- what the layer of generations says of roots
-pub rooted_so : (states : ℕ → State) (t handle generation : ℕ) → roots.IsRooted states t handle generation → IsRooted states t handle generation
-rooted_so states t handle generation (inl on) = inl (on_so (states t) handle generation on)
-rooted_so states t handle generation (inr (c, before, closed, on)) = inr (c, before, closed, on_so (states c) handle generation on)
-
 from_or_behind : (at u : ℕ) → at ≤ u → (u ≡ at) ⊎ (at < u)
 from_or_behind at u h = grind arith
 
@@ -49,8 +40,7 @@ rooted_since limits states last r t k operation generation le runs writable its 
   | inr behind ↦
       let (was, at_k, same, of_it) = its.runs u behind within in
       subst (λ c. IsRooted states u (handle_of c) generation) (sym same.call)
-      (rooted_so states u (handle_of was.call) generation
-      (roots.rooted_at limits states last r u (omega arith) k was generation at_k (ap is_close (sym same.call) ∙ its.no_close) (sym same.access ∙ writable) of_it))
+      (roots.rooted_at limits states last r u (omega arith) k was generation at_k (ap is_close (sym same.call) ∙ its.no_close) (sym same.access ∙ writable) of_it)
 ]
 
 -- now, and behind its moment

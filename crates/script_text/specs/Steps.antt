@@ -7,6 +7,7 @@ use Rattle.ctrie_base.specs.declared.refusals.Refusal.{Refusal}
 use Rattle.machine_model.specs.declared.steps.Step.{Step}
 use Rattle.machine_model.specs.declared.steps.Step.TheVariants as step
 use Rattle.machine_model.specs.States.{State}
+use Rattle.machine_model.specs.Going.{go_limit}
 use Rattle.machine_model.specs.Machine.{next_kind, begin_denial, go_denial, next_state, run_from}
 use Rattle.script_text.specs.declared.commands.Command.{Command}
 use Rattle.script_text.specs.declared.commands.Command.TheVariants.{Begin, Go, Until, Finish, Do, Sweep}
@@ -23,21 +24,17 @@ going zero wanted actor state = []
 going (suc left) wanted actor state =
     if stops wanted (next_kind state actor) then [] else step.Go actor ∷ going left wanted actor (next_state state (step.Go actor))
 
--- how many steps `until`, `finish` and `do` take at most
-unfoldable pub most_steps : ℕ
-most_steps = 16384
-
 -- the begin of `do`, and the steps behind it, unless it is denied
 abbrev pub doing : ℕ → Step → Option Refusal → State → List Step
 doing actor begins (Some refusal) state = begins ∷ []
-doing actor begins None state = begins ∷ going most_steps None actor (next_state state begins)
+doing actor begins None state = begins ∷ going go_limit None actor (next_state state begins)
 
--- the steps that a line names in a state
+-- the steps that a line names in a state; where it gives no number of steps, no more than the limit
 unfoldable pub steps_of : State → Command → List Step
 steps_of state (Begin actor call) = step.Begin actor call ∷ []
 steps_of state (Go actor times) = going times None actor state
-steps_of state (Until actor kind) = going most_steps (Some kind) actor state
-steps_of state (Finish actor) = going most_steps None actor state
+steps_of state (Until actor kind) = going go_limit (Some kind) actor state
+steps_of state (Finish actor) = going go_limit None actor state
 steps_of state (Do actor call) = doing actor (step.Begin actor call) (begin_denial state actor call) state
 steps_of state (Sweep times) = replicate times step.Sweep
 

@@ -26,13 +26,13 @@ use Rattle.shape_laws.proofs.Given.{level_stays, path_stays}
 
 -- ---- more steps go on from where those before end
 
-states_from-append : (state : State) (xs ys : List Step) (t : ℕ) → t ≤ length xs → states_from state (xs ++ ys) t ≡ states_from state xs t
+pub states_from-append : (state : State) (xs ys : List Step) (t : ℕ) → t ≤ length xs → states_from state (xs ++ ys) t ≡ states_from state xs t
 unfolding states_from
 states_from-append state [] ys t h = let none : t ≡ zero = omega (arith, h) in ap (states_from state ys) none ∙ states_from-zero state ys
 states_from-append state (x ∷ xs) ys zero h = refl
 states_from-append state (x ∷ xs) ys (suc t) h = states_from-append (next_state state x) xs ys t (omega arith)
 
-taken-append : (state : State) (xs ys : List Step) → taken_from state (xs ++ ys) ≡ taken_from state xs ++ taken_from (run_from state xs) ys
+pub taken-append : (state : State) (xs ys : List Step) → taken_from state (xs ++ ys) ≡ taken_from state xs ++ taken_from (run_from state xs) ys
 unfolding taken_from run_from
 taken-append state [] ys = refl
 taken-append state (x ∷ xs) ys = by_test (is_taken_step (next state x)) (taken-append (next_state state x) xs ys)

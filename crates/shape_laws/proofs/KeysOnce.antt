@@ -14,8 +14,7 @@ use Rattle.machine_model.specs.declared.steps.Limits.{Limits}
 use Rattle.machine_model.specs.declared.steps.Step.{Step}
 use Rattle.machine_model.specs.States.{State, root_of}
 use Rattle.machine_model.specs.States.{root_at as handle_at, word_of}
-use Rattle.machine_model.specs.Contents.{from_root, from_slot, content_at, pairs_below}
-use Rattle.machine_model.specs.Contents.{most_levels as levels_of_content}
+use Rattle.machine_model.specs.Contents.{from_root, from_slot, content_at, pairs_below, most_levels}
 use Rattle.machine_model.specs.Counting.{refs_of_root, refs_of_word}
 use Rattle.machine_model.specs.Pairs.{by_key}
 use Rattle.machine_model.proofs.Times.{IsRun}
@@ -61,7 +60,7 @@ module _ (node : Ref → Node) (main : Ref → Ref) where
   bare_pairs (suc levels) r = bare_pairs_of (pairs_from (λ q. bare (node q)) main levels) (pairs_from node main levels) (bare_pairs levels) r (node r)
 
 -- the shape doesn't ask for times and roots
-same_shape : (trie : Trie) (last : ℕ) (main : ℕ → Ref → Ref) (root : ℕ → Ref) (i : Ref) (n : Node) → IsShaped trie i n → IsShaped (record trie { last = last; main = main; root = root }) i n
+pub same_shape : (trie : Trie) (last : ℕ) (main : ℕ → Ref → Ref) (root : ℕ → Ref) (i : Ref) (n : Node) → IsShaped trie i n → IsShaped (record trie { last = last; main = main; root = root }) i n
 same_shape trie last main root i n (branch b es places is has shallow in_place led children) =
     branch b es places is has shallow in_place led (λ x g child w at its. let c = children x g child w at its in record { deeper = c.deeper; led = c.led; older = c.older })
 same_shape trie last main root i n (list ss is are most deep one_hash) = list ss is are most deep one_hash
@@ -121,12 +120,12 @@ module _ (limits : Limits) (states : ℕ → State) (steps : ℕ → Step) (last
 
   content_is : content_at (states last) handle ≡ entries (content trie 0 0)
   content_is =
-      ap (λ o. by_key (pairs_below levels_of_content (states last).heap (root_of (word_of o)))) at ∙ ap by_key (reached levels_of_content)
+      ap (λ o. by_key (pairs_below most_levels (states last).heap (root_of (word_of o)))) at ∙ ap by_key (reached most_levels)
       ∙ reached_entries trie ok 0 0 no_ref (bare_link_node s r link)
 
   pub keys_rise : T (is_sorted nat_cmp (content_at (states last) handle))
   keys_rise = subst (λ ps. T (is_sorted nat_cmp ps)) (sym content_is) (entries_sorted (content trie 0 0))
 
-  pub nothing_deeper : (more : ℕ) → pairs_below (levels_of_content + more) (states last).heap r ≡ pairs_below levels_of_content (states last).heap r
+  pub nothing_deeper : (more : ℕ) → pairs_below (most_levels + more) (states last).heap r ≡ pairs_below most_levels (states last).heap r
   nothing_deeper more =
-      reached (levels_of_content + more) ∙ enough trie ok (levels_of_content + more) levels_of_content r (omega arith) (omega arith) (λ g w is. (omega arith, omega arith, omega (arith, depth_is))) ∙ sym (reached levels_of_content)
+      reached (most_levels + more) ∙ enough trie ok (most_levels + more) most_levels r (omega arith) (omega arith) (λ g w is. (omega arith, omega arith, omega (arith, depth_is))) ∙ sym (reached most_levels)

@@ -19,10 +19,11 @@ use Rattle.memory_laws.specs.Wants.{AnIndirection, AllHold, line_wants, swap_wan
 use Rattle.memory_laws.proofs.Claims.{Meets, all_of, last_hold}
 use Rattle.memory_laws.proofs.Levels.{PathLevel, LineLevel, PurposeLevel}
 use Rattle.shape_laws.specs.LineSites.{Sites, PathSite, PurposeSite, LineSite}
-use Rattle.shape_laws.specs.SitesAt.{way_of, way_of_purpose}
+use Rattle.shape_laws.specs.SitesAt.{way_of}
+use Rattle.falling_laws.specs.Falling.{purpose_path}
 
 module _ (lv : Ref → ℕ) where
-  purpose_level : (why : Purpose) → PurposeLevel lv why → PathLevel lv (way_of_purpose why)
+  purpose_level : (why : Purpose) → PurposeLevel lv why → PathLevel lv (purpose_path why)
   purpose_level (purpose.Update path former) e = e
   purpose_level (purpose.Renew path) e = e
   purpose_level purpose.Clean e = λ k d within. absurd (omega arith)
@@ -61,7 +62,7 @@ module _ (lv : Ref → ℕ) where
   way_level line.Impossible e = λ k d within. absurd (omega arith)
 
 module _ (kind : HashKind) (s : Sites) (hash : ℕ) where
-  purpose_site : (i : Ref) (why : Purpose) → PurposeSite kind s hash i why → PathSite kind s hash (way_of_purpose why)
+  purpose_site : (i : Ref) (why : Purpose) → PurposeSite kind s hash i why → PathSite kind s hash (purpose_path why)
   purpose_site i (purpose.Update path former) e = e.0
   purpose_site i (purpose.Renew path) e = e
   purpose_site i purpose.Clean e = λ k d within. absurd (omega arith)
@@ -100,7 +101,7 @@ module _ (kind : HashKind) (s : Sites) (hash : ℕ) where
   way_site line.Impossible e = λ k d within. absurd (omega arith)
 
 module _ (S : Ref → Type 0) (heap : Heap) (kind : HashKind) (call : Call) (access : Access) where
-  purpose_links : (why : Purpose) → AllHold S heap (purpose_wants why) → All (Meets S heap AnIndirection) (way_of_purpose why)
+  purpose_links : (why : Purpose) → AllHold S heap (purpose_wants why) → All (Meets S heap AnIndirection) (purpose_path why)
   purpose_links (purpose.Update path former) h = all_of h.0
   purpose_links (purpose.Renew path) h = all_of h.0
   purpose_links purpose.Clean h = All-nil (Meets S heap AnIndirection)

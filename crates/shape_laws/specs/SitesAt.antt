@@ -3,25 +3,19 @@ use Rattle.std.specs.Prelude.{◌≡◌, ℕ, suc, ◌^◌, ◌<◌, ◌≤◌, 
 use Rattle.ctrie_base.specs.Hashes.{hash_of}
 use Rattle.slot_arena.specs.declared.refs.Ref.{Ref}
 use Rattle.slot_arena.specs.Heaps.{no_ref}
-use Rattle.machine_model.specs.declared.building.BuildLine.{BuildLine}
-use Rattle.machine_model.specs.declared.building.BuildLine.TheVariants as build
 use Rattle.machine_model.specs.declared.finding.KeyLine.{KeyLine}
 use Rattle.machine_model.specs.declared.finding.KeyLine.TheVariants as key
 use Rattle.machine_model.specs.declared.lines.Line.{Line}
 use Rattle.machine_model.specs.declared.lines.Line.TheVariants as line
-use Rattle.machine_model.specs.declared.lines.Purpose.{Purpose}
 use Rattle.machine_model.specs.declared.lines.Purpose.TheVariants as purpose
 use Rattle.machine_model.specs.declared.operations.Operation.{Operation}
 use Rattle.machine_model.specs.declared.repairs.CleanLine.{CleanLine}
 use Rattle.machine_model.specs.declared.repairs.CleanLine.TheVariants as clean
 use Rattle.machine_model.specs.declared.repairs.ClimbLine.{ClimbLine}
 use Rattle.machine_model.specs.declared.repairs.ClimbLine.TheVariants as climb
-use Rattle.machine_model.specs.declared.repairs.RenewLine.{RenewLine}
-use Rattle.machine_model.specs.declared.repairs.RenewLine.TheVariants as renew
 use Rattle.machine_model.specs.declared.steps.Limits.{Limits}
 use Rattle.machine_model.specs.declared.steps.Outcome.{Outcome}
 use Rattle.machine_model.specs.declared.steps.Step.{Step}
-use Rattle.machine_model.specs.declared.steps.Step.TheVariants as step
 use Rattle.machine_model.specs.declared.reading.Swap.{Swap}
 use Rattle.machine_model.specs.Calls.{key_of}
 use Rattle.machine_model.specs.Paths.{current, depth_of}
@@ -30,7 +24,7 @@ use Rattle.machine_model.proofs.Grown.{node_under}
 use Rattle.machine_model.proofs.Moves.{Moves}
 use Rattle.memory_laws.specs.Wants.{is_indirection}
 use Rattle.memory_laws.proofs.Levels.{LineLevel}
-use Rattle.falling_laws.specs.Falling.{IsMainOf}
+use Rattle.falling_laws.specs.Falling.{IsMainOf, build_path, renew_path, purpose_path}
 use Rattle.shape_laws.specs.Sites.{path_to, level_until, path_until, depth_of_run, path_of_run}
 use Rattle.shape_laws.specs.LineSites.{LineSite, sites_of}
 use Rattle.machine_model.specs.Keys.{FitsKey}
@@ -74,19 +68,6 @@ way_of_key (key.Entry path main position) = path
 way_of_key (key.Listed path main position) = path
 way_of_key (key.Sibling path main position former) = path
 
-abbrev pub way_of_build : BuildLine → List Ref
-way_of_build (build.Single path main where_ former) = path
-way_of_build (build.Pair path main position single depth) = path
-way_of_build (build.Link path main position below depth) = path
-way_of_build (build.Rung path main position below depth) = path
-way_of_build (build.Main path main c former) = path
-
-abbrev pub way_of_renew : RenewLine → List Ref
-way_of_renew (renew.Entry path main done) = path
-way_of_renew (renew.Read path main done r) = path
-way_of_renew (renew.Link path main done child) = path
-way_of_renew (renew.Branch path main done) = path
-
 abbrev pub way_of_clean : CleanLine → List Ref
 way_of_clean (clean.Read path r) = path
 way_of_clean (clean.Main path main) = path
@@ -101,17 +82,11 @@ way_of_climb (climb.Main c main) = c.path
 way_of_climb (climb.Contracted c main) = c.path
 way_of_climb (climb.Root c l) = c.path
 
-abbrev pub way_of_purpose : Purpose → List Ref
-way_of_purpose (purpose.Update path former) = path
-way_of_purpose (purpose.Renew path) = path
-way_of_purpose purpose.Clean = []
-way_of_purpose (purpose.Climb c) = c.path
-
 abbrev pub way_of : Line → List Ref
 way_of (line.Key l) = way_of_key l
-way_of (line.Build l) = way_of_build l
-way_of (line.Swap why w) = way_of_purpose why
-way_of (line.Renew l) = way_of_renew l
+way_of (line.Build l) = build_path l
+way_of (line.Swap why w) = purpose_path why
+way_of (line.Renew l) = renew_path l
 way_of (line.Clean l) = way_of_clean l
 way_of (line.Climb l) = way_of_climb l
 way_of l = []

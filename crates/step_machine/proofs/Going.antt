@@ -9,7 +9,8 @@ use Rattle.machine_model.specs.declared.steps.Outcome.{Outcome}
 use Rattle.machine_model.specs.declared.steps.Outcome.TheVariants as outcome
 use Rattle.machine_model.specs.Machine.{Answer, next, denial_of}
 use Rattle.step_machine.specs.Machines.{Taken, state_of, with_step, Applied}
-use Rattle.step_machine.specs.Callers.{after_outcome, after_go, going_on, go_limit, Resumes}
+use Rattle.machine_model.specs.Going.{go_limit}
+use Rattle.step_machine.specs.Callers.{after_outcome, after_go, going_on, Resumes}
 
 -- what goes on after this outcome leads on
 onwards : (k actor : ℕ) (n : ℕ) (from machine : Taken) (o : Outcome) →

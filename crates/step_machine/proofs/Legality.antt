@@ -20,7 +20,8 @@ use Rattle.machine_model.specs.Machine.{AreLimits, next, denial_of, begin_denial
 use Rattle.order_laws.specs.Laws.{Names, ShowsContents, IsExplained}
 use Rattle.legal_order.specs.Laws.{AloneItActs, RanAlone, Does}
 use Rattle.step_machine.specs.Machines.{Taken, state_of, with_step}
-use Rattle.step_machine.specs.Callers.{going_on, go_limit, Resumes, Completes, CompletesUnless}
+use Rattle.machine_model.specs.Going.{go_limit}
+use Rattle.step_machine.specs.Callers.{going_on, Resumes, Completes, CompletesUnless}
 use Rattle.step_machine.specs.declared.records.Record.{Record}
 use Rattle.step_machine.specs.Records.{IsRecordOf}
 use Rattle.step_machine.specs.Legality.{IsLegalFor, IsLegalRecord, IsInOrder, ActedAlone}

@@ -31,7 +31,8 @@ use Rattle.order_laws.proofs.Growing.{ended_before}
 use Rattle.order_laws.proofs.Unconditional.{books_of}
 use Rattle.order_laws.proofs.Recalling.{end_event, begin_event}
 use Rattle.step_machine.specs.Machines.{Taken, state_of, with_step}
-use Rattle.step_machine.specs.Callers.{Going, after_outcome, after_go, going_on, go_limit, Completes}
+use Rattle.machine_model.specs.Going.{go_limit}
+use Rattle.step_machine.specs.Callers.{Going, after_outcome, after_go, going_on, Completes}
 
 -- a machine after more steps, and what they tell
 pub record Led (before after : Taken) (told : List Event) : Type 0 where

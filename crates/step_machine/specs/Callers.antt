@@ -8,6 +8,7 @@ use Rattle.machine_model.specs.declared.steps.Step.{Step}
 use Rattle.machine_model.specs.declared.steps.Step.TheVariants.{Begin, Go, Sweep}
 use Rattle.machine_model.specs.declared.steps.Outcome.{Outcome}
 use Rattle.machine_model.specs.declared.steps.Outcome.TheVariants.{Ended}
+use Rattle.machine_model.specs.Going.{go_limit}
 use Rattle.machine_model.specs.Machine.{Answer, next, denial_of, is_busy, is_spent}
 use Rattle.step_machine.specs.Machines.{Taken, state_of, with_step, IsTaken, Applied}
 
@@ -15,10 +16,6 @@ use Rattle.step_machine.specs.Machines.{Taken, state_of, with_step, IsTaken, App
 abbrev pub Stepped : Result (Unit {0}) Refusal → Taken → Step → Taken → Type 0
 Stepped (Ok done) before step after = (o : Outcome) × Applied (Ok o) before step after
 Stepped (Err refusal) before step after = Applied (Err refusal) before step after
-
--- how many steps of an operation one call takes at most
-abbrev pub go_limit : ℕ
-go_limit = 16384
 
 -- what steps of an operation come to: its reply if it has ended, or a denial, and the machine after them
 abbrev pub Going : Type 0

@@ -24,7 +24,7 @@ use Rattle.machine_model.proofs.Grown.{grown}
 use Rattle.deciding_laws.proofs.Words.{Reads}
 use Rattle.deciding_laws.proofs.Finals.{link_stays}
 use Rattle.deciding_laws.proofs.Stages.{stage_of}
-use Rattle.deciding_laws.proofs.Known.{Known, is_link}
+use Rattle.deciding_laws.proofs.Known.{Known}
 use Rattle.deciding_laws.proofs.OtherLayers.{known_of_memory}
 use Rattle.deciding_laws.proofs.FromMemory.{memory}
 use Rattle.deciding_laws.proofs.RunWords.{protocol}
@@ -32,6 +32,7 @@ use Rattle.deciding_laws.proofs.Moments.{moment_at}
 use Rattle.content_laws.specs.Runs.{main_at}
 use Rattle.content_laws.proofs.Runs.{main_at-made}
 use Rattle.trie_laws.proofs.EachOperation.{OwnStep}
+use Rattle.memory_laws.specs.Wants.{is_indirection}
 
 -- a step of an operation that goes on
 pub went : (before : State) (actor : ℕ) (o : Outcome) (after : State) → Moves before (step.Go actor) o after → (operation : Operation) → operation_of before actor ≡ Some operation →
@@ -44,7 +45,7 @@ pub own_after : (states : ℕ → State) (t k : ℕ) (operation : Operation) →
 own_after states t k operation own = went (states t) (suc k) own.outcome (states (suc t)) own.moves operation own.runs own.goes
 
 -- an indirection is made
-link_made : (o : Option Slot) → is_link (node_of o) ≡ true → is_some o ≡ true
+link_made : (o : Option Slot) → is_indirection (node_of o) ≡ true → is_some o ≡ true
 link_made None e = absurd (true≢false (sym e))
 link_made (Some slot) e = refl
 

@@ -37,8 +37,9 @@ use Rattle.machine_model.specs.Copying.{copy_after}
 use Rattle.machine_model.specs.Walking.{walk_after}
 use Rattle.machine_model.specs.Operations.{after_update, climbed_on, swapped, after_swap}
 use Rattle.content_laws.specs.Tries.{Trie}
-use Rattle.trie_laws.specs.Paths.{path_of, path_of_build, path_of_renew}
+use Rattle.trie_laws.specs.Paths.{path_of}
 use Rattle.trie_laws.proofs.Routes.{Route, LineRoute, route_later}
+use Rattle.falling_laws.specs.Falling.{build_path, renew_path}
 
 clean_none : (state : State) (operation : Operation) (l : CleanLine) → path_of (clean_after state operation l) ≡ None
 clean_none state operation l = grind arith
@@ -97,7 +98,7 @@ module _ (trie : Trie) (access : Access) (g q t ra mu : ℕ) (state : State) (op
 
   -- ---- BUILD
 
-  made_on : (l : BuildLine) (made : Ref) → There (path_of_build l) → On (build_after_made state operation l made)
+  made_on : (l : BuildLine) (made : Ref) → There (build_path l) → On (build_after_made state operation l made)
   made_on (build.Single p main site.Absent former) made r = r
   made_on (build.Single p main (site.At position) former) made r = r
   made_on (build.Single p main (site.Beside position) former) made r = r
@@ -110,7 +111,7 @@ module _ (trie : Trie) (access : Access) (g q t ra mu : ℕ) (state : State) (op
   made_on (build.Rung p main position below depth) made r = r
   made_on (build.Main p main c former) made r = r
 
-  pub build_on : (l : BuildLine) → There (path_of_build l) → On (build_after state operation l)
+  pub build_on : (l : BuildLine) → There (build_path l) → On (build_after state operation l)
   build_on l r = by_slot (next_ref state.heap)
     where
       by_slot : (o : Option Ref) → On (build_if_made state operation l o)
@@ -149,7 +150,7 @@ module _ (trie : Trie) (access : Access) (g q t ra mu : ℕ) (state : State) (op
   renew_branch_on p main None r = tt
   renew_branch_on p main (Some made) r = r
 
-  pub renew_on : (l : RenewLine) → There (path_of_renew l) → On (renew_after state operation l)
+  pub renew_on : (l : RenewLine) → There (renew_path l) → On (renew_after state operation l)
   renew_on (renew.Entry p main done) r = renew_entry_on p main done _ _ r
   renew_on (renew.Read p main done read) r = renew_read_on p main done (read_step state operation read) r
   renew_on (renew.Link p main done child) r = renew_link_on p main done (next_ref state.heap) r

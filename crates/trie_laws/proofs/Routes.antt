@@ -23,7 +23,7 @@ use Rattle.content_laws.specs.Tries.{Trie, generation, On, at_root}
 use Rattle.content_laws.specs.Steps.{IsTrie, Looks, IsReached, root_is, below_is}
 use Rattle.content_laws.proofs.Paths.{on-depth}
 use Rattle.content_laws.proofs.Readers.{step_down}
-use Rattle.trie_laws.specs.Paths.{path_of_build, path_of_renew}
+use Rattle.falling_laws.specs.Falling.{build_path, renew_path}
 
 -- ---- of one indirection, as far as it is known up to time b
 
@@ -147,8 +147,8 @@ KeyRoute trie access g q t read_at mu (key.Sibling p main position former) = IsA
 
 abbrev pub LineRoute : Trie → Access → ℕ → ℕ → ℕ → ℕ → ℕ → Line → Type 0
 LineRoute trie access g q t read_at mu (line.Key l) = KeyRoute trie access g q t read_at mu l
-LineRoute trie access g q t read_at mu (line.Build l) = Route trie access g q t (path_of_build l)
-LineRoute trie access g q t read_at mu (line.Renew l) = Route trie access g q t (path_of_renew l)
+LineRoute trie access g q t read_at mu (line.Build l) = Route trie access g q t (build_path l)
+LineRoute trie access g q t read_at mu (line.Renew l) = Route trie access g q t (renew_path l)
 LineRoute trie access g q t read_at mu (line.Swap (purpose.Update p former) s) = Route trie access g q t p
 LineRoute trie access g q t read_at mu (line.Swap (purpose.Renew p) s) = Route trie access g q t p
 LineRoute trie access g q t read_at mu l = Unit {0}

@@ -9,8 +9,6 @@ use Rattle.machine_model.specs.declared.lines.Purpose.TheVariants as purpose
 use Rattle.machine_model.specs.declared.operations.Operation.{Operation}
 use Rattle.machine_model.specs.declared.reading.SwapLine.TheVariants as swap
 use Rattle.machine_model.specs.declared.reading.SwapLine.TheVariants.{Deciding}
-use Rattle.machine_model.specs.declared.repairs.CleanLine.TheVariants as clean
-use Rattle.machine_model.specs.declared.repairs.RenewLine.TheVariants as renew
 use Rattle.machine_model.specs.declared.steps.Limits.{Limits}
 use Rattle.machine_model.specs.declared.steps.Step.{Step}
 use Rattle.machine_model.specs.Calls.{key_of}
@@ -18,13 +16,12 @@ use Rattle.machine_model.specs.States.{State, root_of}
 use Rattle.machine_model.proofs.Grown.{node_under}
 use Rattle.machine_model.proofs.Times.{IsRun}
 use Rattle.deciding_laws.specs.Deciding.{IsNoSwap}
-use Rattle.content_laws.specs.Repairing.{IsRepaired}
+use Rattle.content_laws.specs.Repairing.{IsRepaired, ReadsBelow}
 use Rattle.generation_laws.specs.Laws.{root_generation}
 use Rattle.order_laws.specs.Facts.{Runs}
-use Rattle.line_laws.specs.Given.{ReadsBelow, GaveBelow}
+use Rattle.line_laws.specs.Given.{GaveBelow}
 use Rattle.line_laws.specs.Commits.{KnowsFresh, assigned_at}
 use Rattle.line_laws.proofs.RepairMore.{repair_more}
-use Rattle.falling_laws.specs.Falling as falling
 use Rattle.falling_laws.specs.Falling.{WasGiven}
 use Rattle.falling_laws.proofs.Final.{repairs_are_given}
 use Rattle.opening_laws.proofs.RootOf.{roots_are_one}
@@ -34,27 +31,6 @@ use Rattle.shape_laws.proofs.SitesAt.{lines_have_sites, updates_have_sites}
 use Rattle.trie_laws.specs.Below.{IsRepairing, RepairsAreKnown, SitesOfUpdates, RootsAreKept}
 
 -- ---- repairs
-
-same_below : (l : Line) → ReadsBelow l → falling.ReadsBelow l
-same_below (line.Renew (renew.Read path main done r)) b = tt
-same_below (line.Renew (renew.Entry path main done)) b = absurd b
-same_below (line.Renew (renew.Link path main done child)) b = absurd b
-same_below (line.Renew (renew.Branch path main done)) b = absurd b
-same_below (line.Clean (clean.Child path main done r)) b = tt
-same_below (line.Clean (clean.Read path r)) b = absurd b
-same_below (line.Clean (clean.Main path main)) b = absurd b
-same_below (line.Clean (clean.Entry path main done)) b = absurd b
-same_below (line.Clean (clean.Tomb path main done child)) b = absurd b
-same_below (line.Clean (clean.Contracted path main done)) b = absurd b
-same_below (line.Root l) b = absurd b
-same_below (line.Key l) b = absurd b
-same_below (line.Build l) b = absurd b
-same_below (line.Swap why s) b = absurd b
-same_below (line.Climb l) b = absurd b
-same_below (line.Copy l) b = absurd b
-same_below (line.Walk l) b = absurd b
-same_below (line.End answer) b = absurd b
-same_below line.Impossible b = absurd b
 
 below_no_swap : (l : Line) → ReadsBelow l → IsNoSwap l
 below_no_swap (line.Swap why s) b = absurd b
@@ -82,7 +58,7 @@ module _ (limits : Limits) (states : ℕ → State) (last : ℕ) (run : IsRun li
         reads = g.reads;
         of = g.of;
         gives = g.gives;
-      }) g.its (same_below g.operation.line g.below) in
+      }) g.its g.below in
       ((given.0.0, omega (arith, given.0.1, g.past), given.0.2), given.1)
 
   pub repairs_are_known : RepairsAreKnown limits states last

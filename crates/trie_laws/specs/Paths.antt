@@ -2,16 +2,13 @@
 use Rattle.std.specs.Prelude.{ℕ, ◌<◌, ◌≤◌, List, length, slice_index_or, Option, Some, None}
 use Rattle.slot_arena.specs.declared.refs.Ref.{Ref}
 use Rattle.slot_arena.specs.Heaps.{no_ref}
-use Rattle.machine_model.specs.declared.building.BuildLine.{BuildLine}
-use Rattle.machine_model.specs.declared.building.BuildLine.TheVariants as build
 use Rattle.machine_model.specs.declared.finding.KeyLine.{KeyLine}
 use Rattle.machine_model.specs.declared.finding.KeyLine.TheVariants as key
-use Rattle.machine_model.specs.declared.repairs.RenewLine.{RenewLine}
-use Rattle.machine_model.specs.declared.repairs.RenewLine.TheVariants as renew
 use Rattle.machine_model.specs.declared.lines.Purpose.TheVariants as purpose
 use Rattle.machine_model.specs.declared.lines.Line.{Line}
 use Rattle.machine_model.specs.declared.lines.Line.TheVariants as line
 use Rattle.content_laws.specs.Tries.{Trie, On}
+use Rattle.falling_laws.specs.Falling.{build_path, renew_path}
 
 -- each indirection of the path was on the key's path in the generation, at some time up to t
 abbrev pub LiesOn : Trie → ℕ → ℕ → ℕ → List Ref → Type 0
@@ -26,23 +23,10 @@ path_of_key (key.Entry p main position) = p
 path_of_key (key.Listed p main position) = p
 path_of_key (key.Sibling p main position former) = p
 
-abbrev pub path_of_build : BuildLine → List Ref
-path_of_build (build.Single p main site former) = p
-path_of_build (build.Pair p main position single depth) = p
-path_of_build (build.Link p main position below depth) = p
-path_of_build (build.Rung p main position below depth) = p
-path_of_build (build.Main p main c former) = p
-
-abbrev pub path_of_renew : RenewLine → List Ref
-path_of_renew (renew.Entry p main done) = p
-path_of_renew (renew.Read p main done read) = p
-path_of_renew (renew.Link p main done child) = p
-path_of_renew (renew.Branch p main done) = p
-
 abbrev pub path_of : Line → Option (List Ref)
 path_of (line.Key l) = Some (path_of_key l)
-path_of (line.Build l) = Some (path_of_build l)
-path_of (line.Renew l) = Some (path_of_renew l)
+path_of (line.Build l) = Some (build_path l)
+path_of (line.Renew l) = Some (renew_path l)
 path_of (line.Swap (purpose.Update p former) s) = Some p
 path_of (line.Swap (purpose.Renew p) s) = Some p
 path_of l = None
