@@ -14,12 +14,15 @@ use Rattle.ctrie_commands.specs.Verdicts.{IsVerdict}
 abbrev pub told_in : HashKind → State → Reading
 told_in hash state = record { hash = hash; events = state.events; order = order_of state }
 
--- The text spells this history and this order, which is legal for it. So a check of the text answers true, unless the text has more lines than are read.
+-- the text spells this history and this order, and the order is legal for the history
 pub record IsLegalText (text : List ℕ) (told : Reading) : Type 0 where
   pub spelled : IsSpelling text told
   pub legal : IsLegal (hash_of told.hash) told.events told.order
-  pub judged : IsShort text → IsVerdict text true
 
--- known bytes grow by such a text
+-- known bytes grow by such a text, and a check of it answers true
+abbrev pub AppendsJudged : Option (List ℕ) → Option (List ℕ) → Type 0
+AppendsJudged old new = (text : List ℕ) × (told : Reading) × IsLegalText text told × IsVerdict text true × Appends old new text
+
+-- known bytes grow by such a text; a check of it answers true, unless it has more lines than are read
 abbrev pub AppendsLegalText : Option (List ℕ) → Option (List ℕ) → Type 0
-AppendsLegalText old new = (text : List ℕ) × (told : Reading) × IsLegalText text told × Appends old new text
+AppendsLegalText old new = (text : List ℕ) × (told : Reading) × IsLegalText text told × (IsShort text → IsVerdict text true) × Appends old new text

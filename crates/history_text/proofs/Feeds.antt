@@ -33,7 +33,8 @@ not_last : (line : List ℕ) (parts : List (List ℕ)) → 0 < length parts → 
 not_last line [] some = absurd (omega arith)
 not_last line (part ∷ more) some = refl
 
-first_line : (line rest : List ℕ) → HasNoFeed line → lines_of (line ++ 10 ∷ rest) ≡ line ∷ lines_of rest
+-- a line that ends with a line feed stands first
+pub first_line : (line rest : List ℕ) → HasNoFeed line → lines_of (line ++ 10 ∷ rest) ≡ line ∷ lines_of rest
 unfolding lines_of
 first_line line rest none =
     ap without_empty_last (cut_line line rest none) ∙ not_last line (cut_at 10 rest) (omega (arith, length-slice_split (λ b. eqb b 10) rest))
@@ -161,8 +162,14 @@ order_said (id ∷ ids) = refl
 
 -- ---- the lines of events and orders
 
+pub event_line_none : (event : Event) → HasNoFeed (event_text event)
+event_line_none event = no_feed_spaced (event_words event) (event_none event)
+
+pub order_line_none : (order : List ℕ) → HasNoFeed (order_text order)
+order_line_none order = no_feed_spaced (order_words order) (no_feed (codes "order") refl, numbers order)
+
 pub event_first : (event : Event) (rest : List ℕ) → said_lines (event_text event ++ 10 ∷ rest) ≡ event_text event ∷ said_lines rest
-event_first event rest = said_first (event_text event) rest (no_feed_spaced (event_words event) (event_none event)) (event_said event)
+event_first event rest = said_first (event_text event) rest (event_line_none event) (event_said event)
 
 pub order_first : (order rest : List ℕ) → said_lines (order_text order ++ 10 ∷ rest) ≡ order_text order ∷ said_lines rest
-order_first order rest = said_first (order_text order) rest (no_feed_spaced (order_words order) (no_feed (codes "order") refl, numbers order)) (order_said order)
+order_first order rest = said_first (order_text order) rest (order_line_none order) (order_said order)

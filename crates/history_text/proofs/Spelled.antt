@@ -60,7 +60,7 @@ events_spelled (event ∷ events) rest later order fit behind =
 
 -- ---- the header
 
-hash_none : (hash : HashKind) → HasNoFeed (spaced (codes "hash" ∷ name_of hash ∷ []))
+pub hash_none : (hash : HashKind) → HasNoFeed (spaced (codes "hash" ∷ name_of hash ∷ []))
 hash_none Low = no_feed (codes "hash low") refl
 hash_none Fold = no_feed (codes "hash fold") refl
 hash_none Wide = no_feed (codes "hash wide") refl
