@@ -5,3 +5,8 @@ pub mod Advancing
 pub mod Gathering
 pub mod Ranks
 pub mod Reported
+pub mod Growing
+pub mod Spelled
+pub mod Legal
+pub mod Adding
+pub mod Short

@@ -5,6 +5,7 @@ use Rattle.std.proofs.lemmas.List.Elements.{All-nil, All-cons, All-same, All-map
 use Rattle.std.proofs.lemmas.List.{length-map}
 use Rattle.ctrie_base.specs.declared.refusals.Refusal.{Refusal}
 use Rattle.ctrie_base.specs.declared.hashes.HashKind.{HashKind}
+use Rattle.history_text.specs.Grammar.{EventFits}
 use Rattle.machine_model.specs.declared.steps.Limits.{Limits}
 use Rattle.actor_history.specs.Answers.{AreAnswersOf}
 use Rattle.step_machine.specs.Machines.{Taken, state_of}
@@ -18,7 +19,9 @@ use Rattle.thread_script.specs.Reading.{Reading}
 use Rattle.ctrie_commands.specs.declared.working.Worker.{Worker}
 use Rattle.ctrie_commands.specs.Reports.{line, hash_text, event_lines, last_lines, record_report}
 use Rattle.ctrie_commands.specs.Working.{calls_of, times_of, Performed, answered_calls}
-use Rattle.ctrie_commands.specs.Threads.{with_sweeper, IsPerformedBy, IsCarriedOut, all_denied, IsReportOf}
+use Rattle.ctrie_commands.specs.Threads.{with_sweeper, IsPerformedBy, IsCarriedOut, all_denied, thread_report, IsReportOf}
+use Rattle.ctrie_commands.specs.Legality.{told_in}
+use Rattle.ctrie_commands.proofs.Legal.{judged_legal, record_text_legal}
 use Rattle.ctrie_commands.proofs.Ranks.{AreRanked, from_map, to_map, swept_by_last}
 
 -- ---- all seats came back
@@ -81,7 +84,7 @@ sweeps_done script runner workers seats board ranks are gathered at =
 carried_out : (script : Reading) (runner : Room) (made : List Seated) (workers : List Worker) (seats : List Seated) (told : Record) →
     IsMade (with_sweeper script.limits) (script.limits.actors + 1) runner made → AreRanked script runner.id workers → seats ≡ map (λ (w : Worker). w.seat) workers →
     IsFinished runner seats (Ok told) → IsCarriedOut script (recorded told) (map (λ (w : Worker). w.denied.items) workers)
-carried_out script runner made workers seats told is ranks are (here, its, gathered, taken) = record {
+carried_out script runner made workers seats told is ranks are (here, its, gathered, taken, legal) = record {
   limits = gathered.limits ∙ is.sizes;
   taken = taken;
   number = length-map workers (λ (w : Worker). w.denied.items) ∙ ranks.number;
@@ -97,12 +100,20 @@ text_of limits told text hash its same = rw (its.history, its.order, its.used, i
 
 pub reported : (script : Reading) (runner : Room) (made : List Seated) (workers : List Worker) (seats : List Seated) (told : Record) (text bytes : List ℕ) →
     IsMade (with_sweeper script.limits) (script.limits.actors + 1) runner made → AreRanked script runner.id workers → seats ≡ map (λ (w : Worker). w.seat) workers →
-    text ≡ all_denied 1 (map (λ (w : Worker). w.denied.items) workers) → IsFinished runner seats (Ok told) → bytes ≡ record_report told text → IsReportOf script bytes
-reported script runner made workers seats told text bytes is ranks are denied (here, its, gathered, taken) written =
-    let hash : told.limits.hash ≡ script.limits.hash = ap (λ (l : Limits). l.hash) (gathered.limits ∙ is.sizes) in (
-      recorded told,
-      map (λ (w : Worker). w.denied.items) workers,
-      carried_out script runner made workers seats told is ranks are (here, its, gathered, taken),
-      written ∙ text_of told.limits told text script.limits.hash its hash
-          ∙ ap (λ t. line (hash_text script.limits.hash) ++ (event_lines (state_of (recorded told)).events ++ (t ++ last_lines (state_of (recorded told))))) denied,
-    )
+    text ≡ all_denied 1 (map (λ (w : Worker). w.denied.items) workers) → IsFinished runner seats (Ok told) → bytes ≡ record_report told text →
+    All EventFits told.events.items → IsReportOf script bytes
+reported script runner made workers seats told text bytes is ranks are denied (here, its, gathered, taken, legal) written fit =
+    let board = recorded told in
+    let hash : told.limits.hash ≡ script.limits.hash = ap (λ (l : Limits). l.hash) (gathered.limits ∙ is.sizes) in
+    let denials = map (λ (w : Worker). w.denied.items) workers in
+    let whole : bytes ≡ thread_report script.limits.hash (state_of board) denials = written ∙ text_of told.limits told text script.limits.hash its hash
+        ∙ ap (λ t. line (hash_text script.limits.hash) ++ (event_lines (state_of board).events ++ (t ++ last_lines (state_of board)))) denied in
+    let right = record_text_legal script.limits.hash told bytes denials its legal fit hash whole in
+    record {
+      board = board;
+      denials = denials;
+      done = carried_out script runner made workers seats told is ranks are (here, its, gathered, taken, legal);
+      whole = whole;
+      legal = right;
+      judged = judged_legal bytes (told_in script.limits.hash (state_of board)) right;
+    }

@@ -1,4 +1,5 @@
 pub mod Verdicts
+pub mod Legality
 pub mod Denials
 pub mod Reports
 pub mod Scripts

@@ -1,5 +1,5 @@
 -- What a script for threads comes to.
-use Rattle.std.specs.Prelude.{◌≡◌, ℕ, ◌+◌, ◌<◌, List, [], ◌∷◌, ◌++◌, length, Option, Some, Ok, Err, slice_get}
+use Rattle.std.specs.Prelude.{◌≡◌, ℕ, ◌+◌, ◌<◌, true, List, [], ◌∷◌, ◌++◌, length, Option, Some, Ok, Err, slice_get}
 use Rattle.std.specs.Io.KnownBytes.{Appends}
 use Rattle.ctrie_base.specs.declared.refusals.Refusal.{Refusal}
 use Rattle.ctrie_base.specs.declared.hashes.HashKind.{HashKind}
@@ -14,6 +14,9 @@ use Rattle.actor_history.specs.Answers.{AreAnswersOf}
 use Rattle.lock_runner.specs.Boards.{sweeps_in}
 use Rattle.thread_script.specs.Reading.{Reading, thread_script_of}
 use Rattle.ctrie_commands.specs.Reports.{line, hash_text, event_lines, last_lines, denied_lines}
+use Rattle.history_text.specs.Grammar.{IsShort}
+use Rattle.ctrie_commands.specs.Verdicts.{IsVerdict}
+use Rattle.ctrie_commands.specs.Legality.{told_in, IsLegalText}
 use Rattle.ctrie_commands.specs.Working.{calls_of, times_of, Performed, answered_calls}
 
 -- ---- what was done
@@ -50,10 +53,15 @@ thread_report hash state denials = line (hash_text hash) ++ (event_lines state.e
 
 -- ---- what is answered and written
 
--- these bytes are the report of a run in which the script was carried out
-abbrev pub IsReportOf : Reading → List ℕ → Type 0
-IsReportOf script bytes =
-    (board : Taken) × (denials : List (List Refusal)) × IsCarriedOut script board denials × (bytes ≡ thread_report script.limits.hash (state_of board) denials)
+-- These bytes are the report of a run in which the script was carried out. They spell the history and the order of that run, and the order is legal; a check
+-- of the report answers true, unless it has more lines than are read.
+pub record IsReportOf (script : Reading) (bytes : List ℕ) : Type 0 where
+  pub board : Taken
+  pub denials : List (List Refusal)
+  pub done : IsCarriedOut script board denials
+  pub whole : bytes ≡ thread_report script.limits.hash (state_of board) denials
+  pub legal : IsLegalText bytes (told_in script.limits.hash (state_of board))
+  pub judged : IsShort bytes → IsVerdict bytes true
 
 -- the text is a script for threads without a fault, and the bytes are such a report
 abbrev pub IsThreadReport : List ℕ → List ℕ → Type 0

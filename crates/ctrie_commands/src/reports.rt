@@ -1,17 +1,21 @@
 //! The report of a script's run.
 
-ghost use Rattle.std.specs.Prelude.{◌≡◌, ◌++◌, Some, IfOk, OnOk, drop};
+ghost use Rattle.std.specs.Prelude.{◌≡◌, ◌++◌, Some, All, IfOk, OnOk, drop};
 ghost use Rattle.std.specs.String.{string_bytes};
+ghost use Rattle.history_text.specs.Grammar.{EventFits};
+ghost use Rattle.machine_model.specs.Orders.{order_of};
 ghost use Rattle.machine_model.specs.Machine.{run_from};
 ghost use Rattle.script_text.specs.Steps.{after_command, all_steps};
 ghost use Rattle.script_text.specs.Views.{read};
 ghost use Rattle.step_machine.specs.Machines.{state_of};
-ghost use Rattle.ctrie_commands.specs.Reports.{denied_text, slots_text, event_lines, actor_of, told, all_told, end_lines, last_lines, report, denied_lines, record_report};
+ghost use Rattle.step_machine.specs.Legality.{IsLegalFor};
+ghost use Rattle.ctrie_commands.specs.Legality.{told_in, IsLegalText};
+ghost use Rattle.ctrie_commands.specs.Reports.{denied_text, slots_text, event_lines, actor_of, told, all_told, end_lines, last_lines, last_state, report, denied_lines, record_report};
 
 use crate::stepping::carry_out;
 use ctrie_base::Refusal;
 use history::Event;
-use history_text::{EventText, OrderText};
+use history_text::{EventText, OrderText, events_fit};
 use script_text::{Command, Script};
 use std::alloc::{AllocError, Global};
 use std::fmt;
@@ -56,7 +60,8 @@ impl fmt::Display for SlotsText {
 /// The report of the script's run: which hash, what each line tells, the order, and the slots. Only
 /// memory is refused.
 pub fn report_of(alloc: Global, script: &Script) -> Result<String, AllocError>
-    ensures { IfOk result (λ text. string_bytes text ≡ report (read script.now)) }
+    ensures text { IfOk result (λ text. string_bytes text ≡ report (read script.now)) }
+    ensures legal { IfOk result (λ text. IsLegalText (string_bytes text) (told_in script.now.limits.hash (last_state (read script.now)))) }
 {
     // The limits that a script says are in range.
     let Ok(mut machine) = Machine::new(alloc, script.limits) else {
@@ -66,7 +71,16 @@ pub fn report_of(alloc: Global, script: &Script) -> Result<String, AllocError>
     writeln!(text, "hash {}", script.limits.hash)?;
     tell_all(&mut text, &mut machine, &script.commands)?;
     tell_last(&mut text, &machine)?;
+    history_is_legal(&machine);
     Ok(text)
+}
+
+/// The machine's order is legal for its history, whose events have a spelling.
+fn history_is_legal(machine: &Machine)
+    ensures fit { All EventFits (state_of machine.now).events }
+    ensures legal { IsLegalFor machine.now (order_of (state_of machine.now)) }
+{
+    events_fit(machine.events());
 }
 
 /// Carries out these commands, and adds what they tell.
@@ -157,8 +171,10 @@ fn tell_end(text: &mut String, order: &[u64], slots: SlotsText) -> Result<(), Al
 
 /// The report of what threads did, with the lines of their denials behind the events.
 pub fn report_of_record(alloc: Global, made: &Record, denied: &str) -> Result<String, AllocError>
-    ensures { IfOk result (λ text. string_bytes text ≡ record_report made.now denied.now) }
+    ensures text { IfOk result (λ text. string_bytes text ≡ record_report made.now denied.now) }
+    ensures fit { All EventFits made.now.events.items }
 {
+    events_fit(&made.events);
     let mut text = String::new(alloc);
     writeln!(text, "hash {}", made.limits.hash)?;
     tell_events(&mut text, &made.events)?;

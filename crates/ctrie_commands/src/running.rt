@@ -4,6 +4,7 @@ ghost use Rattle.std.specs.Prelude.{◌≡◌, ◌≢◌, ◌<◌, ◌^◌, ℕ,
 ghost use Rattle.std.specs.Io.KnownBytes.{Keeps, IsAtEnd};
 ghost use Rattle.std.specs.String.{string_bytes};
 ghost use Rattle.counted_io.specs.Counts.{inner_of, failures};
+ghost use Rattle.ctrie_commands.specs.Legality.{AppendsJudged};
 ghost use Rattle.ctrie_commands.specs.Scripts.{IsReport, IsOfScript, HasScriptFault, AppendsReport, AppendsReportPart};
 
 use crate::reports::report_of;
@@ -38,6 +39,10 @@ pub fn run_script<R: Read, W: Write>(
     ensures written { OnOk result (IfSome (R.remaining (inner_of input.old)) (λ text.
         AppendsReport (W.contents (inner_of output.old)) (W.contents (inner_of output.new)) text)) }
     ensures all_read { OnOk result (IsAtEnd (R.remaining (inner_of input.new))) }
+
+    // Whatever the reader had: what was written is the text of a history and of an order that is legal for it,
+    // and a check of it answers true.
+    ensures legal { OnOk result (AppendsJudged (W.contents (inner_of output.old)) (W.contents (inner_of output.new))) }
 
     // What each fault tells.
     ensures line { (number : ℕ) (refusal : _) → result ≡ Err (Fault.Line number refusal)

@@ -13,3 +13,5 @@ pub mod Again
 pub mod AgainCalls
 pub mod AgainReplies
 pub mod Only
+pub mod Feeds
+pub mod Spelled

@@ -37,6 +37,9 @@ CallFits (Close h) = IsHandle h
 CallFits (Entries h) = IsHandle h
 CallFits (Count h) = IsHandle h
 
+abbrev pub PairFits : ℕ × ℕ → Type 0
+PairFits pair = IsNumber pair.0 × IsNumber pair.1
+
 abbrev pub ReplyFits : Reply → Type 0
 ReplyFits (reply.Found v) = IfSome v IsNumber
 ReplyFits (reply.Truth b) = Unit {0}
@@ -44,7 +47,7 @@ ReplyFits reply.Crowded = Unit {0}
 ReplyFits (reply.Opened h) = IsHandle h
 ReplyFits reply.Closed = Unit {0}
 ReplyFits reply.Cleared = Unit {0}
-ReplyFits (reply.Pairs pairs) = AllByRecursion (λ pair. IsNumber pair.0 × IsNumber pair.1) pairs
+ReplyFits (reply.Pairs pairs) = AllByRecursion PairFits pairs
 ReplyFits (reply.Count n) = IsNumber n
 ReplyFits reply.NoSlots = Unit {0}
 

@@ -4,6 +4,7 @@
 mod call_text;
 mod call_words;
 mod event_text;
+mod fitting;
 mod lines;
 mod log;
 mod names;
@@ -15,6 +16,7 @@ mod words;
 pub use call_text::CallText;
 pub use call_words::{call_of, opens};
 pub use event_text::{EventText, OrderText};
+pub use fitting::events_fit;
 pub use lines::header_of;
 pub use names::CallName;
 pub use reading::{Given, read_history};

@@ -7,9 +7,14 @@ use Rattle.std.proofs.lemmas.Option.{none-some, same_Some, slice_get_within, unw
 use mathlib.Core.Option.{some, some-injective}
 use lib.ListN.{get_elem?}
 use Rattle.atomic_table.specs.Table.{Me, Joins, Final, Seen}
+use Rattle.ctrie_base.specs.Hashes.{hash_of}
+use Rattle.history.specs.declared.events.Event.{Event}
+use Rattle.history.specs.Orders.{IsLegal}
+use Rattle.machine_model.specs.declared.steps.Limits.{Limits}
 use Rattle.step_machine.specs.Machines.{Taken, state_of, AreTaken}
 use Rattle.step_machine.specs.declared.records.Record.{Record}
 use Rattle.step_machine.specs.Records.{IsRecordOf}
+use Rattle.step_machine.specs.Legality.{IsLegalFor, IsLegalRecord}
 use Rattle.lock_runner.specs.declared.finishing.Unfinished.{Unfinished}
 use Rattle.lock_runner.specs.declared.finishing.Unfinished.TheVariants.{Missing, Memory}
 use Rattle.actor_history.specs.Answers.{AreAnswersOf}
@@ -119,6 +124,12 @@ gathers runner terms id me seats yielded ws xs machine sizes number whole is tol
 
 -- ---- the record
 
+-- its order is legal for its history, as that of the machine is
+pub still_legal : (machine : Taken) (limits : Limits) (events : List Event) (order : List ℕ) → limits ≡ machine.limits → events ≡ (state_of machine).events → IsLegalFor machine order →
+    IsLegal (hash_of limits.hash) events order
+still_legal machine limits events order sizes history legal =
+    subst (λ (l : Limits). IsLegal (hash_of l.hash) events order) (sym sizes) (subst (λ es. IsLegal (hash_of machine.limits.hash) es order) (sym history) legal)
+
 -- the machine that the record tells of is the one
 told_machine : (machine : Taken) (made : Record) → IsRecordOf machine made → machine ≡ recorded made
 told_machine machine made is =
@@ -131,9 +142,10 @@ not_missing : {A : Type 0} (runner : Room) (seats : Vec _ _) (machine : Taken) �
 not_missing runner seats machine e = cc
 
 pub finished : (runner : Room) (seats : List Seated) (machine : Taken) (result : Result Record Unfinished) → AreHere runner.seats seats → IsGathered runner seats machine →
-    IfOk result (IsRecordOf machine) → OnOk result (AreTaken machine.limits machine.steps) → IfErr result (λ why. why ≡ Memory machine) → IsFinished runner seats result
-finished runner seats machine (Ok made) here all is taken none =
+    IfOk result (IsRecordOf machine) → OnOk result (AreTaken machine.limits machine.steps) → IfOk result IsLegalRecord → IfErr result (λ why. why ≡ Memory machine) →
+    IsFinished runner seats result
+finished runner seats machine (Ok made) here all is taken legal none =
     let same = told_machine machine made is in
-    (here, subst (λ m. IsRecordOf m made) same is, subst (λ m. IsGathered runner seats m) same all, subst (λ (m : Taken). AreTaken m.limits m.steps) same taken)
-finished runner seats machine (Err (Memory back)) here all is taken why = (here, subst (λ m. IsGathered runner seats m) (sym (same_machine back machine why)) all)
-finished runner seats machine (Err (Missing back handed)) here all is taken why = not_missing back handed machine why
+    (here, subst (λ m. IsRecordOf m made) same is, subst (λ m. IsGathered runner seats m) same all, subst (λ (m : Taken). AreTaken m.limits m.steps) same taken, legal)
+finished runner seats machine (Err (Memory back)) here all is taken legal why = (here, subst (λ m. IsGathered runner seats m) (sym (same_machine back machine why)) all)
+finished runner seats machine (Err (Missing back handed)) here all is taken legal why = not_missing back handed machine why

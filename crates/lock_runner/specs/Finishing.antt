@@ -3,6 +3,7 @@ use Rattle.std.specs.Prelude.{◌≡◌, ℕ, ◌≤◌, List, Some, slice_get, 
 use Rattle.step_machine.specs.declared.records.Record.{Record}
 use Rattle.step_machine.specs.Machines.{Taken, state_of, AreTaken}
 use Rattle.step_machine.specs.Records.{IsRecordOf}
+use Rattle.step_machine.specs.Legality.{IsLegalRecord}
 use Rattle.actor_history.specs.Answers.{AreAnswersOf}
 use Rattle.lock_runner.specs.declared.finishing.Unfinished.{Unfinished}
 use Rattle.lock_runner.specs.declared.finishing.Unfinished.TheVariants.{Missing, Memory}
@@ -37,10 +38,10 @@ pub record IsGathered (runner : Room) (seats : List Seated) (machine : Taken) : 
 abbrev pub recorded : Record → Taken
 recorded made = record { limits = made.limits; steps = made.steps.items }
 
--- The record is that of the machine, which took each of its steps; where it found no memory the machine comes back, and where a seat isn't there all
--- that was handed in.
+-- The record is that of the machine, which took each of its steps, and its order is legal for its history; where the order found no memory the machine
+-- comes back, and where a seat isn't there all that was handed in.
 abbrev pub IsFinished : Room → List Seated → Result Record Unfinished → Type 0
 IsFinished runner seats (Ok made) =
-    AreHere runner.seats seats × IsRecordOf (recorded made) made × IsGathered runner seats (recorded made) × AreTaken made.limits made.steps.items
+    AreHere runner.seats seats × IsRecordOf (recorded made) made × IsGathered runner seats (recorded made) × AreTaken made.limits made.steps.items × IsLegalRecord made
 IsFinished runner seats (Err (Memory machine)) = AreHere runner.seats seats × IsGathered runner seats machine
 IsFinished runner seats (Err (Missing back handed)) = IsMissing runner.seats seats × (back ≡ runner) × (handed.items ≡ seats)

@@ -2,6 +2,7 @@
 ghost use Rattle.std.specs.Prelude.{◌≡◌, ◌↔◌, [], false, IsTrue, IfOk, OnOk, IfErr};
 ghost use Rattle.step_machine.specs.Machines.{AreTaken};
 ghost use Rattle.step_machine.specs.Records.{IsRecordOf};
+ghost use Rattle.step_machine.specs.Legality.{IsLegalRecord};
 ghost use Rattle.lock_runner.specs.Boards.{account_in};
 ghost use Rattle.lock_runner.specs.Plays.{outside};
 ghost use Rattle.lock_runner.specs.Seats.{AreSeatsOf};
@@ -22,8 +23,8 @@ pub enum Unfinished {
 }
 
 impl Runner {
-    /// One record of all that was done with the seats. `Missing` exactly where a seat isn't there, and else
-    /// only `Memory`.
+    /// One record of all that was done with the seats. Its order is legal for its history, as are those of the
+    /// machine that `Memory` hands out. `Missing` exactly where a seat isn't there, and else only `Memory`.
     pub fn finish(self, seats: Vec<Seat>) -> Result<Record, Unfinished>
         requires { AreSeatsOf self seats.items }
         ensures { IsFinished self seats.items result }
@@ -93,6 +94,7 @@ fn has_seat(seats: &[Seat], actor: u8) -> bool
 fn record_of(machine: Machine) -> Result<Record, Unfinished>
     ensures record { IfOk result (IsRecordOf machine) }
     ensures taken { OnOk result (AreTaken machine.limits machine.steps) }
+    ensures legal { IfOk result IsLegalRecord }
     ensures memory { IfErr result (λ why. why ≡ Unfinished.Memory machine) }
 {
     let Ok(order) = machine.order() else {

@@ -15,4 +15,4 @@ pub returns : goal.returns
 returns c =
     finished c.args.self c.args.seats.items c.gather-machine.result c.record_of.result
     (subst (λ xs. AreHere c.args.self.seats xs) c.as_slice.ensures.value (c.has_all.ensures.all (search (rules, c.if-not-has_all.false))))
-    c.gather-machine.ensures c.record_of.ensures.«record» c.record_of.ensures.taken c.record_of.ensures.memory
+    c.gather-machine.ensures c.record_of.ensures.«record» c.record_of.ensures.taken c.record_of.ensures.legal c.record_of.ensures.memory

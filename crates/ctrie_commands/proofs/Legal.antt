@@ -1,0 +1,117 @@
+-- A text that spells a history and an order is judged to be legal where the order is.
+use Rattle.std.proofs.Common.{◌≡◌, ℕ, zero, suc, true, List, [], ◌∷◌, refl, sym, ap, ◌∙◌, subst}
+use Rattle.std.specs.Prelude.{Option, Some, Ok, All, slice_get}
+use Rattle.std.specs.Io.KnownBytes.{Appends}
+use Rattle.std.specs.List.{AllByRecursion}
+use Rattle.std.proofs.lemmas.List.Elements.{recursion_from_All}
+use Rattle.std.proofs.lemmas.Option.{none-some, same_Some}
+use Rattle.ctrie_base.specs.Hashes.{hash_of}
+use Rattle.ctrie_base.specs.declared.hashes.HashKind.{HashKind}
+use Rattle.history.specs.declared.events.Event.{Event}
+use Rattle.history.specs.Orders.{IsLegal}
+use Rattle.text_lines.specs.Texts.{said_lines}
+use Rattle.history_text.specs.Reading.{Reading}
+use Rattle.history_text.specs.Grammar.{IsNumber, EventFits, Spell, IsShort}
+use Rattle.history_text.proofs.Only.{read_again}
+use Rattle.ctrie_base.specs.declared.refusals.Refusal.{Refusal}
+use Rattle.machine_model.specs.declared.steps.Limits.{Limits}
+use Rattle.machine_model.specs.declared.steps.Step.{Step}
+use Rattle.machine_model.specs.States.{State, first_state}
+use Rattle.machine_model.specs.Orders.{order_of}
+use Rattle.machine_model.specs.Machine.{run_from, run}
+use Rattle.step_machine.specs.Machines.{Taken, state_of}
+use Rattle.step_machine.specs.Legality.{IsLegalFor, IsLegalRecord}
+use Rattle.step_machine.specs.Records.{IsRecordOf}
+use Rattle.step_machine.specs.declared.records.Record.{Record}
+use Rattle.lock_runner.specs.Finishing.{recorded}
+use Rattle.script_text.specs.Reading.{Reading as Script, script_of}
+use Rattle.script_text.specs.Steps.{all_steps}
+use Rattle.ctrie_commands.specs.Reports.{last_state, report}
+use Rattle.ctrie_commands.specs.Scripts.{IsReport}
+use Rattle.ctrie_commands.specs.Threads.{thread_report, IsThreadReport}
+use Rattle.ctrie_commands.specs.Verdicts.{IsVerdict}
+use Rattle.ctrie_commands.specs.Legality.{told_in, IsLegalText, AppendsJudged, AppendsLegalText}
+use Rattle.ctrie_commands.proofs.Growing.{limits_stay}
+use Rattle.ctrie_commands.proofs.Spelled.{report_spelled, thread_report_spelled}
+use Rattle.ctrie_commands.proofs.Short.{report_short}
+
+-- ---- the numbers of the order are those of begins
+
+at_place : (events : List Event) (place : ℕ) (event : Event) → AllByRecursion EventFits events → slice_get events place ≡ Some event → EventFits event
+at_place [] place event fit at = absurd (none-some event at)
+at_place (e ∷ events) zero event fit at = subst EventFits (same_Some e event at) fit.0
+at_place (e ∷ events) (suc place) event fit at = at_place events place event fit.1 at
+
+each_number : (order : List ℕ) → ((place id : ℕ) → slice_get order place ≡ Some id → IsNumber id) → AllByRecursion IsNumber order
+each_number [] fits = tt
+each_number (id ∷ order) fits = (fits zero id refl, each_number order (λ place x at. fits (suc place) x at))
+
+order_fits : (hash : ℕ → ℕ) (events : List Event) (order : List ℕ) → AllByRecursion EventFits events → IsLegal hash events order → AllByRecursion IsNumber order
+order_fits hash events order fit legal =
+    each_number order (λ place id at. let begun = legal.1.candidate.has_begun place id at in (at_place events begun.0 _ fit begun.2).0)
+
+-- ---- texts
+
+legal_text : (text : List ℕ) (told : Reading) → Spell (said_lines text) told → IsLegal (hash_of told.hash) told.events told.order → IsLegalText text told
+legal_text text told spell legal = record { spelled = (spell, legal.1.well_formed); legal = legal }
+
+-- a check of it answers true
+pub judged_legal : (text : List ℕ) (told : Reading) → IsLegalText text told → IsShort text → IsVerdict text true
+judged_legal text told is short = (told, read_again text told is.spelled short, (λ _. is.legal, λ _. refl))
+
+-- the text of a state's history and order, if these are legal
+pub told_legal : (hash : HashKind) (state : State) (text said : List ℕ) → All EventFits state.events → IsLegal (hash_of hash) state.events (order_of state) → text ≡ said →
+    (AllByRecursion EventFits state.events → AllByRecursion IsNumber (order_of state) → Spell (said_lines said) (told_in hash state)) → IsLegalText text (told_in hash state)
+told_legal hash state text said fit legal is spelled =
+    let fits = recursion_from_All EventFits state.events fit in
+    subst (λ t. IsLegalText t (told_in hash state)) (sym is)
+    (legal_text said (told_in hash state) (spelled fits (order_fits (hash_of hash) state.events (order_of state) fits legal)) legal)
+
+-- ---- the report of a script's run
+
+run_limits : (limits : Limits) (steps : List Step) → (run limits steps).limits ≡ limits
+unfolding first_state
+run_limits limits steps = limits_stay (first_state limits) steps
+
+-- the state after the lines of a script
+pub led_to : (script : Script) (before after : State) → before ≡ first_state script.limits → after ≡ run_from before (all_steps before script.commands) → after ≡ last_state script
+led_to script before after first last = last ∙ ap (λ s. run_from s (all_steps s script.commands)) first
+
+pub report_legal : (script : Script) (machine : Taken) (text : List ℕ) → state_of machine ≡ last_state script → All EventFits (state_of machine).events →
+    IsLegalFor machine (order_of (state_of machine)) → text ≡ report script → IsLegalText text (told_in script.limits.hash (last_state script))
+report_legal script machine text is fit legal same =
+    let sizes : machine.limits ≡ script.limits =
+        sym (run_limits machine.limits machine.steps) ∙ ap (λ (s : State). s.limits) is ∙ run_limits script.limits (all_steps (first_state script.limits) script.commands) in
+    let here : IsLegal (hash_of script.limits.hash) (state_of machine).events (order_of (state_of machine)) =
+        subst (λ (limits : Limits). IsLegal (hash_of limits.hash) (state_of machine).events (order_of (state_of machine))) sizes legal in
+    told_legal script.limits.hash (last_state script) text (report script) (subst (λ (s : State). All EventFits s.events) is fit)
+    (subst (λ (s : State). IsLegal (hash_of script.limits.hash) s.events (order_of s)) is here) same (report_spelled script)
+
+-- ---- the report of a record
+
+pub record_text_legal : (hash : HashKind) (told : Record) (text : List ℕ) (denials : List (List Refusal)) → IsRecordOf (recorded told) told → IsLegalRecord told → All EventFits told.events.items →
+    told.limits.hash ≡ hash → text ≡ thread_report hash (state_of (recorded told)) denials → IsLegalText text (told_in hash (state_of (recorded told)))
+record_text_legal hash told text denials its legal fit same is =
+    let state = state_of (recorded told) in
+    let by_hash : IsLegal (hash_of hash) told.events.items told.order.items = subst (λ h. IsLegal (hash_of h) told.events.items told.order.items) same legal in
+    let by_events : IsLegal (hash_of hash) state.events told.order.items = subst (λ es. IsLegal (hash_of hash) es told.order.items) its.history by_hash in
+    told_legal hash state text (thread_report hash state denials) (subst (All EventFits) its.history fit)
+    (subst (IsLegal (hash_of hash) state.events) its.order by_events) is (thread_report_spelled hash state denials)
+
+-- ---- what is written
+
+pub is_report : (text : List ℕ) (script : Script) (bytes : List ℕ) → script_of text ≡ Ok script → bytes ≡ report script → IsLegalText bytes (told_in script.limits.hash (last_state script)) →
+    IsReport text bytes
+is_report text script bytes is whole right = record {
+  script = script;
+  read = is;
+  whole = whole;
+  legal = right;
+  judged = judged_legal bytes (told_in script.limits.hash (last_state script)) right (subst IsShort (sym whole) (report_short text script is));
+}
+
+pub appends_judged : (old new : Option (List ℕ)) (text bytes : List ℕ) → IsReport text bytes → Appends old new bytes → AppendsJudged old new
+appends_judged old new text bytes is grown = (bytes, told_in is.script.limits.hash (last_state is.script), is.legal, is.judged, grown)
+
+pub appends_legal : (old new : Option (List ℕ)) (text bytes : List ℕ) → IsThreadReport text bytes → Appends old new bytes → AppendsLegalText old new
+appends_legal old new text bytes (script, read, is) grown = (bytes, told_in script.limits.hash (state_of is.board), is.legal, is.judged, grown)
