@@ -1,0 +1,4 @@
+pub mod Alone
+pub mod Stepping
+pub mod Machines
+pub mod Keys
