@@ -1,1 +1,2 @@
 pub mod Withins
+pub mod SteppingNext
