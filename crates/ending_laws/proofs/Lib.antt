@@ -1,2 +1,5 @@
 pub mod Withins
 pub mod SteppingNext
+pub mod SteppingKeeps
+pub mod SteppingFinds
+pub mod Stepping
