@@ -5,3 +5,5 @@ pub mod SteppingFinds
 pub mod Stepping
 pub mod StandsAt
 pub mod Weights
+pub mod ReadsWords
+pub mod ReadsStep
