@@ -7,3 +7,4 @@ pub mod StandsAt
 pub mod Weights
 pub mod ReadsWords
 pub mod ReadsStep
+pub mod ReadsFirst

@@ -91,6 +91,10 @@ module _ (a : Lone) (wrap : ReadLine → Line) (gives : Ref → Line) (i : Ref) 
   same_word : (t : ℕ) (g : Option ℕ) (l : ReadLine) → Stands a t g (wrap l) → t < a.last → IsNoAbort l → word a (suc t) ≡ word a t
   same_word t g l s more not = words a t g (wrap l) s more (goes_on l) (subst LeavesWords (sym (action t g l s)) (leaves i l not))
 
+  -- to ask for the root leaves it
+  pub same_word_at : (t : ℕ) (g : Option ℕ) (m q : Ref) → Stands a t g (wrap (read.AskRoot m q)) → t < a.last → word a (suc t) ≡ word a t
+  same_word_at t g m q s more = same_word t g (read.AskRoot m q) s more tt
+
   -- a plain root stays
   pub stays : (t : ℕ) (g : Option ℕ) (l : ReadLine) → Stands a t g (wrap l) → t < a.last → WordStays a t (suc t)
   stays t g (read.Abort m q offer) s more = stays_plain a t g (wrap (read.Abort m q offer)) s more (goes_on (read.Abort m q offer)) offer (action t g (read.Abort m q offer) s)
