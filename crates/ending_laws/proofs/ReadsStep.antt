@@ -1,5 +1,5 @@
 -- A step of a READ of an operation that is alone.
-use Rattle.std.proofs.Common.{◌≡◌, ℕ, suc, ◌+◌, ◌<◌, ◌≤◌, ◌==◌, Bool, true, false, Option, Some, None, refl, sym, ap, ◌∙◌, subst, arith}
+use Rattle.std.proofs.Common.{◌≡◌, ℕ, suc, ◌+◌, ◌-◌, ◌<◌, ◌≤◌, ◌==◌, Bool, true, false, Option, Some, None, refl, sym, ap, ◌∙◌, subst, arith}
 use Rattle.std.proofs.lemmas.Option.{none-some}
 use Rattle.slot_arena.specs.declared.refs.Ref.{Ref}
 use Rattle.slot_arena.specs.declared.nodes.Prev.TheVariants as prev
@@ -16,13 +16,14 @@ use Rattle.machine_model.specs.declared.roots.RootWord.TheVariants.{Plain, Offer
 use Rattle.machine_model.specs.Operations.{line_action, line_after, generation_from, read_of}
 use Rattle.machine_model.specs.Reading.{Verdict, Commits, Fails, Overtaken, verdict, read_action, read_after}
 use Rattle.deciding_laws.proofs.Known.{ActsOn, GrownStays, GrownChanges, FindsMain, FindsPrev, Either, Decided}
-use Rattle.ending_laws.specs.Alone.{Lone, Stands, Keeps, WordStays, Within, IsQuiet, word, offer_weight}
+use Rattle.ending_laws.specs.Alone.{Lone, Stands, Keeps, WordStays, IsQuiet, IsWeight, word}
 use Rattle.ending_laws.specs.Machines.{HoldsRead, lead}
 use Rattle.ending_laws.specs.Stepping.{IsNoEnd, LeavesWords}
-use Rattle.ending_laws.proofs.Withins.{pays, map, same_stays, keeps_on, stays_on}
+use Rattle.ending_laws.specs.Weighing.{Acts}
+use Rattle.ending_laws.proofs.Withins.{Comes, lighter, same_stays}
 use Rattle.ending_laws.proofs.SteppingNext.{next}
 use Rattle.ending_laws.proofs.SteppingKeeps.{acts_so, words}
-use Rattle.ending_laws.proofs.Weights.{flat, stays_plain, lighter_flat, taken_back}
+use Rattle.ending_laws.proofs.Weights.{stays_plain, taken_back}
 use Rattle.ending_laws.proofs.ReadsWords.{NonePending, keeps_unless, stays_none, main_none, prev_none}
 
 -- a line in a READ is no end
@@ -106,32 +107,30 @@ module _ (a : Lone) (wrap : ReadLine → Line) (gives : Ref → Line) (i : Ref) 
   off t g m q offer s more there =
       taken_back a t g (wrap (read.Abort m q offer)) s more (goes_on (read.Abort m q offer)) offer (action t g (read.Abort m q offer) s) there
 
-  -- no step of a READ adds weight
-  pub light : (t : ℕ) (g : Option ℕ) (l : ReadLine) → Stands a t g (wrap l) → t < a.last → flat a (suc t) ≤ flat a t
-  light t g (read.Abort m q offer) s more =
-      lighter_flat a t g (wrap (read.Abort m q offer)) s more (goes_on (read.Abort m q offer)) (subst IsQuiet (sym (action t g (read.Abort m q offer) s)) tt)
-  light t g l s more = let same = ap offer_weight (same_word t g l s more tt) in omega (arith, same)
-
   -- ---- put together
 
   -- what a READ comes to counts from an earlier time too
   pub record Counts (P : ℕ → ℕ → Type 0) : Type 0 where
     pub earlier : (t v u : ℕ) → t ≤ v → Keeps a t v → WordStays a t v → P v u → P t u
 
-  abbrev pub W : (ℕ → Type 0) → ℕ → ℕ → Type 0
-  W = Within a (flat a)
+  -- a step of a READ
+  pub on : (weight : ℕ → ℕ) (P : ℕ → ℕ → Type 0) → Counts P → (b t : ℕ) (g : Option ℕ) (l : ReadLine) → Stands a t g (wrap l) → 1 ≤ b →
+      (t < a.last → Stands a (suc t) g (lead wrap gives (out t l)) → Comes a weight (P (suc t)) (b - 1) (suc t)) → Comes a weight (P t) b t
+  on weight P c b t g l s some then room =
+      let more : t < a.last = omega (arith, some, room) in
+      let (u, from, soon, found) = then more (after t g l s more) (omega (arith, some, room)) in
+      (u, omega (arith, from), omega (arith, soon, some), c.earlier t (suc t) u (omega arith) (keeps t g l s more) (stays t g l s more) found)
 
-  -- a step of a READ, at this cost
-  pub costs : (P : ℕ → ℕ → Type 0) → Counts P → (n m t : ℕ) (g : Option ℕ) (l : ReadLine) → Stands a t g (wrap l) → (t < a.last → suc n + flat a (suc t) ≤ m + flat a t) →
-      (t < a.last → Stands a (suc t) g (lead wrap gives (out t l)) → W (P (suc t)) n (suc t)) → (t < a.last) → W (P t) m t
-  costs P c n m t g l s cost then more =
-      pays a (flat a) (P t) n m t (cost more)
-      (λ soon. map a (flat a) (P (suc t)) (P t) n (suc t) (λ u from to found. c.earlier t (suc t) u (omega arith) (keeps t g l s more) (stays t g l s more) found)
-      (then soon (after t g l s soon)))
+  -- what its step does
+  pub acting : (t : ℕ) (g : Option ℕ) (l : ReadLine) → Stands a t g (wrap l) → t < a.last → Acts a t (read_action i l)
+  acting t g l s more = record {
+    since = s.since;
+    more = more;
+    operation = s.operation;
+    runs = s.runs;
+    is = ap (line_action (a.states t) s.operation) s.line ∙ action t g l s;
+  }
 
-  -- at one
-  pub on : (P : ℕ → ℕ → Type 0) → Counts P → (n t : ℕ) (g : Option ℕ) (l : ReadLine) → Stands a t g (wrap l) →
-      (t < a.last → Stands a (suc t) g (lead wrap gives (out t l)) → W (P (suc t)) n (suc t)) → W (P t) (n + 1) t
-  on P c n t g l s then room =
-      let more : t < a.last = omega (arith, room) in
-      costs P c n (n + 1) t g l s (λ soon. let less = light t g l s soon in omega (arith, less)) then more room
+  -- a quiet step adds no weight
+  pub light : (weight : ℕ → ℕ) → IsWeight a weight → (t : ℕ) (g : Option ℕ) (l : ReadLine) → Stands a t g (wrap l) → t < a.last → IsQuiet (read_action i l) → weight (suc t) ≤ weight t
+  light weight quiet t g l s more is = lighter a weight quiet t g (wrap l) s more (subst IsQuiet (sym (action t g l s)) is)

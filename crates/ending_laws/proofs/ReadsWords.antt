@@ -21,6 +21,7 @@ use Rattle.deciding_laws.proofs.RunWords.{protocol}
 use Rattle.content_laws.specs.Runs.{is_made}
 use Rattle.line_laws.proofs.Nodes.{known_run}
 use Rattle.ending_laws.specs.Alone.{Lone, Has, Keeps}
+use Rattle.ending_laws.specs.Weighing.{Sees}
 
 -- an indirection is made
 pub link_made : (o : Option Slot) → is_link (node_of o) ≡ true → is_some o ≡ true
@@ -88,20 +89,14 @@ module _ (a : Lone) where
 
   -- ---- what is written
 
-  -- a main node, and what is known of its prev word
-  pub record Sees (t : ℕ) (i m : Ref) (v : Prev) : Type 0 where
-    pub made : is_made a.states t i ≡ true
-    pub main : main_word a.states t i ≡ m
-    pub prev : prev_word a.states t m ≡ v
-
-  pub still_sees : (t : ℕ) (i m : Ref) (v : Prev) → GrownStays a.states t → Sees t i m v → Sees (suc t) i m v
+  pub still_sees : (t : ℕ) (i m : Ref) (v : Prev) → GrownStays a.states t → Sees a t i m v → Sees a (suc t) i m v
   still_sees t i m v stays s = record {
     made = ap is_some (stays i) ∙ s.made;
     main = ap (λ o. main_of (node_of o)) (stays i) ∙ s.main;
     prev = ap prev_of (stays m) ∙ s.prev;
   }
 
-  pub sees_has : (t : ℕ) (i m : Ref) → Sees t i m prev.None → Has a t i m
+  pub sees_has : (t : ℕ) (i m : Ref) → Sees a t i m prev.None → Has a t i m
   sees_has t i m s = record { made = s.made; main = s.main; decided = s.prev }
 
   slot_prev : (v : Prev) (o : Option Slot) → is_some o ≡ true → prev_of (option_map (prev_changed v) o) ≡ v
@@ -117,7 +112,7 @@ module _ (a : Lone) where
   prev_writes t v m e i (inr other) = (ap node_of (e.elsewhere i other), ap is_some (e.elsewhere i other))
 
   -- the prev word of the main node is written
-  pub sees_written : (t : ℕ) (i m : Ref) (was now : Prev) → is_some (grown a.states t m) ≡ true → GrownChanges a.states t (prev_changed now) m → Sees t i m was → Sees (suc t) i m now
+  pub sees_written : (t : ℕ) (i m : Ref) (was now : Prev) → is_some (grown a.states t m) ≡ true → GrownChanges a.states t (prev_changed now) m → Sees a t i m was → Sees a (suc t) i m now
   sees_written t i m was now made e s =
       let kept = prev_writes t now m e i (cases_eq i m) in
       record {
@@ -140,8 +135,8 @@ module _ (a : Lone) where
   main_leaves_prev t i q e r (inr other) = ap prev_of (e.elsewhere r other)
 
   -- the node before a failed one is put back: it is decided
-  pub put_back : (t : ℕ) → t ≤ a.last → (i m q : Ref) → is_link (node_under a.states t i) ≡ true → GrownChanges a.states t (main_changed q) i → Sees t i m (prev.Failed q) →
-      Sees (suc t) i q prev.None
+  pub put_back : (t : ℕ) → t ≤ a.last → (i m q : Ref) → is_link (node_under a.states t i) ≡ true → GrownChanges a.states t (main_changed q) i → Sees a t i m (prev.Failed q) →
+      Sees a (suc t) i q prev.None
   put_back t within i m q link e s = record {
     made = ap is_some e.here ∙ slot_kept (main_changed q) (grown a.states t i) ∙ s.made;
     main = ap (λ o. main_of (node_of o)) e.here ∙ slot_main q (grown a.states t i) link;
