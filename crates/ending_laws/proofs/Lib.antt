@@ -10,3 +10,4 @@ pub mod ReadsStep
 pub mod ReadsLines
 pub mod ReadsFirst
 pub mod ReadsOn
+pub mod Flat
