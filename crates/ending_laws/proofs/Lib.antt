@@ -11,3 +11,4 @@ pub mod ReadsLines
 pub mod ReadsFirst
 pub mod ReadsOn
 pub mod Flat
+pub mod ReadEnds
