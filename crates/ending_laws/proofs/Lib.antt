@@ -12,3 +12,6 @@ pub mod ReadsFirst
 pub mod ReadsOn
 pub mod Flat
 pub mod ReadEnds
+pub mod FineSums
+pub mod FailedOwners
+pub mod FineWeight
