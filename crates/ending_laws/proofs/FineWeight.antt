@@ -43,7 +43,7 @@ stage_most w t (Checks i a f) = omega arith
 pub weighs_none : (v : Prev) (b : Bool) → v ≡ prev.None → node_weight v b ≡ 0
 weighs_none v b e = ap (λ x. node_weight x b) e
 
-failed_most : (v : Prev) (b : Bool) (q : Ref) → v ≡ prev.Failed q → node_weight v b ≤ 1
+pub failed_most : (v : Prev) (b : Bool) (q : Ref) → v ≡ prev.Failed q → node_weight v b ≤ 1
 failed_most v b q e = subst (λ x. node_weight x b ≤ 1) (sym e) (by b)
   where
     by : (c : Bool) → node_weight (prev.Failed q) c ≤ 1

@@ -15,3 +15,5 @@ pub mod ReadEnds
 pub mod FineSums
 pub mod FailedOwners
 pub mod FineWeight
+pub mod FineSteps
+pub mod Fine
