@@ -1,5 +1,5 @@
 -- The fine weight is such a weight: a pending main node weighs 5, a failed one that still stands 1; so READ costs 2.
-use Rattle.std.proofs.Common.{◌≡◌, ℕ, suc, ◌+◌, ◌*◌, ◌<◌, ◌≤◌, ◌⊎◌, ◌==◌, inl, inr, Bool, true, false, Option, refl, sym, ap, ◌∙◌, subst, eqb-true, eq-eqb, arith}
+use Rattle.std.proofs.Common.{◌≡◌, ℕ, suc, ◌+◌, ◌*◌, ◌≤◌, ◌==◌, Bool, true, false, Option, refl, sym, ap, ◌∙◌, subst, eqb-true, eq-eqb, arith}
 use Rattle.std.proofs.lemmas.Bool.{true≢false}
 use Rattle.slot_arena.specs.declared.refs.Ref.{Ref}
 use Rattle.slot_arena.specs.declared.nodes.Node.{Node}
@@ -9,11 +9,9 @@ use Rattle.slot_arena.specs.declared.nodes.Prev.TheVariants as prev
 use Rattle.slot_arena.specs.Heaps.{no_ref, main_at, main_of, prev_of}
 use Rattle.machine_model.specs.declared.actions.Action.{Action}
 use Rattle.machine_model.specs.declared.actions.Action.TheVariants as act
-use Rattle.machine_model.specs.declared.operations.Operation.{Operation}
 use Rattle.machine_model.specs.declared.roots.Descriptor.{Descriptor}
 use Rattle.machine_model.specs.declared.roots.RootWord.TheVariants.{Offer}
-use Rattle.machine_model.specs.Operations.{action_of, line_action}
-use Rattle.machine_model.specs.States.{operation_of}
+use Rattle.machine_model.specs.Operations.{action_of}
 use Rattle.machine_model.proofs.Grown.{node_under, main_word, prev_word}
 use Rattle.machine_model.proofs.Found.{found_within}
 use Rattle.machine_model.specs.declared.reading.ReadLine.{ReadLine}
@@ -22,15 +20,15 @@ use Rattle.falling_laws.proofs.NoRef.{nothing_stands}
 use Rattle.deciding_laws.proofs.Stood.{none≢failed}
 use Rattle.deciding_laws.proofs.Finals.{failed_final}
 use Rattle.deciding_laws.proofs.Known.{is_link, ActsOn, GrownStays, GrownSwaps, Either}
-use Rattle.deciding_laws.proofs.Words.{Stage, Decides}
+use Rattle.deciding_laws.proofs.Words.{Decides}
 use Rattle.deciding_laws.proofs.Owners.{Owner}
-use Rattle.ending_laws.specs.Alone.{Lone, Stands, IsQuiet, IsWeight, word, offer_weight}
+use Rattle.ending_laws.specs.Alone.{Lone, IsQuiet, IsWeight, word, offer_weight}
 use Rattle.ending_laws.specs.Machines.{ReadsFirst, ReadsOn}
 use Rattle.ending_laws.specs.Stepping.{IsNoEnd, LeavesWords}
 use Rattle.ending_laws.specs.Weighing.{Acts, Sees, Weighing}
 use Rattle.ending_laws.proofs.SteppingKeeps.{acts_so}
 use Rattle.ending_laws.proofs.StandsAt.{StandsSome, stands_at, goes_on}
-use Rattle.ending_laws.proofs.Weights.{flat, is_weight, weighs_at_most}
+use Rattle.ending_laws.proofs.Weights.{is_weight, weighs_at_most}
 use Rattle.ending_laws.proofs.Flat.{line_acts, same_weight, aborts}
 use Rattle.ending_laws.proofs.ReadsWords.{w, p, sound, NonePending, stays_none}
 use Rattle.ending_laws.proofs.ReadsFirst.{reads_first}
@@ -38,7 +36,7 @@ use Rattle.ending_laws.proofs.ReadsOn.{reads_on}
 use Rattle.ending_laws.proofs.FailedOwners.{FailedOwner, failed_owned}
 use Rattle.ending_laws.proofs.FineSums.{sum_to, sums_less, sums_pay, sum_has, sum_most}
 use Rattle.ending_laws.proofs.FineWeight.{node_weight, stage_weight, stage_most, weighs_none, failed_most}
-use Rattle.ending_laws.proofs.FineSteps.{IsNoPublish, none_pending, actor_weight, actors_at, in_range, for_same, each_lighter, staged_lighter, others_lighter}
+use Rattle.ending_laws.proofs.FineSteps.{IsNoPublish, none_pending, actor_weight, actors_at, in_range, for_same, each_lighter, others_lighter}
 
 quiet_publishes : (action : Action) → IsQuiet action → IsNoPublish action
 quiet_publishes (act.Publish i r f) quiet = quiet

@@ -1,8 +1,7 @@
 -- What the actors weigh over one step of an operation that is alone.
-use Rattle.std.proofs.Common.{◌≡◌, ℕ, zero, suc, ◌+◌, ◌-◌, ◌<◌, ◌≤◌, ◌⊎◌, ◌==◌, inl, inr, Bool, true, false, List, length, Option, Some, None, is_some, refl, sym, ap, ◌∙◌, subst, arith}
+use Rattle.std.proofs.Common.{◌≡◌, ℕ, zero, suc, ◌<◌, ◌≤◌, ◌==◌, inl, inr, Bool, true, false, List, length, Option, Some, None, refl, sym, ap, ◌∙◌, subst, arith}
 use native.Mathlib.Decide.{ℕ_discrete}
 use Rattle.std.proofs.lemmas.List.{length-set, length-map, length-replicate}
-use Rattle.std.proofs.lemmas.Option.{none-some}
 use Rattle.slot_arena.specs.declared.refs.Ref.{Ref}
 use Rattle.slot_arena.specs.declared.nodes.Node.{Node}
 use Rattle.slot_arena.specs.declared.nodes.Prev.TheVariants as prev
@@ -19,7 +18,7 @@ use Rattle.machine_model.specs.Reading.{Verdict, Commits, Fails, Overtaken, verd
 use Rattle.machine_model.proofs.Actors.{after_marks, marks_by, gone_actors, begin_actors}
 use Rattle.machine_model.proofs.Found.{found_within}
 use Rattle.machine_model.proofs.Grown.{prev_word}
-use Rattle.machine_model.proofs.Moves.{Moves, Begins, Goes, Ends, Sweeps, GoesOn, begun_operation}
+use Rattle.machine_model.proofs.Moves.{Moves, Begins, Goes, Ends, Sweeps, begun_operation}
 use Rattle.machine_model.proofs.Times.{at_each_time}
 use Rattle.deciding_laws.proofs.Known.{ActsOn, GrownStays, GrownChanges, GrownTakes, FindsPrev, Either, Decided, Taken}
 use Rattle.deciding_laws.proofs.Words.{Words, Stage, Rests, Decides}

@@ -1,6 +1,6 @@
 -- The fine weight: an offer in the root word weighs 2, each actor whose SWAP's fresh node is pending 5, and 1 where that node has failed and still stands
 -- in the SWAP's main word. A step that makes no node pending adds nothing to what the actors weigh.
-use Rattle.std.proofs.Common.{◌≡◌, ℕ, suc, ◌+◌, ◌<◌, ◌≤◌, ◌==◌, ◌⊎◌, Bool, true, false, inl, inr, refl, sym, ap, ◌∙◌, subst, eqb-true, eq-eqb, arith}
+use Rattle.std.proofs.Common.{◌≡◌, ℕ, suc, ◌≤◌, ◌==◌, Bool, true, false, refl, sym, ap, subst, eqb-true, eq-eqb, arith}
 use Rattle.slot_arena.specs.declared.refs.Ref.{Ref}
 use Rattle.slot_arena.specs.declared.nodes.Prev.{Prev}
 use Rattle.slot_arena.specs.declared.nodes.Prev.TheVariants as prev
