@@ -1,0 +1,3 @@
+pub mod Withins
+pub mod SwapsSteps
+pub mod RootsWords
