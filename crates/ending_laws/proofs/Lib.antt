@@ -1,3 +1,4 @@
 pub mod Withins
 pub mod SwapsSteps
 pub mod RootsWords
+pub mod SwapsLines
