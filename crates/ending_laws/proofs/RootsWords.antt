@@ -1,6 +1,6 @@
 -- The root word of an operation's handle over its own steps: an offer comes to stand there by an own offer alone, and goes where it is settled.
-use Rattle.std.proofs.Common.{◌++◌, ◌≡◌, ℕ, suc, ◌<◌, ◌≤◌, ◌==◌, ◌&&◌, ◌⊎◌, Bool, true, false, cond, inl, inr, get_or, set, length, Option, Some, None, refl, sym, ap, ◌∙◌, subst, arith}
-use Rattle.std.proofs.lemmas.Bool.{cases_eq, cases_lt, eq-eqb, true≢false, and_from}
+use Rattle.std.proofs.Common.{◌++◌, ◌≡◌, ℕ, suc, ◌<◌, ◌≤◌, ◌==◌, ◌⊎◌, Bool, true, false, cond, inl, inr, get_or, set, length, Option, Some, None, refl, sym, ap, ◌∙◌}
+use Rattle.std.proofs.lemmas.Bool.{cases_eq, cases_lt, eq-eqb, and_from}
 use Rattle.std.proofs.lemmas.List.{get_or_past, get_or-set_same, length-set}
 use Rattle.std.proofs.lemmas.Option.{none-some, same_Some}
 use Rattle.slot_arena.specs.declared.refs.Ref.{Ref}

@@ -1,12 +1,11 @@
 -- The lines of a SWAP, where one actor alone takes steps: what its first and its last step find and do.
-use Rattle.std.proofs.Common.{◌≡◌, ℕ, suc, ◌<◌, ◌≤◌, ◌==◌, Bool, true, false, cond, Option, Some, None, refl, sym, ap, ◌∙◌, subst, eqb-true, arith}
-use Rattle.std.proofs.lemmas.Bool.{true≢false}
+use Rattle.std.proofs.Common.{◌≡◌, ℕ, suc, ◌<◌, ◌==◌, Bool, true, false, cond, Option, None, refl, sym, ap, ◌∙◌, subst, eqb-true, arith}
 use Rattle.slot_arena.specs.declared.refs.Ref.{Ref}
 use Rattle.slot_arena.specs.declared.nodes.Node.{Node}
 use Rattle.slot_arena.specs.declared.nodes.Node.TheVariants.{Indirection, Branch, Single, Tomb, List as Listed}
 use Rattle.slot_arena.specs.declared.nodes.Prev.{Prev}
 use Rattle.slot_arena.specs.declared.nodes.Prev.TheVariants as over
-use Rattle.slot_arena.specs.Heaps.{node_at, main_at, prev_at}
+use Rattle.slot_arena.specs.Heaps.{node_at, main_at}
 use Rattle.machine_model.specs.declared.lines.Line.{Line}
 use Rattle.machine_model.specs.declared.lines.Line.TheVariants as line
 use Rattle.machine_model.specs.declared.lines.Purpose.{Purpose}
@@ -22,15 +21,14 @@ use Rattle.machine_model.specs.declared.repairs.Climb.{Climb}
 use Rattle.machine_model.specs.declared.repairs.ClimbLine.TheVariants as climb
 use Rattle.machine_model.specs.Calls.{handle_of, changed_reply}
 use Rattle.machine_model.specs.Climbing.{climbing, climbed}
-use Rattle.machine_model.specs.Operations.{swapped, after_swap, after_update, climbed_on}
+use Rattle.machine_model.specs.Operations.{swapped, after_swap}
 use Rattle.machine_model.specs.Paths.{is_below_root, current, above}
 use Rattle.machine_model.specs.Reading.{reading, read_after}
 use Rattle.machine_model.specs.States.{State, word_at}
 use Rattle.machine_model.specs.Swapping.{after_publish, after_deciding, after_check, on_line}
-use Rattle.memory_laws.specs.Wants.{AMain, Is, Holds, is_indirection, is_main, meets}
-use Rattle.memory_laws.specs.Laws.{IsInUse}
+use Rattle.memory_laws.specs.Wants.{AMain, is_indirection, meets}
 use Rattle.memory_laws.proofs.Claims.{safe_of, meets_of}
-use Rattle.deciding_laws.proofs.Words.{Words, Leaves, SwapsIn}
+use Rattle.deciding_laws.proofs.Words.{Leaves, SwapsIn}
 use Rattle.deciding_laws.proofs.GrownWords.{leaves_words, swaps_words}
 use Rattle.deciding_laws.proofs.Known.{Either, GrownSwaps, GrownStays}
 use Rattle.deciding_laws.proofs.ReadTurns.{no_commit}

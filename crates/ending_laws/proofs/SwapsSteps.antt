@@ -1,8 +1,7 @@
 -- What a step of an actor that is alone finds and does, where it is one of a READ.
-use Rattle.std.proofs.Common.{◌≡◌, ℕ, suc, ◌<◌, ◌≤◌, Option, Some, None, refl, sym, ap, ◌∙◌, subst, arith}
+use Rattle.std.proofs.Common.{◌≡◌, ℕ, suc, ◌<◌, ◌≤◌, Option, Some, None, sym, ap, ◌∙◌, subst}
 use Rattle.std.proofs.lemmas.Option.{none-some, same_Some}
 use Rattle.slot_arena.specs.declared.refs.Ref.{Ref}
-use Rattle.machine_model.specs.declared.actions.Action.TheVariants as act
 use Rattle.machine_model.specs.declared.lines.Line.{Line}
 use Rattle.machine_model.specs.declared.lines.Line.TheVariants as line
 use Rattle.machine_model.specs.declared.operations.Operation.{Operation}
@@ -10,12 +9,11 @@ use Rattle.machine_model.specs.declared.reading.Read.{Read}
 use Rattle.machine_model.specs.declared.reading.ReadLine.{ReadLine}
 use Rattle.machine_model.specs.declared.reading.ReadLine.TheVariants as read
 use Rattle.machine_model.specs.declared.steps.Outcome.{Outcome}
-use Rattle.machine_model.specs.declared.steps.Step.{Step}
 use Rattle.machine_model.specs.declared.steps.Step.TheVariants as step
 use Rattle.machine_model.specs.States.{State, operation_of}
 use Rattle.machine_model.specs.Acting.{gone, commits_after}
 use Rattle.machine_model.specs.Counting.{settled}
-use Rattle.machine_model.specs.Operations.{action_of, line_action, line_after, generation_from, read_of}
+use Rattle.machine_model.specs.Operations.{action_of, line_action, read_of}
 use Rattle.machine_model.specs.Orders.{committed_in}
 use Rattle.machine_model.specs.Reading.{read_action, read_after}
 use Rattle.machine_model.proofs.Moves.{Moves, Goes, Ends, GoesOn}
@@ -27,7 +25,7 @@ use Rattle.deciding_laws.proofs.LineTurns.{LineFacts}
 use Rattle.deciding_laws.proofs.OtherLayers.{known_of_memory}
 use Rattle.deciding_laws.proofs.ReadTurns.{read_turn}
 use Rattle.deciding_laws.proofs.RunWords.{line_facts}
-use Rattle.ending_laws.specs.Alone.{Lone, Stands, Has, Keeps, word}
+use Rattle.ending_laws.specs.Alone.{Lone, Stands, Keeps, word}
 use Rattle.ending_laws.specs.Machines.{HoldsRead, lead}
 use Rattle.ending_laws.specs.Stepping.{Stepping, IsNoEnd, LeavesWords}
 
