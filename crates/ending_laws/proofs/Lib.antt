@@ -7,3 +7,12 @@ pub mod SwapsCourse
 pub mod SwapsDeciding
 pub mod SwapsEnds
 pub mod Swaps
+pub mod SteppingNext
+pub mod SteppingKeeps
+pub mod SteppingFinds
+pub mod Stepping
+pub mod StandsAt
+pub mod Weights
+pub mod ReadsWords
+pub mod ReadsStep
+pub mod ReadsFirst
