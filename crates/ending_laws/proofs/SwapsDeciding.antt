@@ -17,14 +17,16 @@ use Rattle.machine_model.specs.declared.reading.ReadLine.TheVariants as read
 use Rattle.machine_model.specs.declared.reading.SwapLine.{SwapLine}
 use Rattle.machine_model.specs.declared.reading.SwapLine.TheVariants as swap
 use Rattle.machine_model.specs.Reading.{read_action, read_after, after_prev, after_ask, after_decide, after_restore, verdict_by, is_licensed, is_pending}
-use Rattle.deciding_laws.proofs.Words.{ReadTurn, Leaves}
+use Rattle.machine_model.proofs.Grown.{prev_word}
+use Rattle.deciding_laws.proofs.Words.{ReadTurn, Leaves, PutsBack}
+use Rattle.ending_laws.specs.Weighing.{Sees}
 use Rattle.ending_laws.specs.Alone.{Lone, Stands, WordStays, IsPlain, generation, word}
 use Rattle.ending_laws.specs.Machines.{lead}
 use Rattle.ending_laws.specs.Stepping.{Stepping, LeavesWords}
 use Rattle.ending_laws.proofs.RootsWords.{plain_on, settles_on}
 use Rattle.ending_laws.proofs.SwapsSteps.{w, facts, reads, read_next, same_word}
 use Rattle.ending_laws.proofs.SwapsLines.{swap_line, deciding, checking, swap_reads}
-use Rattle.ending_laws.proofs.SwapsFound.{root_generation, swap_writable, generation_for_good}
+use Rattle.ending_laws.proofs.SwapsFound.{replaced_decided, root_generation, swap_writable, generation_for_good}
 use Rattle.ending_laws.proofs.SwapsCourse.{prev_leaves, main_leaves, ask_leaves, abort_leaves, decide_commits, decide_fails, restores, Holds, left, committed, has_failed, Restored, put_back}
 use Rattle.ending_laws.proofs.Withins.{same_stays}
 
@@ -138,9 +140,13 @@ module _ (a : Lone) (steps : Stepping a) (why : Purpose) (i replaced fresh : Ref
         let x = goes read.Main s (Goes (read.Prev fresh)) (ap (λ m. Goes (read.Prev m)) (found ∙ holds.main)) in
         record { stands = x.stands; holds = on (over.Failed replaced) (main_leaves a u i _ x.turn) (stays read.Main s tt) holds; word = stays read.Main s tt }
 
-    pub puts_back : At (swap.Deciding (read.Restore fresh replaced)) u → H u (over.Failed replaced) → At swap.Check (suc u) × Restored a i replaced fresh t (suc u) × WordStays a u (suc u)
+    -- the replaced node is decided
+    back_there : PutsBack (w a) u i fresh replaced → H u (over.Failed replaced) → prev_word a.states u replaced ≡ over.None → Sees a (suc u) i replaced over.None
+    back_there e holds none = record { made = e.makes.made i ∙ holds.made; main = e.main.here; prev = e.prev replaced ∙ none }
+
+    pub puts_back : At (swap.Deciding (read.Restore fresh replaced)) u → H u (over.Failed replaced) → At swap.Check (suc u) × Restored a i replaced fresh t (suc u) × WordStays a u (suc u) × Sees a (suc u) i replaced over.None
     puts_back s holds =
         let l = read.Restore fresh replaced in
         let found = (facts a u g (swap_line a why i replaced fresh (swap.Deciding l)) s h tt).acts.0.main in
         let x = goes l s (Gives replaced) (ap (after_restore replaced) (eq-eqb _ fresh (found ∙ holds.main))) in
-        (x.stands, put_back a i replaced fresh t u holds (restores a u i fresh replaced _ x.turn) (stays l s tt), stays l s tt)
+        (x.stands, put_back a i replaced fresh t u holds (restores a u i fresh replaced _ x.turn) (stays l s tt), stays l s tt, back_there (restores a u i fresh replaced _ x.turn) holds (replaced_decided a why i replaced fresh u g l s))

@@ -13,7 +13,9 @@ use Rattle.machine_model.specs.declared.roots.Root.{Root}
 use Rattle.machine_model.specs.declared.roots.RootWord.TheVariants.{Plain}
 use Rattle.machine_model.specs.Calls.{handle_of}
 use Rattle.machine_model.specs.States.{root_at, word_of}
-use Rattle.machine_model.proofs.Grown.{grown, node_under}
+use Rattle.slot_arena.specs.declared.nodes.Prev.TheVariants as over
+use Rattle.machine_model.specs.declared.reading.ReadLine.{ReadLine}
+use Rattle.machine_model.proofs.Grown.{grown, node_under, prev_word}
 use Rattle.memory_laws.specs.Wants.{AnIndirection, word_wants, meets, Is, Holds, AllHold}
 use Rattle.memory_laws.specs.Laws.{IsInUse, is_end}
 use Rattle.memory_laws.proofs.AtEachTime.{safe_at}
@@ -87,6 +89,12 @@ module _ (a : Lone) where
     fresh_private t g s =
         let staged = (sound_at (protocol a.limits a.states a.last (known a)) t s.until).staged a.actor in
         (subst (λ x. Staged (w a) t a.actor x) (ap stage_of_actor s.runs ∙ ap stage_of s.line) staged).0
+
+    -- what it replaces is decided
+    pub replaced_decided : (t : ℕ) (g : Option ℕ) (l : ReadLine) → Stands a t g (swap_line a why i replaced fresh (swap.Deciding l)) → prev_word a.states t replaced ≡ over.None
+    replaced_decided t g l s =
+        let staged = (sound_at (protocol a.limits a.states a.last (known a)) t s.until).staged a.actor in
+        (subst (λ x. Staged (w a) t a.actor x) (ap stage_of_actor s.runs ∙ ap stage_of s.line) staged).2.none
 
     -- before it is swapped in, the fresh node stands nowhere
     pub fresh_nowhere : (t : ℕ) (g : Option ℕ) → Stands a t g (swap_line a why i replaced fresh swap.Publish) → (j : Ref) → Has a t j fresh → ⊥
