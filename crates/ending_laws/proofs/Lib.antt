@@ -15,4 +15,7 @@ pub mod StandsAt
 pub mod Weights
 pub mod ReadsWords
 pub mod ReadsStep
+pub mod ReadsLines
 pub mod ReadsFirst
+pub mod ReadsOn
+pub mod Flat

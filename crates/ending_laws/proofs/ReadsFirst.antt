@@ -115,7 +115,7 @@ module _ (a : Lone) (weight : ℕ → ℕ) (x f : ℕ) (wt : Weighing a weight x
       let some = wt.weighs t i m q s.since s.until sees in
       main_failed (suc t) (b - 1) m q next now (omega (arith, enough, off, some))
 
-  decide : (t b : ℕ) (m q : Ref) (told : Option ℕ) → S t (read.Decide m q told) → Sees a t i m (prev.Pending q) → 4 + weight t ≤ b + x → C (P t) b t
+  pub decide : (t b : ℕ) (m q : Ref) (told : Option ℕ) → S t (read.Decide m q told) → Sees a t i m (prev.Pending q) → 4 + weight t ≤ b + x → C (P t) b t
   decide t b m q told s sees enough =
       let some = wt.weighs t i m q s.since s.until sees in
       on a wrap gives i h weight P counts b t g (read.Decide m q told) s (omega (arith, enough, some))
@@ -167,7 +167,7 @@ module _ (a : Lone) (weight : ℕ → ℕ) (x f : ℕ) (wt : Weighing a weight x
   pending_by t b m q Writable next now enough = ask t b m q next now enough (word a t) refl
   pending_by t b m q ReadOnly next now enough = decide t b m q None next now (omega (arith, enough))
 
-  prev_pending : (t b : ℕ) (m q : Ref) → S t (read.Prev m) → Sees a t i m (prev.Pending q) → 6 + weight t ≤ b + x → C (P t) b t
+  pub prev_pending : (t b : ℕ) (m q : Ref) → S t (read.Prev m) → Sees a t i m (prev.Pending q) → 6 + weight t ≤ b + x → C (P t) b t
   prev_pending t b m q s sees enough =
       let some = wt.weighs t i m q s.since s.until sees in
       on a wrap gives i h weight P counts b t g (read.Prev m) s (omega (arith, enough, some))

@@ -39,7 +39,7 @@ module _ (a : Lone) where
   abbrev p : Protocol
   p = protocol a.limits a.states a.last (known_run a.limits a.states a.last a.run)
 
-  abbrev w : Words
+  abbrev pub w : Words
   w = p.words
 
   pub sound : (t : ℕ) → t ≤ a.last → IsSound w t

@@ -68,6 +68,9 @@ module _ (a : Lone) (weight : ℕ → ℕ) where
   pub at_once : (Q : ℕ → Type 0) (budget t : ℕ) → weight t ≤ budget → Q t → Comes Q budget t
   at_once Q budget t enough q room = (t, omega arith, omega (arith, enough), q)
 
+  pub comes_map : (P Q : ℕ → Type 0) (budget t : ℕ) → ((u : ℕ) → t ≤ u → u ≤ a.last → P u → Q u) → Comes P budget t → Comes Q budget t
+  comes_map P Q budget t follows comes room = let (u, after, soon, p) = comes room in (u, after, soon, follows u after (omega (arith, soon, room)) p)
+
   pub within : (Q : ℕ → Type 0) (n t : ℕ) → Comes Q (n + weight t) t → W Q n t
   within Q n t comes room = let (u, after, soon, q) = comes (omega (arith, room)) in (u, after, omega (arith, soon), q)
 
