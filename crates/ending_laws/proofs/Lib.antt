@@ -5,6 +5,7 @@ pub mod SwapsLines
 pub mod SwapsFound
 pub mod SwapsCourse
 pub mod SwapsDeciding
+pub mod RootsLines
 pub mod SwapsEnds
 pub mod Swaps
 pub mod SteppingNext
