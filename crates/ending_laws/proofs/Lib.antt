@@ -6,6 +6,8 @@ pub mod SwapsFound
 pub mod SwapsCourse
 pub mod SwapsDeciding
 pub mod RootsLines
+pub mod RootsPlain
+pub mod Roots
 pub mod SwapsEnds
 pub mod Swaps
 pub mod SteppingNext
@@ -20,3 +22,4 @@ pub mod ReadsLines
 pub mod ReadsFirst
 pub mod ReadsOn
 pub mod Flat
+pub mod RootsMachines

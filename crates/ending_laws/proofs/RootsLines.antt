@@ -1,23 +1,22 @@
 -- The lines of a COMPLETE within a program, and of a ROOT: what they lead to, where one actor alone takes steps.
-use Rattle.std.proofs.Common.{◌≡◌, ℕ, suc, ◌<◌, ◌≤◌, Bool, true, false, Option, Some, None, refl, sym, ap, ◌∙◌, subst}
+use Rattle.std.proofs.Common.{◌≡◌, None, refl, ◌∙◌}
 use Rattle.slot_arena.specs.declared.refs.Ref.{Ref}
 use Rattle.machine_model.specs.declared.lines.Line.{Line}
 use Rattle.machine_model.specs.declared.operations.Operation.{Operation}
 use Rattle.machine_model.specs.declared.reading.After.{After}
 use Rattle.machine_model.specs.declared.reading.After.TheVariants.{Goes, Gives}
 use Rattle.machine_model.specs.declared.reading.ReadLine.{ReadLine}
-use Rattle.machine_model.specs.declared.reading.ReadLine.TheVariants as read
 use Rattle.machine_model.specs.declared.roots.Complete.{Complete}
-use Rattle.machine_model.specs.declared.roots.CompleteLine.{CompleteLine}
 use Rattle.machine_model.specs.declared.roots.CompleteLine.TheVariants as complete
 use Rattle.machine_model.specs.declared.roots.Descriptor.{Descriptor}
 use Rattle.machine_model.specs.declared.roots.RootLine.{RootLine}
 use Rattle.machine_model.specs.declared.roots.RootLine.TheVariants as root
+use Rattle.machine_model.specs.declared.roots.RootWord.TheVariants.{Offer}
 use Rattle.machine_model.specs.Calls.{handle_of}
 use Rattle.machine_model.specs.Operations.{line_action, line_after, generation_from, read_of, rooting_read}
 use Rattle.machine_model.specs.Reading.{read_after}
 use Rattle.machine_model.specs.States.{State, word_at}
-use Rattle.machine_model.specs.Swapping.{root_action, root_after, complete_after, after_reading, of_offer, after_completing}
+use Rattle.machine_model.specs.Swapping.{root_action, root_after, after_reading, of_offer, after_completing}
 use Rattle.generation_laws.proofs.Offers.{own_offer}
 use Rattle.ending_laws.specs.Machines.{HoldsRead, lead}
 
@@ -32,6 +31,7 @@ pub record HoldsRoot (own : Operation) (wrap : RootLine → Line) (gives : State
   pub goes : (state : State) (operation : Operation) (l : RootLine) → operation.call ≡ own.call → operation.access ≡ own.access →
       line_after state operation (wrap l) ≡ led wrap (gives state operation) (root_after state.heap own.access (word_at state (handle_of own.call)) l)
   pub stays : (state : State) (operation : Operation) (c : Complete) → generation_from state operation (wrap (root.Completing c)) ≡ operation.generation
+  pub finds_offer : (state : State) (operation : Operation) (d : Descriptor) → word_at state (handle_of operation.call) ≡ Offer d → generation_from state operation (wrap root.Read) ≡ operation.generation
   pub no_own : (l : RootLine) → own_offer (wrap l) ≡ None
 
 module _ (own : Operation) (wrap : RootLine → Line) (gives : State → Operation → Ref → Line) (holds : HoldsRoot own wrap gives) (offer : Descriptor) where

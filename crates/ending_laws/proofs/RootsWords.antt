@@ -1,13 +1,11 @@
 -- The root word of an operation's handle over its own steps: an offer comes to stand there by an own offer alone, and goes where it is settled.
-use Rattle.std.proofs.Common.{◌≡◌, ℕ, suc, ◌<◌, ◌≤◌, ◌==◌, ◌&&◌, ◌⊎◌, ◌++◌, true, cond, inl, inr, Option, Some, None, refl, sym, ap, ◌∙◌, subst, eq-eqb, arith}
+use Rattle.std.proofs.Common.{◌≡◌, ℕ, suc, ◌<◌, ◌≤◌, ◌==◌, ◌⊎◌, ◌++◌, true, cond, inl, inr, Option, Some, None, refl, sym, ap, ◌∙◌, subst, eq-eqb, arith}
 use Rattle.std.proofs.lemmas.Bool.{and_from}
-use Rattle.std.proofs.lemmas.Option.{none-some, same_Some}
+use Rattle.std.proofs.lemmas.Option.{none-some}
 use Rattle.slot_arena.specs.declared.refs.Ref.{Ref}
 use Rattle.machine_model.specs.declared.actions.Action.{Action}
 use Rattle.machine_model.specs.declared.actions.Action.TheVariants as act
 use Rattle.machine_model.specs.declared.lines.Line.{Line}
-use Rattle.machine_model.specs.declared.lines.Line.TheVariants as line
-use Rattle.machine_model.specs.declared.copying.CopyLine.TheVariants as copy
 use Rattle.machine_model.specs.declared.operations.Operation.{Operation}
 use Rattle.machine_model.specs.declared.roots.Descriptor.{Descriptor}
 use Rattle.machine_model.specs.declared.roots.RootWord.{RootWord}
@@ -20,11 +18,11 @@ use Rattle.machine_model.specs.Operations.{action_of, line_action}
 use Rattle.machine_model.specs.Swapping.{is_try, stands_in}
 use Rattle.deciding_laws.proofs.Finals.{from_time}
 use Rattle.generation_laws.specs.Laws.{settles}
-use Rattle.generation_laws.proofs.CopyLines.{HasOwn, IsOwn, LineFits}
+use Rattle.generation_laws.proofs.CopyLines.{IsOwn, LineFits}
 use Rattle.generation_laws.proofs.Ids.{one_of_id}
 use Rattle.generation_laws.proofs.Offers.{OfferFrom, stood, put, offer_from, own_offer, own_numbers, offer_line}
 use Rattle.generation_laws.proofs.Running.{place_of_actor}
-use Rattle.generation_laws.proofs.SameOffer.{HasOffers, has_offers_at}
+use Rattle.generation_laws.proofs.SameOffer.{has_offers_at}
 use Rattle.ending_laws.specs.Alone.{Lone, Stands, WordStays, IsPlain, word}
 use Rattle.ending_laws.specs.Stepping.{IsNoEnd}
 use Rattle.ending_laws.proofs.StandsAt.{stands_at, goes_on}

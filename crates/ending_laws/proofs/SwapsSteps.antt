@@ -1,19 +1,15 @@
 -- What a step of an actor that is alone finds and does, where it is one of a READ.
 use Rattle.std.proofs.Common.{◌≡◌, ℕ, suc, ◌<◌, ◌≤◌, Option, Some, None, sym, ap, ◌∙◌, subst}
-use Rattle.std.proofs.lemmas.Option.{none-some, same_Some}
+use Rattle.std.proofs.lemmas.Option.{none-some}
 use Rattle.slot_arena.specs.declared.refs.Ref.{Ref}
 use Rattle.machine_model.specs.declared.lines.Line.{Line}
 use Rattle.machine_model.specs.declared.lines.Line.TheVariants as line
-use Rattle.machine_model.specs.declared.operations.Operation.{Operation}
 use Rattle.machine_model.specs.declared.reading.Read.{Read}
 use Rattle.machine_model.specs.declared.reading.ReadLine.{ReadLine}
-use Rattle.machine_model.specs.declared.reading.ReadLine.TheVariants as read
 use Rattle.machine_model.specs.declared.steps.Outcome.{Outcome}
 use Rattle.machine_model.specs.declared.steps.Step.TheVariants as step
-use Rattle.machine_model.specs.States.{State, operation_of}
-use Rattle.machine_model.specs.Acting.{gone, commits_after}
-use Rattle.machine_model.specs.Counting.{settled}
-use Rattle.machine_model.specs.Operations.{action_of, line_action, read_of}
+use Rattle.machine_model.specs.Acting.{commits_after}
+use Rattle.machine_model.specs.Operations.{line_action, read_of}
 use Rattle.machine_model.specs.Orders.{committed_in}
 use Rattle.machine_model.specs.Reading.{read_action, read_after}
 use Rattle.machine_model.proofs.Moves.{Moves}
