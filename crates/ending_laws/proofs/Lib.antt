@@ -1,4 +1,15 @@
 pub mod Withins
+pub mod SwapsSteps
+pub mod RootsWords
+pub mod SwapsLines
+pub mod SwapsFound
+pub mod SwapsCourse
+pub mod SwapsDeciding
+pub mod RootsLines
+pub mod RootsPlain
+pub mod Roots
+pub mod SwapsEnds
+pub mod Swaps
 pub mod SteppingNext
 pub mod SteppingKeeps
 pub mod SteppingFinds
@@ -17,3 +28,4 @@ pub mod FailedOwners
 pub mod FineWeight
 pub mod FineSteps
 pub mod Fine
+pub mod RootsMachines
