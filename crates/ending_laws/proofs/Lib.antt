@@ -21,6 +21,7 @@ pub mod ReadsStep
 pub mod ReadsLines
 pub mod ReadsFirst
 pub mod ReadsOn
+pub mod ReadsLicensed
 pub mod Flat
 pub mod ReadEnds
 pub mod FineSums
