@@ -22,6 +22,7 @@ pub mod ReadsLines
 pub mod ReadsFirst
 pub mod ReadsOn
 pub mod ReadsLicensed
+pub mod ReadsUnderWay
 pub mod Flat
 pub mod ReadEnds
 pub mod FineSums

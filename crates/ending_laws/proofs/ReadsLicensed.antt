@@ -59,11 +59,11 @@ module _ (a : Lone) (weight : ℕ → ℕ) (x f : ℕ) (wt : Weighing a weight x
   quiet = On.quiet a weight x f wt wrap gives i h c g two three seven
 
   -- the generation that is told stays that of the root
-  told_so : (t : ℕ) (l : ReadLine) → S t l → (r : Ref) → IsPlain a t r → generation_at (a.states t).heap r ≡ generation a r
+  pub told_so : (t : ℕ) (l : ReadLine) → S t l → (r : Ref) → IsPlain a t r → generation_at (a.states t).heap r ≡ generation a r
   told_so t l s r plain = root_generation a t g (wrap l) s (reads_on_line (wrap l) _ (h.reads l)) r plain
 
   -- the indirection's stays too
-  own_so : (t : ℕ) (m q : Ref) (told : Option ℕ) → S t (read.Decide m q told) → t < a.last → generation_at (a.states t).heap i ≡ generation a i
+  pub own_so : (t : ℕ) (m q : Ref) (told : Option ℕ) → S t (read.Decide m q told) → t < a.last → generation_at (a.states t).heap i ≡ generation a i
   own_so t m q told s more =
       let found = acts a wrap gives i h t g (read.Decide m q told) s more in
       found.2 ∙ generation_for_good a t (omega arith) i found.0.link

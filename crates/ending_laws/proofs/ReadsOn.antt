@@ -92,7 +92,7 @@ module _ (a : Lone) (weight : ℕ → ℕ) (x f : ℕ) (wt : Weighing a weight x
       on a wrap gives i h weight P counts b t g (read.Restore m q) s (omega (arith, enough))
       (λ more next. restored t b n m q s enough (other more) more (main_at (a.states t).heap i == m) refl (acts a wrap gives i h t g (read.Restore m q) s more).1 next)
 
-  restore : (t b : ℕ) (m q : Ref) → S t (read.Restore m q) → c + 1 + weight t ≤ b → C (P t) b t
+  pub restore : (t b : ℕ) (m q : Ref) → S t (read.Restore m q) → c + 1 + weight t ≤ b → C (P t) b t
   restore t b m q s enough = restore_or t b c m q s enough (λ more next room. from_main (suc t) (b - 1) next room)
 
   -- ---- after the prev word
