@@ -17,6 +17,7 @@ pub mod Stepping
 pub mod StandsAt
 pub mod Weights
 pub mod ReadsWords
+pub mod NonePending
 pub mod ReadsStep
 pub mod ReadsLines
 pub mod ReadsFirst
@@ -29,5 +30,8 @@ pub mod FineSums
 pub mod FailedOwners
 pub mod FineWeight
 pub mod FineSteps
+pub mod FinePays
+pub mod FineOwners
 pub mod Fine
+pub mod FineMachines
 pub mod RootsMachines
