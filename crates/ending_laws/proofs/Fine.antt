@@ -21,7 +21,8 @@ use Rattle.ending_laws.proofs.ReadsWords.{w, p, stays_none}
 use Rattle.ending_laws.proofs.FineWeight.{node_weight, stage_weight, weighs_none, failed_most}
 use Rattle.ending_laws.proofs.NonePending.{IsNoPublish}
 use Rattle.ending_laws.proofs.FineSteps.{in_range}
-use Rattle.ending_laws.proofs.FinePays.{fine, does, lighter, quiet_lighter, pays, publishes, actor_range}
+pub use Rattle.ending_laws.proofs.FinePays.{fine, fine_at_most}
+use Rattle.ending_laws.proofs.FinePays.{does, lighter, quiet_lighter, pays, publishes, actor_range}
 use Rattle.ending_laws.proofs.FineOwners.{pending_weight, owner, weighs, failed_owner, failed_weight, weighs_failed}
 
 quiet_publishes : (action : Action) → IsQuiet action → IsNoPublish action
