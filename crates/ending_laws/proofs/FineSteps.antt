@@ -68,7 +68,7 @@ module _ (a : Lone) where
 
   module _ (t : ℕ) (g : Option ℕ) (l : Line) (s : Stands a t g l) (more : t < a.last) (not : IsNoEnd l) where
     -- the others are about the same
-    pub same_stage : (j : ℕ) → (j ≡ a.actor → ⊥) → (w a).stage (suc t) j ≡ (w a).stage t j
+    same_stage : (j : ℕ) → (j ≡ a.actor → ⊥) → (w a).stage (suc t) j ≡ (w a).stage t j
     same_stage j apart =
         ap (λ (x : State). stage_of_actor (operation_of x j)) (after_so a t g l s more not)
         ∙ ap stage_of_actor (go_others (a.states t) a.actor s.operation (actor_counts (a.states t) a.actor s.operation s.runs) j apart)
@@ -101,7 +101,7 @@ module _ (a : Lone) where
     ]
 
     -- what was about before weighs no more
-    pub staged_lighter : (j : ℕ) → stage_weight (w a) (suc t) ((w a).stage t j) ≤ actor_weight t j
+    staged_lighter : (j : ℕ) → stage_weight (w a) (suc t) ((w a).stage t j) ≤ actor_weight t j
     staged_lighter j = still_lighter (w a) t j (sound a t s.until) (effect (p a) t more) ((w a).stage t j) ((sound a t s.until).staged j)
 
     pub each_lighter : NonePending a t → (j : ℕ) → actor_weight (suc t) j ≤ actor_weight t j

@@ -7,14 +7,13 @@ use Rattle.machine_model.specs.declared.roots.Descriptor.{Descriptor}
 use Rattle.machine_model.specs.declared.roots.RootWord.TheVariants.{Offer}
 use Rattle.machine_model.specs.Operations.{action_of, line_action}
 use Rattle.ending_laws.specs.Alone.{Lone, word, offer_weight}
-use Rattle.ending_laws.specs.Machines.{ReadsFirst, ReadsOn}
+use Rattle.ending_laws.specs.Machines.{ReadsFirst}
 use Rattle.ending_laws.specs.Stepping.{LeavesWords}
 use Rattle.ending_laws.specs.Weighing.{Acts, Weighing}
 use Rattle.ending_laws.proofs.StandsAt.{StandsSome, stands_at, goes_on}
 use Rattle.ending_laws.proofs.SteppingKeeps.{words}
 use Rattle.ending_laws.proofs.Weights.{flat, is_weight, taken_back}
 use Rattle.ending_laws.proofs.ReadsFirst.{reads_first}
-use Rattle.ending_laws.proofs.ReadsOn.{reads_on}
 
 module _ (a : Lone) where
   -- the line on which it stands does this
@@ -61,6 +60,3 @@ module _ (a : Lone) where
 
   pub flat_reads_first : ReadsFirst a (flat a) 7
   flat_reads_first = reads_first a (flat a) 0 0 7 flat_weighing (omega arith) (omega arith) (omega arith)
-
-  pub flat_reads_on : ReadsOn a (flat a) 7
-  flat_reads_on = reads_on a (flat a) 0 0 7 flat_weighing (omega arith) (omega arith) (omega arith)

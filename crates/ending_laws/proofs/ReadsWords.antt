@@ -46,7 +46,7 @@ module _ (a : Lone) where
   sound t within = sound_at p t within
 
   -- what a failed node stands over is decided
-  pub over_decided : (t : ℕ) → t ≤ a.last → (m q : Ref) → prev_word a.states t m ≡ prev.Failed q → prev_word a.states t q ≡ prev.None
+  over_decided : (t : ℕ) → t ≤ a.last → (m q : Ref) → prev_word a.states t m ≡ prev.Failed q → prev_word a.states t q ≡ prev.None
   over_decided t within m q failed = ((sound t within).words.over m q (over_failed failed)).none
 
   -- ---- main nodes that stay

@@ -24,7 +24,7 @@ use Rattle.ending_laws.specs.Stepping.{IsNoEnd, LeavesWords}
 use Rattle.ending_laws.proofs.SteppingNext.{takes, no_end}
 
 -- a step of an operation that goes on
-pub went : (before : State) (actor : ℕ) (o : Outcome) (after : State) → Moves before (step.Go actor) o after → (operation : Operation) → operation_of before actor ≡ Some operation →
+went : (before : State) (actor : ℕ) (o : Outcome) (after : State) → Moves before (step.Go actor) o after → (operation : Operation) → operation_of before actor ≡ Some operation →
     GoesOn (action_of before operation) → after ≡ settled before (gone before actor operation)
 went before actor o after (Goes {operation = x} d is a g) operation runs goes = ap (λ y. settled before (gone before actor y)) (same_Some _ _ (sym is ∙ runs))
 went before actor o after (Ends {operation = x} {answer} d is a) operation runs goes =
@@ -69,7 +69,7 @@ module _ (a : Lone) where
 
   -- ---- what it leaves
 
-  pub stays_keep : (t : ℕ) → GrownStays a.states t → Keeps a t (suc t)
+  stays_keep : (t : ℕ) → GrownStays a.states t → Keeps a t (suc t)
   stays_keep t stays i m has = record {
     made = ap is_some (stays i) ∙ has.made;
     main = ap (λ s. main_of (node_of s)) (stays i) ∙ has.main;

@@ -87,7 +87,7 @@ module _ (a : Lone) where
       plain_of (word a (suc t)) (λ offer e. taken_back_by t _ offer own is there (offer_comes t g l s more not offer e))
 
   -- no quiet step adds weight
-  pub lighter_flat : (t : ℕ) (g : Option ℕ) (l : Line) (s : Stands a t g l) → t < a.last → IsNoEnd l → IsQuiet (line_action (a.states t) s.operation l) → flat (suc t) ≤ flat t
+  lighter_flat : (t : ℕ) (g : Option ℕ) (l : Line) (s : Stands a t g l) → t < a.last → IsNoEnd l → IsQuiet (line_action (a.states t) s.operation l) → flat (suc t) ≤ flat t
   lighter_flat t g l s more not quiet = lighter_word (word a t) (word a (suc t)) (offer_stood t g l s more not quiet)
 
   pub is_weight : IsWeight a flat

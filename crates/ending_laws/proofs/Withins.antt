@@ -29,9 +29,6 @@ module _ (a : Lone) where
   pub keeps_but : (t u : ℕ) (but : Ref) → Keeps a t u → KeepsBut a t u but
   keeps_but t u but keeps i m other has = keeps i m has
 
-  pub keeps_but_on : (t u v : ℕ) (but : Ref) → KeepsBut a t u but → KeepsBut a u v but → KeepsBut a t v but
-  keeps_but_on t u v but first then i m other has = then i m other (first i m other has)
-
 module _ (a : Lone) (weight : ℕ → ℕ) where
   -- ---- within so many steps
 
@@ -73,9 +70,6 @@ module _ (a : Lone) (weight : ℕ → ℕ) where
 
   pub within : (Q : ℕ → Type 0) (n t : ℕ) → Comes Q (n + weight t) t → W Q n t
   within Q n t comes room = let (u, after, soon, q) = comes (omega (arith, room)) in (u, after, omega (arith, soon), q)
-
-  pub comes_of : (Q : ℕ → Type 0) (n budget t : ℕ) → n + weight t ≤ budget → W Q n t → Comes Q budget t
-  comes_of Q n budget t enough w room = let (u, after, soon, q) = w (omega (arith, enough, room)) in (u, after, omega (arith, soon, enough), q)
 
   -- a quiet step adds no weight
   pub lighter : IsWeight a weight → (t : ℕ) (g : Option ℕ) (l : Line) (s : Stands a t g l) → t < a.last → IsQuiet (line_action (a.states t) s.operation l) → weight (suc t) ≤ weight t
