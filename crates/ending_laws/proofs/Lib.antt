@@ -1,4 +1,12 @@
 pub mod Withins
+pub mod SwapsSteps
+pub mod RootsWords
+pub mod SwapsLines
+pub mod SwapsFound
+pub mod SwapsCourse
+pub mod SwapsDeciding
+pub mod SwapsEnds
+pub mod Swaps
 pub mod SteppingNext
 pub mod SteppingKeeps
 pub mod SteppingFinds

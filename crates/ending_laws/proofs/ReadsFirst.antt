@@ -1,5 +1,5 @@
 -- A READ from its first line, where one actor alone takes steps: it gives the main node that stands there, decided, at a cost of 2 or more.
-use Rattle.std.proofs.Common.{◌≡◌, ℕ, suc, ◌+◌, ◌-◌, ◌<◌, ◌≤◌, ◌==◌, Bool, true, false, Option, Some, None, is_some, refl, sym, ap, ◌∙◌, subst, eq-eqb, arith}
+use Rattle.std.proofs.Common.{◌≡◌, ℕ, suc, ◌+◌, ◌-◌, ◌<◌, ◌≤◌, ◌==◌, Bool, true, false, Option, Some, None, is_some, refl, ap, ◌∙◌, subst, eq-eqb, arith}
 use Rattle.history.specs.declared.calls.Access.{Access}
 use Rattle.history.specs.declared.calls.Access.TheVariants.{Writable, ReadOnly}
 use Rattle.slot_arena.specs.declared.refs.Ref.{Ref}

@@ -1,10 +1,9 @@
 -- A step of a READ of an operation that is alone.
-use Rattle.std.proofs.Common.{◌≡◌, ℕ, suc, ◌+◌, ◌-◌, ◌<◌, ◌≤◌, ◌==◌, Bool, true, false, Option, Some, None, refl, sym, ap, ◌∙◌, subst, arith}
+use Rattle.std.proofs.Common.{◌≡◌, ℕ, suc, ◌-◌, ◌<◌, ◌≤◌, ◌==◌, Bool, true, false, Option, Some, sym, ap, ◌∙◌, subst, arith}
 use Rattle.std.proofs.lemmas.Option.{none-some}
 use Rattle.slot_arena.specs.declared.refs.Ref.{Ref}
 use Rattle.slot_arena.specs.declared.nodes.Prev.TheVariants as prev
 use Rattle.slot_arena.specs.Heaps.{main_at, main_changed}
-use Rattle.machine_model.specs.declared.actions.Action.TheVariants as act
 use Rattle.machine_model.specs.declared.lines.Line.{Line}
 use Rattle.machine_model.specs.declared.lines.Line.TheVariants as line
 use Rattle.machine_model.specs.declared.reading.After.{After}
@@ -13,9 +12,9 @@ use Rattle.machine_model.specs.declared.reading.ReadLine.{ReadLine}
 use Rattle.machine_model.specs.declared.reading.ReadLine.TheVariants as read
 use Rattle.machine_model.specs.declared.roots.Descriptor.{Descriptor}
 use Rattle.machine_model.specs.declared.roots.RootWord.TheVariants.{Plain, Offer}
-use Rattle.machine_model.specs.Operations.{line_action, line_after, generation_from, read_of}
+use Rattle.machine_model.specs.Operations.{line_action, line_after, read_of}
 use Rattle.machine_model.specs.Reading.{Verdict, Commits, Fails, Overtaken, verdict, read_action, read_after}
-use Rattle.deciding_laws.proofs.Known.{ActsOn, GrownStays, GrownChanges, FindsMain, FindsPrev, Either, Decided}
+use Rattle.deciding_laws.proofs.Known.{ActsOn, GrownStays, GrownChanges, FindsPrev, Either, Decided}
 use Rattle.ending_laws.specs.Alone.{Lone, Stands, Keeps, WordStays, IsQuiet, IsWeight, word}
 use Rattle.ending_laws.specs.Machines.{HoldsRead, lead}
 use Rattle.ending_laws.specs.Stepping.{IsNoEnd, LeavesWords}

@@ -1,5 +1,5 @@
 -- What is known of main words and prev words of the run, and what the steps of a READ write to them.
-use Rattle.std.proofs.Common.{◌≡◌, ℕ, suc, ◌<◌, ◌≤◌, ◌⊎◌, inl, inr, ◌==◌, Bool, true, false, Option, Some, None, option_map, is_some, refl, sym, ap, ◌∙◌, subst, arith}
+use Rattle.std.proofs.Common.{◌≡◌, ℕ, suc, ◌<◌, ◌≤◌, ◌⊎◌, inl, inr, true, Option, Some, None, option_map, is_some, refl, sym, ap, ◌∙◌, subst, arith}
 use Rattle.std.proofs.lemmas.Bool.{cases_eq, true≢false}
 use Rattle.slot_arena.specs.declared.refs.Ref.{Ref}
 use Rattle.slot_arena.specs.declared.nodes.Node.{Node}
@@ -16,7 +16,7 @@ use Rattle.deciding_laws.proofs.Owners.{IsSound}
 use Rattle.deciding_laws.proofs.Sounds.{sound_at}
 use Rattle.deciding_laws.proofs.Finals.{effect}
 use Rattle.deciding_laws.proofs.GrownWords.{slot_prev_node, slot_kept}
-use Rattle.deciding_laws.proofs.Known.{Known, GrownStays, GrownChanges, is_link}
+use Rattle.deciding_laws.proofs.Known.{GrownStays, GrownChanges, is_link}
 use Rattle.deciding_laws.proofs.RunWords.{protocol}
 use Rattle.content_laws.specs.Runs.{is_made}
 use Rattle.line_laws.proofs.Nodes.{known_run}

@@ -1,8 +1,7 @@
 -- Each time from its start on an operation that is alone stands on a line, and that isn't an end.
-use Rattle.std.proofs.Common.{◌≡◌, ℕ, zero, suc, ◌<◌, ◌≤◌, ◌⊎◌, inl, inr, Option, Some, refl, sym, ap, ◌∙◌, subst, arith}
+use Rattle.std.proofs.Common.{ℕ, ◌<◌, ◌≤◌, Option, refl, arith}
 use Rattle.machine_model.specs.declared.lines.Line.{Line}
 use Rattle.machine_model.specs.declared.lines.Line.TheVariants as line
-use Rattle.machine_model.specs.declared.operations.Operation.{Operation}
 use Rattle.deciding_laws.proofs.Finals.{from_time}
 use Rattle.ending_laws.specs.Alone.{Lone, Stands}
 use Rattle.ending_laws.specs.Stepping.{IsNoEnd}

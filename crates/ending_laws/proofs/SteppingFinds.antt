@@ -8,7 +8,6 @@ use Rattle.slot_arena.specs.Heaps.{node_at, next_ref}
 use Rattle.machine_model.specs.declared.actions.Action.TheVariants as act
 use Rattle.machine_model.specs.declared.lines.Line.{Line}
 use Rattle.machine_model.specs.Operations.{line_action}
-use Rattle.machine_model.proofs.Grown.{node_under}
 use Rattle.memory_laws.specs.Laws.{IsInUse}
 use Rattle.memory_laws.specs.Wants.{AllHold, is_indirection, line_wants}
 use Rattle.memory_laws.proofs.AtTimes.{line_at}

@@ -1,8 +1,7 @@
 -- A quiet step of an operation that is alone leaves decided main nodes where they stand; most steps leave the root word.
-use Rattle.std.proofs.Common.{◌≡◌, ℕ, suc, ◌<◌, true, inl, inr, Option, Some, None, is_some, refl, sym, ap, ◌∙◌, subst}
+use Rattle.std.proofs.Common.{◌≡◌, ℕ, suc, ◌<◌, inl, inr, Option, Some, None, is_some, refl, sym, ap, ◌∙◌, subst}
 use Rattle.std.proofs.lemmas.Bool.{cases_eq, false≢true}
 use Rattle.std.proofs.lemmas.Option.{same_Some}
-use Rattle.slot_arena.specs.declared.refs.Ref.{Ref}
 use Rattle.slot_arena.specs.declared.nodes.Node.{Node}
 use Rattle.slot_arena.specs.Heaps.{node_of, main_of, prev_of, next_ref}
 use Rattle.machine_model.specs.declared.actions.Action.{Action}
@@ -15,12 +14,12 @@ use Rattle.machine_model.specs.Acting.{acted, gone, new_root_taken}
 use Rattle.machine_model.specs.Calls.{handle_of}
 use Rattle.machine_model.specs.Counting.{settled}
 use Rattle.machine_model.specs.Operations.{action_of, line_action}
-use Rattle.machine_model.specs.States.{State, operation_of, word_of, word_at, root_at}
+use Rattle.machine_model.specs.States.{State, operation_of, word_at}
 use Rattle.machine_model.proofs.Grown.{grown}
 use Rattle.machine_model.proofs.Moves.{Moves, Goes, Ends, GoesOn}
 use Rattle.deciding_laws.proofs.Known.{Known, ActsOn, GrownStays, GrownTakes, Taken}
 use Rattle.line_laws.proofs.Nodes.{known_run}
-use Rattle.ending_laws.specs.Alone.{Lone, Stands, Has, Keeps, IsQuiet, word}
+use Rattle.ending_laws.specs.Alone.{Lone, Stands, Keeps, IsQuiet, word}
 use Rattle.ending_laws.specs.Stepping.{IsNoEnd, LeavesWords}
 use Rattle.ending_laws.proofs.SteppingNext.{takes, no_end}
 

@@ -1,17 +1,15 @@
 -- An offer in the root word weighs two steps: no quiet step adds weight, and to take the offer back takes it off.
-use Rattle.std.proofs.Common.{◌≡◌, ℕ, suc, ◌+◌, ◌<◌, ◌≤◌, ◌==◌, ◌&&◌, true, Option, Some, refl, sym, ap, ◌∙◌, subst, eq-eqb, arith}
+use Rattle.std.proofs.Common.{◌≡◌, ℕ, suc, ◌<◌, ◌≤◌, true, Option, refl, sym, ap, ◌∙◌, subst, eq-eqb, arith}
 use Rattle.std.proofs.lemmas.Option.{same_Some}
 use Rattle.slot_arena.specs.declared.refs.Ref.{Ref}
 use Rattle.machine_model.specs.declared.actions.Action.{Action}
 use Rattle.machine_model.specs.declared.actions.Action.TheVariants as act
 use Rattle.machine_model.specs.declared.lines.Line.{Line}
-use Rattle.machine_model.specs.declared.operations.Operation.{Operation}
 use Rattle.machine_model.specs.declared.roots.Descriptor.{Descriptor}
 use Rattle.machine_model.specs.declared.roots.RootWord.{RootWord}
 use Rattle.machine_model.specs.declared.roots.RootWord.TheVariants.{Plain, Offer}
 use Rattle.machine_model.specs.Acting.{acted, aborted, if_changed}
 use Rattle.machine_model.specs.Calls.{handle_of}
-use Rattle.machine_model.specs.Counting.{settled}
 use Rattle.machine_model.specs.Operations.{action_of, line_action}
 use Rattle.machine_model.specs.States.{State, with_word, word_at}
 use Rattle.machine_model.specs.Swapping.{stands_in}
@@ -19,7 +17,7 @@ use Rattle.generation_laws.specs.Laws.{settles}
 use Rattle.generation_laws.proofs.Offers.{OfferFrom, stood, put, offer_from}
 use Rattle.ending_laws.specs.Alone.{Lone, Stands, IsQuiet, IsWeight, WordStays, word, offer_weight}
 use Rattle.ending_laws.specs.Stepping.{IsNoEnd}
-use Rattle.ending_laws.proofs.StandsAt.{StandsSome, stands_at, goes_on}
+use Rattle.ending_laws.proofs.StandsAt.{stands_at, goes_on}
 use Rattle.ending_laws.proofs.SteppingKeeps.{after_so}
 
 -- the offer itself stands there
