@@ -4,3 +4,10 @@ pub mod RenewsCalm
 pub mod RenewsLines
 pub mod Renews
 pub mod RenewsOn
+pub mod CleansLines
+pub mod CleansMade
+pub mod CleansFirst
+pub mod Cleans
+pub mod CleansOn
+pub mod CleansEnds
+pub mod CleansCurrent

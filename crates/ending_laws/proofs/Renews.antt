@@ -18,7 +18,7 @@ use Rattle.ending_laws.specs.Keys.{IsRenewed, IsRenewing, RenewsFrom, RenewsBran
 use Rattle.ending_laws.specs.Machines.{Machines}
 use Rattle.ending_laws.specs.Stepping.{Stepping}
 use Rattle.ending_laws.proofs.RenewsNodes.{SeesAll, sees_more, sees_all}
-use Rattle.ending_laws.proofs.RenewsCalm.{Calm, calm_on, calm_step}
+use Rattle.ending_laws.proofs.RenewsCalm.{Calm, calm_on, calm_step, step_on}
 use Rattle.ending_laws.proofs.RenewsLines.{renew_line, GoesOn, entry_within}
 use Rattle.ending_laws.proofs.Withins.{here, weaken, map, bind, one, ended}
 
@@ -45,8 +45,7 @@ module _ (a : Lone) (steps : Stepping a) (weight : ℕ → ℕ) (c : ℕ) (heavy
       calm = calm_step a steps t (Some g) (line.Renew (renew.Branch path main done)) s more tt tt tt
 
       branch_next : Stands a (suc t) (Some g) (renew_after_branch path main (next_ref (a.states t).heap))
-      branch_next =
-          subst (λ x. Stands a (suc t) x (renew_after_branch path main (next_ref (a.states t).heap))) s.generation (steps.next t (Some g) (line.Renew (renew.Branch path main done)) s more tt)
+      branch_next = step_on a steps t (Some g) (line.Renew (renew.Branch path main done)) s more tt refl
 
       node_made : (made : Ref) → next_ref (a.states t).heap ≡ Some made → node a made ≡ renewed (bitmap_of (node a main)) done
       node_made made e =

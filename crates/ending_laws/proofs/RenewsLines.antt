@@ -28,7 +28,7 @@ use Rattle.ending_laws.specs.Keys.{IsOf, IsRenewed}
 use Rattle.ending_laws.specs.Machines.{Machines, HoldsRead, lead, IsRead, WasRead}
 use Rattle.ending_laws.specs.Stepping.{Stepping}
 use Rattle.ending_laws.proofs.RenewsNodes.{SeesMore, sees_more, looks_at, never}
-use Rattle.ending_laws.proofs.RenewsCalm.{Calm, calm_on, calm_step, reads_same}
+use Rattle.ending_laws.proofs.RenewsCalm.{Calm, calm_on, calm_step, step_on, holds_read}
 use Rattle.ending_laws.proofs.Withins.{here, weaken, map, bind, one}
 
 -- the READ of an entry in RENEW, and the line after it
@@ -44,14 +44,9 @@ entry_leads path main done i (Goes l) = refl
 entry_leads path main done i (Gives m) = refl
 
 entry_reads : (own : Operation) (path : List Ref) (main : Ref) (done : List Ref) (i : Ref) → HoldsRead own (entry_read path main done i) (entry_link path main done) i
-entry_reads own path main done i = record {
-  reads = λ l. refl;
-  acts = λ state operation l. refl;
-  goes = λ state operation l same_call same_access.
-      entry_leads path main done i (read_after state.heap operation.access (word_at state (handle_of operation.call)) i l)
-      ∙ reads_same own (entry_read path main done i) (entry_link path main done) i state operation l same_call same_access;
-  stays = λ state operation l. refl;
-}
+entry_reads own path main done i =
+    holds_read own (entry_read path main done i) (entry_link path main done) i (λ l. refl) (λ state operation l. refl)
+    (λ state operation l. entry_leads path main done i (read_after state.heap operation.access (word_at state (handle_of operation.call)) i l)) (λ state operation l. refl)
 
 -- the next entry after those that are done, or, where all are, the branch
 abbrev pub renew_line : List Ref → List Ref → Ref → List Ref → Line
@@ -97,8 +92,7 @@ module _ (a : Lone) (steps : Stepping a) (g : ℕ) (path : List Ref) (main : Ref
     looks_calm = calm_step a steps t (Some g) (line.Renew (renew.Entry path main done)) s more tt tt tt
 
     looks_next : Stands a (suc t) (Some g) (renew_after_entry (a.states t) s.operation path main done entry (node_at (a.states t).heap entry))
-    looks_next = subst (λ x. Stands a (suc t) x (renew_after_entry (a.states t) s.operation path main done entry (node_at (a.states t).heap entry))) s.generation
-        (steps.next t (Some g) (line.Renew (renew.Entry path main done)) s more tt)
+    looks_next = step_on a steps t (Some g) (line.Renew (renew.Entry path main done)) s more tt refl
 
     found : SeesMore a steps t main done
     found = sees_more a steps t s.until path main done (steps.wants t (Some g) (line.Renew (renew.Entry path main done)) s)
@@ -143,8 +137,7 @@ module _ (a : Lone) (steps : Stepping a) (g : ℕ) (path : List Ref) (main : Ref
     links_calm = calm_step a steps t (Some g) (entry_link path main done child) s more tt tt tt
 
     links_next : Stands a (suc t) (Some g) (renew_after_link (a.states t) path main done (next_ref (a.states t).heap))
-    links_next = subst (λ x. Stands a (suc t) x (renew_after_link (a.states t) path main done (next_ref (a.states t).heap))) s.generation
-        (steps.next t (Some g) (entry_link path main done child) s more tt)
+    links_next = step_on a steps t (Some g) (entry_link path main done child) s more tt refl
 
     link_found : SeesMore a steps t main done
     link_found = sees_more a steps t s.until path main done

@@ -56,6 +56,9 @@ module _ (a : Lone) where
   few_by m (Branch b es) is e = few_entries m b es is
   few_by m n is e = absurd (false≢true e)
 
+  pub few_of_branch : (m : Ref) → is_branch (node a m) ≡ true → length (entries_of (node a m)) ≤ 32
+  few_of_branch m e = few_by m (node a m) refl e
+
   -- what is in a tomb is a single
   pub tomb_single : (m single : Ref) → node a m ≡ Tomb single → (k : ℕ) × (v : ℕ) × (node a single ≡ Single k v)
   tomb_single m single is = by_slot (grown a.states a.last m) refl
