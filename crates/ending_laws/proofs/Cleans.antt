@@ -15,7 +15,8 @@ use Rattle.ending_laws.specs.Machines.{Machines}
 use Rattle.ending_laws.specs.Stepping.{Stepping}
 use Rattle.ending_laws.proofs.RenewsNodes.{sees_more}
 use Rattle.ending_laws.proofs.RenewsCalm.{Calm, calm_now, calm_on}
-use Rattle.ending_laws.proofs.CleansLines.{clean_line, Settles, Advanced, entry_within}
+use Rattle.ending_laws.proofs.CleansSettled.{Settles}
+use Rattle.ending_laws.proofs.CleansLines.{clean_line, Advanced, entry_within}
 use Rattle.ending_laws.proofs.CleansMade.{Contracts, contracted_within}
 use Rattle.ending_laws.proofs.Withins.{here, weaken, map, bind}
 

@@ -19,7 +19,7 @@ use Rattle.ending_laws.specs.Machines.{Machines, IsRead, HasSwapped}
 use Rattle.ending_laws.specs.Stepping.{Stepping}
 use Rattle.ending_laws.proofs.RenewsNodes.{few_of_branch}
 use Rattle.ending_laws.proofs.RenewsCalm.{Calm}
-use Rattle.ending_laws.proofs.CleansLines.{one_main}
+use Rattle.ending_laws.proofs.CleansSettled.{one_main}
 use Rattle.ending_laws.proofs.CleansFirst.{Begins, Begun, begun_within, current_read, current_main, current_reads}
 use Rattle.ending_laws.proofs.Cleans.{Cleans, goes_from}
 use Rattle.ending_laws.proofs.CleansEnds.{one_left, not_same, ends_there}

@@ -4,6 +4,7 @@ pub mod RenewsCalm
 pub mod RenewsLines
 pub mod Renews
 pub mod RenewsOn
+pub mod CleansSettled
 pub mod CleansLines
 pub mod CleansMade
 pub mod CleansFirst
