@@ -20,3 +20,16 @@ pub mod ReadsFirst
 pub mod ReadsOn
 pub mod Flat
 pub mod ReadEnds
+pub mod RenewsNodes
+pub mod RenewsCalm
+pub mod RenewsLines
+pub mod Renews
+pub mod RenewsOn
+pub mod CleansSettled
+pub mod CleansLines
+pub mod CleansMade
+pub mod CleansFirst
+pub mod Cleans
+pub mod CleansOn
+pub mod CleansEnds
+pub mod CleansCurrent
