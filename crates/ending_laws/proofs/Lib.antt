@@ -1,0 +1,3 @@
+pub mod Builds
+pub mod BuildsSteps
+pub mod Withins
