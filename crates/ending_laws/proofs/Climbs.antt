@@ -23,7 +23,7 @@ use Rattle.ending_laws.proofs.Withins.{weaken, bind}
 use Rattle.ending_laws.proofs.ClimbsLines.{climb_read, climb_gives, climb_holds_read, climb_main_on, climb_made_on, climb_swapped, ended_soon}
 
 -- the root's own generation
-pub is_own : (g : Option ℕ) (h : ℕ) → option_eq nat_eq g (Some h) ≡ true → g ≡ Some h
+is_own : (g : Option ℕ) (h : ℕ) → option_eq nat_eq g (Some h) ≡ true → g ≡ Some h
 is_own None h e = absurd (cc e)
 is_own (Some x) h e = ap Some (eqb-true x h e)
 

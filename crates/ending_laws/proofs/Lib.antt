@@ -1,3 +1,6 @@
+pub mod Bottoms
+pub mod BottomsLines
+pub mod BottomsStale
 pub mod Builds
 pub mod BuildsSteps
 pub mod Climbs

@@ -1,16 +1,18 @@
 -- The lines of a change of one key in a pass that was under way when its actor was left alone: each comes to a new try, or the operation ends.
-use Rattle.std.specs.Prelude.{◌≡◌, ℕ, ◌+◌, ◌*◌, List, Option, slice_index_or}
+use Rattle.std.specs.Prelude.{ℕ, ◌+◌, ◌*◌, List, Option, slice_index_or}
 use Rattle.slot_arena.specs.declared.refs.Ref.{Ref}
-use Rattle.slot_arena.specs.declared.nodes.Node.TheVariants.{Single}
 use Rattle.slot_arena.specs.Heaps.{no_ref, entries_of}
 use Rattle.machine_model.specs.declared.building.BuildLine.{BuildLine}
 use Rattle.machine_model.specs.declared.finding.KeyLine.TheVariants as key
 use Rattle.machine_model.specs.declared.lines.Line.TheVariants as line
 use Rattle.machine_model.specs.declared.lines.Purpose.TheVariants as purpose
+use Rattle.machine_model.specs.declared.operations.Operation.{Operation}
 use Rattle.machine_model.specs.declared.reading.Swap.{Swap}
 use Rattle.machine_model.specs.declared.repairs.Climb.{Climb}
+use Rattle.machine_model.specs.Finding.{absent}
 use Rattle.machine_model.specs.Lines.{new_try}
 use Rattle.ending_laws.specs.Alone.{Lone, Stands, Within, node}
+use Rattle.ending_laws.specs.Keys.{IsOf}
 
 module _ (a : Lone) (weight : ℕ → ℕ) (c : ℕ) where
   abbrev W : (ℕ → Type 0) → ℕ → ℕ → Type 0
@@ -38,6 +40,11 @@ module _ (a : Lone) (weight : ℕ → ℕ) (c : ℕ) where
 
   -- ---- KEY, where its path ended
 
+  -- behind a main node that has no place for the key
+  abbrev pub AbsentAgain : Type 0
+  AbsentAgain =
+      (operation : Operation) (path : List Ref) (main : Ref) (t : ℕ) (g : Option ℕ) → Stands a t g (absent operation path main) → W (Tries g) (14 * (c + 12) + 43) t
+
   -- in a list, or in a tomb for a reader
   abbrev pub ListsAgain : Type 0
   ListsAgain = (path : List Ref) (main : Ref) (position t : ℕ) (g : Option ℕ) → Stands a t g (line.Key (key.Listed path main position)) → W (Tries g) (14 * (c + 12) + 76) t
@@ -47,8 +54,8 @@ module _ (a : Lone) (weight : ℕ → ℕ) (c : ℕ) where
   SiblingsAgain =
       (path : List Ref) (main : Ref) (position former t : ℕ) (g : Option ℕ) → Stands a t g (line.Key (key.Sibling path main position former)) → W (Tries g) (14 * (c + 12) + 44) t
 
-  -- at a single of a branch
-  abbrev pub SinglesAgain : Type 0
-  SinglesAgain =
+  -- at an entry of a branch that is no indirection
+  abbrev pub EntriesAgain : Type 0
+  EntriesAgain =
       (path : List Ref) (main : Ref) (position t : ℕ) (g : Option ℕ) → Stands a t g (line.Key (key.Entry path main position)) →
-      (k v : ℕ) → node a (slice_index_or (entries_of (node a main)) position no_ref) ≡ Single k v → W (Tries g) (14 * (c + 12) + 45) t
+      ((h : ℕ) → IsOf a (slice_index_or (entries_of (node a main)) position no_ref) h → ⊥) → W (Tries g) (14 * (c + 12) + 45) t
