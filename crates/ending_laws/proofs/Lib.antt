@@ -33,3 +33,11 @@ pub mod Cleans
 pub mod CleansOn
 pub mod CleansEnds
 pub mod CleansCurrent
+pub mod Bottoms
+pub mod BottomsLines
+pub mod BottomsStale
+pub mod Builds
+pub mod BuildsSteps
+pub mod Climbs
+pub mod ClimbsLines
+pub mod ClimbsOn
