@@ -1,0 +1,4 @@
+pub mod Withins
+pub mod EndsSteps
+pub mod EndsActors
+pub mod EndsLists

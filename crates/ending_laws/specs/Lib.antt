@@ -2,3 +2,4 @@ pub mod Alone
 pub mod Stepping
 pub mod Machines
 pub mod Keys
+pub mod Laws
