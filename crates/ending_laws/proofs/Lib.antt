@@ -2,3 +2,4 @@ pub mod Withins
 pub mod EndsSteps
 pub mod EndsActors
 pub mod EndsLists
+pub mod EndsAlone
