@@ -6,3 +6,5 @@ pub mod EndsAlone
 pub mod PassesSees
 pub mod PassesChains
 pub mod PassesLines
+pub mod PassesRenewed
+pub mod PassesDown
