@@ -8,3 +8,5 @@ pub mod PassesChains
 pub mod PassesLines
 pub mod PassesRenewed
 pub mod PassesDown
+pub mod PassesEnd
+pub mod PassesAlong

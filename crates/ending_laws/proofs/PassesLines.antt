@@ -1,6 +1,8 @@
 -- KEY goes down a level, where one actor alone takes steps: from a main node to its entry, and from there on.
-use Rattle.std.proofs.Common.{◌≡◌, ℕ, suc, cond, ◌<◌, ◌==◌, true, false, List, [], Option, Some, get_or, length, ltb, refl, sym, ap, ap₂, subst, ◌∙◌, arith}
+use Rattle.std.proofs.Common.{◌++◌, ◌∷◌, ◌≡◌, ℕ, suc, ◌-◌, cond, ◌<◌, ◌==◌, true, false, List, [], Option, Some, get_or, length, ltb, refl, sym, ap, ap₂, subst, ◌∙◌, arith}
+use Rattle.std.proofs.Math.Seq.{get_or-append_seam}
 use Rattle.std.proofs.lemmas.Bool.{lt-ltb}
+use Rattle.std.proofs.lemmas.List.{length-append}
 use Rattle.ctrie_base.specs.Paths.{position_of}
 use Rattle.history.specs.declared.calls.Access.{Access}
 use Rattle.history.specs.declared.calls.Access.TheVariants.{Writable}
@@ -20,7 +22,7 @@ use Rattle.machine_model.specs.Calls.{handle_of}
 use Rattle.machine_model.specs.Finding.{absent, going_down, is_passable, key_after_entry, key_after_main, key_after_read}
 use Rattle.machine_model.specs.Operations.{line_after}
 use Rattle.machine_model.specs.Paths.{current, depth_of, flag_in}
-use Rattle.machine_model.specs.Reading.{at_indirection, read_after}
+use Rattle.machine_model.specs.Reading.{at_indirection, read_after, reading}
 use Rattle.machine_model.specs.Renewing.{renew_next}
 use Rattle.machine_model.specs.States.{word_at}
 use Rattle.memory_laws.specs.Laws.{IsInUse}
@@ -44,6 +46,16 @@ module _ (a : Lone) where
   -- the same of a line and a generation that are equal
   pub stands_as : (t : ℕ) (g h : Option ℕ) (l m : Line) → g ≡ h → l ≡ m → Stands a t g l → Stands a t h m
   stands_as t g h l m one two s = subst (λ x. Stands a t x m) one (subst (Stands a t g) two s)
+
+  -- going down is a READ of the longer path's last one
+  pub down_reads : (t : ℕ) (g : Option ℕ) (path : List Ref) (below : Ref) → Stands a t g (going_down path below) → Stands a t g (line.Key (key.Read (path ++ below ∷ []) (reading (current (path ++ below ∷ [])))))
+  down_reads t g path below s = subst (λ i. Stands a t g (line.Key (key.Read (path ++ below ∷ []) (reading i)))) (sym last) s
+    where
+      last : current (path ++ below ∷ []) ≡ below
+      last =
+          let len = length-append path (below ∷ []) in
+          let at : length (path ++ below ∷ []) - 1 ≡ length path = omega (arith, len) in
+          ap (λ n. get_or (path ++ below ∷ []) n no_ref) at ∙ get_or-append_seam path below [] no_ref
 
   module _ (steps : Stepping a) where
     -- ---- from a main node that leads on to its entry
