@@ -41,3 +41,14 @@ pub mod BuildsSteps
 pub mod Climbs
 pub mod ClimbsLines
 pub mod ClimbsOn
+pub mod EndsSteps
+pub mod EndsActors
+pub mod EndsLists
+pub mod EndsAlone
+pub mod PassesSees
+pub mod PassesChains
+pub mod PassesLines
+pub mod PassesRenewed
+pub mod PassesDown
+pub mod PassesEnd
+pub mod PassesAlong

@@ -5,3 +5,4 @@ pub mod Keys
 pub mod Weighing
 pub mod ReadEnds
 pub mod Stale
+pub mod Laws
