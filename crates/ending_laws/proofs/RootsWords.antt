@@ -213,7 +213,7 @@ module _ (a : Lone) where
   -- an offer that stands stood before, or is the own one
   pub came_on : (t : ℕ) (g : Option ℕ) (l : Line) (s : Stands a t g l) → t < a.last → GoesOn (line_action (a.states t) s.operation l) → (d : Descriptor) →
       word a (suc t) ≡ Offer d → (word a t ≡ Offer d) ⊎ (line_action (a.states t) s.operation l ≡ act.Offer d)
-  came_on t g l s h going d stands = elim (came x) [ | inl stood ↦ inl (sym x.before ∙ stood) | inr own ↦ inr own ]
+  came_on t g l s h going d stands = elim (came x) [ inl stood ↦ inl (sym x.before ∙ stood) | inr own ↦ inr own ]
     where
       x : Acts t (line_action (a.states t) s.operation l)
       x = acts t g l s h going
