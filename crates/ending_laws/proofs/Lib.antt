@@ -5,6 +5,9 @@ pub mod SwapsLines
 pub mod SwapsFound
 pub mod SwapsCourse
 pub mod SwapsDeciding
+pub mod RootsLines
+pub mod RootsPlain
+pub mod Roots
 pub mod SwapsEnds
 pub mod Swaps
 pub mod SteppingNext
@@ -52,3 +55,9 @@ pub mod PassesRenewed
 pub mod PassesDown
 pub mod PassesEnd
 pub mod PassesAlong
+pub mod FineSums
+pub mod FailedOwners
+pub mod FineWeight
+pub mod FineSteps
+pub mod Fine
+pub mod RootsMachines

@@ -1,5 +1,5 @@
 -- READ, where one actor alone takes steps, in steps alone: an offer in the root word costs two.
-use Rattle.std.proofs.Common.{◌≡◌, ℕ, ◌+◌, ◌≤◌, arith}
+use Rattle.std.proofs.Common.{arith}
 use Rattle.ending_laws.specs.Alone.{Lone, word}
 use Rattle.ending_laws.specs.ReadEnds.{ReadEnds, ReadGoesToItsEnd}
 use Rattle.ending_laws.proofs.Weights.{flat, weighs_at_most}
