@@ -23,3 +23,6 @@ pub mod ReadsFirst
 pub mod ReadsOn
 pub mod Flat
 pub mod RootsMachines
+pub mod CopiesLines
+pub mod CopiesFresh
+pub mod CopiesMade

@@ -3,3 +3,4 @@ pub mod Stepping
 pub mod Machines
 pub mod Keys
 pub mod Weighing
+pub mod Copies
