@@ -61,3 +61,6 @@ pub mod FineWeight
 pub mod FineSteps
 pub mod Fine
 pub mod RootsMachines
+pub mod CopiesLines
+pub mod CopiesFresh
+pub mod CopiesMade

@@ -6,3 +6,4 @@ pub mod Weighing
 pub mod ReadEnds
 pub mod Stale
 pub mod Laws
+pub mod Copies
