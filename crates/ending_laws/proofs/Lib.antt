@@ -10,3 +10,5 @@ pub mod PassesRenewed
 pub mod PassesDown
 pub mod PassesEnd
 pub mod PassesAlong
+pub mod FreshTombs
+pub mod FreshEnds

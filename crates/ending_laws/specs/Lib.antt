@@ -3,3 +3,4 @@ pub mod Stepping
 pub mod Machines
 pub mod Keys
 pub mod Laws
+pub mod Bounds
