@@ -69,7 +69,7 @@ module _ (limits : Limits) (steps : List Step) (actor : ℕ) (operation : Operat
   by_step : (n : ℕ) → n < most_steps_alone → StillRuns n → (o : Operation) → o.id ≡ operation.id → Steps (after n) actor o → StillRuns (suc n) ⊎ EndedBefore (suc n)
   by_step n lt still o same (Leads kind e found runs id) = inl (record {
     found = λ k le. up_to (λ j. (x : Operation) × (operation_of (after j) actor ≡ Some x) × (x.id ≡ operation.id)) (suc n) (λ j low. still.found j (omega (arith, low)))
-    (found, ap (λ (x : State). operation_of x actor) (one_more limits steps actor n) ∙ runs, id ∙ same) k (omega (arith, le));
+        (found, ap (λ (x : State). operation_of x actor) (one_more limits steps actor n) ∙ runs, id ∙ same) k (omega (arith, le));
     goes = up_to (GoesOnAt limits steps actor) n still.goes (kind, e ∙ ap (λ x. Ok (Went kind, x)) (sym (one_more limits steps actor n)));
     counted =
         let count = steps_counted (after n) (step.Go actor) (Went kind) (next_state (after n) (step.Go actor)) (moved (after n) (step.Go actor) (Went kind) (next_state (after n) (step.Go actor)) e) in

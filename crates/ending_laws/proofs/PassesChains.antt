@@ -135,8 +135,10 @@ module _ (a : Lone) where
       own_at : (k : ℕ) → k < length (path ++ below ∷ []) → (k < length path) ⊎ (length path ≤ k) → IsOf a (get_or (path ++ below ∷ []) k no_ref) g
       own_at k lt (inl low) = subst (λ i. IsOf a i g) (sym (old path below k low)) (x.own k low)
       own_at k lt (inr high) = let len = longer path below in let at : k ≡ length path = omega (arith, lt, high, len) in subst (λ i. IsOf a i g) (sym (new path below k at)) is
+
       Link : Ref → ℕ → Ref → Type 0
       Link i k j = (m : Ref) × Has a t i m × Leads a k m j
+
       links_at : (k : ℕ) → suc k < length (path ++ below ∷ []) → (suc k < length path) ⊎ (length path ≤ suc k) →
           (m : Ref) × Has a t (get_or (path ++ below ∷ []) k no_ref) m × Leads a k m (get_or (path ++ below ∷ []) (suc k) no_ref)
       links_at k lt (inl low) =
@@ -157,10 +159,12 @@ module _ (a : Lone) where
     where
       here : way_of s.operation.line ≡ path
       here = ap way_of s.line ∙ way
+
       at : (d : ℕ) → d < length path → depth_of_run a.states a.steps a.last (get_or path d no_ref) ≡ d
-      at d lt = 
+      at d lt =
           subst (λ p. d < length p → depth_of_run a.states a.steps a.last (get_or p d no_ref) ≡ d) here
           (λ low. ((ways_have_sites a.limits a.states a.steps a.last a.run a.takes a.fit t s.until a.actor s.operation s.runs).1 d low).1) lt
+
       apart : (x y : ℕ) → x < y → depth_of_run a.states a.steps a.last (get_or path k no_ref) ≡ x → depth_of_run a.states a.steps a.last (current path) ≡ y → ⊥
       apart x y lt one two = let e : x ≡ y = sym one ∙ ap (depth_of_run a.states a.steps a.last) same ∙ two in omega (arith, lt, e)
 

@@ -169,8 +169,10 @@ module _ (a : Lone) (weight : ℕ → ℕ) (c : ℕ) (heavy : IsWeight a weight)
       where
         l : Line
         l = line.Key (key.Entry path main (position_of (flag_at a (depth_of path)) x.bitmap))
+
         entries : length (entries_of (node a main)) ≤ 32
         entries = subst (λ n. length (entries_of n) ≤ 32) (sym x.branch) (few main x.bitmap x.entries x.branch)
+
         costs : (n : ℕ) → n ≤ 32 → ((n * (c + 2) + 2) + (5 + (c + 2))) + 1 ≤ 33 * (c + 2) + 8
         costs n le = let most = mul-le-mul_right (c + 2) le in omega (arith, most)
 
@@ -186,6 +188,7 @@ module _ (a : Lone) (weight : ℕ → ℕ) (c : ℕ) (heavy : IsWeight a weight)
             weaken a weight (Goes r g path) (33 * (c + 2) + 8 + 1) (33 * (c + 2) + 9) t (omega arith)
             (one a weight heavy (Goes r g path) (33 * (c + 2) + 8) t (Some g) (line.Key (key.Main path main)) m.stands tt (λ more.
             from_entry r g path main x.below x.generation (suc t) x.leads (at_entry r g path main x.below t m x.leads more) x.is e))
+
         by : Leading a (depth_of path) main ⊎ IsEnd a (depth_of path) main → W (Goes r g path) (33 * (c + 2) + 9) t
         by (inl x) = by_test x (g == x.generation) refl
         by (inr ends) = weaken a weight (Goes r g path) 0 (33 * (c + 2) + 9) t (omega arith) (here a weight (Goes r g path) t (inr (ends_here r g path main t m ends)))

@@ -20,14 +20,19 @@ module _ (a : Lone) where
     where
       bits : bitmap_of (node a main) ≡ x.bitmap
       bits = ap bitmap_of x.branch
+
       nodes : Branch y.bitmap y.entries ≡ Branch (bitmap_of (node a main)) (entries_from done)
       nodes = sym y.branch ∙ branch
+
       one : y.bitmap ≡ x.bitmap
       one = ap bitmap_of nodes ∙ bits
+
       two : y.entries.items ≡ done
       two = ap entries_of nodes ∙ take_all 32 done few
+
       place : get_or done (position_of (flag_at a depth) x.bitmap) no_ref ≡ next
       place = ap₂ (λ (es : List Ref) b. get_or es (position_of (flag_at a depth) b) no_ref) (sym two) (sym one) ∙ y.entry
+
       by : IsRenewed a g (get_or done (position_of (flag_at a depth) x.bitmap) no_ref) → IsOf a next g
       by (inl is) = subst (λ r. IsOf a r g) place is
       by (inr (k, v, is)) = absurd (no_single next h k v of (ap (node a) (sym place) ∙ is))

@@ -72,6 +72,7 @@ module _ (a : Lone) where
       where
         plain : (n : Node) → node_at (a.states t).heap r ≡ n → is_indirection n ≡ false → (m : Ref) × (n ≡ Indirection g m)
         plain n e kind = (m, sym e ∙ steps.node_found t r le used (ap is_indirection e ∙ kind) ∙ is)
+
         by : (n : Node) → node_at (a.states t).heap r ≡ n → (m : Ref) × (n ≡ Indirection g m)
         by (Indirection h w) e = let (x, now) = steps.link_found t r h w le used e in let same : h ≡ g = cc (now, is) in (w, ap (λ k. Indirection k w) same)
         by (Branch b es) e = plain (Branch b es) e refl
@@ -85,6 +86,7 @@ module _ (a : Lone) where
       where
         plain : (n : Node) → node_at (a.states t).heap r ≡ n → is_indirection n ≡ false → n ≡ Single k v
         plain n e kind = sym e ∙ steps.node_found t r le used (ap is_indirection e ∙ kind) ∙ is
+
         by : (n : Node) → node_at (a.states t).heap r ≡ n → n ≡ Single k v
         by (Indirection h w) e = let (x, now) = steps.link_found t r h w le used e in let wrong : true ≡ false = ap is_indirection (sym now ∙ is) in absurd (false≢true (sym wrong))
         by (Branch b es) e = plain (Branch b es) e refl

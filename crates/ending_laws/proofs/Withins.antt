@@ -61,6 +61,22 @@ module _ (a : Lone) (weight : ℕ → ℕ) where
   pays Q n m t cost then room =
       let (u, after, soon, q) = then (omega (arith, cost, room)) (omega (arith, cost, room)) in (u, omega (arith, after), omega (arith, soon, cost), q)
 
+  -- Within a budget, in which the weight now is already counted.
+  abbrev pub Comes : (ℕ → Type 0) → ℕ → ℕ → Type 0
+  Comes Q budget t = t + budget ≤ a.last → (u : ℕ) × (t ≤ u) × (u + weight u ≤ t + budget) × Q u
+
+  pub at_once : (Q : ℕ → Type 0) (budget t : ℕ) → weight t ≤ budget → Q t → Comes Q budget t
+  at_once Q budget t enough q room = (t, omega arith, omega (arith, enough), q)
+
+  pub comes_map : (P Q : ℕ → Type 0) (budget t : ℕ) → ((u : ℕ) → t ≤ u → u ≤ a.last → P u → Q u) → Comes P budget t → Comes Q budget t
+  comes_map P Q budget t follows comes room = let (u, after, soon, p) = comes room in (u, after, soon, follows u after (omega (arith, soon, room)) p)
+
+  pub within : (Q : ℕ → Type 0) (n t : ℕ) → Comes Q (n + weight t) t → W Q n t
+  within Q n t comes room = let (u, after, soon, q) = comes (omega (arith, room)) in (u, after, omega (arith, soon), q)
+
+  pub comes_of : (Q : ℕ → Type 0) (n budget t : ℕ) → n + weight t ≤ budget → W Q n t → Comes Q budget t
+  comes_of Q n budget t enough w room = let (u, after, soon, q) = w (omega (arith, enough, room)) in (u, after, omega (arith, soon, enough), q)
+
   -- a quiet step adds no weight
   pub lighter : IsWeight a weight → (t : ℕ) (g : Option ℕ) (l : Line) (s : Stands a t g l) → t < a.last → IsQuiet (line_action (a.states t) s.operation l) → weight (suc t) ≤ weight t
   lighter heavy t g l s more quiet =

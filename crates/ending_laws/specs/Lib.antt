@@ -2,5 +2,8 @@ pub mod Alone
 pub mod Stepping
 pub mod Machines
 pub mod Keys
+pub mod Weighing
+pub mod ReadEnds
+pub mod Stale
 pub mod Laws
 pub mod Bounds
