@@ -54,3 +54,6 @@ pub mod PassesEnd
 pub mod PassesAlong
 pub mod FreshTombs
 pub mod FreshEnds
+pub mod Fresh
+pub mod StaleLevels
+pub mod StalePass

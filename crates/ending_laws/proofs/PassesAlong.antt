@@ -41,7 +41,7 @@ module _ (a : Lone) (weight : ℕ → ℕ) (c : ℕ) (heavy : IsWeight a weight)
 
   -- ---- a level down
 
-  down_along : (Q : ℕ → Type 0) (n t g : ℕ) (path : List Ref) (main below : Ref) → Stands a t (Some g) (line.Key (key.Main path main)) → Leads a (depth_of path) main below → IsOf a below g →
+  pub down_along : (Q : ℕ → Type 0) (n t g : ℕ) (path : List Ref) (main below : Ref) → Stands a t (Some g) (line.Key (key.Main path main)) → Leads a (depth_of path) main below → IsOf a below g →
       (Keeps a t (suc (suc t)) → WordStays a t (suc (suc t)) → Stands a (suc (suc t)) (Some g) (going_down path below) → W Q n (suc (suc t))) → W Q (n + 1 + 1) t
   down_along Q n t g path main below s x of then =
       one a weight heavy Q (n + 1) t (Some g) (line.Key (key.Main path main)) s tt (λ more.

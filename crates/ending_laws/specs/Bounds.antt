@@ -16,9 +16,13 @@ cleaning_most c (suc n) = cleaning_most c n + (c + 10 + (n + 2) * (c + 2))
 abbrev pub tombs_most : ℕ → ℕ → ℕ
 tombs_most c n = cleaning_most c n + 31 * (c + 2) + bottom_most c
 
+-- from where ROOT gave the root
+abbrev pub rooted_most : ℕ → ℕ
+rooted_most c = 14 * (34 * (c + 2) + 10) + tombs_most c 13
+
 -- from a new try
 abbrev pub fresh_most : ℕ → ℕ
-fresh_most c = c + 3 + 14 * (34 * (c + 2) + 10) + tombs_most c 13
+fresh_most c = c + 3 + rooted_most c
 
 -- ---- a pass that was under way
 
@@ -28,4 +32,13 @@ level_most c = 34 * (c + 2) + 12
 
 -- from where its path ends to a new try
 abbrev pub stale_bottom_most : ℕ → ℕ
-stale_bottom_most c = 14 * (c + 12) + 33 * (c + 2) + 100
+stale_bottom_most c = 33 * c + 250
+
+-- from any line to a new try
+abbrev pub stale_most : ℕ → ℕ
+stale_most c = 32 * (c + 2) + 22 + 14 * level_most c + stale_bottom_most c
+
+-- ---- a call on one key
+
+abbrev pub key_most : ℕ → ℕ
+key_most c = stale_most c + fresh_most c
