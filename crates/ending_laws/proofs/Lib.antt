@@ -57,3 +57,4 @@ pub mod FreshEnds
 pub mod Fresh
 pub mod StaleLevels
 pub mod StalePass
+pub mod StaleKinds
