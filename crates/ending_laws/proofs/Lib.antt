@@ -64,3 +64,9 @@ pub mod RootsMachines
 pub mod CopiesLines
 pub mod CopiesFresh
 pub mod CopiesMade
+pub mod FreshTombs
+pub mod FreshEnds
+pub mod Fresh
+pub mod StaleLevels
+pub mod StalePass
+pub mod StaleKinds

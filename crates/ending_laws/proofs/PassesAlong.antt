@@ -20,7 +20,7 @@ use Rattle.ending_laws.specs.Alone.{Has, IsCurrent, IsPlain, IsWeight, Keeps, Lo
 use Rattle.ending_laws.specs.Keys.{Chain, Ended, IsBottom, IsOf, IsOnKey, Leads, PassAlong, flag_at}
 use Rattle.ending_laws.specs.Machines.{IsRead, IsRooted, Machines}
 use Rattle.ending_laws.specs.Stepping.{Stepping}
-use Rattle.ending_laws.proofs.PassesChains.{current_later, ended_later, one_main}
+use Rattle.ending_laws.proofs.PassesChains.{AtEnd, current_later, ended_later, one_main}
 use Rattle.ending_laws.proofs.PassesLines.{down_reads, goes_down, key_gives, key_holds_read, key_read, stands_as, to_entry}
 use Rattle.ending_laws.proofs.Withins.{bind, here, keeps_on, map, one, same_stays, stays_on, weaken}
 
@@ -41,7 +41,7 @@ module _ (a : Lone) (weight : ℕ → ℕ) (c : ℕ) (heavy : IsWeight a weight)
 
   -- ---- a level down
 
-  down_along : (Q : ℕ → Type 0) (n t g : ℕ) (path : List Ref) (main below : Ref) → Stands a t (Some g) (line.Key (key.Main path main)) → Leads a (depth_of path) main below → IsOf a below g →
+  pub down_along : (Q : ℕ → Type 0) (n t g : ℕ) (path : List Ref) (main below : Ref) → Stands a t (Some g) (line.Key (key.Main path main)) → Leads a (depth_of path) main below → IsOf a below g →
       (Keeps a t (suc (suc t)) → WordStays a t (suc (suc t)) → Stands a (suc (suc t)) (Some g) (going_down path below) → W Q n (suc (suc t))) → W Q (n + 1 + 1) t
   down_along Q n t g path main below s x of then =
       one a weight heavy Q (n + 1) t (Some g) (line.Key (key.Main path main)) s tt (λ more.
@@ -54,18 +54,12 @@ module _ (a : Lone) (weight : ℕ → ℕ) (c : ℕ) (heavy : IsWeight a weight)
 
   -- ---- along a path
 
-  -- at its end
-  pub record AtEnd (r : Ref) (g : ℕ) (path : List Ref) (main : Ref) (u : ℕ) : Type 0 where
-    pub stands : Stands a u (Some g) (line.Key (key.Main path main))
-    pub current_root : IsCurrent a u r (Some g)
-    pub ended : Ended a u r g path main
-
   module _ (r : Ref) (g : ℕ) (path : List Ref) (main : Ref) where
     -- from so many of its indirections
     abbrev From : List Ref → ℕ → Type 0
     From rest m =
         (first : List Ref) (t : ℕ) → path ≡ first ++ rest → 1 ≤ length first → Stands a t (Some g) (line.Key (key.Read first (reading (current first)))) → IsCurrent a t r (Some g) → Ended a t r g path main →
-        W (AtEnd r g path main) m t
+        W (AtEnd a r g path main) m t
 
     reads : (Q : ℕ → Type 0) (n t : ℕ) (first : List Ref) → Stands a t (Some g) (line.Key (key.Read first (reading (current first)))) → IsCurrent a t r (Some g) → Ended a t r g path main →
         ((u : ℕ) (m : Ref) → t ≤ u → Stands a u (Some g) (line.Key (key.Main first m)) → IsCurrent a u r (Some g) → Ended a u r g path main → Has a u (current first) m → W Q n u) → W Q (c + n) t
@@ -76,10 +70,10 @@ module _ (a : Lone) (weight : ℕ → ℕ) (c : ℕ) (heavy : IsWeight a weight)
     at_end : From [] c
     at_end first t e some s x ended =
         let whole : path ≡ first = e ∙ append-nil first in
-        weaken a weight (AtEnd r g path main) (c + 0) c t (omega arith)
-        (reads (AtEnd r g path main) 0 t first s x ended (λ u m after now root end has.
+        weaken a weight (AtEnd a r g path main) (c + 0) c t (omega arith)
+        (reads (AtEnd a r g path main) 0 t first s x ended (λ u m after now root end has.
         let same : m ≡ main = one_main a u (current path) m main (subst (λ p. Has a u (current p) m) (sym whole) has) end.has in
-        here a weight (AtEnd r g path main) u (record { stands = subst (λ n. Stands a u (Some g) (line.Key (key.Main path n))) same (subst (λ p. Stands a u (Some g) (line.Key (key.Main p m))) (sym whole) now); current_root = root; ended = end })))
+        here a weight (AtEnd a r g path main) u (record { stands = subst (λ n. Stands a u (Some g) (line.Key (key.Main path n))) same (subst (λ p. Stands a u (Some g) (line.Key (key.Main p m))) (sym whole) now); current_root = root; ended = end })))
 
     module _ (first : List Ref) (b : Ref) (rest : List Ref) (whole : path ≡ first ++ b ∷ rest) (some : 1 ≤ length first) where
       below_it : suc (depth_of first) < length path
@@ -101,11 +95,11 @@ module _ (a : Lone) (weight : ℕ → ℕ) (c : ℕ) (heavy : IsWeight a weight)
           (subst (λ x. Leads a (depth_of first) x b) same (subst (λ j. Leads a (depth_of first) n j) next leads), subst (λ i. IsOf a i g) next (chain.own (suc (depth_of first)) below_it))
 
       along_one : (n : ℕ) → From rest n → (t : ℕ) → Stands a t (Some g) (line.Key (key.Read first (reading (current first)))) → IsCurrent a t r (Some g) → Ended a t r g path main →
-          W (AtEnd r g path main) (c + (n + 1 + 1)) t
+          W (AtEnd a r g path main) (c + (n + 1 + 1)) t
       along_one n further t s x ended =
-          reads (AtEnd r g path main) (n + 1 + 1) t first s x ended (λ u m after now root end has.
+          reads (AtEnd a r g path main) (n + 1 + 1) t first s x ended (λ u m after now root end has.
           let (leads, of) = leads_there u m end.chain has in
-          down_along (AtEnd r g path main) n u g first m b now leads of (λ keeps stays below.
+          down_along (AtEnd a r g path main) n u g first m b now leads of (λ keeps stays below.
           further (first ++ b ∷ []) (suc (suc u)) (whole ∙ sym (append_assoc first (b ∷ []) rest)) (long (length-append first (b ∷ []))) (down_reads a (suc (suc u)) (Some g) first b below)
           (current_later a u (suc (suc u)) r (Some g) stays root) (ended_later a u (suc (suc u)) r g path main keeps end)))
         where
@@ -113,9 +107,9 @@ module _ (a : Lone) (weight : ℕ → ℕ) (c : ℕ) (heavy : IsWeight a weight)
           long e = omega (arith, e)
 
     along : (rest : List Ref) → From rest (length rest * (c + 2) + c)
-    along [] first t e some s x ended = weaken a weight (AtEnd r g path main) c (0 * (c + 2) + c) t (omega arith) (at_end first t e some s x ended)
+    along [] first t e some s x ended = weaken a weight (AtEnd a r g path main) c (0 * (c + 2) + c) t (omega arith) (at_end first t e some s x ended)
     along (b ∷ rest) first t e some s x ended =
-        weaken a weight (AtEnd r g path main) (c + ((length rest * (c + 2) + c) + 1 + 1)) (length (b ∷ rest) * (c + 2) + c) t (costs (length rest) (length (b ∷ rest)) refl)
+        weaken a weight (AtEnd a r g path main) (c + ((length rest * (c + 2) + c) + 1 + 1)) (length (b ∷ rest) * (c + 2) + c) t (costs (length rest) (length (b ∷ rest)) refl)
         (along_one first b rest e some (length rest * (c + 2) + c) (along rest) t s x ended)
       where
         costs : (n m : ℕ) → suc n ≡ m → c + ((n * (c + 2) + c) + 1 + 1) ≤ m * (c + 2) + c
@@ -135,11 +129,11 @@ module _ (a : Lone) (weight : ℕ → ℕ) (c : ℕ) (heavy : IsWeight a weight)
     starts = stands_as a u (Some (generation a rooted.root)) (Some g) (from_root a.own.call rooted.root) (going_down [] r) own_is (key_begins a.own.call on rooted.root ∙ ap (going_down []) root_is) rooted.stands
 
   by_path : (r : Ref) (g : ℕ) (path : List Ref) (main : Ref) (t : ℕ) (whole : List Ref) → path ≡ whole → Stands a t (Some g) (line.Key (key.Read (r ∷ []) (reading r))) → IsCurrent a t r (Some g) → Ended a t r g path main →
-      W (AtEnd r g path main) (length path * (c + 2)) t
+      W (AtEnd a r g path main) (length path * (c + 2)) t
   by_path r g path main t [] e s x ended = let long = ended.chain.long in let none = ap length e in absurd (omega (arith, long, none))
   by_path r g path main t (b ∷ rest) e s x ended =
       let first : b ≡ r = sym (ap (λ p. get_or p 0 no_ref) e) ∙ ended.chain.first in
-      weaken a weight (AtEnd r g path main) (length rest * (c + 2) + c) (length path * (c + 2)) t (costs (length rest) (length path) (ap length e))
+      weaken a weight (AtEnd a r g path main) (length rest * (c + 2) + c) (length path * (c + 2)) t (costs (length rest) (length path) (ap length e))
       (along r g path main rest (r ∷ []) t (e ∙ ap (λ i. i ∷ rest) first) (omega arith) s x ended)
     where
       costs : (n m : ℕ) → m ≡ suc n → n * (c + 2) + c ≤ m * (c + 2)
@@ -149,6 +143,6 @@ module _ (a : Lone) (weight : ℕ → ℕ) (c : ℕ) (heavy : IsWeight a weight)
   pass_along on path r main t g s x ended =
       bind a weight (λ u. IsRooted a weight c t u × IsPlain a u r) (λ u. (bottom : IsBottom a weight c r g path u) × (bottom.main ≡ main)) 1 (length path * (c + 2)) t (machines.roots_plain t (Some g) r s x.plain)
       (λ u after in_time (rooted, plain).
-      map a weight (AtEnd r g path main) (λ v. (bottom : IsBottom a weight c r g path v) × (bottom.main ≡ main)) (length path * (c + 2)) u
+      map a weight (AtEnd a r g path main) (λ v. (bottom : IsBottom a weight c r g path v) × (bottom.main ≡ main)) (length path * (c + 2)) u
       (λ v later soon end. (record { main = main; stands = end.stands; current_root = end.current_root; ended = end.ended }, refl))
       (by_path r g path main u path refl (starts on r g t u x rooted plain) (record { plain = plain; own = x.own }) (ended_later a t u r g path main rooted.keeps ended)))

@@ -1,5 +1,5 @@
 -- Key's paths: where they end, and what stays of them.
-use Rattle.std.proofs.Common.{◌≡◌, ℕ, suc, ◌+◌, ◌-◌, ◌<◌, ◌≤◌, ◌⊎◌, inl, inr, Bool, true, false, List, [], ◌∷◌, ◌++◌, length, get_or, Option, refl, sym, ap, ap₂, subst, ◌∙◌, arith}
+use Rattle.std.proofs.Common.{Some, ◌≡◌, ℕ, suc, ◌+◌, ◌-◌, ◌<◌, ◌≤◌, ◌⊎◌, inl, inr, Bool, true, false, List, [], ◌∷◌, ◌++◌, length, get_or, Option, refl, sym, ap, ap₂, subst, ◌∙◌, arith}
 use Rattle.std.proofs.lemmas.Bool.{cases_lt, false≢true}
 use Rattle.std.proofs.lemmas.List.{get_or-append_right, get_or_append_left, length-append}
 use Rattle.arrayvec.specs.ArrayVec.{ArrayVec}
@@ -8,7 +8,9 @@ use Rattle.slot_arena.specs.declared.nodes.Node.{Node}
 use Rattle.slot_arena.specs.declared.nodes.Node.TheVariants.{Indirection, Branch, Single, Tomb, List as Listed}
 use Rattle.slot_arena.specs.Heaps.{no_ref}
 use Rattle.nodes.specs.Levels.{has_flag}
+use Rattle.machine_model.specs.declared.finding.KeyLine.TheVariants as key
 use Rattle.machine_model.specs.declared.lines.Line.{Line}
+use Rattle.machine_model.specs.declared.lines.Line.TheVariants as line
 use Rattle.machine_model.specs.Paths.{current, depth_of}
 use Rattle.shape_laws.specs.Sites.{depth_of_run}
 use Rattle.shape_laws.specs.SitesAt.{way_of}
@@ -91,6 +93,12 @@ module _ (a : Lone) where
 
   pub ended_later : (t u : ℕ) (r : Ref) (g : ℕ) (path : List Ref) (main : Ref) → Keeps a t u → Ended a t r g path main → Ended a u r g path main
   ended_later t u r g path main keeps x = record { chain = chain_later t u r g path keeps x.chain; has = keeps (current path) main x.has; ends = x.ends }
+
+  -- a fresh pass at the end of the key's path
+  pub record AtEnd (r : Ref) (g : ℕ) (path : List Ref) (main : Ref) (u : ℕ) : Type 0 where
+    pub stands : Stands a u (Some g) (line.Key (key.Main path main))
+    pub current_root : IsCurrent a u r (Some g)
+    pub ended : Ended a u r g path main
 
   -- ---- from the root down
 
