@@ -17,10 +17,13 @@ pub mod Stepping
 pub mod StandsAt
 pub mod Weights
 pub mod ReadsWords
+pub mod NonePending
 pub mod ReadsStep
 pub mod ReadsLines
 pub mod ReadsFirst
 pub mod ReadsOn
+pub mod ReadsLicensed
+pub mod ReadsUnderWay
 pub mod Flat
 pub mod ReadEnds
 pub mod RenewsNodes
@@ -59,7 +62,10 @@ pub mod FineSums
 pub mod FailedOwners
 pub mod FineWeight
 pub mod FineSteps
+pub mod FinePays
+pub mod FineOwners
 pub mod Fine
+pub mod FineMachines
 pub mod RootsMachines
 pub mod CopiesLines
 pub mod CopiesFresh

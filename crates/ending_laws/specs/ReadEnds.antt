@@ -12,7 +12,7 @@ abbrev pub read_steps : ℕ
 read_steps = 9
 
 abbrev pub read_steps_left : ℕ
-read_steps_left = 14
+read_steps_left = 12
 
 module _ (a : Lone) where
   -- from its first line a READ gives the main node that stands there, decided
