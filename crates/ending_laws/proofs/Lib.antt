@@ -26,3 +26,5 @@ pub mod RootsMachines
 pub mod CopiesLines
 pub mod CopiesFresh
 pub mod CopiesMade
+pub mod CopiesCalls
+pub mod Copies
