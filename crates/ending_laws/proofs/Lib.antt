@@ -28,3 +28,6 @@ pub mod CopiesFresh
 pub mod CopiesMade
 pub mod CopiesCalls
 pub mod Copies
+pub mod ReadersLines
+pub mod ReadersCalls
+pub mod Readers

@@ -4,3 +4,4 @@ pub mod Machines
 pub mod Keys
 pub mod Weighing
 pub mod Copies
+pub mod Readers
