@@ -1,31 +1,20 @@
 -- A snapshot, freeze or clear in a try whose root is the handle's, where one actor alone takes steps: its offer comes to stand and is carried out, so it ends.
-use Rattle.std.proofs.Common.{◌≡◌, ℕ, suc, ◌+◌, ◌<◌, ◌≤◌, ◌==◌, ◌&&◌, ◌||◌, Bool, true, false, cond, Option, Some, None, refl, sym, ap, ◌∙◌, subst, eq-eqb, arith}
+use Rattle.std.proofs.Common.{◌≡◌, ℕ, suc, ◌+◌, ◌<◌, ◌≤◌, ◌==◌, true, Option, None, refl, ap, ◌∙◌, subst, eq-eqb, arith}
 use Rattle.std.proofs.lemmas.Bool.{and_from}
-use Rattle.history.specs.declared.calls.Call.{Call}
-use Rattle.history.specs.declared.calls.Call.TheVariants.{Clear, Snapshot}
-use Rattle.history.specs.declared.replies.Reply.TheVariants as reply
 use Rattle.slot_arena.specs.declared.refs.Ref.{Ref}
-use Rattle.slot_arena.specs.declared.nodes.Prev.TheVariants as over
-use Rattle.slot_arena.specs.Heaps.{next_ref}
-use Rattle.machine_model.specs.declared.actions.Action.TheVariants as act
-use Rattle.machine_model.specs.declared.copying.CopyLine.{CopyLine}
 use Rattle.machine_model.specs.declared.copying.CopyLine.TheVariants as copy
 use Rattle.machine_model.specs.declared.lines.Line.{Line}
 use Rattle.machine_model.specs.declared.lines.Line.TheVariants as line
-use Rattle.machine_model.specs.declared.operations.Operation.{Operation}
 use Rattle.machine_model.specs.declared.reading.After.{After}
 use Rattle.machine_model.specs.declared.reading.After.TheVariants.{Goes, Gives}
 use Rattle.machine_model.specs.declared.reading.ReadLine.{ReadLine}
 use Rattle.machine_model.specs.declared.reading.ReadLine.TheVariants as read
-use Rattle.machine_model.specs.declared.roots.CompleteLine.TheVariants as complete
 use Rattle.machine_model.specs.declared.roots.Descriptor.{Descriptor}
-use Rattle.machine_model.specs.declared.roots.Root.{Root}
-use Rattle.machine_model.specs.declared.roots.RootWord.{RootWord}
 use Rattle.machine_model.specs.declared.roots.RootWord.TheVariants.{Plain, Offer}
 use Rattle.machine_model.specs.Calls.{handle_of}
-use Rattle.machine_model.specs.Copying.{offering, after_given, after_successor, after_offer, copy_if_made, copy_after_made, copy_after_complete, copied_reply}
+use Rattle.machine_model.specs.Copying.{after_offer, copy_after_complete, copied_reply}
 use Rattle.machine_model.specs.Reading.{read_action, read_after, after_prev}
-use Rattle.machine_model.specs.States.{State, root_at, word_at}
+use Rattle.machine_model.specs.States.{word_at}
 use Rattle.machine_model.specs.Swapping.{is_plain, is_carried_out, stands_in, of_offer}
 use Rattle.deciding_laws.proofs.Words.{ReadTurn, Leaves}
 use Rattle.deciding_laws.proofs.GrownWords.{leaves_words}
@@ -33,7 +22,7 @@ use Rattle.deciding_laws.proofs.ReadTurns.{no_commit}
 use Rattle.ending_laws.specs.Alone.{Lone, Stands, Has, Keeps, IsPlain, word}
 use Rattle.ending_laws.specs.Machines.{HoldsRead, lead}
 use Rattle.ending_laws.specs.Stepping.{Stepping, LeavesWords}
-use Rattle.ending_laws.proofs.CopiesLines.{copying, copy_reads, completing_line, swapping_line, complete_reads}
+use Rattle.ending_laws.proofs.CopiesLines.{completing_line, swapping_line, complete_reads}
 use Rattle.ending_laws.proofs.RootsWords.{same_try, offered_on}
 use Rattle.ending_laws.proofs.SwapsCourse.{prev_leaves, main_leaves}
 use Rattle.ending_laws.proofs.SwapsFound.{handle_open}

@@ -1,17 +1,12 @@
 -- The lines of SNAP and CLEAR, where one actor alone takes steps: what each step leads to.
-use Rattle.std.proofs.Common.{◌≡◌, ℕ, suc, ◌+◌, ◌<◌, ◌≤◌, ◌==◌, ◌||◌, Bool, true, false, cond, Option, Some, None, refl, sym, ap, ◌∙◌, subst}
-use Rattle.history.specs.declared.calls.Call.{Call}
-use Rattle.history.specs.declared.calls.Call.TheVariants.{Snapshot}
+use Rattle.std.proofs.Common.{◌≡◌, refl, ap, ◌∙◌}
 use Rattle.slot_arena.specs.declared.refs.Ref.{Ref}
-use Rattle.slot_arena.specs.Heaps.{next_ref}
-use Rattle.machine_model.specs.declared.copying.CopyLine.{CopyLine}
 use Rattle.machine_model.specs.declared.copying.CopyLine.TheVariants as copy
 use Rattle.machine_model.specs.declared.lines.Line.{Line}
 use Rattle.machine_model.specs.declared.lines.Line.TheVariants as line
 use Rattle.machine_model.specs.declared.operations.Operation.{Operation}
 use Rattle.machine_model.specs.declared.reading.After.{After}
 use Rattle.machine_model.specs.declared.reading.After.TheVariants.{Goes, Gives}
-use Rattle.machine_model.specs.declared.reading.Read.{Read}
 use Rattle.machine_model.specs.declared.reading.ReadLine.{ReadLine}
 use Rattle.machine_model.specs.declared.roots.CompleteLine.TheVariants as complete
 use Rattle.machine_model.specs.declared.roots.Descriptor.{Descriptor}
@@ -20,7 +15,6 @@ use Rattle.machine_model.specs.Copying.{after_given, copy_after_read, copy_after
 use Rattle.machine_model.specs.Reading.{read_after, at_indirection}
 use Rattle.machine_model.specs.States.{State, word_at}
 use Rattle.machine_model.specs.Swapping.{after_reading, of_offer}
-use Rattle.ending_laws.specs.Alone.{Lone}
 use Rattle.ending_laws.specs.Machines.{HoldsRead, lead}
 
 -- what a READ's step comes to, by the call and the kind of the handle

@@ -76,3 +76,8 @@ pub mod Fresh
 pub mod StaleLevels
 pub mod StalePass
 pub mod StaleKinds
+pub mod CopiesCalls
+pub mod Copies
+pub mod ReadersLines
+pub mod ReadersCalls
+pub mod Readers

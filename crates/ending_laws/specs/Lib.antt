@@ -8,3 +8,4 @@ pub mod Stale
 pub mod Laws
 pub mod Copies
 pub mod Bounds
+pub mod Readers
