@@ -58,3 +58,4 @@ pub mod Fresh
 pub mod StaleLevels
 pub mod StalePass
 pub mod StaleKinds
+pub mod StaleLines
