@@ -1,14 +1,12 @@
 -- The flat weight, which counts offers alone, is such a weight: READ costs 7 with it.
-use Rattle.std.proofs.Common.{◌≡◌, ℕ, suc, ◌+◌, ◌<◌, ◌≤◌, refl, sym, ap, ◌∙◌, subst, arith}
+use Rattle.std.proofs.Common.{◌≡◌, ℕ, suc, ◌+◌, ◌≤◌, sym, ap, ◌∙◌, subst, arith}
 use Rattle.std.proofs.lemmas.Option.{same_Some}
-use Rattle.slot_arena.specs.declared.refs.Ref.{Ref}
 use Rattle.machine_model.specs.declared.actions.Action.{Action}
 use Rattle.machine_model.specs.declared.actions.Action.TheVariants as act
-use Rattle.machine_model.specs.declared.operations.Operation.{Operation}
 use Rattle.machine_model.specs.declared.roots.Descriptor.{Descriptor}
 use Rattle.machine_model.specs.declared.roots.RootWord.TheVariants.{Offer}
 use Rattle.machine_model.specs.Operations.{action_of, line_action}
-use Rattle.ending_laws.specs.Alone.{Lone, Stands, word, offer_weight}
+use Rattle.ending_laws.specs.Alone.{Lone, word, offer_weight}
 use Rattle.ending_laws.specs.Machines.{ReadsFirst, ReadsOn}
 use Rattle.ending_laws.specs.Stepping.{LeavesWords}
 use Rattle.ending_laws.specs.Weighing.{Acts, Weighing}

@@ -5,6 +5,9 @@ pub mod SwapsLines
 pub mod SwapsFound
 pub mod SwapsCourse
 pub mod SwapsDeciding
+pub mod RootsLines
+pub mod RootsPlain
+pub mod Roots
 pub mod SwapsEnds
 pub mod Swaps
 pub mod SteppingNext
@@ -59,3 +62,10 @@ pub mod StaleLevels
 pub mod StalePass
 pub mod StaleKinds
 pub mod StaleLines
+pub mod RootsMachines
+pub mod CopiesLines
+pub mod CopiesFresh
+pub mod CopiesMade
+pub mod CopiesCalls
+pub mod Copies
+pub mod EndsKeys

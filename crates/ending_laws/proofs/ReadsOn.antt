@@ -12,11 +12,10 @@ use Rattle.machine_model.specs.declared.roots.Descriptor.{Descriptor}
 use Rattle.machine_model.specs.declared.roots.RootWord.{RootWord}
 use Rattle.machine_model.specs.declared.roots.RootWord.TheVariants.{Plain, Offer}
 use Rattle.machine_model.specs.Reading.{verdict_by, is_licensed, is_pending, read_action, after_prev, after_ask, after_decide, after_restore}
-use Rattle.machine_model.specs.Swapping.{stands_in}
-use Rattle.machine_model.proofs.Grown.{main_word, prev_word}
+use Rattle.machine_model.proofs.Grown.{prev_word}
 use Rattle.deciding_laws.proofs.Known.{GrownStays, GrownChanges, Either}
 use Rattle.deciding_laws.proofs.Stood.{Stood}
-use Rattle.ending_laws.specs.Alone.{Lone, Stands, Within, IsPlain, IsQuiet, word}
+use Rattle.ending_laws.specs.Alone.{Lone, Stands, IsPlain, IsQuiet, word}
 use Rattle.ending_laws.specs.Machines.{HoldsRead, IsRead, WasRead, ReadsOn, lead}
 use Rattle.ending_laws.specs.Weighing.{Weighing, Sees}
 use Rattle.ending_laws.proofs.Withins.{Comes, at_once, comes_map, within, keeps_now, keeps_on, stays, stays_on}

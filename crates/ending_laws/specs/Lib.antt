@@ -7,3 +7,4 @@ pub mod ReadEnds
 pub mod Stale
 pub mod Laws
 pub mod Bounds
+pub mod Copies
