@@ -21,6 +21,8 @@ pub mod ReadsStep
 pub mod ReadsLines
 pub mod ReadsFirst
 pub mod ReadsOn
+pub mod ReadsLicensed
+pub mod ReadsUnderWay
 pub mod Flat
 pub mod ReadEnds
 pub mod RenewsNodes
@@ -69,3 +71,8 @@ pub mod CopiesMade
 pub mod CopiesCalls
 pub mod Copies
 pub mod EndsKeys
+pub mod FineSums
+pub mod FailedOwners
+pub mod FineWeight
+pub mod FineSteps
+pub mod Fine
