@@ -76,3 +76,4 @@ pub mod FailedOwners
 pub mod FineWeight
 pub mod FineSteps
 pub mod Fine
+pub mod EndsAll
