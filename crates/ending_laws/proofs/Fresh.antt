@@ -16,8 +16,9 @@ use Rattle.ending_laws.specs.Bounds.{fresh_most, rooted_most, tombs_most}
 use Rattle.ending_laws.specs.Keys.{IsBottom, IsOf, IsOnKey, PassEnds}
 use Rattle.ending_laws.specs.Machines.{IsRooted, Machines}
 use Rattle.ending_laws.specs.Stepping.{Stepping}
+use Rattle.ending_laws.proofs.ClimbsOn.{short_way}
 use Rattle.ending_laws.proofs.PassesAlong.{key_begins}
-use Rattle.ending_laws.proofs.PassesChains.{AtEnd, chain_root, way_short}
+use Rattle.ending_laws.proofs.PassesChains.{AtEnd, chain_root}
 use Rattle.ending_laws.proofs.Withins.{bind}
 
 module _ (a : Lone) (steps : Stepping a) where
@@ -51,7 +52,7 @@ module _ (a : Lone) (weight : ℕ → ℕ) (c : ℕ) (steps : Stepping a) (machi
       bind a weight (λ v. (to : List Ref) × IsBottom a weight c rooted.root (generation a rooted.root) to v) Never (14 * (34 * (c + 2) + 10)) (tombs_most c 13) u
       (passes (rooted.root ∷ []) rooted.root u (generation a rooted.root) now current_root (chain_root a u rooted.root (generation a rooted.root) (root_link a steps u (Some (generation a rooted.root)) rooted.root now)))
       (λ v after in_time (to, b).
-      tombs to rooted.root b.main v (generation a rooted.root) (way_short a v (Some (generation a rooted.root)) (line.Key (key.Main to b.main)) b.stands to refl)
+      tombs to rooted.root b.main v (generation a rooted.root) (short_way a v (Some (generation a rooted.root)) (line.Key (key.Main to b.main)) b.stands)
       (record { stands = b.stands; current_root = b.current_root; ended = b.ended }))
     where
       now : Stands a u (Some (generation a rooted.root)) (line.Key (key.Read (rooted.root ∷ []) (reading rooted.root)))

@@ -81,3 +81,6 @@ pub mod Copies
 pub mod ReadersLines
 pub mod ReadersCalls
 pub mod Readers
+pub mod StaleLines
+pub mod EndsKeys
+pub mod EndsAll
