@@ -11,11 +11,14 @@ use Rattle.machine_model.specs.declared.roots.Descriptor.{Descriptor}
 use Rattle.machine_model.specs.declared.roots.RootWord.{RootWord}
 use Rattle.machine_model.specs.declared.roots.RootWord.TheVariants.{Plain, Offer}
 use Rattle.machine_model.specs.Calls.{handle_of}
-use Rattle.machine_model.specs.States.{State, word_at, with_word, with_operation}
+use Rattle.machine_model.specs.States.{State, root_at, word_of, word_at, rewritten, with_word, with_operation}
 use Rattle.machine_model.specs.Orders.{committed_now}
 use Rattle.machine_model.specs.Acting.{acted, commits_after, entered, operation_after, carried_out, new_root_taken, if_changed}
 use Rattle.machine_model.specs.Operations.{action_of, line_action}
-use Rattle.machine_model.specs.Swapping.{is_try, stands_in}
+use Rattle.machine_model.specs.Swapping.{is_plain, is_try, stands_in}
+use Rattle.machine_model.specs.declared.roots.Root.{Root}
+use Rattle.machine_model.proofs.Found.{found_within}
+use Rattle.std.proofs.lemmas.List.{get_or-set_same}
 use Rattle.deciding_laws.proofs.Finals.{from_time}
 use Rattle.generation_laws.specs.Laws.{settles}
 use Rattle.generation_laws.proofs.CopyLines.{IsOwn, LineFits}
@@ -49,13 +52,18 @@ module _ (st : State) (h : ℕ) where
   plain_stays (act.MakeRoot main) free r e = taken_word main _ ∙ e
   plain_stays action free r e = e
 
+-- the word of an open handle is written
+open_written : (st : State) (h : ℕ) (x : RootWord) (root : Root) → root_at st h ≡ Some root → word_at (with_word st h x) h ≡ x
+open_written st h x root e =
+    ap word_of (get_or-set_same st.roots h (rewritten x (root_at st h)) None (found_within st.roots h root e)) ∙ ap (λ o. word_of (rewritten x o)) e
+
 -- the state on which an operation's action acts
 abbrev moved : State → ℕ → Operation → State
 moved state actor operation =
     let committed = committed_now state operation in
     with_operation (record state { commits = commits_after state committed; places = state.places ++ entered state committed }) actor (Some (operation_after state operation))
 
-same_try : (d : Descriptor) → is_try d d ≡ true
+pub same_try : (d : Descriptor) → is_try d d ≡ true
 same_try d = and_from _ _ (eq-eqb d.operation d.operation refl) (eq-eqb d.attempt d.attempt refl)
 
 -- ---- at an own step
@@ -102,6 +110,13 @@ module _ (a : Lone) where
         by_word : (x : RootWord) → word a (suc t) ≡ x → (r : Ref) × IsPlain a (suc t) r
         by_word (Plain r) e = (r, e)
         by_word (Offer d') e = absurd (gone d' (from d' e))
+
+    -- an offer comes to stand where its root does
+    pub offered_on : (root : Root) → root_at (a.states t) handle ≡ Some root → (d : Descriptor) → action ≡ act.Offer d → IsPlain a t d.root → word a (suc t) ≡ Offer d
+    offered_on root is d offers plain =
+        let there : is_plain (word_at st handle) d.root ≡ true = ap (λ x. is_plain x d.root) plain ∙ eq-eqb d.root d.root refl in
+        word_after ∙ ap (λ x. word_at (acted st handle x) handle) offers ∙ ap (λ b. word_at (if_changed b (with_word st handle (Offer d)) st) handle) there
+        ∙ open_written st handle (Offer d) root is
 
   -- ---- over many steps
 

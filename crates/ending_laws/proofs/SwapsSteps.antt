@@ -71,11 +71,14 @@ module _ (a : Lone) where
     pub read_no_end : IsNoEnd (wrap l)
     read_no_end = reads_no_end (wrap l) _ (holds.reads l)
 
+    pub read_acts : ActsOn a.states t (read_action i l)
+    read_acts = subst (ActsOn a.states t) acts_so (facts t g (wrap l) s h read_no_end).acts
+
     -- what it finds and does
     pub reads : ReadTurn w t i l (read_after (a.states t).heap a.own.access (word a t) i l)
     reads =
         let f = facts t g (wrap l) s h read_no_end in
-        read_turn a.limits a.states a.last known t h i l a.own.access (word a t) (subst (ActsOn a.states t) acts_so f.acts)
+        read_turn a.limits a.states a.last known t h i l a.own.access (word a t) read_acts
         (f.commits ∙ ap (λ x. commits_after (a.states t) (committed_in (a.states t) x)) (holds.reads l))
         (λ m p is r plain c closed. absurd (none-some c closed))
 

@@ -4,3 +4,8 @@ pub mod Machines
 pub mod Keys
 pub mod Weighing
 pub mod ReadEnds
+pub mod Stale
+pub mod Laws
+pub mod Copies
+pub mod Bounds
+pub mod Readers
