@@ -42,7 +42,7 @@ child_leads : (path : List Ref) (main : Ref) (done : List Ref) (i : Ref) (x : Af
 child_leads path main done i (Goes l) = refl
 child_leads path main done i (Gives m) = refl
 
-child_reads : (own : Operation) (path : List Ref) (main : Ref) (done : List Ref) (i : Ref) → HoldsRead own (child_read path main done i) (child_tomb path main done) i
+pub child_reads : (own : Operation) (path : List Ref) (main : Ref) (done : List Ref) (i : Ref) → HoldsRead own (child_read path main done i) (child_tomb path main done) i
 child_reads own path main done i =
     holds_read own (child_read path main done i) (child_tomb path main done) i (λ l. refl) (λ state operation l. refl)
     (λ state operation l. child_leads path main done i (read_after state.heap operation.access (word_at state (handle_of operation.call)) i l)) (λ state operation l. refl)

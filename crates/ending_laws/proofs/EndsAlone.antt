@@ -31,7 +31,7 @@ NoneIsLong = (a : Lone) → IsOnKeyOrRoot a.own.call → a.start + most_steps_al
 
 -- ---- keys of steps that begin nothing
 
-all_fit : (steps : List Step) (actor n : ℕ) → KeysFit steps → KeysFit (steps ++ replicate n (step.Go actor))
+pub all_fit : (steps : List Step) (actor n : ℕ) → KeysFit steps → KeysFit (steps ++ replicate n (step.Go actor))
 all_fit steps actor n fit = All-append FitsKey steps (replicate n (step.Go actor)) fit (All-replicate FitsKey n (step.Go actor) tt)
 
 module _ (limits : Limits) (steps : List Step) (actor : ℕ) (operation : Operation) (r : RunsAlone limits steps actor operation) where
@@ -93,7 +93,7 @@ module _ (limits : Limits) (steps : List Step) (actor : ℕ) (operation : Operat
       less : (n s t : ℕ) → n < most_steps_alone → s + most_steps_alone ≤ step_limit → t ≡ s + n → t < step_limit
       less n s t lt left counted = omega (arith, lt, left, counted)
 
-  goes_or_ended : (n : ℕ) → n ≤ most_steps_alone → StillRuns n ⊎ EndedBefore n
+  pub goes_or_ended : (n : ℕ) → n ≤ most_steps_alone → StillRuns n ⊎ EndedBefore n
   goes_or_ended zero le = inl at_first
   goes_or_ended (suc n) le = by (goes_or_ended n (omega (arith, le)))
     where
@@ -105,18 +105,18 @@ module _ (limits : Limits) (steps : List Step) (actor : ℕ) (operation : Operat
 
   -- ---- the run in which it never ends
 
-  taken_by : (k : ℕ) → GoesOnAt limits steps actor k → is_taken_step (next (after k) (step.Go actor)) ≡ true
+  pub taken_by : (k : ℕ) → GoesOnAt limits steps actor k → is_taken_step (next (after k) (step.Go actor)) ≡ true
   taken_by k (kind, e) = ap is_taken_step e
 
   module _ (n : ℕ) (still : StillRuns n) where
-    abbrev each : (k : ℕ) → k < n → is_taken_step (next (after k) (step.Go actor)) ≡ true
+    abbrev pub each : (k : ℕ) → k < n → is_taken_step (next (after k) (step.Go actor)) ≡ true
     each k lt = taken_by k (still.goes k lt)
 
-    abbrev full : List Step
+    abbrev pub full : List Step
     full = steps ++ replicate n (step.Go actor)
 
     -- the state before a step from the start on
-    at_time : (t : ℕ) → last_of limits steps ≤ t → t ≤ last_of limits full → (o : Operation) × (operation_of (states_of limits full t) actor ≡ Some o)
+    pub at_time : (t : ℕ) → last_of limits steps ≤ t → t ≤ last_of limits full → (o : Operation) × (operation_of (states_of limits full t) actor ≡ Some o)
     at_time t from until =
         let k = t - last_of limits steps in
         let place : last_of limits steps + k ≡ t = omega (arith, from) in
@@ -124,13 +124,13 @@ module _ (limits : Limits) (steps : List Step) (actor : ℕ) (operation : Operat
         let (o, runs, same) = still.found k low in
         (o, ap (λ u. operation_of (states_of limits full u) actor) (sym place) ∙ ap (λ (x : State). operation_of x actor) (state_at limits steps actor n each k low) ∙ runs)
 
-    begins_there : operation_of (states_of limits full (last_of limits steps)) actor ≡ Some operation
+    pub begins_there : operation_of (states_of limits full (last_of limits steps)) actor ≡ Some operation
     begins_there =
         let place : last_of limits steps ≡ last_of limits steps + 0 = omega arith in
         ap (λ u. operation_of (states_of limits full u) actor) place ∙ ap (λ (x : State). operation_of x actor) (state_at limits steps actor n each 0 (omega arith))
         ∙ ap (λ (x : State). operation_of x actor) (none_more limits steps actor) ∙ r.runs
 
-    pub lone : Lone
+    abbrev pub lone : Lone
     lone = record {
       limits = limits;
       states = states_of limits full;

@@ -84,3 +84,5 @@ pub mod Readers
 pub mod StaleLines
 pub mod EndsKeys
 pub mod EndsAll
+pub mod ReadHolds
+pub mod AloneReads

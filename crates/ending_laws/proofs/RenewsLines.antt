@@ -43,7 +43,7 @@ entry_leads : (path : List Ref) (main : Ref) (done : List Ref) (i : Ref) (x : Af
 entry_leads path main done i (Goes l) = refl
 entry_leads path main done i (Gives m) = refl
 
-entry_reads : (own : Operation) (path : List Ref) (main : Ref) (done : List Ref) (i : Ref) → HoldsRead own (entry_read path main done i) (entry_link path main done) i
+pub entry_reads : (own : Operation) (path : List Ref) (main : Ref) (done : List Ref) (i : Ref) → HoldsRead own (entry_read path main done i) (entry_link path main done) i
 entry_reads own path main done i =
     holds_read own (entry_read path main done i) (entry_link path main done) i (λ l. refl) (λ state operation l. refl)
     (λ state operation l. entry_leads path main done i (read_after state.heap operation.access (word_at state (handle_of operation.call)) i l)) (λ state operation l. refl)

@@ -43,7 +43,7 @@ completing_goes : (state : State) (operation : Operation) (c : Complete) → (g 
     given_root state (root_after state.heap operation.access (word_at state (handle_of operation.call)) (root.Completing c)) g ≡ g
 completing_goes state operation c g = grind arith
 
-first_holds : (own : Operation) → HoldsRoot own (λ l. line.Root l) (λ state operation r. from_root operation.call r)
+pub first_holds : (own : Operation) → HoldsRoot own (λ l. line.Root l) (λ state operation r. from_root operation.call r)
 first_holds own = record {
   reads = λ l. refl;
   acts = λ state operation l. refl;
@@ -62,7 +62,7 @@ first_holds own = record {
 abbrev climbs_on : Climb → State → Operation → Ref → Line
 climbs_on x state operation r = cond (is_start operation (generation_at state.heap r)) (climbing operation x) (climbed operation x.former)
 
-climb_holds : (own : Operation) (x : Climb) → HoldsRoot own (λ l. line.Climb (climb.Root x l)) (climbs_on x)
+pub climb_holds : (own : Operation) (x : Climb) → HoldsRoot own (λ l. line.Climb (climb.Root x l)) (climbs_on x)
 climb_holds own x = record {
   reads = λ l. refl;
   acts = λ state operation l. refl;
