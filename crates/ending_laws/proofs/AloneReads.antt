@@ -1,8 +1,7 @@
 -- A READ of an operation whose actor alone takes steps is over within so many of them.
-use Rattle.std.proofs.Common.{◌≡◌, ℕ, suc, ◌+◌, ◌-◌, ◌<◌, ◌≤◌, ◌⊎◌, inl, inr, List, Option, Some, refl, sym, ap, ◌∙◌, subst, arith}
+use Rattle.std.proofs.Common.{◌≡◌, ℕ, suc, ◌+◌, ◌-◌, ◌≤◌, ◌⊎◌, inl, inr, List, Some, refl, sym, ap, ◌∙◌, subst, arith}
 use Rattle.std.proofs.lemmas.Option.{none-some, same_Some}
 use Rattle.slot_arena.specs.declared.refs.Ref.{Ref}
-use Rattle.machine_model.specs.declared.lines.Line.{Line}
 use Rattle.machine_model.specs.declared.operations.Operation.{Operation}
 use Rattle.machine_model.specs.declared.reading.Read.{Read}
 use Rattle.machine_model.specs.declared.reading.ReadLine.TheVariants as read
@@ -10,7 +9,7 @@ use Rattle.machine_model.specs.declared.steps.Limits.{Limits}
 use Rattle.machine_model.specs.declared.steps.Step.{Step}
 use Rattle.machine_model.specs.Operations.{read_of}
 use Rattle.machine_model.specs.States.{State, operation_of}
-use Rattle.machine_model.proofs.Times.{last_of, states_of}
+use Rattle.machine_model.proofs.Times.{last_of}
 use Rattle.ending_laws.specs.Alone.{Lone, Stands}
 use Rattle.ending_laws.specs.Laws.{RunsAlone, alone_after}
 use Rattle.ending_laws.specs.ReadLaws.{IsOutOfRead, AloneReadEnds, AloneReadGoesToItsEnd}

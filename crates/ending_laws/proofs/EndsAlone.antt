@@ -148,7 +148,6 @@ module _ (limits : Limits) (steps : List Step) (actor : ℕ) (operation : Operat
     }
 
     too_long : NoneIsLong → most_steps_alone ≤ n → ⊥
-    unfolding lone
     too_long short high = short lone r.call (omega (arith, high, last_all limits steps actor n each))
 
   pub it_ends : NoneIsLong → EndedBefore most_steps_alone
