@@ -1,0 +1,12 @@
+pub mod Alone
+pub mod Stepping
+pub mod Machines
+pub mod Keys
+pub mod Weighing
+pub mod ReadEnds
+pub mod Stale
+pub mod Laws
+pub mod Copies
+pub mod Bounds
+pub mod Readers
+pub mod ReadLaws

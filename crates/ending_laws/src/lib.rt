@@ -1,0 +1,2 @@
+//! An operation that alone takes steps ends.
+#![tactic(auto)]
