@@ -18,7 +18,7 @@ use Rattle.ending_laws.proofs.ReadsOn.{reads_on}
 
 module _ (a : Lone) where
   -- the line on which it stands does this
-  line_acts : (t : ℕ) (action : Action) (acts : Acts a t action) → (some : StandsSome a t) → line_action (a.states t) some.stands.operation some.line ≡ action
+  pub line_acts : (t : ℕ) (action : Action) (acts : Acts a t action) → (some : StandsSome a t) → line_action (a.states t) some.stands.operation some.line ≡ action
   line_acts t action acts some =
       let same : some.stands.operation ≡ acts.operation = same_Some _ _ (sym some.stands.runs ∙ acts.runs) in
       ap (line_action (a.states t) some.stands.operation) (sym some.stands.line) ∙ ap (action_of (a.states t)) same ∙ acts.is
@@ -26,14 +26,14 @@ module _ (a : Lone) where
   standing : (t : ℕ) (action : Action) → Acts a t action → StandsSome a t
   standing t action acts = let more = acts.more in stands_at a t acts.since (omega (arith, more))
 
-  same_weight : (t : ℕ) (action : Action) → Acts a t action → LeavesWords action → flat a (suc t) ≤ flat a t
+  pub same_weight : (t : ℕ) (action : Action) → Acts a t action → LeavesWords action → flat a (suc t) ≤ flat a t
   same_weight t action acts leaves =
       let some = standing t action acts in
       let e = ap offer_weight (words a t some.generation some.line some.stands acts.more (goes_on a t some.generation some.line some.stands acts.more)
       (subst LeavesWords (sym (line_acts t action acts some)) leaves)) in
       omega (arith, e)
 
-  aborts : (t : ℕ) (offer : Descriptor) → Acts a t (act.Abort offer) → word a t ≡ Offer offer → flat a (suc t) + 2 ≤ flat a t
+  pub aborts : (t : ℕ) (offer : Descriptor) → Acts a t (act.Abort offer) → word a t ≡ Offer offer → flat a (suc t) + 2 ≤ flat a t
   aborts t offer acts there =
       let some = standing t (act.Abort offer) acts in
       let gone = taken_back a t some.generation some.line some.stands acts.more (goes_on a t some.generation some.line some.stands acts.more) offer

@@ -92,11 +92,11 @@ module _ (a : Lone) (steps : Stepping a) (weight : ℕ → ℕ) (pending failed 
 
         by : (b : Bool) → t < a.last → Publishes a why i replaced fresh steps t g b → C Q (4 + weight t) (suc t)
         by true h p = step_on Q (3 + weight t) (4 + weight t) (suc t) (omega arith) (λ h'.
-          let x = finds_pending a steps why i replaced fresh t g (suc t) h' p.stands (published s p) in
-          let more = weighing.publish t i replaced fresh (acts_on t swap.Publish s h) in
-          let less = quiet_on (suc t) (swap.Deciding (read.Prev fresh)) p.stands h' tt in
-          comes_as (Done r) Q (suc (suc (suc (weight t)))) (3 + weight t) (suc (suc t)) (omega arith) (λ v q. q.0)
-          (succeeds a steps weight pending failed weighing c why i replaced fresh t g r (weight t) (suc (suc t)) x.stands x.holds (x.holds.word r current.plain) same (omega (arith, more, less))))
+            let x = finds_pending a steps why i replaced fresh t g (suc t) h' p.stands (published s p) in
+            let more = weighing.publish t i replaced fresh (acts_on t swap.Publish s h) in
+            let less = quiet_on (suc t) (swap.Deciding (read.Prev fresh)) p.stands h' tt in
+            comes_as (Done r) Q (suc (suc (suc (weight t)))) (3 + weight t) (suc (suc t)) (omega arith) (λ v q. q.0)
+            (succeeds a steps weight pending failed weighing c why i replaced fresh t g r (weight t) (suc (suc t)) x.stands x.holds (x.holds.word r current.plain) same (omega (arith, more, less))))
         by false h p = absurd (stood_other s p has)
 
     -- ---- in any case
@@ -138,9 +138,9 @@ module _ (a : Lone) (steps : Stepping a) (weight : ℕ → ℕ) (pending failed 
     by_word : At swap.Publish t → (u : ℕ) → At (swap.Deciding (read.AskRoot fresh replaced)) u → Undecided u → weight u ≤ weight t + pending → (x : RootWord) → word a u ≡ x → C End (8 + weight t) u
     by_word s u at holds enough (Plain r) is = comes_as End End (6 + weight t) (8 + weight t) u (omega arith) (λ v q. q) (asked s u at holds r is enough)
     by_word s u at holds enough (Offer d) is = step_on End (7 + weight t) (8 + weight t) u (omega arith) (λ h.
-      let (x, still) = asks_offer a steps why i replaced fresh t g u h at holds d is in
-      let less = quiet_on u (swap.Deciding (read.AskRoot fresh replaced)) at h tt in
-      step_on End (6 + weight t) (7 + weight t) (suc u) (omega arith) (λ h'.
+        let (x, still) = asks_offer a steps why i replaced fresh t g u h at holds d is in
+        let less = quiet_on u (swap.Deciding (read.AskRoot fresh replaced)) at h tt in
+        step_on End (6 + weight t) (7 + weight t) (suc u) (omega arith) (λ h'.
         let (y, (r, plain)) = takes_back a steps why i replaced fresh t g (suc u) h' d x.stands x.holds still in
         let lesser = weighing.abort (suc u) d (acts_on (suc u) (swap.Deciding (read.Abort fresh replaced d)) x.stands h') still in
         asked s (suc (suc u)) y.stands y.holds r plain (omega (arith, enough, less, lesser))))
@@ -150,10 +150,10 @@ module _ (a : Lone) (steps : Stepping a) (weight : ℕ → ℕ) (pending failed 
       where
         by : (b : Bool) → t < a.last → Publishes a why i replaced fresh steps t g b → C End (9 + weight t) (suc t)
         by true h p = step_on End (8 + weight t) (9 + weight t) (suc t) (omega arith) (λ h'.
-          let x = finds_pending a steps why i replaced fresh t g (suc t) h' p.stands (published s p) in
-          let more = weighing.publish t i replaced fresh (acts_on t swap.Publish s h) in
-          let less = quiet_on (suc t) (swap.Deciding (read.Prev fresh)) p.stands h' tt in
-          by_word s (suc (suc t)) x.stands x.holds (omega (arith, more, less)) (word a (suc (suc t))) refl)
+            let x = finds_pending a steps why i replaced fresh t g (suc t) h' p.stands (published s p) in
+            let more = weighing.publish t i replaced fresh (acts_on t swap.Publish s h) in
+            let less = quiet_on (suc t) (swap.Deciding (read.Prev fresh)) p.stands h' tt in
+            by_word s (suc (suc t)) x.stands x.holds (omega (arith, more, less)) (word a (suc (suc t))) refl)
         by false h p =
             let same = weighing.published t i replaced fresh (acts_on t swap.Publish s h) (λ is. eqb-false (main_at (a.states t).heap i) replaced p.test (p.main ∙ is)) in
             at_once a weight End (9 + weight t) (suc t) (omega (arith, same)) (record {
@@ -171,13 +171,13 @@ module _ (a : Lone) (steps : Stepping a) (weight : ℕ → ℕ) (pending failed 
 
     over_on : (v u : ℕ) → Keeps a v u → WordStays a v u → At swap.Check u → W (Over v) 1 u
     over_on v u keeps stays s = within a weight (Over v) 1 u (step_on (Over v) (weight u) (1 + weight u) u (omega arith) (λ h.
-      let x = checks a why i replaced fresh steps u g s h (prev_word a.states u fresh) refl in
-      at_once a weight (Over v) (weight u) (suc u) (quiet_on u swap.Check s h tt) (record {
-        done = is_decided (prev_word a.states u fresh);
-        stands = x.stands;
-        keeps = keeps_on a v u (suc u) keeps (keeps_left a u x.leaves);
-        word = stays_on a v u (suc u) stays (same_stays a u (suc u) x.word);
-      })))
+        let x = checks a why i replaced fresh steps u g s h (prev_word a.states u fresh) refl in
+        at_once a weight (Over v) (weight u) (suc u) (quiet_on u swap.Check s h tt) (record {
+          done = is_decided (prev_word a.states u fresh);
+          stands = x.stands;
+          keeps = keeps_on a v u (suc u) keeps (keeps_left a u x.leaves);
+          word = stays_on a v u (suc u) stays (same_stays a u (suc u) x.word);
+        })))
 
     swaps_on_from : ReadsOn a weight c → (x : SwapLine) → At x t → (x ≡ swap.Publish → ⊥) → W (Over t) (c + 7) t
     swaps_on_from reads_on swap.Publish s behind = absurd (behind refl)

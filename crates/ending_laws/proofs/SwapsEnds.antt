@@ -68,75 +68,78 @@ module _ (a : Lone) (steps : Stepping a) (weight : ℕ → ℕ) (pending failed 
   module _ (r : Ref) (B : ℕ) where
     sees_success : (u : ℕ) → At swap.Check u → Held u over.None → IsPlain a u r → weight u ≤ B → C (Succeeds r) (suc B) u
     sees_success u s holds plain enough = spends (Succeeds r) B u (λ h.
-      let x = checks a why i replaced fresh steps u g s h over.None holds.prev in
-      let less = quiet_so u swap.Check s h tt in
-      at_once a weight (Succeeds r) B (suc u) (omega (arith, enough, less)) (record {
-        stands = x.stands;
-        has = keeps_left a u x.leaves i fresh (record { made = holds.made; main = holds.main; decided = holds.prev });
-        keeps = λ j m other has. keeps_left a u x.leaves j m (holds.keeps j m other has);
-        word = stays_on a t u (suc u) holds.word (same_stays a u (suc u) x.word);
-      }, same_stays a u (suc u) x.word r plain))
+        let x = checks a why i replaced fresh steps u g s h over.None holds.prev in
+        let less = quiet_so u swap.Check s h tt in
+        at_once a weight (Succeeds r) B (suc u) (omega (arith, enough, less)) (
+          record {
+            stands = x.stands;
+            has = keeps_left a u x.leaves i fresh (record { made = holds.made; main = holds.main; decided = holds.prev });
+            keeps = λ j m other has. keeps_left a u x.leaves j m (holds.keeps j m other has);
+            word = stays_on a t u (suc u) holds.word (same_stays a u (suc u) x.word);
+          },
+          same_stays a u (suc u) x.word r plain,
+        ))
 
     commits_so : (u : ℕ) → At (swap.Deciding (read.Decide fresh replaced (Some (generation a r)))) u → Held u (over.Pending replaced) → IsPlain a u r → generation a r ≡ generation a i →
         weight u ≤ B + pending → C (Succeeds r) (suc (suc B)) u
     commits_so u s holds plain same enough = spends (Succeeds r) (suc B) u (λ h.
-      let y = commits a steps why i replaced fresh t g u h r s holds same in
-      let less = weighing.commit u i fresh replaced (Some (generation a r)) (acts_so u _ s h) (sees u (over.Pending replaced) holds) (sees (suc u) over.None y.holds) in
-      sees_success (suc u) y.stands y.holds (y.word r plain) (omega (arith, enough, less)))
+        let y = commits a steps why i replaced fresh t g u h r s holds same in
+        let less = weighing.commit u i fresh replaced (Some (generation a r)) (acts_so u _ s h) (sees u (over.Pending replaced) holds) (sees (suc u) over.None y.holds) in
+        sees_success (suc u) y.stands y.holds (y.word r plain) (omega (arith, enough, less)))
 
     pub succeeds : (u : ℕ) → At (swap.Deciding (read.AskRoot fresh replaced)) u → Held u (over.Pending replaced) → IsPlain a u r → generation a r ≡ generation a i → weight u ≤ B + pending →
         C (Succeeds r) (suc (suc (suc B))) u
     succeeds u s holds plain same enough = spends (Succeeds r) (suc (suc B)) u (λ h.
-      let (x, still) = asks_plain a steps why i replaced fresh t g u h s holds r plain in
-      let less = quiet_so u _ s h tt in
-      commits_so (suc u) x.stands x.holds still same (omega (arith, enough, less)))
+        let (x, still) = asks_plain a steps why i replaced fresh t g u h s holds r plain in
+        let less = quiet_so u _ s h tt in
+        commits_so (suc u) x.stands x.holds still same (omega (arith, enough, less)))
 
     -- ---- it fails
 
     module _ (other : g ≡ Some (generation a r) → ⊥) where
       sees_failure : (u : ℕ) → At swap.Check u → Restored a i replaced fresh t u → IsPlain a u r → weight u ≤ B → C Fails (suc B) u
       sees_failure u s back plain enough = spends Fails B u (λ h.
-        let x = checks a why i replaced fresh steps u g s h (over.Failed replaced) back.prev in
-        let less = quiet_so u swap.Check s h tt in
-        at_once a weight Fails B (suc u) (omega (arith, enough, less)) (record {
-          stands = x.stands;
-          keeps = λ j m apart has. keeps_left a u x.leaves j m (back.keeps j m apart has);
-          word = stays_on a t u (suc u) back.word (same_stays a u (suc u) x.word);
-          root = r;
-          plain = same_stays a u (suc u) x.word r plain;
-          other = other;
-        }))
+          let x = checks a why i replaced fresh steps u g s h (over.Failed replaced) back.prev in
+          let less = quiet_so u swap.Check s h tt in
+          at_once a weight Fails B (suc u) (omega (arith, enough, less)) (record {
+            stands = x.stands;
+            keeps = λ j m apart has. keeps_left a u x.leaves j m (back.keeps j m apart has);
+            word = stays_on a t u (suc u) back.word (same_stays a u (suc u) x.word);
+            root = r;
+            plain = same_stays a u (suc u) x.word r plain;
+            other = other;
+          }))
 
       restores_so : (u : ℕ) → At (swap.Deciding (read.Restore fresh replaced)) u → Held u (over.Failed replaced) → IsPlain a u r → weight u ≤ B + failed → C Fails (suc (suc B)) u
       restores_so u s holds plain enough = spends Fails (suc B) u (λ h.
-        let p = puts_back a steps why i replaced fresh t g u h s holds in
-        let less = weighing.restore u i fresh replaced (acts_so u _ s h) (sees u (over.Failed replaced) holds) p.3 in
-        sees_failure (suc u) p.0 p.1 (p.2 r plain) (omega (arith, enough, less)))
+          let p = puts_back a steps why i replaced fresh t g u h s holds in
+          let less = weighing.restore u i fresh replaced (acts_so u _ s h) (sees u (over.Failed replaced) holds) p.3 in
+          sees_failure (suc u) p.0 p.1 (p.2 r plain) (omega (arith, enough, less)))
 
       reads_failed : (u : ℕ) → At (swap.Deciding (read.Prev fresh)) u → Held u (over.Failed replaced) → IsPlain a u r → weight u ≤ B + failed → C Fails (suc (suc (suc B))) u
       reads_failed u s holds plain enough = spends Fails (suc (suc B)) u (λ h.
-        let q = finds_failed a steps why i replaced fresh t g u h s holds in
-        let less = quiet_so u _ s h tt in
-        restores_so (suc u) q.stands q.holds (q.word r plain) (omega (arith, enough, less)))
+          let q = finds_failed a steps why i replaced fresh t g u h s holds in
+          let less = quiet_so u _ s h tt in
+          restores_so (suc u) q.stands q.holds (q.word r plain) (omega (arith, enough, less)))
 
       reads_again : (u : ℕ) → At (swap.Deciding read.Main) u → Held u (over.Failed replaced) → IsPlain a u r → weight u ≤ B + failed → C Fails (suc (suc (suc (suc B)))) u
       reads_again u s holds plain enough = spends Fails (suc (suc (suc B))) u (λ h.
-        let z = reads_main a steps why i replaced fresh t g u h s holds in
-        let less = quiet_so u _ s h tt in
-        reads_failed (suc u) z.stands z.holds (z.word r plain) (omega (arith, enough, less)))
+          let z = reads_main a steps why i replaced fresh t g u h s holds in
+          let less = quiet_so u _ s h tt in
+          reads_failed (suc u) z.stands z.holds (z.word r plain) (omega (arith, enough, less)))
 
       fails_now : (u : ℕ) → At (swap.Deciding (read.Decide fresh replaced (Some (generation a r)))) u → Held u (over.Pending replaced) → IsPlain a u r →
           (generation a r ≡ generation a i → ⊥) → weight u ≤ B + pending → C Fails (suc (suc (suc (suc (suc B))))) u
       fails_now u s holds plain apart enough = spends Fails (suc (suc (suc (suc B)))) u (λ h.
-        let y = fails a steps why i replaced fresh t g u h r s holds apart in
-        let less = weighing.fail u i fresh replaced (Some (generation a r)) (acts_so u _ s h) (sees u (over.Pending replaced) holds) (sees (suc u) (over.Failed replaced) y.holds) in
-        reads_again (suc u) y.stands y.holds (y.word r plain) (omega (arith, enough, less)))
+          let y = fails a steps why i replaced fresh t g u h r s holds apart in
+          let less = weighing.fail u i fresh replaced (Some (generation a r)) (acts_so u _ s h) (sees u (over.Pending replaced) holds) (sees (suc u) (over.Failed replaced) y.holds) in
+          reads_again (suc u) y.stands y.holds (y.word r plain) (omega (arith, enough, less)))
 
     pub fails_so : (u : ℕ) → At (swap.Deciding (read.AskRoot fresh replaced)) u → Held u (over.Pending replaced) → IsPlain a u r → (generation a r ≡ generation a i → ⊥) → weight u ≤ B + pending →
         C Fails (suc (suc (suc (suc (suc (suc B)))))) u
     fails_so u s holds plain apart enough =
         let other : g ≡ Some (generation a r) → ⊥ = λ e. apart (same_Some _ _ (sym e ∙ swap_generation a why i replaced fresh u g _ s)) in
         spends Fails (suc (suc (suc (suc (suc B))))) u (λ h.
-          let (x, still) = asks_plain a steps why i replaced fresh t g u h s holds r plain in
-          let less = quiet_so u _ s h tt in
-          fails_now other (suc u) x.stands x.holds still apart (omega (arith, enough, less)))
+        let (x, still) = asks_plain a steps why i replaced fresh t g u h s holds r plain in
+        let less = quiet_so u _ s h tt in
+        fails_now other (suc u) x.stands x.holds still apart (omega (arith, enough, less)))

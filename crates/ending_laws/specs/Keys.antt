@@ -246,8 +246,8 @@ module _ (a : Lone) where
         (path : List Ref) (r : Ref) (t g : ℕ) → Stands a t (Some g) (line.Key (key.Read path (reading (current path)))) → IsCurrent a t r (Some g) → Chain t r g path →
         W (λ u. (to : List Ref) × IsBottom r g to u) ((15 - length path) * (34 * (c + 2) + 10)) t
 
-    -- a pass along a path that is known
+    -- a pass along a path that is known comes to its main node
     abbrev pub PassAlong : Type 0
     PassAlong =
         (path : List Ref) (r main : Ref) (t g : ℕ) → Stands a t (Some g) new_try → IsCurrent a t r (Some g) → Ended t r g path main →
-        W (IsBottom r g path) (1 + length path * (c + 2)) t
+        W (λ u. (bottom : IsBottom r g path u) × (bottom.main ≡ main)) (1 + length path * (c + 2)) t

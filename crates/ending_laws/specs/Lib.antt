@@ -3,5 +3,9 @@ pub mod Stepping
 pub mod Machines
 pub mod Keys
 pub mod Weighing
+pub mod ReadEnds
+pub mod Stale
+pub mod Laws
 pub mod Copies
+pub mod Bounds
 pub mod Readers

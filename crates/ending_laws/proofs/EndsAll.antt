@@ -1,0 +1,51 @@
+-- No run is long in which an operation on one key, a snapshot, a freeze or a clear alone takes steps and never ends.
+use Rattle.std.proofs.Common.{◌≡◌, ℕ, suc, ◌+◌, ◌*◌, ◌≤◌, refl, sym, ap, arith}
+use Rattle.history.specs.declared.calls.Access.{Access}
+use Rattle.history.specs.declared.calls.Access.TheVariants.{ReadOnly, Writable}
+use Rattle.history.specs.declared.calls.Call.{Call}
+use Rattle.history.specs.declared.calls.Call.TheVariants.{Clear, Freeze, Snapshot, Close, Entries, Count}
+use Rattle.ending_laws.specs.Alone.{Lone, Within}
+use Rattle.ending_laws.specs.Bounds.{cleaning_most, key_most}
+use Rattle.ending_laws.specs.Copies.{CopiesEnd, IsCopying}
+use Rattle.ending_laws.specs.Keys.{IsOnKey}
+use Rattle.ending_laws.specs.Laws.{IsOnKeyOrRoot, most_steps_alone}
+use Rattle.ending_laws.specs.Machines.{Machines}
+use Rattle.ending_laws.proofs.Copies.{copies_end}
+use Rattle.ending_laws.proofs.EndsAlone.{NoneIsLong}
+use Rattle.ending_laws.proofs.EndsKeys.{key_ends}
+use Rattle.ending_laws.proofs.Fine.{fine, fine_at_most, fine_weighing}
+use Rattle.ending_laws.proofs.RootsMachines.{machines}
+use Rattle.ending_laws.proofs.Stepping.{stepping}
+
+-- what it comes to for a READ of two steps
+key_most_is : key_most 2 ≡ 5559
+unfolding cleaning_most
+key_most_is = refl
+
+-- an operation on one key, on a read-only handle
+abbrev pub ReadersEnd : Type 0
+ReadersEnd = (a : Lone) → IsOnKey a.own.call → a.own.access ≡ ReadOnly → a.start + most_steps_alone ≤ a.last → ⊥
+
+-- on a writable one
+writes_end : (a : Lone) → IsOnKey a.own.call → a.own.access ≡ Writable → a.start + most_steps_alone ≤ a.last → ⊥
+writes_end a on writes long =
+    let weighing = fine_weighing a in
+    let at_most = fine_at_most a a.start in
+    let actors = a.run.limits_ok.3 in
+    (key_ends a (fine a) 2 weighing.quiet (stepping a) (machines a (fine a) 5 1 2 weighing (omega arith) (omega arith) (omega arith)) on writes (omega (arith, key_most_is, at_most, actors, long))).3
+
+by_access : ReadersEnd → (a : Lone) → IsOnKey a.own.call → (x : Access) → a.own.access ≡ x → a.start + most_steps_alone ≤ a.last → ⊥
+by_access readers a on Writable e long = writes_end a on e long
+by_access readers a on ReadOnly e long = readers a on e long
+
+by_call : ReadersEnd → (a : Lone) → (call : Call) → a.own.call ≡ call → IsOnKeyOrRoot call → a.start + most_steps_alone ≤ a.last → ⊥
+by_call readers a (Clear h) e on long = copies_end a (rw e tt) (omega (arith, long))
+by_call readers a (Snapshot h) e on long = copies_end a (rw e tt) (omega (arith, long))
+by_call readers a (Freeze h) e on long = copies_end a (rw e tt) (omega (arith, long))
+by_call readers a (Close h) e on long = on
+by_call readers a (Entries h) e on long = on
+by_call readers a (Count h) e on long = on
+by_call readers a call e on long = by_access readers a (rw e tt) a.own.access refl long
+
+pub none_is_long : ReadersEnd → NoneIsLong
+none_is_long readers a on long = by_call readers a a.own.call refl on long
