@@ -84,3 +84,4 @@ pub mod Readers
 pub mod StaleLines
 pub mod EndsKeys
 pub mod EndsAll
+pub mod SwapsSoon

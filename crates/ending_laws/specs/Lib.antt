@@ -9,3 +9,4 @@ pub mod Laws
 pub mod Copies
 pub mod Bounds
 pub mod Readers
+pub mod SwapEnds
