@@ -6,15 +6,14 @@ use Rattle.machine_model.specs.declared.reading.SwapLine.{SwapLine}
 use Rattle.machine_model.specs.declared.reading.SwapLine.TheVariants as swap
 use Rattle.machine_model.proofs.Grown.{prev_word}
 use Rattle.ending_laws.specs.Alone.{Lone, Stands, word}
-use Rattle.ending_laws.specs.ReadEnds.{read_steps_left}
-use Rattle.ending_laws.specs.SwapEnds.{HasEnded, SwapEnds, SwapGoesToItsEnd, RootEnds, swap_steps, swap_steps_left}
+use Rattle.ending_laws.specs.SwapEnds.{HasEnded, SwapEnds, SwapGoesToItsEnd, RootEnds, swap_steps_left}
 use Rattle.ending_laws.proofs.ReadEnds.{read_goes_to_its_end}
 use Rattle.ending_laws.proofs.RootsMachines.{flat_machines}
 use Rattle.ending_laws.proofs.Stepping.{stepping}
 use Rattle.ending_laws.proofs.SwapsLines.{swap_line, deciding, checking, swap_reads, is_decided, checks}
 use Rattle.ending_laws.proofs.SwapsEnds.{pays_nothing}
 use Rattle.ending_laws.proofs.Swaps.{swaps_first}
-use Rattle.ending_laws.proofs.Weights.{flat, weighs_at_most}
+use Rattle.ending_laws.proofs.Weights.{weighs_at_most}
 
 module _ (a : Lone) where
   pub swap_ends : SwapEnds a
