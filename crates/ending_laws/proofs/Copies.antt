@@ -99,8 +99,8 @@ module _ (a : Lone) (copies : IsCopying a.own.call) where
   -- whether its own offer was carried out or not
   from_swap : (t : ℕ) (g : Option ℕ) (d : Descriptor) (m : Ref) → Stands a t g (swapping_line a.own d m) → Never 22 t
   from_swap t g d m s = one a (flat a) (is_weight a) (λ u. ⊥) 21 t g (swapping_line a.own d m) s tt (λ h.
-    by (is_carried_out (word_at (a.states t) (handle_of s.operation.call)) d m || s.operation.is_marked)
-    (placed a (suc t) _ g _ _ s.generation refl (steps.next t g (swapping_line a.own d m) s h tt)))
+      by (is_carried_out (word_at (a.states t) (handle_of s.operation.call)) d m || s.operation.is_marked)
+      (placed a (suc t) _ g _ _ s.generation refl (steps.next t g (swapping_line a.own d m) s h tt)))
     where
       by : (b : Bool) → Stands a (suc t) g (cond b (line.End (copied_reply s.operation.call s.operation.opens)) new_try) → Never 21 (suc t)
       by true at = weaken a (flat a) (λ u. ⊥) 1 21 (suc t) (omega arith) (ended a (flat a) steps (λ u. ⊥) (suc t) g (copied_reply s.operation.call s.operation.opens) at)
@@ -121,7 +121,7 @@ module _ (a : Lone) (copies : IsCopying a.own.call) where
   from_offer : (t : ℕ) (g : Option ℕ) (d : Descriptor) → Stands a t g (line.Copy (copy.Offer d)) → Never 32 t
   from_offer t g d s =
       pays a (flat a) (λ u. ⊥) 29 32 t (let most = weighs_at_most (word a (suc t)) in omega (arith, most)) (λ h.
-        by (is_plain (word_at (a.states t) (handle_of s.operation.call)) d.root) (placed a (suc t) _ g _ _ s.generation refl (steps.next t g (line.Copy (copy.Offer d)) s h tt)))
+      by (is_plain (word_at (a.states t) (handle_of s.operation.call)) d.root) (placed a (suc t) _ g _ _ s.generation refl (steps.next t g (line.Copy (copy.Offer d)) s h tt)))
     where
       by : (b : Bool) → Stands a (suc t) g (after_offer d b) → Never 29 (suc t)
       by true at = complete_first (suc t) g d at

@@ -104,6 +104,18 @@ module _ (a : Lone) (steps : Stepping a) (writable : a.own.access ≡ Writable) 
         let x = next l s (Gives m) (ap (after_prev a.own.access m) (found ∙ sees.prev)) in
         given_now l s m x.stands (keeps_left a u (prev_leaves a u i m _ x.turn) i m (record { made = sees.made; main = sees.main; decided = sees.prev }))
 
+  longer : (u n k : ℕ) → n ≤ k → Given u n → Given u k
+  longer u n k le x = record {
+    at = x.at;
+    from = x.from;
+    soon = let sooner = x.soon in omega (arith, sooner, le);
+    main = x.main;
+    stands = x.stands;
+    has = x.has;
+    keeps = x.keeps;
+    word = x.word;
+  }
+
   -- ---- from each line on
 
   asks : (u : ℕ) (m q : Ref) → suc u < a.last → Stands a u g (wrap (read.AskRoot m q)) → Sees a u i m (over.Pending q) → IsPlain a u i → Given u 2
@@ -115,17 +127,11 @@ module _ (a : Lone) (steps : Stepping a) (writable : a.own.access ≡ Writable) 
       behind u h l s 1 (decides (suc u) room m q x.stands (sees_on u h m (over.Pending q) (ask_leaves a u i m q _ x.turn) sees) (Step.stays a wrap gives i holds u g l s h i plain))
 
   prev_by : (u : ℕ) (m : Ref) → u + 3 ≤ a.last → Stands a u g (wrap (read.Prev m)) → (v : Prev) → Sees a u i m v → IsPlain a u i → Given u 3
-  prev_by u m room s over.None sees plain = longer (finds_decided u (omega (arith, room)) m s sees)
-    where
-      longer : Given u 1 → Given u 3
-      longer x = record { at = x.at; from = x.from; soon = let sooner = x.soon in omega (arith, sooner); main = x.main; stands = x.stands; has = x.has; keeps = x.keeps; word = x.word }
-  prev_by u m room s (over.Failed q) sees plain = longer (behind u (omega (arith, room)) l s 1 (puts_back (suc u) (omega (arith, room)) m q x.stands (sees_on u (omega (arith, room)) m (over.Failed q) (prev_leaves a u i m _ x.turn) sees)))
+  prev_by u m room s over.None sees plain = longer u 1 3 (omega arith) (finds_decided u (omega (arith, room)) m s sees)
+  prev_by u m room s (over.Failed q) sees plain = longer u 2 3 (omega arith) (behind u (omega (arith, room)) l s 1 (puts_back (suc u) (omega (arith, room)) m q x.stands (sees_on u (omega (arith, room)) m (over.Failed q) (prev_leaves a u i m _ x.turn) sees)))
     where
       l : ReadLine
       l = read.Prev m
-
-      longer : Given u 2 → Given u 3
-      longer x = record { at = x.at; from = x.from; soon = let sooner = x.soon in omega (arith, sooner); main = x.main; stands = x.stands; has = x.has; keeps = x.keeps; word = x.word }
 
       h : u < a.last
       h = omega (arith, room)

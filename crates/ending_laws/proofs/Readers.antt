@@ -123,8 +123,8 @@ module _ (a : Lone) (read_only : a.own.access ≡ ReadOnly) (on_key : IsOnKey a.
   listed_step : (n t : ℕ) (g : Option ℕ) (path : List Ref) (m : Ref) (p : ℕ) → 1 ≤ n → Stands a t g (line.Key (key.Listed path m p)) →
       (p + 1 < 32 → Stands a (suc t) g (line.Key (key.Listed path m (p + 1))) → Never n (suc t)) → Never (n + 1) t
   listed_step n t g path m p some s then = one a (flat a) (is_weight a) (λ u. ⊥) n t g l s tt (λ h.
-    by (few_listed t g path m p s) (after_single (a.states t) s.operation (reader_at a read_only on_key t g l s) path m p (node_at (a.states t).heap (entry_at (a.states t).heap m p)))
-    (placed a (suc t) _ g _ _ s.generation refl (steps.next t g l s h tt)))
+      by (few_listed t g path m p s) (after_single (a.states t) s.operation (reader_at a read_only on_key t g l s) path m p (node_at (a.states t).heap (entry_at (a.states t).heap m p)))
+      (placed a (suc t) _ g _ _ s.generation refl (steps.next t g l s h tt)))
     where
       l : Line
       l = line.Key (key.Listed path m p)
@@ -149,8 +149,8 @@ module _ (a : Lone) (read_only : a.own.access ≡ ReadOnly) (on_key : IsOnKey a.
 
   entry_on : (n t : ℕ) (g : Option ℕ) (path : List Ref) (m : Ref) (p : ℕ) → 1 ≤ n → Below n path t → Stands a t g (line.Key (key.Entry path m p)) → Never (n + 1) t
   entry_on n t g path m p some below s = one a (flat a) (is_weight a) (λ u. ⊥) n t g l s tt (λ h.
-    by (after_entry (a.states t) s.operation (reader_at a read_only on_key t g l s) path m p (node_at (a.states t).heap (entry_at (a.states t).heap m p)))
-    (placed a (suc t) _ g _ _ s.generation refl (steps.next t g l s h tt)))
+      by (after_entry (a.states t) s.operation (reader_at a read_only on_key t g l s) path m p (node_at (a.states t).heap (entry_at (a.states t).heap m p)))
+      (placed a (suc t) _ g _ _ s.generation refl (steps.next t g l s h tt)))
     where
       l : Line
       l = line.Key (key.Entry path m p)
@@ -164,8 +164,8 @@ module _ (a : Lone) (read_only : a.own.access ≡ ReadOnly) (on_key : IsOnKey a.
   main_on n t g path m long below s =
       weaken a (flat a) (λ u. ⊥) ((n + 1) + 1) (n + 2) t (omega arith)
       (one a (flat a) (is_weight a) (λ u. ⊥) (n + 1) t g l s tt (λ h.
-        by (after_main (a.states t) s.operation (reader_at a read_only on_key t g l s) path m (node_at (a.states t).heap m))
-        (placed a (suc t) _ g _ _ s.generation refl (steps.next t g l s h tt))))
+      by (after_main (a.states t) s.operation (reader_at a read_only on_key t g l s) path m (node_at (a.states t).heap m))
+      (placed a (suc t) _ g _ _ s.generation refl (steps.next t g l s h tt))))
     where
       l : Line
       l = line.Key (key.Main path m)
