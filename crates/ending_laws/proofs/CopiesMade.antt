@@ -59,10 +59,10 @@ module _ (a : Lone) (steps : Stepping a) (weight : ℕ → ℕ) (heavy : IsWeigh
 
     making : 1 ≤ n → (t < a.last → (r : Ref) → Stands a (suc t) g (copy_after_made s.operation l r) → Keeps a t (suc t) → word a (suc t) ≡ word a t → Never n (suc t)) → Never (n + 1) t
     making some then = one a weight heavy (λ u. ⊥) n t g (line.Copy l) s quiet (λ h.
-      let keeps = steps.keeps t g (line.Copy l) s h tt quiet in
-      let same = steps.words t g (line.Copy l) s h tt free in
-      made_by (next_ref (a.states t).heap) refl some h (λ r at. then h r at keeps same)
-      (placed a (suc t) _ g _ _ s.generation (makes (next_ref (a.states t).heap) refl) (steps.next t g (line.Copy l) s h tt)))
+        let keeps = steps.keeps t g (line.Copy l) s h tt quiet in
+        let same = steps.words t g (line.Copy l) s h tt free in
+        made_by (next_ref (a.states t).heap) refl some h (λ r at. then h r at keeps same)
+        (placed a (suc t) _ g _ _ s.generation (makes (next_ref (a.states t).heap) refl) (steps.next t g (line.Copy l) s h tt)))
 
   pub second : (n t : ℕ) (successor : Ref) → Stands a t g (line.Copy (copy.Second root main successor)) → 1 ≤ n → Follows n t → Never (n + 1) t
   second n t successor s some then =

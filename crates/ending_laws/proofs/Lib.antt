@@ -70,6 +70,7 @@ pub mod RootsMachines
 pub mod CopiesLines
 pub mod CopiesFresh
 pub mod CopiesMade
+pub mod CopiesReads
 pub mod FreshTombs
 pub mod FreshEnds
 pub mod Fresh
@@ -86,3 +87,4 @@ pub mod EndsKeys
 pub mod EndsAll
 pub mod ReadHolds
 pub mod AloneReads
+pub mod SwapsSoon

@@ -1,11 +1,8 @@
 -- A call on one key on a read-only handle, whose actor alone takes steps, ends: it goes down 14 levels at most, and looks at 32 singles at most.
-use Rattle.std.proofs.Common.{◌≡◌, ℕ, zero, suc, ◌+◌, ◌-◌, ◌*◌, ◌<◌, ◌≤◌, Bool, true, false, List, [], ◌∷◌, ◌++◌, length, Option, Some, None, refl, sym, ap, ◌∙◌, subst, ltb-true, arith}
-use Rattle.std.specs.Prelude.{nat_lt}
-use Rattle.std.proofs.lemmas.Bool.{true≢false, false≢true}
+use Rattle.std.proofs.Common.{◌≡◌, ℕ, zero, suc, ◌+◌, ◌-◌, ◌*◌, ◌<◌, ◌≤◌, true, false, List, [], ◌∷◌, ◌++◌, length, Option, Some, None, refl, sym, ap, ◌∙◌, subst, ltb-true, arith}
+use Rattle.std.proofs.lemmas.Bool.{false≢true}
 use Rattle.std.proofs.lemmas.List.{length-append}
-use Rattle.history.specs.declared.calls.Access.{Access}
 use Rattle.history.specs.declared.calls.Access.TheVariants.{ReadOnly}
-use Rattle.arrayvec.specs.ArrayVec.{ArrayVec}
 use Rattle.slot_arena.specs.declared.refs.Ref.{Ref}
 use Rattle.slot_arena.specs.declared.nodes.Node.{Node}
 use Rattle.slot_arena.specs.declared.nodes.Node.TheVariants.{Indirection, Branch, Single, Tomb, List as Listed}
@@ -21,15 +18,13 @@ use Rattle.machine_model.specs.declared.reading.After.TheVariants.{Goes, Gives}
 use Rattle.machine_model.specs.declared.reading.ReadLine.{ReadLine}
 use Rattle.machine_model.specs.declared.reading.ReadLine.TheVariants as read
 use Rattle.machine_model.specs.declared.roots.Complete.{Complete}
-use Rattle.machine_model.specs.declared.roots.RootLine.{RootLine}
 use Rattle.machine_model.specs.declared.roots.RootLine.TheVariants as root
 use Rattle.machine_model.specs.Calls.{handle_of}
 use Rattle.machine_model.specs.Finding.{going_down, key_after_read}
-use Rattle.machine_model.specs.Reading.{reading, read_after, at_indirection}
-use Rattle.machine_model.specs.States.{State, root_of, word_of, word_at}
+use Rattle.machine_model.specs.Reading.{read_after, at_indirection}
+use Rattle.machine_model.specs.States.{root_of, word_of, word_at}
 use Rattle.machine_model.proofs.Grown.{grown}
-use Rattle.memory_laws.specs.Wants.{TombOrList, AMain, listed, meets, is_indirection, Is, Holds, AllHold, line_wants}
-use Rattle.memory_laws.specs.Laws.{IsInUse}
+use Rattle.memory_laws.specs.Wants.{TombOrList, AMain, listed, meets, is_indirection}
 use Rattle.memory_laws.proofs.AtEachTime.{safe_at}
 use Rattle.memory_laws.proofs.Claims.{safe_of, meets_of, fact_of}
 use Rattle.generation_laws.proofs.RootsAlong.{ordered_at, read_only_plain}
@@ -128,8 +123,8 @@ module _ (a : Lone) (read_only : a.own.access ≡ ReadOnly) (on_key : IsOnKey a.
   listed_step : (n t : ℕ) (g : Option ℕ) (path : List Ref) (m : Ref) (p : ℕ) → 1 ≤ n → Stands a t g (line.Key (key.Listed path m p)) →
       (p + 1 < 32 → Stands a (suc t) g (line.Key (key.Listed path m (p + 1))) → Never n (suc t)) → Never (n + 1) t
   listed_step n t g path m p some s then = one a (flat a) (is_weight a) (λ u. ⊥) n t g l s tt (λ h.
-    by (few_listed t g path m p s) (after_single (a.states t) s.operation (reader_at a read_only on_key t g l s) path m p (node_at (a.states t).heap (entry_at (a.states t).heap m p)))
-    (placed a (suc t) _ g _ _ s.generation refl (steps.next t g l s h tt)))
+      by (few_listed t g path m p s) (after_single (a.states t) s.operation (reader_at a read_only on_key t g l s) path m p (node_at (a.states t).heap (entry_at (a.states t).heap m p)))
+      (placed a (suc t) _ g _ _ s.generation refl (steps.next t g l s h tt)))
     where
       l : Line
       l = line.Key (key.Listed path m p)
@@ -154,8 +149,8 @@ module _ (a : Lone) (read_only : a.own.access ≡ ReadOnly) (on_key : IsOnKey a.
 
   entry_on : (n t : ℕ) (g : Option ℕ) (path : List Ref) (m : Ref) (p : ℕ) → 1 ≤ n → Below n path t → Stands a t g (line.Key (key.Entry path m p)) → Never (n + 1) t
   entry_on n t g path m p some below s = one a (flat a) (is_weight a) (λ u. ⊥) n t g l s tt (λ h.
-    by (after_entry (a.states t) s.operation (reader_at a read_only on_key t g l s) path m p (node_at (a.states t).heap (entry_at (a.states t).heap m p)))
-    (placed a (suc t) _ g _ _ s.generation refl (steps.next t g l s h tt)))
+      by (after_entry (a.states t) s.operation (reader_at a read_only on_key t g l s) path m p (node_at (a.states t).heap (entry_at (a.states t).heap m p)))
+      (placed a (suc t) _ g _ _ s.generation refl (steps.next t g l s h tt)))
     where
       l : Line
       l = line.Key (key.Entry path m p)
@@ -169,8 +164,8 @@ module _ (a : Lone) (read_only : a.own.access ≡ ReadOnly) (on_key : IsOnKey a.
   main_on n t g path m long below s =
       weaken a (flat a) (λ u. ⊥) ((n + 1) + 1) (n + 2) t (omega arith)
       (one a (flat a) (is_weight a) (λ u. ⊥) (n + 1) t g l s tt (λ h.
-        by (after_main (a.states t) s.operation (reader_at a read_only on_key t g l s) path m (node_at (a.states t).heap m))
-        (placed a (suc t) _ g _ _ s.generation refl (steps.next t g l s h tt))))
+      by (after_main (a.states t) s.operation (reader_at a read_only on_key t g l s) path m (node_at (a.states t).heap m))
+      (placed a (suc t) _ g _ _ s.generation refl (steps.next t g l s h tt))))
     where
       l : Line
       l = line.Key (key.Main path m)
@@ -208,3 +203,58 @@ module _ (a : Lone) (read_only : a.own.access ≡ ReadOnly) (on_key : IsOnKey a.
   below_on (suc left) t path e u g below le s =
       weaken a (flat a) (λ u. ⊥) (7 + (32 + 9 * left + 2)) (32 + 9 * suc left) u (omega arith)
       (read_first (32 + 9 * left) u g (path ++ below ∷ []) below (omega arith) (below_on left u (path ++ below ∷ []) (deeper path below left e)) s)
+
+  -- how many levels are left, of 14
+  abbrev left_of : List Ref → ℕ
+  left_of path = 14 - length path
+
+  path_on : (t : ℕ) (path : List Ref) → length path ≤ 14 → Below (32 + 9 * left_of path) path t
+  path_on t path few = below_on (left_of path) t path (omega (arith, few))
+
+  from_key_line : (t : ℕ) (g : Option ℕ) (l : KeyLine) → OfReader (line.Key l) → Stands a t g (line.Key l) → Never 164 t
+  from_key_line t g (key.Read path r) o s =
+      let few = short t g (line.Key (key.Read path r)) s in
+      let some = ltb-true 0 (length path) (fact_of (steps.wants t g (line.Key (key.Read path r)) s).1.0) in
+      weaken a (flat a) (λ u. ⊥) (13 + (32 + 9 * left_of path + 2)) 164 t (omega (arith, few, some)) (read_on (32 + 9 * left_of path) t g path r.indirection r.line (omega arith) (path_on t path few) s)
+  from_key_line t g (key.Main path m) o s =
+      let few = short t g (line.Key (key.Main path m)) s in
+      weaken a (flat a) (λ u. ⊥) (32 + 9 * left_of path + 2) 164 t (omega (arith, few)) (main_on (32 + 9 * left_of path) t g path m (omega arith) (path_on t path few) s)
+  from_key_line t g (key.Entry path m p) o s =
+      let few = short t g (line.Key (key.Entry path m p)) s in
+      weaken a (flat a) (λ u. ⊥) (32 + 9 * left_of path + 1) 164 t (omega (arith, few)) (entry_on (32 + 9 * left_of path) t g path m p (omega arith) (path_on t path few) s)
+  from_key_line t g (key.Listed path m p) o s = weaken a (flat a) (λ u. ⊥) (31 + 2) 164 t (omega arith) (listed_on 31 t g path m p s (omega arith))
+  from_key_line t g (key.Sibling path m p former) o s = absurd o
+
+  -- ---- its root, with no offer
+
+  root_plain : (t : ℕ) (g : Option ℕ) → Stands a t g (line.Root root.Read) → (r : Ref) × IsPlain a t r
+  root_plain t g s =
+      let (found, is, access) = handle_open a t g (line.Root root.Read) s refl in
+      let plain = read_only_plain (a.states t) (safe_at a.limits a.states a.last a.run t s.until) (ordered_at a.limits a.states a.last a.run t s.until) (handle_of a.own.call) found is (access ∙ read_only) in
+      (root_of found.word, ap word_of is ∙ plain)
+
+  never_completes : (t : ℕ) (g : Option ℕ) (c : Complete) → Stands a t g (line.Root (root.Completing c)) → ⊥
+  never_completes t g c s =
+      subst (KnowsReader (Ends a.states a.last t) (Shut a.states a.last t) (LateEnd a.states a.last t s.operation)) s.line
+      ((knows_at a.limits a.states a.last a.run t s.until a.actor s.operation s.runs).1 (s.access ∙ read_only))
+
+  from_line : (t : ℕ) (g : Option ℕ) (l : Line) → OfReader l → Stands a t g l → Never 164 t
+  from_line t g (line.Root root.Read) o s =
+      let (r, plain) = root_plain t g s in
+      weaken a (flat a) (λ u. ⊥) (1 + 158) 164 t (omega arith)
+      (bind a (flat a) (λ u. IsRooted a (flat a) 7 t u × IsPlain a u r) (λ u. ⊥) 1 158 t (machines.roots_plain t g r s plain)
+      (λ u after inside q. below_on 14 u [] refl u _ q.0.root (omega arith) (placed a u _ _ _ _ refl (from_key a.own.call on_key q.0.root) q.0.stands)))
+  from_line t g (line.Root (root.Completing c)) o s = absurd (never_completes t g c s)
+  from_line t g (line.Key l) o s = from_key_line t g l o s
+  from_line t g (line.End answer) o s = ends 164 t g answer (omega arith) s
+  from_line t g line.Impossible o s = fails 164 t g s
+  from_line t g l o s = absurd o
+
+  it_ends : a.start + 166 ≤ a.last → ⊥
+  it_ends room =
+      let s = begins a (omega (arith, room)) in
+      let most = weighs_at_most (word a a.start) in
+      (from_line a.start a.own.generation a.own.line (reader_lines a read_only on_key a.start a.own.generation a.own.line s) s (omega (arith, room, most))).3
+
+pub readers_end : ReadersEnd
+readers_end a on_key read_only room = it_ends a read_only on_key room

@@ -1,11 +1,10 @@
 -- A call on one key on a read-only handle stands on the lines of ROOT and of KEY alone, and takes no root with an offer.
-use Rattle.std.proofs.Common.{◌≡◌, ℕ, suc, ◌≤◌, ◌<◌, Bool, true, false, Option, Some, None, List, [], refl, sym, ap, ◌∙◌, subst, arith}
+use Rattle.std.proofs.Common.{◌≡◌, ℕ, suc, ◌≤◌, Option, List, [], refl, sym, ap, ◌∙◌, subst, arith}
 use Rattle.history.specs.declared.calls.Access.TheVariants.{ReadOnly}
 use Rattle.history.specs.declared.calls.Call.{Call}
 use Rattle.history.specs.declared.calls.Call.TheVariants.{Clear, Snapshot, Freeze, Close, Entries, Count}
 use Rattle.slot_arena.specs.declared.refs.Ref.{Ref}
 use Rattle.slot_arena.specs.Heaps.{node_at, entry_at}
-use Rattle.machine_model.specs.declared.finding.KeyLine.{KeyLine}
 use Rattle.machine_model.specs.declared.finding.KeyLine.TheVariants as key
 use Rattle.machine_model.specs.declared.lines.Line.{Line}
 use Rattle.machine_model.specs.declared.lines.Line.TheVariants as line
@@ -17,7 +16,7 @@ use Rattle.machine_model.specs.declared.roots.RootLine.{RootLine}
 use Rattle.machine_model.specs.declared.steps.Limits.{Limits}
 use Rattle.machine_model.specs.declared.steps.Step.{Step}
 use Rattle.machine_model.specs.Calls.{handle_of}
-use Rattle.machine_model.specs.Finding.{going_down, key_after, key_after_read}
+use Rattle.machine_model.specs.Finding.{going_down, key_after_read}
 use Rattle.machine_model.specs.Operations.{line_after, first_line, after_root, from_root}
 use Rattle.machine_model.specs.Acting.{operation_after}
 use Rattle.machine_model.specs.Reading.{read_step}

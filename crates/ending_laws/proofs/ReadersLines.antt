@@ -1,9 +1,8 @@
 -- What comes after each line of a call on one key on a read-only handle.
-use Rattle.std.proofs.Common.{◌≡◌, ℕ, ◌+◌, ◌<◌, ◌==◌, ◌&&◌, Bool, true, false, cond, List, ◌++◌, [], ◌∷◌, length, Option, Some, None, refl, sym, ap, ◌∙◌, subst, ltb-true, arith}
+use Rattle.std.proofs.Common.{◌≡◌, ℕ, ◌+◌, ◌<◌, ◌==◌, ◌&&◌, true, false, List, length, Some, refl, sym, ap, ◌∙◌, subst, ltb-true, arith}
 use Rattle.std.specs.Prelude.{nat_lt, nat_le}
 use Rattle.std.proofs.lemmas.Bool.{true≢false, cond_both}
-use Rattle.history.specs.declared.calls.Access.{Access}
-use Rattle.history.specs.declared.calls.Access.TheVariants.{Writable, ReadOnly}
+use Rattle.history.specs.declared.calls.Access.TheVariants.{ReadOnly}
 use Rattle.history.specs.declared.calls.Call.{Call}
 use Rattle.history.specs.declared.calls.Call.TheVariants.{Get, Close, Entries, Count}
 use Rattle.history.specs.declared.replies.Reply.{Reply}
@@ -21,7 +20,6 @@ use Rattle.machine_model.specs.declared.operations.Operation.{Operation}
 use Rattle.machine_model.specs.Calls.{key_of, needs_writable, inserts, when_found, absent_reply}
 use Rattle.machine_model.specs.Finding.{going_down, absent, absent_beside, absent_listed, found, found_so, after_tomb, key_after_main, passes, is_passable, key_after_entry, after_listed}
 use Rattle.machine_model.specs.Paths.{flag_in, is_start}
-use Rattle.machine_model.specs.Renewing.{renew_next}
 use Rattle.machine_model.specs.States.{State}
 use Rattle.ending_laws.specs.Keys.{IsOnKey}
 

@@ -82,18 +82,21 @@ module _ (a : Lone) (steps : Stepping a) (weight : ℕ → ℕ) (heavy : IsWeigh
 
   pub roots_plain : RootsPlain a weight c
   roots_plain t g r s plain = one a weight heavy (λ u. IsRooted a weight c t u × IsPlain a u r) 0 t g (line.Root root.Read) s tt (λ h.
-    let same = steps.words t g (line.Root root.Read) s h tt tt in
-    let told = root_generation a t g (line.Root root.Read) s refl r plain in
-    let it : word_at (a.states t) (handle_of s.operation.call) ≡ Plain r = ap (λ x. word_at (a.states t) (handle_of x)) s.call ∙ plain in
-    here a weight (λ u. IsRooted a weight c t u × IsPlain a u r) (suc t) (record {
-      root = r;
-      plain = same ∙ plain;
-      stands = placed a (suc t) _ _ _ _ (ap (λ x. given_root (a.states t) (after_root_word x) s.operation.generation) it ∙ ap (λ x. Some x) told)
-          (ap (λ x. after_root s.operation (after_root_word x)) it ∙ ap (λ x. from_root x r) s.call)
-          (steps.next t g (line.Root root.Read) s h tt);
-      keeps = steps.keeps t g (line.Root root.Read) s h tt tt;
-      word = same_stays a t (suc t) same;
-    }, same ∙ plain))
+      let same = steps.words t g (line.Root root.Read) s h tt tt in
+      let told = root_generation a t g (line.Root root.Read) s refl r plain in
+      let it : word_at (a.states t) (handle_of s.operation.call) ≡ Plain r = ap (λ x. word_at (a.states t) (handle_of x)) s.call ∙ plain in
+      here a weight (λ u. IsRooted a weight c t u × IsPlain a u r) (suc t) (
+        record {
+          root = r;
+          plain = same ∙ plain;
+          stands = placed a (suc t) _ _ _ _ (ap (λ x. given_root (a.states t) (after_root_word x) s.operation.generation) it ∙ ap (λ x. Some x) told)
+              (ap (λ x. after_root s.operation (after_root_word x)) it ∙ ap (λ x. from_root x r) s.call)
+              (steps.next t g (line.Root root.Read) s h tt);
+          keeps = steps.keeps t g (line.Root root.Read) s h tt tt;
+          word = same_stays a t (suc t) same;
+        },
+        same ∙ plain,
+      ))
 
   climb_line : (x : Climb) (t : ℕ) (g : Option ℕ) (s : Stands a t g (line.Climb (climb.Root x root.Read))) (r : Ref) → generation_at (a.states t).heap r ≡ generation a r →
       climbs_on x (a.states t) s.operation r ≡ climbed_or_on a weight c g x (generation a r)
@@ -105,16 +108,19 @@ module _ (a : Lone) (steps : Stepping a) (weight : ℕ → ℕ) (heavy : IsWeigh
 
   pub climb_roots_plain : ClimbRootsPlain a weight c
   climb_roots_plain x t g r s plain = one a weight heavy (λ u. IsRootedSo a weight c t g x u × IsPlain a u r) 0 t g l s tt (λ h.
-    let same = steps.words t g l s h tt tt in
-    let told = root_generation a t g l s refl r plain in
-    let it : word_at (a.states t) (handle_of s.operation.call) ≡ Plain r = ap (λ x. word_at (a.states t) (handle_of x)) s.call ∙ plain in
-    here a weight (λ u. IsRootedSo a weight c t g x u × IsPlain a u r) (suc t) (record {
-      root = r;
-      plain = same ∙ plain;
-      stands = placed a (suc t) _ _ _ _ s.generation (ap (λ y. climb_after_root (a.states t) s.operation x (after_root_word y)) it ∙ climb_line x t g s r told) (steps.next t g l s h tt);
-      keeps = steps.keeps t g l s h tt tt;
-      word = same_stays a t (suc t) same;
-    }, same ∙ plain))
+      let same = steps.words t g l s h tt tt in
+      let told = root_generation a t g l s refl r plain in
+      let it : word_at (a.states t) (handle_of s.operation.call) ≡ Plain r = ap (λ x. word_at (a.states t) (handle_of x)) s.call ∙ plain in
+      here a weight (λ u. IsRootedSo a weight c t g x u × IsPlain a u r) (suc t) (
+        record {
+          root = r;
+          plain = same ∙ plain;
+          stands = placed a (suc t) _ _ _ _ s.generation (ap (λ y. climb_after_root (a.states t) s.operation x (after_root_word y)) it ∙ climb_line x t g s r told) (steps.next t g l s h tt);
+          keeps = steps.keeps t g l s h tt tt;
+          word = same_stays a t (suc t) same;
+        },
+        same ∙ plain,
+      ))
     where
       l : Line
       l = line.Climb (climb.Root x root.Read)

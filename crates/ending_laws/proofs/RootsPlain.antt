@@ -113,10 +113,10 @@ module _ (a : Lone) (steps : Stepping a) (weight : ℕ → ℕ) (heavy : IsWeigh
       by : (x : RootWord) → word a t ≡ x → W (AtPlain t) (c + 2) t
       by (Plain r) e = weaken a weight (AtPlain t) 0 (c + 2) t (omega arith) (here a weight (AtPlain t) t (record { at = r; plain = e; stands = s; keeps = keeps_now a t; word = stays a t }))
       by (Offer d) e = weaken a weight (AtPlain t) ((c + 1) + 1) (c + 2) t (omega arith) (quiet_step (AtPlain t) (c + 1) t root.Read s tt (λ h.
-        let x = finds_offer t h s d e in
-        bind a weight (IsRead a weight c (suc t) g (swapping_line a.own wrap gives holds d) d.root) (AtPlain t) c 1 (suc t)
-        (reads_first (reading_line a.own wrap gives holds d) (swapping_line a.own wrap gives holds d) d.root (root_reads a.own wrap gives holds d) (suc t) g x.stands)
-        (λ u after inside q. after_read t u d q.main (omega (arith, after)) s.since e (keeps_on a t (suc t) u x.keeps q.keeps) (stays_on a t (suc t) u x.word q.word) q.stands)))
+          let x = finds_offer t h s d e in
+          bind a weight (IsRead a weight c (suc t) g (swapping_line a.own wrap gives holds d) d.root) (AtPlain t) c 1 (suc t)
+          (reads_first (reading_line a.own wrap gives holds d) (swapping_line a.own wrap gives holds d) d.root (root_reads a.own wrap gives holds d) (suc t) g x.stands)
+          (λ u after inside q. after_read t u d q.main (omega (arith, after)) s.since e (keeps_on a t (suc t) u x.keeps q.keeps) (stays_on a t (suc t) u x.word q.word) q.stands)))
 
   -- behind a step
   later : (t u n : ℕ) → Keeps a t u → WordStays a t u → W (AtPlain u) n u → W (AtPlain t) n u
@@ -130,7 +130,7 @@ module _ (a : Lone) (steps : Stepping a) (weight : ℕ → ℕ) (heavy : IsWeigh
 
   from_swap : (t : ℕ) (d : Descriptor) (m : Ref) → Stands a t g (swapping_line a.own wrap gives holds d m) → W (AtPlain t) (c + 2 + 1) t
   from_swap t d m s = quiet_step (AtPlain t) (c + 2) t (root.Completing (record { offer = d; line = complete.Swap m })) s tt (λ h.
-    let x = completes t h d m s in later t (suc t) (c + 2) x.keeps x.word (plain_first (suc t) x.stands))
+      let x = completes t h d m s in later t (suc t) (c + 2) x.keeps x.word (plain_first (suc t) x.stands))
 
   -- from any line
   pub plain_on_from : (t : ℕ) (l : RootLine) → Stands a t g (wrap l) → W (AtPlain t) (2 * c + 9) t

@@ -14,8 +14,8 @@ IsCopying call = ⊥
 
 -- it ends within so many steps from where a try begins, so from its begin too
 abbrev pub CopiesEndFirst : Type 0
-CopiesEndFirst = (a : Lone) → IsCopying a.own.call → a.own.line ≡ new_try → a.start + 26 ≤ a.last → ⊥
+CopiesEndFirst = (a : Lone) → IsCopying a.own.call → a.own.line ≡ new_try → a.start + 23 ≤ a.last → ⊥
 
 -- and from wherever it stands
 abbrev pub CopiesEnd : Type 0
-CopiesEnd = (a : Lone) → IsCopying a.own.call → a.start + 52 ≤ a.last → ⊥
+CopiesEnd = (a : Lone) → IsCopying a.own.call → a.start + 49 ≤ a.last → ⊥

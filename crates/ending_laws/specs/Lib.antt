@@ -10,3 +10,4 @@ pub mod Copies
 pub mod Bounds
 pub mod Readers
 pub mod ReadLaws
+pub mod SwapEnds
