@@ -77,3 +77,4 @@ pub mod FineWeight
 pub mod FineSteps
 pub mod Fine
 pub mod EndsAll
+pub mod PassesPlaces
