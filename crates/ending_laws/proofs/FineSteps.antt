@@ -1,41 +1,31 @@
 -- What the actors weigh over one step of an operation that is alone.
-use Rattle.std.proofs.Common.{◌≡◌, ℕ, zero, suc, ◌<◌, ◌≤◌, ◌==◌, inl, inr, Bool, true, false, List, length, Option, Some, None, refl, sym, ap, ◌∙◌, subst, arith}
+use Rattle.std.proofs.Common.{◌≡◌, ℕ, zero, suc, ◌<◌, ◌≤◌, List, length, Option, Some, None, refl, sym, ap, ◌∙◌, subst, arith}
 use native.Mathlib.Decide.{ℕ_discrete}
 use Rattle.std.proofs.lemmas.List.{length-set, length-map, length-replicate}
 use Rattle.slot_arena.specs.declared.refs.Ref.{Ref}
-use Rattle.slot_arena.specs.declared.nodes.Node.{Node}
-use Rattle.slot_arena.specs.declared.nodes.Prev.TheVariants as prev
-use Rattle.slot_arena.specs.Heaps.{main_at, prev_of, main_changed, next_ref}
-use Rattle.machine_model.specs.declared.actions.Action.{Action}
-use Rattle.machine_model.specs.declared.actions.Action.TheVariants as act
 use Rattle.machine_model.specs.declared.lines.Line.{Line}
 use Rattle.machine_model.specs.declared.operations.Operation.{Operation}
 use Rattle.machine_model.specs.declared.steps.Outcome.{Outcome}
 use Rattle.machine_model.specs.declared.steps.Step.{Step}
 use Rattle.machine_model.specs.States.{State, first_state, operation_of}
 use Rattle.machine_model.specs.Operations.{action_of, line_action, line_after}
-use Rattle.machine_model.specs.Reading.{Verdict, Commits, Fails, Overtaken, verdict}
 use Rattle.machine_model.proofs.Actors.{after_marks, marks_by, gone_actors, begin_actors}
 use Rattle.machine_model.proofs.Found.{found_within}
-use Rattle.machine_model.proofs.Grown.{prev_word}
 use Rattle.machine_model.proofs.Moves.{Moves, Begins, Goes, Ends, Sweeps, begun_operation}
 use Rattle.machine_model.proofs.Times.{at_each_time}
-use Rattle.deciding_laws.proofs.Known.{ActsOn, GrownStays, GrownChanges, GrownTakes, FindsPrev, Either, Decided, Taken}
 use Rattle.deciding_laws.proofs.Words.{Words, Stage, Rests, Decides}
 use Rattle.deciding_laws.proofs.Words as Word
-use Rattle.deciding_laws.proofs.Stood.{none≢pending}
 use Rattle.deciding_laws.proofs.Finals.{effect}
 use Rattle.deciding_laws.proofs.Stages.{stage_of, stage_of_actor}
 use Rattle.deciding_laws.proofs.StepsAt.{mark_stage, go_others, actor_counts}
 use Rattle.deciding_laws.proofs.LineTurns.{line_turn}
 use Rattle.deciding_laws.proofs.RunWords.{line_facts, remembers_at}
 use Rattle.line_laws.proofs.Nodes.{known_run}
-use Rattle.std.proofs.lemmas.Bool.{cases_eq}
 use Rattle.ending_laws.specs.Alone.{Lone, Stands}
 use Rattle.ending_laws.specs.Stepping.{IsNoEnd}
 use Rattle.ending_laws.proofs.SteppingNext.{takes, next, no_end}
 use Rattle.ending_laws.proofs.SteppingKeeps.{after_so, goes_by}
-use Rattle.ending_laws.proofs.ReadsWords.{w, p, sound, NonePending, stays_none, main_none, prev_none}
+use Rattle.ending_laws.proofs.ReadsWords.{w, p, sound, NonePending}
 use Rattle.ending_laws.proofs.FineWeight.{stage_weight, still_lighter, own_lighter}
 
 -- ---- how many actors there are
@@ -52,42 +42,7 @@ actors_length state s o after (Goes {actor} {operation} d is a g) =
 actors_length state s o after (Ends d is a) = length-set state.actors _ _
 actors_length state s o after (Sweeps spent) = refl
 
--- ---- a step that makes no node pending
-
-abbrev pub IsNoPublish : Action → Type 0
-IsNoPublish (act.Publish i r f) = ⊥
-IsNoPublish action = Unit {0}
-
 module _ (a : Lone) where
-  decided_none : (t : ℕ) (m q : Ref) (v : Verdict) → FindsPrev a.states t m → Decided a.states t m q v → NonePending a t
-  decided_none t m q Commits found e = prev_none a t prev.None m found.made (λ x wrong. let bad : prev.None ≡ prev.Pending x = wrong in cc) e
-  decided_none t m q Fails found e = prev_none a t (prev.Failed q) m found.made (λ x wrong. let bad : prev.Failed q ≡ prev.Pending x = wrong in cc) e
-  decided_none t m q (Overtaken licensed) found e = stays_none a t e
-
-  restored_none : (t : ℕ) (i q : Ref) (b : Bool) → Either b (GrownChanges a.states t (main_changed q) i) (GrownStays a.states t) → NonePending a t
-  restored_none t i q true e = main_none a t i q e
-  restored_none t i q false e = stays_none a t e
-
-  takes_none : (t : ℕ) (n : Ref) (node : Node) → GrownTakes a.states t n node → NonePending a t
-  takes_none t n node e m q none pending = elim (cases_eq m n) [
-    | inl same ↦ none≢pending (ap (prev_word a.states (suc t)) same ∙ ap prev_of e.here) pending
-    | inr apart ↦ none≢pending (ap prev_of (e.elsewhere m apart) ∙ none) pending
-  ]
-
-  taken_none : (t : ℕ) (node : Node) (made : Option Ref) → Taken a.states t node made → NonePending a t
-  taken_none t node None e = stays_none a t e
-  taken_none t node (Some n) e = takes_none t n node e
-
-  pub none_pending : (t : ℕ) (action : Action) → IsNoPublish action → ActsOn a.states t action → NonePending a t
-  none_pending t (act.Publish i r f) quiet e = absurd quiet
-  none_pending t (act.ReadMain i) quiet e = stays_none a t e.1
-  none_pending t (act.ReadPrev m) quiet e = stays_none a t e.1
-  none_pending t (act.Restore i m q) quiet e = restored_none t i q (main_at (a.states t).heap i == m) e.1
-  none_pending t (act.Decide i m q told) quiet e = decided_none t m q (verdict (a.states t).heap i m q told) e.1 e.3
-  none_pending t (act.Make node) quiet e = taken_none t node (next_ref (a.states t).heap) e
-  none_pending t (act.MakeRoot main) quiet e = taken_none t _ (next_ref (a.states t).heap) e
-  none_pending t action quiet e = stays_none a t e
-
   -- ---- which actors weigh
 
   -- what an actor weighs before step t

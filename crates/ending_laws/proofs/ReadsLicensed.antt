@@ -1,28 +1,27 @@
 -- A READ where the root that stands in the word, with no offer, is of the indirection's generation: whatever is pending is committed.
-use Rattle.std.proofs.Common.{◌≡◌, ℕ, suc, ◌+◌, ◌-◌, ◌<◌, ◌≤◌, ◌==◌, Bool, true, false, nat_eq, Option, Some, refl, sym, ap, ◌∙◌, subst, eq-eqb, eqb-true, arith}
+use Rattle.std.proofs.Common.{◌≡◌, ℕ, suc, ◌+◌, ◌-◌, ◌<◌, ◌≤◌, true, false, nat_eq, Option, Some, refl, sym, ap, ◌∙◌, subst, eq-eqb, arith}
 use Rattle.std.specs.Option.{option_eq}
-use Rattle.std.proofs.lemmas.Bool.{true≢false}
 use Rattle.std.proofs.lemmas.Option.{none-some}
 use Rattle.history.specs.declared.calls.Access.TheVariants.{Writable}
 use Rattle.slot_arena.specs.declared.refs.Ref.{Ref}
 use Rattle.slot_arena.specs.declared.nodes.Prev.{Prev}
 use Rattle.slot_arena.specs.declared.nodes.Prev.TheVariants as prev
-use Rattle.slot_arena.specs.Heaps.{main_at, prev_at, generation_at, main_changed}
+use Rattle.slot_arena.specs.Heaps.{prev_at, generation_at}
 use Rattle.machine_model.specs.declared.lines.Line.{Line}
 use Rattle.machine_model.specs.declared.lines.Line.TheVariants as line
 use Rattle.machine_model.specs.declared.reading.Read.{Read}
 use Rattle.machine_model.specs.declared.reading.ReadLine.{ReadLine}
 use Rattle.machine_model.specs.declared.reading.ReadLine.TheVariants as read
 use Rattle.machine_model.specs.Operations.{read_of}
-use Rattle.machine_model.specs.Reading.{read_action, verdict_by, is_licensed, is_pending, after_prev, after_ask, after_decide, after_restore}
+use Rattle.machine_model.specs.Reading.{read_action, verdict_by, is_licensed, is_pending, after_prev, after_ask, after_decide}
 use Rattle.machine_model.proofs.Grown.{main_word, prev_word}
 use Rattle.memory_laws.specs.Laws.{is_end}
-use Rattle.deciding_laws.proofs.Known.{Decided, GrownStays, GrownChanges, Either}
+use Rattle.deciding_laws.proofs.Known.{Decided}
 use Rattle.ending_laws.specs.Alone.{Lone, Stands, IsPlain, IsQuiet, generation}
 use Rattle.ending_laws.specs.Machines.{HoldsRead, lead}
 use Rattle.ending_laws.specs.Weighing.{Weighing, Sees}
 use Rattle.ending_laws.proofs.Withins.{Comes}
-use Rattle.ending_laws.proofs.ReadsWords.{link_made, still_sees, sees_written, put_back}
+use Rattle.ending_laws.proofs.ReadsWords.{link_made, still_sees, sees_written}
 use Rattle.ending_laws.proofs.ReadsLines.{on_line}
 use Rattle.ending_laws.proofs.ReadsStep.{Counts, acts, acting, on, stays}
 use Rattle.ending_laws.proofs.ReadsFirst as First

@@ -1,9 +1,8 @@
 -- A READ from any of its lines, where one actor alone takes steps and a READ costs 6 or more: whoever asks for the root while alone is told the truth.
-use Rattle.std.proofs.Common.{◌≡◌, ℕ, suc, ◌+◌, ◌-◌, ◌<◌, ◌≤◌, Bool, true, false, nat_eq, Option, Some, refl, sym, ap, ◌∙◌, subst, eqb-true, arith}
+use Rattle.std.proofs.Common.{◌≡◌, ℕ, suc, ◌+◌, ◌-◌, ◌<◌, ◌≤◌, Bool, true, false, nat_eq, Option, Some, refl, sym, ◌∙◌, subst, eqb-true, arith}
 use Rattle.std.specs.Option.{option_eq}
 use Rattle.slot_arena.specs.declared.refs.Ref.{Ref}
-use Rattle.slot_arena.specs.declared.nodes.Prev.TheVariants as prev
-use Rattle.slot_arena.specs.Heaps.{prev_at, generation_at}
+use Rattle.slot_arena.specs.Heaps.{prev_at}
 use Rattle.history.specs.declared.calls.Access.TheVariants.{Writable}
 use Rattle.machine_model.specs.declared.lines.Line.{Line}
 use Rattle.machine_model.specs.declared.reading.ReadLine.{ReadLine}
@@ -15,7 +14,7 @@ use Rattle.machine_model.specs.Reading.{verdict_by, is_licensed, is_pending, rea
 use Rattle.machine_model.proofs.Grown.{prev_word}
 use Rattle.ending_laws.specs.Alone.{Lone, Stands, IsPlain, IsQuiet, word, generation}
 use Rattle.ending_laws.specs.Machines.{HoldsRead, lead}
-use Rattle.ending_laws.specs.Weighing.{Weighing, Sees}
+use Rattle.ending_laws.specs.Weighing.{Weighing}
 use Rattle.ending_laws.proofs.Withins.{Comes}
 use Rattle.ending_laws.proofs.ReadsLines.{on_line, asks_writable}
 use Rattle.ending_laws.proofs.ReadsStep.{Counts, acts, acting, off, same_word_at, stays, on}

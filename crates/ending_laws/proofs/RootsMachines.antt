@@ -8,6 +8,7 @@ use Rattle.ending_laws.proofs.ReadsFirst.{reads_first}
 use Rattle.ending_laws.proofs.ReadsOn.{reads_on}
 use Rattle.ending_laws.proofs.Roots.{roots_plain, roots_first, roots_on, climb_roots_plain, climb_roots_on}
 use Rattle.ending_laws.proofs.Stepping.{stepping}
+use Rattle.ending_laws.proofs.SwapsEnds.{pays_of}
 use Rattle.ending_laws.proofs.Swaps.{swaps_current, swaps_first, swaps_on}
 use Rattle.ending_laws.proofs.Weights.{flat}
 
@@ -17,12 +18,13 @@ machines a weight pending failed c weighing two three seven =
     let steps = stepping a in
     let first = reads_first a weight pending failed c weighing two three seven in
     let on = reads_on a weight pending failed c weighing two three seven in
+    let pays = pays_of a weight pending failed weighing in
     record {
       reads_first = first;
       reads_on = on;
-      swaps_current = swaps_current a steps weight pending failed weighing c;
-      swaps_first = swaps_first a steps weight pending failed weighing c;
-      swaps_on = swaps_on a steps weight pending failed weighing c on;
+      swaps_current = swaps_current a steps weight pending failed pays c;
+      swaps_first = swaps_first a steps weight pending failed pays c;
+      swaps_on = swaps_on a steps weight pending failed pays c on;
       roots_plain = roots_plain a steps weight weighing.quiet c;
       roots_first = roots_first a steps weight weighing.quiet c first on;
       roots_on = roots_on a steps weight weighing.quiet c first on;
