@@ -1,15 +1,13 @@
 -- No run is long in which an operation on one key, a snapshot, a freeze or a clear alone takes steps and never ends: so each of them ends.
-use Rattle.std.proofs.Common.{◌≡◌, ℕ, suc, ◌+◌, ◌*◌, ◌≤◌, refl, sym, ap, arith}
+use Rattle.std.proofs.Common.{◌≡◌, ◌+◌, ◌≤◌, refl, arith}
 use Rattle.history.specs.declared.calls.Access.{Access}
 use Rattle.history.specs.declared.calls.Access.TheVariants.{ReadOnly, Writable}
 use Rattle.history.specs.declared.calls.Call.{Call}
 use Rattle.history.specs.declared.calls.Call.TheVariants.{Clear, Freeze, Snapshot, Close, Entries, Count}
-use Rattle.ending_laws.specs.Alone.{Lone, Within}
+use Rattle.ending_laws.specs.Alone.{Lone}
 use Rattle.ending_laws.specs.Bounds.{cleaning_most, key_most}
-use Rattle.ending_laws.specs.Copies.{CopiesEnd, IsCopying}
 use Rattle.ending_laws.specs.Keys.{IsOnKey}
 use Rattle.ending_laws.specs.Laws.{AloneItEnds, EachStepLeadsToItsEnd, IsOnKeyOrRoot, most_steps_alone}
-use Rattle.ending_laws.specs.Machines.{Machines}
 use Rattle.ending_laws.proofs.Copies.{copies_end}
 use Rattle.ending_laws.proofs.EndsAlone.{NoneIsLong, ends_alone, steps_lead_to_the_end}
 use Rattle.ending_laws.proofs.EndsKeys.{key_ends}

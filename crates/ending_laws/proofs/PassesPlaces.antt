@@ -1,15 +1,11 @@
 -- The key's path that a pass finds is the one that the trie has: an indirection that was once on it, in the generation of the root, is there still, unless its
 -- main node became a tomb.
-use Rattle.std.proofs.Common.{◌≡◌, ℕ, zero, suc, cond, ◌+◌, ◌-◌, ◌<◌, ◌≤◌, ◌⊎◌, inl, inr, true, List, length, get_or, Some, refl, sym, ap, ap₂, subst, ◌∙◌, arith}
+use Rattle.std.proofs.Common.{◌≡◌, ℕ, zero, suc, cond, ◌<◌, ◌≤◌, ◌⊎◌, inl, inr, List, length, get_or, refl, sym, ap, ap₂, subst, ◌∙◌, arith}
 use Rattle.ctrie_base.specs.Hashes.{hash_of}
-use Rattle.ctrie_base.specs.Paths.{position_of}
 use Rattle.slot_arena.specs.declared.refs.Ref.{Ref}
-use Rattle.slot_arena.specs.declared.nodes.Node.{Node}
-use Rattle.slot_arena.specs.declared.nodes.Node.TheVariants.{Branch, Indirection, Tomb}
 use Rattle.slot_arena.specs.Heaps.{generation_of, logical, no_ref, prev_of}
-use Rattle.nodes.specs.Levels.{has_flag, flag_of}
 use Rattle.node_contents.specs.Changing.{look}
-use Rattle.node_contents.specs.Looking.{Found, Below, look_at, Absent}
+use Rattle.node_contents.specs.Looking.{Below, look_at, Absent}
 use Rattle.machine_model.specs.Calls.{key_of}
 use Rattle.machine_model.proofs.Grown.{grown}
 use Rattle.content_laws.specs.Tries.{IsTombed, On, Trie, says, at_below, at_root}
@@ -18,7 +14,7 @@ use Rattle.content_laws.proofs.Paths.{path_lasts}
 use Rattle.content_laws.proofs.Runs.{main_at-made}
 use Rattle.shape_laws.specs.Shaped.{trie_of_run}
 use Rattle.ending_laws.specs.Alone.{Has, Lone, generation, node}
-use Rattle.ending_laws.specs.Keys.{Chain, IsNoTomb, IsOf, Leads, entry_for, flag_at}
+use Rattle.ending_laws.specs.Keys.{Chain, IsNoTomb, IsOf, Leads, entry_for}
 
 module _ (a : Lone) where
   -- the trie of the run
