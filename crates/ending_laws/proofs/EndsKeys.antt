@@ -1,8 +1,7 @@
 -- A call on one key, on a writable handle, ends: a stale pass comes to a new try, and from a new try it ends.
-use Rattle.std.proofs.Common.{◌≡◌, ℕ, suc, ◌+◌, ◌*◌, ◌≤◌, Bool, true, false, List, length, Option, Some, refl, sym, ap, subst, ◌∙◌, arith}
+use Rattle.std.proofs.Common.{◌≡◌, ℕ, ◌+◌, ◌*◌, ◌≤◌, true, Option, Some, refl, sym, subst, ◌∙◌, arith}
 use Rattle.std.proofs.lemmas.Bool.{false≢true}
 use Rattle.history.specs.declared.calls.Access.TheVariants.{Writable}
-use Rattle.slot_arena.specs.declared.refs.Ref.{Ref}
 use Rattle.machine_model.specs.declared.lines.Line.{Line}
 use Rattle.machine_model.specs.declared.lines.Line.TheVariants as line
 use Rattle.machine_model.specs.declared.lines.Purpose.{Purpose}
@@ -10,13 +9,12 @@ use Rattle.machine_model.specs.declared.lines.Purpose.TheVariants as purpose
 use Rattle.machine_model.specs.declared.reading.Swap.{Swap}
 use Rattle.machine_model.specs.declared.reading.SwapLine.{SwapLine}
 use Rattle.machine_model.specs.declared.reading.SwapLine.TheVariants as swap
-use Rattle.machine_model.specs.Operations.{swapped}
 use Rattle.machine_model.specs.Swapping.{swapping}
 use Rattle.line_laws.proofs.Placed.{is_below, is_down}
 use Rattle.line_laws.proofs.Places.{settled_at}
-use Rattle.ending_laws.specs.Alone.{IsWeight, Lone, Stands, Within, node}
-use Rattle.ending_laws.specs.Bounds.{fresh_most, key_most, rooted_most, stale_most}
-use Rattle.ending_laws.specs.Keys.{Changes, IsOnKey}
+use Rattle.ending_laws.specs.Alone.{IsWeight, Lone, Stands, Within}
+use Rattle.ending_laws.specs.Bounds.{key_most, rooted_most, stale_most}
+use Rattle.ending_laws.specs.Keys.{IsOnKey}
 use Rattle.ending_laws.specs.Machines.{IsRooted, IsSwapped, Machines, WasSwapped}
 use Rattle.ending_laws.specs.Stale.{Tries}
 use Rattle.ending_laws.specs.Stepping.{Stepping}
@@ -25,7 +23,7 @@ use Rattle.ending_laws.proofs.BottomsStale.{builds_again, updates_on}
 use Rattle.ending_laws.proofs.CleansCurrent.{cleans_current}
 use Rattle.ending_laws.proofs.CleansOn.{cleans_on}
 use Rattle.ending_laws.proofs.ClimbsOn.{climb_swaps_on, climbs_on}
-use Rattle.ending_laws.proofs.Fresh.{fresh_ends, rooted_ends}
+use Rattle.ending_laws.proofs.Fresh.{rooted_ends}
 use Rattle.ending_laws.proofs.FreshEnds.{tombs_end}
 use Rattle.ending_laws.proofs.PassesAlong.{pass_along}
 use Rattle.ending_laws.proofs.PassesDown.{goes_down_a_level}
@@ -68,11 +66,13 @@ module _ (a : Lone) (weight : ℕ → ℕ) (c : ℕ) (heavy : IsWeight a weight)
           weaken a weight (Tries a weight c g) (c + 7 + 0) (c + 10) t (omega arith)
           (bind a weight (WasSwapped a weight c t g purpose.Clean w.fresh) (Tries a weight c g) (c + 7) 0 t (machines.swaps_on purpose.Clean w t g s late)
           (λ u after in_time x. here a weight (Tries a weight c g) u x.stands))
+
       first : Stands a t g (line.Swap purpose.Clean (swapping w.indirection w.replaced w.fresh)) → W (Tries a weight c g) (c + 10) t
       first s =
           weaken a weight (Tries a weight c g) (10 + 0) (c + 10) t (omega arith)
           (bind a weight (IsSwapped a weight c t g purpose.Clean w.indirection w.replaced w.fresh) (Tries a weight c g) 10 0 t (machines.swaps_first purpose.Clean w.indirection w.replaced w.fresh t g s)
           (λ u after in_time x. here a weight (Tries a weight c g) u x.stands))
+
       by_line : (l : SwapLine) → w.line ≡ l → W (Tries a weight c g) (c + 10) t
       by_line swap.Publish e = first (subst (λ l. Stands a t g (line.Swap purpose.Clean (record w { line = l }))) e s)
       by_line (swap.Deciding l) e = other (λ is. let bad : swap.Deciding l ≡ swap.Publish = sym e ∙ is in cc)

@@ -28,8 +28,10 @@ module _ (a : Lone) (steps : Stepping a) where
     where
       link : is_indirection (node_at (a.states t).heap r) ≡ true
       link = meets_of (steps.wants t g (line.Key (key.Read (r ∷ []) (reading r))) s).1.1.0
+
       none : (n : Node) → node_at (a.states t).heap r ≡ n → is_indirection n ≡ false → IsOf a r (generation a r)
       none n e kind = absurd (false≢true (sym kind ∙ ap is_indirection (sym e) ∙ link))
+
       by : (n : Node) → node_at (a.states t).heap r ≡ n → IsOf a r (generation a r)
       by (Indirection h w) e =
           let (m, is) = steps.link_found t r h w s.until (safe_of (steps.wants t g (line.Key (key.Read (r ∷ []) (reading r))) s).1.1.0) e in
@@ -57,6 +59,7 @@ module _ (a : Lone) (weight : ℕ → ℕ) (c : ℕ) (steps : Stepping a) (machi
     where
       now : Stands a u (Some (generation a rooted.root)) (line.Key (key.Read (rooted.root ∷ []) (reading rooted.root)))
       now = subst (Stands a u (Some (generation a rooted.root))) (key_begins a.own.call on rooted.root) rooted.stands
+
       current_root : IsCurrent a u rooted.root (Some (generation a rooted.root))
       current_root = record { plain = rooted.plain; own = refl }
 

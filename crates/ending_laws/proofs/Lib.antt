@@ -87,4 +87,5 @@ pub mod EndsKeys
 pub mod EndsAll
 pub mod ReadHolds
 pub mod AloneReads
+pub mod PassesPlaces
 pub mod SwapsSoon

@@ -8,18 +8,16 @@ use Rattle.slot_arena.specs.declared.nodes.Node.{Node}
 use Rattle.slot_arena.specs.declared.nodes.Node.TheVariants.{Indirection, Branch, Single, Tomb, List as Listed}
 use Rattle.slot_arena.specs.Heaps.{entries_of, no_ref, node_at}
 use Rattle.nodes.specs.Levels.{flag_of}
-use Rattle.machine_model.specs.declared.actions.Action.TheVariants as act
 use Rattle.machine_model.specs.declared.finding.KeyLine.TheVariants as key
 use Rattle.machine_model.specs.declared.lines.Line.{Line}
 use Rattle.machine_model.specs.declared.lines.Line.TheVariants as line
 use Rattle.machine_model.specs.declared.steps.Limits.{Limits}
 use Rattle.machine_model.specs.Calls.{key_of}
-use Rattle.machine_model.specs.Operations.{line_action}
 use Rattle.machine_model.specs.Paths.{depth_of, flag_in}
 use Rattle.memory_laws.specs.Laws.{IsInUse}
-use Rattle.memory_laws.specs.Wants.{ABranch, AMain, AllHold, action_wants, is_indirection, meets}
-use Rattle.memory_laws.proofs.AtTimes.{action_at, limits_at}
-use Rattle.memory_laws.proofs.Claims.{meets_of, safe_of}
+use Rattle.memory_laws.specs.Wants.{is_indirection}
+use Rattle.memory_laws.proofs.AtTimes.{limits_at}
+use Rattle.memory_laws.proofs.Claims.{meets_of}
 use Rattle.ending_laws.specs.Alone.{Lone, Stands, node}
 use Rattle.ending_laws.specs.Keys.{IsOf, flag_at}
 use Rattle.ending_laws.specs.Stepping.{Stepping}

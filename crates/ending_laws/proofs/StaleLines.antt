@@ -1,5 +1,5 @@
 -- From each line of a call on one key, on a writable handle, the operation comes to a new try or ends.
-use Rattle.std.proofs.Common.{◌≡◌, ℕ, suc, ◌+◌, ◌*◌, ◌<◌, ◌≤◌, Bool, true, false, if◌then◌else◌, List, [], ◌∷◌, ◌++◌, length, get_or, Option, Some, refl, sym, ap, subst, ◌∙◌, ltb, ltb-true, arith}
+use Rattle.std.proofs.Common.{◌≡◌, ℕ, suc, ◌+◌, ◌*◌, ◌≤◌, Bool, true, false, if◌then◌else◌, List, [], ◌∷◌, ◌++◌, length, get_or, Some, refl, sym, ap, subst, ◌∙◌, ltb, ltb-true, arith}
 use Rattle.history.specs.declared.calls.Access.TheVariants.{Writable}
 use Rattle.slot_arena.specs.declared.refs.Ref.{Ref}
 use Rattle.slot_arena.specs.declared.nodes.Node.{Node}
@@ -7,7 +7,6 @@ use Rattle.slot_arena.specs.declared.nodes.Node.TheVariants.{Indirection, Branch
 use Rattle.slot_arena.specs.Heaps.{entries_of, entry_at, no_ref, node_at}
 use Rattle.machine_model.specs.declared.finding.KeyLine.{KeyLine}
 use Rattle.machine_model.specs.declared.finding.KeyLine.TheVariants as key
-use Rattle.machine_model.specs.declared.lines.Line.{Line}
 use Rattle.machine_model.specs.declared.lines.Line.TheVariants as line
 use Rattle.machine_model.specs.declared.lines.Purpose.TheVariants as purpose
 use Rattle.machine_model.specs.declared.reading.Read.{Read}
@@ -83,6 +82,7 @@ module _ (a : Lone) (weight : ℕ → ℕ) (c : ℕ) (heavy : IsWeight a weight)
           weaken a weight (T g) (c + 7 + rest) (c + 10 + rest) t (omega arith)
           (bind a weight (WasSwapped a weight c t (Some g) (purpose.Renew path) w.fresh) (T g) (c + 7) rest t (machines.swaps_on (purpose.Renew path) w t (Some g) s late)
           (λ u after in_time x. renew_swapped path w.fresh u g x.done x.stands))
+
       by_line : (l : SwapLine) → w.line ≡ l → W (T g) (c + 10 + rest) t
       by_line swap.Publish e =
           weaken a weight (T g) (10 + rest) (c + 10 + rest) t (omega arith)
@@ -137,6 +137,7 @@ module _ (a : Lone) (weight : ℕ → ℕ) (c : ℕ) (heavy : IsWeight a weight)
       where
         none : (n : Node) → node a entry ≡ n → ((h : ℕ) (m : Ref) → n ≡ Indirection h m → ⊥) → W (T g) most t
         none n e other = weaken a weight (T g) (14 * (c + 12) + 45) most t (omega arith) (entries_again a weight c heavy steps machines path main position t (Some g) s (λ h of. other h of.0 (sym e ∙ of.1)))
+
         by : (n : Node) → node a entry ≡ n → W (T g) most t
         by (Indirection h m) e = link_on h (m, e)
         by (Branch b es) e = none (Branch b es) e (λ h m x. let bad : ⊥ = cc x in bad)
