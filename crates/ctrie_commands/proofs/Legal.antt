@@ -81,9 +81,9 @@ pub report_legal : (script : Script) (machine : Taken) (text : List ℕ) → sta
     IsLegalFor machine (order_of (state_of machine)) → text ≡ report script → IsLegalText text (told_in script.limits.hash (last_state script))
 report_legal script machine text is fit legal same =
     let sizes : machine.limits ≡ script.limits =
-        sym (run_limits machine.limits machine.steps) ∙ ap (λ (s : State). s.limits) is ∙ run_limits script.limits (all_steps (first_state script.limits) script.commands) in
+    sym (run_limits machine.limits machine.steps) ∙ ap (λ (s : State). s.limits) is ∙ run_limits script.limits (all_steps (first_state script.limits) script.commands) in
     let here : IsLegal (hash_of script.limits.hash) (state_of machine).events (order_of (state_of machine)) =
-        subst (λ (limits : Limits). IsLegal (hash_of limits.hash) (state_of machine).events (order_of (state_of machine))) sizes legal in
+    subst (λ (limits : Limits). IsLegal (hash_of limits.hash) (state_of machine).events (order_of (state_of machine))) sizes legal in
     told_legal script.limits.hash (last_state script) text (report script) (subst (λ (s : State). All EventFits s.events) is fit)
     (subst (λ (s : State). IsLegal (hash_of script.limits.hash) s.events (order_of s)) is here) same (report_spelled script)
 

@@ -107,7 +107,7 @@ reported script runner made workers seats told text bytes is ranks are denied (h
     let hash : told.limits.hash ≡ script.limits.hash = ap (λ (l : Limits). l.hash) (gathered.limits ∙ is.sizes) in
     let denials = map (λ (w : Worker). w.denied.items) workers in
     let whole : bytes ≡ thread_report script.limits.hash (state_of board) denials = written ∙ text_of told.limits told text script.limits.hash its hash
-        ∙ ap (λ t. line (hash_text script.limits.hash) ++ (event_lines (state_of board).events ++ (t ++ last_lines (state_of board)))) denied in
+    ∙ ap (λ t. line (hash_text script.limits.hash) ++ (event_lines (state_of board).events ++ (t ++ last_lines (state_of board)))) denied in
     let right = record_text_legal script.limits.hash told bytes denials its legal fit hash whole in
     record {
       board = board;

@@ -119,7 +119,7 @@ last_counted : (state : State) → length (lines_of (last_lines state)) ≡ 2
 last_counted state =
     let slots = slots_text (length (in_use state.heap)) (length state.heap.free) (length state.limbo) in
     let last : length (lines_of (line slots)) ≡ 1 =
-        ap (λ t. length (lines_of t)) (sym (append-nil (line slots))) ∙ one_line slots [] (slots_line_none (length (in_use state.heap)) (length state.heap.free) (length state.limbo)) ∙ ap suc (ap length no_lines) in
+    ap (λ t. length (lines_of t)) (sym (append-nil (line slots))) ∙ one_line slots [] (slots_line_none (length (in_use state.heap)) (length state.heap.free) (length state.limbo)) ∙ ap suc (ap length no_lines) in
     one_line (order_text (order_of state)) (line slots) (order_line_none (order_of state)) ∙ ap suc last
 
 report_counted : (script : Reading) → length (lines_of (report script)) ≤ 2 * length script.commands + 3

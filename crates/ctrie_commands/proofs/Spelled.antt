@@ -88,7 +88,7 @@ by_denial : (state : State) (command : Command) (denial : Option Refusal) → de
 by_denial state command None e rest later order fit behind = events_spelled (added_events state command) rest later order fit behind
 by_denial state command (Some refusal) e rest later order fit behind =
     let none : added_events state command ≡ [] =
-        ap (λ (s : State). drop (length state.events) s.events) (denied_changes_nothing state command refusal e) ∙ drop_all (length state.events) state.events (omega arith) in
+    ap (λ (s : State). drop (length state.events) s.events) (denied_changes_nothing state command refusal e) ∙ drop_all (length state.events) state.events (omega arith) in
     subst (λ added. SpellEvents (said_lines (line (denied_text (actor_of command) refusal) ++ rest)) (added ++ later) order) (sym none)
     (one_denied (actor_of command) refusal rest later order behind)
 

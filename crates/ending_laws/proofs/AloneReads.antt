@@ -48,10 +48,13 @@ module _ (limits : Limits) (steps : List Step) (actor : ℕ) (operation : Operat
         let k = u - a.start in
         let place : a.start + k ≡ u = omega (arith, from) in
         let low : k ≤ n = omega (arith, from, to) in
-        let here : a.states u ≡ alone_after limits steps actor k = ap a.states (sym place) ∙ state_at limits steps actor n (each limits steps actor operation r n still) k low in
-        (k, low, λ o x runs e.
-        let one : s.operation ≡ o = same_Some _ _ (sym s.runs ∙ ap (λ (y : State). operation_of y actor) here ∙ runs) in
-        none-some x (sym (held.over m) ∙ ap read_of (sym s.line) ∙ ap (λ (y : Operation). read_of y.line) one ∙ e))
+        let here : a.states u ≡ alone_after limits steps actor k = ap a.states (sym place) ∙ state_at limits steps actor n (each limits steps actor operation r n still) k low in (
+          k,
+          low,
+          λ o x runs e.
+              let one : s.operation ≡ o = same_Some _ _ (sym s.runs ∙ ap (λ (y : State). operation_of y actor) here ∙ runs) in
+              none-some x (sym (held.over m) ∙ ap read_of (sym s.line) ∙ ap (λ (y : Operation). read_of y.line) one ∙ e),
+        )
 
   over_left : StillRuns limits steps actor operation r 12 ⊎ EndedBefore limits steps actor operation r 12 → Over 12
   over_left (inr ended) = over_ended 12 ended
