@@ -12,17 +12,13 @@ use Rattle.machine_model.specs.declared.finding.KeyLine.{KeyLine}
 use Rattle.machine_model.specs.declared.finding.KeyLine.TheVariants as key
 use Rattle.machine_model.specs.declared.lines.Line.{Line}
 use Rattle.machine_model.specs.declared.lines.Line.TheVariants as line
-use Rattle.machine_model.specs.declared.operations.Operation.{Operation}
-use Rattle.machine_model.specs.declared.reading.After.{After}
-use Rattle.machine_model.specs.declared.reading.After.TheVariants.{Goes, Gives}
 use Rattle.machine_model.specs.declared.reading.ReadLine.{ReadLine}
 use Rattle.machine_model.specs.declared.reading.ReadLine.TheVariants as read
 use Rattle.machine_model.specs.declared.roots.Complete.{Complete}
 use Rattle.machine_model.specs.declared.roots.RootLine.TheVariants as root
 use Rattle.machine_model.specs.Calls.{handle_of}
-use Rattle.machine_model.specs.Finding.{going_down, key_after_read}
-use Rattle.machine_model.specs.Reading.{read_after, at_indirection}
-use Rattle.machine_model.specs.States.{root_of, word_of, word_at}
+use Rattle.machine_model.specs.Finding.{going_down}
+use Rattle.machine_model.specs.States.{root_of, word_of}
 use Rattle.machine_model.proofs.Grown.{grown}
 use Rattle.memory_laws.specs.Wants.{TombOrList, AMain, listed, meets, is_indirection}
 use Rattle.memory_laws.proofs.AtEachTime.{safe_at}
@@ -39,11 +35,11 @@ use Rattle.shape_laws.proofs.GrownSites.{made_shaped}
 use Rattle.shape_laws.proofs.SitesAt.{ways_have_sites}
 use Rattle.ending_laws.specs.Alone.{Lone, Stands, IsPlain, Within, node, word}
 use Rattle.ending_laws.specs.Keys.{IsOnKey}
-use Rattle.ending_laws.specs.Machines.{HoldsRead, lead, Machines, IsRead, WasRead, IsRooted}
+use Rattle.ending_laws.specs.Machines.{Machines, IsRead, WasRead, IsRooted}
 use Rattle.ending_laws.specs.Readers.{ReadersEnd}
 use Rattle.ending_laws.specs.Stepping.{Stepping}
 use Rattle.ending_laws.proofs.ReadersCalls.{OfReader, from_key, reader_at, reader_lines}
-use Rattle.ending_laws.proofs.ReadersLines.{AfterMain, ToEntry, ToListed, MainEnds, MainFails, AfterEntry, ToBelow, EntryEnds, EntryFails, AfterListed, ToNext, ListedEnds, ListedFails, after_main, after_entry, after_single}
+use Rattle.ending_laws.proofs.ReadersLines.{keying, seeing, key_reads, AfterMain, ToEntry, ToListed, MainEnds, MainFails, AfterEntry, ToBelow, EntryEnds, EntryFails, AfterListed, ToNext, ListedEnds, ListedFails, after_main, after_entry, after_single}
 use Rattle.ending_laws.proofs.RootsMachines.{flat_machines}
 use Rattle.ending_laws.proofs.StandsAt.{begins}
 use Rattle.ending_laws.proofs.Stepping.{stepping}
@@ -51,29 +47,6 @@ use Rattle.ending_laws.proofs.SwapsFound.{handle_open}
 use Rattle.ending_laws.proofs.SwapsSteps.{placed}
 use Rattle.ending_laws.proofs.Weights.{flat, is_weight, weighs_at_most}
 use Rattle.ending_laws.proofs.Withins.{weaken, bind, one, ended}
-
--- a READ of KEY's
-module _ (own : Operation) (path : List Ref) (i : Ref) where
-  abbrev pub keying : ReadLine → Line
-  keying l = line.Key (key.Read path (record { indirection = i; line = l }))
-
-  abbrev pub seeing : Ref → Line
-  seeing m = line.Key (key.Main path m)
-
-  goes_so : (out : After ReadLine Ref) → key_after_read path (at_indirection i out) ≡ lead keying seeing out
-  goes_so (Goes l) = refl
-  goes_so (Gives m) = refl
-
-  pub key_reads : HoldsRead own keying seeing i
-  key_reads = record {
-    reads = λ l. refl;
-    acts = λ state operation l. refl;
-    goes = λ state operation l call access.
-        ap (λ x. key_after_read path (at_indirection i (read_after state.heap x (word_at state (handle_of operation.call)) i l))) access
-        ∙ ap (λ c. key_after_read path (at_indirection i (read_after state.heap own.access (word_at state (handle_of c)) i l))) call
-        ∙ goes_so (read_after state.heap own.access (word_at state (handle_of own.call)) i l);
-    stays = λ state operation l. refl;
-  }
 
 list_plain : (n : Node) → meets TombOrList n ≡ true → is_indirection n ≡ false
 list_plain n e = grind arith

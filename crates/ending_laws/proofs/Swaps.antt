@@ -1,12 +1,10 @@
 -- SWAP, where one actor alone takes steps: it comes to its end within few steps, and succeeds where the operation's root is the handle's.
-use Rattle.std.proofs.Common.{◌≤◌, ◌≡◌, ℕ, suc, ◌+◌, ◌<◌, Bool, true, false, inl, inr, Option, Some, None, refl, sym, ap, ◌∙◌, subst, arith}
+use Rattle.std.proofs.Common.{◌≤◌, ◌≡◌, ℕ, suc, ◌+◌, ◌<◌, Bool, true, false, inl, inr, Option, Some, refl, sym, ap, ◌∙◌, subst, arith}
 use Rattle.std.proofs.lemmas.Bool.{cases_eq, eqb-false, true≢false}
 use Rattle.std.proofs.lemmas.Option.{same_Some}
 use Rattle.slot_arena.specs.declared.refs.Ref.{Ref}
 use Rattle.slot_arena.specs.declared.nodes.Prev.TheVariants as over
-use Rattle.slot_arena.specs.declared.nodes.Slot.{Slot}
-use Rattle.slot_arena.specs.Heaps.{main_at, node_of}
-use Rattle.std.specs.Prelude.{is_some}
+use Rattle.slot_arena.specs.Heaps.{main_at}
 use Rattle.machine_model.specs.declared.lines.Purpose.{Purpose}
 use Rattle.machine_model.specs.declared.reading.ReadLine.TheVariants as read
 use Rattle.machine_model.specs.declared.reading.SwapLine.{SwapLine}
@@ -14,7 +12,6 @@ use Rattle.machine_model.specs.declared.reading.SwapLine.TheVariants as swap
 use Rattle.machine_model.specs.declared.roots.RootWord.{RootWord}
 use Rattle.machine_model.specs.declared.roots.RootWord.TheVariants.{Plain, Offer}
 use Rattle.machine_model.proofs.Grown.{prev_word}
-use Rattle.deciding_laws.proofs.Known.{is_link}
 use Rattle.ending_laws.specs.Alone.{IsQuiet, Lone, Stands, Has, Keeps, WordStays, IsPlain, IsCurrent, Within, generation, word}
 use Rattle.ending_laws.specs.Machines.{HasSwapped, IsSwapped, WasSwapped, WasRead, SwapsCurrent, SwapsFirst, SwapsOn, ReadsOn}
 use Rattle.ending_laws.specs.Stepping.{Stepping}
