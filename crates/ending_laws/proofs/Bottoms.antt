@@ -17,10 +17,10 @@ use Rattle.machine_model.specs.Calls.{key_of}
 use Rattle.machine_model.specs.Finding.{absent, key_after_main}
 use Rattle.machine_model.specs.Paths.{current, depth_of, flag_in}
 use Rattle.machine_model.specs.Swapping.{swapping}
-use Rattle.memory_laws.specs.Wants.{is_indirection, is_main}
+use Rattle.memory_laws.specs.Wants.{is_indirection, is_main_node}
 use Rattle.memory_laws.proofs.AtTimes.{limits_at}
 use Rattle.memory_laws.proofs.Claims.{safe_of, meets_of}
-use Rattle.shape_laws.specs.SitesAt.{way_of_build}
+use Rattle.falling_laws.specs.Falling.{build_path}
 use Rattle.ending_laws.specs.Alone.{Lone, Stands, Has, Keeps, WordStays, IsCurrent, Within, IsWeight, node}
 use Rattle.ending_laws.specs.Keys.{IsBuilt, BottomEnds, IsEnd, IsNoTomb, flag_at, main_of_build}
 use Rattle.ending_laws.specs.Machines.{Machines, HasSwapped}
@@ -33,7 +33,7 @@ use Rattle.ending_laws.proofs.BottomsStale.{update_ends, entry_link}
 use Rattle.ending_laws.proofs.ClimbsLines.{never}
 use Rattle.ending_laws.proofs.ClimbsOn.{short_way, levels}
 
-main_no_link : (n : Node) → is_main n ≡ true → is_indirection n ≡ false
+main_no_link : (n : Node) → is_main_node n ≡ true → is_indirection n ≡ false
 main_no_link (Branch bitmap entries) e = refl
 main_no_link (Indirection h x) e = absurd (cc e)
 main_no_link (Single k v) e = refl
@@ -73,10 +73,10 @@ module _
     abbrev after_build : ℕ
     after_build = 30 + (5 + levels c)
 
-    built_in : (l : BuildLine) (t : ℕ) → Fresh t → Stands a t (Some g) (line.Build l) → way_of_build l ≡ path → main_of_build l ≡ main → W Nothing after_build t
+    built_in : (l : BuildLine) (t : ℕ) → Fresh t → Stands a t (Some g) (line.Build l) → build_path l ≡ path → main_of_build l ≡ main → W Nothing after_build t
     built_in l t f now way is =
         bind a weight (IsBuilt a weight c t (Some g) path main) Nothing 30 (5 + levels c) t
-        (subst (λ p. W (IsBuilt a weight c t (Some g) p main) 30 t) way (subst (λ m. W (IsBuilt a weight c t (Some g) (way_of_build l) m) 30 t) is (builds_on a weight c heavy steps l t (Some g) now)))
+        (subst (λ p. W (IsBuilt a weight c t (Some g) p main) 30 t) way (subst (λ m. W (IsBuilt a weight c t (Some g) (build_path l) m) 30 t) is (builds_on a weight c heavy steps l t (Some g) now)))
         (λ u later within built. swapped_in u (fresh_on t u built.keeps built.word f) built.former built.fresh built.stands)
 
     -- ---- the main node

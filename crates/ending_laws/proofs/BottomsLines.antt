@@ -26,7 +26,7 @@ use Rattle.memory_laws.proofs.Claims.{safe_of, meets_of}
 use Rattle.memory_laws.proofs.AtTimes.{kind_at, node_found}
 use Rattle.content_laws.proofs.Shapes.{list_shape}
 use Rattle.shape_laws.specs.LineSites.{Sites, sites_of, trie_at, InsideSite}
-use Rattle.shape_laws.specs.SitesAt.{way_of_build}
+use Rattle.falling_laws.specs.Falling.{build_path}
 use Rattle.shape_laws.proofs.GrownSites.{grown_sites}
 use Rattle.ending_laws.specs.Alone.{Lone, Stands, Keeps, WordStays, Within, IsWeight}
 use Rattle.ending_laws.specs.Keys.{main_of_build}
@@ -68,7 +68,7 @@ module _ (a : Lone) where
 module _
     (a : Lone) (weight : ℕ → ℕ) (heavy : IsWeight a weight) (steps : Stepping a) (path : List Ref) (main : Ref) (g : Option ℕ) (I : ℕ → Type 0)
     (kept : (t : ℕ) → Keeps a t (suc t) → WordStays a t (suc t) → I t → I (suc t)) (Q : ℕ → Type 0) (m : ℕ) (some : 1 ≤ m)
-    (builds : (l : BuildLine) (u : ℕ) → I u → Stands a u g (line.Build l) → way_of_build l ≡ path → main_of_build l ≡ main → Within a weight Q m u)
+    (builds : (l : BuildLine) (u : ℕ) → I u → Stands a u g (line.Build l) → build_path l ≡ path → main_of_build l ≡ main → Within a weight Q m u)
   where
     abbrev W : ℕ → ℕ → Type 0
     W = Within a weight Q

@@ -17,7 +17,7 @@ use Rattle.memory_laws.specs.Wants.{action_wants, AllHold, is_indirection, is_br
 use Rattle.memory_laws.specs.Laws.{IsInUse}
 use Rattle.memory_laws.proofs.AtTimes.{action_at}
 use Rattle.memory_laws.proofs.Claims.{safe_of, meets_of}
-use Rattle.shape_laws.specs.SitesAt.{way_of_build}
+use Rattle.falling_laws.specs.Falling.{build_path}
 use Rattle.ending_laws.specs.Alone.{Lone, Stands, Keeps, WordStays, Within, IsWeight, node}
 use Rattle.ending_laws.specs.Keys.{IsBuilt, main_of_build}
 use Rattle.ending_laws.specs.Machines.{Machines, IsSwapped, WasSwapped}
@@ -112,9 +112,9 @@ module _ (a : Lone) (weight : ℕ → ℕ) (c : ℕ) (heavy : IsWeight a weight)
   pub builds_again : BuildsAgain a weight c
   builds_again l t g now =
       weaken a weight (Tries a weight c g) (30 + (10 + (14 * (c + 12) + 3))) (14 * (c + 12) + 43) t (omega arith)
-      (bind a weight (IsBuilt a weight c t g (way_of_build l) (main_of_build l)) (Tries a weight c g) 30 (10 + (14 * (c + 12) + 3)) t (builds_on a weight c heavy steps l t g now)
+      (bind a weight (IsBuilt a weight c t g (build_path l) (main_of_build l)) (Tries a weight c g) 30 (10 + (14 * (c + 12) + 3)) t (builds_on a weight c heavy steps l t g now)
       (λ u later within built.
-      update_first (way_of_build l) built.former (short_way a t g (line.Build l) now) u g (current (way_of_build l)) (main_of_build l) built.fresh built.stands))
+      update_first (build_path l) built.former (short_way a t g (line.Build l) now) u g (current (build_path l)) (main_of_build l) built.fresh built.stands))
 
   -- ---- the lines of KEY
 
@@ -125,7 +125,7 @@ module _ (a : Lone) (weight : ℕ → ℕ) (c : ℕ) (heavy : IsWeight a weight)
     always : (t : ℕ) → Keeps a t (suc t) → WordStays a t (suc t) → Always t → Always (suc t)
     always t keeps word h = tt
 
-    again : (l : BuildLine) (u : ℕ) → Always u → Stands a u g (line.Build l) → way_of_build l ≡ path → main_of_build l ≡ main → W (Tries a weight c g) (14 * (c + 12) + 43) u
+    again : (l : BuildLine) (u : ℕ) → Always u → Stands a u g (line.Build l) → build_path l ≡ path → main_of_build l ≡ main → W (Tries a weight c g) (14 * (c + 12) + 43) u
     again l u h now way is = builds_again l u g now
 
   pub absent_again : AbsentAgain a weight c

@@ -12,7 +12,7 @@ use Rattle.machine_model.specs.declared.building.Site.TheVariants as site
 use Rattle.machine_model.specs.declared.lines.Line.TheVariants as line
 use Rattle.machine_model.specs.Building.{after_single, pair_depth, old_hash}
 use Rattle.machine_model.specs.Paths.{depth_of, hash_in}
-use Rattle.shape_laws.specs.SitesAt.{way_of_build}
+use Rattle.falling_laws.specs.Falling.{build_path}
 use Rattle.ending_laws.specs.Alone.{Lone, Stands, Keeps, WordStays, Within, IsWeight}
 use Rattle.ending_laws.specs.Keys.{IsBuilt, BuildsOn, main_of_build}
 use Rattle.ending_laws.specs.Stepping.{Stepping}
@@ -111,7 +111,7 @@ module _ (a : Lone) (weight : ℕ → ℕ) (c : ℕ) (heavy : IsWeight a weight)
   pub builds_on : BuildsOn a weight c
   builds_on l t g s = by_line l s
     where
-      by_line : (l : BuildLine) → Stands a t g (line.Build l) → W (IsBuilt a weight c t g (way_of_build l) (main_of_build l)) 30 t
+      by_line : (l : BuildLine) → Stands a t g (line.Build l) → W (IsBuilt a weight c t g (build_path l) (main_of_build l)) 30 t
       by_line (build.Single path main x former) s = weaken a weight (IsBuilt a weight c t g path main) 29 30 t (omega arith) (single_builds path main x former t g s)
       by_line (build.Pair path main position single depth) s = weaken a weight (IsBuilt a weight c t g path main) 28 30 t (omega arith) (pair_builds path main position single depth t g s)
       by_line (build.Link path main position below depth) s = weaken a weight (IsBuilt a weight c t g path main) 27 30 t (omega arith) (link_builds path main position below depth t g s)

@@ -7,7 +7,7 @@ use Rattle.slot_arena.specs.Heaps.{no_ref, prev_of}
 use Rattle.machine_model.proofs.Grown.{node_under, main_word, prev_word}
 use Rattle.machine_model.specs.declared.reading.ReadLine.{ReadLine}
 use Rattle.falling_laws.proofs.NoRef.{nothing_stands}
-use Rattle.deciding_laws.proofs.Known.{is_link}
+use Rattle.memory_laws.specs.Wants.{is_indirection}
 use Rattle.deciding_laws.proofs.Words.{Decides}
 use Rattle.deciding_laws.proofs.Owners.{Owner}
 use Rattle.ending_laws.specs.Alone.{Lone}
@@ -38,10 +38,10 @@ module _ (a : Lone) where
       omega (arith, five, all)
 
   -- what names an undecided node is an indirection
-  link_seen : (t : ℕ) → t ≤ a.last → (i m : Ref) (v : Prev) → Sees a t i m v → (v ≡ prev.None → ⊥) → is_link (node_under a.states t i) ≡ true
-  link_seen t within i m v sees undecided = by_test (is_link (node_under a.states t i)) refl
+  link_seen : (t : ℕ) → t ≤ a.last → (i m : Ref) (v : Prev) → Sees a t i m v → (v ≡ prev.None → ⊥) → is_indirection (node_under a.states t i) ≡ true
+  link_seen t within i m v sees undecided = by_test (is_indirection (node_under a.states t i)) refl
     where
-      by_test : (b : Bool) → is_link (node_under a.states t i) ≡ b → is_link (node_under a.states t i) ≡ true
+      by_test : (b : Bool) → is_indirection (node_under a.states t i) ≡ b → is_indirection (node_under a.states t i) ≡ true
       by_test true e = e
       by_test false e =
           let none : m ≡ no_ref = sym sees.main ∙ no_main (node_under a.states t i) e in

@@ -16,7 +16,8 @@ use Rattle.deciding_laws.proofs.Owners.{IsSound}
 use Rattle.deciding_laws.proofs.Sounds.{sound_at}
 use Rattle.deciding_laws.proofs.Finals.{effect}
 use Rattle.deciding_laws.proofs.GrownWords.{slot_prev_node, slot_kept}
-use Rattle.deciding_laws.proofs.Known.{GrownStays, GrownChanges, is_link}
+use Rattle.deciding_laws.proofs.Known.{GrownStays, GrownChanges}
+use Rattle.memory_laws.specs.Wants.{is_indirection}
 use Rattle.deciding_laws.proofs.RunWords.{protocol}
 use Rattle.content_laws.specs.Runs.{is_made}
 use Rattle.line_laws.proofs.Nodes.{known_run}
@@ -24,11 +25,11 @@ use Rattle.ending_laws.specs.Alone.{Lone, Has, Keeps}
 use Rattle.ending_laws.specs.Weighing.{Sees}
 
 -- an indirection is made
-pub link_made : (o : Option Slot) → is_link (node_of o) ≡ true → is_some o ≡ true
+pub link_made : (o : Option Slot) → is_indirection (node_of o) ≡ true → is_some o ≡ true
 link_made None e = absurd (true≢false (sym e))
 link_made o e = grind arith
 
-node_main : (q : Ref) (n : Node) → is_link n ≡ true → main_of (with_main_word q n) ≡ q
+node_main : (q : Ref) (n : Node) → is_indirection n ≡ true → main_of (with_main_word q n) ≡ q
 node_main q (Indirection g m) e = refl
 node_main q (Branch b es) e = absurd (true≢false (sym e))
 node_main q (Single k v) e = absurd (true≢false (sym e))
@@ -46,7 +47,7 @@ module _ (a : Lone) where
   sound t within = sound_at p t within
 
   -- what a failed node stands over is decided
-  over_decided : (t : ℕ) → t ≤ a.last → (m q : Ref) → prev_word a.states t m ≡ prev.Failed q → prev_word a.states t q ≡ prev.None
+  pub over_decided : (t : ℕ) → t ≤ a.last → (m q : Ref) → prev_word a.states t m ≡ prev.Failed q → prev_word a.states t q ≡ prev.None
   over_decided t within m q failed = ((sound t within).words.over m q (over_failed failed)).none
 
   -- ---- main nodes that stay
@@ -121,7 +122,7 @@ module _ (a : Lone) where
         prev = ap prev_of e.here ∙ slot_prev now (grown a.states t m) made;
       }
 
-  slot_main : (q : Ref) (o : Option Slot) → is_link (node_of o) ≡ true → main_of (node_of (option_map (main_changed q) o)) ≡ q
+  slot_main : (q : Ref) (o : Option Slot) → is_indirection (node_of o) ≡ true → main_of (node_of (option_map (main_changed q) o)) ≡ q
   slot_main q None e = absurd (true≢false (sym e))
   slot_main q (Some slot) e = node_main q slot.node e
 
@@ -135,7 +136,7 @@ module _ (a : Lone) where
   main_leaves_prev t i q e r (inr other) = ap prev_of (e.elsewhere r other)
 
   -- the node before a failed one is put back: it is decided
-  pub put_back : (t : ℕ) → t ≤ a.last → (i m q : Ref) → is_link (node_under a.states t i) ≡ true → GrownChanges a.states t (main_changed q) i → Sees a t i m (prev.Failed q) →
+  pub put_back : (t : ℕ) → t ≤ a.last → (i m q : Ref) → is_indirection (node_under a.states t i) ≡ true → GrownChanges a.states t (main_changed q) i → Sees a t i m (prev.Failed q) →
       Sees a (suc t) i q prev.None
   put_back t within i m q link e s = record {
     made = ap is_some e.here ∙ slot_kept (main_changed q) (grown a.states t i) ∙ s.made;

@@ -22,7 +22,7 @@ use Rattle.machine_model.specs.Reading.{reading}
 use Rattle.machine_model.specs.Renewing.{renew_next}
 use Rattle.machine_model.specs.Swapping.{swapping}
 use Rattle.memory_laws.proofs.Claims.{fact_of}
-use Rattle.shape_laws.specs.SitesAt.{way_of_renew}
+use Rattle.falling_laws.specs.Falling.{renew_path}
 use Rattle.ending_laws.specs.Alone.{IsWeight, Lone, Stands, Within, node}
 use Rattle.ending_laws.specs.Bounds.{level_most, stale_bottom_most, stale_most}
 use Rattle.ending_laws.specs.Keys.{IsOf, WasRenewing}
@@ -92,8 +92,8 @@ module _ (a : Lone) (weight : ℕ → ℕ) (c : ℕ) (heavy : IsWeight a weight)
 
   pub renew_tries : (l : RenewLine) (t g : ℕ) → Stands a t (Some g) (line.Renew l) → W (T g) (32 * (c + 2) + 10 + (10 + rest)) t
   renew_tries l t g s =
-      bind a weight (WasRenewing a weight c (way_of_renew l) (Some g)) (T g) (32 * (c + 2) + 10) (10 + rest) t (renews_on a steps weight c heavy machines l t g s)
-      (λ u after in_time was. renew_swaps (way_of_renew l) (current (way_of_renew l)) was.main was.fresh u g was.stands)
+      bind a weight (WasRenewing a weight c (renew_path l) (Some g)) (T g) (32 * (c + 2) + 10) (10 + rest) t (renews_on a steps weight c heavy machines l t g s)
+      (λ u after in_time was. renew_swaps (renew_path l) (current (renew_path l)) was.main was.fresh u g was.stands)
 
   -- ---- KEY
 

@@ -16,12 +16,11 @@ use Rattle.machine_model.specs.States.{root_at, word_of}
 use Rattle.slot_arena.specs.declared.nodes.Prev.TheVariants as over
 use Rattle.machine_model.specs.declared.reading.ReadLine.{ReadLine}
 use Rattle.machine_model.proofs.Grown.{grown, node_under, prev_word}
-use Rattle.memory_laws.specs.Wants.{AnIndirection, word_wants, meets, Is, Holds, AllHold}
+use Rattle.memory_laws.specs.Wants.{AnIndirection, word_wants, meets, Is, Holds, AllHold, is_indirection}
 use Rattle.memory_laws.specs.Laws.{IsInUse, is_end}
 use Rattle.memory_laws.proofs.AtEachTime.{safe_at}
 use Rattle.memory_laws.proofs.AtTimes.{kind_at, generation_found}
 use Rattle.memory_laws.proofs.Claims.{safe_of}
-use Rattle.deciding_laws.proofs.Known.{is_link}
 use Rattle.deciding_laws.proofs.Owners.{Staged}
 use Rattle.deciding_laws.proofs.ReadTurns.{generation_stays}
 use Rattle.deciding_laws.proofs.RunWords.{protocol}
@@ -37,15 +36,15 @@ use Rattle.ending_laws.specs.Alone.{Lone, Stands, Has, IsPlain, generation}
 use Rattle.ending_laws.proofs.SwapsSteps.{known, w}
 use Rattle.ending_laws.proofs.SwapsLines.{swap_line}
 
-link_met : (n : Node) → meets AnIndirection n ≡ true → is_link n ≡ true
+link_met : (n : Node) → meets AnIndirection n ≡ true → is_indirection n ≡ true
 link_met n e = grind arith
 
-pub no_main : (n : Node) → is_link n ≡ false → main_of n ≡ no_ref
+pub no_main : (n : Node) → is_indirection n ≡ false → main_of n ≡ no_ref
 no_main n e = grind arith
 
 module _ (a : Lone) where
   -- what is an indirection has its generation for good
-  pub generation_for_good : (t : ℕ) → t ≤ a.last → (r : Ref) → is_link (node_under a.states t r) ≡ true → generation_of (node_under a.states t r) ≡ generation a r
+  pub generation_for_good : (t : ℕ) → t ≤ a.last → (r : Ref) → is_indirection (node_under a.states t r) ≡ true → generation_of (node_under a.states t r) ≡ generation a r
   generation_for_good t h r link = sym (generation_stays a.limits a.states a.last (known a) t r h link)
 
   -- ---- the root that stands in the handle's word
@@ -70,7 +69,7 @@ module _ (a : Lone) where
       let (root, found, access) = handle_open t g l s going in
       let claim = root_claim t root r s.until found (sym (ap word_of found) ∙ plain) in
       let (slot, is, kind) = kind_at a.states t r AnIndirection claim in
-      generation_found a.states t r (safe_of claim) ∙ generation_for_good t s.until r (ap (λ o. is_link (node_of o)) is ∙ link_met slot.node kind)
+      generation_found a.states t r (safe_of claim) ∙ generation_for_good t s.until r (ap (λ o. is_indirection (node_of o)) is ∙ link_met slot.node kind)
 
   -- ---- a SWAP
 
@@ -98,12 +97,12 @@ module _ (a : Lone) where
 
     -- before it is swapped in, the fresh node stands nowhere
     pub fresh_nowhere : (t : ℕ) (g : Option ℕ) → Stands a t g (swap_line a why i replaced fresh swap.Publish) → (j : Ref) → Has a t j fresh → ⊥
-    fresh_nowhere t g s j has = by (is_link (node_under a.states t j)) refl
+    fresh_nowhere t g s j has = by (is_indirection (node_under a.states t j)) refl
       where
         private : Private (w a) t fresh
         private = fresh_private t g s
 
-        by : (b : Bool) → is_link (node_under a.states t j) ≡ b → ⊥
+        by : (b : Bool) → is_indirection (node_under a.states t j) ≡ b → ⊥
         by true link = private.apart j (stands_now link has.main)
         by false none =
             let same : fresh ≡ no_ref = sym has.main ∙ no_main (node_under a.states t j) none in

@@ -31,7 +31,7 @@ use Rattle.machine_model.specs.Reading.{reading}
 use Rattle.machine_model.specs.Swapping.{swapping}
 use Rattle.nodes.specs.Builders.{renewed, contracted}
 use Rattle.machine_model.specs.declared.building.BuildLine.TheVariants as build
-use Rattle.shape_laws.specs.SitesAt.{way_of_renew, way_of_build}
+use Rattle.falling_laws.specs.Falling.{renew_path, build_path}
 use Rattle.ending_laws.specs.Alone.{Lone, Stands, Has, Keeps, WordStays, IsCurrent, Within, node}
 
 -- a call on one key
@@ -151,7 +151,7 @@ module _ (a : Lone) where
 
     abbrev pub RenewsOn : Type 0
     RenewsOn =
-        (l : RenewLine) (t g : ℕ) → Stands a t (Some g) (line.Renew l) → W (WasRenewing (way_of_renew l) (Some g)) (32 * (c + 2) + 10) t
+        (l : RenewLine) (t g : ℕ) → Stands a t (Some g) (line.Renew l) → W (WasRenewing (renew_path l) (Some g)) (32 * (c + 2) + 10) t
 
     -- ---- CLEAN
 
@@ -204,7 +204,7 @@ module _ (a : Lone) where
       pub word : WordStays a t u
 
     abbrev pub BuildsOn : Type 0
-    BuildsOn = (l : BuildLine) (t : ℕ) (g : Option ℕ) → Stands a t g (line.Build l) → W (IsBuilt t g (way_of_build l) (main_of_build l)) 30 t
+    BuildsOn = (l : BuildLine) (t : ℕ) (g : Option ℕ) → Stands a t g (line.Build l) → W (IsBuilt t g (build_path l) (main_of_build l)) 30 t
 
     -- CLIMB ends
     abbrev pub ClimbsFrom : Type 0
