@@ -1,7 +1,6 @@
 -- The report of a script's run is never too long to be read: a script has at most 100,000 lines, and each tells two at most.
-use Rattle.std.proofs.Common.{◌≡◌, ℕ, zero, suc, ◌+◌, ◌*◌, ◌≤◌, Bool, true, false, cond, List, [], ◌∷◌, ◌++◌, length, drop, Option, Some, None, Result, Ok, Err, refl, sym, ap, subst, ◌∙◌, append_assoc, append-nil, arith}
+use Rattle.std.proofs.Common.{◌≡◌, ℕ, suc, ◌+◌, ◌*◌, ◌≤◌, Bool, true, false, cond, List, [], ◌∷◌, ◌++◌, length, Option, Some, None, Result, Ok, Err, refl, sym, ap, ◌∙◌, append_assoc, append-nil, arith}
 use Rattle.std.specs.Prelude.{nat_lt, codes, map, not, filter}
-use Rattle.std.specs.List.{flat_map}
 use Rattle.std.proofs.lemmas.List.{length-drop, length-append, length-map}
 use Rattle.std.proofs.lemmas.List.Concat.{flat_map-cons}
 use borrow.Author.Tests.{ltb-false}
@@ -22,7 +21,7 @@ use Rattle.machine_model.specs.States.{State, first_state}
 use Rattle.machine_model.specs.Orders.{order_of}
 use Rattle.script_text.specs.declared.commands.Command.{Command}
 use Rattle.script_text.specs.Reading.{Reading, script_format, script_of}
-use Rattle.script_text.specs.Grammar.{script_lines, command_words, header_words}
+use Rattle.script_text.specs.Grammar.{command_words, header_words}
 use Rattle.script_text.specs.Steps.{denial_of, after_command}
 use Rattle.script_text.proofs.Found.{spelled}
 use Rattle.ctrie_commands.specs.Reports.{line, hash_text, denied_text, slots_text, event_lines, actor_of, told_by, added_events, told, all_told, last_lines, last_state, report}

@@ -1,6 +1,6 @@
 -- A report spells the history and the order of which it tells.
 use Rattle.std.proofs.Common.{◌≡◌, ℕ, ◌+◌, List, [], ◌∷◌, ◌++◌, length, drop, Option, Some, None, refl, sym, ap, ◌∙◌, subst, append_assoc, append-nil, arith}
-use Rattle.std.specs.List.{flat_map, AllByRecursion}
+use Rattle.std.specs.List.{AllByRecursion}
 use Rattle.std.specs.Fmt.{decimal}
 use Rattle.std.proofs.lemmas.List.{drop_all}
 use Rattle.std.proofs.lemmas.List.Concat.{flat_map-cons}
@@ -23,7 +23,7 @@ use Rattle.machine_model.proofs.Along.{run-append}
 use Rattle.script_text.specs.declared.commands.Command.{Command}
 use Rattle.script_text.specs.Reading.{Reading}
 use Rattle.script_text.specs.Steps.{denial_of, steps_of, after_command, all_steps}
-use Rattle.ctrie_commands.specs.Reports.{line, denied_text, slots_text, actor_of, told_by, event_lines, added_events, told, all_told, last_lines, last_state, report, denied_lines}
+use Rattle.ctrie_commands.specs.Reports.{line, denied_text, actor_of, told_by, event_lines, added_events, told, all_told, last_lines, last_state, report, denied_lines}
 use Rattle.ctrie_commands.specs.Threads.{all_denied, thread_report}
 use Rattle.ctrie_commands.specs.Legality.{told_in}
 use Rattle.ctrie_commands.proofs.Growing.{all_grow, added_split, denied_changes_nothing}
