@@ -14,7 +14,7 @@ use Rattle.machine_model.specs.States.{State}
 use Rattle.machine_model.proofs.Moves.{moved}
 use Rattle.actor_history.proofs.Turns.{Turns, Rests, turns}
 use Rattle.actor_history.proofs.Sound.{sound_along}
-use Rattle.machine_model.specs.Machine.{next}
+use Rattle.machine_model.specs.Machine.{next, denial_of}
 use Rattle.atomic_table.specs.Table.{Me}
 use Rattle.atomic_table.specs.Seated.{TableId}
 use Rattle.step_machine.specs.Machines.{Taken, state_of}
@@ -242,7 +242,7 @@ swept me after actor answers running sweeps done seat h =
 not_swept : (id : TableId) (me after : Me Taken View) (actor heard : ℕ) (items : List Answer) (running : Option Running) (sweeps : ℕ) (stop : Stop) →
     Held (Err stop) actor step.Sweep 0 me after → IsNotSwept stop (seated id after actor items running sweeps heard)
 not_swept id me after actor heard items running sweeps Ahead h = absurd (omega (arith, h.worked.1))
-not_swept id me after actor heard items running sweeps Memory h = tt
+not_swept id me after actor heard items running sweeps Memory h = subst (λ b. denial_of (state_of b) step.Sweep ≡ None) (sym h.worked.0) h.worked.2
 not_swept id me after actor heard items running sweeps (Denied refusal) h = subst (λ b. next (state_of b) step.Sweep ≡ Err refusal) (sym h.worked.0) h.worked.2
 
 pub sweep_stops : (id other : TableId) (before : Seated) (me after : Me Taken View) (actor heard : ℕ) (answers : List Answer) (running : Option Running) (sweeps : ℕ) (stop : Stop) →

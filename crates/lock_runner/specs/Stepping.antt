@@ -7,7 +7,7 @@ use Rattle.machine_model.specs.declared.steps.Step.{Step}
 use Rattle.machine_model.specs.declared.steps.Step.TheVariants as step
 use Rattle.epochs.specs.declared.limbo.Swept.{Swept}
 use Rattle.machine_model.specs.declared.steps.Outcome.TheVariants as outcome
-use Rattle.machine_model.specs.Machine.{next}
+use Rattle.machine_model.specs.Machine.{next, denial_of}
 use Rattle.step_machine.specs.Machines.{Taken, state_of, with_step}
 use Rattle.actor_history.specs.declared.accounts.Answer.{Answer}
 use Rattle.actor_history.specs.declared.accounts.Running.{Running}
@@ -85,10 +85,10 @@ pub record IsSwept (swept : Swept) (before after : Seated) : Type 0 where
   pub last : after.seen ≡ with_step board step.Sweep
   pub taken : next (state_of board) step.Sweep ≡ Ok (outcome.Swept swept, state_of after.seen)
 
--- why none was taken: the machine's denial, or want of memory
+-- why none was taken: the machine's denial, or for a step that isn't denied want of memory
 abbrev pub IsNotSwept : Stop → Seated → Type 0
 IsNotSwept Ahead seat = ⊥
-IsNotSwept Memory seat = Unit {0}
+IsNotSwept Memory seat = denial_of (state_of seat.seen) step.Sweep ≡ None
 IsNotSwept (Denied refusal) seat = IsDenied seat step.Sweep refusal
 
 abbrev pub SweepsOnce : Result Swept Stop → Seated → Seated → Type 0

@@ -55,7 +55,8 @@ impl Runner {
         Ok(true)
     }
 
-    /// Takes a step of the sweep. Where it stops nothing was swept.
+    /// Takes a step of the sweep. Where it stops nothing was swept: the machine denies the step, or a growth was
+    /// refused.
     pub fn sweep<R: Wait>(&self, rt: &R, seat: &mut Seat) -> Result<Swept, Stop>
         requires { IsSeatOf self.now seat.old }
         ensures { Sweeps result seat.old seat.new }
