@@ -1,0 +1,3 @@
+pub mod Ons
+pub mod Lies
+pub mod Older
