@@ -6,3 +6,5 @@ pub mod Renewal
 pub mod Clearing
 pub mod Linking
 pub mod Tombs
+pub mod Onward
+pub mod First

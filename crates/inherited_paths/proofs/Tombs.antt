@@ -16,8 +16,9 @@ use Rattle.ending_laws.specs.Bounds.{fresh_most, tombs_most}
 use Rattle.ending_laws.specs.Keys.{IsBottom}
 use Rattle.ending_laws.specs.Machines.{Machines}
 use Rattle.ending_laws.specs.Stepping.{Stepping}
+use Rattle.ending_laws.proofs.ClimbsOn.{short_way}
 use Rattle.ending_laws.proofs.FreshTombs.{above_at, above_length, tomb_below}
-use Rattle.ending_laws.proofs.PassesChains.{AtEnd, current_later, way_apart, way_short}
+use Rattle.ending_laws.proofs.PassesChains.{AtEnd, current_later, way_apart}
 use Rattle.ending_laws.proofs.Withins.{bind, one, same_stays}
 use Rattle.inherited_paths.specs.Inherited.{IsLinked, PassKnown, known_most}
 use Rattle.inherited_paths.proofs.Clearing.{IsCleared, cleared}
@@ -60,10 +61,10 @@ module _ (a : Lone) (weight : ℕ → ℕ) (c : ℕ) (heavy : IsWeight a weight)
         (known (suc k) r v g low x.stands current_root
         (linked_is_not_older a writes path main r t v g k s now (omega (arith, after)) x.stands.until (omega (arith, size)) still))
         (λ u later in_time (to, b).
-        tombs to r b.main u g (way_short a u (Some g) (line.Key (key.Main to b.main)) b.stands to refl) (record { stands = b.stands; current_root = b.current_root; ended = b.ended })))
+        tombs to r b.main u g (short_way a u (Some g) (line.Key (key.Main to b.main)) b.stands) (record { stands = b.stands; current_root = b.current_root; ended = b.ended })))
       where
         short : length path ≤ 14
-        short = way_short a t (Some g) at s path refl
+        short = short_way a t (Some g) at s
 
         low : suc k ≤ 13
         low = omega (arith, size, short)

@@ -8,7 +8,18 @@ use Rattle.machine_model.specs.declared.lines.Line.TheVariants as line
 use Rattle.machine_model.specs.Lines.{new_try}
 use Rattle.machine_model.specs.Paths.{current, depth_of}
 use Rattle.ending_laws.specs.Alone.{Lone, Stands, Has, Keeps, IsCurrent, Within}
+use Rattle.ending_laws.specs.Bounds.{level_most, tombs_most}
 use Rattle.ending_laws.specs.Keys.{Chain, IsBottom, IsOf, Leads}
+
+-- ---- both passes together
+
+-- from the first level that the inherited pass renewed to the end: each further level is renewed in it or in the fresh pass after it
+abbrev pub once_most : ℕ → ℕ
+once_most c = 14 * level_most c + (46 * (c + 2) + 10 + tombs_most c 13)
+
+-- with that level, or where it comes to a new try with its first RENEW or none
+abbrev pub first_most : ℕ → ℕ
+first_most c = 34 * (c + 2) + 60 + once_most c
 
 module _ (a : Lone) where
   -- ---- no level is older
