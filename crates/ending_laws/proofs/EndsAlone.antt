@@ -188,9 +188,9 @@ module _ (limits : Limits) (steps : List Step) (actor : ℕ) (operation : Operat
         told = subst (λ (x : State). Contains x.events (End operation.id ended.ends.0)) (sym same) ended.told;
       }
 
-pub alone_it_ends : NoneIsLong → AloneItEnds
-alone_it_ends short limits steps actor operation r = has_ended limits steps actor operation r (it_ends limits steps actor operation r short)
+pub ends_alone : NoneIsLong → AloneItEnds
+ends_alone short limits steps actor operation r = has_ended limits steps actor operation r (it_ends limits steps actor operation r short)
 
-pub each_step_leads_to_its_end : NoneIsLong → EachStepLeadsToItsEnd
-each_step_leads_to_its_end short limits steps actor operation r =
+pub steps_lead_to_the_end : NoneIsLong → EachStepLeadsToItsEnd
+steps_lead_to_the_end short limits steps actor operation r =
     let ended = it_ends limits steps actor operation r short in (ended.at, ended.before, ended.goes, ended.ends)

@@ -1,14 +1,12 @@
 -- The flat weight, which counts offers alone, is such a weight: READ costs 7 with it.
-use Rattle.std.proofs.Common.{◌≡◌, ℕ, suc, ◌+◌, ◌<◌, ◌≤◌, refl, sym, ap, ◌∙◌, subst, arith}
+use Rattle.std.proofs.Common.{◌≡◌, ℕ, suc, ◌+◌, ◌≤◌, sym, ap, ◌∙◌, subst, arith}
 use Rattle.std.proofs.lemmas.Option.{same_Some}
-use Rattle.slot_arena.specs.declared.refs.Ref.{Ref}
 use Rattle.machine_model.specs.declared.actions.Action.{Action}
 use Rattle.machine_model.specs.declared.actions.Action.TheVariants as act
-use Rattle.machine_model.specs.declared.operations.Operation.{Operation}
 use Rattle.machine_model.specs.declared.roots.Descriptor.{Descriptor}
 use Rattle.machine_model.specs.declared.roots.RootWord.TheVariants.{Offer}
 use Rattle.machine_model.specs.Operations.{action_of, line_action}
-use Rattle.ending_laws.specs.Alone.{Lone, Stands, word, offer_weight}
+use Rattle.ending_laws.specs.Alone.{Lone, word, offer_weight}
 use Rattle.ending_laws.specs.Machines.{ReadsFirst, ReadsOn}
 use Rattle.ending_laws.specs.Stepping.{LeavesWords}
 use Rattle.ending_laws.specs.Weighing.{Acts, Weighing}
@@ -20,7 +18,7 @@ use Rattle.ending_laws.proofs.ReadsOn.{reads_on}
 
 module _ (a : Lone) where
   -- the line on which it stands does this
-  line_acts : (t : ℕ) (action : Action) (acts : Acts a t action) → (some : StandsSome a t) → line_action (a.states t) some.stands.operation some.line ≡ action
+  pub line_acts : (t : ℕ) (action : Action) (acts : Acts a t action) → (some : StandsSome a t) → line_action (a.states t) some.stands.operation some.line ≡ action
   line_acts t action acts some =
       let same : some.stands.operation ≡ acts.operation = same_Some _ _ (sym some.stands.runs ∙ acts.runs) in
       ap (line_action (a.states t) some.stands.operation) (sym some.stands.line) ∙ ap (action_of (a.states t)) same ∙ acts.is
@@ -28,14 +26,14 @@ module _ (a : Lone) where
   standing : (t : ℕ) (action : Action) → Acts a t action → StandsSome a t
   standing t action acts = let more = acts.more in stands_at a t acts.since (omega (arith, more))
 
-  same_weight : (t : ℕ) (action : Action) → Acts a t action → LeavesWords action → flat a (suc t) ≤ flat a t
+  pub same_weight : (t : ℕ) (action : Action) → Acts a t action → LeavesWords action → flat a (suc t) ≤ flat a t
   same_weight t action acts leaves =
       let some = standing t action acts in
       let e = ap offer_weight (words a t some.generation some.line some.stands acts.more (goes_on a t some.generation some.line some.stands acts.more)
       (subst LeavesWords (sym (line_acts t action acts some)) leaves)) in
       omega (arith, e)
 
-  aborts : (t : ℕ) (offer : Descriptor) → Acts a t (act.Abort offer) → word a t ≡ Offer offer → flat a (suc t) + 2 ≤ flat a t
+  pub aborts : (t : ℕ) (offer : Descriptor) → Acts a t (act.Abort offer) → word a t ≡ Offer offer → flat a (suc t) + 2 ≤ flat a t
   aborts t offer acts there =
       let some = standing t (act.Abort offer) acts in
       let gone = taken_back a t some.generation some.line some.stands acts.more (goes_on a t some.generation some.line some.stands acts.more) offer

@@ -16,8 +16,9 @@ use Rattle.ending_laws.specs.Bounds.{fresh_most, rooted_most, tombs_most}
 use Rattle.ending_laws.specs.Keys.{IsBottom, IsOf, IsOnKey, PassEnds}
 use Rattle.ending_laws.specs.Machines.{IsRooted, Machines}
 use Rattle.ending_laws.specs.Stepping.{Stepping}
+use Rattle.ending_laws.proofs.ClimbsOn.{short_way}
 use Rattle.ending_laws.proofs.PassesAlong.{key_begins}
-use Rattle.ending_laws.proofs.PassesChains.{AtEnd, chain_root, way_short}
+use Rattle.ending_laws.proofs.PassesChains.{AtEnd, chain_root}
 use Rattle.ending_laws.proofs.Withins.{bind}
 
 module _ (a : Lone) (steps : Stepping a) where
@@ -27,8 +28,10 @@ module _ (a : Lone) (steps : Stepping a) where
     where
       link : is_indirection (node_at (a.states t).heap r) ≡ true
       link = meets_of (steps.wants t g (line.Key (key.Read (r ∷ []) (reading r))) s).1.1.0
+
       none : (n : Node) → node_at (a.states t).heap r ≡ n → is_indirection n ≡ false → IsOf a r (generation a r)
       none n e kind = absurd (false≢true (sym kind ∙ ap is_indirection (sym e) ∙ link))
+
       by : (n : Node) → node_at (a.states t).heap r ≡ n → IsOf a r (generation a r)
       by (Indirection h w) e =
           let (m, is) = steps.link_found t r h w s.until (safe_of (steps.wants t g (line.Key (key.Read (r ∷ []) (reading r))) s).1.1.0) e in
@@ -51,11 +54,12 @@ module _ (a : Lone) (weight : ℕ → ℕ) (c : ℕ) (steps : Stepping a) (machi
       bind a weight (λ v. (to : List Ref) × IsBottom a weight c rooted.root (generation a rooted.root) to v) Never (14 * (34 * (c + 2) + 10)) (tombs_most c 13) u
       (passes (rooted.root ∷ []) rooted.root u (generation a rooted.root) now current_root (chain_root a u rooted.root (generation a rooted.root) (root_link a steps u (Some (generation a rooted.root)) rooted.root now)))
       (λ v after in_time (to, b).
-      tombs to rooted.root b.main v (generation a rooted.root) (way_short a v (Some (generation a rooted.root)) (line.Key (key.Main to b.main)) b.stands to refl)
+      tombs to rooted.root b.main v (generation a rooted.root) (short_way a v (Some (generation a rooted.root)) (line.Key (key.Main to b.main)) b.stands)
       (record { stands = b.stands; current_root = b.current_root; ended = b.ended }))
     where
       now : Stands a u (Some (generation a rooted.root)) (line.Key (key.Read (rooted.root ∷ []) (reading rooted.root)))
       now = subst (Stands a u (Some (generation a rooted.root))) (key_begins a.own.call on rooted.root) rooted.stands
+
       current_root : IsCurrent a u rooted.root (Some (generation a rooted.root))
       current_root = record { plain = rooted.plain; own = refl }
 

@@ -130,5 +130,6 @@ module _ (a : Lone) (weight : ℕ → ℕ) (c : ℕ) (heavy : IsWeight a weight)
       where
         same : (c n : ℕ) → (tombs_most c (suc n) - 1) + 1 ≤ tombs_most c (suc n)
         same c n = omega arith
+
         shorter : (path : List Ref) (n : ℕ) → length path ≤ suc n + 1 → 2 ≤ length path → length (above path) ≤ n + 1
         shorter path n low two = let len = above_length path two in omega (arith, len, low)

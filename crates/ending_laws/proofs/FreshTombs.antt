@@ -15,12 +15,12 @@ use Rattle.machine_model.specs.Lines.{impossible}
 use Rattle.machine_model.specs.Operations.{line_after}
 use Rattle.machine_model.specs.Paths.{above, current, depth_of}
 use Rattle.machine_model.specs.Reading.{reading}
-use Rattle.line_laws.proofs.RunOf.{never_impossible}
 use Rattle.ending_laws.specs.Alone.{Has, Lone, Stands, node}
 use Rattle.ending_laws.specs.Keys.{Chain, IsNoTomb, IsOf, Leads}
 use Rattle.ending_laws.specs.Stepping.{Stepping}
 use Rattle.ending_laws.proofs.PassesLines.{stands_as}
 use Rattle.ending_laws.proofs.PassesSees.{main_seen}
+use Rattle.ending_laws.proofs.RenewsNodes.{never}
 
 -- a tomb, or none
 pub tomb_or_none : (a : Lone) (n : Node) → ((single : Ref) × (n ≡ Tomb single)) ⊎ IsNoTomb a n
@@ -76,10 +76,6 @@ module _ (a : Lone) where
         own = x.own (length path - 1) (omega (arith, two));
       }
 
-  -- no operation comes to the impossible line
-  never : (t : ℕ) (g : Option ℕ) → Stands a t g line.Impossible → ⊥
-  never t g s = never_impossible a.limits a.states a.last a.run t s.until a.actor s.operation s.runs s.line
-
   module _ (steps : Stepping a) (writes : a.own.access ≡ Writable) where
     -- after a tomb
     pub tomb_next : (t : ℕ) (g : Option ℕ) (path : List Ref) (main single : Ref) (s : Stands a t g (line.Key (key.Main path main))) → t < a.last → node a main ≡ Tomb single →
@@ -96,4 +92,4 @@ module _ (a : Lone) where
       where
         by : (1 < length path) ⊎ (length path ≤ 1) → (2 ≤ length path) × Stands a (suc t) g (line.Clean (clean.Read (above path) (reading (current (above path)))))
         by (inl low) = (low, stands_as a (suc t) g g _ _ refl (ap (λ b. cond b (line.Clean (clean.Read (above path) (reading (current (above path))))) impossible) (lt-ltb 1 (length path) low)) (tomb_next t g path main single s more is))
-        by (inr high) = absurd (never (suc t) g (stands_as a (suc t) g g _ impossible refl (ap (λ b. cond b (line.Clean (clean.Read (above path) (reading (current (above path))))) impossible) (le-ltb 1 (length path) high)) (tomb_next t g path main single s more is)))
+        by (inr high) = absurd (never a steps (suc t) g (stands_as a (suc t) g g _ impossible refl (ap (λ b. cond b (line.Clean (clean.Read (above path) (reading (current (above path))))) impossible) (le-ltb 1 (length path) high)) (tomb_next t g path main single s more is)))

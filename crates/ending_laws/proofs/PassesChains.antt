@@ -167,8 +167,3 @@ module _ (a : Lone) where
 
       apart : (x y : ℕ) → x < y → depth_of_run a.states a.steps a.last (get_or path k no_ref) ≡ x → depth_of_run a.states a.steps a.last (current path) ≡ y → ⊥
       apart x y lt one two = let e : x ≡ y = sym one ∙ ap (depth_of_run a.states a.steps a.last) same ∙ two in omega (arith, lt, e)
-
-  -- it has 14 at most
-  pub way_short : (t : ℕ) (g : Option ℕ) (l : Line) → Stands a t g l → (path : List Ref) → way_of l ≡ path → length path ≤ 14
-  way_short t g l s path way =
-      subst (λ p. length p ≤ 14) (ap way_of s.line ∙ way) (ways_have_sites a.limits a.states a.steps a.last a.run a.takes a.fit t s.until a.actor s.operation s.runs).0

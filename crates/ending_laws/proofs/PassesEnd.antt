@@ -1,5 +1,5 @@
 -- A fresh pass comes to the end of the key's path.
-use Rattle.std.proofs.Common.{◌≡◌, ℕ, zero, suc, ◌+◌, ◌-◌, ◌*◌, ◌≤◌, ◌⊎◌, inl, inr, List, [], ◌∷◌, ◌++◌, length, Some, refl, arith}
+use Rattle.std.proofs.Common.{◌≡◌, ℕ, zero, suc, ◌+◌, ◌-◌, ◌*◌, ◌≤◌, ◌⊎◌, inl, inr, List, [], ◌∷◌, ◌++◌, length, Some, arith}
 use Rattle.std.proofs.Math.Nat.{suc-mul}
 use Rattle.std.proofs.lemmas.List.{length-append}
 use Rattle.slot_arena.specs.declared.refs.Ref.{Ref}
@@ -9,7 +9,7 @@ use Rattle.machine_model.specs.Paths.{current}
 use Rattle.machine_model.specs.Reading.{reading}
 use Rattle.ending_laws.specs.Alone.{IsCurrent, Lone, Stands, Within}
 use Rattle.ending_laws.specs.Keys.{Chain, GoesDown, IsBottom, IsDown, PassEnds}
-use Rattle.ending_laws.proofs.PassesChains.{way_short}
+use Rattle.ending_laws.proofs.ClimbsOn.{short_way}
 use Rattle.ending_laws.proofs.PassesLines.{down_reads}
 use Rattle.ending_laws.proofs.Withins.{bind, here, weaken}
 
@@ -39,7 +39,7 @@ module _ (a : Lone) (weight : ℕ → ℕ) (c : ℕ) (goes_down : GoesDown a wei
   on n path r u g e further (inr bottom) = weaken a weight (Ends r g) 0 (n * most) u (omega arith) (here a weight (Ends r g) u (path, bottom))
 
   pass_from : (n : ℕ) (r : Ref) (g : ℕ) → From n (n * most) r g
-  pass_from zero r g path t e s x chain = let short = way_short a t (Some g) (line.Key (key.Read path (reading (current path)))) s path refl in absurd (omega (arith, e, short))
+  pass_from zero r g path t e s x chain = let short = short_way a t (Some g) (line.Key (key.Read path (reading (current path)))) s in absurd (omega (arith, e, short))
   pass_from (suc n) r g path t e s x chain =
       weaken a weight (Ends r g) (most + n * most) (suc n * most) t (costs (suc n * most) (n * most) most (suc-mul n most))
       (bind a weight (λ u. IsDown a weight c r g path u ⊎ IsBottom a weight c r g path u) (Ends r g) most (n * most) t (goes_down path r t g s x chain)
@@ -47,4 +47,4 @@ module _ (a : Lone) (weight : ℕ → ℕ) (c : ℕ) (goes_down : GoesDown a wei
 
   pub pass_ends : PassEnds a weight c
   pass_ends path r t g s x chain =
-      let short = way_short a t (Some g) (line.Key (key.Read path (reading (current path)))) s path refl in pass_from (15 - length path) r g path t (omega (arith, short)) s x chain
+      let short = short_way a t (Some g) (line.Key (key.Read path (reading (current path)))) s in pass_from (15 - length path) r g path t (omega (arith, short)) s x chain

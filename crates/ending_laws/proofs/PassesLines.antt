@@ -32,9 +32,13 @@ use Rattle.ending_laws.specs.Machines.{HoldsRead, lead}
 use Rattle.ending_laws.specs.Stepping.{Stepping}
 use Rattle.ending_laws.proofs.PassesSees.{SeesEntry, flag_is, link_seen, main_seen, sees_entry}
 
--- the READ of the current indirection
+-- a READ of KEY
+abbrev pub key_read_of : List Ref → Ref → ReadLine → Line
+key_read_of path i l = line.Key (key.Read path (record { indirection = i; line = l }))
+
+-- that of the current indirection
 abbrev pub key_read : List Ref → ReadLine → Line
-key_read path l = line.Key (key.Read path (record { indirection = current path; line = l }))
+key_read path = key_read_of path (current path)
 
 abbrev pub key_gives : List Ref → Ref → Line
 key_gives path main = line.Key (key.Main path main)
@@ -129,17 +133,20 @@ module _ (a : Lone) where
 
 -- ---- the READ of KEY
 
-leads_on : (path : List Ref) (x : After ReadLine Ref) → key_after_read path (at_indirection (current path) x) ≡ lead (key_read path) (key_gives path) x
-leads_on path (Goes l) = refl
-leads_on path (Gives m) = refl
+leads_on : (path : List Ref) (i : Ref) (x : After ReadLine Ref) → key_after_read path (at_indirection i x) ≡ lead (key_read_of path i) (key_gives path) x
+leads_on path i (Goes l) = refl
+leads_on path i (Gives m) = refl
 
-pub key_holds_read : (own : Operation) (path : List Ref) → HoldsRead own (key_read path) (key_gives path) (current path)
-key_holds_read own path = record {
+pub key_holds_read_of : (own : Operation) (path : List Ref) (i : Ref) → HoldsRead own (key_read_of path i) (key_gives path) i
+key_holds_read_of own path i = record {
   reads = λ l. refl;
   acts = λ state operation l. refl;
   goes = λ state operation l call access.
-      ap (λ (k : Access). key_after_read path (at_indirection (current path) (read_after state.heap k (word_at state (handle_of operation.call)) (current path) l))) access
-      ∙ ap (λ (k : Call). key_after_read path (at_indirection (current path) (read_after state.heap own.access (word_at state (handle_of k)) (current path) l))) call
-      ∙ leads_on path (read_after state.heap own.access (word_at state (handle_of own.call)) (current path) l);
+      ap (λ (k : Access). key_after_read path (at_indirection i (read_after state.heap k (word_at state (handle_of operation.call)) i l))) access
+      ∙ ap (λ (k : Call). key_after_read path (at_indirection i (read_after state.heap own.access (word_at state (handle_of k)) i l))) call
+      ∙ leads_on path i (read_after state.heap own.access (word_at state (handle_of own.call)) i l);
   stays = λ state operation l. refl;
 }
+
+pub key_holds_read : (own : Operation) (path : List Ref) → HoldsRead own (key_read path) (key_gives path) (current path)
+key_holds_read own path = key_holds_read_of own path (current path)

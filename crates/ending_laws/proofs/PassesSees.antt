@@ -8,29 +8,21 @@ use Rattle.slot_arena.specs.declared.nodes.Node.{Node}
 use Rattle.slot_arena.specs.declared.nodes.Node.TheVariants.{Indirection, Branch, Single, Tomb, List as Listed}
 use Rattle.slot_arena.specs.Heaps.{entries_of, no_ref, node_at}
 use Rattle.nodes.specs.Levels.{flag_of}
-use Rattle.machine_model.specs.declared.actions.Action.TheVariants as act
 use Rattle.machine_model.specs.declared.finding.KeyLine.TheVariants as key
 use Rattle.machine_model.specs.declared.lines.Line.{Line}
 use Rattle.machine_model.specs.declared.lines.Line.TheVariants as line
 use Rattle.machine_model.specs.declared.steps.Limits.{Limits}
 use Rattle.machine_model.specs.Calls.{key_of}
-use Rattle.machine_model.specs.Operations.{line_action}
 use Rattle.machine_model.specs.Paths.{depth_of, flag_in}
 use Rattle.memory_laws.specs.Laws.{IsInUse}
-use Rattle.memory_laws.specs.Wants.{ABranch, AMain, AllHold, action_wants, is_indirection, meets}
-use Rattle.memory_laws.proofs.AtTimes.{action_at, limits_at}
-use Rattle.memory_laws.proofs.Claims.{meets_of, safe_of}
+use Rattle.memory_laws.specs.Wants.{is_indirection}
+use Rattle.memory_laws.proofs.AtTimes.{limits_at}
+use Rattle.memory_laws.proofs.Claims.{meets_of}
 use Rattle.ending_laws.specs.Alone.{Lone, Stands, node}
 use Rattle.ending_laws.specs.Keys.{IsOf, flag_at}
 use Rattle.ending_laws.specs.Stepping.{Stepping}
-
-main_plain : (n : Node) → meets AMain n ≡ true → is_indirection n ≡ false
-main_plain (Indirection g m) e = absurd (false≢true e)
-main_plain n e = refl
-
-branch_plain : (n : Node) → meets ABranch n ≡ true → is_indirection n ≡ false
-branch_plain (Branch b es) e = refl
-branch_plain n e = absurd (false≢true e)
+use Rattle.ending_laws.proofs.RenewsNodes.{branch_seen, looks_at}
+use Rattle.ending_laws.proofs.RenewsNodes.{main_seen as main_there}
 
 module _ (a : Lone) where
   -- the flag of the call's key
@@ -42,13 +34,7 @@ module _ (a : Lone) where
     -- a main node at which KEY is
     pub main_seen : (t : ℕ) (g : Option ℕ) (path : List Ref) (main : Ref) → Stands a t g (line.Key (key.Main path main)) → node_at (a.states t).heap main ≡ node a main
     main_seen t g path main s =
-        let h = (steps.wants t g (line.Key (key.Main path main)) s).1.1.0 in steps.node_found t main s.until (safe_of h) (main_plain (node_at (a.states t).heap main) (meets_of h))
-
-    -- what a line looks at is there
-    looks_at : (t : ℕ) (g : Option ℕ) (l : Line) (s : Stands a t g l) (r : Ref) → line_action (a.states t) s.operation l ≡ act.Look r → IsInUse (a.states t).heap r
-    looks_at t g l s r is =
-        let claims = action_at a.limits a.states a.last a.run t s.until a.actor s.operation s.runs in
-        safe_of (subst (λ x. AllHold (IsInUse (a.states t).heap) (a.states t).heap (action_wants x)) (ap (line_action (a.states t) s.operation) s.line ∙ is) claims).0
+        main_there a steps t s.until main (steps.wants t g (line.Key (key.Main path main)) s).1.1.0
 
     -- the branch and its entry at which KEY is
     pub record SeesEntry (t : ℕ) (main : Ref) (position : ℕ) : Type 0 where
@@ -59,11 +45,11 @@ module _ (a : Lone) where
     pub sees_entry : (t : ℕ) (g : Option ℕ) (path : List Ref) (main : Ref) (position : ℕ) → Stands a t g (line.Key (key.Entry path main position)) → SeesEntry t main position
     sees_entry t g path main position s =
         let claims = steps.wants t g (line.Key (key.Entry path main position)) s in
-        let same = steps.node_found t main s.until (safe_of claims.1.1.0) (branch_plain (node_at (a.states t).heap main) (meets_of claims.1.1.0)) in
+        let same = branch_seen a steps t s.until main claims.1.1.0 in
         record {
           branch = same;
           within = subst (λ n. position < length (entries_of n)) same (ltb-true position _ (meets_of claims.1.1.1.0));
-          used = subst (λ n. IsInUse (a.states t).heap (get_or (entries_of n) position no_ref)) same (looks_at t g (line.Key (key.Entry path main position)) s _ refl);
+          used = subst (λ n. IsInUse (a.states t).heap (get_or (entries_of n) position no_ref)) same (looks_at a steps t g (line.Key (key.Entry path main position)) s _ refl);
         }
 
     -- an indirection that is there has its generation

@@ -1,10 +1,10 @@
 -- READ, where one actor alone takes steps, in steps alone: an offer in the root word costs two.
-use Rattle.std.proofs.Common.{◌≡◌, ℕ, ◌+◌, ◌≤◌, arith}
+use Rattle.std.proofs.Common.{arith}
 use Rattle.ending_laws.specs.Alone.{Lone, word}
 use Rattle.ending_laws.specs.ReadEnds.{ReadEnds, ReadGoesToItsEnd}
 use Rattle.ending_laws.proofs.Weights.{flat, weighs_at_most}
 use Rattle.ending_laws.proofs.Flat.{flat_weighing, flat_reads_first}
-use Rattle.ending_laws.proofs.ReadsOn.{any}
+use Rattle.ending_laws.proofs.ReadsUnderWay.{soon}
 
 module _ (a : Lone) where
   pub read_ends : ReadEnds a
@@ -16,5 +16,5 @@ module _ (a : Lone) where
   pub read_goes_to_its_end : ReadGoesToItsEnd a
   read_goes_to_its_end wrap gives i h t g l s room =
       let light = weighs_at_most (word a t) in
-      let (u, from, soon, found) = any a (flat a) 0 0 (flat_weighing a) wrap gives i h 7 g (omega arith) (omega arith) (omega arith) t 14 l s (omega (arith, light)) room in
+      let (u, from, soon, found) = soon a (flat a) 0 0 (flat_weighing a) wrap gives i h 7 g (omega arith) (omega arith) (omega arith) t 12 l s (omega (arith, light)) room in
       (u, from, omega (arith, soon), found.main, found.stands)

@@ -23,7 +23,7 @@ use Rattle.ending_laws.proofs.ReadsWords.{link_made, still_sees, sees_has, sees_
 use Rattle.ending_laws.proofs.ReadsStep.{Counts, acts, acting, off, same_word_at, light, on}
 
 -- what stands over this node is pending over it
-still_pending : (q : Ref) → is_pending (prev.Pending q) q ≡ true
+pub still_pending : (q : Ref) → is_pending (prev.Pending q) q ≡ true
 still_pending q = eq-eqb q q refl
 
 module _ (a : Lone) (weight : ℕ → ℕ) (x f : ℕ) (wt : Weighing a weight x f) (wrap : ReadLine → Line) (gives : Ref → Line) (i : Ref) (h : HoldsRead a.own wrap gives i) (c : ℕ)
@@ -71,7 +71,7 @@ module _ (a : Lone) (weight : ℕ → ℕ) (x f : ℕ) (wt : Weighing a weight x
 
   -- ---- a settled node
 
-  prev_decided : (t b : ℕ) (m : Ref) → S t (read.Prev m) → Sees a t i m prev.None → 1 + weight t ≤ b → C (P t) b t
+  pub prev_decided : (t b : ℕ) (m : Ref) → S t (read.Prev m) → Sees a t i m prev.None → 1 + weight t ≤ b → C (P t) b t
   prev_decided t b m s sees enough =
       on a wrap gives i h weight P counts b t g (read.Prev m) s (omega (arith, enough))
       (λ more next.
@@ -80,7 +80,7 @@ module _ (a : Lone) (weight : ℕ → ℕ) (x f : ℕ) (wt : Weighing a weight x
       given (suc t) (b - 1) m (omega (arith, enough, less)) (subst (λ v. Stands a (suc t) g (lead wrap gives (after_prev a.own.access m v))) (found.0.prev ∙ sees.prev) next)
       (still_sees a t i m prev.None found.1 sees))
 
-  prev_failed : (t b : ℕ) (m q : Ref) → S t (read.Prev m) → Sees a t i m (prev.Failed q) → 2 + weight t ≤ b + f → C (P t) b t
+  pub prev_failed : (t b : ℕ) (m q : Ref) → S t (read.Prev m) → Sees a t i m (prev.Failed q) → 2 + weight t ≤ b + f → C (P t) b t
   prev_failed t b m q s sees enough =
       let some = wt.weighs_failed t i m q s.since s.until sees in
       on a wrap gives i h weight P counts b t g (read.Prev m) s (omega (arith, enough, some))

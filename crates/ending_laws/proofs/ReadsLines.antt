@@ -1,6 +1,7 @@
 -- What a line in a READ remembers, by the laws of deciding: the node that it names stood in that indirection's word; a failed one that is to be replaced has failed.
-use Rattle.std.proofs.Common.{◌≡◌, ℕ, ◌≤◌, Option, Some, refl, sym, ap, ◌∙◌, subst}
+use Rattle.std.proofs.Common.{◌≡◌, ℕ, ◌≤◌, Option, Some, sym, ap, ◌∙◌, subst}
 use Rattle.std.proofs.lemmas.Option.{none-some, same_Some}
+use Rattle.history.specs.declared.calls.Access.TheVariants.{Writable}
 use Rattle.slot_arena.specs.declared.refs.Ref.{Ref}
 use Rattle.slot_arena.specs.declared.nodes.Prev.TheVariants as prev
 use Rattle.machine_model.specs.declared.copying.CopyLine.TheVariants as copy
@@ -8,7 +9,7 @@ use Rattle.machine_model.specs.declared.finding.KeyLine.TheVariants as key
 use Rattle.machine_model.specs.declared.lines.Line.{Line}
 use Rattle.machine_model.specs.declared.lines.Line.TheVariants as line
 use Rattle.machine_model.specs.declared.reading.Read.{Read}
-use Rattle.machine_model.specs.declared.reading.ReadLine.{ReadLine}
+use Rattle.machine_model.specs.declared.reading.ReadLine.TheVariants as read
 use Rattle.machine_model.specs.declared.reading.SwapLine.{SwapLine}
 use Rattle.machine_model.specs.declared.reading.SwapLine.TheVariants as swap
 use Rattle.machine_model.specs.declared.repairs.CleanLine.TheVariants as clean
@@ -26,7 +27,9 @@ use Rattle.deciding_laws.proofs.Words.{Words}
 use Rattle.deciding_laws.proofs.Stood.{Stood}
 use Rattle.deciding_laws.proofs.Finals.{pending_stands}
 use Rattle.deciding_laws.proofs.Owners.{OnLine, Staged}
-use Rattle.deciding_laws.proofs.Stages.{stage_of, stage_of_root, stage_of_complete, stage_of_swap, stage_of_actor}
+use Rattle.deciding_laws.proofs.RunWords.{remembers_at}
+use Rattle.deciding_laws.proofs.Stages.{stage_of, stage_of_root, stage_of_complete, stage_of_swap, stage_of_actor, Remembers, ReadRemembers, CompleteRemembers, RootRemembers, SwapRemembers}
+use Rattle.line_laws.proofs.Nodes.{known_run}
 use Rattle.ending_laws.specs.Alone.{Lone, Stands}
 use Rattle.ending_laws.proofs.ReadsWords.{w, sound}
 
@@ -69,6 +72,44 @@ module _ (v : Words) (t k : ℕ) where
   tells (line.Walk (walk.Read own todo taken)) known = tells_some own known
   tells l known = λ r e. absurd (none-some r e)
 
+-- ---- who asks for the root is on a writable handle
+
+module _ (G : Ref → Ref → Type 0) (W : Type 0) where
+  abbrev Asks : Option Read → Type 0
+  Asks o = (r : Read) → o ≡ Some r → ReadRemembers W r.line
+
+  asks_some : (own : Read) → ReadRemembers W own.line → Asks (Some own)
+  asks_some own known r e = subst (λ x. ReadRemembers W x.line) (same_Some own r e) known
+
+  completing_asks : (offer : Descriptor) (l : CompleteLine) → CompleteRemembers G W offer l → Asks (completing_read offer l)
+  completing_asks offer (complete.Reading l) known = asks_some (record { indirection = offer.root; line = l }) known
+  completing_asks offer (complete.Swap main) known = λ r e. absurd (none-some r e)
+
+  rooting_asks : (l : RootLine) → RootRemembers G W l → Asks (rooting_read l)
+  rooting_asks root.Read known = λ r e. absurd (none-some r e)
+  rooting_asks (root.Completing c) known = completing_asks c.offer c.line known
+
+  swapping_asks : (i : Ref) (l : SwapLine) → SwapRemembers W l → Asks (swapping_read i l)
+  swapping_asks i swap.Publish known = λ r e. absurd (none-some r e)
+  swapping_asks i (swap.Deciding l) known = asks_some (record { indirection = i; line = l }) known
+  swapping_asks i swap.Check known = λ r e. absurd (none-some r e)
+
+  asks : (l : Line) → Remembers G W l → Asks (read_of l)
+  asks (line.Root l) known = rooting_asks l known
+  asks (line.Key (key.Read path own)) known = asks_some own known.0
+  asks (line.Swap why s) known = swapping_asks s.indirection s.line known.0
+  asks (line.Renew (renew.Read path main done own)) known = asks_some own known.0
+  asks (line.Clean (clean.Read path own)) known = asks_some own known.0
+  asks (line.Clean (clean.Child path main done own)) known = asks_some own known.0
+  asks (line.Climb (climb.Read c own)) known = asks_some own known.0
+  asks (line.Climb (climb.Root c l)) known = rooting_asks l known
+  asks (line.Copy (copy.Read r own)) known = asks_some own known.0
+  asks (line.Copy (copy.Complete c)) known = completing_asks c.offer c.line known
+  asks (line.Walk (walk.Read own todo taken)) known = asks_some own known
+  asks l known = λ r e. absurd (none-some r e)
+
+-- ---- where one actor alone takes steps
+
 module _ (a : Lone) where
   pub on_line : (t : ℕ) (g : Option ℕ) (l : Line) → Stands a t g l → (r : Read) → read_of l ≡ Some r → OnLine (w a) t r.indirection r.line
   on_line t g l s r e =
@@ -79,3 +120,8 @@ module _ (a : Lone) where
   -- a node that stood there and is pending stands there
   pub pending_there : (t : ℕ) → t ≤ a.last → (i m q : Ref) → Stood (w a) t i m → prev_word a.states t m ≡ prev.Pending q → main_word a.states t i ≡ m
   pending_there t within i m q stood pending = pending_stands (w a) t (sound a t within) i m q stood pending
+
+  pub asks_writable : (t : ℕ) (g : Option ℕ) (l : Line) → Stands a t g l → (i m q : Ref) → read_of l ≡ Some (record { indirection = i; line = read.AskRoot m q }) → a.own.access ≡ Writable
+  asks_writable t g l s i m q e =
+      let known = remembers_at a.limits a.states a.last (known_run a.limits a.states a.last a.run) t s.until a.actor s.operation s.runs in
+      sym s.access ∙ asks _ (s.operation.access ≡ Writable) s.operation.line known _ (ap read_of s.line ∙ e)

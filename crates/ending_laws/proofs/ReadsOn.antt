@@ -12,11 +12,10 @@ use Rattle.machine_model.specs.declared.roots.Descriptor.{Descriptor}
 use Rattle.machine_model.specs.declared.roots.RootWord.{RootWord}
 use Rattle.machine_model.specs.declared.roots.RootWord.TheVariants.{Plain, Offer}
 use Rattle.machine_model.specs.Reading.{verdict_by, is_licensed, is_pending, read_action, after_prev, after_ask, after_decide, after_restore}
-use Rattle.machine_model.specs.Swapping.{stands_in}
-use Rattle.machine_model.proofs.Grown.{main_word, prev_word}
+use Rattle.machine_model.proofs.Grown.{prev_word}
 use Rattle.deciding_laws.proofs.Known.{GrownStays, GrownChanges, Either}
 use Rattle.deciding_laws.proofs.Stood.{Stood}
-use Rattle.ending_laws.specs.Alone.{Lone, Stands, Within, IsPlain, IsQuiet, word}
+use Rattle.ending_laws.specs.Alone.{Lone, Stands, IsPlain, IsQuiet, word}
 use Rattle.ending_laws.specs.Machines.{HoldsRead, IsRead, WasRead, ReadsOn, lead}
 use Rattle.ending_laws.specs.Weighing.{Weighing, Sees}
 use Rattle.ending_laws.proofs.Withins.{Comes, at_once, comes_map, within, keeps_now, keeps_on, stays, stays_on}
@@ -26,18 +25,18 @@ use Rattle.ending_laws.proofs.ReadsStep.{Counts, acts, acting, off, same_word_at
 use Rattle.ending_laws.proofs.ReadsFirst.{main, decide, prev_pending}
 
 -- what is found pending over this node is
-pending_so : (v : Prev) (q : Ref) → is_pending v q ≡ true → v ≡ prev.Pending q
+pub pending_so : (v : Prev) (q : Ref) → is_pending v q ≡ true → v ≡ prev.Pending q
 pending_so prev.None q e = absurd (false≢true e)
 pending_so (prev.Failed p) q e = absurd (false≢true e)
 pending_so (prev.Pending p) q e = ap prev.Pending (eqb-true p q e)
 
 -- what isn't found so isn't
-not_pending_so : (v : Prev) (q : Ref) → is_pending v q ≡ false → v ≡ prev.Pending q → ⊥
+pub not_pending_so : (v : Prev) (q : Ref) → is_pending v q ≡ false → v ≡ prev.Pending q → ⊥
 not_pending_so v q e is = true≢false (sym (ap (λ x. is_pending x q) is ∙ eq-eqb q q refl) ∙ e)
 
 module _ (a : Lone) (weight : ℕ → ℕ) (x f : ℕ) (wt : Weighing a weight x f) (wrap : ReadLine → Line) (gives : Ref → Line) (i : Ref) (h : HoldsRead a.own wrap gives i) (c : ℕ)
     (g : Option ℕ) (two : 2 ≤ c) (three : 3 ≤ c + f) (seven : 7 ≤ c + x) where
-  abbrev P : ℕ → ℕ → Type 0
+  abbrev pub P : ℕ → ℕ → Type 0
   P t u = WasRead a weight c t g gives u
 
   abbrev C : (ℕ → Type 0) → ℕ → ℕ → Type 0
@@ -46,7 +45,7 @@ module _ (a : Lone) (weight : ℕ → ℕ) (x f : ℕ) (wt : Weighing a weight x
   abbrev S : ℕ → ReadLine → Type 0
   S t l = Stands a t g (wrap l)
 
-  counts : Counts a wrap gives i h P
+  pub counts : Counts a wrap gives i h P
   counts = record {
     earlier = λ t v u le keeps word found. record {
       main = found.main;
@@ -56,44 +55,50 @@ module _ (a : Lone) (weight : ℕ → ℕ) (x f : ℕ) (wt : Weighing a weight x
     };
   }
 
-  given : (t b : ℕ) (m : Ref) → weight t ≤ b → Stands a t g (gives m) → C (P t) b t
+  pub given : (t b : ℕ) (m : Ref) → weight t ≤ b → Stands a t g (gives m) → C (P t) b t
   given t b m enough s = at_once a weight (P t) b t enough (record { main = m; stands = s; keeps = keeps_now a t; word = stays a t })
 
   -- where a READ comes to the decided main node it comes to one
-  was_read : (t b : ℕ) → C (λ u. IsRead a weight c t g gives i u) b t → C (P t) b t
+  pub was_read : (t b : ℕ) → C (λ u. IsRead a weight c t g gives i u) b t → C (P t) b t
   was_read t b found = comes_map a weight _ (P t) b t (λ u from to is. record { main = is.main; stands = is.stands; keeps = is.keeps; word = is.word }) found
 
-  quiet : (t : ℕ) (l : ReadLine) → S t l → t < a.last → IsQuiet (read_action i l) → weight (suc t) ≤ weight t
+  pub quiet : (t : ℕ) (l : ReadLine) → S t l → t < a.last → IsQuiet (read_action i l) → weight (suc t) ≤ weight t
   quiet t l s more is = light a wrap gives i h weight wt.quiet t g l s more is
 
-  from_main : (t b : ℕ) → S t read.Main → c + weight t ≤ b → C (P t) b t
+  pub from_main : (t b : ℕ) → S t read.Main → c + weight t ≤ b → C (P t) b t
   from_main t b s enough =
       was_read t b (main a weight x f wt wrap gives i h c g t b s (omega (arith, enough, two)) (omega (arith, enough, three)) (omega (arith, enough, seven)))
 
   -- ---- the node before is put back
 
-  restored : (t b : ℕ) (m q : Ref) → S t (read.Restore m q) → c + 1 + weight t ≤ b → t < a.last → (same : Bool) → (main_at (a.states t).heap i == m) ≡ same →
-      Either same (GrownChanges a.states t (main_changed q) i) (GrownStays a.states t) → Stands a (suc t) g (lead wrap gives (after_restore q same)) → C (P (suc t)) (b - 1) (suc t)
-  restored t b m q s enough more true e changed next =
+  restored : (t b n : ℕ) (m q : Ref) → S t (read.Restore m q) → n + 1 + weight t ≤ b → (S (suc t) read.Main → n + weight (suc t) ≤ b - 1 → C (P (suc t)) (b - 1) (suc t)) → t < a.last →
+      (same : Bool) → (main_at (a.states t).heap i == m) ≡ same → Either same (GrownChanges a.states t (main_changed q) i) (GrownStays a.states t) →
+      Stands a (suc t) g (lead wrap gives (after_restore q same)) → C (P (suc t)) (b - 1) (suc t)
+  restored t b n m q s enough other more true e changed next =
       let found = acts a wrap gives i h t g (read.Restore m q) s more in
       let known = on_line a t g (wrap (read.Restore m q)) s _ (h.reads (read.Restore m q)) in
       let sees : Sees a t i m (prev.Failed q) = record { made = link_made _ found.0.link; main = sym found.0.main ∙ eqb-true _ m e; prev = known.1 } in
       let less = wt.restore t i m q (acting a wrap gives i h t g (read.Restore m q) s more) sees (put_back a t (omega arith) i m q found.0.link changed sees) in
       given (suc t) (b - 1) q (omega (arith, enough, less)) next
-  restored t b m q s enough more false e changed next =
+  restored t b n m q s enough other more false e changed next =
       let found = acts a wrap gives i h t g (read.Restore m q) s more in
       let less = wt.restored t i m q (acting a wrap gives i h t g (read.Restore m q) s more) (λ is. true≢false (sym (eq-eqb _ m (found.0.main ∙ is)) ∙ e)) in
-      from_main (suc t) (b - 1) next (omega (arith, enough, less))
+      other next (omega (arith, enough, less))
 
-  restore : (t b : ℕ) (m q : Ref) → S t (read.Restore m q) → c + 1 + weight t ≤ b → C (P t) b t
-  restore t b m q s enough =
+  -- where another node stands there it begins again
+  pub restore_or : (t b n : ℕ) (m q : Ref) → S t (read.Restore m q) → n + 1 + weight t ≤ b → (t < a.last → S (suc t) read.Main → n + weight (suc t) ≤ b - 1 → C (P (suc t)) (b - 1) (suc t)) →
+      C (P t) b t
+  restore_or t b n m q s enough other =
       on a wrap gives i h weight P counts b t g (read.Restore m q) s (omega (arith, enough))
-      (λ more next. restored t b m q s enough more (main_at (a.states t).heap i == m) refl (acts a wrap gives i h t g (read.Restore m q) s more).1 next)
+      (λ more next. restored t b n m q s enough (other more) more (main_at (a.states t).heap i == m) refl (acts a wrap gives i h t g (read.Restore m q) s more).1 next)
+
+  pub restore : (t b : ℕ) (m q : Ref) → S t (read.Restore m q) → c + 1 + weight t ≤ b → C (P t) b t
+  restore t b m q s enough = restore_or t b c m q s enough (λ more next room. from_main (suc t) (b - 1) next room)
 
   -- ---- after the prev word
 
   -- a pending node that stood there stands there
-  sees_pending : (t : ℕ) → t ≤ a.last → (m q : Ref) → Stood (w a) t i m → prev_word a.states t m ≡ prev.Pending q → Sees a t i m (prev.Pending q)
+  pub sees_pending : (t : ℕ) → t ≤ a.last → (m q : Ref) → Stood (w a) t i m → prev_word a.states t m ≡ prev.Pending q → Sees a t i m (prev.Pending q)
   sees_pending t within m q stood pending =
       record { made = link_made _ ((sound a t within).words.link i m stood); main = pending_there a t within i m q stood pending; prev = pending }
 
@@ -114,7 +119,7 @@ module _ (a : Lone) (weight : ℕ → ℕ) (x f : ℕ) (wt : Weighing a weight x
       let sees = sees_pending t s.until m q (on_line a t g (wrap (read.Prev m)) s _ (h.reads (read.Prev m))) e in
       was_read t b (prev_pending a weight x f wt wrap gives i h c g t b m q s sees (omega (arith, enough, seven)))
 
-  prev_any : (t b : ℕ) (m : Ref) → S t (read.Prev m) → c + 2 + weight t ≤ b → C (P t) b t
+  pub prev_any : (t b : ℕ) (m : Ref) → S t (read.Prev m) → c + 2 + weight t ≤ b → C (P t) b t
   prev_any t b m s enough = prev_by t b m s enough (prev_word a.states t m) refl
 
   -- ---- it is decided
@@ -138,7 +143,7 @@ module _ (a : Lone) (weight : ℕ → ℕ) (x f : ℕ) (wt : Weighing a weight x
       overtaken (suc t) (b - 1) m (is_licensed (a.states t).heap i told)
       (subst (λ y. Stands a (suc t) g (lead wrap gives (after_decide m (verdict_by (is_licensed (a.states t).heap i told) y)))) e next) (omega (arith, enough, less)))
 
-  decide_any : (t b : ℕ) (m q : Ref) (told : Option ℕ) → S t (read.Decide m q told) → c + 3 + weight t ≤ b → C (P t) b t
+  pub decide_any : (t b : ℕ) (m q : Ref) (told : Option ℕ) → S t (read.Decide m q told) → c + 3 + weight t ≤ b → C (P t) b t
   decide_any t b m q told s enough room =
       decide_by t b m q told s enough (omega (arith, enough, room)) (is_pending (prev_at (a.states t).heap m) q) refl room
 

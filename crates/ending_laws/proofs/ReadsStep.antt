@@ -1,9 +1,7 @@
 -- A step of a READ of an operation that is alone.
-use Rattle.std.proofs.Common.{◌≡◌, ℕ, suc, ◌-◌, ◌<◌, ◌≤◌, ◌==◌, Bool, true, false, Option, Some, sym, ap, ◌∙◌, subst, arith}
+use Rattle.std.proofs.Common.{◌≡◌, ℕ, suc, ◌-◌, ◌<◌, ◌≤◌, Option, Some, sym, ap, ◌∙◌, subst, arith}
 use Rattle.std.proofs.lemmas.Option.{none-some}
 use Rattle.slot_arena.specs.declared.refs.Ref.{Ref}
-use Rattle.slot_arena.specs.declared.nodes.Prev.TheVariants as prev
-use Rattle.slot_arena.specs.Heaps.{main_at, main_changed}
 use Rattle.machine_model.specs.declared.lines.Line.{Line}
 use Rattle.machine_model.specs.declared.lines.Line.TheVariants as line
 use Rattle.machine_model.specs.declared.reading.After.{After}
@@ -13,8 +11,8 @@ use Rattle.machine_model.specs.declared.reading.ReadLine.TheVariants as read
 use Rattle.machine_model.specs.declared.roots.Descriptor.{Descriptor}
 use Rattle.machine_model.specs.declared.roots.RootWord.TheVariants.{Plain, Offer}
 use Rattle.machine_model.specs.Operations.{line_action, line_after, read_of}
-use Rattle.machine_model.specs.Reading.{Verdict, Commits, Fails, Overtaken, verdict, read_action, read_after}
-use Rattle.deciding_laws.proofs.Known.{ActsOn, GrownStays, GrownChanges, FindsPrev, Either, Decided}
+use Rattle.machine_model.specs.Reading.{read_action, read_after}
+use Rattle.deciding_laws.proofs.Known.{ActsOn}
 use Rattle.ending_laws.specs.Alone.{Lone, Stands, Keeps, WordStays, IsQuiet, IsWeight, word}
 use Rattle.ending_laws.specs.Machines.{HoldsRead, lead}
 use Rattle.ending_laws.specs.Stepping.{IsNoEnd, LeavesWords}
@@ -23,7 +21,8 @@ use Rattle.ending_laws.proofs.Withins.{Comes, lighter, same_stays}
 use Rattle.ending_laws.proofs.SteppingNext.{next}
 use Rattle.ending_laws.proofs.SteppingKeeps.{acts_so, words}
 use Rattle.ending_laws.proofs.Weights.{stays_plain, taken_back}
-use Rattle.ending_laws.proofs.ReadsWords.{NonePending, keeps_unless, stays_none, main_none, prev_none}
+use Rattle.ending_laws.proofs.NonePending.{IsNoPublish, none_pending}
+use Rattle.ending_laws.proofs.ReadsWords.{keeps_unless}
 
 -- a line in a READ is no end
 no_end : (l : Line) (r : Read) → read_of l ≡ Some r → IsNoEnd l
@@ -42,6 +41,15 @@ leaves i (read.Prev m) not = tt
 leaves i (read.AskRoot m q) not = tt
 leaves i (read.Decide m q told) not = tt
 leaves i (read.Restore m q) not = tt
+
+-- and none swaps a node in
+no_publish : (i : Ref) (l : ReadLine) → IsNoPublish (read_action i l)
+no_publish i read.Main = tt
+no_publish i (read.Prev m) = tt
+no_publish i (read.AskRoot m q) = tt
+no_publish i (read.Abort m q offer) = tt
+no_publish i (read.Decide m q told) = tt
+no_publish i (read.Restore m q) = tt
 
 module _ (a : Lone) (wrap : ReadLine → Line) (gives : Ref → Line) (i : Ref) (h : HoldsRead a.own wrap gives i) where
   -- ---- what it finds
@@ -67,26 +75,8 @@ module _ (a : Lone) (wrap : ReadLine → Line) (gives : Ref → Line) (i : Ref) 
   action : (t : ℕ) (g : Option ℕ) (l : ReadLine) (s : Stands a t g (wrap l)) → line_action (a.states t) s.operation (wrap l) ≡ read_action i l
   action t g l s = h.acts (a.states t) s.operation l
 
-  decided_none : (t : ℕ) (m q : Ref) (v : Verdict) → FindsPrev a.states t m → Decided a.states t m q v → NonePending a t
-  decided_none t m q Commits found e = prev_none a t prev.None m found.made (λ x wrong. let bad : prev.None ≡ prev.Pending x = wrong in cc) e
-  decided_none t m q Fails found e = prev_none a t (prev.Failed q) m found.made (λ x wrong. let bad : prev.Failed q ≡ prev.Pending x = wrong in cc) e
-  decided_none t m q (Overtaken licensed) found e = stays_none a t e
-
-  restored_none : (t : ℕ) (q : Ref) (b : Bool) → Either b (GrownChanges a.states t (main_changed q) i) (GrownStays a.states t) → NonePending a t
-  restored_none t q true e = main_none a t i q e
-  restored_none t q false e = stays_none a t e
-
-  -- no step of a READ makes a node pending
-  none_pending : (t : ℕ) (l : ReadLine) → ActsOn a.states t (read_action i l) → NonePending a t
-  none_pending t read.Main e = stays_none a t e.1
-  none_pending t (read.Prev m) e = stays_none a t e.1
-  none_pending t (read.AskRoot m q) e = stays_none a t e
-  none_pending t (read.Abort m q offer) e = stays_none a t e
-  none_pending t (read.Decide m q told) e = decided_none t m q (verdict (a.states t).heap i m q told) e.1 e.3
-  none_pending t (read.Restore m q) e = restored_none t q (main_at (a.states t).heap i == m) e.1
-
   pub keeps : (t : ℕ) (g : Option ℕ) (l : ReadLine) → Stands a t g (wrap l) → t < a.last → Keeps a t (suc t)
-  keeps t g l s more = keeps_unless a t more (none_pending t l (acts t g l s more))
+  keeps t g l s more = keeps_unless a t more (none_pending a t (read_action i l) (no_publish i l) (acts t g l s more))
 
   same_word : (t : ℕ) (g : Option ℕ) (l : ReadLine) → Stands a t g (wrap l) → t < a.last → IsNoAbort l → word a (suc t) ≡ word a t
   same_word t g l s more not = words a t g (wrap l) s more (goes_on l) (subst LeavesWords (sym (action t g l s)) (leaves i l not))

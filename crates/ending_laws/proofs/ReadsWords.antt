@@ -36,7 +36,7 @@ node_main q (Tomb s) e = absurd (true≢false (sym e))
 node_main q (Listed s) e = absurd (true≢false (sym e))
 
 module _ (a : Lone) where
-  abbrev p : Protocol
+  abbrev pub p : Protocol
   p = protocol a.limits a.states a.last (known_run a.limits a.states a.last a.run)
 
   abbrev pub w : Words

@@ -99,6 +99,7 @@ module _ (a : Lone) (weight : ℕ → ℕ) (c : ℕ) (heavy : IsWeight a weight)
         by_test : (x : Leading a (depth_of path) main) (b : Bool) → (g == x.generation) ≡ b → W (StaleOn path g) (33 * (c + 2) + 14) t
         by_test x true e = weaken a weight (StaleOn path g) 2 (33 * (c + 2) + 14) t (omega arith) (down main x.below t s x.leads (subst (IsOf a x.below) (sym (eqb-true g x.generation e)) x.is))
         by_test x false e = older main x.below x.generation t s x.leads x.is e
+
         by : Leading a (depth_of path) main ⊎ IsEnd a (depth_of path) main → W (StaleOn path g) (33 * (c + 2) + 14) t
         by (inl x) = by_test x (g == x.generation) refl
         by (inr ends) = ends_here (33 * (c + 2) + 14) main t s ends

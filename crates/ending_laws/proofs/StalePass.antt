@@ -26,7 +26,7 @@ use Rattle.ending_laws.specs.Machines.{IsRead, Machines}
 use Rattle.ending_laws.specs.Stale.{AbsentAgain, EntriesAgain, ListsAgain, Tries}
 use Rattle.ending_laws.specs.Stepping.{Stepping}
 use Rattle.ending_laws.proofs.BuildsSteps.{quiet_on}
-use Rattle.ending_laws.proofs.PassesChains.{way_short}
+use Rattle.ending_laws.proofs.ClimbsOn.{short_way}
 use Rattle.ending_laws.proofs.PassesDown.{FewEntries}
 use Rattle.ending_laws.proofs.PassesLines.{down_reads, key_gives, key_holds_read, key_read}
 use Rattle.ending_laws.proofs.PassesSees.{flag_is, main_seen}
@@ -66,7 +66,7 @@ module _ (a : Lone) (weight : ℕ → ℕ) (c : ℕ) (heavy : IsWeight a weight)
   costs n = let product = suc-mul n (level_most c) in omega (arith, product)
 
   pub pass_from : (n g : ℕ) → From n (n * level_most c) g
-  pass_from zero g path t e s = let short = way_short a t (Some g) (line.Key (key.Read path (reading (current path)))) s path refl in absurd (omega (arith, e, short))
+  pass_from zero g path t e s = let short = short_way a t (Some g) (line.Key (key.Read path (reading (current path)))) s in absurd (omega (arith, e, short))
   pass_from (suc n) g path t e s =
       weaken a weight (StaleEnd g) (c + ((33 * (c + 2) + 14) + n * level_most c)) (suc n * level_most c) t (costs n)
       (bind a weight (IsRead a weight c t (Some g) (key_gives path) (current path)) (StaleEnd g) c ((33 * (c + 2) + 14) + n * level_most c) t
@@ -76,7 +76,7 @@ module _ (a : Lone) (weight : ℕ → ℕ) (c : ℕ) (heavy : IsWeight a weight)
   -- from the first line of a READ
   pub pass_on : (path : List Ref) (t g : ℕ) → 1 ≤ length path → Stands a t (Some g) (line.Key (key.Read path (reading (current path)))) → W (StaleEnd g) (14 * level_most c) t
   pass_on path t g some s =
-      let short = way_short a t (Some g) (line.Key (key.Read path (reading (current path)))) s path refl in
+      let short = short_way a t (Some g) (line.Key (key.Read path (reading (current path)))) s in
       weaken a weight (StaleEnd g) ((15 - length path) * level_most c) (14 * level_most c) t (mul-le-mul_right (level_most c) (low (length path) some))
       (pass_from (15 - length path) g path t (omega (arith, short)) s)
     where
@@ -86,7 +86,7 @@ module _ (a : Lone) (weight : ℕ → ℕ) (c : ℕ) (heavy : IsWeight a weight)
   -- from a main node
   pub pass_main : (path : List Ref) (main : Ref) (t g : ℕ) → Stands a t (Some g) (line.Key (key.Main path main)) → W (StaleEnd g) (14 * level_most c) t
   pass_main path main t g s =
-      let short = way_short a t (Some g) (line.Key (key.Main path main)) s path refl in
+      let short = short_way a t (Some g) (line.Key (key.Main path main)) s in
       let some : 1 ≤ length path = ltb-true 0 (length path) (fact_of (steps.wants t (Some g) (line.Key (key.Main path main)) s).1.0) in
       weaken a weight (StaleEnd g) ((33 * (c + 2) + 14) + (14 - length path) * level_most c) (14 * level_most c) t (cost (length path) some short)
       (main_on (14 - length path) path main t g (omega (arith, short)) (pass_from (14 - length path) g) s)

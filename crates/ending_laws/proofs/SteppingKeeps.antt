@@ -31,7 +31,7 @@ went before actor o after (Ends {operation = x} {answer} d is a) operation runs 
     absurd (subst (λ b. GoesOn b) (ap (action_of before) (sym (same_Some _ _ (sym is ∙ runs))) ∙ a) goes)
 
 -- what isn't the end goes on
-goes_by : (action : Action) → ((answer : _) → action ≡ act.End answer → ⊥) → GoesOn action
+pub goes_by : (action : Action) → ((answer : _) → action ≡ act.End answer → ⊥) → GoesOn action
 goes_by (act.End answer) not = not answer refl
 goes_by action not = tt
 

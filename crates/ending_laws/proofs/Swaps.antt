@@ -18,21 +18,21 @@ use Rattle.deciding_laws.proofs.Known.{is_link}
 use Rattle.ending_laws.specs.Alone.{IsQuiet, Lone, Stands, Has, Keeps, WordStays, IsPlain, IsCurrent, Within, generation, word}
 use Rattle.ending_laws.specs.Machines.{HasSwapped, IsSwapped, WasSwapped, WasRead, SwapsCurrent, SwapsFirst, SwapsOn, ReadsOn}
 use Rattle.ending_laws.specs.Stepping.{Stepping}
-use Rattle.ending_laws.specs.Weighing.{Weighing, Acts}
+use Rattle.ending_laws.specs.Weighing.{Acts}
 use Rattle.machine_model.specs.Swapping.{action_at}
 use Rattle.ending_laws.proofs.SwapsSteps.{keeps_left}
 use Rattle.ending_laws.proofs.SwapsLines.{swap_line, deciding, checking, swap_reads, is_decided, checks, publishes, Publishes}
 use Rattle.ending_laws.proofs.SwapsFound.{swap_generation, fresh_nowhere}
 use Rattle.ending_laws.proofs.SwapsCourse.{Holds}
 use Rattle.ending_laws.proofs.SwapsDeciding.{finds_pending, asks_offer, takes_back}
-use Rattle.ending_laws.proofs.SwapsEnds.{HasFailed, spends, acts_so, quiet_so, succeeds, fails_so, Succeeds}
+use Rattle.ending_laws.proofs.SwapsEnds.{Pays, HasFailed, spends, acts_so, quiet_so, succeeds, fails_so, Succeeds}
 use Rattle.ending_laws.proofs.Withins.{Comes, at_once, within, weaken, bind, same_stays, stays_on, keeps_but, keeps_on}
 
 link_made : (o : Option Slot) → is_link (node_of o) ≡ true → is_some o ≡ true
 link_made None e = absurd (true≢false (sym e))
 link_made (Some slot) e = refl
 
-module _ (a : Lone) (steps : Stepping a) (weight : ℕ → ℕ) (pending failed : ℕ) (weighing : Weighing a weight pending failed) (c : ℕ) where
+module _ (a : Lone) (steps : Stepping a) (weight : ℕ → ℕ) (pending failed : ℕ) (weighing : Pays a weight pending failed) (c : ℕ) where
   module _ (why : Purpose) (i replaced fresh : Ref) (t : ℕ) (g : Option ℕ) where
     abbrev W : (ℕ → Type 0) → ℕ → ℕ → Type 0
     W = Within a weight

@@ -9,9 +9,13 @@ use Rattle.machine_model.specs.declared.reading.ReadLine.TheVariants as read
 use Rattle.machine_model.specs.declared.reading.SwapLine.{SwapLine}
 use Rattle.machine_model.specs.declared.reading.SwapLine.TheVariants as swap
 use Rattle.machine_model.specs.Operations.{swapped}
-use Rattle.ending_laws.specs.Alone.{IsQuiet, Lone, Stands, KeepsBut, WordStays, IsPlain, node, generation}
+use Rattle.ending_laws.specs.Alone.{IsQuiet, IsWeight, Lone, Stands, KeepsBut, WordStays, IsPlain, node, generation, word}
 use Rattle.ending_laws.specs.Machines.{HasSwapped}
 use Rattle.ending_laws.specs.Stepping.{Stepping}
+use Rattle.machine_model.proofs.Grown.{main_word}
+use Rattle.machine_model.specs.declared.actions.Action.TheVariants as act
+use Rattle.machine_model.specs.declared.roots.Descriptor.{Descriptor}
+use Rattle.machine_model.specs.declared.roots.RootWord.TheVariants.{Offer}
 use Rattle.ending_laws.specs.Weighing.{Weighing, Acts, Sees}
 use Rattle.machine_model.specs.Operations.{line_action}
 use Rattle.machine_model.specs.Swapping.{action_at}
@@ -22,6 +26,41 @@ use Rattle.ending_laws.proofs.SwapsCourse.{Holds, Restored}
 use Rattle.ending_laws.proofs.SwapsDeciding.{finds_failed, asks_plain, commits, fails, reads_main, puts_back}
 use Rattle.ending_laws.proofs.Withins.{Comes, at_once, same_stays, stays_on}
 
+-- What is asked of a weight: what an own fresh node weighs while it is pending or failed is added by the SWAP's first step, and taken off by a later one.
+pub record Pays (a : Lone) (weight : ℕ → ℕ) (pending failed : ℕ) : Type 0 where
+  pub quiet : IsWeight a weight
+  pub abort : (t : ℕ) (offer : Descriptor) → Acts a t (act.Abort offer) → word a t ≡ Offer offer → weight (suc t) ≤ weight t
+  pub commit : (t : ℕ) (i m q : Ref) (told : Option ℕ) → Acts a t (act.Decide i m q told) → Sees a t i m (over.Pending q) → Sees a (suc t) i m over.None →
+      weight (suc t) + pending ≤ weight t
+  pub fail : (t : ℕ) (i m q : Ref) (told : Option ℕ) → Acts a t (act.Decide i m q told) → Sees a t i m (over.Pending q) → Sees a (suc t) i m (over.Failed q) →
+      weight (suc t) + pending ≤ weight t + failed
+  pub restore : (t : ℕ) (i m q : Ref) → Acts a t (act.Restore i m q) → Sees a t i m (over.Failed q) → Sees a (suc t) i q over.None → weight (suc t) + failed ≤ weight t
+  pub publish : (t : ℕ) (i m fresh : Ref) → Acts a t (act.Publish i m fresh) → weight (suc t) ≤ weight t + pending
+  pub published : (t : ℕ) (i m fresh : Ref) → Acts a t (act.Publish i m fresh) → (main_word a.states t i ≡ m → ⊥) → weight (suc t) ≤ weight t
+
+pub pays_of : (a : Lone) (weight : ℕ → ℕ) (pending failed : ℕ) → Weighing a weight pending failed → Pays a weight pending failed
+pays_of a weight pending failed w = record {
+  quiet = w.quiet;
+  abort = λ t offer acts stands. let less = w.abort t offer acts stands in omega (arith, less);
+  commit = w.commit;
+  fail = w.fail;
+  restore = w.restore;
+  publish = w.publish;
+  published = w.published;
+}
+
+-- nothing weighs anything
+pub pays_nothing : (a : Lone) → Pays a (λ t. 0) 0 0
+pays_nothing a = record {
+  quiet = λ t since more operation runs quiet. omega arith;
+  abort = λ t offer acts stands. omega arith;
+  commit = λ t i m q told acts before after. omega arith;
+  fail = λ t i m q told acts before after. omega arith;
+  restore = λ t i m q acts before after. omega arith;
+  publish = λ t i m fresh acts. omega arith;
+  published = λ t i m fresh acts other. omega arith;
+}
+
 -- the SWAP has failed, by a root of another generation
 pub record HasFailed (a : Lone) (t : ℕ) (g : Option ℕ) (why : Purpose) (i fresh : Ref) (u : ℕ) : Type 0 where
   pub stands : Stands a u g (swapped a.own (node a fresh) why false)
@@ -31,7 +70,7 @@ pub record HasFailed (a : Lone) (t : ℕ) (g : Option ℕ) (why : Purpose) (i fr
   pub plain : IsPlain a u root
   pub other : g ≡ Some (generation a root) → ⊥
 
-module _ (a : Lone) (steps : Stepping a) (weight : ℕ → ℕ) (pending failed : ℕ) (weighing : Weighing a weight pending failed) (c : ℕ) (why : Purpose) (i replaced fresh : Ref) (t : ℕ)
+module _ (a : Lone) (steps : Stepping a) (weight : ℕ → ℕ) (pending failed : ℕ) (weighing : Pays a weight pending failed) (c : ℕ) (why : Purpose) (i replaced fresh : Ref) (t : ℕ)
     (g : Option ℕ) where
   abbrev C : (ℕ → Type 0) → ℕ → ℕ → Type 0
   C = Comes a weight

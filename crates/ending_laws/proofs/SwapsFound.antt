@@ -40,7 +40,7 @@ use Rattle.ending_laws.proofs.SwapsLines.{swap_line}
 link_met : (n : Node) → meets AnIndirection n ≡ true → is_link n ≡ true
 link_met n e = grind arith
 
-no_main : (n : Node) → is_link n ≡ false → main_of n ≡ no_ref
+pub no_main : (n : Node) → is_link n ≡ false → main_of n ≡ no_ref
 no_main n e = grind arith
 
 module _ (a : Lone) where

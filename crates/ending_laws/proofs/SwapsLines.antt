@@ -39,10 +39,10 @@ use Rattle.ending_laws.proofs.SwapsSteps.{known, w, facts, placed}
 
 -- ---- what comes after a SWAP is told by the call
 
-climbing_so : (x y : Operation) → x.call ≡ y.call → (c : Climb) → climbing x c ≡ climbing y c
+pub climbing_so : (x y : Operation) → x.call ≡ y.call → (c : Climb) → climbing x c ≡ climbing y c
 climbing_so x y e c = ap (λ z. cond (is_below_root c.path) (line.Climb (climb.Read c (reading (current (above c.path))))) (line.End (changed_reply z c.former))) e
 
-climbed_so : (x y : Operation) → x.call ≡ y.call → (former : Option ℕ) → climbed x former ≡ climbed y former
+pub climbed_so : (x y : Operation) → x.call ≡ y.call → (former : Option ℕ) → climbed x former ≡ climbed y former
 climbed_so x y e former = ap (λ z. line.End (changed_reply z former)) e
 
 pub swapped_so : (x y : Operation) → x.call ≡ y.call → (n : Node) (why : Purpose) (done : Bool) → swapped x n why done ≡ swapped y n why done

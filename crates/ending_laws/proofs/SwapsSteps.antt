@@ -1,22 +1,18 @@
 -- What a step of an actor that is alone finds and does, where it is one of a READ.
 use Rattle.std.proofs.Common.{◌≡◌, ℕ, suc, ◌<◌, ◌≤◌, Option, Some, None, sym, ap, ◌∙◌, subst}
-use Rattle.std.proofs.lemmas.Option.{none-some, same_Some}
+use Rattle.std.proofs.lemmas.Option.{none-some}
 use Rattle.slot_arena.specs.declared.refs.Ref.{Ref}
 use Rattle.machine_model.specs.declared.lines.Line.{Line}
 use Rattle.machine_model.specs.declared.lines.Line.TheVariants as line
-use Rattle.machine_model.specs.declared.operations.Operation.{Operation}
 use Rattle.machine_model.specs.declared.reading.Read.{Read}
 use Rattle.machine_model.specs.declared.reading.ReadLine.{ReadLine}
-use Rattle.machine_model.specs.declared.reading.ReadLine.TheVariants as read
 use Rattle.machine_model.specs.declared.steps.Outcome.{Outcome}
 use Rattle.machine_model.specs.declared.steps.Step.TheVariants as step
-use Rattle.machine_model.specs.States.{State, operation_of}
-use Rattle.machine_model.specs.Acting.{gone, commits_after}
-use Rattle.machine_model.specs.Counting.{settled}
-use Rattle.machine_model.specs.Operations.{action_of, line_action, read_of}
+use Rattle.machine_model.specs.Acting.{commits_after}
+use Rattle.machine_model.specs.Operations.{line_action, read_of}
 use Rattle.machine_model.specs.Orders.{committed_in}
 use Rattle.machine_model.specs.Reading.{read_action, read_after}
-use Rattle.machine_model.proofs.Moves.{Moves, Goes, Ends, GoesOn}
+use Rattle.machine_model.proofs.Moves.{Moves}
 use Rattle.deciding_laws.proofs.Words.{Words, ReadTurn, Leaves}
 use Rattle.deciding_laws.proofs.FromMemory.{memory}
 use Rattle.deciding_laws.proofs.GrownWords.{words_of}
@@ -28,21 +24,7 @@ use Rattle.deciding_laws.proofs.RunWords.{line_facts}
 use Rattle.ending_laws.specs.Alone.{Lone, Stands, Keeps, word}
 use Rattle.ending_laws.specs.Machines.{HoldsRead, lead}
 use Rattle.ending_laws.specs.Stepping.{Stepping, IsNoEnd, LeavesWords}
-
--- a step that is no end goes on
-went : (before : State) (actor : ℕ) (o : Outcome) (after : State) → Moves before (step.Go actor) o after → (own : Operation) → operation_of before actor ≡ Some own →
-    GoesOn (action_of before own) → after ≡ settled before (gone before actor own)
-went before actor o after (Goes d is a g) own at going = ap (λ x. settled before (gone before actor x)) (same_Some _ _ (sym is ∙ at))
-went before actor o after (Ends d is a) own at going = absurd (subst GoesOn (ap (action_of before) (same_Some _ _ (sym at ∙ is)) ∙ a) going)
-
--- a READ's steps do
-read_goes : (i : Ref) (l : ReadLine) → GoesOn (read_action i l)
-read_goes i read.Main = tt
-read_goes i (read.Prev m) = tt
-read_goes i (read.AskRoot m p) = tt
-read_goes i (read.Abort m p offer) = tt
-read_goes i (read.Decide m p told) = tt
-read_goes i (read.Restore m p) = tt
+use Rattle.ending_laws.proofs.SteppingKeeps.{after_so}
 
 -- a line with a READ is no end
 reads_no_end : (l : Line) (r : Read) → read_of l ≡ Some r → IsNoEnd l
@@ -65,15 +47,11 @@ module _ (a : Lone) where
   at_line t g l s P p = subst P s.line p
 
   module _ (t : ℕ) (g : Option ℕ) (l : Line) (s : Stands a t g l) (h : t < a.last) where
-    pub stepped : GoesOn (line_action (a.states t) s.operation l) → a.states (suc t) ≡ settled (a.states t) (gone (a.states t) a.actor s.operation)
-    stepped going =
+    pub facts : IsNoEnd l → LineFacts a.limits a.states a.last known t h a.actor s.operation l
+    facts more =
         let (o, m) = own_move t s.since h in
-        went (a.states t) a.actor o (a.states (suc t)) m s.operation s.runs (subst (λ x. GoesOn (line_action (a.states t) s.operation x)) (sym s.line) going)
-
-    pub facts : GoesOn (line_action (a.states t) s.operation l) → LineFacts a.limits a.states a.last known t h a.actor s.operation l
-    facts going =
-        let (o, m) = own_move t s.since h in
-        at_line t g l s (λ x. LineFacts a.limits a.states a.last known t h a.actor s.operation x) (line_facts a.limits a.states a.last known t h a.actor s.operation o m s.runs (stepped going))
+        at_line t g l s (λ x. LineFacts a.limits a.states a.last known t h a.actor s.operation x)
+        (line_facts a.limits a.states a.last known t h a.actor s.operation o m s.runs (after_so a t g l s h more))
 
   -- the same place in other words
   pub placed : (t : ℕ) (g h : Option ℕ) (l m : Line) → g ≡ h → l ≡ m → Stands a t g l → Stands a t h m
@@ -90,17 +68,17 @@ module _ (a : Lone) where
     acts_so : line_action (a.states t) s.operation (wrap l) ≡ read_action i l
     acts_so = holds.acts (a.states t) s.operation l
 
-    pub goes_so : GoesOn (line_action (a.states t) s.operation (wrap l))
-    goes_so = subst GoesOn (sym acts_so) (read_goes i l)
-
     pub read_no_end : IsNoEnd (wrap l)
     read_no_end = reads_no_end (wrap l) _ (holds.reads l)
+
+    pub read_acts : ActsOn a.states t (read_action i l)
+    read_acts = subst (ActsOn a.states t) acts_so (facts t g (wrap l) s h read_no_end).acts
 
     -- what it finds and does
     pub reads : ReadTurn w t i l (read_after (a.states t).heap a.own.access (word a t) i l)
     reads =
-        let f = facts t g (wrap l) s h goes_so in
-        read_turn a.limits a.states a.last known t h i l a.own.access (word a t) (subst (ActsOn a.states t) acts_so f.acts)
+        let f = facts t g (wrap l) s h read_no_end in
+        read_turn a.limits a.states a.last known t h i l a.own.access (word a t) read_acts
         (f.commits ∙ ap (λ x. commits_after (a.states t) (committed_in (a.states t) x)) (holds.reads l))
         (λ m p is r plain c closed. absurd (none-some c closed))
 

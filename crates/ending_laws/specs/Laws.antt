@@ -23,7 +23,7 @@ IsOnKeyOrRoot call = Unit {0}
 
 -- the most steps that such an operation takes where its actor alone takes steps, whatever others left behind
 abbrev pub most_steps_alone : ℕ
-most_steps_alone = 12000
+most_steps_alone = 5900
 
 -- the state after these steps and so many of this actor alone
 abbrev pub alone_after : Limits → List Step → ℕ → ℕ → State

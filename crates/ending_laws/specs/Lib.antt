@@ -6,4 +6,7 @@ pub mod Weighing
 pub mod ReadEnds
 pub mod Stale
 pub mod Laws
+pub mod Copies
 pub mod Bounds
+pub mod Readers
+pub mod SwapEnds

@@ -1,5 +1,5 @@
 -- READ, where one actor alone takes steps, in steps alone.
-use Rattle.std.specs.Prelude.{◌≡◌, ℕ, ◌+◌, ◌≤◌, Option}
+use Rattle.std.specs.Prelude.{ℕ, ◌+◌, ◌≤◌, Option}
 use Rattle.slot_arena.specs.declared.refs.Ref.{Ref}
 use Rattle.machine_model.specs.declared.lines.Line.{Line}
 use Rattle.machine_model.specs.declared.reading.ReadLine.{ReadLine}
@@ -12,7 +12,7 @@ abbrev pub read_steps : ℕ
 read_steps = 9
 
 abbrev pub read_steps_left : ℕ
-read_steps_left = 14
+read_steps_left = 12
 
 module _ (a : Lone) where
   -- from its first line a READ gives the main node that stands there, decided
