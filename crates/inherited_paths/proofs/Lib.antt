@@ -8,3 +8,5 @@ pub mod Linking
 pub mod Tombs
 pub mod Onward
 pub mod First
+pub mod Lines
+pub mod Whole

@@ -21,6 +21,14 @@ once_most c = 14 * level_most c + (46 * (c + 2) + 10 + tombs_most c 13)
 abbrev pub first_most : ℕ → ℕ
 first_most c = 34 * (c + 2) + 60 + once_most c
 
+-- from any line
+abbrev pub fine_most : ℕ → ℕ
+fine_most c = 32 * (c + 2) + 22 + (14 * (c + 2) + first_most c)
+
+-- With a READ at 2 that is below 4,096 by more than the weight of all actors at the start.
+abbrev pub FineFits : Type 0
+FineFits = fine_most 2 + 330 ≤ 4096
+
 module _ (a : Lone) where
   -- ---- no level is older
 
@@ -55,3 +63,8 @@ module _ (a : Lone) where
     abbrev pub PassKnown : Type 0
     PassKnown =
         (n : ℕ) (r : Ref) (t g : ℕ) → n ≤ 13 → Stands a t (Some g) new_try → IsCurrent a t r (Some g) → NoneOlder n t r g → W (λ u. (to : List Ref) × IsBottom a weight c r g to u) (known_most n) t
+
+    -- ---- a call on one key, on a writable handle, ends
+
+    abbrev pub FineEnds : Type 0
+    FineEnds = W (λ u. ⊥) (fine_most c) a.start
