@@ -12,13 +12,14 @@ use Rattle.machine_model.specs.States.{State, operation_of}
 use Rattle.machine_model.specs.Operations.{action_of, kind_of}
 use Rattle.machine_model.specs.Machine.{Answer, next, next_state, state_after, run_from, next_kind, begin_denial}
 use Rattle.machine_model.proofs.Moves.{Moves, Begins, Goes, Ends, Sweeps, MovesIfTaken, moves, begun_operation}
+use Rattle.machine_model.specs.Going.{go_limit}
 use Rattle.machine_model.proofs.Actors.{of_end}
 use Rattle.generation_laws.proofs.Running.{place_of_actor}
 use Rattle.order_laws.proofs.Books.{begin_events}
 use Rattle.order_laws.proofs.AllBooks.{gone_events}
 use Rattle.script_text.specs.declared.commands.Command.{Command}
 use Rattle.script_text.specs.declared.commands.Command.TheVariants.{Begin, Go, Until, Finish, Do, Sweep}
-use Rattle.script_text.specs.Steps.{stops, going, doing, most_steps, steps_of, after_command}
+use Rattle.script_text.specs.Steps.{stops, going, doing, steps_of, after_command}
 use Rattle.ctrie_commands.proofs.Carrying.{going_stops}
 
 -- no more events than so many are added
@@ -106,7 +107,7 @@ doing_adds : (state : State) (actor : ℕ) (begins : Step) (denial : Option Refu
 unfolding run_from
 doing_adds state actor begins (Some refusal) = omega (arith, step_adds state begins (next state begins) (moves state begins))
 doing_adds state actor begins None =
-    omega (arith, step_adds state begins (next state begins) (moves state begins), going_adds most_steps None actor (next_state state begins))
+    omega (arith, step_adds state begins (next state begins) (moves state begins), going_adds go_limit None actor (next_state state begins))
 
 -- ---- a line
 
@@ -114,7 +115,7 @@ pub line_adds : (state : State) (command : Command) → length (after_command st
 unfolding steps_of run_from
 line_adds state (Begin actor call) = omega (arith, step_adds state (step.Begin actor call) (next state (step.Begin actor call)) (moves state (step.Begin actor call)))
 line_adds state (Go actor times) = omega (arith, going_adds times None actor state)
-line_adds state (Until actor kind) = omega (arith, going_adds most_steps (Some kind) actor state)
-line_adds state (Finish actor) = omega (arith, going_adds most_steps None actor state)
+line_adds state (Until actor kind) = omega (arith, going_adds go_limit (Some kind) actor state)
+line_adds state (Finish actor) = omega (arith, going_adds go_limit None actor state)
 line_adds state (Do actor call) = doing_adds state actor (step.Begin actor call) (begin_denial state actor call)
 line_adds state (Sweep times) = omega (arith, ap length (sweeps_add_none times state))

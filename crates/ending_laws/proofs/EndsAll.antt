@@ -4,22 +4,17 @@ use Rattle.history.specs.declared.calls.Access.{Access}
 use Rattle.history.specs.declared.calls.Access.TheVariants.{ReadOnly, Writable}
 use Rattle.history.specs.declared.calls.Call.{Call}
 use Rattle.history.specs.declared.calls.Call.TheVariants.{Clear, Freeze, Snapshot, Close, Entries, Count}
-use Rattle.ending_laws.specs.Alone.{Lone}
-use Rattle.ending_laws.specs.Bounds.{cleaning_most, key_most}
-use Rattle.ending_laws.specs.Keys.{IsOnKey}
-use Rattle.ending_laws.specs.Laws.{AloneItEnds, EachStepLeadsToItsEnd, IsOnKeyOrRoot, most_steps_alone}
-use Rattle.ending_laws.proofs.Copies.{copies_end}
-use Rattle.ending_laws.proofs.EndsAlone.{NoneIsLong, ends_alone, steps_lead_to_the_end}
-use Rattle.ending_laws.proofs.EndsKeys.{key_ends}
-use Rattle.ending_laws.proofs.Fine.{fine, fine_at_most, fine_weighing}
-use Rattle.ending_laws.proofs.Readers.{readers_end}
-use Rattle.ending_laws.proofs.RootsMachines.{machines}
-use Rattle.ending_laws.proofs.Stepping.{stepping}
-
--- what it comes to for a READ of two steps
-key_most_is : key_most 2 ≡ 5559
-unfolding cleaning_most
-key_most_is = refl
+use Rattle.lone_steps.specs.Alone.{Lone}
+use Rattle.lone_steps.specs.Keys.{IsOnKey}
+use Rattle.lone_steps.specs.Laws.{AloneItEnds, EachStepLeadsToItsEnd, IsOnKeyOrRoot, most_steps_alone}
+use Rattle.lone_steps.proofs.Copies.{copies_end}
+use Rattle.lone_steps.proofs.EndsAlone.{NoneIsLong, ends_alone, steps_lead_to_the_end}
+use Rattle.lone_steps.proofs.Fine.{fine, fine_at_most, fine_weighing}
+use Rattle.lone_steps.proofs.Readers.{readers_end}
+use Rattle.lone_steps.proofs.RootsMachines.{machines}
+use Rattle.lone_steps.proofs.Stepping.{stepping}
+use Rattle.ending_laws.specs.Inherited.{fine_most}
+use Rattle.ending_laws.proofs.Whole.{fine_ends, fine_most_is}
 
 -- an operation on one key, on a writable handle
 writes_end : (a : Lone) → IsOnKey a.own.call → a.own.access ≡ Writable → a.start + most_steps_alone ≤ a.last → ⊥
@@ -27,7 +22,7 @@ writes_end a on writes long =
     let weighing = fine_weighing a in
     let at_most = fine_at_most a a.start in
     let actors = a.run.limits_ok.3 in
-    (key_ends a (fine a) 2 weighing.quiet (stepping a) (machines a (fine a) 5 1 2 weighing (omega arith) (omega arith) (omega arith)) on writes (omega (arith, key_most_is, at_most, actors, long))).3
+    (fine_ends a (fine a) 2 weighing.quiet (stepping a) (machines a (fine a) 5 1 2 weighing (omega arith) (omega arith) (omega arith)) on writes (omega (arith, fine_most_is, at_most, actors, long))).3
 
 by_access : (a : Lone) → IsOnKey a.own.call → (x : Access) → a.own.access ≡ x → a.start + most_steps_alone ≤ a.last → ⊥
 by_access a on Writable e long = writes_end a on e long

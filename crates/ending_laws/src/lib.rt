@@ -1,4 +1,5 @@
-//! An operation that alone takes steps ends.
+//! An operation that alone takes steps ends. The pass that was under way when its actor was left alone, and the first fresh
+//! one, renew each level once: what the one renewed the other needn't.
 #![tactic(auto)]
 
 mod laws;
