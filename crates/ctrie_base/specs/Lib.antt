@@ -2,3 +2,4 @@ pub mod Refusals
 pub mod Kinds
 pub mod Hashes
 pub mod Paths
+pub mod Ticks

@@ -7,12 +7,14 @@ mod kinds;
 mod paths;
 mod refusals;
 mod ticks;
+mod traces;
 
 pub use hashes::{Block, Fold, HashKind, KeyHash, Low, Wide, hash_fits};
 pub use kinds::Kind;
 pub use paths::flag_position;
 pub use refusals::Refusal;
 pub use ticks::Ticks;
+pub use traces::{Change, Trace};
 
 #[cfg(test)]
 mod tests;

@@ -1,6 +1,9 @@
 //! Names, numbers, hashes and positions, against tables written by hand.
 
-use crate::{Block, Fold, HashKind, KeyHash, Kind, Low, Refusal, Wide, flag_position, hash_fits};
+use crate::{
+    Block, Fold, HashKind, KeyHash, Kind, Low, Refusal, Ticks, Trace, Wide, flag_position,
+    hash_fits,
+};
 use std::alloc::AllocError;
 use std::test::Fail;
 
@@ -124,4 +127,17 @@ fn finds_positions(rt: HostRuntime) {
         assert_eq!(rt; found_flag, *flag);
         assert_eq!(rt; found_position, *position);
     }
+}
+
+fn crosses_threads<T: Send + Sync>(_value: &T) {}
+
+#[test]
+fn counts_without_bytes(rt: HostRuntime) {
+    let mut ticks = Ticks::new();
+    ticks.add();
+    let both = Ticks::sum(&ticks, &Ticks::new());
+    crosses_threads(&both);
+    let _ = Trace::new().with_first(&1u8).with_last(&2).rest();
+    assert_eq!(rt; size_of::<Ticks>(), 0);
+    assert_eq!(rt; size_of::<Trace<u64>>(), 0);
 }

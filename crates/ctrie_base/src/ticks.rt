@@ -1,19 +1,25 @@
 //! A count of the steps on links.
 
-ghost use Rattle.std.specs.Prelude.{◌≡◌, ℕ, ◌+◌};
-ghost use Rattle.std.specs.Borrow.{ftrue};
+ghost use Rattle.std.specs.Prelude.{◌≡◌, ◌+◌};
 
+use crate::traces::{Change, Trace};
 use std::marker::Model;
 
 /// How often a link, an end or an entry of a list was read or written. It takes no bytes: only clauses
 /// see the count.
 #[derive(Drop)]
 pub struct Ticks {
-    pub ghost count: { ℕ },
+    /// One mark for each.
+    marks: Trace<()>,
 }
 
 impl Model for Ticks {
-    ghost also_owns = { λ _. ftrue };
+    ghost use Rattle.std.specs.Prelude.{length};
+    ghost use Rattle.ctrie_base.specs.Ticks.{Count};
+
+    ghost Value = { Count };
+
+    ghost view = { λ t. record { count = length t.marks.items } };
 }
 
 impl Ticks {
@@ -21,27 +27,32 @@ impl Ticks {
     pub fn new() -> Ticks
         ensures { result.count ≡ 0 }
     {
-        Ticks {}
-    }
-
-    /// One tick more than before.
-    fn after(_before: &Ticks) -> Ticks
-        ensures { result.count ≡ _before.now.count + 1 }
-    {
-        Ticks {}
+        Ticks {
+            marks: Trace::new(),
+        }
     }
 
     /// The ticks of both.
-    pub fn sum(_first: &Ticks, _second: &Ticks) -> Ticks
-        ensures { result.count ≡ _first.now.count + _second.now.count }
+    pub fn sum(first: &Ticks, second: &Ticks) -> Ticks
+        ensures { result.count ≡ first.now.count + second.now.count }
     {
-        Ticks {}
+        Ticks {
+            marks: Trace::changed::<Trace<()>, Joined>(&first.marks, &second.marks),
+        }
     }
 
     /// Counts one tick.
     pub fn add(&mut self)
         ensures { self.new.count ≡ self.old.count + 1 }
     {
-        *self = Ticks::after(self);
+        self.marks = self.marks.with_first(&());
     }
+}
+
+struct Joined;
+
+impl Change<(), Trace<()>> for Joined {
+    ghost use Rattle.std.specs.Prelude.{◌++◌};
+
+    ghost after = { λ marks more. marks ++ more.items };
 }

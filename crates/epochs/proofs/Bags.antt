@@ -1,16 +1,16 @@
 -- The ring of bags, as one list of numbers.
-use Rattle.std.proofs.Common.{◌≡◌, ℕ, zero, suc, ◌+◌, ◌-◌, ◌<◌, ◌≤◌, ◌==◌, not, Bool, true, false, cond, List, [], ◌∷◌, ◌++◌, length, map, set, get_or, filter, slice_index, count_by, replicate, refl, sym, ap, ◌∙◌, subst, ◌⊎◌, inl, inr, arith}
-use Rattle.std.proofs.lemmas.Bool.{cases_eq, cases_lt, cases_Bool, false≢true}
-use Rattle.std.proofs.lemmas.List.{get_or-set_same, get_or-set_other, length-set, length-map, length-append, map-append, map_push, append_assoc, append-nil, get_or_past, length_push}
-use Rattle.std.proofs.lemmas.List.Sums.{sum_by-set, sum_by-cons, count_by-le-length}
+use Rattle.std.proofs.Common.{◌≡◌, ℕ, suc, ◌+◌, ◌<◌, ◌≤◌, ◌==◌, not, Bool, true, false, cond, List, [], ◌∷◌, ◌++◌, length, map, set, get_or, count_by, refl, sym, ap, ◌∙◌, subst, ◌⊎◌, inl, inr, arith}
+use Rattle.std.proofs.lemmas.Bool.{cases_eq, cases_lt, cases_Bool}
+use Rattle.std.proofs.lemmas.List.{get_or-set_same, get_or-set_other, map-append, map_push, append_assoc, get_or_past}
+use Rattle.std.proofs.lemmas.List.Sums.{sum_by-set}
 use Rattle.slot_arena.specs.Refs.{slot_of}
 use Rattle.slot_arena.specs.declared.refs.Ref.{Ref}
 use Rattle.slot_arena.specs.Times.{times, other_slots}
 use Rattle.slot_arena.specs.Tallies.{naming, AreMarks}
 use Rattle.slot_arena.proofs.Times.{bit, once, once_same, once_other, times-cons, times-append}
 use Rattle.slot_arena.proofs.Namings.{naming-cons}
-use Rattle.epochs.specs.Rings.{Joined, around, IsRing}
-use Rattle.epochs.proofs.Joins.{AreOnce, once_apart, others, others_none, others_same, others_other}
+use Rattle.epochs.specs.Rings.{around, IsRing}
+use Rattle.epochs.proofs.Joins.{AreOnce, once_apart, others, others_same, others_other}
 
 -- references name a slot as often as it stands among their slots
 pub naming_map : (k : ℕ) (rs : List Ref) → naming k rs ≡ times k (map slot_of rs)

@@ -1,9 +1,9 @@
 -- Links forward and back under writes.
-use Rattle.std.proofs.Common.{◌≡◌, ℕ, zero, suc, ◌+◌, ◌<◌, ◌≤◌, ◌==◌, not, Bool, true, false, cond, List, [], ◌∷◌, ◌++◌, length, set, filter, slice_index, refl, sym, ap, ◌∙◌, subst, ◌⊎◌, inl, inr, arith, eq-eqb, eqb-true}
+use Rattle.std.proofs.Common.{◌≡◌, ℕ, ◌<◌, ◌≤◌, ◌==◌, not, false, cond, List, [], ◌∷◌, ◌++◌, length, set, filter, slice_index, refl, sym, ap, ◌∙◌, subst, ◌⊎◌, inl, inr, arith, eq-eqb, eqb-true}
 use Rattle.std.proofs.lemmas.Bool.{cases_eq, cases_Bool}
 use Rattle.std.proofs.lemmas.List.{get_or-set_same, get_or-set_other, length-set}
 use Rattle.slot_arena.specs.Times.{times}
-use Rattle.slot_arena.proofs.Times.{once, once_same, once_other, times-cons}
+use Rattle.slot_arena.proofs.Times.{once_same, once_other, times-cons}
 use Rattle.slot_arena.proofs.Chains.{not_first, not_later}
 use Rattle.epochs.specs.Rings.{Joined}
 

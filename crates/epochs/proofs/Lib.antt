@@ -1,8 +1,13 @@
 pub mod Joins
 pub mod Bags
 pub mod Turns
+pub mod Filters
 pub mod Sifting
 pub mod Listing
 pub mod Sweeps
 pub mod Rising
+pub mod InUse
+pub mod Staying
+pub mod Naming
 pub mod Settled
+pub mod Forgetting

@@ -1,29 +1,28 @@
 -- The bags list what waits, whatever the arena's calls do.
-use Rattle.std.proofs.Common.{◌≡◌, ℕ, ◌+◌, ◌<◌, ◌≤◌, ◌==◌, not, Bool, true, false, cond, List, [], ◌∷◌, ◌++◌, length, set, get_or, filter, All, Option, Some, None, refl, sym, ap, ◌∙◌, subst, inl, inr, arith, eqb-true}
+use Rattle.std.proofs.Common.{◌≡◌, ℕ, ◌+◌, ◌<◌, ◌≤◌, ◌==◌, not, Bool, true, false, cond, List, [], ◌∷◌, length, get_or, All, Some, None, refl, sym, ap, ◌∙◌, subst, inl, inr, arith, eqb-true}
 use Rattle.std.proofs.lemmas.Bool.{eqb-false}
 use Rattle.slot_arena.specs.declared.nodes.Prev.TheVariants as prev
-use Rattle.std.proofs.lemmas.Bool.{cases_eq, cases_lt, cases_Bool, false≢true}
+use Rattle.std.proofs.lemmas.Bool.{cases_eq}
 use Rattle.std.proofs.lemmas.Option.{none-some}
-use Rattle.std.proofs.lemmas.List.{length-set, get_or-set_same, get_or_past}
+use Rattle.std.proofs.lemmas.List.{length-set, get_or-set_same}
 use Rattle.std.proofs.lemmas.List.Elements.{All-nil, All-cons, All-weaker}
 use Rattle.slot_arena.specs.declared.refs.Ref.{Ref}
 use Rattle.slot_arena.specs.declared.nodes.Node.{Node}
 use Rattle.slot_arena.specs.declared.nodes.Prev.{Prev}
-use Rattle.slot_arena.specs.declared.nodes.Slot.{Slot}
 use Rattle.slot_arena.specs.Refs.{slot_of}
 use Rattle.slot_arena.specs.Heaps.{Heap, taken, take_from, with_main, with_prev, main_changed, prev_changed, stored, freed}
 use Rattle.std.specs.Prelude.{option_map}
 use Rattle.slot_arena.specs.Times.{times, other_slots}
 use Rattle.slot_arena.specs.Tallies.{naming}
 use Rattle.slot_arena.specs.Arenas.{Contents, IsLive, AreLive, waiting, waiting_in, NotesWaiting}
-use Rattle.slot_arena.proofs.Times.{once, once_same, once_other, times-cons, times-append}
+use Rattle.slot_arena.proofs.Times.{once, once_same, once_other, times-cons}
 use Rattle.slot_arena.proofs.Namings.{naming-cons}
 use Rattle.slot_arena.proofs.Reading.{live_seen, freed_seen}
-use Rattle.slot_arena.proofs.Live.{one_live, live_within}
+use Rattle.slot_arena.proofs.Live.{live_within}
 use Rattle.epochs.specs.Rings.{Bags, all_of}
 use Rattle.epochs.specs.Memories.{Lists, IsMemory}
 use Rattle.epochs.specs.Settling.{bags_after}
-use Rattle.epochs.proofs.Bags.{other_slots-all, length-other_slots}
+use Rattle.epochs.proofs.Bags.{other_slots-all}
 use Rattle.epochs.proofs.Sifting.{member_live}
 
 -- ---- the number of slots stays

@@ -1,8 +1,8 @@
 -- A step of the sweep.
-use Rattle.std.proofs.Common.{◌≡◌, ℕ, ◌+◌, ◌-◌, ◌<◌, ◌≤◌, ◌==◌, nat_le, Bool, true, false, cond, List, [], ◌∷◌, ◌++◌, length, get_or, drop, map, Option, Some, None, refl, sym, ap, ◌∙◌, subst, inl, inr, not, arith, eq-eqb}
+use Rattle.std.proofs.Common.{◌≡◌, ℕ, ◌+◌, ◌-◌, ◌<◌, ◌≤◌, nat_le, Bool, true, false, cond, List, [], ◌∷◌, ◌++◌, length, drop, Option, Some, None, refl, sym, ap, ◌∙◌, subst, not, arith, eq-eqb}
 use Rattle.slot_arena.specs.declared.nodes.Slot.{Slot}
-use Rattle.std.proofs.lemmas.Bool.{cases_lt, cases_Bool, false≢true, le-leb, lt-leb}
-use Rattle.std.proofs.lemmas.Option.{none-some, same_Some}
+use Rattle.std.proofs.lemmas.Bool.{le-leb, lt-leb}
+use Rattle.std.proofs.lemmas.Option.{none-some}
 use Rattle.std.proofs.lemmas.List.{append-nil, length-replicate}
 use Rattle.std.specs.Prelude.{slice_index_or}
 use Rattle.slot_arena.specs.declared.refs.Ref.{Ref}
@@ -10,18 +10,17 @@ use Rattle.slot_arena.specs.Refs.{slot_of}
 use Rattle.slot_arena.specs.Heaps.{Heap}
 use Rattle.slot_arena.specs.Times.{times, other_slots}
 use Rattle.slot_arena.specs.Tallies.{naming}
-use Rattle.slot_arena.specs.Arenas.{Contents, IsLive, AreLive, waiting, waiting_in, new_arena}
-use Rattle.slot_arena.proofs.Times.{once, once_same, times-cons, times-append}
+use Rattle.slot_arena.specs.Arenas.{Contents, AreLive, waiting, waiting_in, new_arena}
+use Rattle.slot_arena.proofs.Times.{once_same, times-cons, times-append}
 use Rattle.slot_arena.proofs.Namings.{naming-cons, naming-append}
 use Rattle.slot_arena.proofs.Starts.{none_at}
 use Rattle.epochs.specs.declared.limbo.Zeroed.{Zeroed}
 use Rattle.epochs.specs.declared.limbo.Swept.{Swept}
-use Rattle.epochs.specs.declared.limbo.Swept.TheVariants as swept
 use Rattle.epochs.specs.Sweeping.{Reclaimer, ripe, is_passed, scanned, advanced, sweep_by, swept_once}
 use Rattle.epochs.specs.Rings.{Bags, all_of, turned}
-use Rattle.epochs.specs.Memories.{Lists, IsMemory, limbo_of, zeroed_at}
+use Rattle.epochs.specs.Memories.{Lists, limbo_of, zeroed_at}
 use Rattle.epochs.specs.Settling.{bags_after}
-use Rattle.epochs.proofs.Bags.{other_slots-none, length-other_slots}
+use Rattle.epochs.proofs.Bags.{other_slots-none}
 
 -- a test that fails
 not_ripe : (a b : ℕ) → b < a → nat_le a b ≡ false

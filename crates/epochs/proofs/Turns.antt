@@ -1,5 +1,5 @@
 -- The ring after each of its calls.
-use Rattle.std.proofs.Common.{◌≡◌, ℕ, zero, suc, ◌+◌, ◌-◌, ◌<◌, ◌≤◌, ◌==◌, Bool, true, false, cond, List, [], ◌∷◌, ◌++◌, length, map, set, get_or, slice_index, count_by, replicate, refl, sym, ap, ◌∙◌, subst, ◌⊎◌, inl, inr, arith}
+use Rattle.std.proofs.Common.{◌≡◌, ℕ, zero, suc, ◌+◌, ◌-◌, ◌<◌, ◌≤◌, Bool, true, false, cond, List, [], ◌∷◌, ◌++◌, length, map, set, get_or, slice_index, count_by, replicate, refl, sym, ap, ◌∙◌, subst, inl, inr, arith}
 use Rattle.std.proofs.lemmas.Bool.{cases_lt}
 use Rattle.std.proofs.lemmas.List.{length-set, length-map, length-append, append-nil, append_assoc, length-replicate, get_or-replicate, get_or_past}
 use Rattle.std.proofs.lemmas.List.Sums.{sum_by-set, sum_by-cons}
@@ -7,7 +7,7 @@ use Rattle.slot_arena.specs.Refs.{slot_of}
 use Rattle.slot_arena.specs.declared.refs.Ref.{Ref}
 use Rattle.slot_arena.specs.Times.{times, other_slots}
 use Rattle.slot_arena.specs.Tallies.{naming, AreMarks}
-use Rattle.slot_arena.proofs.Times.{bit, once, once_same, once_other, times-cons}
+use Rattle.slot_arena.proofs.Times.{bit, once_same, once_other, times-cons}
 use Rattle.slot_arena.proofs.Marks.{marks_noted}
 use Rattle.epochs.specs.Rings.{Joined, around, IsRing, IsEmptyRing}
 use Rattle.epochs.proofs.Joins.{entered, left, turned, last_in, before_in, behind_in, others}

@@ -3,3 +3,4 @@ pub mod Sweeping
 pub mod Rings
 pub mod Memories
 pub mod Settling
+pub mod Laws

@@ -1,15 +1,15 @@
 -- What a contract sees of a heap whose slots are reclaimed by epochs.
-use Rattle.std.specs.Prelude.{◌≡◌, ℕ, ◌+◌, ◌-◌, ◌<◌, ◌≤◌, ◌==◌, ◌&&◌, List, [], ◌++◌, map, filter, length, replicate, Option, None, Some}
+use Rattle.std.specs.Prelude.{◌≡◌, ℕ, ◌+◌, ◌-◌, ◌<◌, ◌≤◌, ◌&&◌, List, [], ◌++◌, map, filter, length, replicate, Option, None, Some}
 use Rattle.slot_arena.specs.declared.refs.Ref.{Ref}
 use Rattle.slot_arena.specs.Refs.{slot_of}
 use Rattle.slot_arena.specs.Heaps.{Heap}
 use Rattle.slot_arena.specs.Times.{times}
 use Rattle.slot_arena.specs.Tallies.{naming}
-use Rattle.slot_arena.specs.Arenas.{Contents, IsLive, AreLive, AreSlots, waiting, new_arena}
+use Rattle.slot_arena.specs.Arenas.{Contents, AreLive, AreSlots, waiting, new_arena}
 use Rattle.epochs.specs.declared.limbo.Zeroed.{Zeroed}
 use Rattle.epochs.specs.declared.limbo.Swept.{Swept}
 use Rattle.epochs.specs.declared.limbo.Swept.TheVariants as swept
-use Rattle.epochs.specs.Limbo.{is_in_use, is_zero, newly_zero}
+use Rattle.epochs.specs.Limbo.{is_in_use, is_zero}
 use Rattle.epochs.specs.Sweeping.{Reclaimer}
 use Rattle.epochs.specs.Rings.{Bags, all_of}
 

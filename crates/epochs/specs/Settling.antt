@@ -4,7 +4,7 @@ use Rattle.slot_arena.specs.declared.refs.Ref.{Ref}
 use Rattle.slot_arena.specs.Refs.{slot_of}
 use Rattle.slot_arena.specs.Times.{times, other_slots}
 use Rattle.slot_arena.specs.Tallies.{naming}
-use Rattle.slot_arena.specs.Arenas.{Contents, IsLive, waiting}
+use Rattle.slot_arena.specs.Arenas.{Contents, waiting}
 use Rattle.epochs.specs.Limbo.{is_zero}
 use Rattle.epochs.specs.Rings.{Bags, all_of}
 

@@ -1,10 +1,10 @@
 //! The arena with limbo, epochs and the sweep.
 
-ghost use Rattle.std.specs.Prelude.{◌≡◌, ℕ, ◌+◌, ◌-◌, ◌*◌, ◌<◌, ◌≤◌, ◌^◌, ◌==◌, ◌∷◌, [], List, length, drop, true, IsTrue, ◌↔◌, IfSome, Some, None, slice_set, slice_index_or, IfOk, IfErr, ◌⊎◌, if◌then◌else◌};
+ghost use Rattle.std.specs.Prelude.{◌≡◌, ℕ, ◌+◌, ◌-◌, ◌*◌, ◌<◌, ◌≤◌, ◌^◌, ◌==◌, ◌∷◌, [], List, length, drop, true, false, IsTrue, ◌↔◌, IfSome, Some, None, slice_set, slice_index_or, IfOk, IfErr, ◌⊎◌, if◌then◌else◌};
 ghost use Rattle.slot_arena.specs.Heaps.{node_at, prev_at, main_at, refs_of_node, refs_of_prev, next_ref, in_use, taken, with_main, with_prev};
 ghost use Rattle.slot_arena.specs.Counts.{count_of};
 ghost use Rattle.slot_arena.specs.Times.{times, without};
-ghost use Rattle.slot_arena.specs.Arenas.{IsLive, AreLive, is_indirection, is_main_node};
+ghost use Rattle.slot_arena.specs.Arenas.{IsLive, AreLive, is_live, is_indirection, is_main_node};
 ghost use Rattle.epochs.specs.Sweeping.{swept_once, is_passed};
 ghost use Rattle.epochs.specs.Rings.{turned};
 ghost use Rattle.epochs.specs.Memories.{reclaimer_of, KeepsEpochs, AreSizes, new_memory, freed_by, staying};
@@ -71,10 +71,12 @@ impl Heap {
 
     /// Takes the first free slot for a node, under a new birth; None where no slot is free.
     pub fn make(&mut self, node: Node) -> Option<Ref>
-        requires births { self.old.heap.births < 2 ^ 48 }
+        requires births { self.old.heap.births + 1 < 2 ^ 48 }
         requires live { AreLive self.old.heap (refs_of_node node) }
         ensures made { result ≡ next_ref self.old.heap }
         ensures lives { IfSome result (IsLive self.new.heap) }
+        ensures fresh { IfSome result (λ r. is_live self.old.heap r ≡ false) }
+        ensures stay { (q : Ref) → IsLive self.old.heap q → IsLive self.new.heap q }
         ensures heap { self.new.heap ≡ taken self.old.heap node }
         ensures outside { self.new.outside ≡ self.old.outside }
         ensures epochs { KeepsEpochs self.old self.new }
@@ -119,6 +121,7 @@ impl Heap {
         ensures was { result ≡ (main_at self.old.heap at == from) }
         ensures heap { self.new.heap ≡ (if result then with_main self.old.heap at to else self.old.heap) }
         ensures outside { self.new.outside ≡ self.old.outside }
+        ensures stay { (q : Ref) → is_live self.new.heap q ≡ is_live self.old.heap q }
         ensures epochs { KeepsEpochs self.old self.new }
         ensures ticks { self.new.ticks ≡ self.old.ticks }
     {
@@ -133,6 +136,7 @@ impl Heap {
         ensures was { IsTrue result ↔ (prev_at self.old.heap at ≡ from) }
         ensures heap { self.new.heap ≡ (if result then with_prev self.old.heap at to else self.old.heap) }
         ensures outside { self.new.outside ≡ self.old.outside }
+        ensures stay { (q : Ref) → is_live self.new.heap q ≡ is_live self.old.heap q }
         ensures epochs { KeepsEpochs self.old self.new }
         ensures ticks { self.new.ticks ≡ self.old.ticks }
     {
@@ -201,12 +205,14 @@ impl Heap {
         self.ticks = Ticks::sum(self.arena.ticks(), &self.links);
     }
 
-    /// A step of the sweep, where all is settled. What it frees leaves limbo at once.
+    /// A step of the sweep, where all is settled. What it frees leaves limbo at once; what is referred to
+    /// stays.
     pub fn sweep(&mut self) -> Swept
         requires settled { self.old.noted ≡ [] }
         requires room { self.old.epoch < 2 ^ 48 }
         ensures swept { (result, record { heap = self.new.heap; limbo = self.old.limbo; epoch = self.new.epoch; cursor = self.new.cursor }) ≡ swept_once self.old.pins (reclaimer_of self.old) }
         ensures limbo { self.new.limbo ≡ drop (freed_by result) self.old.limbo }
+        ensures stay { (q : Ref) → IsLive self.old.heap q → 0 < count_of self.old.heap self.old.outside q → IsLive self.new.heap q }
         ensures outside { self.new.outside ≡ self.old.outside }
         ensures pins { self.new.pins ≡ self.old.pins }
         ensures ticks { self.new.ticks ≤ self.old.ticks + 12 }

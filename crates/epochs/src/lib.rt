@@ -2,11 +2,13 @@
 #![tactic(auto)]
 
 mod heap;
+mod laws;
 mod limbo;
 mod ring;
 mod settling;
 
 pub use heap::Heap;
+pub use laws::{counts_alone, freed_leaves};
 pub use limbo::{Swept, Zeroed};
 
 #[cfg(test)]

@@ -6,8 +6,8 @@ ghost use Rattle.slot_arena.specs.Times.{other_slots};
 ghost use Rattle.slot_arena.specs.Tallies.{naming};
 ghost use Rattle.epochs.specs.Rings.{all_of, IsEmptyRing};
 
-use ctrie_base::Ticks;
-use slot_arena::{Links, Ref, Trace};
+use ctrie_base::{Change, Ticks, Trace};
+use slot_arena::{Links, Ref};
 use std::alloc::{AllocError, Global};
 use std::marker::Model;
 use std::mem;
@@ -25,9 +25,9 @@ pub(crate) struct Ring {
     second: u32,
     third: u32,
     len: u32,
-    oldest: Trace,
-    middle: Trace,
-    present: Trace,
+    oldest: Trace<Ref>,
+    middle: Trace<Ref>,
+    present: Trace<Ref>,
 }
 
 impl Model for Ring {
@@ -106,7 +106,7 @@ impl Ring {
         self.back.write(self.first as usize, slot, ticks);
         self.is_in[slot as usize] = true;
         self.len += 1;
-        self.present = Trace::with_last(&self.present, &at);
+        self.present = self.present.with_last(&at);
     }
 
     /// The slot leaves its bag.
@@ -124,9 +124,9 @@ impl Ring {
         self.back.write(behind as usize, before, ticks);
         self.is_in[slot as usize] = false;
         self.len -= 1;
-        self.oldest = Trace::without_slot(&self.oldest, &slot);
-        self.middle = Trace::without_slot(&self.middle, &slot);
-        self.present = Trace::without_slot(&self.present, &slot);
+        self.oldest = Trace::changed::<u16, OtherSlots>(&self.oldest, &slot);
+        self.middle = Trace::changed::<u16, OtherSlots>(&self.middle, &slot);
+        self.present = Trace::changed::<u16, OtherSlots>(&self.present, &slot);
     }
 
     /// The epoch grows: each bag is one epoch older, and the emptied one is the present one.
@@ -158,4 +158,13 @@ fn beginnings(alloc: Global, size: u32, ends: [u32; 3]) -> Result<Links, AllocEr
     links.write(first + 1, ends[1], &mut ticks);
     links.write(first + 2, ends[2], &mut ticks);
     Ok(links)
+}
+
+/// The references to other slots.
+struct OtherSlots;
+
+impl Change<Ref, u16> for OtherSlots {
+    ghost use Rattle.slot_arena.specs.Times.{other_slots};
+
+    ghost after = { λ refs slot. other_slots slot refs };
 }

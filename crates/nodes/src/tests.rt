@@ -1,8 +1,9 @@
 //! Nodes against values written by hand.
 
 use crate::{
-    compressed, contracted, has_room, inserted, list_inserted, list_removed, list_updated, pair,
-    parting, removed, renewed, rung, updated,
+    compressed, contracted, flag_of, has_flag, has_room, index_in, inserted, list_depth,
+    list_inserted, list_removed, list_updated, pair, parting, position_of, removed, renewed, rung,
+    updated,
 };
 use ctrie_base::HashKind;
 use slot_arena::{Node, Ref};
@@ -109,4 +110,15 @@ fn parts_paths(rt: HostRuntime) {
         "of 64 bits"
     );
     assert!(rt; is_branch(&rung(64, 1, c), 0b100, [c].as_slice()), "rung");
+}
+
+#[test]
+fn finds_levels(rt: HostRuntime) {
+    assert_eq!(rt; list_depth(HashKind::Low), 7);
+    assert_eq!(rt; list_depth(HashKind::Wide), 13);
+    assert_eq!(rt; index_in(3 + 32 * 5, 1), 5);
+    assert_eq!(rt; flag_of(3 + 32 * 5, 0), 8);
+    assert!(rt; has_flag(0b1010, 8), "it has the flag");
+    assert!(rt; !has_flag(0b1010, 4), "it hasn't");
+    assert_eq!(rt; position_of(8, 0b1011), 2);
 }

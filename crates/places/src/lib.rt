@@ -1,7 +1,6 @@
 //! Places of operations in the order, and the order by them.
 #![tactic(auto)]
 
-mod arrivals;
 mod place;
 mod places;
 mod segment;

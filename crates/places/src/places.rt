@@ -6,10 +6,9 @@ ghost use Rattle.places.specs.Places.{ids_by_place};
 ghost use Rattle.places.specs.Segments.{AreCut};
 ghost use Rattle.ctrie_base.specs.declared.refusals.Refusal.TheVariants.{Memory};
 
-use crate::arrivals::Arrivals;
 use crate::place::Place;
 use crate::segment::Segment;
-use ctrie_base::{Refusal, Ticks};
+use ctrie_base::{Refusal, Ticks, Trace};
 use std::alloc::{AllocError, Global};
 use std::marker::Model;
 
@@ -27,7 +26,7 @@ pub struct Places {
     /// The last closing: the places up to it are of segments that were ended.
     closed: u64,
     /// All of them in the order in which they came, for clauses alone.
-    arrivals: Arrivals,
+    arrivals: Trace<Place>,
     ticks: Ticks,
 }
 
@@ -38,14 +37,14 @@ impl Model for Places {
     ghost Value = { Listing };
 
     ghost view = { λ p. record {
-      places = p.arrivals.places;
+      places = p.arrivals.items;
       closings = p.closings.items;
       ticks = p.ticks.count;
       room_to_add = min (vec_capacity p.listed.places - vec_len p.listed.places) (vec_capacity p.stray.places - vec_len p.stray.places);
       room_to_close = vec_capacity p.closings - vec_len p.closings;
     } };
 
-    ghost invariant = { λ p. IsKept p.arrivals.places p.listed.places.items p.stray.places.items p.closings.items p.closed };
+    ghost invariant = { λ p. IsKept p.arrivals.items p.listed.places.items p.stray.places.items p.closings.items p.closed };
 }
 
 impl Places {
@@ -60,7 +59,7 @@ impl Places {
             stray: Segment::new(alloc),
             closings: Vec::new(alloc),
             closed: 0,
-            arrivals: Arrivals::new(),
+            arrivals: Trace::new(),
             ticks: Ticks::new(),
         }
     }
@@ -110,7 +109,7 @@ impl Places {
         } else {
             self.listed.push(at, &mut self.ticks);
         }
-        self.arrivals = Arrivals::with(&self.arrivals, &at);
+        self.arrivals = self.arrivals.with_last(&at);
     }
 
     /// The order: the ids by rising place.

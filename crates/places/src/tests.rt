@@ -73,3 +73,12 @@ fn orders_three_segments(rt: HostRuntime) -> Result<(), Fail> {
     );
     Ok(())
 }
+
+fn crosses_threads<T: Send + Sync>(_value: &T) {}
+
+#[test]
+fn goes_to_other_threads(rt: HostRuntime) {
+    let places = Places::new(rt.alloc());
+    crosses_threads(&places);
+    let _ticks = places.ticks();
+}

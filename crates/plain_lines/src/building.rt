@@ -73,7 +73,7 @@ pub fn build_after(
     operation: &Operation,
     line: &BuildLine,
 ) -> Result<Line, AllocError>
-    requires { (seen parts.now).heap.births < 2 ^ 64 - 1 }
+    requires { (seen parts.now).heap.births + 1 < 2 ^ 48 }
     ensures { IfOk result (λ after. after ≡ build_after (seen parts.now) operation.now line.now) }
 {
     match parts.heap.next_ref() {

@@ -1,7 +1,7 @@
 //! CLIMB: after a removal that left a tomb, the tomb gives way to its single in the parent, and so on
 //! upwards.
 
-ghost use Rattle.std.specs.Prelude.{◌≡◌, ◌<◌, ◌-◌, ◌^◌, IfOk};
+ghost use Rattle.std.specs.Prelude.{◌≡◌, ◌+◌, ◌<◌, ◌-◌, ◌^◌, IfOk};
 ghost use Rattle.slot_arena.specs.Heaps.{node_at};
 ghost use Rattle.machine_model.specs.Climbing.{climbed, climbing, higher, place_in, climbed_node, climb_action, climb_after_read, holds_it, climb_after_main, climb_after_contracted, climb_after_root, climb_after};
 ghost use Rattle.machine_model.specs.Paths.{above, is_below_root, flag_in};
@@ -215,7 +215,7 @@ pub fn climb_after(
     operation: &Operation,
     line: &ClimbLine,
 ) -> Result<Line, AllocError>
-    requires { (seen parts.now).heap.births < 2 ^ 64 - 1 }
+    requires { (seen parts.now).heap.births + 1 < 2 ^ 48 }
     ensures { IfOk result (λ after. after ≡ climb_after (seen parts.now) operation.now line.now) }
 {
     match line {

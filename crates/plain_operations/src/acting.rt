@@ -1,6 +1,6 @@
 //! What an action does to root words, main words, `prev` words and slots.
 
-ghost use Rattle.std.specs.Prelude.{◌≡◌, ◌<◌, ◌-◌, ◌^◌, map, slice_set, slice_index_or, MatchOption, vec_len, vec_capacity};
+ghost use Rattle.std.specs.Prelude.{◌≡◌, ◌+◌, ◌<◌, ◌-◌, ◌^◌, map, slice_set, slice_index_or, MatchOption, vec_len, vec_capacity};
 ghost use Rattle.machine_model.specs.declared.roots.RootWord.TheVariants.{Plain};
 ghost use Rattle.slot_arena.specs.Heaps.{next_ref, generation_at};
 ghost use Rattle.plain_operations.specs.Actions.{MakesNothing};
@@ -19,7 +19,7 @@ use slot_arena::{Node, Prev, Ref};
 /// Does what the action does, on this handle. It takes no memory: there is room for a closing and a
 /// place, and births and generations don't run out.
 pub fn act(parts: &mut Parts, handle: u16, action: Action)
-    requires births { (seen parts.old).heap.births < 2 ^ 64 - 1 }
+    requires births { (seen parts.old).heap.births + 1 < 2 ^ 48 }
     requires generations { (seen parts.old).generations < 2 ^ 64 - 1 }
     requires closings { vec_len parts.old.closings < vec_capacity parts.old.closings }
     requires places { vec_len parts.old.places < vec_capacity parts.old.places }
@@ -249,7 +249,7 @@ fn decide(heap: &mut PlainHeap, main: Ref, previous: Ref, verdict: Verdict)
 
 /// Takes a slot for an indirection of a new generation, if one is free.
 fn make_root(parts: &mut Parts, main: Ref)
-    requires births { (seen parts.old).heap.births < 2 ^ 64 - 1 }
+    requires births { (seen parts.old).heap.births + 1 < 2 ^ 48 }
     requires generations { (seen parts.old).generations < 2 ^ 64 - 1 }
     ensures does { seen parts.new
         ≡ new_root_taken (seen parts.old) main (next_ref (seen parts.old).heap) }

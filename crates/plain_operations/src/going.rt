@@ -28,7 +28,7 @@ use std::alloc::AllocError;
 /// What the step of the actor's operation does, but for what every step does at its end. After an error
 /// nothing has changed.
 pub fn go_on(parts: &mut Parts, actor: u8) -> Result<Outcome, AllocError>
-    requires births { (seen parts.old).heap.births < 2 ^ 63 }
+    requires births { (seen parts.old).heap.births < 2 ^ 47 }
     requires generations { (seen parts.old).generations < 2 ^ 63 }
     requires runs { IsSome (operation_of (seen parts.old) actor) }
     requires attempts { (operation : Operation) →
@@ -107,7 +107,7 @@ fn ending_of(parts: &Parts, operation: &Operation, reply: &Reply) -> Result<Endi
 /// Takes a step of the actor's operation that isn't its end: the one that does this. After an error
 /// nothing has changed.
 fn proceed(parts: &mut Parts, actor: u8, action: Action) -> Result<Outcome, AllocError>
-    requires births { (seen parts.old).heap.births < 2 ^ 63 }
+    requires births { (seen parts.old).heap.births < 2 ^ 47 }
     requires generations { (seen parts.old).generations < 2 ^ 63 }
     requires runs { IsSome (operation_of (seen parts.old) actor) }
     requires attempts { (operation : Operation) →
@@ -158,7 +158,7 @@ struct Turn {
 
 /// What the step of this operation, which does that, changes besides what it does.
 fn turn_of(parts: &Parts, operation: &Operation, action: &Action) -> Result<Turn, AllocError>
-    requires births { (seen parts.now).heap.births < 2 ^ 63 }
+    requires births { (seen parts.now).heap.births < 2 ^ 47 }
     requires attempts { operation.now.attempt < 2 ^ 63 }
     requires does { action.now ≡ action_of (seen parts.now) operation.now }
     ensures handle { IfOk result (λ turn. turn.handle ≡ handle_of operation.now.call) }

@@ -1,6 +1,6 @@
 //! On which line an operation stands after its step.
 
-ghost use Rattle.std.specs.Prelude.{◌≡◌, ◌<◌, ◌-◌, ◌^◌, true, false, IfOk};
+ghost use Rattle.std.specs.Prelude.{◌≡◌, ◌+◌, ◌<◌, ◌-◌, ◌^◌, true, false, IfOk};
 ghost use Rattle.machine_model.specs.declared.lines.Line.TheVariants as lines;
 ghost use Rattle.machine_model.specs.declared.operations.Operation.{Operation};
 ghost use Rattle.slot_arena.specs.declared.nodes.Node.{Node};
@@ -25,7 +25,7 @@ use std::alloc::{AllocError, Global};
 
 /// The line on which the operation stands after its next step. Births and offers don't run out.
 pub fn operation_line_after(parts: &Parts, operation: &Operation) -> Result<Line, AllocError>
-    requires births { (seen parts.now).heap.births < 2 ^ 64 - 1 }
+    requires births { (seen parts.now).heap.births + 1 < 2 ^ 48 }
     requires attempts { operation.now.attempt < 2 ^ 64 - 1 }
     ensures { IfOk result
         (λ line. line ≡ line_after (seen parts.now) operation.now operation.now.line) }

@@ -1,9 +1,10 @@
 //! The heap of a plain machine.
 
-ghost use Rattle.std.specs.Prelude.{◌≡◌, ◌<◌, ◌≤◌, ◌-◌, ◌^◌, replicate, None, option_map, IfOk, OnOk, OnErr};
+ghost use Rattle.std.specs.Prelude.{◌≡◌, ◌+◌, ◌<◌, ◌≤◌, ◌-◌, ◌^◌, replicate, None, option_map, IfOk, OnOk, OnErr};
 ghost use Rattle.slot_arena.specs.Heaps.{node_at, prev_at, main_at, generation_at, entries_of, entry_at, bitmap_of, next_ref, logical_main, with_main_word, main_changed, prev_changed, with_main, with_prev, taken, freed};
 ghost use Rattle.std.specs.List.{range_with_len};
 ghost use Rattle.machine_model.specs.States.{empty_heap};
+ghost use Rattle.plain_state.specs.Births.{BirthsFit};
 
 use arrayvec::ArrayVec;
 use slot_arena::{Node, Prev, Ref, Slot};
@@ -25,12 +26,13 @@ pub struct PlainHeap {
 impl Model for PlainHeap {
     ghost use Rattle.std.specs.Prelude.{◌≡◌};
     ghost use Rattle.slot_arena.specs.Heaps.{Heap, empty_branch};
+    ghost use Rattle.plain_state.specs.Births.{BirthsFit};
 
     ghost Value = { Heap };
 
     ghost view = { λ h. record { slots = h.slots.items; free = h.free.items; births = h.births } };
 
-    ghost invariant = { λ h. h.blank ≡ empty_branch };
+    ghost invariant = { λ h. (h.blank ≡ empty_branch) × BirthsFit h.slots.items };
 }
 
 impl PlainHeap {
@@ -52,7 +54,8 @@ impl PlainHeap {
 
     /// All slots, by rising number.
     pub fn slots(&self) -> &[Option<Slot>]
-        ensures { result.now ≡ self.now.slots }
+        ensures slots { result.now ≡ self.now.slots }
+        ensures births { BirthsFit self.now.slots }
     {
         self.slots.as_slice()
     }
@@ -152,7 +155,7 @@ impl PlainHeap {
 
     /// The reference that the next slot to be taken will have, if one is free.
     pub fn next_ref(&self) -> Option<Ref>
-        requires { self.now.births < 2 ^ 64 - 1 }
+        requires { self.now.births + 1 < 2 ^ 48 }
         ensures { result ≡ next_ref self.now }
     {
         let slot = self.free.first()?;
@@ -182,7 +185,7 @@ impl PlainHeap {
     /// Puts the node into the first free slot, under a new birth. Where no slot is free nothing happens.
     #[tactic(auto, unfolding(slot_arena::specs::Heaps::taken))]
     pub fn take(&mut self, node: Node)
-        requires { self.old.births < 2 ^ 64 - 1 }
+        requires { self.old.births + 1 < 2 ^ 48 }
         ensures { self.new ≡ taken self.old node }
     {
         if self.free.is_empty() {

@@ -1,8 +1,7 @@
 -- What is found after a change, and that its counts are exact.
-use Rattle.std.proofs.Common.{◌≡◌, ℕ, ◌+◌, ◌*◌, ◌<◌, ◌≤◌, ◌^◌, ◌==◌, Bool, true, false, cond, List, [], ◌∷◌, length, get_or, set, slice_index, All, Option, Some, None, is_some, refl, sym, ap, ◌∙◌, subst, inl, inr, arith}
-use Rattle.std.specs.List.{sum_by}
-use Rattle.std.proofs.lemmas.Bool.{cases_eq, cases_Bool, cases_lt, false≢true}
-use Rattle.std.proofs.lemmas.List.{get_or_past, get_or-set_same, get_or-set_other, get_or_default}
+use Rattle.std.proofs.Common.{◌≡◌, ℕ, ◌+◌, ◌*◌, ◌<◌, ◌≤◌, ◌^◌, ◌==◌, Bool, true, false, cond, List, length, get_or, set, slice_index, All, Option, Some, None, is_some, refl, ap, ◌∙◌, subst, inl, inr, arith}
+use Rattle.std.proofs.lemmas.Bool.{cases_Bool}
+use Rattle.std.proofs.lemmas.List.{get_or-set_same, get_or-set_other, get_or_default}
 use Rattle.std.proofs.lemmas.List.Sums.{sum_by-set, sum_by-le, count_by-le-length}
 use Rattle.slot_arena.specs.declared.refs.Ref.{Ref}
 use Rattle.slot_arena.specs.declared.nodes.Slot.{Slot}
@@ -17,8 +16,8 @@ use Rattle.slot_arena.specs.Chains.{Chain}
 use Rattle.slot_arena.specs.Arenas.{has_birth}
 use Rattle.slot_arena.specs.Kept.{live, found, counted, IsKept}
 use Rattle.slot_arena.proofs.Parts.{used_within}
-use Rattle.slot_arena.proofs.Live.{live_times, dead_times, live_ref, unnamed, slot_of_ref}
-use Rattle.slot_arena.proofs.Exact.{live_found, exact_live, exact_dead, part_live}
+use Rattle.slot_arena.proofs.Live.{live_times, dead_times, live_ref, slot_of_ref}
+use Rattle.slot_arena.proofs.Exact.{exact_live, exact_dead}
 
 -- what is found after one slot and what is held were changed
 pub found_set : (slots : List (Option Slot)) (k : ℕ) (o : Option Slot) (outside outside' : List Ref) (r : Ref) → k < length slots →

@@ -1,22 +1,20 @@
 -- Exact counts: what the change of one slot, and of what is held from outside, leaves of them.
-use Rattle.std.proofs.Common.{◌≡◌, ℕ, ◌+◌, ◌*◌, ◌<◌, ◌≤◌, ◌^◌, ◌==◌, Bool, true, false, cond, List, [], ◌∷◌, ◌++◌, length, get_or, set, slice_index, All, Option, Some, None, is_some, refl, sym, ap, ◌∙◌, subst, inl, inr, arith}
+use Rattle.std.proofs.Common.{◌≡◌, ℕ, ◌<◌, ◌≤◌, ◌^◌, true, false, cond, List, [], ◌∷◌, length, get_or, slice_index, All, Option, Some, None, is_some, refl, ap, ◌∙◌, inl, inr, arith}
 use Rattle.std.specs.List.{sum_by, flat_map}
-use Rattle.std.proofs.lemmas.Bool.{cases_eq, cases_Bool, cases_lt, false≢true}
-use Rattle.std.proofs.lemmas.List.{get_or_past}
-use Rattle.std.proofs.lemmas.List.Elements.{All-nil, All-cons, All-head, All-tail}
-use Rattle.std.proofs.lemmas.List.Sums.{sum_by-cons, sum_by-append, sum_by-set, sum_by-le, get_or-le-sum_by, count_by-le-length}
+use Rattle.std.proofs.lemmas.Bool.{cases_Bool}
+use Rattle.std.proofs.lemmas.List.Elements.{All-nil, All-cons}
+use Rattle.std.proofs.lemmas.List.Sums.{sum_by-cons}
 use Rattle.slot_arena.specs.declared.refs.Ref.{Ref}
 use Rattle.slot_arena.specs.declared.nodes.Slot.{Slot}
-use Rattle.slot_arena.specs.Refs.{ref_to, slot_of, birth_of}
-use Rattle.slot_arena.specs.Heaps.{Heap, refs_of_slot, heap_refs}
+use Rattle.slot_arena.specs.Refs.{ref_to, slot_of}
+use Rattle.slot_arena.specs.Heaps.{Heap, refs_of_slot}
 use Rattle.slot_arena.specs.Counts.{count_of}
 use Rattle.slot_arena.specs.Times.{times}
 use Rattle.slot_arena.specs.Tallies.{naming}
 use Rattle.slot_arena.specs.Kept.{live, found, counted}
-use Rattle.slot_arena.proofs.Times.{once, once_same, once_other, times-cons, times-append}
-use Rattle.slot_arena.proofs.Namings.{naming-cons}
+use Rattle.slot_arena.proofs.Times.{once_same, times-cons, times-append}
 use Rattle.slot_arena.proofs.Parts.{used_within}
-use Rattle.slot_arena.proofs.Live.{live_times, dead_times, live_ref, unnamed, slot_of_ref}
+use Rattle.slot_arena.proofs.Live.{live_times, live_ref, unnamed, slot_of_ref}
 
 -- how often a reference stands in what a slot holds
 abbrev in_slot : Ref → Option Slot → ℕ

@@ -1,15 +1,15 @@
 -- Words of the definition, read in the list of slots.
-use Rattle.std.proofs.Common.{◌≡◌, ℕ, ◌+◌, ◌<◌, ◌==◌, Bool, true, false, List, [], ◌∷◌, length, get_or, set, All, Option, Some, None, is_some, refl, sym, ap, ◌∙◌, subst}
+use Rattle.std.proofs.Common.{◌≡◌, ℕ, ◌+◌, true, List, [], ◌∷◌, get_or, set, All, Option, Some, None, is_some, refl, sym, ap, ◌∙◌}
 use Rattle.std.proofs.lemmas.Bool.{false≢true}
 use Rattle.slot_arena.specs.declared.refs.Ref.{Ref}
 use Rattle.slot_arena.specs.declared.nodes.Node.{Node}
 use Rattle.slot_arena.specs.declared.nodes.Prev.{Prev}
 use Rattle.slot_arena.specs.declared.nodes.Prev.TheVariants as prev
 use Rattle.slot_arena.specs.declared.nodes.Slot.{Slot}
-use Rattle.slot_arena.specs.Refs.{ref_to, slot_of, birth_of}
-use Rattle.slot_arena.specs.Heaps.{Heap, stored, node_of, node_at, prev_of, prev_at, taken, take_from, freed, with_main, with_prev, main_changed, prev_changed, next_ref, ref_in}
+use Rattle.slot_arena.specs.Refs.{slot_of, birth_of}
+use Rattle.slot_arena.specs.Heaps.{Heap, stored, node_of, node_at, prev_of, prev_at, taken, take_from, freed, with_main, with_prev, main_changed, prev_changed}
 use Rattle.std.specs.Prelude.{option_map}
-use Rattle.slot_arena.specs.Arenas.{has_birth, is_live, IsLive, AreLive}
+use Rattle.slot_arena.specs.Arenas.{Contents, has_birth, is_live, IsLive, AreLive}
 use Rattle.slot_arena.specs.Kept.{live}
 
 pub live_seen : (heap : Heap) (r : Ref) → IsLive heap r → live heap.slots r ≡ true
@@ -23,6 +23,10 @@ live_is heap r = refl
 pub live_shown : (heap : Heap) (r : Ref) → live heap.slots r ≡ true → IsLive heap r
 unfolding stored
 live_shown heap r has = has
+
+-- what is live in an arena is so in its slots
+pub live_inside : (before after : Contents) → before ≡ after → (r : Ref) → IsLive after.heap r → live before.heap.slots r ≡ true
+live_inside before after same r has = ap (λ (a : Contents). live a.heap.slots r) same ∙ live_seen after.heap r has
 
 pub all_seen : (heap : Heap) (rs : List Ref) → AreLive heap rs → All (λ q. live heap.slots q ≡ true) rs
 all_seen heap rs all k d within = live_seen heap (get_or rs k d) (all k d within)

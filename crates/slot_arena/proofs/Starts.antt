@@ -1,17 +1,18 @@
 -- At first no slot is in use.
-use Rattle.std.proofs.Common.{◌≡◌, ℕ, zero, suc, ◌+◌, ◌<◌, ◌≤◌, ◌^◌, Bool, true, false, cond, List, [], ◌∷◌, length, get_or, replicate, slice_index, Option, Some, None, is_some, count_by, refl, sym, ap, ◌∙◌, inl, inr, arith}
+use Rattle.std.proofs.Common.{◌≡◌, ℕ, zero, suc, ◌≤◌, cond, [], length, get_or, replicate, slice_index, Option, None, is_some, refl, sym, ap, ◌∙◌, inl, inr, arith}
 use Rattle.std.specs.List.{sum_by, range_with_len}
 use Rattle.std.proofs.lemmas.Bool.{cases_lt, false≢true}
 use Rattle.std.proofs.lemmas.List.{length-replicate, get_or-replicate, get_or_past}
 use Rattle.std.proofs.lemmas.List.FromFn.{length-range_with_len}
 use Rattle.std.proofs.lemmas.List.Sums.{sum_by-cons}
+use Rattle.slot_arena.specs.Cells.{birth_of_slot}
 use Rattle.slot_arena.specs.declared.refs.Ref.{Ref}
 use Rattle.slot_arena.specs.declared.nodes.Slot.{Slot}
 use Rattle.slot_arena.specs.Refs.{slot_of, birth_of}
 use Rattle.slot_arena.specs.Heaps.{node_of, refs_of_node, refs_of_slot}
 use Rattle.slot_arena.specs.Times.{times}
 use Rattle.slot_arena.specs.Arenas.{has_birth}
-use Rattle.slot_arena.specs.Kept.{live, found, counted, IsKept}
+use Rattle.slot_arena.specs.Kept.{counted, IsKept}
 
 -- nothing is found in slots that aren't in use
 pub none_at : (n k : ℕ) → get_or (replicate {A = Option Slot} n None) k None ≡ None
@@ -41,6 +42,7 @@ start_kept n few = record {
   in_use = sym (none_summed (λ (o : Option Slot). cond {A = ℕ} (is_some o) 1 0) n refl);
   all = omega (arith, length-range_with_len 0 n, length-replicate {A = Option Slot} n None);
   narrow = λ slot. omega (arith, ap (λ (o : Option Slot). length (refs_of_node (node_of o))) (none_at n slot));
+  born = λ slot. omega (arith, ap birth_of_slot (none_at n slot));
   held = λ r. omega arith;
 }
   where

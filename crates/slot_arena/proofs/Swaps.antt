@@ -1,25 +1,20 @@
 -- What a word of a slot in use refers to is changed.
-use Rattle.std.proofs.Common.{◌≡◌, ℕ, zero, suc, ◌+◌, ◌-◌, ◌*◌, ◌<◌, ◌≤◌, ◌^◌, ◌==◌, Bool, true, false, cond, List, [], ◌∷◌, ◌++◌, length, get_or, set, slice_index, All, Option, Some, None, is_some, count_by, refl, sym, ap, ◌∙◌, subst, inl, inr, arith}
-use Rattle.std.proofs.lemmas.Bool.{cases_eq, cases_Bool, cases_lt, false≢true}
-use Rattle.std.proofs.lemmas.List.{get_or_past, get_or-set_same, get_or-set_other, length-set}
-use Rattle.std.proofs.lemmas.List.Elements.{All-nil, All-cons}
-use Rattle.std.proofs.lemmas.List.Sums.{sum_by-set, get_or-le-sum_by}
+use Rattle.std.proofs.Common.{◌≡◌, ℕ, ◌+◌, ◌<◌, ◌≤◌, ◌^◌, ◌==◌, true, cond, List, length, get_or, set, slice_index, All, Option, Some, None, is_some, sym, ap, ◌∙◌, inl, inr, arith}
+use Rattle.std.proofs.lemmas.Bool.{cases_eq}
+use Rattle.std.proofs.lemmas.List.{length-set}
+use Rattle.slot_arena.specs.Cells.{birth_of_slot}
 use Rattle.slot_arena.specs.declared.refs.Ref.{Ref}
-use Rattle.slot_arena.specs.declared.nodes.Node.{Node}
-use Rattle.slot_arena.specs.declared.nodes.Prev.{Prev}
-use Rattle.slot_arena.specs.declared.nodes.Prev.TheVariants as prev
 use Rattle.slot_arena.specs.declared.nodes.Slot.{Slot}
-use Rattle.slot_arena.specs.Refs.{ref_to, slot_of, birth_of}
-use Rattle.slot_arena.specs.Heaps.{node_of, refs_of_node, refs_of_prev, refs_of_slot}
-use Rattle.slot_arena.specs.Times.{times, without}
+use Rattle.slot_arena.specs.Refs.{slot_of, birth_of}
+use Rattle.slot_arena.specs.Heaps.{node_of, refs_of_node, refs_of_slot}
+use Rattle.slot_arena.specs.Times.{times}
 use Rattle.slot_arena.specs.Tallies.{naming}
 use Rattle.slot_arena.specs.Chains.{Chain}
 use Rattle.slot_arena.specs.Arenas.{has_birth}
-use Rattle.slot_arena.specs.Kept.{live, found, counted, IsKept}
-use Rattle.slot_arena.proofs.Times.{once, once_same, once_other, times-cons, times-append, times-without}
-use Rattle.slot_arena.proofs.Live.{live_times, dead_times, unnamed, one_live, live_within}
-use Rattle.slot_arena.proofs.Exact.{exact_live, exact_dead, part_live, part_counted}
-use Rattle.slot_arena.proofs.Changed.{found_set, live_here, live_there, dead_stays, exact_same, counted_none}
+use Rattle.slot_arena.specs.Kept.{live, found, IsKept}
+use Rattle.slot_arena.proofs.Live.{unnamed}
+use Rattle.slot_arena.proofs.Exact.{part_live}
+use Rattle.slot_arena.proofs.Changed.{found_set, live_here, live_there, exact_same}
 use Rattle.slot_arena.proofs.Written.{used_set, each_set, not_used}
 
 module _
@@ -53,5 +48,6 @@ module _
       in_use = let was = ap (λ (o : Option Slot). cond {A = ℕ} (is_some o) 1 0) at in let is = kept.in_use in omega (arith, used_set slots k (Some slot') within);
       all = let is = kept.all in omega (arith, length-set slots k (Some slot'));
       narrow = each_set (λ i o. length (refs_of_node (node_of o)) ≤ 32) slots k (Some slot') within few (λ i other. kept.narrow i);
+      born = each_set (λ i o. birth_of_slot o < 2 ^ 48) slots k (Some slot') within (omega (arith, kept.born k, ap birth_of_slot at)) (λ i other. kept.born i);
       held = kept.held;
     }

@@ -1,5 +1,5 @@
 -- Which slots wait for nothing to refer to them, by counts.
-use Rattle.std.proofs.Common.{◌≡◌, ℕ, ◌<◌, ◌≤◌, ◌^◌, ◌==◌, Bool, true, false, cond, List, length, get_or, slice_index, Option, Some, None, is_some, refl, sym, ap, subst, ◌∙◌, ◌⊎◌, inl, inr, arith, eq-eqb, eqb-true}
+use Rattle.std.proofs.Common.{◌≡◌, ℕ, ◌<◌, ◌^◌, ◌==◌, Bool, true, false, cond, List, get_or, slice_index, Option, Some, None, is_some, refl, sym, ap, subst, ◌∙◌, ◌⊎◌, inl, inr, arith, eq-eqb, eqb-true}
 use Rattle.std.proofs.lemmas.Bool.{cases_Bool}
 use Rattle.slot_arena.specs.Cells.{birth_of_slot}
 use Rattle.slot_arena.specs.declared.refs.Ref.{Ref}
@@ -10,7 +10,7 @@ use Rattle.std.proofs.lemmas.Option.{none-some, same_Some}
 use Rattle.slot_arena.specs.Heaps.{Heap}
 use Rattle.slot_arena.specs.Counts.{count_of}
 use Rattle.slot_arena.specs.Times.{times}
-use Rattle.slot_arena.specs.Tallies.{Tally, NotesZeros}
+use Rattle.slot_arena.specs.Tallies.{NotesZeros}
 use Rattle.slot_arena.specs.Chains.{Chain}
 use Rattle.slot_arena.specs.Arenas.{Contents, IsLive, has_birth, waiting, waiting_in, NotesWaiting}
 use Rattle.slot_arena.specs.Kept.{live, IsKept}

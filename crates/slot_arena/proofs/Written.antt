@@ -1,26 +1,15 @@
 -- What stays so when one slot is written, whatever is written.
-use Rattle.std.proofs.Common.{◌≡◌, ℕ, zero, suc, ◌+◌, ◌-◌, ◌*◌, ◌<◌, ◌≤◌, ◌^◌, ◌==◌, Bool, true, false, cond, List, [], ◌∷◌, ◌++◌, length, get_or, set, slice_index, All, Option, Some, None, is_some, count_by, refl, sym, ap, ◌∙◌, subst, inl, inr, arith}
-use Rattle.std.proofs.lemmas.Bool.{cases_eq, cases_Bool, cases_lt, false≢true}
-use Rattle.std.proofs.lemmas.List.{get_or_past, get_or-set_same, get_or-set_other, length-set}
-use Rattle.std.proofs.lemmas.List.Elements.{All-nil, All-cons}
-use Rattle.std.proofs.lemmas.List.Sums.{sum_by-set, get_or-le-sum_by}
+use Rattle.std.proofs.Common.{◌≡◌, ℕ, ◌+◌, ◌<◌, true, cond, List, length, get_or, set, Option, Some, None, is_some, count_by, sym, ap, ◌∙◌, subst, inl, inr}
+use Rattle.std.proofs.lemmas.Bool.{cases_eq, false≢true}
+use Rattle.std.proofs.lemmas.List.{get_or-set_same, get_or-set_other}
+use Rattle.std.proofs.lemmas.List.Sums.{sum_by-set}
 use Rattle.slot_arena.specs.declared.refs.Ref.{Ref}
-use Rattle.slot_arena.specs.declared.nodes.Node.{Node}
-use Rattle.slot_arena.specs.declared.nodes.Prev.{Prev}
-use Rattle.slot_arena.specs.declared.nodes.Prev.TheVariants as prev
 use Rattle.slot_arena.specs.declared.nodes.Slot.{Slot}
-use Rattle.slot_arena.specs.Refs.{ref_to, slot_of, birth_of}
-use Rattle.slot_arena.specs.Heaps.{refs_of_node, refs_of_prev, refs_of_slot}
-use Rattle.slot_arena.specs.Times.{times, without}
-use Rattle.slot_arena.specs.Tallies.{naming}
-use Rattle.slot_arena.specs.Chains.{Chain}
+use Rattle.slot_arena.specs.Refs.{birth_of}
 use Rattle.slot_arena.specs.Arenas.{has_birth}
-use Rattle.slot_arena.specs.Kept.{live, found, counted, IsKept}
-use Rattle.slot_arena.proofs.Times.{once, once_same, once_other, times-cons, times-append, times-without}
-use Rattle.slot_arena.proofs.Live.{live_times, dead_times, unnamed, one_live, live_within}
-use Rattle.slot_arena.proofs.Exact.{exact_live, exact_dead, part_live, part_counted}
+use Rattle.slot_arena.specs.Kept.{live}
 use Rattle.slot_arena.proofs.Waiting.{born}
-use Rattle.slot_arena.proofs.Changed.{found_set, live_here, live_there, dead_stays, exact_same, counted_none}
+use Rattle.slot_arena.proofs.Changed.{live_there}
 
 abbrev used_one : Option Slot → ℕ
 used_one o = cond (is_some o) 1 0

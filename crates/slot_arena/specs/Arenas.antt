@@ -5,7 +5,7 @@ use Rattle.slot_arena.specs.declared.refs.Ref.{Ref}
 use Rattle.slot_arena.specs.declared.nodes.Node.{Node}
 use Rattle.slot_arena.specs.declared.nodes.Node.TheVariants.{Indirection, Branch, Single, Tomb, List as Listed}
 use Rattle.slot_arena.specs.declared.nodes.Slot.{Slot}
-use Rattle.slot_arena.specs.Refs.{ref_to, slot_of, birth_of}
+use Rattle.slot_arena.specs.Refs.{ref_to, birth_of}
 use Rattle.slot_arena.specs.Heaps.{Heap, stored}
 use Rattle.slot_arena.specs.Counts.{count_of}
 use Rattle.slot_arena.specs.Times.{times}

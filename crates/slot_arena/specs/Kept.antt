@@ -1,5 +1,5 @@
 -- What an arena keeps of its slots, counts and free slots.
-use Rattle.std.specs.Prelude.{◌≡◌, ℕ, ◌+◌, ◌≤◌, ◌^◌, Bool, true, List, length, Option, None, is_some, slice_index, slice_index_or, count_by, if◌then◌else◌}
+use Rattle.std.specs.Prelude.{◌≡◌, ℕ, ◌+◌, ◌<◌, ◌≤◌, ◌^◌, Bool, true, List, length, Option, None, is_some, slice_index, slice_index_or, count_by, if◌then◌else◌}
 use Rattle.std.specs.List.{sum_by}
 use Rattle.slot_arena.specs.declared.refs.Ref.{Ref}
 use Rattle.slot_arena.specs.declared.nodes.Slot.{Slot}
@@ -8,6 +8,7 @@ use Rattle.slot_arena.specs.Heaps.{node_of, refs_of_node, refs_of_slot}
 use Rattle.slot_arena.specs.Times.{times}
 use Rattle.slot_arena.specs.Chains.{Chain}
 use Rattle.slot_arena.specs.Arenas.{has_birth}
+use Rattle.slot_arena.specs.Cells.{birth_of_slot}
 
 abbrev pub live : List (Option Slot) → Ref → Bool
 live slots r = has_birth (birth_of r) (slice_index_or slots (slot_of r) None)
@@ -30,6 +31,8 @@ pub record IsKept (slots : List (Option Slot)) (counts : List ℕ) (free : Chain
   pub apart : (slot : ℕ) → is_some (slice_index_or slots slot None) ≡ true → times slot free.slots ≡ 0
   pub in_use : used ≡ count_by is_some slots
   pub all : length free.slots + used ≡ length slots
+  -- so that each birth fits a reference
+  pub born : (slot : ℕ) → birth_of_slot (slice_index_or slots slot None) < 2 ^ 48
   -- so that no count overflows
   pub narrow : (slot : ℕ) → length (refs_of_node (node_of (slice_index_or slots slot None))) ≤ 32
   pub held : (r : ℕ) → times r outside ≤ 2 ^ 31

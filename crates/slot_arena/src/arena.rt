@@ -1,6 +1,6 @@
 //! The arena: slots, counts of references, free slots.
 
-ghost use Rattle.std.specs.Prelude.{◌≡◌, ℕ, ◌+◌, ◌<◌, ◌≤◌, ◌^◌, ◌==◌, ◌∷◌, ◌++◌, [], length, true, IsTrue, MatchOption, ◌↔◌, IfSome, IfOk, IfErr, ◌⊎◌, if◌then◌else◌};
+ghost use Rattle.std.specs.Prelude.{◌≡◌, ℕ, ◌+◌, ◌<◌, ◌≤◌, ◌^◌, ◌==◌, ◌∷◌, ◌++◌, [], length, true, false, IsTrue, MatchOption, ◌↔◌, IfSome, IfOk, IfErr, ◌⊎◌, if◌then◌else◌};
 ghost use Rattle.slot_arena.specs.Refs.{slot_of};
 ghost use Rattle.slot_arena.specs.Heaps.{node_at, prev_at, main_at, refs_of_node, refs_of_prev, next_ref, in_use, taken, with_main, with_prev, freed};
 ghost use Rattle.slot_arena.specs.Counts.{count_of};
@@ -13,8 +13,7 @@ use crate::free_slots::FreeSlots;
 use crate::nodes::{Node, Prev};
 use crate::refs::Ref;
 use crate::tally::Tally;
-use crate::traces::Trace;
-use ctrie_base::{Refusal, Ticks};
+use ctrie_base::{Change, Refusal, Ticks, Trace};
 use std::alloc::Global;
 use std::marker::Model;
 use std::slice::from_ref;
@@ -28,7 +27,7 @@ pub struct Arena {
     free: FreeSlots,
     births: u64,
     used: u32,
-    outside: Trace,
+    outside: Trace<Ref>,
     ticks: Ticks,
 }
 
@@ -65,12 +64,13 @@ impl Arena {
 
     /// Takes the first free slot for a node, under a new birth; None where no slot is free.
     pub fn make(&mut self, node: Node) -> Option<Ref>
-        requires births { self.old.heap.births < 2 ^ 48 }
+        requires births { self.old.heap.births + 1 < 2 ^ 48 }
         requires live { AreLive self.old.heap (refs_of_node node) }
         ensures made { result ≡ next_ref self.old.heap }
         ensures heap { self.new.heap ≡ taken self.old.heap node }
         ensures outside { self.new.outside ≡ self.old.outside }
         ensures lives { IfSome result (IsLive self.new.heap) }
+        ensures fresh { IfSome result (λ r. is_live self.old.heap r ≡ false) }
         ensures stay { (q : Ref) → IsLive self.old.heap q → IsLive self.new.heap q }
         ensures noted { NotesWaiting self.old self.new }
         ensures ticks { self.new.ticks ≤ self.old.ticks + 3 }
@@ -165,7 +165,7 @@ impl Arena {
         ensures ticks { self.new.ticks ≡ self.old.ticks }
     {
         self.tally.raise_all(from_ref(&at));
-        self.outside = Trace::with(&self.outside, &at);
+        self.outside = self.outside.with_first(&at);
     }
 
     /// One reference from outside the slots less.
@@ -177,7 +177,7 @@ impl Arena {
         ensures ticks { self.new.ticks ≡ self.old.ticks }
     {
         self.tally.lower_all(from_ref(&at));
-        self.outside = Trace::without(&self.outside, &at);
+        self.outside = Trace::changed::<Ref, TakenOut>(&self.outside, &at);
     }
 
     /// Frees a slot to which nothing refers; it is the first of the free ones then.
@@ -277,6 +277,15 @@ impl Arena {
     {
         &self.ticks
     }
+}
+
+/// The list without the first item that is this one.
+struct TakenOut;
+
+impl Change<Ref, Ref> for TakenOut {
+    ghost use Rattle.slot_arena.specs.Times.{without};
+
+    ghost after = { λ refs one. without one refs };
 }
 
 /// The references that stand in a node.

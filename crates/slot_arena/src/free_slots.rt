@@ -5,8 +5,7 @@ ghost use Rattle.std.specs.List.{range_with_len};
 ghost use Rattle.slot_arena.specs.Times.{times};
 
 use crate::links::Links;
-use crate::traces::Trace;
-use ctrie_base::Ticks;
+use ctrie_base::{Change, Ticks, Trace};
 use std::alloc::{AllocError, Global};
 use std::marker::Model;
 
@@ -16,7 +15,7 @@ use std::marker::Model;
 pub(crate) struct FreeSlots {
     links: Links,
     end: u32,
-    slots: Trace,
+    slots: Trace<u16>,
 }
 
 impl Model for FreeSlots {
@@ -44,7 +43,7 @@ impl FreeSlots {
         Ok(FreeSlots {
             links,
             end: slots,
-            slots: Trace::numbers_below(&slots),
+            slots: Trace::changed::<u32, Below>(&Trace::new(), &slots),
         })
     }
 
@@ -61,7 +60,7 @@ impl FreeSlots {
         }
         let next = self.links.read(first as usize, ticks);
         self.links.write(end, next, ticks);
-        self.slots = Trace::rest(&self.slots);
+        self.slots = self.slots.rest();
         Some(first as u16)
     }
 
@@ -77,6 +76,15 @@ impl FreeSlots {
         let first = self.links.read(end, ticks);
         self.links.write(slot as usize, first, ticks);
         self.links.write(end, slot as u32, ticks);
-        self.slots = Trace::with_number(&self.slots, &slot);
+        self.slots = self.slots.with_first(&slot);
     }
+}
+
+/// The numbers below one.
+struct Below;
+
+impl Change<u16, u32> for Below {
+    ghost use Rattle.std.specs.List.{range_with_len};
+
+    ghost after = { λ _ count. range_with_len 0 count };
 }

@@ -9,14 +9,12 @@ mod lists;
 mod nodes;
 mod refs;
 mod tally;
-mod traces;
 
 pub use arena::Arena;
 pub use links::Links;
 pub use lists::Refs;
 pub use nodes::{Node, Prev, Slot};
 pub use refs::Ref;
-pub use traces::Trace;
 
 #[cfg(test)]
 mod tests;

@@ -3,7 +3,8 @@
 ghost use Rattle.std.specs.Prelude.{◌≡◌, []};
 ghost use Rattle.slot_arena.specs.Heaps.{refs_of_node};
 
-use crate::{Arena, Node, Prev, Ref};
+use crate::{Arena, Links, Node, Prev, Ref, Refs};
+use ctrie_base::{Refusal, Ticks};
 use std::test::Fail;
 
 #[test]
@@ -76,5 +77,75 @@ fn notes_what_waits(rt: HostRuntime) -> Result<(), Fail> {
     assert!(rt; arena.waiting(slot) == Some(leaf), "it waits");
     assert!(rt; arena.take_noted() == None, "no other");
     let _ticks = arena.ticks();
+    Ok(())
+}
+
+#[test]
+fn swaps_main_words(rt: HostRuntime) -> Result<(), Fail> {
+    let mut arena = Arena::new(rt.alloc(), 4)?;
+    assert!(rt; arena.births() < 4);
+    let first = arena.make(single(1)).ok_or("a slot is free")?;
+    assert!(rt; arena.births() < 4);
+    let above = arena
+        .make(Node::Indirection {
+            generation: 7,
+            main: first,
+        })
+        .ok_or("a slot is free")?;
+    if let Node::Indirection { generation: 7, .. } = arena.look(above) {
+        assert!(rt; arena.main(above) == first, "as it was made");
+        assert!(rt; arena.swap_main(above, first, above), "it was the first");
+    }
+    Ok(())
+}
+
+#[test]
+fn refuses_sizes(rt: HostRuntime) {
+    assert!(rt;
+        matches!(Arena::new(rt.alloc(), 1), Err(Refusal::BadLimits)),
+        "one slot"
+    );
+    assert!(rt;
+        matches!(Arena::new(rt.alloc(), 65537), Err(Refusal::BadLimits)),
+        "too many"
+    );
+}
+
+#[test]
+fn keeps_lists(rt: HostRuntime) -> Result<(), Fail> {
+    let (a, b) = (Ref::new(1, 7), Ref::new(2, 5));
+    let mut list = Refs::new(rt.alloc());
+    list.push(a)?;
+    let longer = list.with(b)?;
+    assert!(rt; list.as_slice() == [a].as_slice(), "pushed");
+    assert!(rt;
+        longer.copy()?.as_slice() == [a, b].as_slice(),
+        "with one more"
+    );
+    let both = Refs::from_both(longer.allocator(), &[b], &[a])?;
+    assert!(rt;
+        both.as_slice() == [b, a].as_slice(),
+        "one behind the other"
+    );
+    let same = Refs::from_slice(rt.alloc(), &[b])?;
+    assert!(rt; same.as_slice() == [b].as_slice(), "of a slice");
+    Ok(())
+}
+
+#[test]
+fn links_slots(rt: HostRuntime) -> Result<(), Fail> {
+    let mut ticks = Ticks::new();
+    let mut links = Links::new(rt.alloc(), 3)?;
+    links.write(2, 1, &mut ticks);
+    assert_eq!(rt; links.read(2, &mut ticks), 1);
+    assert_eq!(rt; links.read(0, &mut ticks), 0);
+    Ok(())
+}
+
+fn crosses_threads<T: Send + Sync>(_value: &T) {}
+
+#[test]
+fn goes_to_other_threads(rt: HostRuntime) -> Result<(), Fail> {
+    crosses_threads(&Arena::new(rt.alloc(), 2)?);
     Ok(())
 }

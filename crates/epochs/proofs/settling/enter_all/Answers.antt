@@ -1,10 +1,9 @@
-use Rattle.std.proofs.Common.{◌≡◌, ℕ, ◌+◌, ◌<◌, ◌++◌, List, length, take, get_or, sym, ap, ◌∙◌, arith}
-use Rattle.slot_arena.specs.declared.refs.Ref.{Ref}
+use Rattle.std.proofs.Common.{ℕ, ◌+◌, ◌<◌, ◌++◌, take, get_or, ap, arith}
 use Rattle.slot_arena.specs.Refs.{slot_of}
 use Rattle.slot_arena.specs.Tallies.{naming}
-use Rattle.slot_arena.proofs.Times.{once, once_same}
+use Rattle.slot_arena.proofs.Times.{once_same}
 use Rattle.slot_arena.proofs.Namings.{naming-append, naming_more, naming_part-le}
-use Rattle.epochs.specs.Rings.{Bags, all_of}
+use Rattle.epochs.specs.Rings.{Bags}
 use Rattle.epochs.proofs.settling.enter_all.Goals as goal
 
 pub enter-requires-clause-within : goal.enter-requires-clause-within

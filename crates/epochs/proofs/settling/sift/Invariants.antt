@@ -1,4 +1,4 @@
-use Rattle.std.proofs.Common.{◌≡◌, ℕ, ◌+◌, ◌*◌, ◌≤◌, length, vec_capacity}
+use Rattle.std.proofs.Common.{◌≡◌, ◌+◌, ◌*◌, ◌≤◌, length, vec_capacity}
 use Rattle.epochs.specs.Rings.{all_of}
 use Rattle.epochs.proofs.Sifting.{Sifting}
 use Rattle.epochs.proofs.settling.sift.Given as goal

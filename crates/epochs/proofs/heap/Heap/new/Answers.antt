@@ -1,20 +1,10 @@
-use Rattle.std.proofs.Common.{◌≡◌, ℕ, ◌+◌, ◌-◌, ◌<◌, ◌≤◌, Bool, true, false, cond, List, [], ◌∷◌, ◌++◌, length, drop, Option, Some, None, vec_capacity, refl, sym, ap, ◌∙◌, subst, inl, inr, arith, rules}
-use Rattle.std.proofs.lemmas.Bool.{cases_lt}
-use Rattle.std.proofs.lemmas.Option.{same_Some}
-use Rattle.slot_arena.specs.declared.refs.Ref.{Ref}
-use Rattle.slot_arena.specs.Refs.{slot_of}
+use Rattle.std.proofs.Common.{ℕ, [], length, Option, None, sym, ap, subst, arith}
 use Rattle.std.proofs.lemmas.List.{length-replicate}
 use Rattle.slot_arena.specs.declared.nodes.Slot.{Slot}
-use Rattle.slot_arena.specs.Heaps.{Heap, with_main, with_prev}
-use Rattle.slot_arena.specs.Times.{times, other_slots}
-use Rattle.slot_arena.specs.Arenas.{Contents, IsLive, waiting, new_arena}
-use Rattle.epochs.specs.Rings.{Bags, all_of, turned}
-use Rattle.epochs.specs.Memories.{Memory, Lists, IsMemory, limbo_of, reclaimer_of}
-use Rattle.epochs.specs.Settling.{bags_after}
-use Rattle.epochs.specs.Sweeping.{Reclaimer, swept_once, ripe}
-use Rattle.epochs.proofs.Listing.{lists_kept, memory_kept, lists_freed, length-taken, length-with_main, length-with_prev, length_if, length-freed}
-use Rattle.epochs.proofs.Sweeps.{ripe_none, scans, advances, lists_turned, first_member, first_waits, limbo_rest, lists_new}
-use Rattle.epochs.proofs.Bags.{length-other_slots}
+use Rattle.slot_arena.specs.Arenas.{Contents, new_arena}
+use Rattle.epochs.specs.Rings.{Bags}
+use Rattle.epochs.specs.Memories.{Lists, IsMemory}
+use Rattle.epochs.proofs.Sweeps.{lists_new}
 use Rattle.epochs.proofs.heap.Heap.new.Goals as goal
 
 pub invariant_of-result : goal.invariant_of-result

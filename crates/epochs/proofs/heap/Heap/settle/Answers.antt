@@ -1,4 +1,4 @@
-use Rattle.std.proofs.Common.{◌≡◌, ℕ, ◌+◌, ◌*◌, ◌<◌, ◌≤◌, ◌^◌, ◌++◌, List, length, All, vec_capacity, refl, sym, ap, ◌∙◌, subst, arith}
+use Rattle.std.proofs.Common.{◌≡◌, ◌+◌, ◌<◌, ◌≤◌, ◌^◌, ◌++◌, List, length, All, sym, ap, ◌∙◌, subst, arith}
 use Rattle.slot_arena.specs.declared.refs.Ref.{Ref}
 use Rattle.slot_arena.specs.Refs.{slot_of}
 use Rattle.slot_arena.specs.Heaps.{Heap}
@@ -6,7 +6,8 @@ use Rattle.slot_arena.specs.Tallies.{naming}
 use Rattle.epochs.specs.Limbo.{limbo_after, newly_zero}
 use Rattle.epochs.specs.Rings.{Bags, all_of}
 use Rattle.epochs.specs.Memories.{Memory, IsMemory, limbo_of, staying}
-use Rattle.epochs.proofs.Settled.{single, within, settled, settled_lists, after_settling, length_settled, length-limbo_of, still_empty, no_more}
+use Rattle.epochs.proofs.Staying.{length-limbo_of}
+use Rattle.epochs.proofs.Settled.{single, within, settled, settled_lists, after_settling, length_settled, still_empty, no_more}
 use Rattle.epochs.proofs.heap.Heap.settle.Goals as goal
 
 pub enter_all-requires-clause-within : goal.enter_all-requires-clause-within

@@ -1,18 +1,7 @@
-use Rattle.std.proofs.Common.{◌≡◌, ℕ, ◌+◌, ◌-◌, ◌<◌, ◌≤◌, Bool, true, false, cond, List, [], ◌∷◌, ◌++◌, length, drop, Option, Some, None, vec_capacity, refl, sym, ap, ◌∙◌, subst, inl, inr, arith, rules}
-use Rattle.std.proofs.lemmas.Bool.{cases_lt}
-use Rattle.std.proofs.lemmas.Option.{same_Some}
-use Rattle.slot_arena.specs.declared.refs.Ref.{Ref}
-use Rattle.slot_arena.specs.Refs.{slot_of}
-use Rattle.slot_arena.specs.Heaps.{Heap, with_main, with_prev}
-use Rattle.slot_arena.specs.Times.{times, other_slots}
-use Rattle.slot_arena.specs.Arenas.{Contents, IsLive, waiting, new_arena}
-use Rattle.epochs.specs.Rings.{Bags, all_of, turned}
-use Rattle.epochs.specs.Memories.{Memory, Lists, IsMemory, limbo_of, reclaimer_of}
-use Rattle.epochs.specs.Settling.{bags_after}
-use Rattle.epochs.specs.Sweeping.{Reclaimer, swept_once, ripe}
-use Rattle.epochs.proofs.Listing.{lists_kept, memory_kept, lists_freed, length-taken, length-with_main, length-with_prev, length_if, length-freed}
-use Rattle.epochs.proofs.Sweeps.{ripe_none, scans, advances, lists_turned, first_member, first_waits, limbo_rest, lists_new}
-use Rattle.epochs.proofs.Bags.{length-other_slots}
+use Rattle.std.proofs.Common.{◌≡◌, length, ap, ◌∙◌, arith}
+use Rattle.slot_arena.specs.Heaps.{Heap, with_prev}
+use Rattle.slot_arena.specs.Arenas.{Contents}
+use Rattle.epochs.proofs.Listing.{lists_kept, memory_kept, length-with_prev, length_if}
 use Rattle.epochs.proofs.heap.Heap.swap_prev.Goals as goal
 
 pub invariant_of-self : goal.invariant_of-self

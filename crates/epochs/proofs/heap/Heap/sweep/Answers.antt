@@ -1,20 +1,20 @@
-use Rattle.std.proofs.Common.{◌≡◌, ℕ, ◌+◌, ◌-◌, ◌<◌, ◌≤◌, Bool, true, false, cond, List, [], ◌∷◌, ◌++◌, length, drop, Option, Some, None, vec_capacity, refl, sym, ap, ◌∙◌, subst, inl, inr, arith, rules}
+use Rattle.std.proofs.Common.{◌≡◌, ℕ, ◌+◌, ◌-◌, ◌<◌, cond, [], length, drop, Some, None, sym, ap, ◌∙◌, subst, inl, inr, arith}
 use Rattle.std.proofs.lemmas.Bool.{cases_lt}
 use Rattle.std.proofs.lemmas.Option.{same_Some}
 use Rattle.slot_arena.specs.declared.refs.Ref.{Ref}
 use Rattle.slot_arena.specs.Refs.{slot_of}
-use Rattle.slot_arena.specs.Heaps.{Heap, with_main, with_prev}
+use Rattle.slot_arena.specs.Heaps.{Heap}
 use Rattle.slot_arena.specs.Times.{times, other_slots}
-use Rattle.slot_arena.specs.Arenas.{Contents, IsLive, waiting, new_arena}
+use Rattle.slot_arena.specs.Arenas.{waiting}
 use Rattle.epochs.specs.Rings.{Bags, all_of, turned}
 use Rattle.epochs.specs.Memories.{Memory, Lists, IsMemory, limbo_of, reclaimer_of}
 use Rattle.epochs.specs.Settling.{bags_after}
-use Rattle.epochs.specs.Sweeping.{Reclaimer, swept_once, ripe, is_passed}
+use Rattle.epochs.specs.Sweeping.{ripe, is_passed}
 use Rattle.std.specs.Prelude.{slice_index_or}
 use Rattle.epochs.specs.declared.limbo.Swept.TheVariants as swept
 use Rattle.epochs.proofs.Sweeps.{outcome, one_step}
-use Rattle.epochs.proofs.Listing.{lists_kept, memory_kept, lists_freed, length-taken, length-with_main, length-with_prev, length_if, length-freed}
-use Rattle.epochs.proofs.Sweeps.{ripe_none, scans, advances, lists_turned, first_member, first_waits, limbo_rest, lists_new}
+use Rattle.epochs.proofs.Listing.{lists_freed, length-freed}
+use Rattle.epochs.proofs.Sweeps.{ripe_none, scans, advances, lists_turned, first_member, first_waits, limbo_rest}
 use Rattle.epochs.proofs.Bags.{length-other_slots}
 use Rattle.epochs.proofs.heap.Heap.sweep.Goals as goal
 

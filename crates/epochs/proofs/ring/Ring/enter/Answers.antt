@@ -1,13 +1,8 @@
-use Rattle.std.proofs.Common.{◌≡◌, ℕ, ◌+◌, ◌-◌, ◌<◌, ◌≤◌, Bool, true, false, List, [], ◌∷◌, ◌++◌, length, map, set, get_or, slice_index, refl, sym, ap, ◌∙◌, subst, arith}
-use Rattle.std.proofs.lemmas.List.{get_or_read}
-use Rattle.slot_arena.specs.declared.refs.Ref.{Ref}
+use Rattle.std.proofs.Common.{◌≡◌, ℕ, ◌+◌, true, ◌++◌, set, sym, ap, ◌∙◌, subst, arith}
 use Rattle.slot_arena.specs.Refs.{slot_of}
-use Rattle.slot_arena.specs.Times.{times, other_slots}
 use Rattle.slot_arena.specs.Tallies.{naming}
-use Rattle.slot_arena.proofs.Times.{bit}
 use Rattle.epochs.specs.Rings.{Bags, IsRing, all_of}
-use Rattle.epochs.proofs.Bags.{naming_map, marked_there, member_below}
-use Rattle.epochs.proofs.Turns.{last_linked, entered_ring, below, before_linked, behind_linked, left_ring, turned_ring, first_none, first_some, new_ring}
+use Rattle.epochs.proofs.Turns.{last_linked, entered_ring}
 use Rattle.epochs.proofs.ring.Ring.enter.Goals as goal
 
 pub write-requires : goal.write-requires

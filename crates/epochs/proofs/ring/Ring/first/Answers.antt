@@ -1,13 +1,6 @@
-use Rattle.std.proofs.Common.{◌≡◌, ℕ, ◌+◌, ◌-◌, ◌<◌, ◌≤◌, Bool, true, false, List, [], ◌∷◌, ◌++◌, length, map, set, get_or, slice_index, refl, sym, ap, ◌∙◌, subst, arith}
-use Rattle.std.proofs.lemmas.List.{get_or_read}
-use Rattle.slot_arena.specs.declared.refs.Ref.{Ref}
-use Rattle.slot_arena.specs.Refs.{slot_of}
-use Rattle.slot_arena.specs.Times.{times, other_slots}
-use Rattle.slot_arena.specs.Tallies.{naming}
-use Rattle.slot_arena.proofs.Times.{bit}
-use Rattle.epochs.specs.Rings.{Bags, IsRing, all_of}
-use Rattle.epochs.proofs.Bags.{naming_map, marked_there, member_below}
-use Rattle.epochs.proofs.Turns.{last_linked, entered_ring, below, before_linked, behind_linked, left_ring, turned_ring, first_none, first_some, new_ring}
+use Rattle.std.proofs.Common.{sym, ap, ◌∙◌, arith}
+use Rattle.epochs.specs.Rings.{Bags}
+use Rattle.epochs.proofs.Turns.{first_none, first_some}
 use Rattle.epochs.proofs.ring.Ring.first.Goals as goal
 
 pub returns-then-first-self-clause-first : goal.returns-then-first-self-clause-first

@@ -1,13 +1,6 @@
-use Rattle.std.proofs.Common.{◌≡◌, ℕ, ◌+◌, ◌-◌, ◌<◌, ◌≤◌, Bool, true, false, List, [], ◌∷◌, ◌++◌, length, map, set, get_or, slice_index, refl, sym, ap, ◌∙◌, subst, replicate, arith, rules}
-use Rattle.std.proofs.lemmas.List.{get_or_read}
-use Rattle.slot_arena.specs.declared.refs.Ref.{Ref}
-use Rattle.slot_arena.specs.Refs.{slot_of}
-use Rattle.slot_arena.specs.Times.{times, other_slots}
-use Rattle.slot_arena.specs.Tallies.{naming}
-use Rattle.slot_arena.proofs.Times.{bit}
-use Rattle.epochs.specs.Rings.{Bags, IsRing, all_of}
-use Rattle.epochs.proofs.Bags.{naming_map, marked_there, member_below}
-use Rattle.epochs.proofs.Turns.{last_linked, entered_ring, below, before_linked, behind_linked, left_ring, turned_ring, first_none, first_some, new_ring}
+use Rattle.std.proofs.Common.{◌≡◌, ℕ, ◌+◌, false, List, [], sym, subst, replicate, rules}
+use Rattle.epochs.specs.Rings.{IsRing}
+use Rattle.epochs.proofs.Turns.{new_ring}
 use Rattle.epochs.proofs.ring.Ring.new.Goals as goal
 
 pub invariant_of-result : goal.invariant_of-result

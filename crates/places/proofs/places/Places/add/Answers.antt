@@ -4,6 +4,6 @@ use Rattle.places.proofs.places.Places.add.Goals.{then-at-self, else-at-self}
 
 pub invariant_of-self : goal.invariant_of-self
 invariant_of-self c = elim c.if-at-self.branch [
-  | then-at-self w ↦ rw (c.with-self-inside.ensures, w.self-inside-is, w.push.ensures.places) (kept_stray _ _ _ _ _ c.args.at c.self.invariant)
-  | else-at-self w ↦ rw (c.with-self-inside.ensures, w.self-inside-is, w.push-else-at-self.ensures.places) (kept_listed _ _ _ _ _ c.args.at c.self.invariant w.if-at-self.false)
+  | then-at-self w ↦ rw (c.with_last-self-inside.ensures, w.self-inside-is, w.push.ensures.places) (kept_stray _ _ _ _ _ c.args.at c.self.invariant)
+  | else-at-self w ↦ rw (c.with_last-self-inside.ensures, w.self-inside-is, w.push-else-at-self.ensures.places) (kept_listed _ _ _ _ _ c.args.at c.self.invariant w.if-at-self.false)
 ]

@@ -20,6 +20,6 @@ returns-clause-order c =
     let late : c.in_ok-late.late.items ≡ stray = c.in_ok-late.ensures.items ∙ c.as_slice.ensures in
     c.in_ok-joined.ensures
     ∙ rw (c.as_slice-3.ensures, c.as_slice-4.ensures.value)
-    (ids_alike (listed ++ sorted) c.self.inside.arrivals.places
+    (ids_alike (listed ++ sorted) c.self.inside.arrivals.items
     (λ t. omega (arith, counts_joined t listed sorted, permuted_alike c.in_ok-late.late.items sorted c.sort.ensures.permutation t, ap (count_by t) late, c.self.invariant.all t)))
     ∙ ap (λ (v : Listing). ids_by_place v.places) c.self.view_is

@@ -1,20 +1,16 @@
-use Rattle.std.proofs.Common.{◌≡◌, ℕ, ◌+◌, ◌-◌, ◌*◌, ◌<◌, ◌≤◌, ◌^◌, ◌==◌, Bool, true, false, List, [], ◌∷◌, ◌++◌, length, get_or, set, slice_index, All, Option, Some, None, is_some, refl, sym, ap, ◌∙◌, subst, arith}
+use Rattle.std.proofs.Common.{◌≡◌, ◌-◌, ◌<◌, ◌≤◌, true, ◌∷◌, length, get_or, set, slice_index, All, Some, None, is_some, sym, ap, ◌∙◌, subst, arith}
 use Rattle.slot_arena.specs.declared.refs.Ref.{Ref}
 use Rattle.slot_arena.specs.declared.nodes.Slot.{Slot}
-use Rattle.slot_arena.specs.Refs.{ref_to, slot_of, birth_of}
-use Rattle.slot_arena.specs.Heaps.{Heap, node_of, prev_of, refs_of_node, refs_of_prev, refs_of_slot}
-use Rattle.slot_arena.specs.Times.{times, without}
-use Rattle.slot_arena.specs.Tallies.{Tally, naming, NotesZeros}
-use Rattle.slot_arena.specs.Chains.{Chain}
-use Rattle.slot_arena.specs.Arenas.{Contents, IsLive, NotesWaiting}
-use Rattle.slot_arena.specs.Kept.{live, found, counted, IsKept}
-use Rattle.slot_arena.proofs.Times.{once, once_same, times-cons, times-without}
+use Rattle.slot_arena.specs.Refs.{slot_of}
+use Rattle.slot_arena.specs.Heaps.{node_of, prev_of, refs_of_node, refs_of_prev, refs_of_slot}
+use Rattle.slot_arena.specs.Times.{times}
+use Rattle.slot_arena.specs.Tallies.{naming}
+use Rattle.slot_arena.specs.Arenas.{Contents, NotesWaiting}
+use Rattle.slot_arena.specs.Kept.{live, found, IsKept}
 use Rattle.slot_arena.proofs.Live.{live_within, all_within}
-use Rattle.slot_arena.proofs.Exact.{count_found, exact_live, part_live, part_counted}
-use Rattle.slot_arena.proofs.Changed.{counts_small}
+use Rattle.slot_arena.proofs.Exact.{count_found, part_live, part_counted}
 use Rattle.slot_arena.proofs.Waiting.{born, notes_waiting}
-use Rattle.slot_arena.proofs.Reading.{live_seen, all_seen, slot_seen, used_seen, node_seen, prev_seen, taken_none, taken_first}
-use Rattle.std.proofs.lemmas.List.Sums.{get_or-le-sum_by}
+use Rattle.slot_arena.proofs.Reading.{live_inside, live_seen, slot_seen}
 use Rattle.slot_arena.proofs.Times.{times-append}
 use Rattle.slot_arena.proofs.Namings.{naming-append}
 use Rattle.slot_arena.proofs.Marks.{zeros_trans}
@@ -28,27 +24,22 @@ use Rattle.slot_arena.proofs.arena.Arena.free.Goals as goal
 
 pub prev-prev-requires : goal.prev-prev-requires
 prev-prev-requires c =
-    let slots = ap (λ (a : Contents). a.heap.slots) c.self.view_is in
     let at : Ref = c.args.at in
-    let has : live c.self.inside.cells at ≡ true = ap (λ s. live s at) slots ∙ live_seen c.args.self.now.heap at c.requires.live in
+    let has = live_inside _ _ c.self.view_is c.args.at c.requires.live in
     let seen = slot_seen c.self.inside.cells at has in
-    let slot : Slot = seen.0 in
     subst (λ k. is_some (get_or c.self.inside.cells k None) ≡ true) (sym c.slot-slot.ensures) (ap is_some seen.1)
 
 pub node-requires : goal.node-requires
 node-requires c =
-    let slots = ap (λ (a : Contents). a.heap.slots) c.self.view_is in
     let at : Ref = c.args.at in
-    let has : live c.self.inside.cells at ≡ true = ap (λ s. live s at) slots ∙ live_seen c.args.self.now.heap at c.requires.live in
+    let has = live_inside _ _ c.self.view_is c.args.at c.requires.live in
     let seen = slot_seen c.self.inside.cells at has in
-    let slot : Slot = seen.0 in
     subst (λ k. is_some (get_or c.self.inside.cells k None) ≡ true) (sym c.slot-slot.ensures) (ap is_some seen.1)
 
 pub lower_all-requires-clause-within : goal.lower_all-requires-clause-within
 lower_all-requires-clause-within c =
-    let slots = ap (λ (a : Contents). a.heap.slots) c.self.view_is in
     let at : Ref = c.args.at in
-    let has : live c.self.inside.cells at ≡ true = ap (λ s. live s at) slots ∙ live_seen c.args.self.now.heap at c.requires.live in
+    let has = live_inside _ _ c.self.view_is c.args.at c.requires.live in
     let seen = slot_seen c.self.inside.cells at has in
     let slot : Slot = seen.0 in
     let node_is : c.refs_of.result.now ≡ refs_of_node slot.node = c.refs_of.ensures.refs ∙ ap refs_of_node (c.node.ensures ∙ ap (λ k. node_of (get_or c.self.inside.cells k None)) c.slot-slot.ensures ∙ ap node_of seen.1) in
@@ -58,9 +49,8 @@ lower_all-requires-clause-within c =
 
 pub lower_all-requires-clause-some : goal.lower_all-requires-clause-some
 lower_all-requires-clause-some c i =
-    let slots = ap (λ (a : Contents). a.heap.slots) c.self.view_is in
     let at : Ref = c.args.at in
-    let has : live c.self.inside.cells at ≡ true = ap (λ s. live s at) slots ∙ live_seen c.args.self.now.heap at c.requires.live in
+    let has = live_inside _ _ c.self.view_is c.args.at c.requires.live in
     let seen = slot_seen c.self.inside.cells at has in
     let slot : Slot = seen.0 in
     let node_is : c.refs_of.result.now ≡ refs_of_node slot.node = c.refs_of.ensures.refs ∙ ap refs_of_node (c.node.ensures ∙ ap (λ k. node_of (get_or c.self.inside.cells k None)) c.slot-slot.ensures ∙ ap node_of seen.1) in
@@ -70,9 +60,8 @@ lower_all-requires-clause-some c i =
 
 pub lower_all-requires-2-clause-within : goal.lower_all-requires-2-clause-within
 lower_all-requires-2-clause-within c =
-    let slots = ap (λ (a : Contents). a.heap.slots) c.self.view_is in
     let at : Ref = c.args.at in
-    let has : live c.self.inside.cells at ≡ true = ap (λ s. live s at) slots ∙ live_seen c.args.self.now.heap at c.requires.live in
+    let has = live_inside _ _ c.self.view_is c.args.at c.requires.live in
     let seen = slot_seen c.self.inside.cells at has in
     let slot : Slot = seen.0 in
     let prev_is : c.refs_of_prev.result.now ≡ refs_of_prev slot.prev = c.refs_of_prev.ensures ∙ ap refs_of_prev (c.prev-prev.ensures ∙ ap (λ k. prev_of (get_or c.self.inside.cells k None)) c.slot-slot.ensures ∙ ap prev_of seen.1) in
@@ -82,9 +71,8 @@ lower_all-requires-2-clause-within c =
 
 pub lower_all-requires-2-clause-some : goal.lower_all-requires-2-clause-some
 lower_all-requires-2-clause-some c i =
-    let slots = ap (λ (a : Contents). a.heap.slots) c.self.view_is in
     let at : Ref = c.args.at in
-    let has : live c.self.inside.cells at ≡ true = ap (λ s. live s at) slots ∙ live_seen c.args.self.now.heap at c.requires.live in
+    let has = live_inside _ _ c.self.view_is c.args.at c.requires.live in
     let seen = slot_seen c.self.inside.cells at has in
     let slot : Slot = seen.0 in
     let node_is : c.refs_of.result.now ≡ refs_of_node slot.node = c.refs_of.ensures.refs ∙ ap refs_of_node (c.node.ensures ∙ ap (λ k. node_of (get_or c.self.inside.cells k None)) c.slot-slot.ensures ∙ ap node_of seen.1) in
@@ -95,57 +83,43 @@ lower_all-requires-2-clause-some c i =
 
 pub note-requires : goal.note-requires
 note-requires c =
-    let slots = ap (λ (a : Contents). a.heap.slots) c.self.view_is in
     let at : Ref = c.args.at in
-    let has : live c.self.inside.cells at ≡ true = ap (λ s. live s at) slots ∙ live_seen c.args.self.now.heap at c.requires.live in
-    let seen = slot_seen c.self.inside.cells at has in
-    let slot : Slot = seen.0 in
+    let has = live_inside _ _ c.self.view_is c.args.at c.requires.live in
     let within = live_within c.self.inside.cells at has in
     omega (arith, c.slot-slot.ensures, c.lower_all.ensures.size, c.lower_all-2.ensures.size, c.self.invariant.sizes)
 
 pub clear-requires : goal.clear-requires
 clear-requires c =
-    let slots = ap (λ (a : Contents). a.heap.slots) c.self.view_is in
     let at : Ref = c.args.at in
-    let has : live c.self.inside.cells at ≡ true = ap (λ s. live s at) slots ∙ live_seen c.args.self.now.heap at c.requires.live in
-    let seen = slot_seen c.self.inside.cells at has in
-    let slot : Slot = seen.0 in
+    let has = live_inside _ _ c.self.view_is c.args.at c.requires.live in
     let within = live_within c.self.inside.cells at has in
     omega (arith, c.slot-slot.ensures)
 
 pub overflow_sub-self : goal.overflow_sub-self
 overflow_sub-self c =
-    let slots = ap (λ (a : Contents). a.heap.slots) c.self.view_is in
     let at : Ref = c.args.at in
-    let has : live c.self.inside.cells at ≡ true = ap (λ s. live s at) slots ∙ live_seen c.args.self.now.heap at c.requires.live in
+    let has = live_inside _ _ c.self.view_is c.args.at c.requires.live in
     let seen = slot_seen c.self.inside.cells at has in
-    let slot : Slot = seen.0 in
     some_used c.self.inside.cells c.self.inside.tally.counts c.self.inside.free c.self.inside.used c.self.inside.outside.items c.self.invariant (slot_of at) (live_within c.self.inside.cells at has) (ap is_some seen.1)
 
 pub put-requires-clause-within : goal.put-requires-clause-within
 put-requires-clause-within c =
-    let slots = ap (λ (a : Contents). a.heap.slots) c.self.view_is in
     let at : Ref = c.args.at in
-    let has : live c.self.inside.cells at ≡ true = ap (λ s. live s at) slots ∙ live_seen c.args.self.now.heap at c.requires.live in
-    let seen = slot_seen c.self.inside.cells at has in
-    let slot : Slot = seen.0 in
+    let has = live_inside _ _ c.self.view_is c.args.at c.requires.live in
     let within = live_within c.self.inside.cells at has in
     omega (arith, c.slot-slot.ensures, c.self.invariant.chained)
 
 pub put-requires-clause-apart : goal.put-requires-clause-apart
 put-requires-clause-apart c =
-    let slots = ap (λ (a : Contents). a.heap.slots) c.self.view_is in
     let at : Ref = c.args.at in
-    let has : live c.self.inside.cells at ≡ true = ap (λ s. live s at) slots ∙ live_seen c.args.self.now.heap at c.requires.live in
+    let has = live_inside _ _ c.self.view_is c.args.at c.requires.live in
     let seen = slot_seen c.self.inside.cells at has in
-    let slot : Slot = seen.0 in
     ap (λ k. times k c.self.inside.free.slots) c.slot-slot.ensures ∙ c.self.invariant.apart (slot_of at) (ap is_some seen.1)
 
 pub invariant_of-self : goal.invariant_of-self
 invariant_of-self c =
-    let slots = ap (λ (a : Contents). a.heap.slots) c.self.view_is in
     let at : Ref = c.args.at in
-    let has : live c.self.inside.cells at ≡ true = ap (λ s. live s at) slots ∙ live_seen c.args.self.now.heap at c.requires.live in
+    let has = live_inside _ _ c.self.view_is c.args.at c.requires.live in
     let seen = slot_seen c.self.inside.cells at has in
     let slot : Slot = seen.0 in
     let node_is : c.refs_of.result.now ≡ refs_of_node slot.node = c.refs_of.ensures.refs ∙ ap refs_of_node (c.node.ensures ∙ ap (λ k. node_of (get_or c.self.inside.cells k None)) c.slot-slot.ensures ∙ ap node_of seen.1) in
@@ -177,10 +151,7 @@ returns-clause-heap c =
 pub returns-clause-noted : goal.returns-clause-noted
 returns-clause-noted c =
     let slots = ap (λ (a : Contents). a.heap.slots) c.self.view_is in
-    let at : Ref = c.args.at in
-    let has : live c.self.inside.cells at ≡ true = ap (λ s. live s at) slots ∙ live_seen c.args.self.now.heap at c.requires.live in
-    let seen = slot_seen c.self.inside.cells at has in
-    let slot : Slot = seen.0 in
+    let has = live_inside _ _ c.self.view_is c.args.at c.requires.live in
     let was : Contents = record { heap = record { slots = c.self.inside.cells; free = c.self.inside.free.slots; births = c.self.inside.births }; outside = c.self.inside.outside.items; noted = c.self.inside.tally.noted; ticks = c.self.inside.ticks.count } in
     let now : Contents = record { heap = record { slots = c.clear.new.self; free = c.put.new.self.slots; births = c.self.inside.births }; outside = c.self.inside.outside.items; noted = c.note.new.self.noted; ticks = c.put.new.ticks.count } in
     let zeros = zeros_trans c.self.inside.tally c.lower_all.new.self c.note.new.self c.lower_all.ensures.noted (zeros_trans c.lower_all.new.self c.lower_all-2.new.self c.note.new.self c.lower_all-2.ensures.noted c.note.ensures.others) in

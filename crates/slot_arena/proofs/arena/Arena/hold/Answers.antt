@@ -1,27 +1,23 @@
-use Rattle.std.proofs.Common.{◌≡◌, ℕ, ◌+◌, ◌-◌, ◌*◌, ◌<◌, ◌≤◌, ◌^◌, ◌==◌, Bool, true, false, List, [], ◌∷◌, ◌++◌, length, get_or, set, slice_index, All, Option, Some, None, is_some, refl, sym, ap, ◌∙◌, subst, arith}
+use Rattle.std.proofs.Common.{◌≡◌, ℕ, ◌<◌, ◌≤◌, ◌^◌, true, [], ◌∷◌, length, All, refl, sym, ap, ◌∙◌, subst, arith}
 use Rattle.slot_arena.specs.declared.refs.Ref.{Ref}
-use Rattle.slot_arena.specs.declared.nodes.Slot.{Slot}
-use Rattle.slot_arena.specs.Refs.{ref_to, slot_of, birth_of}
-use Rattle.slot_arena.specs.Heaps.{Heap, node_of, prev_of, refs_of_node, refs_of_prev, refs_of_slot}
-use Rattle.slot_arena.specs.Times.{times, without}
-use Rattle.slot_arena.specs.Tallies.{Tally, naming, NotesZeros}
-use Rattle.slot_arena.specs.Chains.{Chain}
-use Rattle.slot_arena.specs.Arenas.{Contents, IsLive, NotesWaiting}
-use Rattle.slot_arena.specs.Kept.{live, found, counted, IsKept}
-use Rattle.slot_arena.proofs.Times.{once, once_same, times-cons, times-without}
-use Rattle.slot_arena.proofs.Live.{live_within, all_within}
-use Rattle.slot_arena.proofs.Exact.{count_found, exact_live, part_live, part_counted}
+use Rattle.slot_arena.specs.Refs.{slot_of}
+use Rattle.slot_arena.specs.Times.{times}
+use Rattle.slot_arena.specs.Tallies.{naming}
+use Rattle.slot_arena.specs.Arenas.{Contents, NotesWaiting}
+use Rattle.slot_arena.specs.Kept.{live, found, IsKept}
+use Rattle.slot_arena.proofs.Times.{times-cons}
+use Rattle.slot_arena.proofs.Live.{live_within}
+use Rattle.slot_arena.proofs.Exact.{count_found}
 use Rattle.slot_arena.proofs.Changed.{counts_small}
-use Rattle.slot_arena.proofs.Waiting.{born, notes_waiting}
-use Rattle.slot_arena.proofs.Reading.{live_seen, all_seen, slot_seen, used_seen, node_seen, prev_seen, taken_none, taken_first}
+use Rattle.slot_arena.proofs.Waiting.{notes_waiting}
+use Rattle.slot_arena.proofs.Reading.{live_inside}
 use Rattle.slot_arena.proofs.Holds.{hold_kept, held_more}
 use Rattle.std.proofs.lemmas.List.Elements.{All-nil, All-cons}
 use Rattle.slot_arena.proofs.arena.Arena.hold.Goals as goal
 
 pub raise_all-requires-clause-within : goal.raise_all-requires-clause-within
 raise_all-requires-clause-within c =
-    let slots = ap (λ (a : Contents). a.heap.slots) c.self.view_is in
-    let has : live c.self.inside.cells c.args.at ≡ true = ap (λ s. live s c.args.at) slots ∙ live_seen c.args.self.now.heap c.args.at c.requires.live in
+    let has = live_inside _ _ c.self.view_is c.args.at c.requires.live in
     let within = live_within c.self.inside.cells c.args.at has in
     let sizes = c.self.invariant.sizes in
     subst (λ rs. All (λ r. slot_of r < length c.self.inside.tally.counts) rs) (sym c.from_ref.ensures.value)
@@ -33,14 +29,13 @@ raise_all-requires-clause-room c slot =
 
 pub invariant_of-self : goal.invariant_of-self
 invariant_of-self c =
-    let slots = ap (λ (a : Contents). a.heap.slots) c.self.view_is in
     let at : Ref = c.args.at in
-    let has : live c.self.inside.cells at ≡ true = ap (λ s. live s at) slots ∙ live_seen c.args.self.now.heap at c.requires.live in
+    let has = live_inside _ _ c.self.view_is c.args.at c.requires.live in
     let kept = c.self.invariant in
     let counted : found c.self.inside.cells c.self.inside.outside.items at < 2 ^ 31 =
     subst (λ n. n < 2 ^ 31) (count_found c.args.self.now.heap c.args.self.now.outside at ∙ sym (ap (λ (a : Contents). found a.heap.slots a.outside at) c.self.view_is)) c.requires.room in
     let held : (r : ℕ) → times r (at ∷ c.self.inside.outside.items) ≤ 2 ^ 31 = λ r. held_more c.self.inside.outside.items at r kept.held (omega arith) in
-    subst (λ os. IsKept c.self.inside.cells c.raise_all.new.self.counts c.self.inside.free c.self.inside.used os) (sym c.with-self-inside.ensures)
+    subst (λ os. IsKept c.self.inside.cells c.raise_all.new.self.counts c.self.inside.free c.self.inside.used os) (sym c.with_first-self-inside.ensures)
     (hold_kept c.self.inside.cells c.self.inside.tally.counts c.raise_all.new.self.counts c.self.inside.free c.self.inside.used c.self.inside.outside.items (at ∷ c.self.inside.outside.items) (at ∷ []) []
     kept (λ r. omega (arith, times-cons r at c.self.inside.outside.items, times-cons r at [])) c.raise_all.ensures.size
     (λ i. omega (arith, c.raise_all.ensures.counts i, ap (naming i) c.from_ref.ensures.value))
@@ -49,7 +44,7 @@ invariant_of-self c =
 
 pub returns-clause-noted : goal.returns-clause-noted
 returns-clause-noted c =
-    let now : Contents = record { heap = record { slots = c.self.inside.cells; free = c.self.inside.free.slots; births = c.self.inside.births }; outside = c.with-self-inside.result.items; noted = c.raise_all.new.self.noted; ticks = c.self.inside.ticks.count } in
+    let now : Contents = record { heap = record { slots = c.self.inside.cells; free = c.self.inside.free.slots; births = c.self.inside.births }; outside = c.with_first-self-inside.result.items; noted = c.raise_all.new.self.noted; ticks = c.self.inside.ticks.count } in
     subst (λ (a : Contents). NotesWaiting a now) c.self.view_is
     (notes_waiting (record { heap = record { slots = c.self.inside.cells; free = c.self.inside.free.slots; births = c.self.inside.births }; outside = c.self.inside.outside.items; noted = c.self.inside.tally.noted; ticks = c.self.inside.ticks.count }) now
     c.self.inside.tally.counts c.raise_all.new.self.counts c.self.inside.free c.self.inside.free c.self.inside.used c.self.inside.used c.self.invariant (invariant_of-self c) c.raise_all.ensures.noted (λ k none. refl))

@@ -1,19 +1,14 @@
-use Rattle.std.proofs.Common.{◌≡◌, ℕ, ◌+◌, ◌-◌, ◌*◌, ◌<◌, ◌≤◌, ◌^◌, ◌==◌, Bool, true, false, List, [], ◌∷◌, ◌++◌, length, get_or, set, slice_index, All, Option, Some, None, is_some, refl, sym, ap, ◌∙◌, subst, arith, eq-eqb}
-use Rattle.slot_arena.specs.declared.refs.Ref.{Ref}
-use Rattle.slot_arena.specs.declared.nodes.Slot.{Slot}
+use Rattle.std.proofs.Common.{◌≡◌, ℕ, ◌+◌, ◌<◌, ◌^◌, true, length, get_or, set, slice_index, All, Some, None, sym, ap, ◌∙◌, subst, arith, eq-eqb}
 use Rattle.slot_arena.specs.Refs.{ref_to, slot_of, birth_of}
-use Rattle.slot_arena.specs.Heaps.{Heap, node_of, prev_of, refs_of_node, refs_of_prev, refs_of_slot}
-use Rattle.slot_arena.specs.Times.{times, without}
-use Rattle.slot_arena.specs.Tallies.{Tally, naming, NotesZeros}
-use Rattle.slot_arena.specs.Chains.{Chain}
+use Rattle.slot_arena.specs.Heaps.{Heap, refs_of_node}
+use Rattle.slot_arena.specs.Times.{times}
+use Rattle.slot_arena.specs.Tallies.{naming}
 use Rattle.slot_arena.specs.Arenas.{Contents, IsLive, NotesWaiting}
-use Rattle.slot_arena.specs.Kept.{live, found, counted, IsKept}
-use Rattle.slot_arena.proofs.Times.{once, once_same, times-cons, times-without}
-use Rattle.slot_arena.proofs.Live.{live_within, all_within}
-use Rattle.slot_arena.proofs.Exact.{count_found, exact_live, part_live, part_counted}
+use Rattle.slot_arena.specs.Kept.{live, IsKept}
+use Rattle.slot_arena.proofs.Live.{all_within}
 use Rattle.slot_arena.proofs.Changed.{counts_small}
 use Rattle.slot_arena.proofs.Waiting.{born, notes_waiting}
-use Rattle.slot_arena.proofs.Reading.{live_seen, all_seen, slot_seen, used_seen, node_seen, prev_seen, taken_none, taken_first}
+use Rattle.slot_arena.proofs.Reading.{live_seen, all_seen, taken_none, taken_first}
 use Rattle.slot_arena.proofs.Marks.{zeros_trans}
 use Rattle.slot_arena.proofs.Makes.{make_kept, first_unused}
 use Rattle.slot_arena.proofs.Written.{born_set, live_stays}
@@ -21,6 +16,8 @@ use Rattle.slot_arena.proofs.Reading.{live_shown}
 use Rattle.slot_arena.proofs.Changed.{live_here}
 use Rattle.slot_arena.proofs.Live.{slot_of_ref, birth_of_ref}
 use Rattle.slot_arena.specs.declared.nodes.Prev.TheVariants as prev
+use Rattle.slot_arena.specs.Arenas.{has_birth}
+use Rattle.slot_arena.proofs.Reading.{live_is}
 use Rattle.slot_arena.proofs.arena.Arena.make.Goals as goal
 
 pub returns-in_err-slot-clause-heap : goal.returns-in_err-slot-clause-heap
@@ -55,7 +52,7 @@ invariant_of-self-2 c =
     c.in_ok-slot.slot (c.self.inside.births + 1) c.args.node c.in_ok-slot.ensures.slots.0 c.in_ok-slot.ensures.size c.in_ok-slot.ensures.slots.1 c.in_ok-slot.ensures.slots.2
     (c.raise_all.ensures.size ∙ ap length c.note.ensures.counts)
     (λ i. omega (arith, c.raise_all.ensures.counts i, ap (λ cs. slice_index cs i) c.note.ensures.counts, ap (naming i) c.refs_of.ensures.refs))
-    all (omega (arith, c.refs_of.ensures.few, ap length c.refs_of.ensures.refs)))
+    all (omega (arith, c.refs_of.ensures.few, ap length c.refs_of.ensures.refs)) (let births = ap (λ (a : Contents). a.heap.births) c.self.view_is in omega (arith, c.requires.births)))
 
 pub returns-clause-heap : goal.returns-clause-heap
 returns-clause-heap c =
@@ -98,3 +95,12 @@ returns-clause-lives c =
     (ap (λ r. live c.fill.new.self r) c.new.ensures ∙ ap (λ s. live s (ref_to b k)) c.fill.ensures
     ∙ live_here c.self.inside.cells k (Some (record { birth = b; node = c.args.node; prev = prev.None })) (ref_to b k) within (slot_of_ref b k small)
     ∙ eq-eqb b (birth_of (ref_to b k)) (sym (birth_of_ref b k small)))
+
+pub returns-clause-fresh : goal.returns-clause-fresh
+returns-clause-fresh c =
+    let k : ℕ = c.in_ok-slot.slot in
+    let b : ℕ = c.self.inside.births + 1 in
+    let small : k < 2 ^ 16 = let few = c.self.invariant.few in let is = c.self.invariant.chained in let below = c.in_ok-slot.ensures.slots.1 in omega arith in
+    let empty = first_unused c.self.inside.cells c.self.inside.tally.counts c.self.inside.free c.self.inside.used c.self.inside.outside.items c.self.invariant k c.take.new.self.slots c.in_ok-slot.ensures.slots.0 in
+    live_is c.args.self.now.heap c.new.result ∙ ap (λ (a : Contents). live a.heap.slots c.new.result) (sym c.self.view_is) ∙ ap (live c.self.inside.cells) c.new.ensures
+    ∙ ap (λ i. has_birth (birth_of (ref_to b k)) (get_or c.self.inside.cells i None)) (slot_of_ref b k small) ∙ ap (has_birth (birth_of (ref_to b k))) empty

@@ -1,19 +1,14 @@
-use Rattle.std.proofs.Common.{◌≡◌, ℕ, ◌+◌, ◌-◌, ◌*◌, ◌<◌, ◌≤◌, ◌^◌, ◌==◌, Bool, true, false, List, [], ◌∷◌, ◌++◌, length, get_or, set, slice_index, All, Option, Some, None, is_some, refl, sym, ap, ◌∙◌, subst, arith}
+use Rattle.std.proofs.Common.{◌≡◌, ℕ, ◌<◌, ◌≤◌, true, [], ◌∷◌, length, slice_index, All, refl, sym, ap, subst, arith}
 use Rattle.slot_arena.specs.declared.refs.Ref.{Ref}
-use Rattle.slot_arena.specs.declared.nodes.Slot.{Slot}
-use Rattle.slot_arena.specs.Refs.{ref_to, slot_of, birth_of}
-use Rattle.slot_arena.specs.Heaps.{Heap, node_of, prev_of, refs_of_node, refs_of_prev, refs_of_slot}
+use Rattle.slot_arena.specs.Refs.{slot_of}
 use Rattle.slot_arena.specs.Times.{times, without}
-use Rattle.slot_arena.specs.Tallies.{Tally, naming, NotesZeros}
-use Rattle.slot_arena.specs.Chains.{Chain}
-use Rattle.slot_arena.specs.Arenas.{Contents, IsLive, NotesWaiting}
-use Rattle.slot_arena.specs.Kept.{live, found, counted, IsKept}
-use Rattle.slot_arena.proofs.Times.{once, once_same, times-cons, times-without}
-use Rattle.slot_arena.proofs.Live.{live_within, all_within}
-use Rattle.slot_arena.proofs.Exact.{count_found, exact_live, part_live, part_counted}
-use Rattle.slot_arena.proofs.Changed.{counts_small}
-use Rattle.slot_arena.proofs.Waiting.{born, notes_waiting}
-use Rattle.slot_arena.proofs.Reading.{live_seen, all_seen, slot_seen, used_seen, node_seen, prev_seen, taken_none, taken_first}
+use Rattle.slot_arena.specs.Tallies.{naming}
+use Rattle.slot_arena.specs.Arenas.{Contents, NotesWaiting}
+use Rattle.slot_arena.specs.Kept.{live, IsKept}
+use Rattle.slot_arena.proofs.Times.{times-cons, times-without}
+use Rattle.slot_arena.proofs.Live.{all_within}
+use Rattle.slot_arena.proofs.Exact.{part_live, part_counted}
+use Rattle.slot_arena.proofs.Waiting.{notes_waiting}
 use Rattle.slot_arena.proofs.Holds.{hold_kept, held_less, part_held}
 use Rattle.std.proofs.lemmas.List.Elements.{All-nil}
 use Rattle.slot_arena.proofs.arena.Arena.release.Goals as goal
@@ -35,7 +30,7 @@ pub invariant_of-self : goal.invariant_of-self
 invariant_of-self c =
     let at : Ref = c.args.at in
     let some : 0 < times at c.self.inside.outside.items = subst (λ (a : Contents). 0 < times at a.outside) (sym c.self.view_is) c.requires in
-    subst (λ os. IsKept c.self.inside.cells c.lower_all.new.self.counts c.self.inside.free c.self.inside.used os) (sym c.without-self-inside.ensures)
+    subst (λ os. IsKept c.self.inside.cells c.lower_all.new.self.counts c.self.inside.free c.self.inside.used os) (sym c.changed-self-inside.ensures)
     (hold_kept c.self.inside.cells c.self.inside.tally.counts c.lower_all.new.self.counts c.self.inside.free c.self.inside.used c.self.inside.outside.items (without at c.self.inside.outside.items) [] (at ∷ [])
     c.self.invariant (λ r. omega (arith, times-without r at c.self.inside.outside.items some, times-cons r at [])) c.lower_all.ensures.size
     (λ i. omega (arith, c.lower_all.ensures.counts i, ap (naming i) c.from_ref.ensures.value))
@@ -44,7 +39,7 @@ invariant_of-self c =
 
 pub returns-clause-noted : goal.returns-clause-noted
 returns-clause-noted c =
-    let now : Contents = record { heap = record { slots = c.self.inside.cells; free = c.self.inside.free.slots; births = c.self.inside.births }; outside = c.without-self-inside.result.items; noted = c.lower_all.new.self.noted; ticks = c.self.inside.ticks.count } in
+    let now : Contents = record { heap = record { slots = c.self.inside.cells; free = c.self.inside.free.slots; births = c.self.inside.births }; outside = c.changed-self-inside.result.items; noted = c.lower_all.new.self.noted; ticks = c.self.inside.ticks.count } in
     subst (λ (a : Contents). NotesWaiting a now) c.self.view_is
     (notes_waiting (record { heap = record { slots = c.self.inside.cells; free = c.self.inside.free.slots; births = c.self.inside.births }; outside = c.self.inside.outside.items; noted = c.self.inside.tally.noted; ticks = c.self.inside.ticks.count }) now
     c.self.inside.tally.counts c.lower_all.new.self.counts c.self.inside.free c.self.inside.free c.self.inside.used c.self.inside.used c.self.invariant (invariant_of-self c) c.lower_all.ensures.noted (λ k none. refl))

@@ -1,35 +1,28 @@
-use Rattle.std.proofs.Common.{◌≡◌, ℕ, ◌+◌, ◌-◌, ◌*◌, ◌<◌, ◌≤◌, ◌^◌, ◌==◌, Bool, true, false, List, [], ◌∷◌, ◌++◌, length, get_or, set, slice_index, All, Option, Some, None, is_some, refl, sym, ap, ◌∙◌, subst, arith}
+use Rattle.std.proofs.Common.{◌≡◌, ◌<◌, ◌≤◌, true, length, get_or, set, All, None, sym, ap, ◌∙◌, subst, arith}
 use Rattle.slot_arena.specs.declared.refs.Ref.{Ref}
-use Rattle.slot_arena.specs.declared.nodes.Slot.{Slot}
-use Rattle.slot_arena.specs.Refs.{ref_to, slot_of, birth_of}
-use Rattle.slot_arena.specs.Heaps.{Heap, node_of, prev_of, refs_of_node, refs_of_prev, refs_of_slot}
-use Rattle.slot_arena.specs.Times.{times, without}
-use Rattle.slot_arena.specs.Tallies.{Tally, naming, NotesZeros}
-use Rattle.slot_arena.specs.Chains.{Chain}
-use Rattle.slot_arena.specs.Arenas.{Contents, IsLive, NotesWaiting}
-use Rattle.slot_arena.specs.Kept.{live, found, counted, IsKept}
-use Rattle.slot_arena.proofs.Times.{once, once_same, times-cons, times-without}
+use Rattle.slot_arena.specs.Refs.{slot_of}
+use Rattle.slot_arena.specs.Heaps.{prev_of, refs_of_prev}
+use Rattle.slot_arena.specs.Times.{times}
+use Rattle.slot_arena.specs.Tallies.{naming}
+use Rattle.slot_arena.specs.Arenas.{Contents, NotesWaiting}
+use Rattle.slot_arena.specs.Kept.{live, found, IsKept}
 use Rattle.slot_arena.proofs.Live.{live_within, all_within}
-use Rattle.slot_arena.proofs.Exact.{count_found, exact_live, part_live, part_counted}
+use Rattle.slot_arena.proofs.Exact.{part_live, part_counted}
 use Rattle.slot_arena.proofs.Changed.{counts_small}
 use Rattle.slot_arena.proofs.Waiting.{born, notes_waiting}
-use Rattle.slot_arena.proofs.Reading.{live_seen, all_seen, slot_seen, used_seen, node_seen, prev_seen, taken_none, taken_first}
+use Rattle.slot_arena.proofs.Reading.{live_inside, all_seen, prev_seen}
 use Rattle.std.specs.Prelude.{option_map}
 use Rattle.slot_arena.proofs.Changed.{one_prev}
-use Rattle.std.proofs.lemmas.List.Elements.{All-nil, All-cons}
-use Rattle.slot_arena.specs.Heaps.{main_of, main_changed, prev_changed, main_at, prev_at, node_at}
-use Rattle.slot_arena.specs.Arenas.{is_indirection}
+use Rattle.slot_arena.specs.Heaps.{prev_changed}
 use Rattle.slot_arena.proofs.Marks.{zeros_trans}
-use Rattle.slot_arena.proofs.Words.{prev_part, main_kept, prev_kept, born_main, born_prev, live_main, live_prev}
-use Rattle.slot_arena.proofs.Reading.{main_seen, prev_put_seen, live_is}
+use Rattle.slot_arena.proofs.Words.{prev_part, prev_kept, born_prev, live_prev}
+use Rattle.slot_arena.proofs.Reading.{prev_put_seen, live_is}
 use Rattle.std.proofs.Common.{rules, tests}
 use Rattle.slot_arena.proofs.arena.Arena.swap_prev.Goals as goal
 
 pub raise_all-requires-clause-within : goal.raise_all-requires-clause-within
 raise_all-requires-clause-within c =
-    let slots = ap (λ (a : Contents). a.heap.slots) c.self.view_is in
-    let at : Ref = c.args.at in
-    let has : live c.self.inside.cells at ≡ true = ap (λ s. live s at) slots ∙ live_seen c.args.self.now.heap at c.requires.live in
+    let has = live_inside _ _ c.self.view_is c.args.at c.requires.live in
     subst (λ rs. All (λ r. slot_of r < length c.self.inside.tally.counts) rs) (sym (c.refs_of_prev.ensures))
     (all_within c.self.inside.cells (length c.self.inside.tally.counts) (refs_of_prev c.args.to) (sym c.self.invariant.sizes) (subst (λ s. All (λ q. live s q ≡ true) (refs_of_prev c.args.to)) (sym (ap (λ (a : Contents). a.heap.slots) c.self.view_is)) (all_seen c.args.self.now.heap (refs_of_prev c.args.to) c.requires.new_live)))
 
@@ -41,7 +34,7 @@ pub lower_all-requires-clause-within : goal.lower_all-requires-clause-within
 lower_all-requires-clause-within c =
     let slots = ap (λ (a : Contents). a.heap.slots) c.self.view_is in
     let at : Ref = c.args.at in
-    let has : live c.self.inside.cells at ≡ true = ap (λ s. live s at) slots ∙ live_seen c.args.self.now.heap at c.requires.live in
+    let has = live_inside _ _ c.self.view_is c.args.at c.requires.live in
     let same : c.prev.result ≡ c.args.from = search (rules, tests) in
     let is : prev_of (get_or c.self.inside.cells (slot_of at) None) ≡ c.args.from = ap (λ s. prev_of (get_or s (slot_of at) None)) slots ∙ prev_seen c.args.self.now.heap at ∙ sym c.prev.ensures ∙ same in
     subst (λ rs. All (λ r. slot_of r < length c.raise_all.new.self.counts) rs) (sym (c.refs_of_prev-2.ensures))
@@ -52,7 +45,7 @@ pub lower_all-requires-clause-some : goal.lower_all-requires-clause-some
 lower_all-requires-clause-some c i =
     let slots = ap (λ (a : Contents). a.heap.slots) c.self.view_is in
     let at : Ref = c.args.at in
-    let has : live c.self.inside.cells at ≡ true = ap (λ s. live s at) slots ∙ live_seen c.args.self.now.heap at c.requires.live in
+    let has = live_inside _ _ c.self.view_is c.args.at c.requires.live in
     let same : c.prev.result ≡ c.args.from = search (rules, tests) in
     let is : prev_of (get_or c.self.inside.cells (slot_of at) None) ≡ c.args.from = ap (λ s. prev_of (get_or s (slot_of at) None)) slots ∙ prev_seen c.args.self.now.heap at ∙ sym c.prev.ensures ∙ same in
     omega (
@@ -64,9 +57,8 @@ lower_all-requires-clause-some c i =
 
 pub set_prev-requires : goal.set_prev-requires
 set_prev-requires c =
-    let slots = ap (λ (a : Contents). a.heap.slots) c.self.view_is in
     let at : Ref = c.args.at in
-    let has : live c.self.inside.cells at ≡ true = ap (λ s. live s at) slots ∙ live_seen c.args.self.now.heap at c.requires.live in
+    let has = live_inside _ _ c.self.view_is c.args.at c.requires.live in
     let within = live_within c.self.inside.cells at has in
     omega (arith, c.slot.ensures)
 
@@ -74,7 +66,7 @@ pub invariant_of-self : goal.invariant_of-self
 invariant_of-self c =
     let slots = ap (λ (a : Contents). a.heap.slots) c.self.view_is in
     let at : Ref = c.args.at in
-    let has : live c.self.inside.cells at ≡ true = ap (λ s. live s at) slots ∙ live_seen c.args.self.now.heap at c.requires.live in
+    let has = live_inside _ _ c.self.view_is c.args.at c.requires.live in
     let same : c.prev.result ≡ c.args.from = search (rules, tests) in
     let is : prev_of (get_or c.self.inside.cells (slot_of at) None) ≡ c.args.from = ap (λ s. prev_of (get_or s (slot_of at) None)) slots ∙ prev_seen c.args.self.now.heap at ∙ sym c.prev.ensures ∙ same in
     subst (λ s. IsKept s c.lower_all.new.self.counts c.self.inside.free c.self.inside.used c.self.inside.outside.items)
@@ -96,7 +88,7 @@ pub returns-clause-noted : goal.returns-clause-noted
 returns-clause-noted c =
     let slots = ap (λ (a : Contents). a.heap.slots) c.self.view_is in
     let at : Ref = c.args.at in
-    let has : live c.self.inside.cells at ≡ true = ap (λ s. live s at) slots ∙ live_seen c.args.self.now.heap at c.requires.live in
+    let has = live_inside _ _ c.self.view_is c.args.at c.requires.live in
     let was : Contents = record { heap = record { slots = c.self.inside.cells; free = c.self.inside.free.slots; births = c.self.inside.births }; outside = c.self.inside.outside.items; noted = c.self.inside.tally.noted; ticks = c.self.inside.ticks.count } in
     let now : Contents = record { heap = record { slots = c.set_prev.new.self; free = c.self.inside.free.slots; births = c.self.inside.births }; outside = c.self.inside.outside.items; noted = c.lower_all.new.self.noted; ticks = c.self.inside.ticks.count } in
     let zeros = zeros_trans c.self.inside.tally c.raise_all.new.self c.lower_all.new.self c.raise_all.ensures.noted c.lower_all.ensures.noted in
@@ -109,7 +101,7 @@ pub returns-clause-stay : goal.returns-clause-stay
 returns-clause-stay c q =
     let slots = ap (λ (a : Contents). a.heap.slots) c.self.view_is in
     let at : Ref = c.args.at in
-    let has : live c.self.inside.cells at ≡ true = ap (λ s. live s at) slots ∙ live_seen c.args.self.now.heap at c.requires.live in
+    let has = live_inside _ _ c.self.view_is c.args.at c.requires.live in
     live_is (record { slots = c.set_prev.new.self; free = c.self.inside.free.slots; births = c.self.inside.births }) q
     ∙ ap (λ s. live s q) (c.set_prev.ensures ∙ ap (λ k. set c.self.inside.cells k (option_map (prev_changed c.args.to) (get_or c.self.inside.cells k None))) c.slot.ensures)
     ∙ live_prev c.self.inside.cells (slot_of at) c.args.to q (live_within c.self.inside.cells at has) ∙ ap (λ s. live s q) slots ∙ sym (live_is c.args.self.now.heap q)

@@ -1,5 +1,5 @@
-use Rattle.std.proofs.Common.{◌≡◌, ℕ, ◌<◌, ◌^◌, get_or, arith, Some, None, slice_index, inl, inr, refl, sym, ap, ◌∙◌}
-use Rattle.slot_arena.specs.Refs.{ref_to, slot_of}
+use Rattle.std.proofs.Common.{◌<◌, ◌^◌, get_or, arith, Some, None, slice_index, inl, inr, refl, sym, ap, ◌∙◌}
+use Rattle.slot_arena.specs.Refs.{slot_of}
 use Rattle.slot_arena.specs.Kept.{live}
 use Rattle.slot_arena.specs.Cells.{birth_of_slot}
 use Rattle.slot_arena.proofs.Live.{slot_of_ref, live_read}
@@ -8,6 +8,9 @@ use Rattle.slot_arena.specs.Arenas.{Contents, waiting}
 use Rattle.slot_arena.proofs.Waiting.{waits_read}
 use Rattle.slot_arena.proofs.arena.Arena.waiting.Goals as goal
 use Rattle.slot_arena.proofs.arena.Arena.waiting.Goals.{else-birth-ne0-via-then-birth-ne0+else-count-eq0, else-birth-ne0-via-else-birth-ne0}
+
+pub new-requires : goal.new-requires
+new-requires c = omega (arith, c.self.invariant.born c.args.slot, c.birth-birth.ensures.birth)
 
 pub returns-then-count-eq0-clause-waiting : goal.returns-then-count-eq0-clause-waiting
 returns-then-count-eq0-clause-waiting c =

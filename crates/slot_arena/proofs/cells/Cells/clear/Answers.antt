@@ -1,12 +1,6 @@
-use Rattle.std.proofs.Common.{◌≡◌, ℕ, List, Option, Some, None, IsSome, ◌<◌, length, get_or, set, replicate, sym, ap, ◌∙◌, subst, arith}
-use Rattle.std.specs.Prelude.{option_map}
-use Rattle.std.proofs.lemmas.List.{get_or_read, ext_get_or}
-use Rattle.slot_arena.specs.declared.nodes.Node.{Node}
+use Rattle.std.proofs.Common.{List, Option, None, length, set, ap, ◌∙◌, arith}
 use Rattle.slot_arena.specs.declared.nodes.Slot.{Slot}
-use Rattle.slot_arena.specs.declared.nodes.Prev.TheVariants as prev
-use Rattle.slot_arena.specs.Heaps.{node_of, prev_of, with_main_word, main_changed, prev_changed}
-use Rattle.slot_arena.specs.Cells.{slots_from, birth_of_slot}
-use Rattle.slot_arena.proofs.Parts.{within, used_within, birth_at, node_found, prev_found, cleared, filled, main_written, prev_written, none_used}
+use Rattle.slot_arena.proofs.Parts.{within, cleared}
 use Rattle.slot_arena.proofs.cells.Cells.clear.Goals as goal
 
 pub index_mut-requires : goal.index_mut-requires

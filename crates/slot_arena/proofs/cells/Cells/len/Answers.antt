@@ -1,4 +1,4 @@
-use Rattle.std.proofs.Common.{◌≡◌, ap, ◌∙◌, arith, length}
+use Rattle.std.proofs.Common.{ap, arith, length}
 use Rattle.slot_arena.proofs.Parts.{length-slots_from}
 use Rattle.slot_arena.proofs.cells.Cells.len.Goals as goal
 

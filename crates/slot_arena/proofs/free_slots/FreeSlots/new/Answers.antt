@@ -1,5 +1,4 @@
-use Rattle.std.proofs.Common.{◌≡◌, ℕ, List, ◌+◌, ◌<◌, slice_index, sym, ap, ◌∙◌, subst, arith}
-use Rattle.std.specs.List.{range_with_len}
+use Rattle.std.proofs.Common.{ℕ, List, sym, subst, arith}
 use Rattle.slot_arena.specs.Chains.{LeadsTo}
 use Rattle.slot_arena.proofs.Chains.{range_leads}
 use Rattle.slot_arena.proofs.free_slots.FreeSlots.new.Goals as goal
@@ -8,7 +7,7 @@ pub invariant_of-result : goal.invariant_of-result
 invariant_of-result c =
     let links : List ℕ = c.loop-slot.links in
     let n : ℕ = c.args.slots in (
-      subst (LeadsTo links n n) (sym c.numbers_below.ensures) (range_leads links n n 0 n (λ k below. c.loop-slot.invariant.linked k (omega arith)) c.loop-slot.invariant.end (omega arith)),
+      subst (LeadsTo links n n) (sym c.changed.ensures) (range_leads links n n 0 n (λ k below. c.loop-slot.invariant.linked k (omega arith)) c.loop-slot.invariant.end (omega arith)),
       c.loop-slot.invariant.size,
       c.requires,
     )

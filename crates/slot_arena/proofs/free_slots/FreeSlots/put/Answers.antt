@@ -1,4 +1,4 @@
-use Rattle.std.proofs.Common.{◌≡◌, ℕ, List, ◌∷◌, ◌+◌, ◌<◌, length, set, sym, ap, ◌∙◌, subst, arith}
+use Rattle.std.proofs.Common.{◌≡◌, ℕ, List, ◌∷◌, length, set, sym, ap, ◌∙◌, subst, arith}
 use Rattle.std.proofs.lemmas.List.{length-set}
 use Rattle.slot_arena.specs.Times.{times}
 use Rattle.slot_arena.specs.Chains.{Chain, LeadsTo}
@@ -18,7 +18,7 @@ invariant_of-self c =
     subst (λ f. LeadsTo (set (set links slot f) end slot) end end (slot ∷ slots)) (sym c.read-first.ensures.link)
     (chain_put links end slot slots c.self.invariant.0 (omega arith) (omega arith) (ap (times slot) slots_are ∙ c.requires.apart)) in
     let links_are : c.write-2.new.self ≡ set (set links slot first) end slot = c.write-2.ensures.links ∙ ap (λ ls. set ls end slot) c.write.ensures.links in (
-      subst (λ ls. LeadsTo ls end end c.with_number-self-inside.result.items) (sym links_are) (subst (LeadsTo (set (set links slot first) end slot) end end) (sym c.with_number-self-inside.ensures) made),
+      subst (λ ls. LeadsTo ls end end c.with_first-self-inside.result.items) (sym links_are) (subst (LeadsTo (set (set links slot first) end slot) end end) (sym c.with_first-self-inside.ensures) made),
       omega (arith, ap length links_are, length-set (set links slot first) end slot, length-set links slot first),
       omega arith,
     )

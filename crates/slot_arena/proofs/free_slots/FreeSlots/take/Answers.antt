@@ -1,6 +1,5 @@
-use Rattle.std.proofs.Common.{◌≡◌, ℕ, List, [], ◌∷◌, ◌+◌, ◌<◌, length, set, drop, sym, ap, ◌∙◌, subst, arith}
+use Rattle.std.proofs.Common.{ℕ, List, length, set, drop, sym, ap, ◌∙◌, subst, arith}
 use Rattle.std.proofs.lemmas.List.{length-set}
-use Rattle.slot_arena.specs.Times.{times}
 use Rattle.slot_arena.specs.Chains.{Chain, LeadsTo}
 use Rattle.slot_arena.proofs.Chains.{chain_empty, chain_first, chain_taken}
 use Rattle.slot_arena.proofs.free_slots.FreeSlots.take.Goals as goal

@@ -1,4 +1,4 @@
-use Rattle.std.proofs.Common.{◌≡◌, ◌≤◌, length, ap, arith}
+use Rattle.std.proofs.Common.{length, ap, arith}
 use Rattle.std.proofs.lemmas.List.Sums.{count_by-le-length}
 use Rattle.slot_arena.specs.Tallies.{Tally}
 use Rattle.slot_arena.proofs.tally.Tally.noted_len.Goals as goal

@@ -1,7 +1,6 @@
-use Rattle.std.proofs.Common.{◌≡◌, ℕ, List, get_or, ◌+◌, ◌<◌, length, take, set, slice_index, sym, ap, ◌∙◌, arith}
+use Rattle.std.proofs.Common.{ℕ, List, get_or, ◌+◌, ◌<◌, length, slice_index, ap, ◌∙◌, arith}
 use Rattle.std.proofs.lemmas.List.{length-set}
 use Rattle.slot_arena.specs.Refs.{slot_of}
-use Rattle.slot_arena.specs.Tallies.{naming}
 use Rattle.slot_arena.proofs.Marks.{zeros_trans}
 use Rattle.slot_arena.proofs.Times.{once}
 use Rattle.slot_arena.proofs.Namings.{naming_more, raised_at}

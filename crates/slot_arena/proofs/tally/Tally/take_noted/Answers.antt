@@ -1,4 +1,4 @@
-use Rattle.std.proofs.Common.{◌<◌, ◌≡◌, ◌++◌, ◌∷◌, [], length, false, set, sym, ap, ◌∙◌, subst, arith}
+use Rattle.std.proofs.Common.{false, sym, ap, ◌∙◌, subst, arith}
 use Rattle.std.proofs.lemmas.List.{length-set}
 use Rattle.slot_arena.specs.Tallies.{Tally, AreMarks}
 use Rattle.slot_arena.proofs.Marks.{noted_within, taken_once, marks_taken}

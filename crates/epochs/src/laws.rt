@@ -1,0 +1,14 @@
+//! Laws of limbo: what a settling has to be told.
+
+ghost use Rattle.epochs.specs.Laws.{FreedLeaves, CountsAlone};
+
+/// A law: behind the freeing of a slot, limbo comes out the same whether the slot was taken out of it
+/// or left to the settling.
+pub fn freed_leaves()
+    ensures { FreedLeaves }
+{}
+
+/// A law: limbo is the same for references from outside in another order.
+pub fn counts_alone()
+    ensures { CountsAlone }
+{}

@@ -1,0 +1,201 @@
+//! A heap at work.
+
+ghost use Rattle.std.specs.Prelude.{◌≡◌, ◌∷◌, List, drop, IfOk, OnOk, IfSome, if◌then◌else◌};
+ghost use Rattle.slot_arena.specs.declared.refs.Ref.{Ref};
+ghost use Rattle.slot_arena.specs.Arenas.{AreLive, IsLive};
+
+use crate::arenas::{MOST_BIRTHS, SPARE, single};
+use ctrie_base::Refusal;
+use epochs::Heap;
+use slot_arena::{Node, Ref};
+use std::alloc::Global;
+
+/// More references from outside than these are never held to one slot here.
+const MOST_HELD: u64 = 1 << 20;
+
+/// A heap of so many slots with singles in all but a few, settled, and the references to them.
+pub(crate) fn new_heap(alloc: Global, slots: u32) -> Result<(Heap, Vec<Ref>), Refusal>
+    ensures { IfOk result (λ made. AreLive made.0.heap made.1.items) }
+{
+    let mut heap = Heap::new(alloc, slots, 1)?;
+    let mut refs = Vec::new(alloc);
+    for key in SPARE..slots {
+        add_single(&mut heap, &mut refs, key)?;
+    }
+    heap.settle();
+    Ok((heap, refs))
+}
+
+/// Makes a single more, where there is a slot for it.
+fn add_single(heap: &mut Heap, refs: &mut Vec<Ref>, key: u32) -> Result<(), Refusal>
+    requires { AreLive heap.old.heap refs.old.items }
+    ensures { OnOk result (AreLive heap.new.heap refs.new.items) }
+{
+    if heap.births() >= MOST_BIRTHS {
+        return Ok(());
+    }
+    if let Some(at) = heap.make(single(key)) {
+        refs.push(at)?;
+    }
+    Ok(())
+}
+
+/// Looks at slots one after the other, so many times; the sum of their keys.
+pub(crate) fn look(heap: &Heap, refs: &[Ref], count: u32) -> u64
+    requires { AreLive heap.now.heap refs.now }
+{
+    let mut sum = 0u64;
+    let mut from = 0;
+    for _ in 0..count {
+        if from >= refs.len() {
+            from = 0;
+        }
+        sum = sum.wrapping_add(key_of(heap, refs, from));
+        from += 1;
+    }
+    sum
+}
+
+/// The key of the single to which this reference leads.
+fn key_of(heap: &Heap, refs: &[Ref], index: usize) -> u64
+    requires { AreLive heap.now.heap refs.now }
+{
+    if index >= refs.len() {
+        return 0;
+    }
+    match heap.look(refs[index]) {
+        Node::Single { key, .. } => *key,
+        _ => 0,
+    }
+}
+
+/// Swaps the main word of an indirection, so many times, to one reference after the other. Whether all
+/// was done.
+pub(crate) fn swap(heap: &mut Heap, refs: &[Ref], count: u32) -> bool
+    requires { AreLive heap.old.heap refs.now }
+{
+    let Some(indirection) = new_indirection(heap, refs) else {
+        return false;
+    };
+    let mut all = true;
+    let mut from = 0;
+    for _ in 0..count {
+        if from >= refs.len() {
+            from = 0;
+        }
+        all &= swap_one(heap, indirection, refs, from);
+        from += 1;
+    }
+    all
+}
+
+/// An indirection to the first one.
+fn new_indirection(heap: &mut Heap, refs: &[Ref]) -> Option<Ref>
+    requires { AreLive heap.old.heap refs.now }
+    ensures live { AreLive heap.new.heap refs.now }
+    ensures made { IfSome result (IsLive heap.new.heap) }
+{
+    if heap.births() >= MOST_BIRTHS || refs.is_empty() {
+        return None;
+    }
+    heap.make(Node::Indirection {
+        generation: 0,
+        main: refs[0],
+    })
+}
+
+/// Swaps its main word once, to this reference.
+fn swap_one(heap: &mut Heap, indirection: Ref, refs: &[Ref], index: usize) -> bool
+    requires indirection { IsLive heap.old.heap indirection }
+    requires live { AreLive heap.old.heap refs.now }
+    ensures indirection { IsLive heap.new.heap indirection }
+    ensures live { AreLive heap.new.heap refs.now }
+{
+    if index >= refs.len() {
+        return false;
+    }
+    let from = match heap.look(indirection) {
+        Node::Indirection { main, .. } => *main,
+        _ => return false,
+    };
+    heap.swap_main(indirection, from, refs[index])
+}
+
+/// Settles so many times with nothing to settle.
+pub(crate) fn settle(heap: &mut Heap, count: u32)
+    ensures { heap.new.heap ≡ heap.old.heap }
+{
+    for _ in 0..count {
+        heap.settle();
+    }
+}
+
+/// So many times: holds four slots and settles, so that they leave limbo, and releases them and settles,
+/// so that they enter it again. Whether all was done.
+pub(crate) fn hold_and_release(heap: &mut Heap, refs: &[Ref], count: u32) -> bool
+    requires { AreLive heap.old.heap refs.now }
+    ensures { AreLive heap.new.heap refs.now }
+{
+    let mut all = true;
+    let mut from = 0;
+    for _ in 0..count {
+        if refs.len() < 4 || refs.len() - 4 <= from {
+            from = 0;
+        }
+        all &= hold_and_release_four(heap, refs, from);
+        from += 1;
+    }
+    all
+}
+
+/// The same once, with the four from this one on.
+fn hold_and_release_four(heap: &mut Heap, refs: &[Ref], from: usize) -> bool
+    requires { AreLive heap.old.heap refs.now }
+    ensures { AreLive heap.new.heap refs.now }
+{
+    if refs.len() < 4 || refs.len() - 4 < from {
+        return false;
+    }
+    let (a, b, c, d) = (refs[from], refs[from + 1], refs[from + 2], refs[from + 3]);
+    if !hold(heap, a) {
+        return false;
+    }
+    if !hold(heap, b) {
+        return false;
+    }
+    if !hold(heap, c) {
+        return false;
+    }
+    if !hold(heap, d) {
+        return false;
+    }
+    heap.settle();
+    release(heap, d);
+    release(heap, c);
+    release(heap, b);
+    release(heap, a);
+    heap.settle();
+    true
+}
+
+/// Holds a slot, unless it is held too often.
+fn hold(heap: &mut Heap, at: Ref) -> bool
+    requires { IsLive heap.old.heap at }
+    ensures heap { heap.new.heap ≡ heap.old.heap }
+    ensures outside { heap.new.outside ≡ (if result then at ∷ heap.old.outside else heap.old.outside) }
+{
+    if heap.count(at) >= MOST_HELD {
+        return false;
+    }
+    heap.hold(at);
+    true
+}
+
+/// Releases the slot that was held last.
+fn release(heap: &mut Heap, at: Ref)
+    requires { (rest : List Ref) × (heap.old.outside ≡ at ∷ rest) }
+    ensures heap { heap.new.heap ≡ heap.old.heap }
+    ensures outside { heap.new.outside ≡ drop 1 heap.old.outside }
+{
+    heap.release(at);
+}
