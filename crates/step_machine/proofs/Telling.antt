@@ -53,7 +53,7 @@ led_none : (m : Taken) → Led m m []
 led_none m = record { more = []; steps = sym (append-nil m.steps); limits = refl; events = sym (append-nil (state_of m).events) }
 
 -- the state that a taken step leads to
-stepped : (m : Taken) (s : Step) (o : Outcome) (after : State) → next (state_of m) s ≡ Ok (o, after) → state_of (with_step m s) ≡ after
+pub stepped : (m : Taken) (s : Step) (o : Outcome) (after : State) → next (state_of m) s ≡ Ok (o, after) → state_of (with_step m s) ≡ after
 stepped m s o after e = run_push (first_state m.limits) m.steps s ∙ ap (state_after (state_of m)) e
 
 -- a step that ends no operation tells nothing, and the operation runs on
@@ -123,7 +123,7 @@ pub record Tells (before after : Taken) (actor : ℕ) (call : Call) (answer : Re
   pub led : Led before after (Begin id actor call opens ∷ End id answer ∷ [])
 
 -- what the begin tells runs then
-begun_runs : (state after : State) (actor : ℕ) (call : Call) (opens : Option ℕ) → Books state → Books after → after.events ≡ state.events ++ Begin (begun state.events) actor call opens ∷ [] →
+pub begun_runs : (state after : State) (actor : ℕ) (call : Call) (opens : Option ℕ) → Books state → Books after → after.events ≡ state.events ++ Begin (begun state.events) actor call opens ∷ [] →
     (operation : Operation) × (operation_of after actor ≡ Some operation) × (operation.id ≡ begun state.events)
 begun_runs state after actor call opens before books told =
     let id = begun state.events in

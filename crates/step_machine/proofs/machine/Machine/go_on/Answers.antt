@@ -1,6 +1,6 @@
 use Rattle.std.proofs.Common.{arith}
 use Rattle.step_machine.proofs.Going.{ends, goes, reached}
-use Rattle.step_machine.proofs.machine.Machine.resume.Goals as goal
+use Rattle.step_machine.proofs.machine.Machine.go_on.Goals as goal
 
 pub returns-in-Ended : goal.returns-in-Ended
 returns-in-Ended c =
