@@ -13,15 +13,13 @@ use Rattle.machine_model.specs.declared.operations.Operation.{Operation}
 use Rattle.machine_model.specs.declared.steps.Step.{Step}
 use Rattle.machine_model.specs.declared.steps.Step.TheVariants as step
 use Rattle.machine_model.specs.declared.steps.Outcome.{Outcome}
-use Rattle.machine_model.specs.declared.steps.Outcome.TheVariants as outcome
 use Rattle.machine_model.specs.States.{State, first_state, operation_of}
 use Rattle.machine_model.specs.Operations.{action_of}
 use Rattle.machine_model.specs.Acting.{gone, ended}
 use Rattle.machine_model.specs.Counting.{settled}
-use Rattle.machine_model.specs.Machine.{Answer, next, next_state, state_after}
+use Rattle.machine_model.specs.Machine.{Answer, next, state_after}
 use Rattle.machine_model.proofs.Along.{run_push}
 use Rattle.machine_model.proofs.Moves.{Moves, Begins, Goes, Ends, Sweeps, moved, begun_operation}
-use Rattle.order_laws.specs.Facts.{Runs}
 use Rattle.generation_laws.proofs.Running.{place_of_actor}
 use Rattle.order_laws.proofs.Running.{runs_on}
 use Rattle.order_laws.proofs.AllBooks.{gone_events}
@@ -32,7 +30,7 @@ use Rattle.order_laws.proofs.Unconditional.{books_of}
 use Rattle.order_laws.proofs.Recalling.{end_event, begin_event}
 use Rattle.step_machine.specs.Machines.{Taken, state_of, with_step}
 use Rattle.machine_model.specs.Going.{go_limit}
-use Rattle.step_machine.specs.Callers.{Going, after_outcome, after_go, going_on, Completes}
+use Rattle.step_machine.specs.Callers.{Going, after_outcome, after_go, going_on}
 
 -- a machine after more steps, and what they tell
 pub record Led (before after : Taken) (told : List Event) : Type 0 where
