@@ -1,14 +1,13 @@
 -- The legal order of a machine, from the laws.
-use Rattle.std.specs.Prelude.{◌≡◌, ℕ, List, ◌++◌, Option, Some, None, Result, Ok, Err, IfOk, OnOk, IsSome, Vec, Bool, false}
+use Rattle.std.specs.Prelude.{◌≡◌, ℕ, List, ◌++◌, Option, Some, None, Result, Ok, Err, IfOk, OnOk, IsSome, Vec, false}
 use Rattle.std.specs.FinMap as map
 use Rattle.std.proofs.Common.{refl, sym, ap, subst, ◌∙◌, inl, inr}
 use Rattle.std.specs.declared.alloc.Global.{Global}
 use Rattle.ctrie_base.specs.Hashes.{hash_of}
 use Rattle.ctrie_base.specs.declared.refusals.Refusal.{Refusal}
-use Rattle.ctrie_base.specs.declared.refusals.Refusal.TheVariants as refuse
 use Rattle.history.specs.declared.calls.Call.{Call}
 use Rattle.history.specs.declared.replies.Reply.{Reply}
-use Rattle.history.specs.Worlds.{HandleMap, HandleState}
+use Rattle.history.specs.Worlds.{HandleMap}
 use Rattle.history.specs.Orders.{IsLegal}
 use Rattle.machine_model.specs.declared.roots.Root.{Root}
 use Rattle.machine_model.specs.declared.steps.Step.TheVariants as step
@@ -16,12 +15,11 @@ use Rattle.machine_model.specs.States.{State, root_at}
 use Rattle.machine_model.specs.Orders.{order_of}
 use Rattle.machine_model.specs.Contents.{content_at}
 use Rattle.machine_model.specs.Keys.{KeysFit}
-use Rattle.machine_model.specs.Machine.{AreLimits, next, denial_of, begin_denial, begin_unless, is_busy, run}
+use Rattle.machine_model.specs.Machine.{AreLimits, next, begin_denial, begin_unless, is_busy, run}
 use Rattle.order_laws.specs.Laws.{Names, ShowsContents, IsExplained}
 use Rattle.legal_order.specs.Laws.{AloneItActs, RanAlone, Does}
 use Rattle.step_machine.specs.Machines.{Taken, state_of, with_step}
-use Rattle.machine_model.specs.Going.{go_limit}
-use Rattle.step_machine.specs.Callers.{going_on, Resumes, Completes, CompletesUnless}
+use Rattle.step_machine.specs.Callers.{Resumes, Completes, CompletesUnless}
 use Rattle.step_machine.specs.declared.records.Record.{Record}
 use Rattle.step_machine.specs.Records.{IsRecordOf}
 use Rattle.step_machine.specs.Legality.{IsLegalFor, IsLegalRecord, IsInOrder, ActedAlone}

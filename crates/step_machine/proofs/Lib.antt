@@ -7,3 +7,4 @@ pub mod Recording
 pub mod Reclaiming
 pub mod Telling
 pub mod Legality
+pub mod Ending

@@ -1,16 +1,14 @@
 -- What the sweep leaves, once it has come to an end.
-use Rattle.std.specs.Prelude.{◌≡◌, ℕ, zero, suc, Bool, true, false, List, [], ◌∷◌, ◌++◌, Option, Some, is_some, Result, Ok, Err, OnOk}
+use Rattle.std.specs.Prelude.{◌≡◌, ℕ, zero, suc, Bool, true, false, is_some, Result, Ok, Err, OnOk}
 use Rattle.std.specs.List.{list_any}
 use Rattle.std.proofs.Common.{refl, sym, ap, subst, ◌∙◌}
 use Rattle.ctrie_base.specs.declared.refusals.Refusal.{Refusal}
 use Rattle.ctrie_base.specs.declared.refusals.Refusal.TheVariants.{Busy}
-use Rattle.slot_arena.specs.declared.refs.Ref.{Ref}
 use Rattle.machine_model.specs.declared.steps.Step.TheVariants.{Sweep}
-use Rattle.machine_model.specs.declared.roots.Root.{Root}
 use Rattle.machine_model.specs.States.{State, first_state, root_at}
-use Rattle.machine_model.specs.Machine.{AreLimits, Answer, next, next_state, state_after, run, is_busy}
+use Rattle.machine_model.specs.Machine.{AreLimits, Answer, next, next_state, state_after, is_busy}
 use Rattle.machine_model.proofs.Along.{run_push}
-use Rattle.machine_model.proofs.Moves.{Moves, MovesIfTaken, Sweeps, moves}
+use Rattle.machine_model.proofs.Moves.{MovesIfTaken, Sweeps, moves}
 use Rattle.memory_laws.specs.Laws.{SweepLeaves, Reclaimed}
 use Rattle.step_machine.specs.Machines.{Taken, state_of, with_step}
 use Rattle.step_machine.specs.Callers.{swept, Reclaims, ReclaimsUnless}

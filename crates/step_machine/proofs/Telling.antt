@@ -13,15 +13,13 @@ use Rattle.machine_model.specs.declared.operations.Operation.{Operation}
 use Rattle.machine_model.specs.declared.steps.Step.{Step}
 use Rattle.machine_model.specs.declared.steps.Step.TheVariants as step
 use Rattle.machine_model.specs.declared.steps.Outcome.{Outcome}
-use Rattle.machine_model.specs.declared.steps.Outcome.TheVariants as outcome
 use Rattle.machine_model.specs.States.{State, first_state, operation_of}
 use Rattle.machine_model.specs.Operations.{action_of}
 use Rattle.machine_model.specs.Acting.{gone, ended}
 use Rattle.machine_model.specs.Counting.{settled}
-use Rattle.machine_model.specs.Machine.{Answer, next, next_state, state_after}
+use Rattle.machine_model.specs.Machine.{Answer, next, state_after}
 use Rattle.machine_model.proofs.Along.{run_push}
 use Rattle.machine_model.proofs.Moves.{Moves, Begins, Goes, Ends, Sweeps, moved, begun_operation}
-use Rattle.order_laws.specs.Facts.{Runs}
 use Rattle.generation_laws.proofs.Running.{place_of_actor}
 use Rattle.order_laws.proofs.Running.{runs_on}
 use Rattle.order_laws.proofs.AllBooks.{gone_events}
@@ -32,7 +30,7 @@ use Rattle.order_laws.proofs.Unconditional.{books_of}
 use Rattle.order_laws.proofs.Recalling.{end_event, begin_event}
 use Rattle.step_machine.specs.Machines.{Taken, state_of, with_step}
 use Rattle.machine_model.specs.Going.{go_limit}
-use Rattle.step_machine.specs.Callers.{Going, after_outcome, after_go, going_on, Completes}
+use Rattle.step_machine.specs.Callers.{Going, after_outcome, after_go, going_on}
 
 -- a machine after more steps, and what they tell
 pub record Led (before after : Taken) (told : List Event) : Type 0 where
@@ -53,7 +51,7 @@ led_none : (m : Taken) → Led m m []
 led_none m = record { more = []; steps = sym (append-nil m.steps); limits = refl; events = sym (append-nil (state_of m).events) }
 
 -- the state that a taken step leads to
-stepped : (m : Taken) (s : Step) (o : Outcome) (after : State) → next (state_of m) s ≡ Ok (o, after) → state_of (with_step m s) ≡ after
+pub stepped : (m : Taken) (s : Step) (o : Outcome) (after : State) → next (state_of m) s ≡ Ok (o, after) → state_of (with_step m s) ≡ after
 stepped m s o after e = run_push (first_state m.limits) m.steps s ∙ ap (state_after (state_of m)) e
 
 -- a step that ends no operation tells nothing, and the operation runs on
@@ -123,7 +121,7 @@ pub record Tells (before after : Taken) (actor : ℕ) (call : Call) (answer : Re
   pub led : Led before after (Begin id actor call opens ∷ End id answer ∷ [])
 
 -- what the begin tells runs then
-begun_runs : (state after : State) (actor : ℕ) (call : Call) (opens : Option ℕ) → Books state → Books after → after.events ≡ state.events ++ Begin (begun state.events) actor call opens ∷ [] →
+pub begun_runs : (state after : State) (actor : ℕ) (call : Call) (opens : Option ℕ) → Books state → Books after → after.events ≡ state.events ++ Begin (begun state.events) actor call opens ∷ [] →
     (operation : Operation) × (operation_of after actor ≡ Some operation) × (operation.id ≡ begun state.events)
 begun_runs state after actor call opens before books told =
     let id = begun state.events in

@@ -1,11 +1,10 @@
 -- The legal order, of a machine at any time, and what a call does that runs alone.
-use Rattle.std.specs.Prelude.{◌≡◌, ℕ, List, Option, Some, None, Result, Ok, Err}
+use Rattle.std.specs.Prelude.{◌≡◌, ℕ, List, Option, Some, Result, Ok}
 use Rattle.std.specs.FinMap as map
 use Rattle.ctrie_base.specs.Hashes.{hash_of}
 use Rattle.ctrie_base.specs.declared.refusals.Refusal.{Refusal}
 use Rattle.history.specs.declared.calls.Access.{Access}
 use Rattle.history.specs.declared.calls.Call.{Call}
-use Rattle.history.specs.declared.events.Event.{Event}
 use Rattle.history.specs.declared.replies.Reply.{Reply}
 use Rattle.history.specs.Worlds.{KeyMap, HandleMap}
 use Rattle.history.specs.Orders.{Explains, IsLegal}

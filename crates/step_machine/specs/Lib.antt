@@ -3,3 +3,4 @@ pub mod Callers
 pub mod Records
 pub mod Reclaiming
 pub mod Legality
+pub mod Ending

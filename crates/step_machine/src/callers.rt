@@ -9,6 +9,7 @@ ghost use Rattle.step_machine.specs.Callers.{Stepped, Resumes, Completes, Reclai
 ghost use Rattle.machine_model.specs.Machine.{is_busy};
 ghost use Rattle.step_machine.specs.Reclaiming.{UsesReached, LooksSame};
 ghost use Rattle.step_machine.specs.Legality.{ActedAlone};
+ghost use Rattle.step_machine.specs.Ending.{CompletesIfSure, ResumesIfSure};
 
 use crate::machine::Machine;
 use ctrie_base::Refusal;
@@ -19,19 +20,24 @@ use machine_model::{Outcome, Step};
 pub const GO_LIMIT: u32 = 16_384;
 
 impl Machine {
-    /// Begins the call and takes steps of it until it ends; none where 16,384 steps didn't end it. What
-    /// denies the begin is answered, and nothing has changed then. After `Memory` or `Spent` the steps taken
-    /// so far stand: an operation that began still runs. `Memory` is answered only where nothing denies the
-    /// next step. From rest, an operation that ends enters the order last, and the contents change by its
-    /// call, with its reply; where it is refused for want of slots, neither changes.
+    /// Begins the call and takes steps of it until it ends; none where 16,384 steps didn't end it, which
+    /// happens to no call on one key, snapshot, freeze or clear while enough steps are left. What denies the
+    /// begin is answered, and nothing has changed then. After `Memory` or `Spent` the steps taken so far stand:
+    /// an operation that began still runs. `Memory` is answered only where nothing denies the next step. From
+    /// rest, an operation that ends enters the order last, and the contents change by its call, with its
+    /// reply; where it is refused for want of slots, neither changes.
     pub fn complete(&mut self, actor: u8, call: Call) -> Result<Option<Reply>, Refusal>
         ensures steps { Completes result self.old actor call self.new }
         ensures alone { is_busy (state_of self.old) ≡ false → ActedAlone result self.old call self.new }
+        ensures ends { CompletesIfSure self.old actor call result }
     {
         let _ = self.limits();
+        let _ = self.steps();
+        Self::fits(Step::Begin { actor, call });
         let result = self.begin_and_go(actor, call);
         let _ = self.steps();
         legal_order::alone_it_acts();
+        ending_laws::each_step_leads_to_its_end();
         result
     }
 
@@ -41,14 +47,27 @@ impl Machine {
         ensures { Completes result self.old actor call self.new }
     {
         self.take(Step::Begin { actor, call })?;
-        self.resume(actor)
+        self.go_on(actor)
     }
 
-    /// Takes steps of the actor's operation until it ends; none where 16,384 steps didn't end it. `NoActor`
-    /// and `Idle` where it runs none. After `Memory` or `Spent` the steps taken so far stand, and the
-    /// operation still runs. `Memory` is answered only where nothing denies the next step.
-    #[tactic(auto, using(crate::proofs::Going::stops), unfolding(crate::specs::Callers::going_on))]
+    /// Takes steps of the actor's operation until it ends; none where 16,384 steps didn't end it, which
+    /// happens to no call on one key, snapshot, freeze or clear while enough steps are left. `NoActor` and
+    /// `Idle` where it runs none. After `Memory` or `Spent` the steps taken so far stand, and the operation
+    /// still runs. `Memory` is answered only where nothing denies the next step.
     pub fn resume(&mut self, actor: u8) -> Result<Option<Reply>, Refusal>
+        ensures steps { Resumes result self.old actor self.new }
+        ensures ends { ResumesIfSure self.old actor result }
+    {
+        let _ = self.limits();
+        let _ = self.steps();
+        let result = self.go_on(actor);
+        ending_laws::each_step_leads_to_its_end();
+        result
+    }
+
+    /// The same, of the steps alone.
+    #[tactic(auto, using(crate::proofs::Going::stops), unfolding(crate::specs::Callers::going_on))]
+    fn go_on(&mut self, actor: u8) -> Result<Option<Reply>, Refusal>
         ensures { Resumes result self.old actor self.new }
     {
         for _ in 0..GO_LIMIT {

@@ -89,7 +89,7 @@ impl Machine {
     }
 
     /// The key of a step has 64 bits, since it is one of the program's.
-    fn fits(step: Step)
+    pub(crate) fn fits(step: Step)
         ensures { FitsKey step }
     {
         if let Step::Begin { call, .. } = step {

@@ -1,7 +1,13 @@
+use Rattle.step_machine.proofs.Ending.{completed}
 use Rattle.step_machine.proofs.Legality.{acted}
 use Rattle.step_machine.proofs.machine.Machine.complete.Goals as goal
 
 pub returns-clause-alone : goal.returns-clause-alone
 returns-clause-alone c rest =
-    acted c.alone_it_acts.ensures c.args.self.now c.begin_and_go-result.new.self c.args.actor c.args.call c.limits.ensures.in_range c.steps.ensures.keys rest
+    acted c.alone_it_acts.ensures c.args.self.now c.begin_and_go-result.new.self c.args.actor c.args.call c.limits.ensures.in_range c.steps-2.ensures.keys rest
+    c.begin_and_go-result.result c.begin_and_go-result.ensures
+
+pub returns-clause-ends : goal.returns-clause-ends
+returns-clause-ends c sure =
+    completed c.each_step_leads_to_its_end.ensures c.args.self.now c.begin_and_go-result.new.self c.args.actor c.args.call c.limits.ensures.in_range c.steps.ensures.keys c.fits.ensures sure
     c.begin_and_go-result.result c.begin_and_go-result.ensures

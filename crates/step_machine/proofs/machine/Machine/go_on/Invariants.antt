@@ -1,6 +1,6 @@
 use Rattle.std.proofs.Common.{◌≡◌, Ok, None}
 use Rattle.step_machine.specs.Callers.{going_on}
-use Rattle.step_machine.proofs.machine.Machine.resume.Given as goal
+use Rattle.step_machine.proofs.machine.Machine.go_on.Given as goal
 
 -- the steps so far didn't end the operation
 abbrev pub invariant-loop : goal.invariant-loop

@@ -1,0 +1,130 @@
+-- An operation that goes on alone ends, by the law.
+use Rattle.std.proofs.Common.{◌≡◌, ℕ, zero, suc, ◌+◌, ◌<◌, List, ◌∷◌, [], ◌++◌, replicate, Option, Some, None, Result, Ok, Err, inl, inr, refl, sym, ap, subst, ◌∙◌, append_assoc, arith}
+use Rattle.std.proofs.lemmas.List.{append-nil, replicate-append-replicate}
+use Rattle.ctrie_base.specs.declared.refusals.Refusal.{Refusal}
+use Rattle.ctrie_base.specs.declared.refusals.Refusal.TheVariants as refuse
+use Rattle.history.specs.declared.calls.Call.{Call}
+use Rattle.history.specs.declared.replies.Reply.{Reply}
+use Rattle.machine_model.specs.declared.operations.Operation.{Operation}
+use Rattle.machine_model.specs.declared.steps.Step.{Step}
+use Rattle.machine_model.specs.declared.steps.Step.TheVariants as step
+use Rattle.machine_model.specs.declared.steps.Outcome.{Outcome}
+use Rattle.machine_model.specs.declared.steps.Outcome.TheVariants as outcome
+use Rattle.machine_model.specs.Keys.{FitsKey, KeysFit}
+use Rattle.machine_model.proofs.Moves.{moved, begun_operation}
+use Rattle.machine_model.specs.Counting.{settled}
+use Rattle.machine_model.specs.Going.{go_limit}
+use Rattle.machine_model.specs.Machine.{AreLimits, next, begin_denial, begin_unless, with_begin}
+use Rattle.machine_model.specs.States.{State, operation_of}
+use Rattle.deciding_laws.proofs.StepsAt.{begin_own}
+use Rattle.order_laws.proofs.Unconditional.{books_of}
+use Rattle.order_laws.proofs.Recalling.{begin_event}
+use Rattle.std.proofs.lemmas.List.Elements.{All-push}
+use Rattle.std.proofs.lemmas.Option.{none-some}
+use Rattle.step_machine.proofs.Telling.{stepped, begun_runs}
+use Rattle.lone_steps.specs.Laws.{EachStepLeadsToItsEnd, GoesOnAt, RunsAlone, most_steps_alone}
+use Rattle.step_machine.specs.Machines.{Taken, state_of, with_step}
+use Rattle.step_machine.specs.Callers.{going_on, Resumes, Completes, CompletesUnless}
+use Rattle.step_machine.specs.Ending.{IsSure, IsAnswer}
+use Rattle.step_machine.proofs.Going.{goes, ends}
+
+-- one step more of the same
+more : (n : ℕ) (s : Step) (xs : List Step) → (xs ++ replicate n s) ++ s ∷ [] ≡ xs ++ replicate (suc n) s
+more n s xs =
+    let one : n + 1 ≡ suc n = omega arith in
+    append_assoc xs (replicate n s) (s ∷ []) ∙ ap (λ l. xs ++ l) (replicate-append-replicate n 1 s ∙ ap (λ m. replicate m s) one)
+
+module _ (machine : Taken) (actor : ℕ) where
+  -- the machine after so many steps of this actor
+  abbrev after : ℕ → Taken
+  after n = record machine { steps = machine.steps ++ replicate n (step.Go actor) }
+
+  one_more : (n : ℕ) → after (suc n) ≡ with_step (after n) (step.Go actor)
+  one_more n = ap (λ l. record machine { steps = l }) (sym (more n (step.Go actor) machine.steps))
+
+  begins : after 0 ≡ machine
+  begins = ap (λ l. record machine { steps = l }) (append-nil machine.steps)
+
+  -- as long as each step goes on
+  going : (n : ℕ) → ((k : ℕ) → k < n → GoesOnAt machine.limits machine.steps actor k) → going_on n actor machine ≡ (Ok None, after n)
+  unfolding going_on
+  going zero on = ap (λ m. (Ok None, m)) (sym begins)
+  going (suc n) on =
+      let (kind, step) = on n (omega arith) in
+      let one : n + 1 ≡ suc n = omega arith in
+      subst (λ m. going_on m actor machine ≡ (Ok None, after (suc n))) one
+      (goes n actor (outcome.Went kind) machine (after n) (after (suc n)) (going n (λ k h. on k (omega (arith, h)))) (one_more n, step) (λ id answer e. cc e))
+
+  module _ (law : EachStepLeadsToItsEnd) (sizes : AreLimits machine.limits) (keys : KeysFit machine.steps) (operation : Operation)
+      (runs : operation_of (state_of machine) actor ≡ Some operation) (sure : IsSure (state_of machine) operation.call most_steps_alone) where
+    -- the steps come to the end
+    answered : (answer : Reply) × (last : Taken) × (going_on go_limit actor machine ≡ (Ok (Some answer), last))
+    answered =
+        let facts : RunsAlone machine.limits machine.steps actor operation = record { limits_ok = sizes; keys_fit = keys; runs = runs; call = sure.0; left = sure.1 } in
+        let (n, few, on, last) = law machine.limits machine.steps actor operation facts in
+        let within : n < go_limit = omega (arith, few) in
+        (last.0, after (suc n), ends n actor operation.id last.0 (outcome.Ended operation.id last.0) machine (after n) (after (suc n)) within (going n on) refl (one_more n, last.1))
+
+    -- so that is what they come to
+    must_be : (result : Result (Option Reply) Refusal) (to : Taken) → going_on go_limit actor machine ≡ (result, to) → (answer : Reply) × (result ≡ Ok (Some answer))
+    must_be result to goes = let (answer, last, e) = answered in (answer, ap (λ g. g.0) (sym goes ∙ e))
+
+    -- such steps come to the end, but for want of memory
+    pub ended : (result : Result (Option Reply) Refusal) (to : Taken) → Resumes result machine actor to → IsAnswer None result
+    ended (Ok (Some answer)) to goes = tt
+    ended (Err refuse.Memory) to goes = inr refl
+    ended result to goes = let (answer, e) = must_be result to goes in cc e
+
+-- ---- a call that begins and goes on
+
+-- the state in which the call has begun
+begins_so : (state : State) (actor : ℕ) (call : Call) (denial : Option Refusal) → denial ≡ None →
+    (o : Outcome) × (begin_unless state actor call denial ≡ Ok (o, settled state (with_begin state actor call (begun_operation state call))))
+begins_so state actor call None e = (_, refl)
+begins_so state actor call (Some why) e = cc e
+
+begun_state : (state : State) (actor : ℕ) (call : Call) → begin_denial state actor call ≡ None →
+    (o : Outcome) × (next state (step.Begin actor call) ≡ Ok (o, settled state (with_begin state actor call (begun_operation state call))))
+unfolding next
+begun_state state actor call d = begins_so state actor call (begin_denial state actor call) d
+
+module _ (before : Taken) (actor : ℕ) (call : Call) (d : begin_denial (state_of before) actor call ≡ None) where
+  abbrev pub middle : Taken
+  middle = with_step before (step.Begin actor call)
+
+  abbrev begun_so : State
+  begun_so = settled (state_of before) (with_begin (state_of before) actor call (begun_operation (state_of before) call))
+
+  led_so : state_of middle ≡ begun_so
+  led_so = let (o, e) = begun_state (state_of before) actor call d in stepped before (step.Begin actor call) o begun_so e
+
+  -- the operation that began runs
+  pub begun_runs_on : operation_of (state_of middle) actor ≡ Some (begun_operation (state_of before) call)
+  begun_runs_on =
+      let (o, e) = begun_state (state_of before) actor call d in
+      let told = ap (λ (s : State). s.events) led_so ∙ begin_event (state_of before) (step.Begin actor call) o begun_so (moved (state_of before) (step.Begin actor call) o begun_so e) actor call refl in
+      let (found, runs, same) =
+      begun_runs (state_of before) (state_of middle) actor call (begun_operation (state_of before) call).opens (books_of before.limits before.steps) (books_of middle.limits middle.steps) told in
+      elim (begin_own (state_of before) actor call (begun_operation (state_of before) call)) [
+        | inl none ↦ absurd (none-some found (sym none ∙ ap (λ s. operation_of s actor) (sym led_so) ∙ runs))
+        | inr own ↦ ap (λ s. operation_of s actor) led_so ∙ own
+      ]
+
+  -- and is as sure to end, with one step less
+  pub sure_behind : (n : ℕ) → IsSure (state_of before) call (1 + n) → IsSure (state_of middle) (begun_operation (state_of before) call).call n
+  sure_behind n sure =
+      let later : (state_of middle).steps ≡ (state_of before).steps + 1 = ap (λ (s : State). s.steps) led_so in
+      (sure.0, omega (arith, later, sure.1))
+
+module _ (law : EachStepLeadsToItsEnd) (before after : Taken) (actor : ℕ) (call : Call) (sizes : AreLimits before.limits) (keys : KeysFit before.steps)
+    (fits : FitsKey (step.Begin actor call)) (sure : IsSure (state_of before) call (1 + most_steps_alone)) where
+  by_denial : (denial : Option Refusal) → begin_denial (state_of before) actor call ≡ denial → (result : Result (Option Reply) Refusal) → CompletesUnless denial result before actor call after →
+      IsAnswer denial result
+  by_denial (Some why) d result c = rw c.0 (inl refl)
+  by_denial None d result (inl memory) = rw memory.0 (inr refl)
+  by_denial None d result (inr goes) =
+      ended (middle before actor call d) actor law sizes (All-push FitsKey before.steps (step.Begin actor call) keys fits) (begun_operation (state_of before) call)
+      (begun_runs_on before actor call d) (sure_behind before actor call d most_steps_alone sure) result after goes
+
+  pub completed : (result : Result (Option Reply) Refusal) → Completes result before actor call after → IsAnswer (begin_denial (state_of before) actor call) result
+  completed result c = by_denial (begin_denial (state_of before) actor call) refl result c
