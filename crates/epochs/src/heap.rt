@@ -81,6 +81,7 @@ impl Heap {
         ensures outside { self.new.outside ≡ self.old.outside }
         ensures epochs { KeepsEpochs self.old self.new }
         ensures ticks { self.new.ticks ≤ self.old.ticks + 12 }
+        ensures rising { self.old.ticks ≤ self.new.ticks }
     {
         let made = self.arena.make(node);
         self.ticks = Ticks::sum(self.arena.ticks(), &self.links);
@@ -191,6 +192,7 @@ impl Heap {
         ensures outside { self.new.outside ≡ self.old.outside }
         ensures epochs { (self.new.epoch ≡ self.old.epoch) × (self.new.cursor ≡ self.old.cursor) × (self.new.pins ≡ self.old.pins) }
         ensures ticks { self.new.ticks + 12 * length (staying self.old.heap self.old.outside self.old.limbo) ≤ self.old.ticks + 12 * length self.old.limbo + 12 * length (newly_zero self.old.heap self.old.outside self.old.limbo) }
+        ensures rising { self.old.ticks ≤ self.new.ticks }
     {
         prove!(self.arena.len() <= 65536);
         sift(
@@ -216,6 +218,7 @@ impl Heap {
         ensures outside { self.new.outside ≡ self.old.outside }
         ensures pins { self.new.pins ≡ self.old.pins }
         ensures ticks { self.new.ticks ≤ self.old.ticks + 12 }
+        ensures rising { self.old.ticks ≤ self.new.ticks }
     {
         let Some(slot) = self.bags.first(&mut self.links) else {
             let swept = advance(

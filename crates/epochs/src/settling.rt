@@ -24,7 +24,7 @@ pub(crate) fn sift(arena: &mut Arena, bags: &mut Ring, fresh: &mut Vec<Ref>, lin
     ensures arena_ticks { arena.new.ticks ≡ arena.old.ticks }
     ensures sifted { IsSifted arena.old bags.old bags.new fresh.new.items }
     ensures capacity { vec_capacity fresh.new ≡ vec_capacity fresh.old }
-    ensures ticks { links.new.count + 4 * length (all_of bags.new) ≤ links.old.count + 4 * length (all_of bags.old) }
+    ensures ticks { links.new.count + 4 * length (all_of bags.new) ≡ links.old.count + 4 * length (all_of bags.old) }
 {
     for _ in 0..arena.noted_len() {
         if let Some(slot) = arena.take_noted() {
@@ -43,7 +43,7 @@ fn sift_one(arena: &Arena, bags: &mut Ring, fresh: &mut Vec<Ref>, links: &mut Ti
     ensures fresh { fresh.new.items ≡ fresh_after (waiting arena.now slot) (naming slot (all_of bags.old)) fresh.old.items }
     ensures waits { IfSome (waiting arena.now slot) (λ r. (slot_of r ≡ slot) × IsLive arena.now.heap r) }
     ensures capacity { vec_capacity fresh.new ≡ vec_capacity fresh.old }
-    ensures ticks { links.new.count + 4 * length (all_of bags.new) ≤ links.old.count + 4 * length (all_of bags.old) }
+    ensures ticks { links.new.count + 4 * length (all_of bags.new) ≡ links.old.count + 4 * length (all_of bags.old) }
 {
     let is_in = bags.contains(slot);
     match arena.waiting(slot) {

@@ -101,7 +101,7 @@ impl Places {
         requires { 0 < self.old.room_to_add }
         ensures places { self.new.places ≡ self.old.places ++ at ∷ [] }
         ensures closings { self.new.closings ≡ self.old.closings }
-        ensures ticks { self.new.ticks ≤ self.old.ticks + 1 }
+        ensures ticks { self.new.ticks ≡ self.old.ticks + 1 }
         ensures room { self.new.room_to_close ≡ self.old.room_to_close }
     {
         if at.step <= self.closed {

@@ -74,6 +74,7 @@ impl Arena {
         ensures stay { (q : Ref) → IsLive self.old.heap q → IsLive self.new.heap q }
         ensures noted { NotesWaiting self.old self.new }
         ensures ticks { self.new.ticks ≤ self.old.ticks + 3 }
+        ensures rising { self.old.ticks ≤ self.new.ticks }
     {
         let slot = self.free.take(&mut self.ticks)?;
         self.tally.note(slot);
@@ -188,7 +189,7 @@ impl Arena {
         ensures outside { self.new.outside ≡ self.old.outside }
         ensures stay { (q : Ref) → (q ≡ at → ⊥) → IsLive self.old.heap q → IsLive self.new.heap q }
         ensures noted { NotesWaiting self.old self.new }
-        ensures ticks { self.new.ticks ≤ self.old.ticks + 3 }
+        ensures ticks { self.new.ticks ≡ self.old.ticks + 3 }
     {
         let slot = at.slot();
         let prev = self.cells.prev(slot);

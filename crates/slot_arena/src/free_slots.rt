@@ -52,6 +52,7 @@ impl FreeSlots {
         ensures slots { MatchOption result ((self.old.slots ≡ []) × (self.new.slots ≡ [])) (λ slot. (self.old.slots ≡ slot ∷ self.new.slots) × (slot < self.old.size) × (times slot self.new.slots ≡ 0)) }
         ensures size { self.new.size ≡ self.old.size }
         ensures ticks { ticks.new.count ≤ ticks.old.count + 3 }
+        ensures rising { ticks.old.count ≤ ticks.new.count }
     {
         let end = self.end as usize;
         let first = self.links.read(end, ticks);
@@ -70,7 +71,7 @@ impl FreeSlots {
         requires apart { times slot self.old.slots ≡ 0 }
         ensures slots { self.new.slots ≡ slot ∷ self.old.slots }
         ensures size { self.new.size ≡ self.old.size }
-        ensures ticks { ticks.new.count ≤ ticks.old.count + 3 }
+        ensures ticks { ticks.new.count ≡ ticks.old.count + 3 }
     {
         let end = self.end as usize;
         let first = self.links.read(end, ticks);

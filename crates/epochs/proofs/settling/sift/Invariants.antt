@@ -12,5 +12,5 @@ invariant-loop l = record {
   sifting : Sifting l.fn.arena l.fn.bags l.arena.noted l.bags l.fresh.items;
   listed : length l.fresh.items ≤ l.counter;
   capacity : vec_capacity l.fresh ≡ vec_capacity l.fn.fresh;
-  ticks : l.links.count + 4 * length (all_of l.bags) ≤ l.fn.links.count + 4 * length (all_of l.fn.bags);
+  ticks : l.links.count + 4 * length (all_of l.bags) ≡ l.fn.links.count + 4 * length (all_of l.fn.bags);
 }

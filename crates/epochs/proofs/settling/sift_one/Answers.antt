@@ -18,7 +18,7 @@ returns-then-is_in-clause-ticks c =
     let same : all_of now ≡ other_slots k (all_of was) =
     ap (λ (rs : List Ref). rs ++ now.middle ++ now.present) c.leave.ensures.oldest ∙ ap (λ (rs : List Ref). other_slots k was.oldest ++ rs ++ now.present) c.leave.ensures.middle
     ∙ ap (λ (rs : List Ref). other_slots k was.oldest ++ other_slots k was.middle ++ rs) c.leave.ensures.present ∙ sym (other_slots-all k was.oldest was.middle was.present) in
-    omega (arith, ap length same, length-other_slots k (all_of was), c.leave.ensures.ticks)
+    omega (arith, ap length same, length-other_slots k (all_of was), c.requires.single, c.leave.ensures.ticks)
 
 pub returns-else-is_in-clause-bags : goal.returns-else-is_in-clause-bags
 returns-else-is_in-clause-bags c =

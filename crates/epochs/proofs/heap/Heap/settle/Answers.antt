@@ -78,3 +78,18 @@ returns-clause-ticks c =
       ap (λ (m : Memory). length (staying m.heap m.outside m.limbo)) c.self.view_is,
       ap (λ (m : Memory). length (newly_zero m.heap m.outside m.limbo)) c.self.view_is,
     )
+
+pub returns-clause-rising : goal.returns-clause-rising
+returns-clause-rising c =
+    let small : length c.self.inside.arena.heap.slots ≤ 2 ^ 16 = omega (arith, c.len.ensures.size, c.len.ensures.few) in
+    omega (
+      arith,
+      no_more c.self.inside.arena c.self.inside.bags c.sift.new.bags c.sift.new.fresh.items c.sort_unstable.new.self.items c.self.invariant.0.lists c.sift.ensures.sifted c.sort_unstable.ensures.permutation c.sort_unstable.ensures.sorted small,
+      c.self.invariant.3,
+      c.sum-self-inside.ensures,
+      c.ticks.ensures,
+      c.sift.ensures.arena_ticks,
+      c.sift.ensures.ticks,
+      c.enter_all.ensures.ticks,
+      ap (λ (m : Memory). m.ticks) c.self.view_is,
+    )
