@@ -1,5 +1,7 @@
 //! The public calls on small machines, with the answers that are known of them.
 
+mod alone;
+
 use crate::{Limits, Machine, Outcome, Step, run};
 use ctrie_base::{HashKind, Kind, Refusal};
 use history::Call;
