@@ -4,3 +4,5 @@ pub mod Sound
 pub mod Places
 pub mod Told
 pub mod Steps
+pub mod Totals
+pub mod Counted

@@ -23,7 +23,7 @@ pub running_ids_differ : RunningIdsDiffer
 running_ids_differ limits steps i j a b e f same = differ (run limits steps) (sound_along limits steps) i j a b e f same
 
 -- a step of another actor, or of the sweep
-others_leave : (before after : State) (s : Step) (o : Outcome) → Sound before → length after.actors ≡ after.limits.actors → Turns before after s o → (actor : ℕ) →
+pub others_leave : (before after : State) (s : Step) (o : Outcome) → Sound before → length after.actors ≡ after.limits.actors → Turns before after s o → (actor : ℕ) →
     (IsStepOf actor s → ⊥) → account_of actor after.events ≡ account_of actor before.events
 others_leave before after s o sound fits (Comes k call opens within idle here others events) actor other =
     come_account before after sound fits k call opens here others events actor
@@ -49,7 +49,7 @@ some_told : (r : Option Running) (p : Shown) → told r ≡ Some p → r ≡ Non
 some_told None p e none = none-some p e
 some_told (Some r) p e none = none-some r (sym none)
 
-own_step : (before after : State) (s : Step) (o : Outcome) → Sound before → length after.actors ≡ after.limits.actors → Turns before after s o → (actor : ℕ) →
+pub own_step : (before after : State) (s : Step) (o : Outcome) → Sound before → length after.actors ≡ after.limits.actors → Turns before after s o → (actor : ℕ) →
     IsStepOf actor s → IsMadeBy before actor (account_of actor before.events) s o (account_of actor after.events)
 own_step before after s o sound fits (Comes k call opens within idle here others events) actor own =
     let none : (account_of (suc k) before.events).running ≡ None = none_told _ (sym (sound.match (suc k)) ∙ idle) in

@@ -28,9 +28,9 @@ use Rattle.script_text.specs.Reading.{Reading as Script, script_of}
 use Rattle.script_text.specs.Steps.{all_steps}
 use Rattle.ctrie_commands.specs.Reports.{last_state, report}
 use Rattle.ctrie_commands.specs.Scripts.{IsReport}
-use Rattle.ctrie_commands.specs.Threads.{thread_report, IsThreadReport}
+use Rattle.ctrie_commands.specs.Threads.{thread_report}
 use Rattle.ctrie_commands.specs.Verdicts.{IsVerdict}
-use Rattle.ctrie_commands.specs.Legality.{told_in, IsLegalText, AppendsJudged, AppendsLegalText}
+use Rattle.ctrie_commands.specs.Legality.{told_in, IsLegalText, AppendsJudged}
 use Rattle.ctrie_commands.proofs.Growing.{limits_stay}
 use Rattle.ctrie_commands.proofs.Spelled.{report_spelled, thread_report_spelled}
 use Rattle.ctrie_commands.proofs.Short.{report_short}
@@ -112,6 +112,3 @@ is_report text script bytes is whole right = record {
 
 pub appends_judged : (old new : Option (List ℕ)) (text bytes : List ℕ) → IsReport text bytes → Appends old new bytes → AppendsJudged old new
 appends_judged old new text bytes is grown = (bytes, told_in is.script.limits.hash (last_state is.script), is.legal, is.judged, grown)
-
-pub appends_legal : (old new : Option (List ℕ)) (text bytes : List ℕ) → IsThreadReport text bytes → Appends old new bytes → AppendsLegalText old new
-appends_legal old new text bytes (script, read, is) grown = (bytes, told_in script.limits.hash (state_of is.board), is.legal, is.judged, grown)

@@ -10,3 +10,5 @@ pub mod Spelled
 pub mod Legal
 pub mod Adding
 pub mod Short
+pub mod LineCounts
+pub mod ShortRecords

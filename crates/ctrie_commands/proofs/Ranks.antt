@@ -23,7 +23,7 @@ pub record IsWorkerOf (script : Reading) (id : TableId) (k : ℕ) (worker : Work
   pub runner : worker.seat.runner ≡ id
   pub actor : worker.seat.actor ≡ k + 1
   pub calls : k < script.limits.actors → HasPerformedAll (k + 1) script.lines worker × (worker.seat.sweeps ≡ 0)
-  pub sweeps : k ≡ script.limits.actors → HasSweptAll script.lines worker
+  pub sweeps : k ≡ script.limits.actors → HasSweptAll script.lines worker × (worker.seat.answers ≡ [])
 
 pub record AreRanked (script : Reading) (id : TableId) (workers : List Worker) : Type 0 where
   pub number : length workers ≡ script.limits.actors + 1

@@ -18,10 +18,9 @@ use Rattle.lock_runner.specs.Finishing.{IsHere, IsMissing, IsGathered, IsFinishe
 use Rattle.thread_script.specs.Reading.{Reading}
 use Rattle.ctrie_commands.specs.declared.working.Worker.{Worker}
 use Rattle.ctrie_commands.specs.Reports.{line, hash_text, event_lines, last_lines, record_report}
-use Rattle.ctrie_commands.specs.Working.{calls_of, times_of, Performed, answered_calls}
-use Rattle.ctrie_commands.specs.Threads.{with_sweeper, IsPerformedBy, IsCarriedOut, all_denied, thread_report, IsReportOf}
-use Rattle.ctrie_commands.specs.Legality.{told_in}
-use Rattle.ctrie_commands.proofs.Legal.{judged_legal, record_text_legal}
+use Rattle.ctrie_commands.specs.Working.{calls_of, sweep_lines, Performed, answered_calls}
+use Rattle.ctrie_commands.specs.Threads.{with_sweeper, IsPerformedBy, IsSweptBy, IsCarriedOut, all_denied, thread_report, IsReportOf}
+use Rattle.ctrie_commands.proofs.Legal.{record_text_legal}
 use Rattle.ctrie_commands.proofs.Ranks.{AreRanked, from_map, to_map, swept_by_last}
 
 -- ---- all seats came back
@@ -71,15 +70,23 @@ calls_done script runner workers seats board k denied ranks are gathered below a
       subst (λ ds. Performed (calls_of (k + 1) script.lines) (answered_calls worker.seat.answers) ds) found.2 (rank.calls below).0,
     )
 
-sweeps_done : (script : Reading) (runner : Room) (workers : List Worker) (seats : List Seated) (board : Taken) → AreRanked script runner.id workers →
-    seats ≡ map (λ (w : Worker). w.seat) workers → IsGathered runner seats board → slice_get (map (λ (w : Worker). w.denied.items) workers) script.limits.actors ≡ Some [] →
-    sweeps_in board ≡ times_of script.lines
-sweeps_done script runner workers seats board ranks are gathered at =
-    let n = script.limits.actors in
-    let found = from_map (λ (w : Worker). w.denied.items) workers n [] at in
-    gathered.sweeps ∙ ap (λ ss. sum_by (λ (s : Seated). s.sweeps) ss) are
-    ∙ swept_by_last workers n found.0 ranks.number (λ k w below e. ((ranks.each k w e).calls below).1) found.1
-    ∙ (ranks.each n found.0 found.1).sweeps refl found.2
+sweeps_done : (script : Reading) (runner : Room) (workers : List Worker) (seats : List Seated) (board : Taken) (denied : List Refusal) → AreRanked script runner.id workers →
+    seats ≡ map (λ (w : Worker). w.seat) workers → IsGathered runner seats board → slice_get (map (λ (w : Worker). w.denied.items) workers) script.limits.actors ≡ Some denied →
+    IsSweptBy (script.limits.actors + 1) script board denied
+sweeps_done script runner workers seats board denied ranks are gathered at =
+    let n : ℕ = script.limits.actors in
+    let found = from_map (λ (w : Worker). w.denied.items) workers n denied at in
+    let worker : Worker = found.0 in
+    let rank = ranks.each n worker found.1 in
+    let swept = rank.sweeps refl in
+    let seat : slice_get seats n ≡ Some worker.seat = ap (λ ss. slice_get ss n) are ∙ to_map (λ (w : Worker). w.seat) workers n worker found.1 in
+    let all : sweeps_in board ≡ worker.seat.sweeps = gathered.sweeps ∙ ap (λ ss. sum_by (λ (s : Seated). s.sweeps) ss) are
+    ∙ swept_by_last workers n worker ranks.number (λ k w below e. ((ranks.each k w e).calls below).1) found.1 in (
+      subst (λ xs. AreAnswersOf (n + 1) (state_of board).events xs) swept.1
+          (subst (λ a. AreAnswersOf a (state_of board).events worker.seat.answers) rank.actor (gathered.answers n worker.seat seat)),
+      λ none. all ∙ swept.0.0 (found.2 ∙ none),
+      subst (λ ds. length ds ≤ sweep_lines script.lines) found.2 swept.0.1,
+    )
 
 carried_out : (script : Reading) (runner : Room) (made : List Seated) (workers : List Worker) (seats : List Seated) (told : Record) →
     IsMade (with_sweeper script.limits) (script.limits.actors + 1) runner made → AreRanked script runner.id workers → seats ≡ map (λ (w : Worker). w.seat) workers →
@@ -89,7 +96,7 @@ carried_out script runner made workers seats told is ranks are (here, its, gathe
   taken = taken;
   number = length-map workers (λ (w : Worker). w.denied.items) ∙ ranks.number;
   calls = λ k denied below at. calls_done script runner workers seats (recorded told) k denied ranks are gathered below at;
-  sweeps = λ at. sweeps_done script runner workers seats (recorded told) ranks are gathered at;
+  sweeps = λ denied at. sweeps_done script runner workers seats (recorded told) denied ranks are gathered at;
 }
 
 -- ---- the report
@@ -108,12 +115,10 @@ reported script runner made workers seats told text bytes is ranks are denied (h
     let denials = map (λ (w : Worker). w.denied.items) workers in
     let whole : bytes ≡ thread_report script.limits.hash (state_of board) denials = written ∙ text_of told.limits told text script.limits.hash its hash
     ∙ ap (λ t. line (hash_text script.limits.hash) ++ (event_lines (state_of board).events ++ (t ++ last_lines (state_of board)))) denied in
-    let right = record_text_legal script.limits.hash told bytes denials its legal fit hash whole in
     record {
       board = board;
       denials = denials;
       done = carried_out script runner made workers seats told is ranks are (here, its, gathered, taken, legal);
       whole = whole;
-      legal = right;
-      judged = judged_legal bytes (told_in script.limits.hash (state_of board)) right;
+      legal = record_text_legal script.limits.hash told bytes denials its legal fit hash whole;
     }

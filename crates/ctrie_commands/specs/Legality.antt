@@ -5,7 +5,7 @@ use Rattle.ctrie_base.specs.Hashes.{hash_of}
 use Rattle.ctrie_base.specs.declared.hashes.HashKind.{HashKind}
 use Rattle.history.specs.Orders.{IsLegal}
 use Rattle.history_text.specs.Reading.{Reading}
-use Rattle.history_text.specs.Grammar.{IsSpelling, IsShort}
+use Rattle.history_text.specs.Grammar.{IsSpelling}
 use Rattle.machine_model.specs.States.{State}
 use Rattle.machine_model.specs.Orders.{order_of}
 use Rattle.ctrie_commands.specs.Verdicts.{IsVerdict}
@@ -22,7 +22,3 @@ pub record IsLegalText (text : List ℕ) (told : Reading) : Type 0 where
 -- known bytes grow by such a text, and a check of it answers true
 abbrev pub AppendsJudged : Option (List ℕ) → Option (List ℕ) → Type 0
 AppendsJudged old new = (text : List ℕ) × (told : Reading) × IsLegalText text told × IsVerdict text true × Appends old new text
-
--- known bytes grow by such a text; a check of it answers true, unless it has more lines than are read
-abbrev pub AppendsLegalText : Option (List ℕ) → Option (List ℕ) → Type 0
-AppendsLegalText old new = (text : List ℕ) × (told : Reading) × IsLegalText text told × (IsShort text → IsVerdict text true) × Appends old new text

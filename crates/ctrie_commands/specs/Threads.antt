@@ -1,5 +1,5 @@
 -- What a script for threads comes to.
-use Rattle.std.specs.Prelude.{◌≡◌, ℕ, ◌+◌, ◌<◌, true, List, [], ◌∷◌, ◌++◌, length, Option, Some, Ok, Err, slice_get}
+use Rattle.std.specs.Prelude.{◌≡◌, ℕ, ◌+◌, ◌<◌, ◌≤◌, true, List, [], ◌∷◌, ◌++◌, length, Option, Some, Ok, Err, slice_get}
 use Rattle.std.specs.Io.KnownBytes.{Appends}
 use Rattle.ctrie_base.specs.declared.refusals.Refusal.{Refusal}
 use Rattle.ctrie_base.specs.declared.hashes.HashKind.{HashKind}
@@ -14,10 +14,9 @@ use Rattle.actor_history.specs.Answers.{AreAnswersOf}
 use Rattle.lock_runner.specs.Boards.{sweeps_in}
 use Rattle.thread_script.specs.Reading.{Reading, thread_script_of}
 use Rattle.ctrie_commands.specs.Reports.{line, hash_text, event_lines, last_lines, denied_lines}
-use Rattle.history_text.specs.Grammar.{IsShort}
 use Rattle.ctrie_commands.specs.Verdicts.{IsVerdict}
 use Rattle.ctrie_commands.specs.Legality.{told_in, IsLegalText}
-use Rattle.ctrie_commands.specs.Working.{calls_of, times_of, Performed, answered_calls}
+use Rattle.ctrie_commands.specs.Working.{calls_of, times_of, sweep_lines, Performed, answered_calls}
 
 -- ---- what was done
 
@@ -30,15 +29,19 @@ abbrev pub IsPerformedBy : ℕ → Reading → Taken → List Refusal → Type 0
 IsPerformedBy actor script board denied =
     (answers : List Answer) × AreAnswersOf actor (state_of board).events answers × Performed (calls_of actor script.lines) (answered_calls answers) denied
 
+-- the actor performed nothing, and the steps of the sweep are as many as the lines name, unless one was denied, for each line one at most
+abbrev pub IsSweptBy : ℕ → Reading → Taken → List Refusal → Type 0
+IsSweptBy actor script board denied =
+    AreAnswersOf actor (state_of board).events [] × (denied ≡ [] → sweeps_in board ≡ times_of script.lines) × (length denied ≤ sweep_lines script.lines)
+
 -- The machine has taken each of its steps. The denials of actor k + 1 stand at the place k, the sweep's behind all others.
--- Each actor's calls were performed in the order of the lines; and the steps of the sweep are as many as the lines name,
--- unless one was denied.
+-- Each actor's calls were performed in the order of the lines, and the last actor took the steps of the sweep.
 pub record IsCarriedOut (script : Reading) (board : Taken) (denials : List (List Refusal)) : Type 0 where
   pub limits : board.limits ≡ with_sweeper script.limits
   pub taken : AreTaken board.limits board.steps
   pub number : length denials ≡ script.limits.actors + 1
   pub calls : (k : ℕ) (denied : List Refusal) → k < script.limits.actors → slice_get denials k ≡ Some denied → IsPerformedBy (k + 1) script board denied
-  pub sweeps : slice_get denials script.limits.actors ≡ Some [] → sweeps_in board ≡ times_of script.lines
+  pub sweeps : (denied : List Refusal) → slice_get denials script.limits.actors ≡ Some denied → IsSweptBy (script.limits.actors + 1) script board denied
 
 -- ---- the report
 
@@ -53,19 +56,17 @@ thread_report hash state denials = line (hash_text hash) ++ (event_lines state.e
 
 -- ---- what is answered and written
 
--- These bytes are the report of a run in which the script was carried out. They spell the history and the order of that run, and the order is legal; a check
--- of the report answers true, unless it has more lines than are read.
+-- These bytes are the report of a run in which the script was carried out. They spell the history and the order of that run, and the order is legal.
 pub record IsReportOf (script : Reading) (bytes : List ℕ) : Type 0 where
   pub board : Taken
   pub denials : List (List Refusal)
   pub done : IsCarriedOut script board denials
   pub whole : bytes ≡ thread_report script.limits.hash (state_of board) denials
   pub legal : IsLegalText bytes (told_in script.limits.hash (state_of board))
-  pub judged : IsShort bytes → IsVerdict bytes true
 
--- the text is a script for threads without a fault, and the bytes are such a report
+-- the text is a script for threads without a fault, and the bytes are such a report, of which a check answers true
 abbrev pub IsThreadReport : List ℕ → List ℕ → Type 0
-IsThreadReport text bytes = (script : Reading) × (thread_script_of text ≡ Ok script) × IsReportOf script bytes
+IsThreadReport text bytes = (script : Reading) × (thread_script_of text ≡ Ok script) × IsReportOf script bytes × IsVerdict bytes true
 
 -- the text's first line with a fault is this one, with this fault
 abbrev pub HasThreadFault : List ℕ → ℕ → Refusal → Type 0

@@ -1,5 +1,5 @@
 -- What a thread does with the lines of a script that are its actor's.
-use Rattle.std.specs.Prelude.{◌≡◌, ℕ, ◌+◌, ◌<◌, ◌≤◌, ◌==◌, ◌⊎◌, List, [], ◌∷◌, ◌++◌, map, length, slice_get, Some, Result, Ok, sum_by, if◌then◌else◌}
+use Rattle.std.specs.Prelude.{◌≡◌, ℕ, ◌+◌, ◌<◌, ◌≤◌, ◌==◌, ◌⊎◌, Bool, true, false, List, [], ◌∷◌, ◌++◌, map, length, slice_get, Some, Result, Ok, sum_by, count_by, if◌then◌else◌}
 use Rattle.std.specs.List.{flat_map}
 use Rattle.std.specs.declared.alloc.AllocError.{AllocError}
 use Rattle.ctrie_base.specs.declared.refusals.Refusal.{Refusal}
@@ -29,6 +29,14 @@ times_in (Sweep times) = times
 
 abbrev pub times_of : List ThreadLine → ℕ
 times_of lines = sum_by times_in lines
+
+-- how many of these lines name steps of the sweep
+abbrev pub names_sweep : ThreadLine → Bool
+names_sweep (Do owner call) = false
+names_sweep (Sweep times) = true
+
+abbrev pub sweep_lines : List ThreadLine → ℕ
+sweep_lines lines = count_by names_sweep lines
 
 -- ---- what came of them
 
@@ -75,20 +83,25 @@ HasSwept times before after =
     ((after.seat.sweeps ≡ before.seat.sweeps + times) × (after.denied.items ≡ before.denied.items))
     ⊎ ((refusal : Refusal) × (after.denied.items ≡ before.denied.items ++ refusal ∷ []))
 
+-- a line that names steps of the sweep was carried out so, and any other left aside
+abbrev pub HasSweptLine : ThreadLine → Worker → Worker → Type 0
+HasSweptLine (Do owner call) before after = (after.seat.sweeps ≡ before.seat.sweeps) × (after.denied.items ≡ before.denied.items)
+HasSweptLine (Sweep times) before after = HasSwept times before after
+
 -- the actor's calls in these lines were performed, by a seat that doesn't sweep
 abbrev pub HasPerformedAll : ℕ → List ThreadLine → Worker → Type 0
 HasPerformedAll actor lines worker = Performed (calls_of actor lines) (answered_calls worker.seat.answers) worker.denied.items
 
--- the steps of the sweep that these lines name were taken, unless one was denied
+-- the steps of the sweep that these lines name were taken, unless one was denied, for each line one at most
 abbrev pub HasSweptAll : List ThreadLine → Worker → Type 0
-HasSweptAll lines worker = worker.denied.items ≡ [] → worker.seat.sweeps ≡ times_of lines
+HasSweptAll lines worker = (worker.denied.items ≡ [] → worker.seat.sweeps ≡ times_of lines) × (length worker.denied.items ≤ sweep_lines lines)
 
 -- What a thread does with a script: the calls that its lines name for an actor, or for the last actor the sweep's steps.
 pub record HasWorked (script : Reading) (seat : Seated) (worker : Worker) : Type 0 where
   pub runner : worker.seat.runner ≡ seat.runner
   pub actor : worker.seat.actor ≡ seat.actor
   pub calls : seat.actor ≤ script.limits.actors → HasPerformedAll seat.actor script.lines worker × (worker.seat.sweeps ≡ 0)
-  pub sweeps : script.limits.actors < seat.actor → HasSweptAll script.lines worker
+  pub sweeps : script.limits.actors < seat.actor → HasSweptAll script.lines worker × (worker.seat.answers ≡ [])
 
 -- one thread for each seat, which has done so unless a growth was refused
 pub record HaveWorked (script : Reading) (seats : List Seated) (results : List (Result Worker AllocError)) : Type 0 where

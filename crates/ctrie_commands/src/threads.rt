@@ -7,7 +7,7 @@ ghost use Rattle.counted_io.specs.Counts.{inner_of, failures};
 ghost use Rattle.lock_runner.specs.Seats.{IsSeatOf, AreSeatsOf};
 ghost use Rattle.lock_runner.specs.Opening.{IsMade};
 ghost use Rattle.thread_script.specs.Views.{read};
-ghost use Rattle.ctrie_commands.specs.Legality.{AppendsLegalText};
+ghost use Rattle.ctrie_commands.specs.Legality.{AppendsJudged};
 ghost use Rattle.ctrie_commands.specs.Working.{IsUnused, HasWorked, HaveWorked, AreGathered};
 ghost use Rattle.ctrie_commands.specs.Threads.{with_sweeper, IsReportOf, IsThreadReport, HasThreadFault, AppendsThreadReport, AppendsThreadReportPart, IsOfThreadScript};
 
@@ -164,8 +164,8 @@ pub fn run_threads<R: Threads + Wait + Sync, I: Read, W: Write, B: Between + Syn
     ensures all_read { OnOk result (IsAtEnd (I.remaining (inner_of input.new))) }
 
     // Whatever the reader had: what was written is the text of a history and of an order that is legal for it,
-    // and a check of it answers true, unless it has more lines than are read.
-    ensures legal { OnOk result (AppendsLegalText (W.contents (inner_of output.old)) (W.contents (inner_of output.new))) }
+    // and a check of it answers true.
+    ensures legal { OnOk result (AppendsJudged (W.contents (inner_of output.old)) (W.contents (inner_of output.new))) }
 
     // What each fault tells.
     ensures line { (number : ℕ) (refusal : _) → result ≡ Err (Fault.Line number refusal)

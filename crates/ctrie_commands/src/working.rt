@@ -2,7 +2,7 @@
 
 ghost use Rattle.std.specs.Prelude.{◌≡◌, OnOk, []};
 ghost use Rattle.lock_runner.specs.Seats.{IsSeatOf};
-ghost use Rattle.ctrie_commands.specs.Working.{calls_in, times_in, IsUnused, IsSameSeat, HasPerformed, HasPerformedLine, HasSwept, HasPerformedAll, HasSweptAll};
+ghost use Rattle.ctrie_commands.specs.Working.{calls_in, IsUnused, IsSameSeat, HasPerformed, HasPerformedLine, HasSwept, HasSweptLine, HasPerformedAll, HasSweptAll};
 
 use ctrie_base::Refusal;
 use history::Call;
@@ -98,12 +98,31 @@ impl Worker {
         requires unused { IsUnused self.old.seat }
         requires none { self.old.denied.items ≡ [] }
         ensures seat { IsSameSeat self.old.seat self.new.seat }
+        ensures answers { self.new.seat.answers ≡ self.old.seat.answers }
         ensures done { OnOk result (HasSweptAll lines.now self.new) }
     {
         for line in lines {
-            self.sweep_often(rt, runner, times_in(*line))?;
+            self.sweep_line(rt, runner, *line)?;
         }
         Ok(())
+    }
+
+    /// Takes the steps of the sweep that the line names, if it names some.
+    fn sweep_line<R: Wait>(
+        &mut self,
+        rt: &R,
+        runner: &Runner,
+        line: ThreadLine,
+    ) -> Result<(), AllocError>
+        requires seat { IsSeatOf runner.now self.old.seat }
+        ensures seat { IsSameSeat self.old.seat self.new.seat }
+        ensures answers { self.new.seat.answers ≡ self.old.seat.answers }
+        ensures done { OnOk result (HasSweptLine line self.old self.new) }
+    {
+        match line {
+            ThreadLine::Sweep { times } => self.sweep_often(rt, runner, times),
+            ThreadLine::Do { .. } => Ok(()),
+        }
     }
 
     /// Takes so many steps of the sweep, and notes why one is denied, if one is.
@@ -115,6 +134,7 @@ impl Worker {
     ) -> Result<(), AllocError>
         requires seat { IsSeatOf runner.now self.old.seat }
         ensures seat { IsSameSeat self.old.seat self.new.seat }
+        ensures answers { self.new.seat.answers ≡ self.old.seat.answers }
         ensures done { OnOk result (HasSwept times self.old self.new) }
     {
         for _ in 0..times {
@@ -126,15 +146,5 @@ impl Worker {
             }
         }
         Ok(())
-    }
-}
-
-/// How many steps of the sweep a line names.
-fn times_in(line: ThreadLine) -> u32
-    ensures { result ≡ times_in line }
-{
-    match line {
-        ThreadLine::Sweep { times } => times,
-        ThreadLine::Do { .. } => 0,
     }
 }

@@ -27,7 +27,7 @@ use Rattle.thread_script.specs.Lines.{at_most_63, thread_actors_of, is_for_threa
 use Rattle.thread_script.specs.Reading.{Reading, Progress, Start, Sized, Hashed, InLines, words_after, all_read, thread_format, thread_script_of}
 use Rattle.thread_script.specs.Grammar.{command_from, as_script, LineFits, FitsThreads}
 use Rattle.thread_script.specs.Views.{read}
-use Rattle.thread_script.proofs.Found.{as_progress}
+use Rattle.thread_script.proofs.Found.{as_progress, at_ok}
 
 -- ---- a line behind the header
 
@@ -57,10 +57,6 @@ actors_again : (words : List (List ℕ)) (n : ℕ) → actors_of words ≡ Ok n 
 actors_again words n e low = rw e (few_again n low)
 
 -- ---- the commands of a script, in which none is lost
-
-at_ok : {A : Type 0} (n : ℕ) (r : Result A Refusal) (x : A) → at_line n r ≡ Ok x → r ≡ Ok x
-at_ok n (Ok y) x e = cc
-at_ok n (Err f) x e = absurd cc
 
 -- how one line changes what was read
 cases_after : {P : Type 0} (long ignored : Bool) (p r : P) (words : Result P Refusal) (Q : Type 0) → cond long (Err TooLong) (cond ignored (Ok p) words) ≡ Ok r →

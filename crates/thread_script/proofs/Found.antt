@@ -115,7 +115,7 @@ words_found (InLines limits lines) r words e (few, fit) =
 
 -- ---- all lines
 
-abbrev after : {P : Type 0} → Bool → Bool → P → Result P Refusal → Result P Refusal
+abbrev pub after : {P : Type 0} → Bool → Bool → P → Result P Refusal → Result P Refusal
 after long ignored p words = cond long (Err TooLong) (cond ignored (Ok p) words)
 
 step_found : (long ignored : Bool) (p r : Progress) (words : List (List ℕ)) → after long ignored p (words_after p words) ≡ Ok r → HasFit p →
@@ -124,7 +124,7 @@ step_found true ignored p r words e fit = absurd cc
 step_found false true p r words e fit = let same : p ≡ r = ok_is (Ok p) p r refl e in (ap (λ q. Ok (as_progress q)) same, subst HasFit same fit)
 step_found false false p r words e fit = words_found p r words e fit
 
-at_ok : {A : Type 0} (n : ℕ) (r : Result A Refusal) (x : A) → at_line n r ≡ Ok x → r ≡ Ok x
+pub at_ok : {A : Type 0} (n : ℕ) (r : Result A Refusal) (x : A) → at_line n r ≡ Ok x → r ≡ Ok x
 at_ok n (Ok y) x e = cc
 at_ok n (Err f) x e = absurd cc
 

@@ -1,2 +1,3 @@
 pub mod Found
 pub mod Again
+pub mod Few

@@ -6,6 +6,7 @@ use Rattle.ctrie_commands.proofs.working.Worker.sweep_often.Given as goal
 abbrev pub invariant-loop : goal.invariant-loop
 invariant-loop g l = record {
   seat : IsSameSeat l.initial.self.seat l.self.seat;
+  answers : l.self.seat.answers ≡ l.initial.self.seat.answers;
   sweeps : l.self.seat.sweeps ≡ l.initial.self.seat.sweeps + l.counter;
   denied : l.self.denied.items ≡ l.initial.self.denied.items;
 }
