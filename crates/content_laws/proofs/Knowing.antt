@@ -9,7 +9,7 @@ use Rattle.slot_arena.specs.declared.nodes.Node.TheVariants.{Branch, Single, Tom
 use Rattle.slot_arena.specs.Heaps.{no_ref}
 use Rattle.nodes.specs.Levels.{flag_of}
 use Rattle.nodes.specs.Builders.{updated}
-use Rattle.node_contents.specs.Chains.{LeadsToPair, at_pair, by_rung}
+use Rattle.node_contents.specs.Chains.{LeadsToPair}
 use Rattle.machine_model.specs.declared.building.Change.{Change}
 use Rattle.machine_model.specs.declared.building.Change.TheVariants as change
 use Rattle.machine_model.specs.Calls.{key_of, value_of}
@@ -17,13 +17,6 @@ use Rattle.machine_model.specs.Building.{changed}
 use Rattle.content_laws.specs.Tries.{Trie, assigned}
 use Rattle.content_laws.specs.Steps.{IsOwnUpdate, branch_inserts, branch_updates, branch_removes, branch_entombs, goes_beside, list_inserts, list_updates, list_removes, list_entombs, Asks, to_insert, to_set, to_remove}
 use Rattle.content_laws.specs.Knowing.{Known, Absence, no_flag, not_listed, Presence, in_branch, in_list, Neighbour, IsOther, of_branch, of_list, KnowsChange, KnowsSwap, LeadsToBoth}
-
--- a chain is the same where its indirections have the same main nodes
-pub chain_moves : (trie : Trie) (A B : Ref → Ref) (former key : ℕ) (old single : Ref) (levels depth : ℕ) (i : Ref) → ((j : Ref) → A j ≡ B j) →
-    LeadsToPair trie.node A trie.kind former key old single levels depth i → LeadsToPair trie.node B trie.kind former key old single levels depth i
-chain_moves trie A B former key old single levels depth i same (at_pair left d j is parts) = at_pair left d j (ap trie.node (sym (same j)) ∙ is) parts
-chain_moves trie A B former key old single levels depth i same (by_rung left d j below word g is under index rest) =
-    by_rung left d j below word g (ap trie.node (sym (same j)) ∙ is) under index (chain_moves trie A B former key old single left (suc d) below same rest)
 
 -- the trie, as a line knows it, where indirections were made with these main nodes
 abbrev pub known_in : Trie → (Ref → Ref) → Known

@@ -12,8 +12,6 @@ pub mod Listed
 pub mod Generations
 pub mod Openings
 pub mod Readers
-pub mod Done
-pub mod Finality
 pub mod Runs
 pub mod PairLists
 pub mod Spreads

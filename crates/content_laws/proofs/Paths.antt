@@ -1,5 +1,5 @@
 -- Paths last: what was once reached through a generation alone is so until its main node is a tomb, and a tomb stays.
-use Rattle.std.proofs.Common.{◌≡◌, ◌≢◌, ℕ, zero, suc, ◌+◌, ◌*◌, ◌/◌, ◌%◌, ◌^◌, ◌<◌, ◌≤◌, ◌==◌, Bool, true, false, List, [], ◌∷◌, length, slice_index_or, Option, Some, None, ◌⊎◌, inl, inr, ⊎_elim, refl, sym, ap, ap₂, subst, ◌∙◌, arith, eqb-true, add_comm}
+use Rattle.std.proofs.Common.{◌≡◌, ◌≢◌, ℕ, zero, suc, ◌+◌, ◌*◌, ◌/◌, ◌%◌, ◌^◌, ◌<◌, ◌≤◌, ◌==◌, Bool, true, false, List, ◌∷◌, length, slice_index_or, Option, Some, None, ◌⊎◌, inl, inr, ⊎_elim, refl, sym, ap, ap₂, subst, ◌∙◌, arith, eqb-true, add_comm, []}
 use Rattle.std.proofs.Math.Nat.{mod-one}
 use Rattle.std.proofs.lemmas.Nat.{mod-pow-add}
 use Rattle.arrayvec.specs.ArrayVec.{ArrayVec}
@@ -288,17 +288,6 @@ module _ (trie : Trie) (ok : IsTrie trie) where
       by_link (inl leads') (inl on') = inl (at_below depth' above below on' (subst (λ d. says trie (suc t) q d above ≡ Below below) at leads') e)
       by_link (inl leads') (inr tomb) = absurd (tomb_ends (suc t) q above below lt tomb leads')
       by_link (inr tomb) rest = inr tomb
-
-  pub tomb_lasts : (t u : ℕ) (i single : Ref) → t ≤ u → u ≤ trie.last → node_in trie t i ≡ Tomb single → trie.main u i ≡ trie.main t i
-  tomb_lasts t zero i single le lt is = ap (λ n. trie.main n i) (omega arith)
-  tomb_lasts t (suc u) i single le lt is = by_time (tomb_lasts t u i single) (t == suc u) refl
-    where
-      by_time : (t ≤ u → u ≤ trie.last → node_in trie t i ≡ Tomb single → trie.main u i ≡ trie.main t i) → (b : Bool) → (t == suc u) ≡ b → trie.main (suc u) i ≡ trie.main t i
-      by_time rest true same = ap (λ n. trie.main n i) (sym (eqb-true t (suc u) same))
-      by_time rest false apart =
-          let before = differ t (suc u) apart in
-          let same = rest (omega arith) (omega arith) is in
-          tomb_stays u i single lt (ap trie.node same ∙ is) ∙ same
 
   pub path_lasts : (t u g q depth : ℕ) (i : Ref) → t ≤ u → u ≤ trie.last → On trie t g q depth i → On trie u g q depth i ⊎ IsTombed trie u i
   path_lasts t zero g q depth i le lt on = inl (subst (λ n. On trie n g q depth i) (omega arith) on)

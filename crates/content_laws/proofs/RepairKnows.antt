@@ -1,5 +1,5 @@
 -- Each line of RENEW and CLEAN hands on what it knows of the entries that are done.
-use Rattle.std.proofs.Common.{◌≡◌, ◌≢◌, ℕ, ◌<◌, ◌≤◌, ◌&&◌, nat_lt, nat_eq, Bool, true, false, cond, List, [], ◌∷◌, ◌++◌, length, slice_index_or, Some, refl, sym, ap, subst, subst₂, ◌∙◌, arith, eq-eqb, ltb-true, ltb-false, length-append}
+use Rattle.std.proofs.Common.{◌≡◌, ◌≢◌, ℕ, ◌<◌, ◌≤◌, ◌&&◌, nat_lt, nat_eq, Bool, true, false, cond, List, ◌∷◌, ◌++◌, length, slice_index_or, Some, refl, sym, ap, subst, subst₂, ◌∙◌, arith, eq-eqb, ltb-true, ltb-false, length-append, []}
 use Rattle.std.specs.Option.{option_eq}
 use Rattle.std.proofs.lemmas.List.{get_or_append_left}
 use Rattle.std.proofs.Math.Seq.{get_or-append_seam}
@@ -27,9 +27,7 @@ use Rattle.machine_model.specs.Renewing.{renew_next, next_entry, branch_of, rene
 use Rattle.machine_model.specs.Cleaning.{clean_next, cleaned, leaves_single, clean_after_main, clean_after_entry, after_child, clean_after_tomb}
 use Rattle.machine_model.specs.Lines.{new_try}
 use Rattle.content_laws.specs.Tries.{Trie}
-use Rattle.content_laws.specs.Steps.{Stays, kept, IsRepair, IsTrie}
 use Rattle.content_laws.specs.Repairing.{IsDone, keeps, renews, cleans, AreDone, AllDone, SomeDone, KnowsRenew, KnowsClean, IsRepaired, KnowsRepair}
-use Rattle.content_laws.proofs.Done.{cleaned_entry, renewed_entry, contracted_repairs}
 
 module _ (state : State) (operation : Operation) (node : Ref → Node) (first : Ref → Ref) (Gave : Ref → Ref → Type 0) (start : ℕ) where
   abbrev Knows : Line → Type 0
@@ -212,18 +210,3 @@ abbrev pub HasFresh : Trie → (Ref → Ref) → ℕ → ℕ → ArrayVec Ref �
 HasFresh trie first g t entries done =
     (n h : ℕ) (word word' : Ref) → trie.node (slice_index_or entries.items n no_ref) ≡ Indirection h word → h ≢ g →
     trie.node (slice_index_or done n no_ref) ≡ Indirection g word' → trie.main t (slice_index_or done n no_ref) ≡ first (slice_index_or done n no_ref)
-
--- a main node made of such entries is a repair
-pub repairs : (trie : Trie) (ok : IsTrie trie) (first : Ref → Ref) (Gave : Ref → Ref → Type 0) (g t : ℕ) → t ≤ trie.last → Stands trie Gave g t →
-    (replaced fresh : Ref) → (knows : IsRepaired trie.node first Gave g replaced fresh) → HasFresh trie first g t knows.2 knows.0 → IsRepair trie g t (trie.node replaced) (trie.node fresh)
-repairs trie ok first Gave g t lt stands replaced fresh (done, bitmap, entries, are, all, (b, made)) news =
-    contracted_repairs trie ok g t b bitmap entries done (trie.node replaced) (trie.node fresh) are.is made all
-    (λ n below. stays n (slice_index_or entries.items n no_ref) (slice_index_or done n no_ref) refl refl (are.each n (omega (arith, all))))
-  where
-    stays : (n : ℕ) (entry other : Ref) → slice_index_or entries.items n no_ref ≡ entry → slice_index_or done n no_ref ≡ other → IsDone trie.node first Gave g entry other → Stays trie g t entry other
-    stays n entry other here there (keeps same) = kept same
-    stays n entry other here there (renews h word word' child is apart new gave at) =
-        renewed_entry trie ok g t entry other child word word' h is apart new (ap (trie.main t) (sym there) ∙ news n h word word' (ap trie.node here ∙ is) apart (ap trie.node there ∙ new) ∙ ap first there ∙ at) (stands.final entry child word h is apart gave)
-    stays n entry other here there (cleans h word child is gave tomb) =
-        let at = stands.once entry child gave in
-        cleaned_entry trie ok g t entry other child word h at.0 is at.1 lt at.2 tomb

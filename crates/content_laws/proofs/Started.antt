@@ -68,7 +68,7 @@ branch_standing : (n : ℕ) → standing (first_heap (suc (suc n))) (ref_to 1 0)
 unfolding stored taken first_branch
 branch_standing n = refl
 
-first_generation : (n : ℕ) → generation_at (first_heap (suc (suc n))) (ref_to 2 1) ≡ 0
+pub first_generation : (n : ℕ) → generation_at (first_heap (suc (suc n))) (ref_to 2 1) ≡ 0
 unfolding node_at stored taken
 first_generation n = refl
 
@@ -77,7 +77,7 @@ unfolding first_state
 first_among limits n e =
     ap (λ g. or_before (cond (g == 0) (Some (ref_to 2 1)) None) None) (ap (λ k. generation_at (first_heap k) (ref_to 2 1)) e ∙ first_generation n)
 
-first_heap_is : (limits : Limits) → (first_state limits).heap ≡ first_heap limits.slots
+pub first_heap_is : (limits : Limits) → (first_state limits).heap ≡ first_heap limits.slots
 unfolding first_state
 first_heap_is limits = refl
 

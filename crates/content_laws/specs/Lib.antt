@@ -1,7 +1,6 @@
 pub mod Tries
 pub mod Steps
 pub mod Effects
-pub mod Finality
 pub mod Runs
 pub mod Pairs
 pub mod Shapes

@@ -7,11 +7,11 @@ use Rattle.machine_model.specs.declared.reading.After.{After}
 use Rattle.machine_model.specs.declared.reading.After.TheVariants.{Goes, Gives}
 use Rattle.machine_model.specs.declared.reading.ReadLine.{ReadLine}
 use Rattle.machine_model.specs.declared.reading.ReadLine.TheVariants as read
-use Rattle.deciding_laws.proofs.Words.{Words, Stage, Rests, Reads, Holds, Publishes, Decides, Checks, Leaves, SwapsIn, CommitsNode, FailsNode, ReadTurn, ReadsMain, FindsDecided, FindsFailed, FindsPending, DecidesAtOnce, Asks, FindsOffer, Aborts, Commits, Fails, Overtaken, Restores, FindsAnother, IsAtRest, after_read, after_deciding, MayHave, Moves, Idles, MakesNode, SwapsNode, ReadsOn, DecidesOn, Turn, Acts, Passes, Protocol}
-use Rattle.deciding_laws.proofs.Stood.{Stood, none≢pending, none≢failed}
+use Rattle.deciding_laws.proofs.Words.{Words, Stage, Rests, Reads, Holds, Publishes, Decides, Checks, Leaves, SwapsIn, CommitsNode, ReadTurn, ReadsMain, FindsDecided, FindsFailed, FindsPending, DecidesAtOnce, Asks, FindsOffer, Aborts, Commits, Fails, Overtaken, Restores, FindsAnother, IsAtRest, after_read, after_deciding, MayHave, Moves, Idles, MakesNode, SwapsNode, ReadsOn, DecidesOn, Turn, Acts, Passes, Protocol}
+use Rattle.deciding_laws.proofs.Stood.{Stood, none≢pending}
 use Rattle.deciding_laws.proofs.Owners.{OnLine, Staged, IsSound}
 use Rattle.deciding_laws.proofs.Sounds.{sound_at}
-use Rattle.deciding_laws.proofs.Finals.{from_time}
+use Rattle.deciding_laws.proofs.Finals.{from_time, failed_none}
 
 -- ---- what a licence rests on
 
@@ -161,10 +161,6 @@ read_licensed w t i x q told licence e s m p c (inl same) =
     }
 read_licensed w t i x q told licence e s m p c (inr apart) = absurd (none≢pending (sym (e.prev.elsewhere m apart) ∙ c.prev.here) c.was)
 
-failing_alone : (w : Words) (t : ℕ) (x q : Ref) → FailsNode w t x q → (m p : Ref) → CommitsNode w t m p → (m ≡ x) ⊎ (m ≡ x → ⊥) → ⊥
-failing_alone w t x q e m p c (inl same) = none≢failed c.prev.here (ap (w.prev (suc t)) same ∙ e.prev.here)
-failing_alone w t x q e m p c (inr apart) = none≢pending (sym (e.prev.elsewhere m apart) ∙ c.prev.here) c.was
-
 swap_alone : (w : Words) (t : ℕ) (i a f : Ref) → SwapsIn w t i a f → (m p : Ref) → CommitsNode w t m p → (m ≡ f) ⊎ (m ≡ f → ⊥) → ⊥
 swap_alone w t i a f e m p c (inl same) = none≢pending c.prev.here (ap (w.prev (suc t)) same ∙ e.prev.here)
 swap_alone w t i a f e m p c (inr apart) = none≢pending (sym (e.prev.elsewhere m apart) ∙ c.prev.here) c.was
@@ -180,7 +176,7 @@ licence_of_read w t i l out s (Asks g e early) m p c = absurd (left_alone w t e 
 licence_of_read w t i l out s (FindsOffer offer e) m p c = absurd (left_alone w t e m p c)
 licence_of_read w t i l out s (Aborts e) m p c = absurd (left_alone w t e m p c)
 licence_of_read w t i l out s (Commits {m = x} {p = q} {told} licence e) m p c = read_licensed w t i x q told licence e s m p c (cases_eq m x)
-licence_of_read w t i l out s (Fails {m = x} {p = q} e) m p c = absurd (failing_alone w t x q e m p c (cases_eq m x))
+licence_of_read w t i l out s (Fails {m = x} {p = q} e) m p c = absurd (failed_none w t x q e m p c (cases_eq m x))
 licence_of_read w t i l out s (Overtaken next e n which) m p c = absurd (left_alone w t e m p c)
 licence_of_read w t i l out s (Restores e) m p c = absurd (none≢pending (sym (e.prev m) ∙ c.prev.here) c.was)
 licence_of_read w t i l out s (FindsAnother e) m p c = absurd (left_alone w t e m p c)

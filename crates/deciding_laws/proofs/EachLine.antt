@@ -21,10 +21,11 @@ use Rattle.machine_model.proofs.Actors.{marks_by}
 use Rattle.machine_model.proofs.Moves as Machine
 use Rattle.machine_model.proofs.Moves.{begun_operation}
 use Rattle.machine_model.proofs.Times.{IsRun}
+use Rattle.memory_laws.proofs.Held.{begin_counts}
 use Rattle.deciding_laws.proofs.Words.{Reads}
 use Rattle.deciding_laws.proofs.Finals.{from_time}
 use Rattle.deciding_laws.proofs.Stages.{stage_of, Remembers, remembers_still}
-use Rattle.deciding_laws.proofs.StepsAt.{StepAt, IsBegin, IsGo, IsEnd, IsSweep, step_at, after_mark, go_others, go_own, end_others, end_own, begin_others, begin_own, actor_counts, begins_counted}
+use Rattle.deciding_laws.proofs.StepsAt.{StepAt, IsBegin, IsGo, IsEnd, IsSweep, step_at, after_mark, go_others, go_own, end_others, end_own, begin_others, begin_own, actor_counts}
 use Rattle.deciding_laws.proofs.LineKeeps.{line_keeps}
 use Rattle.deciding_laws.proofs.FirstWords.{idle_at_first}
 
@@ -79,7 +80,7 @@ module _ (limits : Limits) (states : ℕ → State) (last : ℕ) (run : IsRun li
   each_next : (t : ℕ) → t < last → ((k : ℕ) → At t k) → StepAt (states t) (states (suc t)) → (k : ℕ) → At (suc t) k
   each_next t h so_far (IsBegin actor call o m d e) k =
       each_by t None actor so_far
-      (λ j apart. ap (λ (s : State). operation_of s j) e ∙ begin_others (states t) actor call (begun_operation (states t) call) (begins_counted (states t) actor call d) j apart)
+      (λ j apart. ap (λ (s : State). operation_of s j) e ∙ begin_others (states t) actor call (begun_operation (states t) call) (begin_counts (states t) actor call d) j apart)
       (of_begun (G (suc t) actor) (states t) call _ (subst (λ (s : State). (operation_of s actor ≡ None) ⊎ (operation_of s actor ≡ Some (begun_operation (states t) call))) (sym e)
       (begin_own (states t) actor call (begun_operation (states t) call)))) k (cases_eq k actor)
   each_next t h so_far (IsGo actor operation o m is g e) k =

@@ -125,7 +125,7 @@ swapped_none : (w : Words) (t : ℕ) (f a : Ref) → w.prev (suc t) f ≡ over.P
 swapped_none w t f a here elsewhere m q c (inl same) = none≢pending c.prev.here (ap (w.prev (suc t)) same ∙ here)
 swapped_none w t f a here elsewhere m q c (inr apart) = none≢pending (sym (elsewhere m apart) ∙ c.prev.here) c.was
 
-failed_none : (w : Words) (t : ℕ) (f a : Ref) → FailsNode w t f a → (m q : Ref) → CommitsNode w t m q → (m ≡ f) ⊎ (m ≡ f → ⊥) → ⊥
+pub failed_none : (w : Words) (t : ℕ) (f a : Ref) → FailsNode w t f a → (m q : Ref) → CommitsNode w t m q → (m ≡ f) ⊎ (m ≡ f → ⊥) → ⊥
 failed_none w t f a e m q c (inl same) = none≢failed c.prev.here (ap (w.prev (suc t)) same ∙ e.prev.here)
 failed_none w t f a e m q c (inr apart) = none≢pending (sym (e.prev.elsewhere m apart) ∙ c.prev.here) c.was
 
@@ -198,22 +198,3 @@ commits_at p t h =
     from_time (AreCommits p.words) zero p.last
     (record { each = λ m c is. absurd (none-some c (sym (p.first_commit m) ∙ is)); all = λ m c q before e is. absurd (omega arith) })
     (λ v b within so_far. commits_by p v (omega arith) so_far (commit_step p.words v (effect p v within))) t (omega arith) h
-
--- a node is committed at one step alone
-not_twice : (p : Protocol) (m q r : Ref) (c d : ℕ) → c < d → d ≤ p.last → CommitsNode p.words c m q → CommitsNode p.words d m r → ⊥
-not_twice p m q r c d h within first second = none≢pending (committed_stays p m q c d h within first) second.was
-
-in_order : (c d : ℕ) → (c < d → ⊥) → (d < c → ⊥) → d ≡ c
-in_order c d a b = omega arith
-
-known_by : (p : Protocol) (t : ℕ) → t ≤ p.last → (m q : Ref) (c : ℕ) → c < t → CommitsNode p.words c m q → (x : Option ℕ) → p.words.commit t m ≡ x → x ≡ Some c
-known_by p t h m q c before commits None e = absurd ((commits_at p t h).all m c q before commits e)
-known_by p t h m q c before commits (Some d) e =
-    let was = (commits_at p t h).each m d e in
-    let kept = was.0 in
-    ap (λ (n : ℕ). Some n)
-    (in_order c d (λ less. not_twice p m q was.1 c d less (omega arith) commits was.2) (λ less. not_twice p m was.1 q d c less (omega arith) was.2 commits))
-
--- the step that is kept is that of the commit
-pub commit_known : (p : Protocol) (t : ℕ) → t ≤ p.last → (m q : Ref) (c : ℕ) → c < t → CommitsNode p.words c m q → p.words.commit t m ≡ Some c
-commit_known p t h m q c before commits = known_by p t h m q c before commits (p.words.commit t m) refl

@@ -1,5 +1,5 @@
 -- What the laws of memory give.
-use Rattle.std.proofs.Common.{◌≡◌, ℕ, ◌+◌, ◌<◌, ◌≤◌, true, false, Some, sym, ◌∙◌, ap, subst, arith}
+use Rattle.std.proofs.Common.{◌≡◌, ℕ, ◌+◌, ◌<◌, ◌≤◌, true, Some, sym, ◌∙◌, ap, subst, arith}
 use Rattle.std.proofs.lemmas.Bool.{true≢false}
 use Rattle.slot_arena.specs.declared.refs.Ref.{Ref}
 use Rattle.slot_arena.specs.declared.nodes.Node.{Node}
@@ -32,9 +32,7 @@ use Rattle.deciding_laws.proofs.Known.{is_solid, BuildsFrom, HasSolid}
 use Rattle.deciding_laws.proofs.OtherLayers.{HasLink, HasMain, Finds, Draws, Memory}
 use Rattle.deciding_laws.proofs.Laws.{MemoryOfRuns}
 use Rattle.machine_model.proofs.Times.{states_of, last_of, run_is}
-
-main_met : (node : Node) → meets AMain node ≡ true → is_indirection node ≡ false
-main_met node e = grind arith
+use Rattle.memory_laws.proofs.Nodes.{main_plain}
 
 built_solid : (node : Node) → meets BranchOrList node ≡ true → is_solid node ≡ true
 built_solid node e = grind arith
@@ -56,7 +54,7 @@ has_link state i h =
 has_main : (state : State) (m : Ref) → Holds (IsInUse state.heap) state.heap (Is m AMain) → HasMain state m
 has_main state m h =
     let (slot, found) = safe_of h in
-    record { slot = slot; stands = found; no_link = main_met slot.node (ap (meets AMain) (sym (node_under state.heap m slot found)) ∙ meets_of h) }
+    record { slot = slot; stands = found; no_link = main_plain slot.node (ap (meets AMain) (sym (node_under state.heap m slot found)) ∙ meets_of h) }
 
 finds_so : (state : State) (a : Action) → AllHold (IsInUse state.heap) state.heap (action_wants a) → Finds state a
 finds_so state (act.ReadMain i) h = has_link state i h.0

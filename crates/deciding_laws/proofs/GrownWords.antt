@@ -38,14 +38,14 @@ words_of states last closing = record {
 
 -- ---- a slot with another main word, or another prev word
 
-main_written : (x : Ref) (n : Node) → is_indirection n ≡ true → main_of (with_main_word x n) ≡ x
+pub main_written : (x : Ref) (n : Node) → is_indirection n ≡ true → main_of (with_main_word x n) ≡ x
 main_written x (Indirection g y) e = refl
 main_written x (Branch b es) e = absurd (true≢false (sym e))
 main_written x (Single k v) e = absurd (true≢false (sym e))
 main_written x (Tomb s) e = absurd (true≢false (sym e))
 main_written x (Listed s) e = absurd (true≢false (sym e))
 
-link_kept : (x : Ref) (n : Node) → is_indirection (with_main_word x n) ≡ is_indirection n
+pub link_kept : (x : Ref) (n : Node) → is_indirection (with_main_word x n) ≡ is_indirection n
 link_kept x (Indirection g y) = refl
 link_kept x n = refl
 
@@ -58,7 +58,11 @@ solid_kept x (Indirection g y) = refl
 solid_kept x n = refl
 
 -- of what stands under a reference
-slot_main : (x : Ref) (o : Option Slot) → is_indirection (node_of o) ≡ true → main_of (node_of (option_map (main_changed x) o)) ≡ x
+pub link_made : (o : Option Slot) → is_indirection (node_of o) ≡ true → is_some o ≡ true
+link_made None e = absurd (true≢false (sym e))
+link_made (Some slot) e = refl
+
+pub slot_main : (x : Ref) (o : Option Slot) → is_indirection (node_of o) ≡ true → main_of (node_of (option_map (main_changed x) o)) ≡ x
 slot_main x None e = absurd (true≢false (sym e))
 slot_main x (Some slot) e = main_written x slot.node e
 
@@ -66,11 +70,11 @@ pub slot_main_link : (x : Ref) (o : Option Slot) → is_indirection (node_of (op
 slot_main_link x None = refl
 slot_main_link x (Some slot) = link_kept x slot.node
 
-slot_main_prev : (x : Ref) (o : Option Slot) → prev_of (option_map (main_changed x) o) ≡ prev_of o
+pub slot_main_prev : (x : Ref) (o : Option Slot) → prev_of (option_map (main_changed x) o) ≡ prev_of o
 slot_main_prev x None = refl
 slot_main_prev x (Some slot) = refl
 
-slot_prev : (v : Prev) (o : Option Slot) → is_some o ≡ true → prev_of (option_map (prev_changed v) o) ≡ v
+pub slot_prev : (v : Prev) (o : Option Slot) → is_some o ≡ true → prev_of (option_map (prev_changed v) o) ≡ v
 slot_prev v None e = absurd (true≢false (sym e))
 slot_prev v (Some slot) e = refl
 

@@ -1,5 +1,5 @@
 -- What the heap that only grows says is what the machine's heap says, of what is in use; and the states of a run by number.
-use Rattle.std.proofs.Common.{◌≡◌, ℕ, zero, suc, ◌≤◌, Bool, true, false, cond, ◌==◌, List, [], ◌∷◌, take, slice_get, Option, Some, None, Ok, Err, refl, sym, ◌∙◌, ap, subst}
+use Rattle.std.proofs.Common.{◌≡◌, ℕ, zero, suc, ◌≤◌, Bool, true, false, cond, ◌==◌, List, ◌∷◌, take, slice_get, Option, Some, None, Ok, Err, refl, sym, ◌∙◌, ap, subst, []}
 use Rattle.std.proofs.lemmas.Option.{none-some, same_Some}
 use Rattle.slot_arena.specs.Refs.{birth_of}
 use Rattle.slot_arena.specs.declared.refs.Ref.{Ref}
@@ -9,7 +9,7 @@ use Rattle.machine_model.specs.declared.steps.Limits.{Limits}
 use Rattle.machine_model.specs.declared.steps.Outcome.{Outcome}
 use Rattle.machine_model.specs.declared.steps.Step.{Step}
 use Rattle.machine_model.specs.States.{State, first_state}
-use Rattle.machine_model.specs.Machine.{Answer, next, next_state, state_after, is_taken_step, run_from, run, taken_from, taken_steps}
+use Rattle.machine_model.specs.Machine.{Answer, next, next_state, state_after, is_taken_step, run_from, taken_from, taken_steps}
 use Rattle.machine_model.proofs.Moves.{Moves, moved}
 use Rattle.machine_model.proofs.Times.{states_from, states_of}
 use Rattle.machine_model.proofs.Grown.{standing, of_birth, or_before, grown, node_under, prev_word}
@@ -37,7 +37,7 @@ states_are limits steps n = states_take (first_state limits) (taken_steps limits
 abbrev LeadsOn : State → List Step → ℕ → Step → Type 0
 LeadsOn state steps n s = (o : Outcome) × Moves (states_from state steps n) s o (states_from state steps (suc n))
 
-states_at_zero : (state : State) (steps : List Step) → states_from state steps zero ≡ state
+pub states_at_zero : (state : State) (steps : List Step) → states_from state steps zero ≡ state
 unfolding states_from
 states_at_zero state [] = refl
 states_at_zero state (s ∷ steps) = refl

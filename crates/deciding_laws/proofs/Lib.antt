@@ -26,6 +26,5 @@ pub mod InHeap
 pub mod FromHeap
 pub mod OtherLayers
 pub mod SwapLines
-pub mod SwapEnds
 pub mod Laws
 pub mod FromMemory

@@ -1,5 +1,5 @@
 -- What other layers give, in their own words: and that the words of the heap that only grows are then known.
-use Rattle.std.proofs.Common.{◌≡◌, ℕ, suc, ◌<◌, ◌≤◌, Bool, true, false, ◌==◌, List, [], ◌∷◌, Option, Some, None, option_map, refl, sym, ◌∙◌, ap, subst, arith}
+use Rattle.std.proofs.Common.{◌≡◌, ℕ, suc, ◌<◌, ◌≤◌, Bool, true, false, ◌==◌, List, Option, Some, None, option_map, refl, sym, ◌∙◌, ap, subst, arith}
 use Rattle.std.specs.Prelude.{is_some}
 use Rattle.std.proofs.lemmas.Bool.{true≢false}
 use Rattle.std.proofs.lemmas.Option.{none-some, same_Some}
@@ -11,7 +11,7 @@ use Rattle.slot_arena.specs.declared.nodes.Node.TheVariants.{Indirection}
 use Rattle.slot_arena.specs.declared.nodes.Prev.{Prev}
 use Rattle.slot_arena.specs.declared.nodes.Prev.TheVariants as over
 use Rattle.slot_arena.specs.declared.nodes.Slot.{Slot}
-use Rattle.slot_arena.specs.Heaps.{Heap, node_of, main_of, main_at, generation_at, generation_of, main_changed, prev_changed, with_main, with_prev, taken, take_from, ref_in, next_ref}
+use Rattle.slot_arena.specs.Heaps.{Heap, node_of, main_of, main_at, generation_at, generation_of, main_changed, prev_changed, with_main, with_prev, taken, next_ref}
 use Rattle.epochs.specs.Sweeping.{Reclaimer, ripe, sweep_by}
 use Rattle.machine_model.specs.declared.actions.Action.{Action}
 use Rattle.machine_model.specs.declared.actions.Action.TheVariants as act
@@ -36,6 +36,7 @@ use Rattle.deciding_laws.proofs.Known.{GrownStays, GrownChanges, GrownSwaps, Fin
 use Rattle.deciding_laws.proofs.InHeap.{grown_standing, node_standing, prev_standing}
 use Rattle.deciding_laws.proofs.FromHeap.{main_here, main_other, prev_here, prev_other, freed_before}
 use Rattle.memory_laws.specs.Wants.{is_indirection}
+use Rattle.memory_laws.proofs.Under.{none_taken}
 
 -- ---- what memory gives
 
@@ -202,14 +203,6 @@ module _ (states : ℕ → State) (t : ℕ) where
   decide_by m p h Commits e = prev_written m over.None h e
   decide_by m p h Fails e = prev_written m (over.Failed p) h e
   decide_by m p h (Overtaken licensed) e = stays_same e
-
-  none_taken_by : (heap : Heap) (node : Node) (free : List ℕ) → ref_in heap.births free ≡ None → take_from heap node free ≡ heap
-  none_taken_by heap node [] e = refl
-  none_taken_by heap node (slot ∷ free) e = absurd (none-some _ (sym e))
-
-  none_taken : (heap : Heap) (node : Node) → next_ref heap ≡ None → taken heap node ≡ heap
-  unfolding taken
-  none_taken heap node e = none_taken_by heap node heap.free e
 
   take_by : (node : Node) → ((n : Ref) → next_ref H ≡ Some n → Draws states t node n) → (o : Option Ref) → next_ref H ≡ o → (states (suc t)).heap ≡ taken H node → Taken states t node o
   take_by node draws None is e = stays_same (e ∙ none_taken H node is)

@@ -175,7 +175,7 @@ brings_none w t (Made n e s) none q f b = none
 brings_none w t (SwappedIn i a g l e p d) none q f b = none
 brings_none w t e none q f b = b
 
-read_brings : (w : Words) (t : ℕ) (h : AreSound w t) (i : Ref) (l : ReadLine) (out : After ReadLine Ref) (s : OnLine w t i l) (r : ReadTurn w t i l out) (q f : Ref) →
+pub read_brings : (w : Words) (t : ℕ) (h : AreSound w t) (i : Ref) (l : ReadLine) (out : After ReadLine Ref) (s : OnLine w t i l) (r : ReadTurn w t i l out) (q f : Ref) →
     Brings w t (read_effect w t h i l out s r) q f → ⊥
 read_brings w t h i l out s r = brings_none w t (read_effect w t h i l out s r) (read_brings_none w t h i l out s r)
 

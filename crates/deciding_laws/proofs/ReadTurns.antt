@@ -182,11 +182,11 @@ solid_stays limits states last k t m within made =
 
 -- ---- what a test says
 
-licensed_so : (told : Option ℕ) (g : ℕ) → option_eq nat_eq told (Some g) ≡ true → told ≡ Some g
+pub licensed_so : (told : Option ℕ) (g : ℕ) → option_eq nat_eq told (Some g) ≡ true → told ≡ Some g
 licensed_so None g e = absurd (true≢false (sym e))
 licensed_so (Some x) g e = ap (λ (y : ℕ). Some y) (eqb-true x g e)
 
-pending_so : (v : Prev) (p : Ref) → is_pending v p ≡ true → v ≡ over.Pending p
+pub pending_so : (v : Prev) (p : Ref) → is_pending v p ≡ true → v ≡ over.Pending p
 pending_so over.None p e = absurd (true≢false (sym e))
 pending_so (over.Failed q) p e = absurd (true≢false (sym e))
 pending_so (over.Pending q) p e = ap over.Pending (eqb-true q p e)

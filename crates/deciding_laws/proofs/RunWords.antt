@@ -21,13 +21,14 @@ use Rattle.machine_model.specs.declared.reading.After.TheVariants.{Gives}
 use Rattle.machine_model.specs.Calls.{handle_of}
 use Rattle.machine_model.proofs.Actors.{marks_by}
 use Rattle.machine_model.proofs.Times.{IsRun, steps_at}
+use Rattle.memory_laws.proofs.Held.{begin_counts, idle_before}
 use Rattle.deciding_laws.proofs.Words.{Words, Stage, Rests, Reads, Leaves, Given, ReadTurn, Moves, Idles, Counts, IsSame, Turn, Acts, Passes, Protocol}
 use Rattle.deciding_laws.proofs.Owners.{given_later}
 use Rattle.deciding_laws.proofs.Stages.{stage_of, stage_of_actor, from_of_actor, Remembers}
 use Rattle.deciding_laws.proofs.Known.{ActsOn, Known}
 use Rattle.deciding_laws.proofs.GrownWords.{words_of, leaves_words}
 use Rattle.deciding_laws.proofs.ReadTurns.{no_commit}
-use Rattle.deciding_laws.proofs.StepsAt.{StepAt, IsBegin, IsGo, IsEnd, IsSweep, step_at, gone_commits, begun_commits, after_mark, mark_stage, mark_from, go_others, go_own, end_others, end_own, begin_others, begin_own, actor_counts, begins_counted, begins_idle}
+use Rattle.deciding_laws.proofs.StepsAt.{StepAt, IsBegin, IsGo, IsEnd, IsSweep, step_at, gone_commits, begun_commits, after_mark, mark_stage, mark_from, go_others, go_own, end_others, end_own, begin_others, begin_own, actor_counts}
 use Rattle.deciding_laws.proofs.LineTurns.{LineFacts, NextLine, line_turn, own_turn}
 use Rattle.deciding_laws.proofs.EachLine.{OfActor, each_remembers}
 use Rattle.deciding_laws.proofs.LineReads.{CountsTo, line_counts, ends_at_end}
@@ -141,8 +142,8 @@ module _ (limits : Limits) (states : ℕ → State) (last : ℕ) (known : Known 
       let found = subst (λ (s : State). (operation_of s actor ≡ None) ⊎ (operation_of s actor ≡ Some (begun_operation (states t) call))) (sym e)
       (begin_own (states t) actor call (begun_operation (states t) call)) in
       idle_turn actor (leaves_words states last known.closing t (known.stays t h (step.Begin actor call) o m tt) kept)
-      (ap stage_of_actor (begins_idle (states t) actor call d)) (begun_stage call _ found)
-      (λ j apart. ap (λ (s : State). operation_of s j) e ∙ begin_others (states t) actor call (begun_operation (states t) call) (begins_counted (states t) actor call d) j apart)
+      (ap stage_of_actor (idle_before (states t) actor call d)) (begun_stage call _ found)
+      (λ j apart. ap (λ (s : State). operation_of s j) e ∙ begin_others (states t) actor call (begun_operation (states t) call) (begin_counts (states t) actor call d) j apart)
   turn_by (IsGo actor operation o m is g e) =
       go_turn actor operation is e (line_turn limits states last known t h actor operation operation.line g (record {
         facts = line_facts limits states last known t h actor operation o m is e;

@@ -1,5 +1,5 @@
 -- The step of a run at a time, by what it is, and what it does to the steps of commits and to actors.
-use Rattle.std.proofs.Common.{◌≡◌, ℕ, zero, suc, ◌-◌, ◌<◌, ◌⊎◌, Bool, true, false, cond, ◌==◌, List, [], ◌∷◌, ◌++◌, set, get_or, Option, Some, None, option_map, find, inl, inr, refl, sym, ◌∙◌, ap, subst, ne_eqb, arith}
+use Rattle.std.proofs.Common.{◌≡◌, ℕ, zero, suc, ◌-◌, ◌<◌, ◌⊎◌, Bool, true, false, cond, ◌==◌, List, ◌∷◌, ◌++◌, set, get_or, Option, Some, None, option_map, find, inl, inr, refl, sym, ◌∙◌, ap, subst, ne_eqb, arith, []}
 use Rattle.std.proofs.Math.ListN.{get_or-map}
 use Rattle.std.specs.Option.{option_or}
 use Rattle.std.proofs.lemmas.Bool.{eq-eqb, true≢false}
@@ -24,7 +24,6 @@ use Rattle.machine_model.specs.Counting.{settled}
 use Rattle.machine_model.specs.Machine.{begin_denial, with_begin, swept}
 use Rattle.machine_model.proofs.Moves.{Moves, Begins, Goes, Ends, Sweeps, GoesOn, begun_operation}
 use Rattle.machine_model.proofs.Times.{Turn, turns}
-use Rattle.std.specs.Prelude.{is_some}
 use Rattle.machine_model.proofs.Found.{found_elsewhere, found_here, found_within}
 use Rattle.machine_model.proofs.Frames.{acted_framed}
 use Rattle.machine_model.proofs.Actors.{after_marks, marks_by, gone_actors, begin_actors}
@@ -199,17 +198,3 @@ begin_own before (suc k) call operation =
 pub actor_counts : (before : State) (actor : ℕ) (operation : Operation) → operation_of before actor ≡ Some operation → 0 < actor
 actor_counts before zero operation found = absurd (none-some operation found)
 actor_counts before (suc k) operation found = omega arith
-
--- who begins isn't actor 0, and runs nothing
-pub begins_counted : (before : State) (actor : ℕ) (call : Call) → begin_denial before actor call ≡ None → 0 < actor
-begins_counted before actor call d = grind arith
-
-not_some : (x : Option Operation) → is_some x ≡ false → x ≡ None
-not_some None e = refl
-not_some (Some y) e = absurd (true≢false e)
-
-pub begins_idle : (before : State) (actor : ℕ) (call : Call) → begin_denial before actor call ≡ None → operation_of before actor ≡ None
-begins_idle before actor call d = not_some (operation_of before actor) (not_running before actor call d)
-  where
-    not_running : (before : State) (actor : ℕ) (call : Call) → begin_denial before actor call ≡ None → is_some (operation_of before actor) ≡ false
-    not_running before actor call d = grind arith

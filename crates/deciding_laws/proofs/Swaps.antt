@@ -11,7 +11,7 @@ use Rattle.deciding_laws.proofs.Stood.{none≢pending}
 use Rattle.deciding_laws.proofs.Effects.{Effect, GoesOn, StaysPending, GetsCommitted, GetsFailed, goes_on, failed_later}
 use Rattle.deciding_laws.proofs.Owners.{HasFresh, Owner, IsSound}
 use Rattle.deciding_laws.proofs.Sounds.{sound_at}
-use Rattle.deciding_laws.proofs.Finals.{from_time, effect, committed_stays, link_stays}
+use Rattle.deciding_laws.proofs.Finals.{from_time, effect, link_stays}
 use Rattle.deciding_laws.proofs.Mains.{MainStep, MainStays, MainChanges, main_step}
 
 -- the actor's fresh node was committed over the replaced one, at a step at which the actor was deciding it
@@ -122,15 +122,6 @@ succeeded p t h k i a f stage n = by_outcome (subst (λ s. ComesOut p.words t k 
     by_outcome (IsPending e) = absurd (none≢pending n e)
     by_outcome (IsFailed e) = let wrong : over.None ≡ over.Failed a = sym n ∙ e in cc
     by_outcome (IsCommitted c) = c
-
--- and one that is seen to fail has failed
-pub failed : (p : Protocol) (t : ℕ) → t ≤ p.last → (k : ℕ) (i a f : Ref) → p.words.stage t k ≡ Checks i a f → (p.words.prev t f ≡ over.None → ⊥) → p.words.prev t f ≡ over.Failed a
-failed p t h k i a f stage other = by_outcome (subst (λ s. ComesOut p.words t k s) stage (comes_out_at p t h k))
-  where
-    by_outcome : Outcome p.words t k i a f → p.words.prev t f ≡ over.Failed a
-    by_outcome (IsPending e) = absurd (checked p.words t k (sound_at p t h) i a f stage a e)
-    by_outcome (IsFailed e) = e
-    by_outcome (IsCommitted c) = absurd (other (committed_stays p f a c.at t c.past h c.commits))
 
 -- ---- what a SWAP replaces is a branch or a list
 

@@ -1,5 +1,5 @@
 -- CLEAN leaves the main nodes of all other indirections.
-use Rattle.std.proofs.Common.{◌≡◌, ℕ, ◌+◌, ◌*◌, ◌≤◌, ◌⊎◌, inl, inr, true, List, [], length, Option, arith}
+use Rattle.std.proofs.Common.{◌≡◌, ℕ, ◌+◌, ◌*◌, ◌⊎◌, inl, inr, true, List, [], length, Option, arith}
 use Rattle.std.proofs.Math.Nat.{mul-le-mul_right}
 use Rattle.slot_arena.specs.declared.refs.Ref.{Ref}
 use Rattle.slot_arena.specs.Heaps.{entries_of}

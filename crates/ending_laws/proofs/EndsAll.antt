@@ -13,7 +13,6 @@ use Rattle.lone_steps.proofs.Fine.{fine, fine_at_most, fine_weighing}
 use Rattle.lone_steps.proofs.Readers.{readers_end}
 use Rattle.lone_steps.proofs.RootsMachines.{machines}
 use Rattle.lone_steps.proofs.Stepping.{stepping}
-use Rattle.ending_laws.specs.Inherited.{fine_most}
 use Rattle.ending_laws.proofs.Whole.{fine_ends, fine_most_is}
 
 -- an operation on one key, on a writable handle

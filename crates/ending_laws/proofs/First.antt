@@ -1,5 +1,5 @@
 -- The pass that was under way when its actor was left alone: until its first RENEW that is swapped in nothing is known of its root; from there on its root is the handle's.
-use Rattle.std.proofs.Common.{◌≡◌, ℕ, zero, suc, ◌+◌, ◌-◌, ◌*◌, ◌<◌, ◌≤◌, ◌⊎◌, ◌==◌, Bool, true, false, inl, inr, List, [], ◌∷◌, ◌++◌, length, Some, refl, sym, subst, ltb-true, eqb-true, arith}
+use Rattle.std.proofs.Common.{◌≡◌, ℕ, zero, suc, ◌+◌, ◌-◌, ◌*◌, ◌≤◌, ◌⊎◌, ◌==◌, Bool, true, false, inl, inr, List, [], ◌∷◌, ◌++◌, length, Some, refl, sym, subst, ltb-true, eqb-true, arith}
 use Rattle.std.proofs.Math.Nat.{mul-le-mul_right, suc-mul}
 use Rattle.std.proofs.lemmas.List.{length-append}
 use Rattle.history.specs.declared.calls.Access.TheVariants.{Writable}
@@ -12,7 +12,7 @@ use Rattle.machine_model.specs.Reading.{reading}
 use Rattle.memory_laws.proofs.Claims.{fact_of}
 use Rattle.lone_steps.specs.Alone.{IsCurrent, IsWeight, Lone, Stands, Within}
 use Rattle.lone_steps.specs.Bounds.{bottom_most, fresh_most, level_most, stale_bottom_most, tombs_most}
-use Rattle.lone_steps.specs.Keys.{BottomEnds, IsEnd, IsOf, Leads, RenewsFrom}
+use Rattle.lone_steps.specs.Keys.{BottomEnds, IsEnd, IsOf, RenewsFrom}
 use Rattle.lone_steps.specs.Machines.{IsRead, Machines}
 use Rattle.lone_steps.specs.Stale.{Tries}
 use Rattle.lone_steps.specs.Stepping.{Stepping}

@@ -1,5 +1,5 @@
 -- A fresh pass renews nothing where no level is older.
-use Rattle.std.proofs.Common.{◌≡◌, ℕ, zero, suc, ◌+◌, ◌-◌, ◌*◌, ◌≤◌, ◌⊎◌, inl, inr, List, [], ◌∷◌, ◌++◌, length, Some, refl, sym, ap, subst, ◌∙◌, arith}
+use Rattle.std.proofs.Common.{◌≡◌, ℕ, zero, suc, ◌+◌, ◌-◌, ◌*◌, ◌≤◌, ◌⊎◌, inl, inr, List, [], ◌∷◌, ◌++◌, length, Some, sym, ap, subst, ◌∙◌, arith}
 use Rattle.std.proofs.Math.Nat.{mul-le-mul_right, suc-mul}
 use Rattle.std.proofs.lemmas.List.{length-append}
 use Rattle.history.specs.declared.calls.Access.TheVariants.{Writable}
@@ -19,8 +19,9 @@ use Rattle.lone_steps.proofs.Fresh.{root_link}
 use Rattle.lone_steps.proofs.PassesAlong.{down_along, key_begins}
 use Rattle.lone_steps.proofs.PassesChains.{Leading, chain_later, chain_longer, chain_root, current_later, leads_or_ends}
 use Rattle.lone_steps.proofs.PassesDown.{AtMain, FewEntries, ends_here, read_main}
-use Rattle.lone_steps.proofs.PassesLines.{down_reads, stands_as}
+use Rattle.lone_steps.proofs.PassesLines.{down_reads}
 use Rattle.lone_steps.proofs.Withins.{bind, here, keeps_on, weaken}
+use Rattle.lone_steps.proofs.StandsAt.{stands_as}
 use Rattle.ending_laws.specs.Inherited.{NoneOlder, PassKnown, known_most}
 
 -- as long as main nodes stay none is

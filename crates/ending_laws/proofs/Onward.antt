@@ -1,18 +1,17 @@
 -- Once the operation's root is the handle's, the pass that was under way goes on: each level is renewed in it or in the fresh pass after it.
-use Rattle.std.proofs.Common.{◌≡◌, ℕ, zero, suc, ◌+◌, ◌-◌, ◌*◌, ◌<◌, ◌≤◌, ◌⊎◌, ◌==◌, Bool, true, false, inl, inr, List, [], ◌∷◌, ◌++◌, length, get_or, Some, refl, sym, ap, subst, ◌∙◌, eqb-true, arith}
+use Rattle.std.proofs.Common.{◌≡◌, ℕ, zero, suc, ◌+◌, ◌-◌, ◌*◌, ◌≤◌, ◌⊎◌, ◌==◌, Bool, true, false, inl, inr, List, [], ◌∷◌, ◌++◌, length, Some, refl, sym, ap, subst, ◌∙◌, eqb-true, arith}
 use Rattle.std.proofs.Math.Nat.{mul-le-mul_right, suc-mul}
 use Rattle.std.proofs.lemmas.List.{length-append}
 use Rattle.history.specs.declared.calls.Access.TheVariants.{Writable}
 use Rattle.slot_arena.specs.declared.refs.Ref.{Ref}
 use Rattle.slot_arena.specs.declared.nodes.Node.TheVariants.{Tomb}
-use Rattle.slot_arena.specs.Heaps.{no_ref}
 use Rattle.machine_model.specs.declared.finding.KeyLine.TheVariants as key
 use Rattle.machine_model.specs.declared.lines.Line.TheVariants as line
 use Rattle.machine_model.specs.declared.roots.RootWord.TheVariants.{Plain}
 use Rattle.machine_model.specs.Paths.{current, depth_of}
 use Rattle.machine_model.specs.Lines.{new_try}
 use Rattle.machine_model.specs.Reading.{reading}
-use Rattle.lone_steps.specs.Alone.{Has, IsCurrent, IsPlain, IsWeight, KeepsBut, Lone, Stands, Within, WordStays, generation, node}
+use Rattle.lone_steps.specs.Alone.{Has, IsCurrent, IsWeight, Lone, Stands, Within, generation, node}
 use Rattle.lone_steps.specs.Bounds.{bottom_most, fresh_most, level_most, tombs_most}
 use Rattle.lone_steps.specs.Keys.{BottomEnds, IsEnd, IsNoTomb, IsOf, Leads, RenewsFrom}
 use Rattle.lone_steps.specs.Machines.{IsRead, Machines}
@@ -23,11 +22,11 @@ use Rattle.lone_steps.proofs.PassesAlong.{down_along}
 use Rattle.lone_steps.proofs.PassesChains.{AtEnd, Leading, current_later, leads_or_ends, way_apart}
 use Rattle.lone_steps.proofs.PassesDown.{FewEntries}
 use Rattle.lone_steps.proofs.PassesLines.{down_reads, key_gives, key_holds_read, key_read}
-use Rattle.lone_steps.proofs.Withins.{bind, keeps_but, weaken}
-use Rattle.ending_laws.specs.Inherited.{IsLinked, PassKnown, known_most}
+use Rattle.lone_steps.proofs.Withins.{bind, weaken}
+use Rattle.ending_laws.specs.Inherited.{PassKnown, known_most}
 use Rattle.ending_laws.proofs.Linking.{Linked, linked_all, linked_kept, linked_longer}
 use Rattle.ending_laws.proofs.Renewal.{IsRenewed, IsTried, renews_level}
-use Rattle.ending_laws.proofs.Tombs.{tomb_first, tomb_known}
+use Rattle.ending_laws.proofs.Tombs.{tomb_known}
 
 module _ (a : Lone) (weight : ℕ → ℕ) (c : ℕ) (heavy : IsWeight a weight) (steps : Stepping a) (machines : Machines a weight c) (writes : a.own.access ≡ Writable) (few : FewEntries a) (renewing : RenewsFrom a weight c) (bottom : BottomEnds a weight c)
     (known : PassKnown a weight c) (tombs : (to : List Ref) (r m : Ref) (u h : ℕ) → length to ≤ 13 + 1 → AtEnd a r h to m u → Within a weight (λ v. ⊥) (tombs_most c 13) u)

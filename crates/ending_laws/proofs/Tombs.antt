@@ -1,5 +1,5 @@
 -- Where the path of the pass that was under way ends in a tomb: CLEAN, and a fresh pass that renews nothing above.
-use Rattle.std.proofs.Common.{◌≡◌, ℕ, suc, ◌+◌, ◌-◌, ◌*◌, ◌<◌, ◌≤◌, List, length, get_or, Some, refl, sym, subst, ◌∙◌, arith}
+use Rattle.std.proofs.Common.{◌≡◌, ℕ, suc, ◌+◌, ◌*◌, ◌≤◌, List, length, get_or, Some, refl, ◌∙◌, arith}
 use Rattle.history.specs.declared.calls.Access.TheVariants.{Writable}
 use Rattle.slot_arena.specs.declared.refs.Ref.{Ref}
 use Rattle.slot_arena.specs.declared.nodes.Node.TheVariants.{Tomb}

@@ -18,7 +18,7 @@ use Rattle.machine_model.specs.Swapping.{swapping}
 use Rattle.line_laws.proofs.Placed.{is_below, is_down}
 use Rattle.line_laws.proofs.Places.{settled_at}
 use Rattle.lone_steps.specs.Alone.{IsWeight, Lone, Stands, Within}
-use Rattle.lone_steps.specs.Bounds.{cleaning_most, fresh_most, rooted_most, stale_bottom_most, tombs_most}
+use Rattle.lone_steps.specs.Bounds.{cleaning_most, fresh_most, rooted_most, stale_bottom_most}
 use Rattle.lone_steps.specs.Keys.{BottomEnds, IsEnd, IsOnKey, PassEnds, RenewsFrom}
 use Rattle.lone_steps.specs.Machines.{IsRooted, IsSwapped, Machines, WasSwapped}
 use Rattle.lone_steps.specs.Stale.{Tries}
@@ -34,12 +34,12 @@ use Rattle.lone_steps.proofs.PassesAlong.{pass_along}
 use Rattle.lone_steps.proofs.PassesDown.{FewEntries, goes_down_a_level}
 use Rattle.lone_steps.proofs.PassesEnd.{pass_ends}
 use Rattle.lone_steps.proofs.Renews.{renews_from}
-use Rattle.lone_steps.proofs.RenewsNodes.{few_entries, never}
-use Rattle.lone_steps.proofs.StandsAt.{begins}
+use Rattle.lone_steps.proofs.RenewsNodes.{few_entries}
+use Rattle.lone_steps.proofs.StandsAt.{begins, never}
 use Rattle.lone_steps.proofs.StaleKinds.{key_lines}
 use Rattle.lone_steps.proofs.StalePass.{AtBottom, end_tries}
 use Rattle.lone_steps.proofs.Withins.{bind, ended, here, weaken}
-use Rattle.ending_laws.specs.Inherited.{FineEnds, FineFits, PassKnown, fine_most, first_most}
+use Rattle.ending_laws.specs.Inherited.{FineEnds, PassKnown, fine_most, first_most}
 use Rattle.ending_laws.proofs.First.{inherited_main, inherited_read}
 use Rattle.ending_laws.proofs.Knowing.{pass_known}
 use Rattle.ending_laws.proofs.Lines.{key_line_ends, renew_ends, renew_swap_ends}
@@ -145,7 +145,7 @@ module _ (a : Lone) (weight : ℕ → ℕ) (c : ℕ) (heavy : IsWeight a weight)
   from_line (line.Copy l) t g down knows s = absurd (false≢true down)
   from_line (line.Walk l) t g down knows s = absurd (false≢true down)
   from_line (line.End answer) t g down knows s = weaken a weight Never 1 (fine_most c) t (omega arith) (ended a weight steps Never t g answer s)
-  from_line line.Impossible t g down knows s = absurd (never a steps t g s)
+  from_line line.Impossible t g down knows s = absurd (never a t g s)
 
   -- ---- from its start
 
@@ -159,6 +159,3 @@ module _ (a : Lone) (weight : ℕ → ℕ) (c : ℕ) (heavy : IsWeight a weight)
 pub fine_most_is : fine_most 2 ≡ 3640
 unfolding cleaning_most
 fine_most_is = refl
-
-pub fine_fits : FineFits
-fine_fits = omega (arith, fine_most_is)

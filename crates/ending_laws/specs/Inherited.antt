@@ -25,10 +25,6 @@ first_most c = 34 * (c + 2) + 60 + once_most c
 abbrev pub fine_most : ℕ → ℕ
 fine_most c = 32 * (c + 2) + 22 + (14 * (c + 2) + first_most c)
 
--- With a READ at 2 that is below 4,096 by more than the weight of all actors at the start.
-abbrev pub FineFits : Type 0
-FineFits = fine_most 2 + 330 ≤ 4096
-
 module _ (a : Lone) where
   -- ---- no level is older
 

@@ -1,11 +1,9 @@
 -- At each time of a run generations fall below what stood in a word, each operation knows of its line what it has to, and fresh roots are alone with their generation.
-use Rattle.std.proofs.Common.{◌≡◌, ℕ, zero, suc, ◌<◌, ◌≤◌, Bool, true, false, [], Option, Some, None, is_some, inl, inr, get_or, refl, sym, ap, ◌∙◌, subst, arith}
+use Rattle.std.proofs.Common.{◌≡◌, ℕ, zero, suc, ◌<◌, ◌≤◌, Bool, true, false, Option, Some, None, is_some, inl, inr, get_or, refl, sym, ap, ◌∙◌, subst, arith, []}
 use Rattle.std.specs.List.{All}
 use Rattle.std.proofs.lemmas.Bool.{true≢false}
 use Rattle.std.proofs.lemmas.Option.{none-some}
 use Rattle.std.proofs.lemmas.List.Elements.{All-nil}
-use Rattle.history.specs.declared.calls.Call.{Call}
-use Rattle.history.specs.declared.calls.Call.TheVariants.{Entries, Count, Close}
 use Rattle.history.specs.declared.calls.Access.{Access}
 use Rattle.history.specs.declared.calls.Access.TheVariants.{Writable, ReadOnly}
 use Rattle.slot_arena.specs.Heaps.{next_ref}
@@ -29,7 +27,6 @@ use Rattle.machine_model.specs.declared.steps.Limits.{Limits}
 use Rattle.machine_model.specs.declared.steps.Outcome.{Outcome}
 use Rattle.machine_model.specs.declared.steps.Step.{Step}
 use Rattle.machine_model.specs.States.{State, first_state, first_heap, empty_heap}
-use Rattle.machine_model.specs.Operations.{first_line}
 use Rattle.machine_model.specs.Acting.{operation_after}
 use Rattle.machine_model.proofs.Actors.{mark_only, marks_in}
 use Rattle.machine_model.proofs.Found.{none_found}
@@ -45,6 +42,7 @@ use Rattle.generation_laws.proofs.Marks.{unmarked_before}
 use Rattle.generation_laws.proofs.RootsAlong.{ordered_at}
 use Rattle.generation_laws.proofs.RootsKept.{fresh_in, fresh_from, FreshFrom, had, new}
 use Rattle.generation_laws.proofs.Running.{Runs, Comes, began, rested, went, comes, one_at}
+use Rattle.generation_laws.proofs.Roots.{first_none}
 use Rattle.falling_laws.proofs.KnownRoots.{words, protocol_of}
 use Rattle.falling_laws.proofs.Nodes.{made_same}
 use Rattle.falling_laws.proofs.RunFalls.{gen_of, NotNewer, FitsBelow, MainsFall, AllKnow, FreshFall, FreshFalls}
@@ -103,12 +101,6 @@ module _ (limits : Limits) (states : ℕ → State) (last : ℕ) (run : IsRun li
 
   -- ---- by a step
 
-  no_first : (call : Call) (x : Bool) (r : Ref) → fresh_in x (first_line call) ≡ Some r → ⊥
-  no_first (Entries h) x r e = none-some r e
-  no_first (Count h) x r e = none-some r e
-  no_first (Close h) x r e = none-some r e
-  no_first call x r e = none-some r e
-
   fresh_inner : (l : Line) (x : Bool) (r : Ref) → fresh_in x l ≡ Some r → IsInner l
   fresh_inner (line.Copy l) x r e = tt
   fresh_inner l x r e = absurd (none-some r e)
@@ -144,7 +136,7 @@ module _ (limits : Limits) (states : ℕ → State) (last : ℕ) (run : IsRun li
     went_falls k was found x r runs g go unmarked same (new main makes_it takes side) = root_falls k was x r main runs g go makes_it takes was.access refl found same
 
     fresh_by : (k : ℕ) (found : Operation) (x : Bool) (r : Ref) → Comes (states t) s k found → found.is_marked ≡ false → fresh_in x found.line ≡ Some r → FreshFalls states last (suc t) found r
-    fresh_by k found x r (began call is d it) unmarked e = absurd (no_first call x r (ap (λ (y : Operation). fresh_in x y.line) (sym it) ∙ e))
+    fresh_by k found x r (began call is d it) unmarked e = absurd (first_none call x r (ap (λ (y : Operation). fresh_in x y.line) (sym it) ∙ e))
     fresh_by k found x r (rested was runs it) unmarked e =
         let same = it ∙ mark_only (marks_in (states t) s) was in
         let open_then = unmarked_before (marks_in (states t) s) was (ap (λ (y : Operation). y.is_marked) (sym it) ∙ unmarked) in

@@ -1,32 +1,15 @@
 -- What a step brings into a word: the main node of an indirection that it makes, or what an operation swaps in there.
 use Rattle.std.proofs.Common.{◌≡◌, ℕ, suc, ◌<◌, ◌⊎◌, true, false, inl, inr, refl, sym, ap, ◌∙◌, subst, arith}
 use Rattle.slot_arena.specs.declared.refs.Ref.{Ref}
-use Rattle.machine_model.specs.declared.reading.After.{After}
-use Rattle.machine_model.specs.declared.reading.ReadLine.{ReadLine}
-use Rattle.deciding_laws.proofs.Words.{Words, Leaves, Stage, Publishes, ReadTurn, ReadsMain, FindsDecided, FindsFailed, FindsPending, DecidesAtOnce, Asks, FindsOffer, Aborts, Commits, Fails, Overtaken, Restores, FindsAnother, Moves, Idles, MakesNode, SwapsNode, ReadsOn, DecidesOn, Turn, Acts, Passes, Protocol}
-use Rattle.deciding_laws.proofs.Stood.{Stood, AreSound}
+use Rattle.deciding_laws.proofs.Words.{Words, Leaves, Stage, Publishes, Moves, Idles, MakesNode, SwapsNode, ReadsOn, DecidesOn, Turn, Acts, Passes, Protocol}
+use Rattle.deciding_laws.proofs.Stood.{Stood}
 use Rattle.deciding_laws.proofs.Effects.{Nothing, Brings, comes}
-use Rattle.deciding_laws.proofs.Owners.{OnLine, Staged, IsSound, read_effect, effect_of}
+use Rattle.deciding_laws.proofs.Owners.{Staged, IsSound, effect_of, read_brings}
 use Rattle.deciding_laws.proofs.Sounds.{sound_at}
 
 pub data Brought (w : Words) (t : ℕ) (i m : Ref) : Type 0 where
   makes : w.link t i ≡ false → w.link (suc t) i ≡ true → w.main (suc t) i ≡ m → Brought w t i m
   swaps : (k : ℕ) (a : Ref) → w.stage t k ≡ Publishes i a m → Brought w t i m
-
-read_brings : (w : Words) (t : ℕ) (h : AreSound w t) (i : Ref) (l : ReadLine) (out : After ReadLine Ref) (s : OnLine w t i l) (r : ReadTurn w t i l out) (q f : Ref) → Brings w t (read_effect w t h i l out s r) q f → ⊥
-read_brings w t h i l out s (ReadsMain e k) q f b = b
-read_brings w t h i l out s (FindsDecided e n) q f b = b
-read_brings w t h i l out s (FindsFailed e n) q f b = b
-read_brings w t h i l out s (FindsPending e n) q f b = b
-read_brings w t h i l out s (DecidesAtOnce e n) q f b = b
-read_brings w t h i l out s (Asks g e c) q f b = b
-read_brings w t h i l out s (FindsOffer offer e) q f b = b
-read_brings w t h i l out s (Aborts e) q f b = b
-read_brings w t h i l out s (Commits licence e) q f b = b
-read_brings w t h i l out s (Fails e) q f b = b
-read_brings w t h i l out s (Overtaken next e n which) q f b = b
-read_brings w t h i l out s (Restores e) q f b = b
-read_brings w t h i l out s (FindsAnother e) q f b = b
 
 brought_by : (w : Words) (t k : ℕ) (h : IsSound w t) (s after : Stage) → w.stage t k ≡ s → (st : Staged w t k s) (m : Moves w t k s after) (i x : Ref) → Brings w t (effect_of w t k h s after st m) i x → Brought w t i x
 brought_by w t k h s after is st (Idles e f r) i x b = absurd b

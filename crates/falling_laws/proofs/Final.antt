@@ -1,12 +1,9 @@
 -- What an operation reads through a read-only handle, or below its path of another generation, was closed before the READ; so what the READ gives counts for ever.
-use Rattle.std.proofs.Common.{◌≡◌, ℕ, suc, ◌<◌, ◌≤◌, true, Option, Some, None, is_some, inl, inr, refl, sym, ap, ◌∙◌, subst, arith}
-use Rattle.std.proofs.lemmas.Bool.{true≢false}
+use Rattle.std.proofs.Common.{◌≡◌, ℕ, suc, ◌<◌, ◌≤◌, true, Some, inl, inr, refl, sym, ap, ◌∙◌, subst, arith}
 use Rattle.std.proofs.lemmas.Option.{none-some, same_Some}
 use Rattle.history.specs.declared.calls.Access.{Access}
 use Rattle.history.specs.declared.calls.Access.TheVariants.{Writable, ReadOnly}
 use Rattle.slot_arena.specs.declared.refs.Ref.{Ref}
-use Rattle.slot_arena.specs.declared.nodes.Slot.{Slot}
-use Rattle.slot_arena.specs.Heaps.{node_of}
 use Rattle.machine_model.specs.declared.finding.KeyLine.{KeyLine}
 use Rattle.machine_model.specs.declared.finding.KeyLine.TheVariants as key
 use Rattle.machine_model.specs.declared.lines.Line.{Line}
@@ -36,16 +33,16 @@ use Rattle.deciding_laws.proofs.SwapLines.{reads_stage}
 use Rattle.deciding_laws.proofs.Words.{Reads}
 use Rattle.content_laws.proofs.Runs.{main_at-made}
 use Rattle.content_laws.specs.Runs.{main_at}
-use Rattle.falling_laws.specs.Falling.{ClosedBeforeRead, ReadsClosed, IsLate, GivesAt, GivenOnce, GivenForEver, RepairsAreGiven}
+use Rattle.falling_laws.specs.Falling.{ClosedBeforeRead, ReadsClosed, IsLate, GivesAt, GivenForEver, RepairsAreGiven}
 use Rattle.falling_laws.proofs.KnownRoots.{words, known, protocol_of}
 use Rattle.falling_laws.proofs.Opened.{closed_until}
 use Rattle.falling_laws.proofs.Knows.{Knows, IsInner, KnowsRenew, KnowsClean}
 use Rattle.falling_laws.proofs.ReaderFalls.{KnowsReader, ReaderKey, ReaderWalk}
 use Rattle.falling_laws.proofs.ReadsGive.{gone_is, gives_so, reads_on, late_after}
 use Rattle.falling_laws.proofs.RunFalls.{gen_of, IsOwn, FitsBelow, FallsBelow, LateBelow, Ends, Shut, LateEnd, KnowsGenerations}
-use Rattle.falling_laws.proofs.Paths.{knows_at}
+use Rattle.falling_laws.proofs.OwnSwaps.{knows_at}
 use Rattle.content_laws.specs.Repairing.{ReadsBelow}
-use Rattle.memory_laws.specs.Wants.{is_indirection}
+use Rattle.deciding_laws.proofs.GrownWords.{link_made}
 
 -- ---- what lines say of their READs
 
@@ -118,10 +115,6 @@ below_inner (line.Walk l) b = absurd b
 below_inner (line.End answer) b = absurd b
 below_inner line.Impossible b = absurd b
 
-made_link : (o : Option Slot) → is_indirection (node_of o) ≡ true → is_some o ≡ true
-made_link None e = absurd (true≢false (sym e))
-made_link (Some slot) e = refl
-
 module _ (limits : Limits) (states : ℕ → State) (last : ℕ) (run : IsRun limits states last) where
   -- ---- closed before
 
@@ -141,7 +134,7 @@ module _ (limits : Limits) (states : ℕ → State) (last : ℕ) (run : IsRun li
 
   -- the main node that counts in the words is that of the trie
   counts_in_trie : (t : ℕ) → t ≤ last → (i m : Ref) → (words states last).link t i ≡ true → main_before states t i ≡ m → main_at states last t i ≡ m
-  counts_in_trie t within i m link is = main_at-made states last t i (made_link (grown states t i) link) ∙ is
+  counts_in_trie t within i m link is = main_at-made states last t i (link_made (grown states t i) link) ∙ is
 
   module _ (t : ℕ) (lt : t < last) (actor : ℕ) (operation : Operation) (i m : Ref) (g : GivesAt states t actor operation i m) where
     own_stage : stage_of operation.line ≡ Reads g.read.indirection g.read.line
@@ -174,9 +167,6 @@ module _ (limits : Limits) (states : ℕ → State) (last : ℕ) (run : IsRun li
       moment.past,
       counts_in_trie (suc (moment_after (states t) operation)) (omega (arith, moment.past)) i m (link_from (suc (moment_after (states t) operation)) (omega arith) (omega (arith, moment.past))) moment.is,
     )
-
-  pub given_once : GivenOnce states last
-  given_once t lt actor operation i m g = once t lt actor operation i m g
 
   pub given_for_ever : GivenForEver states last
   given_for_ever t lt actor operation i m g closed u after within = final t lt actor operation i m g closed u after within

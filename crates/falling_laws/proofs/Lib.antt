@@ -23,7 +23,7 @@ pub mod FreshRoots
 pub mod Along
 pub mod NoRef
 pub mod Generations
-pub mod Paths
+pub mod OwnSwaps
 pub mod Final
 pub mod OfLists
 pub mod ReadsOfLists

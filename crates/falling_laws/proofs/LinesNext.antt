@@ -1,5 +1,5 @@
 -- After a step each running operation knows of its line what it has to.
-use Rattle.std.proofs.Common.{◌≡◌, ℕ, suc, ◌<◌, Bool, List, [], ◌∷◌, ◌++◌, Some, refl, sym, ap, ◌∙◌, subst, arith}
+use Rattle.std.proofs.Common.{◌≡◌, ℕ, suc, ◌<◌, List, ◌∷◌, ◌++◌, Some, refl, sym, ap, ◌∙◌, subst, arith, []}
 use Rattle.history.specs.declared.calls.Access.TheVariants.{Writable}
 use Rattle.history.specs.declared.calls.Call.{Call}
 use Rattle.history.specs.declared.calls.Call.TheVariants.{Entries, Count, Close}
@@ -13,11 +13,8 @@ use Rattle.machine_model.specs.declared.operations.Operation.{Operation}
 use Rattle.machine_model.specs.declared.reading.After.{After}
 use Rattle.machine_model.specs.declared.reading.After.TheVariants.{Goes as Continues, Gives}
 use Rattle.machine_model.specs.declared.reading.Read.{Read}
-use Rattle.machine_model.specs.declared.roots.Complete.{Complete}
 use Rattle.machine_model.specs.declared.roots.RootLine.{RootLine}
-use Rattle.machine_model.specs.declared.roots.RootLine.TheVariants as root
-use Rattle.machine_model.specs.declared.roots.RootWord.{RootWord}
-use Rattle.machine_model.specs.declared.roots.RootWord.TheVariants.{Plain, Offer}
+use Rattle.machine_model.specs.declared.roots.RootWord.TheVariants.{Plain}
 use Rattle.machine_model.specs.declared.steps.Limits.{Limits}
 use Rattle.machine_model.specs.declared.steps.Outcome.{Outcome}
 use Rattle.machine_model.specs.declared.steps.Step.{Step}
@@ -27,7 +24,7 @@ use Rattle.machine_model.specs.declared.walking.WalkLine.TheVariants as walk
 use Rattle.machine_model.specs.Calls.{handle_of}
 use Rattle.machine_model.specs.States.{State, root_of, word_of, word_at}
 use Rattle.machine_model.specs.Reading.{read_step}
-use Rattle.machine_model.specs.Swapping.{root_after, after_root_word, after_completing, complete_after}
+use Rattle.machine_model.specs.Swapping.{root_after}
 use Rattle.machine_model.specs.Walking.{walk_after, walk_after_read, walk_next, walk_after_entry, first_of, rest_of}
 use Rattle.machine_model.specs.Operations.{action_of, line_after, first_line, after_root, given_root, generation_from}
 use Rattle.machine_model.specs.Acting.{operation_after}
@@ -40,6 +37,7 @@ use Rattle.memory_laws.proofs.Claims.{safe_of}
 use Rattle.generation_laws.proofs.OpenRoots.{no_close_at}
 use Rattle.generation_laws.proofs.RootsAlong.{ordered_at}
 use Rattle.generation_laws.proofs.Running.{Runs, Comes, began, rested, went, comes}
+use Rattle.generation_laws.proofs.Rooted.{root_given}
 use Rattle.falling_laws.proofs.Nodes.{used_generation}
 use Rattle.falling_laws.proofs.Knows.{Knows, IsInner}
 use Rattle.falling_laws.proofs.ClimbFalls.{root_falls}
@@ -85,20 +83,6 @@ first_reader Ends Shut Late call = tt
 
 -- ---- ROOT
 
--- what ROOT gives is the plain root of the word
-given_plain : (state : State) (operation : Operation) (l : RootLine) (r : Ref) → root_after state.heap operation.access (word_at state (handle_of operation.call)) l ≡ Gives r →
-    word_at state (handle_of operation.call) ≡ Plain r
-given_plain state operation root.Read r e = by (word_at state (handle_of operation.call)) e
-  where
-    by : (word : RootWord) → after_root_word word ≡ Gives r → word ≡ Plain r
-    by (Plain q) e = let same : q ≡ r = cc e in ap Plain same
-    by (Offer offer) e = let wrong : ⊥ = cc e in absurd wrong
-given_plain state operation (root.Completing c) r e = absurd (by (complete_after state.heap operation.access (word_at state (handle_of operation.call)) c) e)
-  where
-    by : (a : After Complete Bool) → after_completing a ≡ Gives r → ⊥
-    by (Continues next) e = cc e
-    by (Gives done) e = cc e
-
 module _ (limits : Limits) (states : ℕ → State) (last : ℕ) (run : IsRun limits states last) (t : ℕ) (lt : t < last) (know : AllKnow states last t) (mains : MainsFall states last (suc t)) where
   module _ (k : ℕ) (operation : Operation) (runs : Runs (states t) k operation) (o : Outcome) (moves : Moves (states t) (step.Go (suc k)) o (states (suc t))) (goes : GoesOn (action_of (states t) operation)) where
     abbrev now : Operation
@@ -121,7 +105,7 @@ module _ (limits : Limits) (states : ℕ → State) (last : ℕ) (run : IsRun li
     root_knows l (Continues next) e i = absurd i
     root_knows l (Gives r) e i =
         let g = generation_at (states t).heap r in
-        let own : IsOwn states last g r = used_generation limits states last run t (omega arith) r (root_found r (given_plain (states t) operation l r e)) in (
+        let own : IsOwn states last g r = used_generation limits states last run t (omega arith) r (root_found r (root_given (states t) operation l r e)) in (
           g,
           refl,
           root_falls (states t) operation (IsOwn states last g) (FitsBelow states last (suc t) g) (FallsBelow states last (suc t) g) (LateBelow states last (suc t) now g) (Gives r)

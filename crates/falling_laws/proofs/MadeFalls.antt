@@ -1,5 +1,5 @@
 -- What is known of generations in the node that a line makes.
-use Rattle.std.proofs.Common.{◌≡◌, ℕ, ◌⊎◌, true, ◌∷◌, set, Some, refl, sym, ap, ◌∙◌, subst, inl, inr, [], ◌&&◌, arith}
+use Rattle.std.proofs.Common.{◌≡◌, ℕ, ◌⊎◌, true, ◌∷◌, set, Some, refl, sym, ap, ◌∙◌, subst, inl, inr, ◌&&◌, arith, []}
 use Rattle.std.specs.Prelude.{unwrap_or, Option}
 use Rattle.std.specs.List.{All}
 use Rattle.std.proofs.lemmas.Bool.{false≢true}
@@ -42,9 +42,10 @@ use Rattle.machine_model.specs.Climbing.{place_in}
 use Rattle.machine_model.specs.Operations.{line_action}
 use Rattle.memory_laws.specs.Wants.{ASingle, meets, AllHold, line_wants, change_wants}
 use Rattle.memory_laws.proofs.Claims.{safe_of, meets_of, entry_of}
-use Rattle.memory_laws.proofs.Next.{made_node}
+use Rattle.memory_laws.proofs.Next.{made_node, pair_no_link, contracted_no_link, changed_no_link}
+use Rattle.memory_laws.proofs.Nodes.{IsNoLink}
 use Rattle.falling_laws.proofs.Knows.{Knows, KnowsBuild, KnowsRenew, KnowsClean, KnowsClimb, KnowsCopy, KnowsChange, one_of}
-use Rattle.falling_laws.proofs.MadeNodes.{IsNoLink, pair_no_link, contracted_no_link, changed_no_link, pair_entries, contracted_entries, changed_entries, ChangeFits}
+use Rattle.falling_laws.proofs.MadeNodes.{pair_entries, contracted_entries, changed_entries, ChangeFits}
 
 read_makes : (state : State) (i : Ref) (l : ReadLine) (node : Node) → made_node state (read_action i l) ≡ Some node → ⊥
 read_makes state i l node e = grind arith

@@ -1,12 +1,12 @@
 -- The nodes that builders make: none is an indirection, and their entries are those that they were given.
-use Rattle.std.proofs.Common.{◌≡◌, ℕ, ◌==◌, nat_lt, Bool, true, false, List, [], ◌∷◌}
+use Rattle.std.proofs.Common.{◌≡◌, ℕ, ◌==◌, nat_lt, Bool, true, false, List, ◌∷◌, []}
 use Rattle.std.specs.List.{All}
 use Rattle.std.proofs.lemmas.Bool.{cond_both, false≢true}
 use Rattle.std.proofs.lemmas.List.Elements.{All-append, All-take, All-set, All-cons}
 use Rattle.ctrie_base.specs.declared.hashes.HashKind.{HashKind}
 use Rattle.slot_arena.specs.declared.refs.Ref.{Ref}
 use Rattle.slot_arena.specs.declared.nodes.Node.{Node}
-use Rattle.slot_arena.specs.declared.nodes.Node.TheVariants.{Indirection, Branch, List as Listed}
+use Rattle.slot_arena.specs.declared.nodes.Node.TheVariants.{Branch, List as Listed}
 use Rattle.slot_arena.specs.Heaps.{entries_of}
 use Rattle.nodes.specs.Levels.{list_depth, index_in}
 use Rattle.nodes.specs.Builders.{pair, contracted, by_index}
@@ -16,30 +16,6 @@ use Rattle.machine_model.specs.Building.{changed}
 use Rattle.memory_laws.specs.Wants.{BranchOrList, meets}
 use Rattle.memory_laws.proofs.Making.{All-inserted, All-removed}
 use Rattle.falling_laws.proofs.Knows.{one_of}
-
--- no indirection
-abbrev pub IsNoLink : Node → Type 0
-IsNoLink n = (h : ℕ) (word : Ref) → n ≡ Indirection h word → ⊥
-
-pub pair_no_link : (kind : HashKind) (depth a b : ℕ) (x y : Ref) → IsNoLink (pair kind depth a b x y)
-pair_no_link kind depth a b x y = cond_both (depth == list_depth kind) _ _ IsNoLink (λ e h word is. let wrong : ⊥ = cc is in wrong) (λ e h word is. let wrong : ⊥ = cc is in wrong)
-
-pub contracted_no_link : (may : Bool) (bitmap : ℕ) (es : List Ref) → IsNoLink (contracted may bitmap es)
-contracted_no_link true bitmap (single ∷ []) h word is = let wrong : ⊥ = cc is in wrong
-contracted_no_link true bitmap [] h word is = let wrong : ⊥ = cc is in wrong
-contracted_no_link true bitmap (x ∷ y ∷ es) h word is = let wrong : ⊥ = cc is in wrong
-contracted_no_link false bitmap es h word is = let wrong : ⊥ = cc is in wrong
-
-pub changed_no_link : (flag : ℕ) (node : Node) (c : Change) → meets BranchOrList node ≡ true → IsNoLink (changed flag node c)
-changed_no_link flag (Branch bitmap entries) (change.Insert single) b h word is = let wrong : ⊥ = cc is in wrong
-changed_no_link flag (Branch bitmap entries) (change.Update position entry) b h word is = let wrong : ⊥ = cc is in wrong
-changed_no_link flag (Branch bitmap entries) (change.Remove position) b h word is = let wrong : ⊥ = cc is in wrong
-changed_no_link flag (Branch bitmap entries) (change.Entomb single) b h word is = let wrong : ⊥ = cc is in wrong
-changed_no_link flag (Listed singles) (change.Insert single) b h word is = let wrong : ⊥ = cc is in wrong
-changed_no_link flag (Listed singles) (change.Update position entry) b h word is = let wrong : ⊥ = cc is in wrong
-changed_no_link flag (Listed singles) (change.Remove position) b h word is = let wrong : ⊥ = cc is in wrong
-changed_no_link flag (Listed singles) (change.Entomb single) b h word is = let wrong : ⊥ = cc is in wrong
-changed_no_link flag node c b h word is = absurd (false≢true b)
 
 -- ---- the entries of what is made
 

@@ -6,9 +6,9 @@ use Rattle.history.specs.declared.calls.Access.{Access}
 use Rattle.history.specs.declared.calls.Access.TheVariants.{Writable, ReadOnly}
 use Rattle.slot_arena.specs.declared.refs.Ref.{Ref}
 use Rattle.slot_arena.specs.declared.nodes.Node.{Node}
-use Rattle.slot_arena.specs.declared.nodes.Node.TheVariants.{Indirection, Branch, Single, Tomb, List as Listed}
+use Rattle.slot_arena.specs.declared.nodes.Node.TheVariants.{Indirection}
 use Rattle.slot_arena.specs.declared.nodes.Slot.{Slot}
-use Rattle.slot_arena.specs.Heaps.{node_of, main_of, next_ref, with_main_word}
+use Rattle.slot_arena.specs.Heaps.{node_of, main_of, next_ref}
 use Rattle.machine_model.specs.declared.actions.Action.TheVariants as act
 use Rattle.machine_model.specs.declared.finding.KeyLine.{KeyLine}
 use Rattle.machine_model.specs.declared.lines.Line.{Line}
@@ -36,17 +36,8 @@ use Rattle.falling_laws.proofs.MadeFalls.{IsNewLink, node_made, link_made}
 use Rattle.falling_laws.proofs.ReaderFalls.{KnowsReader}
 use Rattle.falling_laws.proofs.RunFalls.{gen_of, IsOwn, FitsBelow, FallsBelow, LateBelow, Ends, Shut, LateEnd, AllKnow, KnowsGenerations, own_fits, entries_fit, single_fits}
 use Rattle.memory_laws.specs.Wants.{is_indirection}
-
-link_is : (n : Node) → is_indirection n ≡ true → (h : ℕ) × (word : Ref) × (n ≡ Indirection h word)
-link_is (Indirection h word) e = (h, word, refl)
-link_is (Branch b es) e = absurd (true≢false (sym e))
-link_is (Single k v) e = absurd (true≢false (sym e))
-link_is (Tomb s) e = absurd (true≢false (sym e))
-link_is (Listed s) e = absurd (true≢false (sym e))
-
-same_is_link : (m : Ref) (n : Node) → is_indirection (with_main_word m n) ≡ is_indirection n
-same_is_link m (Indirection h word) = refl
-same_is_link m n = refl
+use Rattle.deciding_laws.proofs.GrownWords.{link_kept}
+use Rattle.falling_laws.proofs.ReaderKnows.{indirection_is}
 
 -- ---- which lines make nodes
 
@@ -142,7 +133,7 @@ module _ (limits : Limits) (states : ℕ → State) (last : ℕ) (run : IsRun li
   made_by : (n : Ref) (slot : Slot) → grown states (suc t) n ≡ Some slot → is_indirection slot.node ≡ true → Made (states t) n slot → NewLink n
   made_by n slot here l m =
       let (k, place, runs) = place_of_actor (states t) m.actor m.operation m.runs in
-      let (h, word, is) = link_is m.node (ap is_indirection (sym m.its_node) ∙ l) in
+      let (h, word, is) = indirection_is m.node (ap is_indirection (sym m.its_node) ∙ l) in
       new_from n slot here m h word is k runs m.operation.access refl (know k m.operation runs)
 
   link_by : (n : Ref) (before after : Option Slot) → grown states t n ≡ before → grown states (suc t) n ≡ after → is_indirection (node_of before) ≡ false → is_indirection (node_of after) ≡ true → NewLink n
@@ -151,7 +142,7 @@ module _ (limits : Limits) (states : ℕ → State) (last : ℕ) (run : IsRun li
       made_by n slot at_next is (new_is_made (states t) (grown states t) (grown states (suc t)) (word_move limits states last run t lt) n slot at_t at_next)
   link_by n (Some old) (Some slot) at_t at_next was is =
       let (now, found, ((m, e), birth)) = grown_stays limits states last run t (suc t) (omega arith) lt n old at_t in
-      let same : is_indirection (node_of (Some slot)) ≡ is_indirection old.node = ap (λ o. is_indirection (node_of o)) (sym at_next ∙ found) ∙ ap is_indirection e ∙ same_is_link m old.node in
+      let same : is_indirection (node_of (Some slot)) ≡ is_indirection old.node = ap (λ o. is_indirection (node_of o)) (sym at_next ∙ found) ∙ ap is_indirection e ∙ link_kept m old.node in
       absurd (true≢false (sym is ∙ same ∙ was))
 
   pub new_link : (n : Ref) → (words states last).link t n ≡ false → (words states last).link (suc t) n ≡ true → NewLink n

@@ -1,12 +1,9 @@
 -- Nothing ever stands under the reference that stands for none; so what is no indirection has nothing below it.
 use Rattle.std.proofs.Common.{◌≡◌, ℕ, zero, suc, ◌+◌, ◌-◌, ◌<◌, ◌≤◌, Bool, true, false, cond, Option, Some, None, refl, sym, ap, ◌∙◌, arith}
-use Rattle.std.proofs.lemmas.Bool.{true≢false}
 use Rattle.slot_arena.specs.Refs.{birth_of}
 use Rattle.slot_arena.specs.declared.refs.Ref.{Ref}
-use Rattle.slot_arena.specs.declared.nodes.Node.{Node}
-use Rattle.slot_arena.specs.declared.nodes.Node.TheVariants.{Indirection, Branch, Single, Tomb, List as Listed}
 use Rattle.slot_arena.specs.declared.nodes.Slot.{Slot}
-use Rattle.slot_arena.specs.Heaps.{node_of, main_of, prev_of, logical, no_ref, empty_branch, next_ref}
+use Rattle.slot_arena.specs.Heaps.{node_of, prev_of, logical, no_ref, empty_branch, next_ref}
 use Rattle.machine_model.specs.declared.steps.Limits.{Limits}
 use Rattle.machine_model.specs.States.{State, first_state}
 use Rattle.machine_model.proofs.Times.{IsRun, along_run}
@@ -18,6 +15,7 @@ use Rattle.memory_laws.proofs.WordMoves.{word_move}
 use Rattle.generation_laws.proofs.Counter.{new_is_made}
 use Rattle.content_laws.specs.Runs.{is_made, main_within, main_at}
 use Rattle.memory_laws.specs.Wants.{is_indirection}
+use Rattle.memory_laws.proofs.Nodes.{no_main}
 
 module _ (limits : Limits) (states : ℕ → State) (last : ℕ) (run : IsRun limits states last) where
   first_none : grown states zero no_ref ≡ None
@@ -54,13 +52,6 @@ module _ (limits : Limits) (states : ℕ → State) (last : ℕ) (run : IsRun li
   -- its node is an empty branch
   pub no_node : (t : ℕ) → t ≤ last → node_under states t no_ref ≡ empty_branch
   no_node t h = ap node_of (nothing_stands t h)
-
-  no_main : (n : Node) → is_indirection n ≡ false → main_of n ≡ no_ref
-  no_main (Indirection h word) e = absurd (true≢false e)
-  no_main (Branch b es) e = refl
-  no_main (Single k v) e = refl
-  no_main (Tomb s) e = refl
-  no_main (Listed s) e = refl
 
   -- what is no indirection has no main node
   pub no_main_before : (t : ℕ) → t ≤ last → (i : Ref) → is_indirection (node_under states t i) ≡ false → main_before states t i ≡ no_ref

@@ -23,7 +23,7 @@ use Rattle.falling_laws.proofs.Nodes.{used_entries, used_generation, link_used}
 use Rattle.falling_laws.proofs.RunFalls.{gen_of, NotNewer, FitsBelow, MainsFall}
 use Rattle.falling_laws.proofs.Along.{all_falls}
 use Rattle.falling_laws.proofs.Generations.{main_stood}
-use Rattle.falling_laws.proofs.Paths.{swaps_in_own_generation}
+use Rattle.falling_laws.proofs.OwnSwaps.{swaps_in_own_generation}
 use Rattle.slot_arena.specs.declared.refs.Ref.{Ref}
 use Rattle.slot_arena.specs.declared.nodes.Node.{Node}
 use Rattle.slot_arena.specs.declared.nodes.Node.TheVariants.{Indirection, Branch, Single, Tomb, List as Listed}

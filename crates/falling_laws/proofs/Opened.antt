@@ -1,6 +1,6 @@
 -- Generations that were opened or closed stay so; each closed one was opened before. What a step opens is the root of an offer that it carries out, and the
 -- generation of the root that this replaces is closed then.
-use Rattle.std.proofs.Common.{◌≡◌, ℕ, zero, suc, ◌<◌, ◌≤◌, Bool, true, false, inl, inr, [], ◌∷◌, ◌++◌, Option, Some, None, refl, sym, ap, ◌∙◌, subst, arith}
+use Rattle.std.proofs.Common.{◌≡◌, ℕ, zero, suc, ◌<◌, ◌≤◌, Bool, true, false, inl, inr, ◌∷◌, ◌++◌, Option, Some, None, refl, sym, ap, ◌∙◌, subst, arith, []}
 use Rattle.std.proofs.lemmas.Bool.{cases_eq}
 use Rattle.std.proofs.lemmas.Option.{none-some, same_Some}
 use Rattle.slot_arena.specs.declared.refs.Ref.{Ref}
@@ -43,10 +43,6 @@ use Rattle.history.specs.declared.calls.Access.TheVariants.{Writable}
 
 pub opened_next : (states : ℕ → State) (t g : ℕ) → WasOpened states t g → WasOpened states (suc t) g
 opened_next states t g (u, le, at) = (u, omega arith, at)
-
--- what a root has now was opened
-pub opened_now : (states : ℕ → State) (t handle : ℕ) (root : Root) → root_at (states t) handle ≡ Some root → WasOpened states t (gen (states t) root)
-opened_now states t handle root e = (t, omega arith, (handle, root, e, refl))
 
 -- the generation of an operation's root
 pub opened_rooted : (states : ℕ → State) (t handle g : ℕ) → IsRooted states t handle g → WasOpened states t g

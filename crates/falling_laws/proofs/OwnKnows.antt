@@ -1,7 +1,5 @@
 -- After its step an operation on a writable handle knows of its new line what it knew of the one before.
-use Rattle.std.proofs.Common.{◌≡◌, ℕ, suc, ◌<◌, nat_eq, true, Option, Some, None, inl, inr, refl, sym, ap, ◌∙◌, subst, eqb-true, arith}
-use Rattle.std.specs.Option.{option_eq}
-use Rattle.std.proofs.lemmas.Bool.{false≢true}
+use Rattle.std.proofs.Common.{◌≡◌, ℕ, suc, ◌<◌, true, Some, inl, inr, refl, sym, ap, ◌∙◌, subst, arith}
 use Rattle.std.proofs.lemmas.Option.{same_Some}
 use Rattle.std.specs.List.{All}
 use Rattle.slot_arena.specs.declared.nodes.Node.TheVariants.{Indirection}
@@ -22,7 +20,6 @@ use Rattle.memory_laws.proofs.AtTimes.{line_finds, action_finds}
 use Rattle.falling_laws.proofs.Nodes.{used_entries, used_single}
 use Rattle.falling_laws.proofs.Knows.{Knows, knows_still}
 use Rattle.falling_laws.proofs.OwnFalls.{LineMakes, own_falls}
-use Rattle.falling_laws.proofs.MadeNodes.{IsNoLink}
 use Rattle.falling_laws.proofs.MadeFalls.{NodeMade, node_made}
 use Rattle.falling_laws.proofs.RunFalls.{single_fits, falls_next}
 use Rattle.history.specs.declared.calls.Access.TheVariants.{Writable}
@@ -47,6 +44,8 @@ use Rattle.memory_laws.proofs.Invariant.{made_fresh}
 use Rattle.memory_laws.proofs.Next.{made_node}
 use Rattle.generation_laws.proofs.Running.{Runs}
 use Rattle.content_laws.proofs.RepairKnows.{read_stays}
+use Rattle.memory_laws.proofs.Nodes.{IsNoLink}
+use Rattle.deciding_laws.proofs.ReadTurns.{licensed_so}
 use Rattle.falling_laws.specs.Falling.{WasOpened, MayStandBelow, IsLate}
 use Rattle.falling_laws.proofs.Nodes.{link_used, told_generation}
 use Rattle.falling_laws.proofs.Opened.{opened_next, opened_rooted, was_closed_so, below_next, closed_next}
@@ -55,10 +54,6 @@ use Rattle.falling_laws.proofs.OwnFalls.{OwnStep}
 use Rattle.falling_laws.proofs.RunFalls.{gen_of, IsOwn, IsLink, FitsBelow, FallsBelow, LateBelow, MainsFall, own_fits, falls_below, entries_fit, fits_next}
 use Rattle.falling_laws.proofs.MainsNext.{inner_rooted}
 use Rattle.falling_laws.proofs.ReadsGive.{gone_is, given_stands, late_after}
-
-start_so : (o : Option ℕ) (h : ℕ) → option_eq nat_eq o (Some h) ≡ true → o ≡ Some h
-start_so None h e = absurd (false≢true e)
-start_so (Some g) h e = ap (λ x. Some x) (eqb-true g h e)
 
 -- an inner line keeps the operation's generation
 pub inner_generation : (state : State) (operation : Operation) (l : Line) → IsInner l → generation_from state operation l ≡ operation.generation
@@ -119,7 +114,7 @@ module _ (limits : Limits) (states : ℕ → State) (last : ℕ) (run : IsRun li
           falls_below states last (suc t) g (gen_of states last r.indirection) m (subst (λ x. MayStandBelow states (suc t) g x) (sym told) (below_next limits states last run t lt g h under))
           (mains.falls r.indirection m (given_stands limits states last run t lt (suc k) operation runs r stage o moves m e) (subst (λ x. WasOpened states (suc t) x) (sym told) (opened_under h under)));
       looked = λ r h word used is same.
-          told_generation states last h r (link_used limits states last run t (omega arith) r used h word is) ∙ same_Some _ _ (sym (start_so operation.generation h same) ∙ begun);
+          told_generation states last h r (link_used limits states last run t (omega arith) r used h word is) ∙ same_Some _ _ (sym (licensed_so operation.generation h same) ∙ begun);
       begins = λ r h word used is fits.
           let link = link_used limits states last run t (omega arith) r used h word is in
           ((h, link), fits, late_so r h (told_generation states last h r link) (fits h link));

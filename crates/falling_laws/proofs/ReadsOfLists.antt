@@ -1,5 +1,5 @@
 -- For every list of steps: what is read of closed generations stays. And what repairs are given stands, in the form in which the laws of contents take it.
-use Rattle.std.proofs.Common.{◌≡◌, ℕ, ◌<◌, ◌≤◌, List, take, Some, sym, ap, ◌∙◌, subst, arith}
+use Rattle.std.proofs.Common.{◌≡◌, ℕ, ◌<◌, List, Some, sym, ap, ◌∙◌, subst, arith}
 use Rattle.slot_arena.specs.declared.refs.Ref.{Ref}
 use Rattle.slot_arena.specs.Heaps.{generation_at}
 use Rattle.machine_model.specs.declared.operations.Operation.{Operation}
@@ -17,29 +17,14 @@ use Rattle.memory_laws.specs.Laws.{IsInUse}
 use Rattle.deciding_laws.proofs.InHeap.{states_are}
 use Rattle.deciding_laws.proofs.Laws.{law_given_for_good}
 use Rattle.deciding_laws.proofs.SwapLines.{reads_stage}
-use Rattle.content_laws.specs.Runs.{trie_of}
-use Rattle.content_laws.proofs.RepairKnows.{Stands}
-use Rattle.falling_laws.specs.Falling.{ReadsClosed, WasGiven}
+use Rattle.falling_laws.specs.Falling.{ReadsClosed}
 use Rattle.falling_laws.specs.Laws.{ReadForGood}
 use Rattle.falling_laws.proofs.KnownRoots.{layers_of_runs}
-use Rattle.falling_laws.proofs.Nodes.{used_generation, told_generation}
+use Rattle.falling_laws.proofs.Nodes.{used_generation}
 use Rattle.falling_laws.proofs.Opened.{closed_until}
 use Rattle.falling_laws.proofs.ReadsGive.{late_after}
 use Rattle.falling_laws.proofs.RunFalls.{gen_of}
 use Rattle.falling_laws.proofs.Final.{closed_before_read}
-
--- ---- for contents
-
--- what was given still is later
-pub was_given_later : (states : ℕ → State) (last g t u : ℕ) (i m : Ref) → t ≤ u → WasGiven states last g t i m → WasGiven states last g u i m
-was_given_later states last g t u i m le ((v, past, is), final) = ((v, omega (arith, past, le), is), final)
-
--- a repair's nodes stand
-pub stands : (limits : Limits) (states : ℕ → State) (last : ℕ) (depth path : Ref → ℕ) (g t : ℕ) → Stands (trie_of limits states last depth path) (WasGiven states last g t) g t
-stands limits states last depth path g t = record {
-  final = λ entry child word h is other gave. gave.1 (λ same. other (sym (told_generation states last h entry (word, is)) ∙ same));
-  once = λ entry child gave. gave.0;
-}
 
 -- ---- for lists of steps
 

@@ -5,7 +5,7 @@
 //! they stand at the end of a run (`Nodes`), and which generations were opened or closed (`Opened`); what a line knows
 //! of generations (`Knows`), and that each line of each program hands it on (`KeyFalls` to `OwnFalls`, `ReaderFalls`);
 //! what is known at each time (`RunFalls`), and that each step keeps it (`NewLinks` to `FreshRoots`, `Along`); what
-//! follows for the trie, for paths and for what is read (`Generations`, `Paths`, `Final`); and the laws (`OfLists`,
+//! follows for the trie, for swaps and for what is read (`Generations`, `OwnSwaps`, `Final`); and the laws (`OfLists`,
 //! `ReadsOfLists`).
 #![tactic(auto)]
 

@@ -1,5 +1,5 @@
 -- Along a run: all generations are below the counter.
-use Rattle.std.proofs.Common.{◌≡◌, ℕ, suc, ◌+◌, ◌<◌, ◌≤◌, ◌==◌, Bool, true, false, cond, inl, inr, List, [], ◌∷◌, ◌++◌, map, find, length, nat_le, set, get_or, Option, Some, None, option_map, unwrap_or, refl, sym, ap, ◌∙◌, subst, eqb-true, arith}
+use Rattle.std.proofs.Common.{◌≡◌, ℕ, suc, ◌+◌, ◌<◌, ◌≤◌, ◌==◌, Bool, true, false, cond, inl, inr, List, ◌∷◌, ◌++◌, map, find, length, nat_le, set, get_or, Option, Some, None, option_map, unwrap_or, refl, sym, ap, ◌∙◌, subst, eqb-true, arith, []}
 use Rattle.std.proofs.lemmas.Bool.{cases_eq, cond_both}
 use Rattle.std.proofs.lemmas.Option.{none-some, same_Some}
 use Rattle.history.specs.declared.calls.Call.{Call}
@@ -205,7 +205,7 @@ closed_below n (x ∷ closings) generation c h e = by (x.generation == generatio
     by true is rest e = omega (arith, eqb-true x.generation generation is, h.0)
     by false is rest e = rest e
 
-opened_closings : (st : State) (offer : Descriptor) (n : Option ℕ) → (opened st offer n).closings ≡ st.closings
+pub opened_closings : (st : State) (offer : Descriptor) (n : Option ℕ) → (opened st offer n).closings ≡ st.closings
 opened_closings st offer None = refl
 opened_closings st offer (Some n) = refl
 
@@ -223,7 +223,7 @@ completed_closings : (st : State) (at : ℕ) (offer : Descriptor) (e : Bool) →
 completed_closings st at offer true h root = carried_closings st at offer h root
 completed_closings st at offer false h root = h
 
-root_closings : (st : State) (main : Ref) (made : Option Ref) → (new_root_taken st main made).closings ≡ st.closings
+pub root_closings : (st : State) (main : Ref) (made : Option Ref) → (new_root_taken st main made).closings ≡ st.closings
 root_closings st main None = refl
 root_closings st main (Some made) = refl
 
@@ -234,7 +234,7 @@ acted_closings st at (act.Complete offer main) root h = test_closings st.generat
 acted_closings st at (act.MakeRoot main) root h = subst (λ l. ClosingsBelow st.generations l) (sym (root_closings st main (next_ref st.heap))) h
 acted_closings st at action root h = h
 
-begin_closings : (state : State) (actor : ℕ) (call : Call) (operation : Operation) → (with_begin state actor call operation).closings ≡ state.closings
+pub begin_closings : (state : State) (actor : ℕ) (call : Call) (operation : Operation) → (with_begin state actor call operation).closings ≡ state.closings
 begin_closings state actor call operation = grind arith
 
 closings_after : (state : State) (s : Step) (o : Outcome) (after : State) → Moves state s o after → ((r : Ref) → generation_at state.heap r < state.generations) → ClosingsBelow state.generations state.closings →

@@ -245,11 +245,6 @@ module _ (state : State) (operation : Operation) where
   offering_fits : (root main successor : Ref) (second : Option Ref) → second_fits operation.call second ≡ true → Fits operation.attempt (offering operation root main successor second)
   offering_fits root main successor second h = record { its = refl; at_try = refl; number = refl; second = h }
 
-  freeze_fits : (call : Call) → opens_handle call ≡ true → is_snapshot call ≡ false → second_fits call None ≡ true
-  freeze_fits (Freeze h) e f = refl
-  freeze_fits (Snapshot h) e f = absurd (false≢true (sym f))
-  freeze_fits call e f = absurd (false≢true e)
-
   clear_fits : (call : Call) → is_clear call ≡ true → second_fits call None ≡ true
   clear_fits (Clear h) e = refl
   clear_fits call e = absurd (false≢true e)

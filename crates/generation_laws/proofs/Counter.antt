@@ -1,5 +1,5 @@
 -- All generations are below the counter from which the next one is drawn: those of indirections, of operations and of closings. An indirection keeps its own.
-use Rattle.std.proofs.Common.{◌≡◌, ℕ, ◌+◌, ◌≤◌, ◌==◌, Bool, true, false, cond, inl, inr, ◌⊎◌, List, [], ◌∷◌, set, get_or, Option, Some, None, refl, sym, ap, ◌∙◌, subst, arith}
+use Rattle.std.proofs.Common.{◌≡◌, ℕ, ◌+◌, ◌≤◌, ◌==◌, Bool, true, false, cond, inl, inr, ◌⊎◌, List, ◌∷◌, set, get_or, Option, Some, None, refl, sym, ap, ◌∙◌, subst, arith, []}
 use Rattle.std.proofs.lemmas.Bool.{cases_eq}
 use Rattle.std.proofs.lemmas.Option.{none-some, same_Some}
 use Rattle.slot_arena.specs.Refs.{ref_to}
@@ -19,7 +19,7 @@ use Rattle.machine_model.specs.declared.steps.Step.{Step}
 use Rattle.machine_model.specs.Calls.{handle_of}
 use Rattle.machine_model.specs.States.{State, first_heap, empty_heap, operation_of}
 use Rattle.machine_model.specs.Operations.{action_of}
-use Rattle.machine_model.specs.Acting.{acted, aborted, offered, completed, new_root_taken, gone}
+use Rattle.machine_model.specs.Acting.{acted, aborted, offered, completed, new_root_taken}
 use Rattle.machine_model.specs.Machine.{with_begin}
 use Rattle.machine_model.proofs.Moves.{Moves, Begins, Goes, Ends, Sweeps, begun_operation}
 use Rattle.machine_model.proofs.Found.{found_elsewhere, found_here, none_found}
@@ -60,14 +60,6 @@ counter_rises state s o after (Begins {actor} {call} d) = omega (arith, begin_co
 counter_rises state s o after (Goes {actor} {operation} d is a g) = acted_counts _ (handle_of operation.call) (action_of state operation)
 counter_rises state s o after (Ends d is a) = omega arith
 counter_rises state s o after (Sweeps spent) = omega arith
-
-acted_root : (st : State) (at : ℕ) (action : Action) (main made : Ref) → action ≡ act.MakeRoot main → next_ref st.heap ≡ Some made → (acted st at action).generations ≡ st.generations + 1
-acted_root st at action main made a e = ap (λ x. (acted st at x).generations) a ∙ ap (λ x. (new_root_taken st main x).generations) e
-
--- with a root that is made it is one more
-pub root_counted : (state : State) (actor : ℕ) (operation : Operation) (main made : Ref) → action_of state operation ≡ act.MakeRoot main → next_ref state.heap ≡ Some made →
-    (gone state actor operation).generations ≡ state.generations + 1
-root_counted state actor operation main made a e = acted_root _ (handle_of operation.call) (action_of state operation) main made a e
 
 -- ---- an indirection keeps its generation
 

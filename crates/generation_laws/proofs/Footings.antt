@@ -42,7 +42,7 @@ reworded : (word : RootWord) (o : Option Root) (now : Root) → rewritten word o
 reworded word None now e = absurd (none-some now e)
 reworded word (Some root) now e = (root, refl, sym (same_Some _ _ e))
 
-plain_root : (word : RootWord) (r : Ref) → is_plain word r ≡ true → r ≡ root_of word
+pub plain_root : (word : RootWord) (r : Ref) → is_plain word r ≡ true → r ≡ root_of word
 plain_root (Plain root) r e = sym (eqb-true root r e)
 plain_root (Offer offer) r e = absurd (false≢true e)
 

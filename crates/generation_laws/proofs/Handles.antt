@@ -1,12 +1,11 @@
 -- Handles: that of a running operation is open and of its kind, and the number that an operation is to open is its own and names no open handle until it is marked.
-use Rattle.std.proofs.Common.{◌≡◌, ℕ, zero, suc, ◌+◌, ◌≤◌, Bool, true, false, cond, nat_le, is_some, inl, inr, ◌⊎◌, List, [], ◌∷◌, set, get_or, Option, Some, None, unwrap_or, refl, sym, ap, ◌∙◌, subst, eq-eqb, add-one, arith}
+use Rattle.std.proofs.Common.{◌≡◌, ℕ, zero, suc, ◌+◌, ◌≤◌, Bool, true, false, cond, nat_le, is_some, inl, inr, ◌⊎◌, List, ◌∷◌, set, get_or, Option, Some, None, unwrap_or, refl, sym, ap, ◌∙◌, subst, eq-eqb, add-one, arith, []}
 use Rattle.std.specs.List.{list_any}
-use Rattle.std.proofs.lemmas.Bool.{true≢false, false≢true, cond_both, or_left, or_right, or_parts}
+use Rattle.std.proofs.lemmas.Bool.{true≢false, false≢true, cond_both, or_parts}
 use Rattle.std.proofs.lemmas.Option.{none-some, same_Some}
 use Rattle.history.specs.declared.calls.Access.{Access}
 use Rattle.history.specs.declared.calls.Access.TheVariants.{Writable}
 use Rattle.history.specs.declared.calls.Call.{Call}
-use Rattle.history.specs.declared.calls.Call.TheVariants.{Close}
 use Rattle.machine_model.specs.declared.operations.Operation.{Operation}
 use Rattle.machine_model.specs.declared.roots.Descriptor.{Descriptor}
 use Rattle.machine_model.specs.declared.roots.Root.{Root}
@@ -18,12 +17,13 @@ use Rattle.machine_model.specs.Calls.{handle_of, is_close, opens_handle}
 use Rattle.machine_model.specs.States.{State, first_state, root_at, word_of, word_at, operation_of, handle_limit}
 use Rattle.machine_model.specs.Operations.{action_of, line_action, line_after}
 use Rattle.machine_model.specs.Acting.{operation_after, gone, mark_after}
-use Rattle.machine_model.specs.Machine.{begin_denial, handle_closed, access_of, runs_on, names, is_taken, is_number, reserved_by, taken_below, handles_taken, least_from, least_free}
+use Rattle.machine_model.specs.Machine.{begin_denial, handle_closed, access_of, runs_on, is_taken, is_number, reserved_by, taken_below, handles_taken, least_from, least_free}
 use Rattle.machine_model.proofs.Moves.{Moves, Begins, Goes, Ends, Sweeps, GoesOn, begun_operation}
 use Rattle.machine_model.proofs.Actors.{mark_one, mark_only, marks_in, marks_by, marks_of}
 use Rattle.machine_model.proofs.Found.{found_elsewhere, found_here, none_found}
 use Rattle.machine_model.proofs.Times.{IsRun, at_each_time}
 use Rattle.machine_model.specs.Swapping.{is_carried_out}
+use Rattle.memory_laws.proofs.Base.{running_on, closed_root, close_denied, handle_given}
 use Rattle.generation_laws.proofs.Running.{Runs, Comes, began, rested, went, comes, one_at}
 use Rattle.generation_laws.proofs.Offers.{own_numbers}
 use Rattle.generation_laws.proofs.SameOffer.{HasOffers, same_offer, has_offers_after, no_offers_at_first}
@@ -62,7 +62,7 @@ least_is_free state e = elim (free_found state 256 0) [
     full : (n : ℕ) → n ≡ 0 + 256 → nat_le 256 n ≡ false → ⊥
     full n is e = grind arith
 
-opens_allowed : (state : State) (actor : ℕ) (call : Call) → begin_denial state actor call ≡ None → opens_handle call ≡ true → nat_le handle_limit (handles_taken state) ≡ false
+pub opens_allowed : (state : State) (actor : ℕ) (call : Call) → begin_denial state actor call ≡ None → opens_handle call ≡ true → nat_le handle_limit (handles_taken state) ≡ false
 opens_allowed state actor call d o = grind arith
 
 -- what a begin is to open
@@ -94,27 +94,6 @@ none_reserves state n k operation e at_k unmarked its =
     true≢false (sym (eq-eqb n n refl) ∙ ap (is_number n) (sym its) ∙ ap (λ b. is_number n (cond b None operation.opens)) (sym unmarked) ∙ r)
 
 -- ---- a close
-
-running_on : (actors : List (Option Operation)) (k : ℕ) (operation : Operation) → get_or actors k None ≡ Some operation → list_any (names (handle_of operation.call)) actors ≡ true
-running_on [] k operation e = absurd (none-some operation e)
-running_on (o ∷ actors) zero operation e =
-    or_left _ _ (subst (λ x. names (handle_of operation.call) x ≡ true) (sym e) (eq-eqb (handle_of operation.call) (handle_of operation.call) refl))
-running_on (o ∷ actors) (suc k) operation e = or_right _ _ (running_on actors k operation e)
-
-close_denied : (state : State) (actor : ℕ) (call : Call) → begin_denial state actor call ≡ None → is_close call ≡ true → runs_on state (handle_of call) ≡ true → ⊥
-close_denied state actor call d c r = grind arith
-
-handle_given : (state : State) (actor : ℕ) (call : Call) → begin_denial state actor call ≡ None → is_some (root_at state (handle_of call)) ≡ true
-handle_given state actor call d = grind arith
-
-opens_no_close : (call : Call) → opens_handle call ≡ true → is_close call ≡ false
-opens_no_close (Close h) e = absurd (false≢true e)
-opens_no_close call e = refl
-
--- a begin leaves a root, but for that of the handle that it closes
-closed_root : (state : State) (call : Call) (id handle : ℕ) → (is_close call ≡ true → handle ≡ handle_of call → ⊥) → root_at (handle_closed state call id) handle ≡ root_at state handle
-closed_root state call id handle other =
-    cond_both (is_close call) _ _ (λ (s : State). root_at s handle ≡ root_at state handle) (λ e. found_elsewhere state.roots (handle_of call) handle None (other e)) (λ e. refl)
 
 -- it opens none
 begun_none : (state : State) (call : Call) (id handle : ℕ) → root_at state handle ≡ None → root_at (handle_closed state call id) handle ≡ None

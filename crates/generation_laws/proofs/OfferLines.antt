@@ -295,7 +295,7 @@ as_from : (state : State) (operation : Operation) (l : Line) (m : RootLine) (c :
 as_from state operation l m c same (inl (before, is, offer)) = inl (before, same ∙ is, offer)
 as_from state operation l m c same (inr word) = inr (inl word)
 
-from_root_none : (call : Call) (r : Ref) → completing_of (from_root call r) ≡ None
+pub from_root_none : (call : Call) (r : Ref) → completing_of (from_root call r) ≡ None
 from_root_none call r = grind arith
 
 root_completes : (state : State) (operation : Operation) (l : RootLine) (c : Complete) → completing_of (line_after state operation (line.Root l)) ≡ Some c →

@@ -178,9 +178,6 @@ offer_line state operation (line.Walk l) offer e = let wrong : ⊥ = grind arith
 offer_line state operation (line.End answer) offer e = let wrong : ⊥ = cc e in absurd wrong
 offer_line state operation line.Impossible offer e = let wrong : ⊥ = cc e in absurd wrong
 
-read_marks : (state : State) (handle : ℕ) (i : Ref) (l : ReadLine) → marks_of state handle (read_action i l) ≡ None
-read_marks state handle i l = grind arith
-
 read_mark : (mark : Bool) (i : Ref) (l : ReadLine) → mark_after mark (read_action i l) ≡ mark
 read_mark mark i l = grind arith
 

@@ -1,27 +1,22 @@
 -- What an operation on a writable handle finds in its root word with no offer has a generation that wasn't closed before.
 use Rattle.std.proofs.Common.{◌≡◌, ℕ, zero, suc, ◌<◌, ◌≤◌, Bool, true, false, inl, inr, Option, Some, None, refl, sym, ap, ◌∙◌, arith}
-use Rattle.std.proofs.lemmas.Bool.{true≢false, false≢true, cases_eq}
+use Rattle.std.proofs.lemmas.Bool.{true≢false, cases_eq}
 use Rattle.std.proofs.lemmas.Option.{none-some, same_Some}
 use Rattle.history.specs.declared.calls.Access.TheVariants.{Writable}
-use Rattle.history.specs.declared.calls.Call.{Call}
-use Rattle.history.specs.declared.calls.Call.TheVariants.{Close}
 use Rattle.slot_arena.specs.declared.refs.Ref.{Ref}
 use Rattle.slot_arena.specs.Heaps.{generation_at}
-use Rattle.machine_model.specs.declared.lines.Line.{Line}
-use Rattle.machine_model.specs.declared.lines.Line.TheVariants as line
 use Rattle.machine_model.specs.declared.operations.Operation.{Operation}
 use Rattle.machine_model.specs.declared.roots.RootWord.TheVariants.{Plain}
 use Rattle.machine_model.specs.declared.steps.Limits.{Limits}
 use Rattle.machine_model.specs.declared.steps.Step.{Step}
 use Rattle.machine_model.specs.Calls.{handle_of, is_close}
 use Rattle.machine_model.specs.States.{State, first_state, root_of, word_of, word_at, operation_of, closed_at}
-use Rattle.machine_model.specs.Operations.{line_action, first_line}
 use Rattle.machine_model.specs.Acting.{operation_after}
-use Rattle.machine_model.proofs.Moves.{GoesOn}
 use Rattle.machine_model.proofs.Actors.{mark_only, marks_in}
 use Rattle.machine_model.proofs.Found.{none_found}
 use Rattle.machine_model.proofs.Times.{IsRun, Turn, turns, at_each_time, steps_at}
 use Rattle.memory_laws.specs.Laws.{is_end}
+use Rattle.memory_laws.proofs.Base.{close_ends, goes_no_end}
 use Rattle.generation_laws.proofs.Running.{Runs, Comes, began, rested, went, comes, place_of_actor}
 use Rattle.generation_laws.proofs.Swaps.{StepKind, quiet, swaps, step_kind, closing_of, closed_in, closed_new}
 use Rattle.generation_laws.proofs.Roots.{gen}
@@ -32,22 +27,14 @@ use Rattle.generation_laws.proofs.RootsAlong.{IsOrdered, ordered_at, closed_stay
 abbrev ClosesEnd : State → Type 0
 ClosesEnd state = (k : ℕ) (operation : Operation) → Runs state k operation → is_close operation.call ≡ true → is_end operation.line ≡ true
 
-first_ends : (call : Call) → is_close call ≡ true → is_end (first_line call) ≡ true
-first_ends (Close h) e = refl
-first_ends call e = absurd (false≢true e)
-
-ends_not : (state : State) (operation : Operation) (l : Line) → GoesOn (line_action state operation l) → is_end l ≡ true → ⊥
-ends_not state operation (line.End answer) g e = g
-ends_not state operation l g e = false≢true e
-
 closes_by : (state : State) (s : Step) → ClosesEnd state → (k : ℕ) (found : Operation) → Comes state s k found → is_close found.call ≡ true → is_end found.line ≡ true
-closes_by state s all k found (began call is d it) e = ap (λ (x : Operation). is_end x.line) it ∙ first_ends call (ap (λ (x : Operation). is_close x.call) (sym it) ∙ e)
+closes_by state s all k found (began call is d it) e = ap (λ (x : Operation). is_end x.line) it ∙ close_ends call (ap (λ (x : Operation). is_close x.call) (sym it) ∙ e)
 closes_by state s all k found (rested was at_k it) e =
     let same = it ∙ mark_only (marks_in state s) was in
     ap (λ (x : Operation). is_end x.line) same ∙ all k was at_k (ap (λ (x : Operation). is_close x.call) (sym same) ∙ e)
 closes_by state s all k found (went was is at_k g it) e =
     let same = it ∙ mark_only (marks_in state s) (operation_after state was) in
-    absurd (ends_not state was was.line g (all k was at_k (ap (λ (x : Operation). is_close x.call) (sym same) ∙ e)))
+    absurd (goes_no_end state was was.line g (all k was at_k (ap (λ (x : Operation). is_close x.call) (sym same) ∙ e)))
 
 no_closes : (limits : Limits) → ClosesEnd (first_state limits)
 unfolding first_state

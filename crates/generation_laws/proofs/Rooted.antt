@@ -66,7 +66,7 @@ rooted_next states t handle generation s o S I count m now e w (inr (c, before, 
 -- ---- what ROOT gives
 
 -- it gives the plain root of the word
-root_given : (state : State) (operation : Operation) (l : RootLine) (r : Ref) → root_after state.heap operation.access (word_at state (handle_of operation.call)) l ≡ Gives r →
+pub root_given : (state : State) (operation : Operation) (l : RootLine) (r : Ref) → root_after state.heap operation.access (word_at state (handle_of operation.call)) l ≡ Gives r →
     word_at state (handle_of operation.call) ≡ Plain r
 root_given state operation root.Read r e = by (word_at state (handle_of operation.call)) e
   where

@@ -1,6 +1,6 @@
 -- Roots: the one in a writable handle's word has a generation that is open and its own, that of a read-only handle is closed, and the fresh roots that an operation is to offer have
 -- generations that no handle has and that are open.
-use Rattle.std.proofs.Common.{◌≡◌, ℕ, suc, Bool, true, false, cond, inl, inr, ◌⊎◌, [], ◌∷◌, ◌++◌, Option, Some, None, refl, sym, ap, ◌∙◌, subst, arith}
+use Rattle.std.proofs.Common.{◌≡◌, ℕ, suc, Bool, true, false, cond, inl, inr, ◌⊎◌, ◌∷◌, ◌++◌, Option, Some, None, refl, sym, ap, ◌∙◌, subst, arith, []}
 use Rattle.std.proofs.lemmas.Bool.{true≢false, false≢true}
 use Rattle.std.proofs.lemmas.Option.{none-some, same_Some}
 use Rattle.history.specs.declared.calls.Access.{Access}
@@ -58,7 +58,7 @@ pub record HasRoots (state : State) : Type 0 where
   pub fresh_apart : (k j : ℕ) (a b : Operation) (x y : Bool) (r q : Ref) → Runs state k a → Runs state j b → a.is_marked ≡ false → b.is_marked ≡ false → fresh_in x a.line ≡ Some r → fresh_in y b.line ≡ Some q →
       generation_at state.heap r ≡ generation_at state.heap q → (k ≡ j) × (x ≡ y)
 
-first_none : (call : Call) (x : Bool) (r : Ref) → fresh_in x (first_line call) ≡ Some r → ⊥
+pub first_none : (call : Call) (x : Bool) (r : Ref) → fresh_in x (first_line call) ≡ Some r → ⊥
 first_none (Entries h) x r e = none-some r e
 first_none (Count h) x r e = none-some r e
 first_none (Close h) x r e = none-some r e

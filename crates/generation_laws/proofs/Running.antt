@@ -19,6 +19,7 @@ use Rattle.machine_model.specs.Machine.{begin_denial, go_denial}
 use Rattle.machine_model.proofs.Moves.{Moves, Begins, Goes, Ends, Sweeps, GoesOn, begun_operation}
 use Rattle.machine_model.proofs.Found.{found_within, found_elsewhere}
 use Rattle.machine_model.proofs.Actors.{mark_one, marks_by, marks_in, marks_of, after_marks, gone_actors, begin_actors, IsOf, is_of, of_others, of_itself, of_begin, of_end}
+use Rattle.memory_laws.proofs.Held.{begin_counts}
 
 -- the actor k + 1 runs this operation
 abbrev pub Runs : State → ℕ → Operation → Type 0
@@ -30,7 +31,7 @@ place_of_actor state zero operation is = absurd (none-some operation is)
 place_of_actor state (suc k) operation is = (k, refl, is)
 
 -- an actor's operation by its place
-at_place : (state : State) (actor k : ℕ) (operation : Operation) → actor ≡ suc k → operation_of state actor ≡ Some operation → Runs state k operation
+pub at_place : (state : State) (actor k : ℕ) (operation : Operation) → actor ≡ suc k → operation_of state actor ≡ Some operation → Runs state k operation
 at_place state actor k operation own is = subst (λ a. operation_of state a ≡ Some operation) own is
 
 -- two that have one place are one
@@ -38,7 +39,7 @@ pub one_at : (state : State) (k : ℕ) (a b : Operation) → Runs state k a → 
 one_at state k a b at_a at_b = same_Some a b (sym at_a ∙ at_b)
 
 -- what is found at a place after a write there, or what was found
-write_cases : {X : Type 0} (xs : List (Option X)) (i k : ℕ) (put : Option X) (x : X) → get_or xs k None ≡ Some x →
+pub write_cases : {X : Type 0} (xs : List (Option X)) (i k : ℕ) (put : Option X) (x : X) → get_or xs k None ≡ Some x →
     ((k ≡ i) × (get_or (set xs i put) k None ≡ put)) ⊎ ((k ≡ i → ⊥) × (get_or (set xs i put) k None ≡ Some x))
 write_cases xs i k put x at_k = elim (ℕ_discrete k i) [
   | yes same ↦ inl (same, subst (λ j. get_or (set xs j put) k None ≡ put) same (get_or-set_same xs k put None (found_within xs k x at_k)))
@@ -55,14 +56,11 @@ actor_at : (actor k : ℕ) → 0 < actor → k ≡ actor - 1 → actor ≡ suc k
 actor_at actor k pos e = omega arith
 
 -- an actor that runs an operation begins no other
-begin_not_running : (state : State) (k actor : ℕ) (call : Call) (operation : Operation) → begin_denial state actor call ≡ None → actor ≡ suc k → Runs state k operation → ⊥
+pub begin_not_running : (state : State) (k actor : ℕ) (call : Call) (operation : Operation) → begin_denial state actor call ≡ None → actor ≡ suc k → Runs state k operation → ⊥
 begin_not_running state k actor call operation d own is = denied (subst (λ a. operation_of state a ≡ Some operation) (sym own) is)
   where
     denied : operation_of state actor ≡ Some operation → ⊥
     denied e = grind arith
-
-begin_counts : (state : State) (actor : ℕ) (call : Call) → begin_denial state actor call ≡ None → 0 < actor
-begin_counts state actor call d = grind arith
 
 go_counts : (state : State) (actor : ℕ) → go_denial state actor ≡ None → 0 < actor
 go_counts state actor d = grind arith

@@ -1,5 +1,5 @@
 -- What a step does to closings and roots: it leaves them, or carries an offer out, which closes the generation of the old root.
-use Rattle.std.proofs.Common.{◌≡◌, ℕ, ◌==◌, ◌&&◌, Bool, true, false, cond, find, inl, inr, ◌⊎◌, List, [], ◌∷◌, ◌++◌, Option, Some, None, get_or, set, refl, sym, ap, ◌∙◌, subst, eqb-true, eq-eqb, ne_eqb, arith}
+use Rattle.std.proofs.Common.{◌≡◌, ℕ, ◌==◌, ◌&&◌, Bool, true, false, cond, find, inl, inr, ◌⊎◌, List, ◌∷◌, ◌++◌, Option, Some, None, get_or, set, refl, sym, ap, ◌∙◌, subst, eqb-true, eq-eqb, ne_eqb, []}
 use Rattle.std.proofs.lemmas.Bool.{true≢false, false≢true, and_from, cond_both}
 use Rattle.std.proofs.lemmas.Option.{none-some, same_Some}
 use Rattle.history.specs.declared.calls.Call.{Call}
@@ -19,14 +19,15 @@ use Rattle.machine_model.specs.Calls.{handle_of, is_close}
 use Rattle.machine_model.specs.States.{State, root_at, root_of, word_at, word_of, operation_of, with_operation, with_word, step_of}
 use Rattle.machine_model.specs.Swapping.{stands_in, is_plain, is_carried_out}
 use Rattle.machine_model.specs.Operations.{action_of}
-use Rattle.machine_model.specs.Acting.{acted, opened, carried_out, new_root_taken, if_changed, gone, operation_after, commits_after, entered}
+use Rattle.machine_model.specs.Acting.{acted, carried_out, if_changed, gone, operation_after, commits_after, entered}
 use Rattle.machine_model.specs.Orders.{committed_now}
 use Rattle.machine_model.specs.Counting.{settled}
-use Rattle.machine_model.specs.Machine.{with_begin, handle_closed}
+use Rattle.machine_model.specs.Machine.{handle_closed}
 use Rattle.machine_model.proofs.Moves.{Moves, Begins, Goes, Ends, Sweeps, begun_operation}
 use Rattle.machine_model.proofs.Found.{found_elsewhere, found_here}
 use Rattle.generation_laws.proofs.SameOffer.{HasOffers, same_offer}
 use Rattle.generation_laws.proofs.Footings.{CarriesOut, RootFrom, stood, swapped, newly, root_from}
+use Rattle.generation_laws.proofs.Below.{opened_closings, root_closings, begin_closings}
 
 -- ---- closings
 
@@ -82,10 +83,6 @@ closed_last (x ∷ xs) new generation none is = last_closed_by xs x new generati
 
 -- ---- an action
 
-opened_same : (st : State) (offer : Descriptor) (n : Option ℕ) → (opened st offer n).closings ≡ st.closings
-opened_same st offer None = refl
-opened_same st offer (Some n) = refl
-
 -- this offer is carried out, or none
 carries_or_not : (st : State) (at : ℕ) (action : Action) → ((offer : Descriptor) × CarriesOut st at action offer) ⊎ ((offer : Descriptor) → CarriesOut st at action offer → ⊥)
 carries_or_not st at (act.Complete own main) = by (is_carried_out (word_at st at) own main) refl
@@ -108,10 +105,6 @@ test_same : (b : Bool) (changed same : State) → changed.closings ≡ same.clos
 test_same true changed same e = e
 test_same false changed same e = refl
 
-root_same : (st : State) (main : Ref) (made : Option Ref) → (new_root_taken st main made).closings ≡ st.closings
-root_same st main None = refl
-root_same st main (Some made) = refl
-
 -- what closes the old root
 abbrev pub closing_of : State → Descriptor → Closing
 closing_of st offer = record { generation = generation_at st.heap offer.root; step = st.steps }
@@ -125,11 +118,11 @@ closings_same st at (act.Complete own main) none = by (stands_in (word_at st at)
     by true true stands expected = absurd (none own (record { main = main; is_it = refl; carried = and_from _ _ stands expected }))
     by true false stands expected = refl
     by false e stands expected = refl
-closings_same st at (act.MakeRoot main) none = root_same st main (next_ref st.heap)
+closings_same st at (act.MakeRoot main) none = root_closings st main (next_ref st.heap)
 closings_same st at action none = refl
 
 completed_closes : (st : State) (at : ℕ) (own : Descriptor) (b e : Bool) → (b && e) ≡ true → (if_changed b (cond e (carried_out st at own) (with_word st at (Plain own.root))) st).closings ≡ st.closings ++ closing_of st own ∷ []
-completed_closes st at own true true t = ap (λ l. l ++ closing_of st own ∷ []) (opened_same (with_word st at (Plain own.successor)) own own.opens)
+completed_closes st at own true true t = ap (λ l. l ++ closing_of st own ∷ []) (opened_closings (with_word st at (Plain own.successor)) own own.opens)
 completed_closes st at own true false t = absurd (false≢true t)
 completed_closes st at own false e t = absurd (false≢true t)
 
@@ -162,9 +155,6 @@ begun_kept state call id handle now =
     taken_away e =
         sym (found_elsewhere state.roots (handle_of call) handle None
         (λ same. none-some now (found_here state.roots (handle_of call) None now (subst (λ h. get_or (set state.roots (handle_of call) None) h None ≡ Some now) same e)))) ∙ e
-
-begun_closings : (state : State) (actor : ℕ) (call : Call) (operation : Operation) → (with_begin state actor call operation).closings ≡ state.closings
-begun_closings state actor call operation = grind arith
 
 -- as it is in a state with these words
 here_from : (st state : State) → st.roots ≡ state.roots → (at : ℕ) (action : Action) (handle : ℕ) (now : Root) → RootFrom st at action handle now → RootFrom state at action handle now
@@ -207,7 +197,7 @@ module _ (state : State) (I : HasOffers state) (actor : ℕ) (operation : Operat
 
 pub step_kind : (state : State) → HasOffers state → (s : Step) (o : Outcome) (after : State) → Moves state s o after → StepKind state s after
 step_kind state I s o after (Begins {actor} {call} d) =
-    quiet (begun_closings state actor call (begun_operation state call)) (λ handle now e. begun_kept state call (begun_operation state call).id handle now e)
+    quiet (begin_closings state actor call (begun_operation state call)) (λ handle now e. begun_kept state call (begun_operation state call).id handle now e)
 step_kind state I s o after (Goes {actor} {operation} d is a g) =
     gone_kind state I actor operation is (carries_or_not state (handle_of operation.call) (action_of state operation))
 step_kind state I s o after (Ends d is a) = quiet refl (λ handle now e. (now, e, refl, refl))

@@ -17,11 +17,11 @@ use Rattle.content_laws.specs.Steps.{IsTrie, IsRepair}
 use Rattle.content_laws.specs.Tries.{Trie, generation, node_in, most_levels}
 use Rattle.line_laws.specs.Commits.{OwnCommit, CommitsAt, MainStep, stays, changes, assigned_at}
 use Rattle.line_laws.proofs.FreshCommits.{fresh_commits_at}
-use Rattle.falling_laws.proofs.Paths.{swaps_in_own_generation}
+use Rattle.falling_laws.proofs.OwnSwaps.{swaps_in_own_generation}
+use Rattle.falling_laws.proofs.ReaderKnows.{indirection_is}
 use Rattle.shape_laws.specs.Shaped.{HasShape, trie_of_run}
 use Rattle.shape_laws.specs.Sites.{depth_of_run, path_of_run}
 use Rattle.shape_laws.specs.SitesAt.{TakesSteps, StepsFit}
-use Rattle.shape_laws.proofs.Places.{link_node}
 use Rattle.shape_laws.proofs.Shaped.{runs_have_shape}
 use Rattle.trie_laws.proofs.Does.{own_does}
 use Rattle.trie_laws.proofs.Taken.{repairs_are_known, sites_of_updates}
@@ -69,7 +69,7 @@ module _ (limits : Limits) (states : ℕ → State) (steps : ℕ → Step) (t : 
             ⊎ IsRepair trie (generation trie own.indirection) t (node_in trie t own.indirection) (node_in trie (suc t) own.indirection) →
             value_below trie (suc t) r key ≡ value_below trie t r key
         by_own own (inl (p, former, e)) =
-            let link = link_node (node_under states (suc t) r) (root_link limits states steps (suc t) run takes keys t (omega arith) handle root at) in
+            let link = indirection_is (node_under states (suc t) r) (root_link limits states steps (suc t) run takes keys t (omega arith) handle root at) in
             missed_below trie t own.indirection r (λ j. shape.shaped t j (omega arith)) own.others
             (λ from. misses own p former e (reach_from limits states steps (suc t) run takes keys t (omega arith) handle root at own.indirection from))
             key most_levels 0 r link.1 link.0 deep itself link.2

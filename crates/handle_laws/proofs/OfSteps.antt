@@ -1,5 +1,5 @@
 -- The laws, for each step that is taken after a list of steps.
-use Rattle.std.proofs.Common.{◌≡◌, ℕ, suc, cond, List, [], ◌∷◌, ◌++◌, length, Ok, sym, ap, subst, ◌∙◌, arith}
+use Rattle.std.proofs.Common.{◌≡◌, ℕ, suc, cond, List, ◌∷◌, ◌++◌, length, Ok, sym, ap, subst, ◌∙◌, arith, []}
 use Rattle.std.proofs.lemmas.List.{length-append}
 use Rattle.machine_model.specs.declared.steps.Limits.{Limits}
 use Rattle.machine_model.specs.declared.steps.Outcome.{Outcome}
@@ -19,9 +19,6 @@ use Rattle.handle_laws.proofs.OfRuns.{OfLastSteps}
 use Rattle.handle_laws.proofs.OfRuns as of_runs
 
 module _ (limits : Limits) (steps : List Step) (s : Step) (o : Outcome) (after : State) (taken : next (run limits steps) s ≡ Ok (o, after)) where
-  abbrev all : List Step
-  all = steps ++ s ∷ []
-
   abbrev t : ℕ
   t = last_of limits steps
 

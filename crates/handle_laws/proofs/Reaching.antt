@@ -11,9 +11,9 @@ use Rattle.machine_model.proofs.Grown.{node_under}
 use Rattle.machine_model.proofs.Times.{IsRun}
 use Rattle.memory_laws.specs.Laws.{IsInUse}
 use Rattle.memory_laws.specs.Wants.{is_indirection}
+use Rattle.falling_laws.proofs.ReaderKnows.{indirection_is}
 use Rattle.shape_laws.specs.Shaped.{trie_of_run}
 use Rattle.shape_laws.specs.SitesAt.{TakesSteps, StepsFit}
-use Rattle.shape_laws.proofs.Places.{link_node}
 use Rattle.handle_laws.specs.Touching.{Reaches, its_root, entry_below}
 use Rattle.handle_laws.proofs.Showing.{link_same, main_used, entries_same, entry_used, root_used}
 use Rattle.handle_laws.proofs.Ways.{From, itself, through}
@@ -34,7 +34,7 @@ module _ (limits : Limits) (states : ℕ → State) (steps : ℕ → Step) (last
   from_reach r (entry_below i entry main g from link c) =
       let used = reach_used i from in
       let linked = sym (link_same limits states steps last run takes keys t within i used) ∙ ap is_indirection link in
-      let node = link_node (node_under states last i) linked in
+      let node = indirection_is (node_under states last i) linked in
       through i r node.1 node.0 (from_reach i from) node.2 (subst (λ es. Contains es r) (entries_same limits states steps last run takes keys t within i used linked) c)
 
   pub reach_from : (r : Ref) → From (trie_of_run limits states steps last) t (root_of root.word) r → Reaches (states t) handle r
@@ -43,5 +43,5 @@ module _ (limits : Limits) (states : ℕ → State) (steps : ℕ → Step) (last
       let reached = reach_from i from in
       let used = reach_used i reached in
       let linked : is_indirection (node_under states last i) ≡ true = ap is_indirection link in
-      let node = link_node (node_at (states t).heap i) (link_same limits states steps last run takes keys t within i used ∙ linked) in
+      let node = indirection_is (node_at (states t).heap i) (link_same limits states steps last run takes keys t within i used ∙ linked) in
       entry_below i r node.1 node.0 reached node.2 (subst (λ es. Contains es r) (sym (entries_same limits states steps last run takes keys t within i used linked)) c)

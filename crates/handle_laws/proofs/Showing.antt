@@ -2,11 +2,10 @@
 use Rattle.std.proofs.Common.{◌≡◌, ℕ, suc, zero, ◌≤◌, true, cond, List, Contains, flat_map, Some, refl, sym, ap, subst, ◌∙◌, arith}
 use Rattle.std.proofs.lemmas.List.Elements.{Contains-append_left}
 use Rattle.std.specs.FinMap.{entries}
-use Rattle.history.specs.Worlds.{KeyMap}
 use Rattle.slot_arena.specs.declared.refs.Ref.{Ref}
 use Rattle.slot_arena.specs.declared.nodes.Node.{Node}
 use Rattle.slot_arena.specs.declared.nodes.Node.TheVariants.{Indirection, Branch, Single, Tomb, List as Listed}
-use Rattle.slot_arena.specs.Heaps.{Heap, node_at, node_of, logical_main, entries_of, refs_of_node, refs_of_prev, refs_of_slot, with_main_word}
+use Rattle.slot_arena.specs.Heaps.{Heap, node_at, node_of, logical_main, entries_of, refs_of_node, refs_of_prev, refs_of_slot}
 use Rattle.machine_model.specs.declared.roots.Root.{Root}
 use Rattle.machine_model.specs.declared.steps.Limits.{Limits}
 use Rattle.machine_model.specs.declared.steps.Step.{Step}
@@ -30,6 +29,7 @@ use Rattle.content_laws.specs.Tries.{Trie, content, map_of, most_levels}
 use Rattle.content_laws.proofs.HeapPairs.{flat_map-same, entry_refs}
 use Rattle.content_laws.proofs.Shown.{reached_entries}
 use Rattle.content_laws.proofs.Values.{assigned-last}
+use Rattle.falling_laws.proofs.ReaderKnows.{indirection_is}
 use Rattle.opening_laws.proofs.ClosedRoots.{main_there}
 use Rattle.opening_laws.proofs.InUse.{nodes_stay}
 use Rattle.opening_laws.proofs.RootsFollow.{logical_in_use}
@@ -40,22 +40,15 @@ use Rattle.shape_laws.specs.SitesAt.{TakesSteps, StepsFit}
 use Rattle.shape_laws.proofs.FoundRoots.{word_root}
 use Rattle.shape_laws.proofs.Given.{levels_there}
 use Rattle.shape_laws.proofs.KeysOnce.{same_shape}
-use Rattle.shape_laws.proofs.Places.{bare_entries, bare_link, link_node}
+use Rattle.shape_laws.proofs.Places.{bare_entries, bare_link}
 use Rattle.shape_laws.proofs.RootBranches.{root_wanted}
 use Rattle.shape_laws.proofs.Shaped.{runs_have_shape}
 use Rattle.shape_laws.proofs.SiteActs.{root_path}
-use Rattle.shape_laws.proofs.SiteRuns.{paths_fit}
+use Rattle.shape_laws.proofs.SiteRuns.{paths_fit, bare_main}
 use Rattle.handle_laws.proofs.Finding.{found_alike, map_alike}
 use Rattle.handle_laws.proofs.Values.{value_below}
 
 -- ---- nodes whose generations and words don't count
-
-bare_word : (m : Ref) (n : Node) → bare (with_main_word m n) ≡ bare n
-bare_word m (Indirection g w) = refl
-bare_word m (Branch b es) = refl
-bare_word m (Single k v) = refl
-bare_word m (Tomb s) = refl
-bare_word m (Listed ss) = refl
 
 bare_pairs_at : (below : Ref → List (ℕ × ℕ)) (heap : Heap) (r : Ref) (n : Node) → pairs_at below heap r (bare n) ≡ pairs_at below heap r n
 bare_pairs_at below heap r (Indirection g w) = refl
@@ -80,7 +73,7 @@ module _ (limits : Limits) (states : ℕ → State) (steps : ℕ → Step) (last
   pub node_same : (r : Ref) → IsInUse heap r → bare (node_at heap r) ≡ bare (node_under states last r)
   node_same r used =
       let now = nodes_stay limits states last run t last within (omega arith) r used.0 (grown_in_use states t r used.0 used.1) in
-      ap bare (Under.node_under heap r used.0 used.1) ∙ sym (ap (λ o. bare (node_of o)) now.1 ∙ ap bare now.2.1 ∙ bare_word now.2.0 used.0.node)
+      ap bare (Under.node_under heap r used.0 used.1) ∙ sym (ap (λ o. bare (node_of o)) now.1 ∙ ap bare now.2.1 ∙ bare_main now.2.0 used.0.node)
 
   pub link_same : (r : Ref) → IsInUse heap r → is_indirection (node_at heap r) ≡ is_indirection (node_under states last r)
   link_same r used = sym (bare_link (node_at heap r)) ∙ ap is_indirection (node_same r used) ∙ bare_link (node_under states last r)
@@ -163,10 +156,6 @@ module _ (limits : Limits) (states : ℕ → State) (steps : ℕ → Step) (last
       does = λ n lt. absurd (omega (arith, lt));
     }
 
-    -- the map of a handle
-    abbrev pub map_now : KeyMap
-    map_now = map_of trie.keys (value_below trie t r)
-
     pub content_now : content now 0 0 ≡ map_of trie.keys (value_below trie t r)
     unfolding content
     content_now = map_alike trie.keys _ _ (λ key. found_alike trie.node _ key _ _ (assigned-last now 0) most_levels 0 r)
@@ -174,5 +163,5 @@ module _ (limits : Limits) (states : ℕ → State) (steps : ℕ → Step) (last
     pub content_shown : content_at (states t) handle ≡ entries (map_of trie.keys (value_below trie t r))
     content_shown =
         ap (λ o. by_key (pairs_below most_levels heap (root_of (word_of o)))) at ∙ ap by_key (pairs_shown most_levels r root_used)
-        ∙ reached_entries now is_trie_now 0 (link_node (node_under states last r) root_link).0 (link_node (node_under states last r) root_link).1 (link_node (node_under states last r) root_link).2
+        ∙ reached_entries now is_trie_now 0 (indirection_is (node_under states last r) root_link).0 (indirection_is (node_under states last r) root_link).1 (indirection_is (node_under states last r) root_link).2
         ∙ ap entries content_now

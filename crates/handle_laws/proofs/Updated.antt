@@ -40,9 +40,6 @@ bare_pair : (kind : HashKind) (depth old_hash hash : ℕ) (old single : Ref) →
 bare_pair kind depth old_hash hash old single = grind arith
 
 module _ (trie : Trie) (t : ℕ) (end : trie.last ≡ suc t) (root : Ref) where
-  abbrev P : Trie
-  P = two_states trie t root
-
   -- ---- the same update
 
   later : (g h : ℕ) (j : Ref) → assigned (two_states trie t root) h 1 j ≡ assigned trie g (suc t) j

@@ -26,8 +26,8 @@ use Rattle.content_laws.specs.Effects.{act_in}
 use Rattle.content_laws.specs.Steps.{Updates, Asks, to_insert, to_set, to_remove}
 use Rattle.content_laws.specs.Tries.{Trie, map_of}
 use Rattle.line_laws.specs.Commits.{MainStep, stays, changes, assigned_at}
+use Rattle.falling_laws.proofs.ReaderKnows.{indirection_is}
 use Rattle.shape_laws.specs.SitesAt.{TakesSteps, StepsFit}
-use Rattle.shape_laws.proofs.Places.{link_node}
 use Rattle.shape_laws.proofs.Shaped.{bare_runs_have_shape}
 use Rattle.trie_laws.proofs.Whole as whole
 use Rattle.handle_laws.specs.Laws.{Holds, Turns}
@@ -97,7 +97,7 @@ module _ (limits : Limits) (states : ℕ → State) (steps : ℕ → Step) (t : 
 
         acted : act_in (hash_of limits.hash) Writable own.owner.call before ≡ Some (changed_reply own.owner.call former, after)
         acted =
-            let node = link_node (node_under states (suc t) own.indirection) (link own) in
+            let node = indirection_is (node_under states (suc t) own.indirection) (link own) in
             update_below T t refl r (ok limits states steps t run takes keys s o m) (bare_runs_have_shape limits states steps (suc t) run takes keys)
             (root_deep limits states steps (suc t) run takes keys t (omega arith) handle root at) (root_led limits states steps (suc t) run takes keys t (omega arith) handle root at)
             own.start own.owner.call former u node.1 node.0 (ap (node_under states (suc t)) (its ∙ sym w.indirection_is) ∙ node.2)

@@ -1,40 +1,44 @@
 -- An operation that runs alone from rest enters the order last, or not at all where it is refused for want of slots.
-use Rattle.std.specs.Prelude.{◌≡◌, ◌≢◌, ◌<◌, ◌≤◌, ◌⊎◌, ℕ, suc, List, [], ◌∷◌, ◌++◌, Option, Some, Contains, false}
+use Rattle.std.specs.Prelude.{◌≡◌, ◌≢◌, ◌<◌, ◌≤◌, ◌⊎◌, ℕ, suc, List, ◌∷◌, ◌++◌, Option, Some, Contains, [], length}
 use Rattle.std.proofs.Common.{refl, sym, ap, subst, arith, ◌∙◌, inl, inr, append-nil}
 use Rattle.std.proofs.lemmas.Bool.{cases_lt}
+use Rattle.std.proofs.lemmas.List.{length-append}
 use Rattle.ctrie_base.specs.Hashes.{hash_of}
 use Rattle.history.specs.declared.calls.Call.{Call}
-use Rattle.history.specs.declared.events.Event.{Event}
 use Rattle.history.specs.declared.events.Event.TheVariants.{Begin, End}
 use Rattle.history.specs.declared.replies.Reply.{Reply}
 use Rattle.history.specs.declared.replies.Reply.TheVariants as reply
 use Rattle.history.specs.Worlds.{HandleMap, KeyMap}
-use Rattle.history.specs.Histories.{HasBegun, HasEnded, IsWellFormed, BeginsAt}
+use Rattle.history.specs.Histories.{HasBegun, HasEnded, IsWellFormed}
 use Rattle.history.specs.Orders.{OrderedAt, Explains}
 use Rattle.places.specs.declared.place.Place.{Place}
 use Rattle.places.specs.Places.{rising, ids_by_place}
 use Rattle.machine_model.specs.declared.steps.Limits.{Limits}
 use Rattle.machine_model.specs.declared.steps.Step.{Step}
-use Rattle.machine_model.specs.States.{State}
+use Rattle.machine_model.specs.States.{State, first_state}
 use Rattle.machine_model.specs.Orders.{order_of}
-use Rattle.machine_model.specs.Machine.{AreLimits, run, is_busy}
-use Rattle.machine_model.proofs.Times.{IsRun, states_of, last_of, run_is, run_ends}
+use Rattle.machine_model.specs.Machine.{AreLimits, run, taken_steps, taken_from}
+use Rattle.machine_model.proofs.Times.{states_of, last_of, run_is, run_ends}
 use Rattle.order_laws.specs.Facts.{Facts}
 use Rattle.order_laws.specs.Laws.{IsExplained, ShowsContents}
-use Rattle.order_laws.proofs.Books.{Books}
-use Rattle.order_laws.proofs.Elements.{Among, Each, of_each, among_left, among_right, among_either, get_among, among_get, among_map, among_mapped, contains_among, no_members}
+use Rattle.order_laws.proofs.Elements.{Among, of_each, among_right, get_among, among_get, among_map, among_mapped, contains_among}
 use Rattle.order_laws.proofs.Sorting.{AreApart, among_rising, rising_among}
-use Rattle.order_laws.proofs.Growing.{Grows, IsKept, holds_later, events_grow, grows_trans, get_grown}
+use Rattle.order_laws.proofs.Growing.{Grows, IsKept, holds_later, events_grow, get_grown}
 use Rattle.order_laws.proofs.Unconditional.{books_of, stay}
 use Rattle.order_laws.proofs.HaveBegun.{placed_begun}
 use Rattle.order_laws.proofs.AllBooks.{books_at}
 use Rattle.order_laws.proofs.Origins.{apart_at}
 use Rattle.order_laws.proofs.Members.{step_within}
+use Rattle.shape_laws.proofs.Fixed.{taken-append, states_of-append}
 use Rattle.legal_order.specs.Laws.{RanAlone, Does, refused as does_nothing, acts as does_act}
-use Rattle.legal_order.proofs.Longer.{same_states, last_longer}
 use Rattle.legal_order.proofs.AtRest.{all_ended}
 use Rattle.legal_order.proofs.SortedLast.{ids_last}
-use Rattle.legal_order.proofs.Telling.{longer, another, begun_back, has_begun, ends_here, acts_last, same_world}
+use Rattle.legal_order.proofs.Telling.{another, begun_back, ends_here, acts_last, same_world}
+
+-- more steps go on from those before
+longer : (limits : Limits) (xs ys : List Step) → last_of limits xs ≤ last_of limits (xs ++ ys)
+longer limits xs ys =
+    let e = ap length (taken-append (first_state limits) xs ys) ∙ length-append (taken_steps limits xs) (taken_from (run limits xs) ys) in omega (arith, e)
 
 -- a reply tells want of slots, or it doesn't
 no_slots : (r : Reply) → (r ≡ reply.NoSlots) ⊎ (r ≢ reply.NoSlots)
@@ -89,9 +93,6 @@ module _ (limits : Limits) (steps more : List Step) (ok : AreLimits limits) (id 
   abbrev after : State
   after = run limits (steps ++ more)
 
-  abbrev H : List Event
-  H = longer before.events id actor call opens answer (subst IsWellFormed alone.told new.1.well_formed)
-
   well : IsWellFormed (before.events ++ Begin id actor call opens ∷ End id answer ∷ [])
   well = subst IsWellFormed alone.told new.1.well_formed
 
@@ -128,14 +129,14 @@ module _ (limits : Limits) (steps more : List Step) (ok : AreLimits limits) (id 
       too_early : p.step < last_of limits steps → ⊥
       too_early low =
           let all = states_of limits (steps ++ more) in
-          let within = last_longer limits steps more in
+          let within = longer limits steps more in
           let contained : Contains (all (last_of limits (steps ++ more))).places p =
           contains_among _ p (subst (λ (s : State). Among p s.places) (sym (run_ends limits (steps ++ more))) (subst (Among p) (sym grown.1) (among_right before.places grown.0 p a))) in
           let (k, operation, runs, same) = facts1.runs_behind p contained in
           let told = (books_at limits all (last_of limits (steps ++ more)) (run_is limits (steps ++ more) ok) (suc p.step) (omega (arith, low, within))).told k operation runs in
           let begun : HasBegun (all (suc p.step)).events p.id = subst (HasBegun (all (suc p.step)).events) same (told.place, record { actor = suc k; call = operation.call; opens = operation.opens }, told.begins) in
           let at_rest = holds_later limits all (last_of limits (steps ++ more)) (run_is limits (steps ++ more) ok) (λ s. HasBegun s.events p.id) (begun_kept p.id) (suc p.step) (last_of limits steps) (omega (arith, low)) (omega (arith, within)) begun in
-          new_begun p a (subst (λ (s : State). HasBegun s.events p.id) (same_states limits steps more (last_of limits steps) (omega arith) ∙ run_ends limits steps) at_rest)
+          new_begun p a (subst (λ (s : State). HasBegun s.events p.id) (states_of-append limits steps more (last_of limits steps) (omega arith) ∙ run_ends limits steps) at_rest)
 
   old_early : (p : Place) → Among p before.places → p.step < last_of limits steps
   old_early p a =

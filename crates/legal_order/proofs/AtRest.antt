@@ -1,19 +1,19 @@
 -- At rest each operation that has begun has ended.
-use Rattle.std.specs.Prelude.{◌≡◌, ℕ, zero, suc, ◌==◌, ◌⊎◌, Bool, true, false, List, [], ◌∷◌, ◌++◌, Option, Some, None, is_some, slice_get}
+use Rattle.std.specs.Prelude.{◌≡◌, ℕ, zero, suc, ◌⊎◌, false, List, [], ◌∷◌, Option, Some, None, is_some, slice_get}
 use Rattle.std.specs.List.{list_any}
-use Rattle.std.proofs.Common.{refl, sym, ap, subst, arith, ◌∙◌, inl, inr, eqb-true}
+use Rattle.std.proofs.Common.{refl, ap, inl, inr}
 use Rattle.std.proofs.lemmas.Option.{none-some, same_Some}
 use Rattle.std.proofs.lemmas.Bool.{cases_eq}
 use Rattle.history.specs.declared.events.Event.{Event}
 use Rattle.history.specs.declared.events.Event.TheVariants.{Begin, End}
 use Rattle.history.specs.declared.replies.Reply.{Reply}
-use Rattle.history.specs.Histories.{HasBegun, HasEnded, IsRunning}
+use Rattle.history.specs.Histories.{HasBegun, HasEnded}
 use Rattle.machine_model.specs.declared.operations.Operation.{Operation}
 use Rattle.machine_model.specs.States.{State}
 use Rattle.machine_model.specs.Machine.{is_busy}
 use Rattle.order_laws.specs.Facts.{Runs}
 use Rattle.order_laws.proofs.Books.{Books}
-use Rattle.order_laws.proofs.Elements.{Among, among_get_or, tested}
+use Rattle.order_laws.proofs.Elements.{Among, among_get_or}
 
 -- an end of the operation stands in the history, or none
 abbrev Decided : List Event → ℕ → Type 0

@@ -4,13 +4,11 @@ use Rattle.std.proofs.lemmas.List.Elements.{All-nil, All-cons, All-head, All-tai
 use Rattle.history.specs.Worlds.{KeyMap}
 use Rattle.machine_model.specs.declared.steps.Limits.{Limits}
 use Rattle.machine_model.specs.declared.steps.Step.{Step}
-use Rattle.machine_model.specs.States.{State}
 use Rattle.machine_model.specs.Keys.{FitsKey, KeysFit}
-use Rattle.machine_model.specs.Machine.{AreLimits, run}
-use Rattle.machine_model.proofs.Times.{IsRun, states_of, last_of, run_is}
+use Rattle.machine_model.specs.Machine.{AreLimits}
+use Rattle.machine_model.proofs.Times.{states_of, last_of, run_is}
 use Rattle.content_laws.specs.Tries.{content}
 use Rattle.order_laws.specs.Facts.{Facts}
-use Rattle.order_laws.specs.Laws.{IsExplained}
 use Rattle.order_laws.proofs.Explained.{legal_by_facts}
 use Rattle.shape_laws.specs.Sites.{steps_of}
 use Rattle.shape_laws.specs.Shaped.{trie_of_run}

@@ -1,5 +1,4 @@
 pub mod Telling
-pub mod Longer
 pub mod AtRest
 pub mod SortedLast
 pub mod Alone

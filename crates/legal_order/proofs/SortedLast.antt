@@ -1,9 +1,9 @@
 -- Places in front of one that comes last.
 use Rattle.std.specs.Prelude.{◌≡◌, ◌<◌, ◌≤◌, ℕ, Bool, true, false, List, [], ◌∷◌, ◌++◌, map}
-use Rattle.std.proofs.Common.{refl, sym, ap, subst, arith, ◌∙◌, inl, inr, cond}
+use Rattle.std.proofs.Common.{refl, ap, arith, ◌∙◌, inl, inr, cond}
 use Rattle.places.specs.declared.place.Place.{Place}
 use Rattle.places.specs.Places.{is_before, placed, rising, ids_by_place}
-use Rattle.order_laws.proofs.Elements.{Among, among_either}
+use Rattle.order_laws.proofs.Elements.{Among}
 
 -- a place of an earlier step comes before
 earlier_before : (p q : Place) → p.step < q.step → is_before p q ≡ true

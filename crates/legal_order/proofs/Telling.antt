@@ -1,5 +1,5 @@
 -- A history with one operation more, told by its begin and its end: what it says of the others, and what replays of them lead to.
-use Rattle.std.specs.Prelude.{◌≡◌, ◌≢◌, ℕ, zero, suc, ◌<◌, ◌⊎◌, List, [], ◌∷◌, ◌++◌, length, Option, Some, None, slice_get}
+use Rattle.std.specs.Prelude.{◌≡◌, ◌≢◌, ℕ, zero, suc, ◌⊎◌, List, ◌∷◌, ◌++◌, length, Option, Some, slice_get, []}
 use Rattle.std.proofs.Common.{refl, sym, ap, subst, arith, ◌∙◌, inl, inr}
 use Rattle.std.proofs.Math.Seq.{take-append_seam}
 use Rattle.std.proofs.lemmas.List.{take-append-le, append_assoc}
@@ -10,12 +10,12 @@ use Rattle.history.specs.declared.events.Event.TheVariants.{Begin, End}
 use Rattle.history.specs.declared.replies.Reply.{Reply}
 use Rattle.history.specs.Worlds.{HandleMap, first_world}
 use Rattle.history.specs.Effects.{Effect}
-use Rattle.history.specs.Histories.{Operation, BeginsAt, EndsAt, HasBegun, HasEnded, MayFollow, IsWellFormed, begun}
+use Rattle.history.specs.Histories.{Operation, BeginsAt, HasBegun, HasEnded, MayFollow, IsWellFormed, begun}
 use Rattle.history.specs.Orders.{OrderedAt, Answered, Recalls, RecallsEach, Replays, Explains}
 use Rattle.history.proofs.Begins.{begins_once}
 use Rattle.history.proofs.OneWorld.{one_world}
 use Rattle.order_laws.proofs.Books.{id_below}
-use Rattle.order_laws.proofs.Growing.{ended_before}
+use Rattle.order_laws.proofs.Growing.{ended_before, get_left}
 
 -- ---- replays of a list with one call more
 
@@ -48,11 +48,6 @@ last_of hash history (x ∷ ids) id (one ∷ more) world next r p =
     }
 
 -- ---- the longer history
-
-pub get_before : {X : Type 0} (xs ys : List X) (i : ℕ) (x : X) → slice_get xs i ≡ Some x → slice_get (xs ++ ys) i ≡ Some x
-get_before [] ys i x e = absurd (none-some x e)
-get_before (y ∷ xs) ys zero x e = e
-get_before (y ∷ xs) ys (suc i) x e = get_before xs ys i x e
 
 pub get_at_seam : {X : Type 0} (xs ys : List X) (y : X) → slice_get (xs ++ y ∷ ys) (length xs) ≡ Some y
 get_at_seam [] ys y = refl
@@ -91,7 +86,7 @@ module _ (history : List Event) (id actor : ℕ) (call : Call) (opens : Option �
   pub well_before : IsWellFormed history
   well_before place event e =
       subst (λ h. MayFollow h event) (take-append-le place history (Begin id actor call opens ∷ End id answer ∷ []) (omega (arith, slice_get_within history place event e)))
-      (well place event (get_before history (Begin id actor call opens ∷ End id answer ∷ []) place event e))
+      (well place event (get_left history (Begin id actor call opens ∷ End id answer ∷ []) place event e))
 
   -- who had begun is another one
   pub another : (x : ℕ) → HasBegun history x → x ≢ id
@@ -125,7 +120,7 @@ module _ (history : List Event) (id actor : ℕ) (call : Call) (opens : Option �
 
   recalls_on : (x : ℕ) (one : Answered) → HasBegun history x → Recalls history x one → Recalls longer x one
   recalls_on x one begun_x ((place, told, at, same_call, same_opens), answers) = (
-    (place, told, get_before history (Begin id actor call opens ∷ End id answer ∷ []) place (Begin x told.actor told.call told.opens) at, same_call, same_opens),
+    (place, told, get_left history (Begin id actor call opens ∷ End id answer ∷ []) place (Begin x told.actor told.call told.opens) at, same_call, same_opens),
     λ other ended. elim (ended_back x other ended) [ inl old ↦ answers other old | inr bad ↦ absurd (another x begun_x bad) ],
   )
 

@@ -21,7 +21,7 @@ use Rattle.deciding_laws.proofs.Finals.{link_stays}
 use Rattle.deciding_laws.proofs.Readings.{IsMoment}
 use Rattle.deciding_laws.proofs.Stages.{stage_of}
 use Rattle.deciding_laws.proofs.Known.{Known}
-use Rattle.deciding_laws.proofs.GrownWords.{words_of}
+use Rattle.deciding_laws.proofs.GrownWords.{words_of, link_made}
 use Rattle.deciding_laws.proofs.StepsAt.{after_mark, go_own}
 use Rattle.deciding_laws.proofs.LineReads.{CountsTo, line_counts}
 use Rattle.deciding_laws.proofs.LineTurns.{line_turn}
@@ -32,7 +32,6 @@ use Rattle.line_laws.specs.Given.{HasBegun, at_first, later, Reading, Gave}
 use Rattle.line_laws.specs.Knowing.{OfEachAt}
 use Rattle.line_laws.proofs.EachAt.{GoesAt, each_at}
 use Rattle.line_laws.proofs.Nodes.{known_run}
-use Rattle.line_laws.proofs.Was.{link_made}
 use Rattle.memory_laws.specs.Wants.{is_indirection}
 
 -- what an actor runs after a step of its operation: what the step makes of it, with a mark or none

@@ -1,19 +1,17 @@
 -- A step of BUILD hands on what its line knows, with the node that it made.
-use Rattle.std.proofs.Common.{◌≡◌, ◌≢◌, ℕ, ◌<◌, ◌≤◌, ◌==◌, nat_lt, Bool, true, false, cond, List, [], ◌∷◌, length, slice_index_or, bit_or, Option, Some, None, inl, refl, sym, ◌∙◌, ap, subst, arith, ltb-true, ltb-false}
+use Rattle.std.proofs.Common.{◌≡◌, ℕ, ◌<◌, ◌≤◌, nat_lt, Bool, true, false, List, length, slice_index_or, Option, Some, None, inl, refl, sym, ◌∙◌, ap, subst, arith, ltb-true, ltb-false}
 use Rattle.std.specs.Prelude.{All}
 use Rattle.std.proofs.lemmas.List.{get_or_past}
-use Rattle.ctrie_base.specs.declared.hashes.HashKind.{HashKind}
 use Rattle.slot_arena.specs.declared.refs.Ref.{Ref}
 use Rattle.slot_arena.specs.declared.nodes.Node.{Node}
-use Rattle.slot_arena.specs.declared.nodes.Node.TheVariants.{Indirection, Branch, Single, List as Listed}
+use Rattle.slot_arena.specs.declared.nodes.Node.TheVariants.{Indirection, Single}
 use Rattle.slot_arena.specs.declared.nodes.Prev.TheVariants as over
-use Rattle.slot_arena.specs.Heaps.{Heap, node_at, node_of, entry_at, entries_of, entries_from, next_ref, no_ref}
-use Rattle.nodes.specs.Levels.{list_depth, index_in, flag_of}
-use Rattle.nodes.specs.Builders.{pair, rung, by_index}
+use Rattle.slot_arena.specs.Heaps.{Heap, node_at, node_of, entry_at, entries_of, next_ref, no_ref}
+use Rattle.nodes.specs.Levels.{list_depth}
+use Rattle.nodes.specs.Builders.{rung}
 use Rattle.machine_model.specs.declared.actions.Action.TheVariants as act
 use Rattle.machine_model.specs.declared.building.BuildLine.{BuildLine}
 use Rattle.machine_model.specs.declared.building.BuildLine.TheVariants as build
-use Rattle.machine_model.specs.declared.building.Change.{Change}
 use Rattle.machine_model.specs.declared.building.Site.TheVariants as site
 use Rattle.machine_model.specs.declared.lines.Line.TheVariants as line
 use Rattle.machine_model.specs.declared.operations.Operation.{Operation}
@@ -26,9 +24,9 @@ use Rattle.machine_model.specs.Operations.{action_of, line_action}
 use Rattle.machine_model.proofs.Grown.{grown, node_under, prev_word}
 use Rattle.machine_model.proofs.Times.{IsRun}
 use Rattle.memory_laws.specs.Laws.{IsInUse}
-use Rattle.memory_laws.specs.Wants.{AMain, ABranch, BranchOrList, AnEntry, meets, Holds, Is}
+use Rattle.memory_laws.specs.Wants.{ABranch, BranchOrList, AnEntry, Holds, Is}
 use Rattle.memory_laws.proofs.Claims.{Meets, safe_of, meets_of}
-use Rattle.memory_laws.proofs.Nodes.{all_in}
+use Rattle.memory_laws.proofs.Nodes.{all_in, IsNoLink, main_no_link, branch_main, both_main}
 use Rattle.memory_laws.proofs.Invariant.{of_actor}
 use Rattle.memory_laws.proofs.LevelStates.{heaped_in_use}
 use Rattle.memory_laws.proofs.AtEachTime.{safe_at}
@@ -41,25 +39,16 @@ use Rattle.deciding_laws.proofs.RunWords.{protocol}
 use Rattle.content_laws.specs.Knowing.{Known, KnowsBuild, KnowsLine}
 use Rattle.content_laws.proofs.KeyKnows.{known, Sees}
 use Rattle.content_laws.proofs.BuildKnows.{IsMade, a_link, another, made_by, main_of_build, path_of_build, build_knows}
+use Rattle.memory_laws.proofs.Next.{pair_no_link, changed_main}
 use Rattle.line_laws.specs.Knowing.{known_with, first_main}
 use Rattle.line_laws.proofs.EachAt.{GoesAt}
-use Rattle.line_laws.proofs.Nodes.{known_run, IsNoLink, known_node, made_node, made_link, prev_still, first_is}
+use Rattle.line_laws.proofs.Nodes.{known_run, known_node, made_node, made_link, prev_still, first_is}
 use Rattle.line_laws.proofs.NoRef.{never_made}
 use Rattle.line_laws.proofs.RunOf.{HasSites, sites_at, branch_shallow}
-use Rattle.line_laws.proofs.Seen.{main_no_link, branch_main, both_main, sees}
+use Rattle.line_laws.proofs.Seen.{sees}
 use Rattle.line_laws.proofs.KeyStep.{same_known, claims}
 
 -- ---- nodes that are made
-
-pub pair_no_link : (kind : HashKind) (d a b : ℕ) (x y : Ref) → IsNoLink (pair kind d a b x y)
-pair_no_link kind d a b x y g w = by_test (d == list_depth kind)
-  where
-    by_test : (t : Bool) → cond t (Listed (entries_from (x ∷ y ∷ []))) (Branch (bit_or (flag_of a d) (flag_of b d)) (entries_from (by_index (index_in a d) (index_in b d) x y))) ≢ Indirection g w
-    by_test true e = cc
-    by_test false e = cc
-
-pub changed_main : (flag : ℕ) (n : Node) (c : Change) → meets BranchOrList n ≡ true → meets AMain (changed flag n c) ≡ true
-changed_main flag n c e = grind arith
 
 module _ (limits : Limits) (states : ℕ → State) (last : ℕ) (run : IsRun limits states last) where
   -- the single at a position of a main node in use is there

@@ -1,5 +1,5 @@
 -- A step of CLIMB, or of a swap that leads to it, hands on what the line knows of the tomb that it climbs from.
-use Rattle.std.proofs.Common.{◌≡◌, ℕ, zero, suc, ◌<◌, ◌==◌, ◌&&◌, nat_lt, Bool, true, false, cond, List, [], ◌∷◌, length, slice_index_or, slice_set, Option, Some, None, refl, sym, ◌∙◌, ap, ap₂, subst, arith, eqb-true, ltb-true, ltb-false}
+use Rattle.std.proofs.Common.{◌≡◌, ℕ, zero, suc, ◌<◌, ◌==◌, ◌&&◌, nat_lt, Bool, true, false, cond, List, ◌∷◌, length, slice_index_or, slice_set, Option, Some, None, refl, sym, ◌∙◌, ap, ap₂, subst, arith, eqb-true, ltb-true, ltb-false, []}
 use Rattle.std.proofs.lemmas.Bool.{true≢false}
 use Rattle.std.proofs.lemmas.List.{get_or_past}
 use Rattle.ctrie_base.specs.Paths.{position_of}
@@ -37,15 +37,16 @@ use Rattle.deciding_laws.proofs.Words.{Given}
 use Rattle.deciding_laws.proofs.GrownWords.{words_of}
 use Rattle.content_laws.specs.Knowing.{Known}
 use Rattle.content_laws.proofs.KeyKnows.{known}
+use Rattle.memory_laws.proofs.Next.{contracted_no_link}
+use Rattle.memory_laws.proofs.Nodes.{branch_main}
 use Rattle.line_laws.specs.Given.{Was}
 use Rattle.line_laws.specs.Climbing.{WasTombed, HoldsIt, KnowsClimb, KnowsClimbing}
 use Rattle.line_laws.specs.Knowing.{first_main}
 use Rattle.line_laws.proofs.EachAt.{GoesAt}
 use Rattle.line_laws.proofs.Nodes.{known_run, made_node}
 use Rattle.line_laws.proofs.NoRef.{never_made}
-use Rattle.line_laws.proofs.Seen.{branch_main, main_seen}
+use Rattle.line_laws.proofs.Seen.{main_seen}
 use Rattle.line_laws.proofs.KeyStep.{claims}
-use Rattle.line_laws.proofs.RepairStep.{contracted_no_link}
 use Rattle.line_laws.proofs.Was.{was_given, given_link}
 
 both_true : (a b : Bool) → (a && b) ≡ true → (a ≡ true) × (b ≡ true)

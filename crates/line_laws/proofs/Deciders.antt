@@ -1,9 +1,7 @@
 -- A step that commits a node decides it, and somebody is in a SWAP of it.
-use Rattle.std.proofs.Common.{◌≡◌, ℕ, Bool, true, false, Option, Some, None, refl, sym, ◌∙◌, ap, subst, arith, eqb-true}
-use Rattle.std.proofs.lemmas.Bool.{true≢false}
+use Rattle.std.proofs.Common.{◌≡◌, ℕ, Bool, true, false, Option, Some, None, refl, ◌∙◌, ap, subst, arith}
 use Rattle.std.proofs.lemmas.Option.{none-some, same_Some}
 use Rattle.slot_arena.specs.declared.refs.Ref.{Ref}
-use Rattle.slot_arena.specs.declared.nodes.Prev.{Prev}
 use Rattle.slot_arena.specs.declared.nodes.Prev.TheVariants as over
 use Rattle.slot_arena.specs.Heaps.{Heap, prev_at}
 use Rattle.machine_model.specs.declared.actions.Action.TheVariants as act
@@ -26,6 +24,7 @@ use Rattle.machine_model.specs.States.{State}
 use Rattle.machine_model.specs.Reading.{Verdict, Commits, Fails, Overtaken, verdict, verdict_by, is_licensed, is_pending, read_action, committed_by, committed_so}
 use Rattle.machine_model.specs.Operations.{read_of, line_action, action_of}
 use Rattle.machine_model.specs.Orders.{committed_in, committed_now}
+use Rattle.deciding_laws.proofs.ReadTurns.{pending_so}
 
 -- ---- who is in a READ takes its step
 
@@ -108,10 +107,5 @@ commits_pending : (b c : Bool) → verdict_by b c ≡ Commits → c ≡ true
 commits_pending b true e = refl
 commits_pending b false e = let wrong : ⊥ = cc in absurd wrong
 
-pending_is : (v : Prev) (q : Ref) → is_pending v q ≡ true → v ≡ over.Pending q
-pending_is over.None q e = absurd (true≢false (sym e))
-pending_is (over.Failed r) q e = absurd (true≢false (sym e))
-pending_is (over.Pending r) q e = ap (λ x. over.Pending x) (eqb-true r q e)
-
 pub was_pending : (heap : Heap) (i x q : Ref) (told : Option ℕ) → verdict heap i x q told ≡ Commits → prev_at heap x ≡ over.Pending q
-was_pending heap i x q told e = pending_is (prev_at heap x) q (commits_pending (is_licensed heap i told) (is_pending (prev_at heap x) q) e)
+was_pending heap i x q told e = pending_so (prev_at heap x) q (commits_pending (is_licensed heap i told) (is_pending (prev_at heap x) q) e)

@@ -34,19 +34,20 @@ use Rattle.deciding_laws.proofs.Owners.{Staged}
 use Rattle.deciding_laws.proofs.Sounds.{sound_at}
 use Rattle.deciding_laws.proofs.Stages.{stage_of, stage_of_actor}
 use Rattle.deciding_laws.proofs.RunWords.{protocol}
-use Rattle.content_laws.specs.Knowing.{Known, KnowsLine, KnowsBuild, KnowsSite, LeadsBelow, by_pair, by_link, Neighbour}
+use Rattle.content_laws.specs.Knowing.{Known, KnowsLine, KnowsBuild, LeadsBelow, by_pair, by_link, Neighbour}
 use Rattle.content_laws.specs.Knowing as Knowing
+use Rattle.memory_laws.proofs.Nodes.{main_no_link, both_main}
+use Rattle.memory_laws.proofs.Next.{pair_no_link, changed_main}
 use Rattle.line_laws.specs.Knowing.{known_with, first_main}
 use Rattle.line_laws.proofs.EachAt.{GoesAt}
 use Rattle.line_laws.proofs.Nodes.{known_run, made_node, prev_still, first_is}
 use Rattle.line_laws.proofs.LevelsAlong.{level}
 use Rattle.line_laws.proofs.Knows.{knows_at}
 use Rattle.line_laws.proofs.Takers.{taker}
-use Rattle.line_laws.proofs.Seen.{main_no_link, both_main, main_seen}
+use Rattle.line_laws.proofs.Seen.{main_seen}
 use Rattle.line_laws.proofs.KeyStep.{claims}
-use Rattle.line_laws.proofs.BuildStep.{pair_no_link, changed_main}
 use Rattle.line_laws.proofs.Entries.{one_entry, pair_not_rung}
-use Rattle.line_laws.proofs.Fresh.{IsHeld, IsNamed, StandsIn, IsChain, ends, goes_on, NotGiven, NewNames, held_closed, named_closed, named_still, chain_still}
+use Rattle.line_laws.proofs.Fresh.{IsNamed, StandsIn, IsChain, ends, goes_on, NotGiven, NewNames, held_closed, named_closed, named_still, chain_still}
 use Rattle.line_laws.proofs.HeldLines.{NamedOrHeld, HeldNode, HeldLink, HeldChange, HeldBuild, HeldIn}
 use Rattle.line_laws.proofs.HeldSteps.{made_named, named_or_held, new_held, new_stands, next_level}
 
@@ -63,9 +64,6 @@ module _ (limits : Limits) (states : ℕ → State) (last : ℕ) (run : IsRun li
 
   abbrev p : Protocol
   p = protocol limits states last (known_run limits states last run)
-
-  abbrev Held : ℕ → Ref → Type 0
-  Held v j = IsHeld limits states last run v actor start j
 
   abbrev Next : Line → Type 0
   Next l = HeldIn limits states last run (suc t) actor operation.id start operation.call l

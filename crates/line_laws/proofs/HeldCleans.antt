@@ -1,5 +1,5 @@
 -- What a step of CLEAN makes of what its line holds.
-use Rattle.std.proofs.Common.{◌≡◌, ℕ, suc, ◌<◌, ◌&&◌, true, List, [], ◌∷◌, ◌++◌, Option, Some, None, refl, sym, ◌∙◌, ap, subst, arith}
+use Rattle.std.proofs.Common.{◌≡◌, ℕ, suc, ◌<◌, ◌&&◌, true, List, ◌∷◌, ◌++◌, Option, Some, None, refl, sym, ◌∙◌, ap, subst, arith, []}
 use Rattle.std.proofs.lemmas.Bool.{true≢false}
 use Rattle.slot_arena.specs.declared.refs.Ref.{Ref}
 use Rattle.slot_arena.specs.declared.nodes.Node.{Node}
@@ -28,9 +28,9 @@ use Rattle.memory_laws.specs.Wants.{ASingle, meets, AllHold, node_wants}
 use Rattle.memory_laws.proofs.Claims.{safe_of, meets_of}
 use Rattle.memory_laws.proofs.LevelStates.{heaped_in_use}
 use Rattle.memory_laws.proofs.AtEachTime.{safe_at}
+use Rattle.memory_laws.proofs.Next.{contracted_no_link}
 use Rattle.line_laws.proofs.EachAt.{GoesAt}
 use Rattle.line_laws.proofs.Nodes.{made_node}
-use Rattle.line_laws.proofs.RepairStep.{contracted_no_link}
 use Rattle.line_laws.proofs.Takers.{taker}
 use Rattle.line_laws.proofs.Seen.{single_seen}
 use Rattle.line_laws.proofs.KeyStep.{claims}
@@ -46,9 +46,6 @@ module _ (limits : Limits) (states : ℕ → State) (last : ℕ) (run : IsRun li
 
   abbrev node : Ref → Node
   node = node_under states last
-
-  abbrev Held : ℕ → Ref → Type 0
-  Held v j = IsHeld limits states last run v actor start j
 
   abbrev Came' : ℕ → Ref → List Ref → Type 0
   Came' v main done = AllCame limits states last run (IsHeld limits states last run v actor start) main done

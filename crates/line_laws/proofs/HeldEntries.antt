@@ -1,5 +1,5 @@
 -- Which entries of a repair were kept, or are singles, or were made anew; and the fresh main node of them.
-use Rattle.std.proofs.Common.{◌≡◌, ℕ, suc, ◌<◌, nat_lt, nat_eq, Bool, true, false, cond, List, [], ◌∷◌, ◌++◌, length, slice_index_or, Some, refl, sym, ◌∙◌, ap, subst, subst₂, arith, length-append, ltb-true, ltb-false}
+use Rattle.std.proofs.Common.{◌≡◌, ℕ, suc, ◌<◌, nat_lt, nat_eq, Bool, true, false, cond, List, ◌∷◌, ◌++◌, length, slice_index_or, Some, refl, sym, ◌∙◌, ap, subst, subst₂, arith, length-append, ltb-true, ltb-false, []}
 use Rattle.std.proofs.lemmas.List.{get_or_append_left}
 use Rattle.std.proofs.Math.Seq.{get_or-append_seam}
 use lib.Pointwise.{pointwise}
@@ -26,12 +26,13 @@ use Rattle.machine_model.proofs.Times.{IsRun}
 use Rattle.memory_laws.specs.Laws.{IsInUse}
 use Rattle.memory_laws.specs.Wants.{ABranch, Holds, Is}
 use Rattle.content_laws.specs.Repairing.{IsDone, keeps, renews, cleans, AllDone, KnowsRepair}
+use Rattle.memory_laws.proofs.Nodes.{branch_main}
 use Rattle.line_laws.specs.Given.{GaveBelow}
 use Rattle.line_laws.specs.Knowing.{first_main}
 use Rattle.line_laws.proofs.EachAt.{GoesAt}
 use Rattle.line_laws.proofs.RepairsAt.{repairs_at, gave_below_later}
 use Rattle.line_laws.proofs.Takers.{taker}
-use Rattle.line_laws.proofs.Seen.{branch_main, main_seen}
+use Rattle.line_laws.proofs.Seen.{main_seen}
 use Rattle.line_laws.proofs.MadeNodes.{is_making}
 use Rattle.line_laws.proofs.Fresh.{IsHeld, NewNames, IsUncommitted}
 use Rattle.line_laws.proofs.HeldLines.{Came, same, single, anew, DoneWith, kept, renewed, cleaned as cleaned_entry, AllCame, NamedOrHeld, HeldRepair, HeldIn, all_still}

@@ -1,5 +1,5 @@
 -- What a step of RENEW makes of the indirections that its line holds.
-use Rattle.std.proofs.Common.{◌≡◌, ℕ, suc, ◌+◌, ◌<◌, ◌≤◌, nat_lt, Bool, true, false, cond, List, [], ◌∷◌, ◌++◌, length, Contains, Option, Some, None, inl, inr, refl, sym, ◌∙◌, ap, subst, arith, length-append}
+use Rattle.std.proofs.Common.{◌≡◌, ℕ, suc, ◌+◌, ◌<◌, ◌≤◌, nat_lt, Bool, true, false, cond, List, ◌∷◌, ◌++◌, length, Contains, Option, Some, None, inl, inr, refl, sym, ◌∙◌, ap, subst, arith, length-append, []}
 use Rattle.std.proofs.Math.Seq.{get_or-append_seam}
 use Rattle.slot_arena.specs.declared.refs.Ref.{Ref}
 use Rattle.slot_arena.specs.declared.nodes.Node.{Node}
@@ -53,9 +53,6 @@ module _ (limits : Limits) (states : ℕ → State) (last : ℕ) (run : IsRun li
 
   abbrev node : Ref → Node
   node = node_under states last
-
-  abbrev Held : ℕ → Ref → Type 0
-  Held v j = IsHeld limits states last run v actor start j
 
   abbrev Came' : ℕ → Ref → List Ref → Type 0
   Came' v main done = AllCame limits states last run (IsHeld limits states last run v actor start) main done

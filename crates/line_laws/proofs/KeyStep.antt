@@ -21,10 +21,11 @@ use Rattle.memory_laws.specs.Wants.{AMain, ABranch, listed, AllHold, line_wants}
 use Rattle.memory_laws.proofs.AtTimes.{line_at, limits_at}
 use Rattle.content_laws.specs.Knowing.{Known, KnowsKey, KnowsLine}
 use Rattle.content_laws.proofs.KeyKnows.{known, Sees, SeesSingle, OnlyGets, main_in, position_in, key_knows}
+use Rattle.memory_laws.proofs.Nodes.{branch_main}
 use Rattle.line_laws.specs.Knowing.{known_with, first_main}
 use Rattle.line_laws.proofs.EachAt.{GoesAt}
 use Rattle.line_laws.proofs.Places.{settled_at, FitsCall}
-use Rattle.line_laws.proofs.Seen.{branch_main, listed_main, keyed_get, fits_at, sees, look_used, single_seen}
+use Rattle.line_laws.proofs.Seen.{listed_main, keyed_get, fits_at, sees, look_used, single_seen}
 
 module _ (limits : Limits) (states : ℕ → State) (last : ℕ) (run : IsRun limits states last) (t : ℕ) (h : t < last) (actor : ℕ) (operation : Operation) (go : GoesAt states t actor operation) where
   abbrev heap : Heap

@@ -58,6 +58,3 @@ pub mod HeldCleans
 pub mod HeldFree
 pub mod HeldAt
 pub mod FreshCommits
-pub mod Ended
-pub mod Carrying
-pub mod Answers

@@ -1,5 +1,5 @@
 -- The node that a step makes: who makes it, and what it names.
-use Rattle.std.proofs.Common.{◌≡◌, ℕ, zero, suc, ◌<◌, ◌≤◌, ◌⊎◌, ◌==◌, Bool, true, false, Contains, Option, Some, None, is_some, option_map, inl, inr, refl, sym, ◌∙◌, ap, subst, arith}
+use Rattle.std.proofs.Common.{◌≡◌, ℕ, zero, suc, ◌<◌, ◌≤◌, ◌⊎◌, ◌==◌, Bool, true, false, Contains, Option, Some, None, is_some, inl, inr, refl, sym, ◌∙◌, ap, subst, arith}
 use Rattle.std.proofs.lemmas.Bool.{cases_eq, true≢false}
 use Rattle.std.specs.List.{All}
 use Rattle.slot_arena.specs.declared.refs.Ref.{Ref}
@@ -30,6 +30,7 @@ use Rattle.deciding_laws.proofs.StepsAt.{StepAt, IsBegin, IsGo, IsEnd, IsSweep}
 use Rattle.content_laws.specs.Runs.{is_made}
 use Rattle.content_laws.proofs.Runs.{made_next}
 use Rattle.content_laws.proofs.Started.{node_stays, indirection_stays}
+use Rattle.deciding_laws.proofs.GrownWords.{slot_kept}
 use Rattle.line_laws.proofs.EachAt.{GoesAt}
 use Rattle.line_laws.proofs.Nodes.{known_run, nodes_stay}
 use Rattle.line_laws.proofs.Takers.{taker, taker_of, step_taken}
@@ -49,23 +50,19 @@ module _ (states : ℕ → State) (t : ℕ) where
   stays_made : GrownStays states t → SameMade
   stays_made e m = ap is_some (e m)
 
-  kept_some : (change : Slot → Slot) (o : Option Slot) → is_some (option_map change o) ≡ is_some o
-  kept_some change None = refl
-  kept_some change (Some slot) = refl
-
   changes_made : (change : Slot → Slot) (r : Ref) → GrownChanges states t change r → SameMade
   changes_made change r c m = by_ref (cases_eq m r)
     where
       by_ref : (m ≡ r) ⊎ (m ≡ r → ⊥) → is_made states (suc t) m ≡ is_made states t m
-      by_ref (inl same) = ap (is_made states (suc t)) same ∙ ap is_some c.here ∙ kept_some change (grown states t r) ∙ sym (ap (is_made states t) same)
+      by_ref (inl same) = ap (is_made states (suc t)) same ∙ ap is_some c.here ∙ slot_kept change (grown states t r) ∙ sym (ap (is_made states t) same)
       by_ref (inr apart) = ap is_some (c.elsewhere m apart)
 
   swaps_made : (i a f : Ref) → GrownSwaps states t i a f → SameMade
   swaps_made i a f s m = by_ref (cases_eq m i) (cases_eq m f)
     where
       by_ref : (m ≡ i) ⊎ (m ≡ i → ⊥) → (m ≡ f) ⊎ (m ≡ f → ⊥) → is_made states (suc t) m ≡ is_made states t m
-      by_ref (inl same) other = ap (is_made states (suc t)) same ∙ ap is_some s.main ∙ kept_some _ (grown states t i) ∙ sym (ap (is_made states t) same)
-      by_ref (inr apart) (inl same) = ap (is_made states (suc t)) same ∙ ap is_some s.prev ∙ kept_some _ (grown states t f) ∙ sym (ap (is_made states t) same)
+      by_ref (inl same) other = ap (is_made states (suc t)) same ∙ ap is_some s.main ∙ slot_kept _ (grown states t i) ∙ sym (ap (is_made states t) same)
+      by_ref (inr apart) (inl same) = ap (is_made states (suc t)) same ∙ ap is_some s.prev ∙ slot_kept _ (grown states t f) ∙ sym (ap (is_made states t) same)
       by_ref (inr apart) (inr other) = ap is_some (s.elsewhere m apart other)
 
   either_made : (b : Bool) (A B : Type 0) → (A → SameMade) → (B → SameMade) → Either b A B → SameMade

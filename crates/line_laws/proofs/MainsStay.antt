@@ -3,10 +3,8 @@ use Rattle.std.proofs.Common.{◌≡◌, ◌≢◌, ℕ, suc, ◌<◌, ◌≤◌
 use Rattle.std.proofs.lemmas.Bool.{cases_eq, true≢false}
 use Rattle.std.proofs.lemmas.Option.{none-some}
 use Rattle.slot_arena.specs.declared.refs.Ref.{Ref}
-use Rattle.slot_arena.specs.declared.nodes.Node.{Node}
-use Rattle.slot_arena.specs.declared.nodes.Node.TheVariants.{Indirection, Branch, Single, Tomb, List as Listed}
 use Rattle.slot_arena.specs.declared.nodes.Slot.{Slot}
-use Rattle.slot_arena.specs.Heaps.{main_of, node_of, prev_of, with_main_word, logical, no_ref}
+use Rattle.slot_arena.specs.Heaps.{node_of, prev_of, logical, no_ref}
 use Rattle.machine_model.specs.declared.heaps.Commit.{Commit}
 use Rattle.machine_model.specs.declared.steps.Limits.{Limits}
 use Rattle.machine_model.specs.States.{State}
@@ -24,21 +22,8 @@ use Rattle.content_laws.proofs.Runs.{main_at-stays}
 use Rattle.line_laws.proofs.Nodes.{known_run}
 use Rattle.line_laws.proofs.NoRef.{never_made}
 use Rattle.memory_laws.specs.Wants.{is_indirection}
-
--- what isn't an indirection has no main word
-no_main : (n : Node) → is_indirection n ≡ false → main_of n ≡ no_ref
-no_main (Indirection g w) e = absurd (true≢false e)
-no_main (Branch b es) e = refl
-no_main (Single k v) e = refl
-no_main (Tomb s) e = refl
-no_main (Listed ss) e = refl
-
-link_kept : (m : Ref) (n : Node) → is_indirection (with_main_word m n) ≡ is_indirection n
-link_kept m (Indirection g w) = refl
-link_kept m (Branch b es) = refl
-link_kept m (Single k v) = refl
-link_kept m (Tomb s) = refl
-link_kept m (Listed ss) = refl
+use Rattle.memory_laws.proofs.Nodes.{no_main}
+use Rattle.deciding_laws.proofs.GrownWords.{link_kept}
 
 module _ (limits : Limits) (states : ℕ → State) (last : ℕ) (run : IsRun limits states last) where
   abbrev p : Protocol

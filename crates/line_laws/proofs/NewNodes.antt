@@ -1,5 +1,5 @@
 -- A node that a line makes names what may be read, and what the line holds.
-use Rattle.std.proofs.Common.{◌≡◌, ℕ, zero, suc, ◌<◌, ◌⊎◌, ◌&&◌, true, false, List, [], ◌∷◌, length, slice_set, slice_index_or, get_or, Contains, Option, Some, None, inl, inr, refl, sym, ◌∙◌, ap, subst, arith}
+use Rattle.std.proofs.Common.{◌≡◌, ℕ, zero, suc, ◌<◌, ◌⊎◌, ◌&&◌, true, false, List, ◌∷◌, length, slice_set, slice_index_or, get_or, Contains, Option, Some, None, inl, inr, refl, sym, ◌∙◌, ap, subst, arith, []}
 use Rattle.std.proofs.lemmas.Bool.{true≢false}
 use Rattle.std.proofs.lemmas.List.Elements.{Contains-get_or}
 use Rattle.slot_arena.specs.declared.refs.Ref.{Ref}
@@ -49,9 +49,10 @@ use Rattle.memory_laws.proofs.Claims.{Meets, entry_of, as_meets}
 use Rattle.deciding_laws.proofs.Words.{Given}
 use Rattle.deciding_laws.proofs.GrownWords.{words_of}
 use Rattle.content_laws.specs.Runs.{is_made}
+use Rattle.memory_laws.proofs.Nodes.{branch_main, both_main}
 use Rattle.line_laws.proofs.EachAt.{GoesAt}
 use Rattle.line_laws.proofs.Nodes.{known_run}
-use Rattle.line_laws.proofs.Seen.{branch_main, both_main, main_seen, single_seen}
+use Rattle.line_laws.proofs.Seen.{main_seen, single_seen}
 use Rattle.line_laws.proofs.KeyStep.{claims}
 use Rattle.line_laws.proofs.ClimbStep.{remembered, position_within}
 use Rattle.line_laws.proofs.Opened.{IsOpen, named}

@@ -6,18 +6,15 @@ use Rattle.slot_arena.specs.declared.refs.Ref.{Ref}
 use Rattle.slot_arena.specs.declared.nodes.Node.{Node}
 use Rattle.slot_arena.specs.Heaps.{stored, taken, no_ref, next_ref}
 use Rattle.machine_model.specs.declared.steps.Limits.{Limits}
-use Rattle.machine_model.specs.States.{State, first_state, first_heap}
+use Rattle.machine_model.specs.States.{State, first_heap}
 use Rattle.machine_model.proofs.Grown.{standing, grown}
 use Rattle.machine_model.proofs.Times.{IsRun}
+use Rattle.content_laws.proofs.Started.{first_heap_is}
 use Rattle.memory_laws.proofs.Under.{taken_all}
 use Rattle.memory_laws.proofs.Safety.{IsSafe}
 use Rattle.memory_laws.proofs.AtEachTime.{safe_at}
 use Rattle.memory_laws.proofs.WordMoves.{WordMove, keeps, makes, publishes, restores, commits, fails, word_move}
 use Rattle.deciding_laws.proofs.Finals.{from_time}
-
-first_heap_is : (limits : Limits) → (first_state limits).heap ≡ first_heap limits.slots
-unfolding first_state
-first_heap_is limits = refl
 
 two_slots : (slots : ℕ) → 2 ≤ slots → (n : ℕ) × (slots ≡ suc (suc n))
 two_slots zero le = absurd (omega arith)

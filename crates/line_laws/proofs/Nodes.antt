@@ -1,5 +1,5 @@
 -- Nodes that a step looks at, or makes, are those that stand under their references in the end.
-use Rattle.std.proofs.Common.{◌≡◌, ◌≢◌, ℕ, zero, suc, ◌<◌, ◌≤◌, ◌⊎◌, false, Option, Some, None, is_some, inl, inr, refl, sym, ◌∙◌, ap, subst, arith}
+use Rattle.std.proofs.Common.{◌≡◌, ℕ, zero, suc, ◌<◌, ◌≤◌, ◌⊎◌, false, Option, Some, None, is_some, inl, inr, refl, sym, ◌∙◌, ap, subst, arith}
 use Rattle.std.proofs.lemmas.Bool.{cases_eq}
 use Rattle.std.proofs.lemmas.Option.{none-some}
 use Rattle.slot_arena.specs.declared.refs.Ref.{Ref}
@@ -26,16 +26,13 @@ use Rattle.content_laws.specs.Grows.{NodesStay}
 use Rattle.content_laws.specs.Runs.{is_made, main_at}
 use Rattle.content_laws.proofs.Runs.{main_at-made, main_at-unmade}
 use Rattle.content_laws.proofs.Started.{node_stays, indirection_stays}
+use Rattle.memory_laws.proofs.Nodes.{IsNoLink}
 use Rattle.line_laws.specs.Knowing.{first_main}
 use Rattle.line_laws.proofs.EachAt.{GoesAt}
 
 -- of memory and words alone
 abbrev pub known_run : (limits : Limits) (states : ℕ → State) (last : ℕ) → IsRun limits states last → Known limits states last
 known_run limits states last run = known_of_memory limits states last (memory limits states last run)
-
--- it is no indirection
-abbrev pub IsNoLink : Node → Type 0
-IsNoLink n = (g : ℕ) (w : Ref) → n ≢ Indirection g w
 
 module _ (limits : Limits) (states : ℕ → State) (last : ℕ) (run : IsRun limits states last) where
   pub nodes_stay : NodesStay states last

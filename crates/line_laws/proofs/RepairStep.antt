@@ -1,11 +1,11 @@
 -- A step of KEY, RENEW or CLEAN hands on what the line knows of the entries that are done.
-use Rattle.std.proofs.Common.{◌≡◌, ℕ, suc, ◌-◌, ◌<◌, ◌&&◌, Bool, true, false, cond, List, [], ◌∷◌, Option, Some, None, refl, sym, ◌∙◌, ap, arith, unwrap_or, subst}
+use Rattle.std.proofs.Common.{◌≡◌, ℕ, suc, ◌-◌, ◌<◌, ◌&&◌, Bool, true, false, cond, List, Option, Some, None, refl, sym, ◌∙◌, ap, arith, unwrap_or, subst, []}
 use Rattle.slot_arena.specs.declared.refs.Ref.{Ref}
 use Rattle.slot_arena.specs.declared.nodes.Node.{Node}
 use Rattle.slot_arena.specs.declared.nodes.Node.TheVariants.{Indirection, Branch, Single, Tomb, List as Listed}
 use Rattle.slot_arena.specs.declared.nodes.Prev.TheVariants as over
 use Rattle.slot_arena.specs.Heaps.{Heap, node_at, entry_at, bitmap_of, next_ref}
-use Rattle.nodes.specs.Builders.{renewed, contracted}
+use Rattle.nodes.specs.Builders.{renewed}
 use Rattle.machine_model.specs.declared.actions.Action.TheVariants as act
 use Rattle.machine_model.specs.declared.finding.KeyLine.{KeyLine}
 use Rattle.machine_model.specs.declared.finding.KeyLine.TheVariants as key
@@ -40,12 +40,14 @@ use Rattle.deciding_laws.proofs.RunWords.{protocol}
 use Rattle.content_laws.specs.Knowing.{KnowsKey}
 use Rattle.content_laws.specs.Repairing.{KnowsRenew, KnowsClean, KnowsRepair, ReadsBelow}
 use Rattle.content_laws.proofs.RepairKnows.{renew_starts, clean_starts, renew_entry_knows, renew_read_knows, renew_link_knows, renew_branch_knows, clean_entry_knows, clean_child_knows, clean_tomb_knows, clean_contracted_knows, read_stays}
+use Rattle.memory_laws.proofs.Nodes.{IsNoLink, branch_main}
+use Rattle.memory_laws.proofs.Next.{contracted_no_link}
 use Rattle.line_laws.specs.Given.{GaveBelow}
 use Rattle.line_laws.specs.Knowing.{known_with, first_main}
 use Rattle.line_laws.proofs.EachAt.{GoesAt}
-use Rattle.line_laws.proofs.Nodes.{known_run, IsNoLink, link_known, made_node, made_link, first_is}
+use Rattle.line_laws.proofs.Nodes.{known_run, link_known, made_node, made_link, first_is}
 use Rattle.line_laws.proofs.Began.{gave_now}
-use Rattle.line_laws.proofs.Seen.{branch_main, main_seen}
+use Rattle.line_laws.proofs.Seen.{main_seen}
 use Rattle.line_laws.proofs.KeyStep.{claims, looks}
 use Rattle.line_laws.proofs.RepairMore.{is_unrepairing, unrepairing_knows}
 
@@ -70,12 +72,6 @@ key_sibling_not path main position former other node = grind arith
 
 pub renewed_no_link : (bitmap : ℕ) (entries : List Ref) → IsNoLink (renewed bitmap entries)
 renewed_no_link bitmap entries g w bad = cc
-
-pub contracted_no_link : (b : Bool) (bitmap : ℕ) (entries : List Ref) → IsNoLink (contracted b bitmap entries)
-contracted_no_link true bitmap (single ∷ []) g w bad = let wrong : Tomb single ≡ Indirection g w = bad in cc
-contracted_no_link true bitmap [] g w bad = renewed_no_link bitmap [] g w bad
-contracted_no_link true bitmap (x ∷ y ∷ rest) g w bad = renewed_no_link bitmap (x ∷ y ∷ rest) g w bad
-contracted_no_link false bitmap entries g w bad = renewed_no_link bitmap entries g w bad
 
 -- a READ's step gives what it gives
 pub step_gives : (i m : Ref) (out : After ReadLine Ref) → at_indirection i out ≡ Gives m → out ≡ Gives m

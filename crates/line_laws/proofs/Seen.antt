@@ -7,7 +7,7 @@ use Rattle.history.specs.declared.calls.Call.TheVariants.{Get, Put, PutIfAbsent,
 use Rattle.arrayvec.specs.ArrayVec.{ArrayVec}
 use Rattle.slot_arena.specs.declared.refs.Ref.{Ref}
 use Rattle.slot_arena.specs.declared.nodes.Node.{Node}
-use Rattle.slot_arena.specs.declared.nodes.Node.TheVariants.{Indirection, Branch, Single, Tomb, List as Listed}
+use Rattle.slot_arena.specs.declared.nodes.Node.TheVariants.{Indirection, Single, List as Listed}
 use Rattle.slot_arena.specs.Heaps.{Heap, node_at}
 use Rattle.machine_model.specs.declared.actions.Action.TheVariants as act
 use Rattle.machine_model.specs.declared.operations.Operation.{Operation}
@@ -18,7 +18,7 @@ use Rattle.machine_model.specs.Operations.{action_of}
 use Rattle.machine_model.proofs.Grown.{node_under}
 use Rattle.machine_model.proofs.Times.{IsRun}
 use Rattle.memory_laws.specs.Laws.{IsInUse}
-use Rattle.memory_laws.specs.Wants.{Wanted, AMain, ABranch, BranchOrList, meets, is_formed, listed, Holds, Is, AllHold, action_wants}
+use Rattle.memory_laws.specs.Wants.{Wanted, AMain, meets, is_formed, listed, Holds, Is, AllHold, action_wants}
 use Rattle.memory_laws.proofs.Under as Under
 use Rattle.memory_laws.proofs.Claims.{safe_of, meets_of}
 use Rattle.memory_laws.proofs.Invariant.{of_actor}
@@ -27,25 +27,12 @@ use Rattle.memory_laws.proofs.AtEachTime.{safe_at}
 use Rattle.memory_laws.proofs.AtTimes.{action_at}
 use Rattle.content_laws.specs.Knowing.{IsGet}
 use Rattle.content_laws.proofs.KeyKnows.{Sees}
+use Rattle.memory_laws.proofs.Nodes.{main_no_link}
 use Rattle.line_laws.specs.Knowing.{first_main}
-use Rattle.line_laws.proofs.Nodes.{IsNoLink, node_known, known_node}
+use Rattle.line_laws.proofs.Nodes.{node_known, known_node}
 use Rattle.line_laws.proofs.Placed.{is_keyed}
 
 -- ---- kinds
-
--- what is taken for such a node is no indirection
-pub main_no_link : (n : Node) → meets AMain n ≡ true → IsNoLink n
-main_no_link (Indirection h m) e g w = absurd (true≢false (sym e))
-main_no_link (Branch b es) e g w = λ bad. let wrong : Branch b es ≡ Indirection g w = bad in cc
-main_no_link (Single k v) e g w = λ bad. let wrong : Single k v ≡ Indirection g w = bad in cc
-main_no_link (Tomb s) e g w = λ bad. let wrong : Tomb s ≡ Indirection g w = bad in cc
-main_no_link (Listed ss) e g w = λ bad. let wrong : Listed ss ≡ Indirection g w = bad in cc
-
-pub branch_main : (n : Node) → meets ABranch n ≡ true → meets AMain n ≡ true
-branch_main n e = grind arith
-
-pub both_main : (n : Node) → meets BranchOrList n ≡ true → meets AMain n ≡ true
-both_main n e = grind arith
 
 pub listed_main : (access : Access) (n : Node) → meets (listed access) n ≡ true → meets AMain n ≡ true
 listed_main access n e = grind arith

@@ -4,28 +4,11 @@ use Rattle.std.proofs.lemmas.Bool.{cases_eq}
 use Rattle.slot_arena.specs.declared.refs.Ref.{Ref}
 use Rattle.machine_model.specs.declared.reading.After.{After}
 use Rattle.machine_model.specs.declared.reading.ReadLine.{ReadLine}
-use Rattle.deciding_laws.proofs.Words.{Words, Stage, Holds, ReadTurn, ReadsMain, FindsDecided, FindsFailed, FindsPending, DecidesAtOnce, Asks, FindsOffer, Aborts, Commits, Fails, Overtaken, Restores, FindsAnother, Given, MayName, Moves, Idles, MakesNode, SwapsNode, ReadsOn, DecidesOn, Turn, Acts, Passes, Protocol}
+use Rattle.deciding_laws.proofs.Words.{Words, Stage, Holds, ReadTurn, Given, MayName, Moves, Idles, MakesNode, SwapsNode, ReadsOn, DecidesOn, Turn, Acts, Passes, Protocol}
 use Rattle.deciding_laws.proofs.Stood.{Stood, Private, AreSound, stood_cases, stands_now}
 use Rattle.deciding_laws.proofs.Effects.{Brings, comes}
-use Rattle.deciding_laws.proofs.Owners.{OnLine, Staged, IsSound, read_effect}
+use Rattle.deciding_laws.proofs.Owners.{OnLine, Staged, IsSound, read_effect, read_brings}
 use Rattle.deciding_laws.proofs.Sounds.{sound_at}
-
--- a READ brings no new node into a word
-read_brings : (w : Words) (t : ℕ) (h : AreSound w t) (i : Ref) (l : ReadLine) (out : After ReadLine Ref) (s : OnLine w t i l) (r : ReadTurn w t i l out) (q m : Ref) →
-    Brings w t (read_effect w t h i l out s r) q m → ⊥
-read_brings w t h i l out s (ReadsMain e k) q m b = b
-read_brings w t h i l out s (FindsDecided e n) q m b = b
-read_brings w t h i l out s (FindsFailed e n) q m b = b
-read_brings w t h i l out s (FindsPending e n) q m b = b
-read_brings w t h i l out s (DecidesAtOnce e n) q m b = b
-read_brings w t h i l out s (Asks g e c) q m b = b
-read_brings w t h i l out s (FindsOffer offer e) q m b = b
-read_brings w t h i l out s (Aborts e) q m b = b
-read_brings w t h i l out s (Commits licence e) q m b = b
-read_brings w t h i l out s (Fails e) q m b = b
-read_brings w t h i l out s (Overtaken next e n which) q m b = b
-read_brings w t h i l out s (Restores e) q m b = b
-read_brings w t h i l out s (FindsAnother e) q m b = b
 
 -- a node stood before, or it was given, or it stood nowhere
 pub data HowStands (w : Words) (t : ℕ) (i n : Ref) : Type 0 where

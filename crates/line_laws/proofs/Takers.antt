@@ -16,8 +16,9 @@ use Rattle.machine_model.specs.Counting.{settled}
 use Rattle.machine_model.specs.Machine.{begin_denial, with_begin}
 use Rattle.machine_model.proofs.Actors.{marks_by}
 use Rattle.machine_model.proofs.Times.{IsRun}
+use Rattle.memory_laws.proofs.Held.{begin_counts}
 use Rattle.deciding_laws.proofs.Finals.{from_time}
-use Rattle.deciding_laws.proofs.StepsAt.{StepAt, IsBegin, IsGo, IsEnd, IsSweep, step_at, after_mark, go_others, go_own, end_others, end_own, begin_others, begin_own, actor_counts, begins_counted}
+use Rattle.deciding_laws.proofs.StepsAt.{StepAt, IsBegin, IsGo, IsEnd, IsSweep, step_at, after_mark, go_others, go_own, end_others, end_own, begin_others, begin_own, actor_counts}
 use Rattle.deciding_laws.proofs.FirstWords.{idle_at_first}
 use Rattle.line_laws.specs.Knowing.{OfEachAt}
 
@@ -89,7 +90,7 @@ module _ (limits : Limits) (states : ℕ → State) (last : ℕ) (run : IsRun li
           by_actor (inl same) = subst (λ q. P (suc t) q found) (sym same) (begun own (ap (operation_of (states (suc t))) (sym same) ∙ is))
           by_actor (inr apart) =
               others t h so_far None k (λ it. apart (sym (sym takes ∙ it)))
-              (ap (λ (s : State). operation_of s k) e ∙ begin_others (states t) actor call (begun_operation (states t) call) (begins_counted (states t) actor call d) k apart) found is
+              (ap (λ (s : State). operation_of s k) e ∙ begin_others (states t) actor call (begun_operation (states t) call) (begin_counts (states t) actor call d) k apart) found is
       each_next t h so_far (IsGo actor operation o m runs g e) takes k found is = by_actor (cases_eq k actor)
         where
           marks : Option ℕ

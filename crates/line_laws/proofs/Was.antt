@@ -1,12 +1,11 @@
 -- What a READ gave, and what a SWAP was seen to commit, was once the main node.
-use Rattle.std.proofs.Common.{◌≡◌, ℕ, suc, ◌<◌, ◌≤◌, true, Option, Some, None, is_some, refl, sym, ◌∙◌, ap, subst, arith}
+use Rattle.std.proofs.Common.{◌≡◌, ℕ, suc, ◌<◌, ◌≤◌, true, refl, sym, ◌∙◌, ap, subst, arith}
 use Rattle.std.proofs.lemmas.Bool.{true≢false}
 use Rattle.slot_arena.specs.declared.refs.Ref.{Ref}
 use Rattle.slot_arena.specs.declared.nodes.Node.{Node}
 use Rattle.slot_arena.specs.declared.nodes.Node.TheVariants.{Indirection, Branch, Single, Tomb, List as Listed}
 use Rattle.slot_arena.specs.declared.nodes.Prev.TheVariants as over
-use Rattle.slot_arena.specs.declared.nodes.Slot.{Slot}
-use Rattle.slot_arena.specs.Heaps.{node_of, logical}
+use Rattle.slot_arena.specs.Heaps.{logical}
 use Rattle.machine_model.specs.declared.reading.ReadLine.{ReadLine}
 use Rattle.machine_model.specs.declared.steps.Limits.{Limits}
 use Rattle.machine_model.specs.States.{State}
@@ -19,18 +18,13 @@ use Rattle.deciding_laws.proofs.Sounds.{sound_at}
 use Rattle.deciding_laws.proofs.Finals.{link_stays, pending_stands}
 use Rattle.deciding_laws.proofs.Swaps.{succeeded}
 use Rattle.deciding_laws.proofs.Readings.{later_of, gives_moment}
-use Rattle.deciding_laws.proofs.GrownWords.{words_of}
+use Rattle.deciding_laws.proofs.GrownWords.{words_of, link_made}
 use Rattle.deciding_laws.proofs.RunWords.{protocol}
 use Rattle.content_laws.specs.Runs.{main_at}
 use Rattle.content_laws.proofs.Runs.{main_at-made}
 use Rattle.line_laws.specs.Given.{Was}
 use Rattle.line_laws.proofs.Nodes.{known_run}
 use Rattle.memory_laws.specs.Wants.{is_indirection}
-
--- an indirection was made
-pub link_made : (o : Option Slot) → is_indirection (node_of o) ≡ true → is_some o ≡ true
-link_made None e = absurd (true≢false (sym e))
-link_made (Some slot) e = refl
 
 pub was_later : (states : ℕ → State) (last t : ℕ) (i m : Ref) → Was states last t i m → Was states last (suc t) i m
 was_later states last t i m (u, le, is) = (u, omega (arith, le), is)

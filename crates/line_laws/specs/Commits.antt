@@ -1,9 +1,7 @@
 -- Which steps change a main node, whose fresh node it is, and what its owner knows.
-use Rattle.std.specs.Prelude.{◌≡◌, ◌≢◌, ℕ, suc, ◌==◌, ◌<◌, false, List, [], ◌∷◌, Option, Some, None, if◌then◌else◌}
+use Rattle.std.specs.Prelude.{◌≡◌, ◌≢◌, ℕ, suc, ◌==◌, ◌<◌, false, List, ◌∷◌, Some, None, if◌then◌else◌, []}
 use Rattle.history.specs.declared.calls.Access.TheVariants.{Writable}
 use Rattle.history.specs.declared.calls.Call.{Call}
-use Rattle.history.specs.declared.replies.Reply.{Reply}
-use Rattle.history.specs.Histories.{HasEnded}
 use Rattle.places.specs.declared.place.Place.{Place}
 use Rattle.slot_arena.specs.declared.refs.Ref.{Ref}
 use Rattle.slot_arena.specs.Heaps.{generation_of}
@@ -18,7 +16,6 @@ use Rattle.machine_model.specs.declared.steps.Limits.{Limits}
 use Rattle.machine_model.specs.declared.steps.Outcome.{Outcome}
 use Rattle.machine_model.specs.declared.steps.Step.{Step}
 use Rattle.machine_model.specs.declared.steps.Step.TheVariants as step
-use Rattle.machine_model.specs.Calls.{changed_reply}
 use Rattle.machine_model.specs.Paths.{depth_of}
 use Rattle.machine_model.specs.States.{State, operation_of}
 use Rattle.machine_model.specs.Orders.{committed_now, place_of}
@@ -107,9 +104,3 @@ pub data MainStep (limits : Limits) (states : ℕ → State) (last : ℕ) (first
 -- a step leaves all main nodes and commits nothing, or it commits one fresh node
 abbrev pub CommitsAt : Limits → (ℕ → State) → ℕ → Firsts → Type 0
 CommitsAt limits states last firsts = (t : ℕ) → t < last → (s : Step) (o : Outcome) → Moves (states t) s o (states (suc t)) → MainStep limits states last firsts t s
-
--- an operation whose own update was committed ends with its reply alone
-abbrev pub AnswersBehind : Limits → (ℕ → State) → ℕ → Firsts → Type 0
-AnswersBehind limits states last firsts =
-    (t : ℕ) → t < last → (s : Step) (own : OwnCommit limits states last firsts t s) → (path : List Ref) (former : Option ℕ) → own.why ≡ purpose.Update path former →
-    (answer : Reply) → HasEnded (states last).events own.owner.id answer → changed_reply own.owner.call former ≡ answer

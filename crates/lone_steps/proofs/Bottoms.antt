@@ -17,9 +17,9 @@ use Rattle.machine_model.specs.Calls.{key_of}
 use Rattle.machine_model.specs.Finding.{absent, key_after_main}
 use Rattle.machine_model.specs.Paths.{current, depth_of, flag_in}
 use Rattle.machine_model.specs.Swapping.{swapping}
-use Rattle.memory_laws.specs.Wants.{is_indirection, is_main_node}
 use Rattle.memory_laws.proofs.AtTimes.{limits_at}
 use Rattle.memory_laws.proofs.Claims.{safe_of, meets_of}
+use Rattle.memory_laws.proofs.Nodes.{main_plain}
 use Rattle.falling_laws.specs.Falling.{build_path}
 use Rattle.lone_steps.specs.Alone.{Lone, Stands, Has, Keeps, WordStays, IsCurrent, Within, IsWeight, node}
 use Rattle.lone_steps.specs.Keys.{IsBuilt, BottomEnds, IsEnd, IsNoTomb, flag_at, main_of_build}
@@ -30,15 +30,8 @@ use Rattle.lone_steps.proofs.Builds.{builds_on}
 use Rattle.lone_steps.proofs.BuildsSteps.{quiet_on}
 use Rattle.lone_steps.proofs.BottomsLines.{absent_ends, list_ends, entry_ends}
 use Rattle.lone_steps.proofs.BottomsStale.{update_ends, entry_link}
-use Rattle.lone_steps.proofs.ClimbsLines.{never}
 use Rattle.lone_steps.proofs.ClimbsOn.{short_way, levels}
-
-main_no_link : (n : Node) → is_main_node n ≡ true → is_indirection n ≡ false
-main_no_link (Branch bitmap entries) e = refl
-main_no_link (Indirection h x) e = absurd (cc e)
-main_no_link (Single k v) e = refl
-main_no_link (Tomb x) e = refl
-main_no_link (Listed xs) e = refl
+use Rattle.lone_steps.proofs.StandsAt.{never}
 
 module _
     (a : Lone) (weight : ℕ → ℕ) (c : ℕ) (heavy : IsWeight a weight) (steps : Stepping a) (machines : Machines a weight c) (path : List Ref) (r main : Ref) (g : ℕ)
@@ -85,7 +78,7 @@ module _
       main_found : node_at (a.states t).heap main ≡ node a main
       main_found =
           let wanted = steps.wants t (Some g) (line.Key (key.Main path main)) now in
-          steps.node_found t main now.until (safe_of wanted.1.1.0) (main_no_link (node_at (a.states t).heap main) (meets_of wanted.1.1.0))
+          steps.node_found t main now.until (safe_of wanted.1.1.0) (main_plain (node_at (a.states t).heap main) (meets_of wanted.1.1.0))
 
       -- the flag is that of the call's key
       flag_is : flag_in (a.states t) now.operation path ≡ flag_at a (depth_of path)

@@ -33,7 +33,7 @@ use Rattle.lone_steps.specs.Keys.{main_of_build}
 use Rattle.lone_steps.specs.Stepping.{Stepping}
 use Rattle.lone_steps.proofs.Withins.{weaken, ended}
 use Rattle.lone_steps.proofs.BuildsSteps.{quiet_on}
-use Rattle.lone_steps.proofs.ClimbsLines.{never}
+use Rattle.lone_steps.proofs.StandsAt.{never}
 
 -- ---- a list has 32 singles at most
 

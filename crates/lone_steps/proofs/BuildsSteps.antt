@@ -1,8 +1,6 @@
 -- Quiet steps of an actor that is alone, with all that they leave; and the depth of what is built.
-use Rattle.std.proofs.Common.{◌≡◌, ℕ, suc, ◌+◌, ◌≤◌, true, List, Option, Some, None, refl, subst, ◌∙◌, arith}
+use Rattle.std.proofs.Common.{◌≡◌, ℕ, suc, ◌+◌, ◌≤◌, List, Option, Some, None, refl, subst, ◌∙◌, arith}
 use Rattle.slot_arena.specs.declared.refs.Ref.{Ref}
-use Rattle.slot_arena.specs.declared.nodes.Node.{Node}
-use Rattle.slot_arena.specs.declared.nodes.Node.TheVariants.{Indirection, Branch, Single, Tomb, List as Listed}
 use Rattle.slot_arena.specs.Heaps.{next_ref}
 use Rattle.nodes.specs.Levels.{list_depth}
 use Rattle.history.specs.declared.replies.Reply.TheVariants as reply
@@ -15,25 +13,16 @@ use Rattle.machine_model.specs.States.{State}
 use Rattle.machine_model.specs.Building.{build_action, build_after_made, build_if_made}
 use Rattle.machine_model.specs.Operations.{line_action, line_after, generation_from}
 use Rattle.machine_model.specs.Paths.{depth_of}
-use Rattle.memory_laws.specs.Wants.{AnIndirection, is_indirection}
+use Rattle.memory_laws.specs.Wants.{AnIndirection}
 use Rattle.memory_laws.proofs.AtTimes.{kind_at}
 use Rattle.memory_laws.proofs.Levels.{LineLevel}
-use Rattle.memory_laws.proofs.Shapes.{ShapeAt}
 use Rattle.content_laws.proofs.Shapes.{list_depth-le}
 use Rattle.shape_laws.specs.Sites.{level_until}
-use Rattle.shape_laws.proofs.SitesAt.{lines_have_sites}
+use Rattle.shape_laws.proofs.SitesAt.{lines_have_sites, link_high}
 use Rattle.shape_laws.proofs.GrownSites.{grown_sites}
 use Rattle.lone_steps.specs.Alone.{Lone, Stands, Keeps, WordStays, Within, IsQuiet, IsWeight}
 use Rattle.lone_steps.specs.Stepping.{Stepping, IsNoEnd, LeavesWords}
 use Rattle.lone_steps.proofs.Withins.{same_stays, step_on, ended, weaken}
-
--- an indirection stands no deeper than lists
-link_low : (deep level : ℕ) (n : Node) → is_indirection n ≡ true → ShapeAt deep level n → level ≤ deep + 1
-link_low deep level (Indirection g w) e h = h
-link_low deep level (Branch b es) e h = absurd (cc e)
-link_low deep level (Single k v) e h = absurd (cc e)
-link_low deep level (Tomb x) e h = absurd (cc e)
-link_low deep level (Listed ss) e h = absurd (cc e)
 
 -- each line of BUILD makes a node
 build_quiet : (state : State) (operation : Operation) (l : BuildLine) → IsQuiet (build_action state operation l)
@@ -84,5 +73,5 @@ module _ (a : Lone) (weight : ℕ → ℕ) (heavy : IsWeight a weight) (steps : 
       let wanted = steps.wants t g (line.Build (build.Rung path main position below depth)) s in
       let (slot, found, is) = kind_at a.states t below AnIndirection wanted.1.1.1.0 in
       let shape = (grown_sites a.limits a.states a.steps a.last a.run a.takes a.fit t s.until below slot found).shape in
-      let low = link_low (list_depth a.limits.hash) (level_until a.states a.steps a.last below) slot.node is shape in
+      let low = link_high (list_depth a.limits.hash) (level_until a.states a.steps a.last below) slot.node is shape in
       (level.1, omega (arith, low, level.2, list_depth-le a.limits.hash))

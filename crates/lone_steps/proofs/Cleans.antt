@@ -1,5 +1,5 @@
 -- CLEAN from an entry, where one actor alone takes steps: it comes to a new try, or to the SWAP of a main node in which tombs gave way to their singles.
-use Rattle.std.proofs.Common.{◌≡◌, ℕ, zero, suc, ◌+◌, ◌*◌, ◌<◌, ◌≤◌, ◌⊎◌, inl, inr, Bool, true, false, cond, nat_eq, List, [], ◌∷◌, ◌++◌, length, slice_index_or, Option, refl, sym, ap, subst, ◌∙◌, arith}
+use Rattle.std.proofs.Common.{◌≡◌, ℕ, zero, suc, ◌+◌, ◌*◌, ◌<◌, ◌≤◌, ◌⊎◌, inl, inr, Bool, true, false, cond, nat_eq, List, ◌∷◌, ◌++◌, length, slice_index_or, Option, refl, sym, ap, subst, ◌∙◌, arith, []}
 use Rattle.std.specs.Cmp.Lexicographic.{pointwise, same_text}
 use Rattle.std.proofs.lemmas.Bool.{cases_lt, lt-ltb, le-ltb}
 use Rattle.std.proofs.lemmas.List.{length-append, get_or_append_left, get_or_push}
@@ -10,7 +10,7 @@ use Rattle.machine_model.specs.declared.lines.Line.TheVariants as line
 use Rattle.machine_model.specs.declared.repairs.CleanLine.TheVariants as clean
 use Rattle.machine_model.specs.Lines.{new_try}
 use Rattle.lone_steps.specs.Alone.{Lone, Stands, Within, IsWeight, node}
-use Rattle.lone_steps.specs.Keys.{IsCleaned, IsCleaning, IsContracted, CleansFrom}
+use Rattle.lone_steps.specs.Keys.{IsCleaned, IsCleaning, IsContracted}
 use Rattle.lone_steps.specs.Machines.{Machines}
 use Rattle.lone_steps.specs.Stepping.{Stepping}
 use Rattle.lone_steps.proofs.RenewsNodes.{sees_more}
@@ -131,7 +131,3 @@ module _ (a : Lone) (steps : Stepping a) (weight : ℕ → ℕ) (c : ℕ) (heavy
     entry_from done t left s size =
         let seen = sees_more a steps t s.until path main done (steps.wants t g (line.Clean (clean.Entry path main done)) s) in
         goes_from left done t size (subst (λ b. Stands a t g (line_by done b)) (sym (lt-ltb (length done) (length entries) seen.more)) s)
-
-  pub cleans_from : CleansFrom a weight c
-  cleans_from path main done t left g s size =
-      map a weight (Cleans g path main done t) (IsCleaning a weight c t g path main (length done)) (left * (c + 2) + 2) t (λ u past within r. r.to) (entry_from g path main done t left s size)

@@ -1,5 +1,5 @@
 -- CLEAN where the operation's root is the handle's and the key's path ends in a tomb below: the path's end comes one level higher.
-use Rattle.std.proofs.Common.{◌≡◌, ℕ, suc, ◌+◌, ◌-◌, ◌*◌, ◌<◌, ◌⊎◌, inl, inr, ◌&&◌, true, List, [], length, slice_index_or, Option, Some, sym, ap, subst, ◌∙◌, arith}
+use Rattle.std.proofs.Common.{◌≡◌, ℕ, suc, ◌+◌, ◌*◌, ◌<◌, ◌⊎◌, inl, inr, ◌&&◌, true, List, [], length, slice_index_or, Some, sym, ap, subst, ◌∙◌, arith, refl}
 use Rattle.slot_arena.specs.declared.refs.Ref.{Ref}
 use Rattle.slot_arena.specs.declared.nodes.Node.TheVariants.{Tomb}
 use Rattle.slot_arena.specs.Heaps.{entries_of, bitmap_of, no_ref}
@@ -10,46 +10,19 @@ use Rattle.machine_model.specs.Lines.{new_try}
 use Rattle.machine_model.specs.Paths.{current, depth_of, is_below_root}
 use Rattle.machine_model.specs.Reading.{reading}
 use Rattle.memory_laws.specs.Wants.{is_branch}
-use Rattle.shape_laws.specs.Sites.{depth_of_run}
-use Rattle.shape_laws.specs.SitesAt.{way_of}
-use Rattle.shape_laws.proofs.SitesAt.{ways_have_sites}
 use Rattle.lone_steps.specs.Alone.{Lone, Stands, Has, Within, IsWeight, IsCurrent, node}
 use Rattle.lone_steps.specs.Keys.{Chain, Leads, IsOf, IsContracted, IsCleanedUp, IsCleaned, IsNoTomb, CleansCurrent, leaves_single}
 use Rattle.lone_steps.specs.Machines.{Machines, IsRead, HasSwapped}
 use Rattle.lone_steps.specs.Stepping.{Stepping}
 use Rattle.lone_steps.proofs.RenewsNodes.{few_of_branch}
 use Rattle.lone_steps.proofs.RenewsCalm.{Calm}
-use Rattle.lone_steps.proofs.CleansSettled.{one_main}
 use Rattle.lone_steps.proofs.CleansFirst.{Begins, Begun, begun_within, current_read, current_main, current_reads}
 use Rattle.lone_steps.proofs.Cleans.{Cleans, goes_from}
 use Rattle.lone_steps.proofs.CleansEnds.{one_left, not_same, ends_there}
 use Rattle.lone_steps.proofs.Withins.{weaken, map, bind}
+use Rattle.lone_steps.proofs.PassesChains.{one_main, way_apart, chain_stays}
 
 module _ (a : Lone) where
-  -- the indirections of a path stand at different depths
-  path_apart : (t : ℕ) (g : Option ℕ) (path : List Ref) → Stands a t g (line.Clean (clean.Read path (reading (current path)))) → (k : ℕ) → suc k < length path →
-      slice_index_or path k no_ref ≡ current path → ⊥
-  path_apart t g path s k lt same =
-      let deep_k = depth_is k (omega (arith, lt)) in
-      let deep_last = depth_is (length path - 1) (omega (arith, lt)) in
-      let equal : k ≡ length path - 1 = sym deep_k ∙ ap (depth_of_run a.states a.steps a.last) same ∙ deep_last in
-      absurd (omega (arith, equal, lt))
-    where
-      depth_is : (d : ℕ) → d < length path → depth_of_run a.states a.steps a.last (slice_index_or path d no_ref) ≡ d
-      depth_is d lt =
-          let sites = ways_have_sites a.limits a.states a.steps a.last a.run a.takes a.fit t s.until a.actor s.operation s.runs in
-          subst (λ p. depth_of_run a.states a.steps a.last (slice_index_or p d no_ref) ≡ d) (ap way_of s.line) (sites.1 d (subst (λ p. d < length p) (sym (ap way_of s.line)) lt)).1
-
-  -- a chain stays where each main node but that of its last indirection does
-  chain_stays : (t u : ℕ) (r : Ref) (g : ℕ) (path : List Ref) → ((k : ℕ) → suc k < length path → (m : Ref) → Has a t (slice_index_or path k no_ref) m → Has a u (slice_index_or path k no_ref) m) →
-      Chain a t r g path → Chain a u r g path
-  chain_stays t u r g path keeps chain = record {
-    long = chain.long;
-    first = chain.first;
-    own = chain.own;
-    links = λ k lt. (let (m, has, leads) = chain.links k lt in (m, keeps k lt m has, leads));
-  }
-
   module _ (steps : Stepping a) (weight : ℕ → ℕ) (c : ℕ) (heavy : IsWeight a weight) (machines : Machines a weight c) (path : List Ref) (r main below tomb single : Ref) (g : ℕ)
       (leads : Leads a (depth_of path) main below) (of : IsOf a below g) (is : node a tomb ≡ Tomb single) where
     abbrev count : ℕ
@@ -72,7 +45,7 @@ module _ (a : Lone) where
     knows_later : (t u : ℕ) → Calm a t u → Knows t → Knows u
     knows_later t u calm k = record {
       current_root = still_current t u calm k.current_root;
-      chain = chain_stays t u r g path (λ n lt m has. calm.keeps (slice_index_or path n no_ref) m has) k.chain;
+      chain = chain_stays a t u r g path (λ n lt m has. calm.keeps (slice_index_or path n no_ref) m has) k.chain;
       has = calm.keeps (current path) main k.has;
       tombed = calm.keeps below tomb k.tombed;
       apart = k.apart;
@@ -95,7 +68,7 @@ module _ (a : Lone) where
             stands = h.stands;
             current_root = record { plain = h.word r here_too.current_root.plain; own = here_too.current_root.own };
             ended = record {
-              chain = chain_stays u v r g path (λ n lt m has. h.keeps (slice_index_or path n no_ref) m (here_too.apart n lt) has) here_too.chain;
+              chain = chain_stays a u v r g path (λ n lt m has. h.keeps (slice_index_or path n no_ref) m (here_too.apart n lt) has) here_too.chain;
               has = h.has;
               ends = ends_there a (depth_of path) main below g leads of u tomb single here_too.tombed is x.to.done x.to.same_length each may y.fresh y.branch;
             };
@@ -143,5 +116,5 @@ module _ (a : Lone) where
         few_of_branch a main (ap is_branch leads.branch),
         weaken a weight (IsCleanedUp a weight c r g path count) (c + (1 + (count * (c + 2) + 2 + 5))) (c + 8 + count * (c + 2)) t (omega arith)
             (read_up steps weight c heavy machines path r main below tomb single g leads of is t
-            (record { current_root = current_root; chain = chain; has = has; tombed = tombed; apart = path_apart t (Some g) path s }) s),
+            (record { current_root = current_root; chain = chain; has = has; tombed = tombed; apart = way_apart a t (Some g) (line.Clean (clean.Read path (reading (current path)))) s path refl }) s),
       )

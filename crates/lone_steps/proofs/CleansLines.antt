@@ -25,10 +25,12 @@ use Rattle.memory_laws.proofs.Claims.{first_hold, last_hold}
 use Rattle.lone_steps.specs.Alone.{Lone, Stands, Has, Keeps, Within, IsWeight, node}
 use Rattle.lone_steps.specs.Machines.{Machines, HoldsRead, lead, IsRead, WasRead}
 use Rattle.lone_steps.specs.Stepping.{Stepping}
-use Rattle.lone_steps.proofs.RenewsNodes.{SeesMore, sees_more, main_seen, tomb_single, looks_at, never}
-use Rattle.lone_steps.proofs.CleansSettled.{Settles, one_main, single_free}
+use Rattle.lone_steps.proofs.RenewsNodes.{SeesMore, sees_more, main_seen, tomb_single, looks_at}
+use Rattle.lone_steps.proofs.CleansSettled.{Settles, single_free}
 use Rattle.lone_steps.proofs.RenewsCalm.{Calm, calm_on, calm_step, step_on, holds_read}
 use Rattle.lone_steps.proofs.Withins.{here, weaken, map, bind, one}
+use Rattle.lone_steps.proofs.PassesChains.{one_main}
+use Rattle.lone_steps.proofs.StandsAt.{never}
 
 -- the READ of an entry in CLEAN, and the line after it
 abbrev pub child_read : List Ref → Ref → List Ref → Ref → ReadLine → Line
@@ -110,9 +112,9 @@ module _ (a : Lone) (steps : Stepping a) (g : Option ℕ) (path : List Ref) (mai
       stands = subst (Stands a (suc t) g) (next_same t (done ++ here_entry ∷ []) found.branch) stands;
       calm = looks_calm;
     })
-    by_node (Branch b es) e stands = absurd (never a steps (suc t) g stands)
-    by_node (Tomb x) e stands = absurd (never a steps (suc t) g stands)
-    by_node (Listed ss) e stands = absurd (never a steps (suc t) g stands)
+    by_node (Branch b es) e stands = absurd (never a (suc t) g stands)
+    by_node (Tomb x) e stands = absurd (never a (suc t) g stands)
+    by_node (Listed ss) e stands = absurd (never a (suc t) g stands)
 
     pub looks : Looked t
     looks = by_node (node_at (a.states t).heap here_entry) refl looks_next

@@ -2,29 +2,21 @@
 use Rattle.std.proofs.Common.{◌≡◌, ℕ, ◌≤◌, true, false, Option, Some, None, is_some, refl, sym, ap, ◌∙◌, arith}
 use Rattle.std.proofs.lemmas.Bool.{true≢false}
 use Rattle.slot_arena.specs.declared.refs.Ref.{Ref}
-use Rattle.slot_arena.specs.declared.nodes.Node.{Node}
-use Rattle.slot_arena.specs.declared.nodes.Node.TheVariants.{Indirection, Tomb}
+use Rattle.slot_arena.specs.declared.nodes.Node.TheVariants.{Tomb}
 use Rattle.slot_arena.specs.declared.nodes.Slot.{Slot}
 use Rattle.slot_arena.specs.Heaps.{node_of, main_of, no_ref}
 use Rattle.machine_model.proofs.Grown.{grown}
 use Rattle.memory_laws.specs.Wants.{is_indirection, is_branch}
+use Rattle.memory_laws.proofs.Nodes.{no_main}
 use Rattle.shape_laws.proofs.GrownSites.{link_same}
 use Rattle.falling_laws.proofs.NoRef.{no_node}
 use Rattle.lone_steps.specs.Alone.{Lone, Has, Keeps, node}
 use Rattle.lone_steps.specs.Keys.{IsCleaned}
 
-main_of_plain : (n : Node) → is_indirection n ≡ false → main_of n ≡ no_ref
-main_of_plain (Indirection g m) e = absurd (true≢false e)
-main_of_plain n e = refl
-
 module _ (a : Lone) where
   -- what is in its place stays right
   abbrev pub Settles : ℕ → Ref → Ref → Type 0
   Settles v entry x = (u : ℕ) → u ≤ a.last → Keeps a v u → IsCleaned a u entry x
-
-  -- an indirection has one main node
-  pub one_main : (u : ℕ) (i m other : Ref) → Has a u i m → Has a u i other → m ≡ other
-  one_main u i m other h k = sym h.main ∙ k.main
 
   -- a single isn't tombed
   pub single_free : (u : ℕ) → u ≤ a.last → (entry m single : Ref) → is_indirection (node a entry) ≡ false → Has a u entry m → node a m ≡ Tomb single → ⊥
@@ -34,6 +26,6 @@ module _ (a : Lone) where
       by_slot None e = let bad : true ≡ false = sym h.made ∙ ap is_some e in true≢false bad
       by_slot (Some slot) e =
           let same : is_indirection slot.node ≡ false = sym (link_same a.limits a.states a.steps a.last a.run a.takes a.fit u within entry slot e) ∙ plain in
-          let none : m ≡ no_ref = sym h.main ∙ ap (λ o. main_of (node_of o)) e ∙ main_of_plain slot.node same in
+          let none : m ≡ no_ref = sym h.main ∙ ap (λ o. main_of (node_of o)) e ∙ no_main slot.node same in
           let branch : is_branch (node a m) ≡ true = ap (λ r. is_branch (node a r)) none ∙ ap is_branch (no_node a.limits a.states a.last a.run a.last (omega arith)) in
           true≢false (sym branch ∙ ap is_branch tomb)

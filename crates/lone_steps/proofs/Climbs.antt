@@ -1,5 +1,5 @@
 -- CLIMB ends where one actor alone takes steps: each level is climbed once.
-use Rattle.std.proofs.Common.{◌≡◌, ℕ, zero, suc, ◌+◌, ◌-◌, ◌*◌, ◌≤◌, Bool, true, false, nat_eq, length, Option, Some, None, if◌then◌else◌, refl, sym, ap, ◌∙◌, ltb-true, eqb-true, arith}
+use Rattle.std.proofs.Common.{◌≡◌, ℕ, zero, suc, ◌+◌, ◌-◌, ◌*◌, ◌≤◌, Bool, true, false, nat_eq, length, Option, Some, if◌then◌else◌, refl, sym, ap, ◌∙◌, ltb-true, arith}
 use Rattle.std.specs.Option.{option_eq}
 use Rattle.std.proofs.lemmas.List.{length-take-le}
 use Rattle.slot_arena.specs.declared.refs.Ref.{Ref}
@@ -15,17 +15,12 @@ use Rattle.machine_model.specs.Operations.{swapped}
 use Rattle.machine_model.specs.Swapping.{swapping}
 use Rattle.machine_model.specs.Paths.{current, above, is_below_root}
 use Rattle.machine_model.specs.Reading.{reading}
+use Rattle.deciding_laws.proofs.ReadTurns.{licensed_so}
 use Rattle.lone_steps.specs.Alone.{Lone, Stands, Has, IsPlain, Within, IsWeight, generation, node}
-use Rattle.lone_steps.specs.Keys.{ClimbsFrom}
 use Rattle.lone_steps.specs.Machines.{Machines, IsRead, IsSwapped, IsRootedSo}
 use Rattle.lone_steps.specs.Stepping.{Stepping}
 use Rattle.lone_steps.proofs.Withins.{weaken, bind}
 use Rattle.lone_steps.proofs.ClimbsLines.{climb_read, climb_gives, climb_holds_read, climb_main_on, climb_made_on, climb_swapped, ended_soon}
-
--- the root's own generation
-is_own : (g : Option ℕ) (h : ℕ) → option_eq nat_eq g (Some h) ≡ true → g ≡ Some h
-is_own None h e = absurd (cc e)
-is_own (Some x) h e = ap Some (eqb-true x h e)
 
 same_root : (r q : Ref) → Plain r ≡ Plain q → r ≡ q
 same_root r q e = cc e
@@ -51,7 +46,7 @@ module _ (a : Lone) (weight : ℕ → ℕ) (c : ℕ) (heavy : IsWeight a weight)
       by_test : (u : ℕ) (rooted : IsRootedSo a weight c t g x u) → IsPlain a u r → (b : Bool) → option_eq nat_eq g (Some (generation a rooted.root)) ≡ b →
           Stands a u g (if b then climbing a.own x else climbed a.own x.former) → W Nothing 1 u
       by_test u rooted now true is next =
-          absurd (other (is_own g (generation a rooted.root) is ∙ ap (λ q. Some (generation a q)) (same_root rooted.root r (sym rooted.plain ∙ now))))
+          absurd (other (licensed_so g (generation a rooted.root) is ∙ ap (λ q. Some (generation a q)) (same_root rooted.root r (sym rooted.plain ∙ now))))
       by_test u rooted now false is next = ended_soon a weight heavy steps Nothing 1 u g x.former a.own (omega arith) next
 
   -- one level
@@ -103,6 +98,3 @@ module _ (a : Lone) (weight : ℕ → ℕ) (c : ℕ) (heavy : IsWeight a weight)
           (b : Bool) → Stands a t g (if b then line.Climb (climb.Read x (reading (current (above x.path)))) else climbed a.own x.former) → W Nothing (suc n * (c + 12) + 3) t
       by_test up true s = weaken a weight Nothing (c + (n * (c + 12) + 3 + 12)) (suc n * (c + 12) + 3) t (omega arith) (climb_level x g (n * (c + 12) + 3) (omega arith) up t s)
       by_test up false s = ended_soon a weight heavy steps Nothing (suc n * (c + 12) + 3) t g x.former a.own (omega arith) s
-
-  pub climbs_from : ClimbsFrom a weight c
-  climbs_from x t g s = climbs (length x.path) x (omega arith) t g s

@@ -21,12 +21,12 @@ use Rattle.machine_model.specs.Paths.{current, above, is_below_root}
 use Rattle.machine_model.specs.Reading.{at_indirection, read_after, reading}
 use Rattle.machine_model.specs.States.{word_at}
 use Rattle.machine_model.specs.Swapping.{swapping}
-use Rattle.line_laws.proofs.RunOf.{never_impossible}
 use Rattle.lone_steps.specs.Alone.{Lone, Stands, Keeps, Within, IsWeight}
 use Rattle.lone_steps.specs.Machines.{HoldsRead, lead}
 use Rattle.lone_steps.specs.Stepping.{Stepping}
 use Rattle.lone_steps.proofs.Withins.{weaken, ended}
 use Rattle.lone_steps.proofs.BuildsSteps.{quiet_on}
+use Rattle.lone_steps.proofs.StandsAt.{never}
 
 -- ---- the READ of the parent
 
@@ -52,10 +52,6 @@ climb_holds_read own x i = record {
 }
 
 module _ (a : Lone) where
-  -- no operation comes to the impossible line
-  pub never : (t : ℕ) (g : Option ℕ) → Stands a t g line.Impossible → ⊥
-  never t g s = never_impossible a.limits a.states a.last a.run t s.until a.actor s.operation s.runs s.line
-
   -- what climbs goes by the call alone
   pub climbing_own : (t : ℕ) (g : Option ℕ) (operation : Operation) (x : Climb) → operation.call ≡ a.own.call → Stands a t g (climbing operation x) → Stands a t g (climbing a.own x)
   climbing_own t g operation x call s =

@@ -34,9 +34,8 @@ use Rattle.lone_steps.proofs.CopiesLines.{copying, given, copy_reads, completing
 use Rattle.lone_steps.proofs.CopiesMade as Made
 use Rattle.lone_steps.proofs.CopiesReads.{reads_root}
 use Rattle.lone_steps.proofs.RootsMachines.{flat_machines}
-use Rattle.lone_steps.proofs.StandsAt.{begins}
+use Rattle.lone_steps.proofs.StandsAt.{begins, stands_as}
 use Rattle.lone_steps.proofs.Stepping.{stepping}
-use Rattle.lone_steps.proofs.SwapsSteps.{placed}
 use Rattle.lone_steps.proofs.Weights.{flat, is_weight, weighs_at_most}
 use Rattle.lone_steps.proofs.Withins.{weaken, bind, one, pays, ended}
 
@@ -89,7 +88,7 @@ module _ (a : Lone) (copies : IsCopying a.own.call) where
 
   -- from where the root is given
   from_rooted : (t u : ℕ) → IsRooted a (flat a) 7 t u → Never 11 u
-  from_rooted t u q room = absurd (from_root_on u _ q.root (placed a u _ _ _ _ refl (from_root_reads a.own.call copies q.root) q.stands) q.plain (omega (arith, room)))
+  from_rooted t u q room = absurd (from_root_on u _ q.root (stands_as a u _ _ _ _ refl (from_root_reads a.own.call copies q.root) q.stands) q.plain (omega (arith, room)))
 
   pub from_try : (t : ℕ) (g : Option ℕ) → Stands a t g new_try → Never 21 t
   from_try t g s = bind a (flat a) (IsRooted a (flat a) 7 t) (λ u. ⊥) 10 11 t (machines.roots_first t g s) (λ u after inside q. from_rooted t u q)
@@ -100,7 +99,7 @@ module _ (a : Lone) (copies : IsCopying a.own.call) where
   from_swap : (t : ℕ) (g : Option ℕ) (d : Descriptor) (m : Ref) → Stands a t g (swapping_line a.own d m) → Never 22 t
   from_swap t g d m s = one a (flat a) (is_weight a) (λ u. ⊥) 21 t g (swapping_line a.own d m) s tt (λ h.
       by (is_carried_out (word_at (a.states t) (handle_of s.operation.call)) d m || s.operation.is_marked)
-      (placed a (suc t) _ g _ _ s.generation refl (steps.next t g (swapping_line a.own d m) s h tt)))
+      (stands_as a (suc t) _ g _ _ s.generation refl (steps.next t g (swapping_line a.own d m) s h tt)))
     where
       by : (b : Bool) → Stands a (suc t) g (cond b (line.End (copied_reply s.operation.call s.operation.opens)) new_try) → Never 21 (suc t)
       by true at = weaken a (flat a) (λ u. ⊥) 1 21 (suc t) (omega arith) (ended a (flat a) steps (λ u. ⊥) (suc t) g (copied_reply s.operation.call s.operation.opens) at)
@@ -121,7 +120,7 @@ module _ (a : Lone) (copies : IsCopying a.own.call) where
   from_offer : (t : ℕ) (g : Option ℕ) (d : Descriptor) → Stands a t g (line.Copy (copy.Offer d)) → Never 32 t
   from_offer t g d s =
       pays a (flat a) (λ u. ⊥) 29 32 t (let most = weighs_at_most (word a (suc t)) in omega (arith, most)) (λ h.
-      by (is_plain (word_at (a.states t) (handle_of s.operation.call)) d.root) (placed a (suc t) _ g _ _ s.generation refl (steps.next t g (line.Copy (copy.Offer d)) s h tt)))
+      by (is_plain (word_at (a.states t) (handle_of s.operation.call)) d.root) (stands_as a (suc t) _ g _ _ s.generation refl (steps.next t g (line.Copy (copy.Offer d)) s h tt)))
     where
       by : (b : Bool) → Stands a (suc t) g (after_offer d b) → Never 29 (suc t)
       by true at = complete_first (suc t) g d at

@@ -26,7 +26,8 @@ use Rattle.lone_steps.proofs.CopiesLines.{completing_line, swapping_line, comple
 use Rattle.lone_steps.proofs.RootsWords.{same_try, offered_on}
 use Rattle.lone_steps.proofs.SwapsCourse.{prev_leaves, main_leaves}
 use Rattle.lone_steps.proofs.SwapsFound.{handle_open}
-use Rattle.lone_steps.proofs.SwapsSteps.{w, known, facts, keeps_left, placed, read_acts, reads, read_next, same_word}
+use Rattle.lone_steps.proofs.SwapsSteps.{w, known, facts, keeps_left, read_acts, reads, read_next, same_word}
+use Rattle.lone_steps.proofs.StandsAt.{stands_as}
 
 -- ---- a READ of an indirection whose main node is decided
 
@@ -40,9 +41,9 @@ module _ (a : Lone) (steps : Stepping a) where
     read_step : (l : ReadLine) → Stands a t g (wrap l) → LeavesWords (read_action i l) → ((out : After ReadLine Ref) → ReadTurn (w a) t i l out → Leaves (w a) t) → (out : After ReadLine Ref) →
         read_after (a.states t).heap a.own.access (word a t) i l ≡ out → Step t g (lead wrap gives out)
     read_step l s free leaves out e = record {
-      stands = subst (λ x. Stands a (suc t) g (lead wrap gives x)) e (read_next a wrap gives i holds t g l s h steps);
+      stands = subst (λ x. Stands a (suc t) g (lead wrap gives x)) e (read_next a wrap gives i holds t g l s h);
       keeps = keeps_left a t (leaves _ (reads a wrap gives i holds t g l s h));
-      word = same_word a wrap gives i holds t g l s h steps free;
+      word = same_word a wrap gives i holds t g l s h free;
     }
 
     reads_main : Stands a t g (wrap read.Main) → Has a t i m → Step t g (wrap (read.Prev m))
@@ -69,7 +70,7 @@ module _ (a : Lone) (steps : Stepping a) where
         let carried : is_carried_out (word_at (a.states t) (handle_of s.operation.call)) d M ≡ true =
         ap (λ x. is_carried_out x d M) it ∙ and_from (stands_in (Offer d) d) (M == d.expected) (same_try d) (eq-eqb M M refl) in
         steps.ends (suc t) g (copied_reply s.operation.call s.operation.opens)
-        (placed a (suc t) _ g _ _ s.generation (ap (λ b. copy_after_complete s.operation (of_offer d (Gives b))) carried) (steps.next t g l s (omega (arith, h)) tt)) h
+        (stands_as a (suc t) _ g _ _ s.generation (ap (λ b. copy_after_complete s.operation (of_offer d (Gives b))) carried) (steps.next t g l s (omega (arith, h)) tt)) h
 
     completes : (t : ℕ) → Stands a t g (completing_line a.own d read.Main) → Has a t d.root M → word a t ≡ Offer d → t + 4 ≤ a.last → ⊥
     completes t s has stands room =
@@ -89,5 +90,5 @@ module _ (a : Lone) (steps : Stepping a) where
         let it : word_at (a.states t) (handle_of s.operation.call) ≡ Plain d.root = ap (λ x. word_at (a.states t) (handle_of x)) s.call ∙ plain in
         let there : is_plain (word_at (a.states t) (handle_of s.operation.call)) d.root ≡ true = ap (λ x. is_plain x d.root) it ∙ eq-eqb d.root d.root refl in
         let (root, standing, access) = handle_open a t g l s refl in
-        completes (suc t) (placed a (suc t) _ g _ _ s.generation (ap (after_offer d) there) (steps.next t g l s h tt)) (keeps_left a t left d.root M has)
+        completes (suc t) (stands_as a (suc t) _ g _ _ s.generation (ap (after_offer d) there) (steps.next t g l s h tt)) (keeps_left a t left d.root M has)
         (offered_on a t g l s h tt root standing d refl plain) (omega (arith, room))

@@ -13,8 +13,8 @@ use Rattle.machine_model.specs.Copying.{copy_action, after_given, after_successo
 use Rattle.machine_model.specs.Operations.{line_after}
 use Rattle.lone_steps.specs.Alone.{Lone, Stands, Keeps, IsQuiet, IsWeight, Within, word}
 use Rattle.lone_steps.specs.Stepping.{Stepping, LeavesWords}
-use Rattle.lone_steps.proofs.SwapsSteps.{placed}
 use Rattle.lone_steps.proofs.Withins.{weaken, one, ended, keeps_on}
+use Rattle.lone_steps.proofs.StandsAt.{stands_as}
 
 module _ (a : Lone) (steps : Stepping a) (weight : ℕ → ℕ) (heavy : IsWeight a weight) (root main : Ref) (g : Option ℕ) where
   abbrev Never : ℕ → ℕ → Type 0
@@ -62,7 +62,7 @@ module _ (a : Lone) (steps : Stepping a) (weight : ℕ → ℕ) (heavy : IsWeigh
         let keeps = steps.keeps t g (line.Copy l) s h tt quiet in
         let same = steps.words t g (line.Copy l) s h tt free in
         made_by (next_ref (a.states t).heap) refl some h (λ r at. then h r at keeps same)
-        (placed a (suc t) _ g _ _ s.generation (makes (next_ref (a.states t).heap) refl) (steps.next t g (line.Copy l) s h tt)))
+        (stands_as a (suc t) _ g _ _ s.generation (makes (next_ref (a.states t).heap) refl) (steps.next t g (line.Copy l) s h tt)))
 
   pub second : (n t : ℕ) (successor : Ref) → Stands a t g (line.Copy (copy.Second root main successor)) → 1 ≤ n → Follows n t → Never (n + 1) t
   second n t successor s some then =

@@ -13,13 +13,14 @@ use Rattle.machine_model.specs.declared.reading.ReadLine.TheVariants as read
 use Rattle.machine_model.specs.Reading.{read_after, after_prev, after_ask, after_decide, after_restore, verdict_by, is_licensed, is_pending}
 use Rattle.machine_model.proofs.Grown.{main_word, prev_word}
 use Rattle.deciding_laws.proofs.Words.{ReadTurn, Leaves}
+use Rattle.deciding_laws.proofs.GrownWords.{link_made}
 use Rattle.falling_laws.proofs.KnownRoots.{reads_on}
 use Rattle.lone_steps.specs.Alone.{Lone, Stands, Has, Keeps, WordStays, IsPlain, generation, word}
 use Rattle.lone_steps.specs.Machines.{HoldsRead, lead}
 use Rattle.lone_steps.specs.Stepping.{Stepping}
 use Rattle.lone_steps.specs.Weighing.{Sees}
 use Rattle.lone_steps.proofs.ReadsStep as Step
-use Rattle.lone_steps.proofs.ReadsWords.{link_made, over_decided}
+use Rattle.lone_steps.proofs.ReadsWords.{over_decided}
 use Rattle.lone_steps.proofs.SwapsCourse.{prev_leaves, main_leaves, ask_leaves, decide_commits, restores}
 use Rattle.lone_steps.proofs.SwapsFound.{root_generation}
 use Rattle.lone_steps.proofs.SwapsSteps.{w, keeps_left, read_acts, reads, read_next}
@@ -44,7 +45,7 @@ module _ (a : Lone) (steps : Stepping a) (writable : a.own.access ≡ Writable) 
 
     next : (l : ReadLine) → Stands a u g (wrap l) → (out : After ReadLine Ref) → read_after (a.states u).heap a.own.access (word a u) i l ≡ out → Next l out
     next l s out e = record {
-      stands = subst (λ x. Stands a (suc u) g (lead wrap gives x)) e (read_next a wrap gives i holds u g l s h steps);
+      stands = subst (λ x. Stands a (suc u) g (lead wrap gives x)) e (read_next a wrap gives i holds u g l s h);
       turn = subst (ReadTurn (w a) u i l) e (reads a wrap gives i holds u g l s h);
     }
 

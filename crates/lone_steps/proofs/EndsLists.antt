@@ -1,41 +1,16 @@
 -- The run of a list of steps, and of steps of one actor behind it that are all taken.
-use Rattle.std.proofs.Common.{◌≡◌, ℕ, zero, suc, cond, ◌+◌, ◌-◌, ◌<◌, ◌≤◌, List, [], ◌∷◌, ◌++◌, length, get_or, replicate, true, Ok, Err, refl, sym, ap, ap₂, ◌∙◌, append_assoc, arith}
+use Rattle.std.proofs.Common.{◌≡◌, ℕ, zero, suc, cond, ◌+◌, ◌-◌, ◌<◌, ◌≤◌, List, [], ◌∷◌, ◌++◌, length, get_or, replicate, true, refl, sym, ap, ap₂, ◌∙◌, append_assoc, arith}
 use Rattle.std.proofs.lemmas.List.{append-nil, length-append, length-replicate, replicate-append-replicate, get_or-append_right, get_or-replicate}
 use Rattle.machine_model.specs.declared.steps.Limits.{Limits}
 use Rattle.machine_model.specs.declared.steps.Step.{Step}
 use Rattle.machine_model.specs.declared.steps.Step.TheVariants as step
-use Rattle.machine_model.specs.Machine.{Answer, is_taken_step, next, next_state, run, run_from, taken_from, taken_steps}
+use Rattle.machine_model.specs.Machine.{is_taken_step, next, next_state, run, taken_from, taken_steps}
 use Rattle.machine_model.specs.States.{State, first_state}
 use Rattle.machine_model.proofs.Along.{run_push}
-use Rattle.machine_model.proofs.Times.{last_of, run_ends, states_from, states_of}
+use Rattle.machine_model.proofs.Times.{last_of, run_ends, states_of}
 use Rattle.shape_laws.specs.Sites.{steps_of}
+use Rattle.shape_laws.proofs.Fixed.{taken-append, states_of-append}
 use Rattle.lone_steps.specs.Laws.{alone_after}
-
--- ---- more steps behind a list
-
-taken_both : (state : State) (xs ys : List Step) → taken_from state (xs ++ ys) ≡ taken_from state xs ++ taken_from (run_from state xs) ys
-unfolding taken_from run_from
-taken_both state [] ys = refl
-taken_both state (s ∷ xs) ys = by (next state s) (taken_both (next_state state s) xs ys)
-  where
-    by : (answer : Answer) → taken_from (next_state state s) (xs ++ ys) ≡ taken_from (next_state state s) xs ++ taken_from (run_from (next_state state s) xs) ys →
-        cond (is_taken_step answer) (s ∷ taken_from (next_state state s) (xs ++ ys)) (taken_from (next_state state s) (xs ++ ys))
-        ≡ cond (is_taken_step answer) (s ∷ taken_from (next_state state s) xs) (taken_from (next_state state s) xs) ++ taken_from (run_from (next_state state s) xs) ys
-    by (Ok done) e = ap (λ l. s ∷ l) e
-    by (Err why) e = e
-
-states_both : (state : State) (xs ys : List Step) (t : ℕ) → t ≤ length xs → states_from state (xs ++ ys) t ≡ states_from state xs t
-unfolding states_from
-states_both state [] [] t h = refl
-states_both state [] (y ∷ ys) zero h = refl
-states_both state [] (y ∷ ys) (suc t) h = absurd (omega (arith, h))
-states_both state (x ∷ xs) ys zero h = refl
-states_both state (x ∷ xs) ys (suc t) h = states_both (next_state state x) xs ys t (omega (arith, h))
-
-same_states : (limits : Limits) (xs ys : List Step) (t : ℕ) → t ≤ last_of limits xs → states_of limits (xs ++ ys) t ≡ states_of limits xs t
-same_states limits xs ys t h =
-    ap (λ l. states_from (first_state limits) l t) (taken_both (first_state limits) xs ys)
-    ∙ states_both (first_state limits) (taken_steps limits xs) (taken_from (run limits xs) ys) t h
 
 -- ---- one step more
 
@@ -62,7 +37,7 @@ module _ (limits : Limits) (steps : List Step) (actor n : ℕ) (each : (k : ℕ)
   taken_more zero le = ap (taken_steps limits) (append-nil steps) ∙ sym (append-nil (taken_steps limits steps))
   taken_more (suc k) le =
       ap (taken_steps limits) (more k (step.Go actor) steps)
-      ∙ taken_both (first_state limits) (steps ++ replicate k (step.Go actor)) (step.Go actor ∷ [])
+      ∙ taken-append (first_state limits) (steps ++ replicate k (step.Go actor)) (step.Go actor ∷ [])
       ∙ ap₂ (λ xs ys. xs ++ ys) (taken_more k (omega (arith, le))) (taken_one (alone_after limits steps actor k) (step.Go actor) (each k (omega (arith, le))))
       ∙ sym (more k (step.Go actor) (taken_steps limits steps))
 
@@ -81,7 +56,7 @@ module _ (limits : Limits) (steps : List Step) (actor n : ℕ) (each : (k : ℕ)
       ap (λ l. steps ++ l) (ap (λ m. replicate m (step.Go actor)) (sym sum) ∙ sym (replicate-append-replicate k (n - k) (step.Go actor)))
       ∙ sym (append_assoc steps (replicate k (step.Go actor)) (replicate (n - k) (step.Go actor))) in
       ap₂ (λ l t. states_of limits l t) both (sym (last_after k le))
-      ∙ same_states limits (steps ++ replicate k (step.Go actor)) (replicate (n - k) (step.Go actor)) (last_of limits (steps ++ replicate k (step.Go actor))) (omega arith)
+      ∙ states_of-append limits (steps ++ replicate k (step.Go actor)) (replicate (n - k) (step.Go actor)) (last_of limits (steps ++ replicate k (step.Go actor))) (omega arith)
       ∙ run_ends limits (steps ++ replicate k (step.Go actor))
 
   pub step_at : (t : ℕ) → last_of limits steps ≤ t → t < last_of limits all → steps_of limits all t ≡ step.Go actor

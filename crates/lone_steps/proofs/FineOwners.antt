@@ -8,13 +8,13 @@ use Rattle.machine_model.proofs.Grown.{node_under, main_word, prev_word}
 use Rattle.machine_model.specs.declared.reading.ReadLine.{ReadLine}
 use Rattle.falling_laws.proofs.NoRef.{nothing_stands}
 use Rattle.memory_laws.specs.Wants.{is_indirection}
+use Rattle.memory_laws.proofs.Nodes.{no_main}
 use Rattle.deciding_laws.proofs.Words.{Decides}
 use Rattle.deciding_laws.proofs.Owners.{Owner}
 use Rattle.lone_steps.specs.Alone.{Lone}
 use Rattle.lone_steps.specs.Weighing.{Sees}
 use Rattle.lone_steps.proofs.ReadsWords.{w, p, sound}
 use Rattle.lone_steps.proofs.FailedOwners.{FailedOwner, failed_owned}
-use Rattle.lone_steps.proofs.SwapsFound.{no_main}
 use Rattle.lone_steps.proofs.FineSums.{sum_has}
 use Rattle.lone_steps.proofs.FineWeight.{node_weight, stage_weight}
 use Rattle.lone_steps.proofs.FineSteps.{actor_weight, in_range}

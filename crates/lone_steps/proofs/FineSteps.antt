@@ -13,7 +13,7 @@ use Rattle.machine_model.proofs.Actors.{after_marks, marks_by, gone_actors, begi
 use Rattle.machine_model.proofs.Found.{found_within}
 use Rattle.machine_model.proofs.Moves.{Moves, Begins, Goes, Ends, Sweeps, begun_operation}
 use Rattle.machine_model.proofs.Times.{at_each_time}
-use Rattle.deciding_laws.proofs.Words.{Words, Stage, Rests, Decides}
+use Rattle.deciding_laws.proofs.Words.{Rests, Decides}
 use Rattle.deciding_laws.proofs.Words as Word
 use Rattle.deciding_laws.proofs.Finals.{effect}
 use Rattle.deciding_laws.proofs.Stages.{stage_of, stage_of_actor}
@@ -73,9 +73,6 @@ module _ (a : Lone) where
         ap (λ (x : State). stage_of_actor (operation_of x j)) (after_so a t g l s more not)
         ∙ ap stage_of_actor (go_others (a.states t) a.actor s.operation (actor_counts (a.states t) a.actor s.operation s.runs) j apart)
         ∙ mark_stage (marks_by (a.states t) (Some s.operation)) (operation_of (a.states t) j)
-
-    stage_now : (w a).stage t a.actor ≡ stage_of l
-    stage_now = ap stage_of_actor s.runs ∙ ap stage_of s.line
 
     -- its own turn
     own_turn : Word.Moves (w a) t a.actor ((w a).stage t a.actor) ((w a).stage (suc t) a.actor)

@@ -18,9 +18,8 @@ use Rattle.machine_model.specs.Reading.{reading}
 use Rattle.lone_steps.specs.Alone.{Has, Lone, Stands, node}
 use Rattle.lone_steps.specs.Keys.{Chain, IsNoTomb, IsOf, Leads}
 use Rattle.lone_steps.specs.Stepping.{Stepping}
-use Rattle.lone_steps.proofs.PassesLines.{stands_as}
 use Rattle.lone_steps.proofs.PassesSees.{main_seen}
-use Rattle.lone_steps.proofs.RenewsNodes.{never}
+use Rattle.lone_steps.proofs.StandsAt.{stands_as, never}
 
 -- a tomb, or none
 pub tomb_or_none : (a : Lone) (n : Node) → ((single : Ref) × (n ≡ Tomb single)) ⊎ IsNoTomb a n
@@ -92,4 +91,4 @@ module _ (a : Lone) where
       where
         by : (1 < length path) ⊎ (length path ≤ 1) → (2 ≤ length path) × Stands a (suc t) g (line.Clean (clean.Read (above path) (reading (current (above path)))))
         by (inl low) = (low, stands_as a (suc t) g g _ _ refl (ap (λ b. cond b (line.Clean (clean.Read (above path) (reading (current (above path))))) impossible) (lt-ltb 1 (length path) low)) (tomb_next t g path main single s more is))
-        by (inr high) = absurd (never a steps (suc t) g (stands_as a (suc t) g g _ impossible refl (ap (λ b. cond b (line.Clean (clean.Read (above path) (reading (current (above path))))) impossible) (le-ltb 1 (length path) high)) (tomb_next t g path main single s more is)))
+        by (inr high) = absurd (never a (suc t) g (stands_as a (suc t) g g _ impossible refl (ap (λ b. cond b (line.Clean (clean.Read (above path) (reading (current (above path))))) impossible) (le-ltb 1 (length path) high)) (tomb_next t g path main single s more is)))

@@ -65,7 +65,6 @@ pub mod FineSteps
 pub mod FinePays
 pub mod FineOwners
 pub mod Fine
-pub mod FineMachines
 pub mod RootsMachines
 pub mod CopiesLines
 pub mod CopiesFresh
@@ -74,7 +73,6 @@ pub mod CopiesReads
 pub mod FreshTombs
 pub mod FreshEnds
 pub mod Fresh
-pub mod StaleLevels
 pub mod StalePass
 pub mod StaleKinds
 pub mod CopiesCalls
@@ -84,5 +82,4 @@ pub mod ReadersCalls
 pub mod Readers
 pub mod ReadHolds
 pub mod AloneReads
-pub mod PassesPlaces
 pub mod SwapsSoon

@@ -6,7 +6,7 @@ use Rattle.std.proofs.lemmas.List.{get_or_append_left, length-append}
 use Rattle.ctrie_base.specs.Paths.{position_of}
 use Rattle.history.specs.declared.calls.Access.TheVariants.{Writable}
 use Rattle.history.specs.declared.calls.Call.{Call}
-use Rattle.history.specs.declared.calls.Call.TheVariants.{Get, Put, PutIfAbsent, Replace, ReplaceIf, Remove, RemoveIf}
+use Rattle.history.specs.declared.calls.Call.TheVariants.{Clear, Snapshot, Freeze}
 use Rattle.slot_arena.specs.declared.refs.Ref.{Ref}
 use Rattle.slot_arena.specs.Heaps.{no_ref}
 use Rattle.machine_model.specs.declared.finding.KeyLine.TheVariants as key
@@ -21,19 +21,16 @@ use Rattle.lone_steps.specs.Keys.{Chain, Ended, IsBottom, IsOf, IsOnKey, Leads, 
 use Rattle.lone_steps.specs.Machines.{IsRead, IsRooted, Machines}
 use Rattle.lone_steps.specs.Stepping.{Stepping}
 use Rattle.lone_steps.proofs.PassesChains.{AtEnd, current_later, ended_later, one_main}
-use Rattle.lone_steps.proofs.PassesLines.{down_reads, goes_down, key_gives, key_holds_read, key_read, stands_as, to_entry}
+use Rattle.lone_steps.proofs.PassesLines.{down_reads, goes_down, key_gives, key_holds_read, key_read, to_entry}
 use Rattle.lone_steps.proofs.Withins.{bind, here, keeps_on, map, one, same_stays, stays_on, weaken}
+use Rattle.lone_steps.proofs.StandsAt.{stands_as}
 
 -- a call on one key begins with its root
 pub key_begins : (call : Call) → IsOnKey call → (r : Ref) → from_root call r ≡ going_down [] r
-key_begins (Get h k) on r = refl
-key_begins (Put h k v) on r = refl
-key_begins (PutIfAbsent h k v) on r = refl
-key_begins (Replace h k v) on r = refl
-key_begins (ReplaceIf h k a b) on r = refl
-key_begins (Remove h k) on r = refl
-key_begins (RemoveIf h k v) on r = refl
-key_begins call on r = absurd on
+key_begins (Clear h) on r = absurd on
+key_begins (Snapshot h) on r = absurd on
+key_begins (Freeze h) on r = absurd on
+key_begins call on r = refl
 
 module _ (a : Lone) (weight : ℕ → ℕ) (c : ℕ) (heavy : IsWeight a weight) (steps : Stepping a) (machines : Machines a weight c) (writes : a.own.access ≡ Writable) where
   abbrev W : (ℕ → Type 0) → ℕ → ℕ → Type 0

@@ -1,5 +1,5 @@
 -- Key's paths: where they end, and what stays of them.
-use Rattle.std.proofs.Common.{Some, ◌≡◌, ℕ, suc, ◌+◌, ◌-◌, ◌<◌, ◌≤◌, ◌⊎◌, inl, inr, Bool, true, false, List, [], ◌∷◌, ◌++◌, length, get_or, Option, refl, sym, ap, ap₂, subst, ◌∙◌, arith}
+use Rattle.std.proofs.Common.{Some, ◌≡◌, ℕ, suc, ◌+◌, ◌-◌, ◌<◌, ◌≤◌, ◌⊎◌, inl, inr, Bool, true, false, List, ◌∷◌, ◌++◌, length, get_or, Option, refl, sym, ap, ap₂, subst, ◌∙◌, arith, []}
 use Rattle.std.proofs.lemmas.Bool.{cases_lt, false≢true}
 use Rattle.std.proofs.lemmas.List.{get_or-append_right, get_or_append_left, length-append}
 use Rattle.arrayvec.specs.ArrayVec.{ArrayVec}
@@ -65,31 +65,27 @@ module _ (a : Lone) where
   pub one_main : (t : ℕ) (i m n : Ref) → Has a t i m → Has a t i n → m ≡ n
   one_main t i m n x y = sym x.main ∙ y.main
 
-  pub one_generation : (r : Ref) (g h : ℕ) → IsOf a r g → IsOf a r h → g ≡ h
-  one_generation r g h (m, x) (n, y) = let same : Indirection g m ≡ Indirection h n = sym x ∙ y in cc same
-
   -- ---- what stays
 
   pub current_later : (t u : ℕ) (r : Ref) (g : Option ℕ) → WordStays a t u → IsCurrent a t r g → IsCurrent a u r g
   current_later t u r g word x = record { plain = word r x.plain; own = x.own }
 
-  pub chain_later : (t u : ℕ) (r : Ref) (g : ℕ) (path : List Ref) → Keeps a t u → Chain a t r g path → Chain a u r g path
-  chain_later t u r g path keeps x = record {
+  pub chain_stays : (t u : ℕ) (r : Ref) (g : ℕ) (path : List Ref) →
+      ((k : ℕ) → suc k < length path → (m : Ref) → Has a t (get_or path k no_ref) m → Has a u (get_or path k no_ref) m) → Chain a t r g path → Chain a u r g path
+  chain_stays t u r g path stays x = record {
     long = x.long;
     first = x.first;
     own = x.own;
-    links = λ k lt. let (m, has, leads) = x.links k lt in (m, keeps (get_or path k no_ref) m has, leads);
+    links = λ k lt. let (m, has, leads) = x.links k lt in (m, stays k lt m has, leads);
   }
+
+  pub chain_later : (t u : ℕ) (r : Ref) (g : ℕ) (path : List Ref) → Keeps a t u → Chain a t r g path → Chain a u r g path
+  chain_later t u r g path keeps x = chain_stays t u r g path (λ k lt m has. keeps (get_or path k no_ref) m has) x
 
   -- but for the last one
   pub chain_kept : (t u : ℕ) (r : Ref) (g : ℕ) (path : List Ref) → ((k : ℕ) → suc k < length path → get_or path k no_ref ≡ current path → ⊥) → KeepsBut a t u (current path) →
       Chain a t r g path → Chain a u r g path
-  chain_kept t u r g path apart keeps x = record {
-    long = x.long;
-    first = x.first;
-    own = x.own;
-    links = λ k lt. let (m, has, leads) = x.links k lt in (m, keeps (get_or path k no_ref) m (apart k lt) has, leads);
-  }
+  chain_kept t u r g path apart keeps x = chain_stays t u r g path (λ k lt m has. keeps (get_or path k no_ref) m (apart k lt) has) x
 
   pub ended_later : (t u : ℕ) (r : Ref) (g : ℕ) (path : List Ref) (main : Ref) → Keeps a t u → Ended a t r g path main → Ended a u r g path main
   ended_later t u r g path main keeps x = record { chain = chain_later t u r g path keeps x.chain; has = keeps (current path) main x.has; ends = x.ends }

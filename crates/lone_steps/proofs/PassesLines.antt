@@ -31,6 +31,7 @@ use Rattle.lone_steps.specs.Keys.{IsOf, Leads, flag_at}
 use Rattle.lone_steps.specs.Machines.{HoldsRead, lead}
 use Rattle.lone_steps.specs.Stepping.{Stepping}
 use Rattle.lone_steps.proofs.PassesSees.{SeesEntry, flag_is, link_seen, main_seen, sees_entry}
+use Rattle.lone_steps.proofs.StandsAt.{stands_as}
 
 -- a READ of KEY
 abbrev pub key_read_of : List Ref → Ref → ReadLine → Line
@@ -47,10 +48,6 @@ equal : (g h : ℕ) → g ≡ h → (g == h) ≡ true
 equal g h e = grind (arith, e)
 
 module _ (a : Lone) where
-  -- the same of a line and a generation that are equal
-  pub stands_as : (t : ℕ) (g h : Option ℕ) (l m : Line) → g ≡ h → l ≡ m → Stands a t g l → Stands a t h m
-  stands_as t g h l m one two s = subst (λ x. Stands a t x m) one (subst (Stands a t g) two s)
-
   -- going down is a READ of the longer path's last one
   pub down_reads : (t : ℕ) (g : Option ℕ) (path : List Ref) (below : Ref) → Stands a t g (going_down path below) → Stands a t g (line.Key (key.Read (path ++ below ∷ []) (reading (current (path ++ below ∷ [])))))
   down_reads t g path below s = subst (λ i. Stands a t g (line.Key (key.Read (path ++ below ∷ []) (reading i)))) (sym last) s
@@ -73,7 +70,7 @@ module _ (a : Lone) where
     pub to_entry : (t : ℕ) (g : Option ℕ) (path : List Ref) (main below : Ref) → Stands a t g (line.Key (key.Main path main)) → t < a.last → (x : Leads a (depth_of path) main below) →
         Stands a (suc t) g (line.Key (key.Entry path main (position_of (flag_at a (depth_of path)) x.bitmap)))
     to_entry t g path main below s more x =
-        stands_as (suc t) s.operation.generation g (line_after (a.states t) s.operation (line.Key (key.Main path main))) (line.Key (key.Entry path main (position_of (flag_at a (depth_of path)) x.bitmap))) s.generation
+        stands_as a (suc t) s.operation.generation g (line_after (a.states t) s.operation (line.Key (key.Main path main))) (line.Key (key.Entry path main (position_of (flag_at a (depth_of path)) x.bitmap))) s.generation
         (ap (key_after_main (a.states t) s.operation path main) (main_seen a steps t g path main s ∙ x.branch)
         ∙ main_leads (flag_in (a.states t) s.operation path) (flag_at a (depth_of path)) path main s.operation x.bitmap (flag_is a t g (line.Key (key.Main path main)) s path) x.flagged)
         (steps.next t g (line.Key (key.Main path main)) s more tt)
@@ -117,7 +114,7 @@ module _ (a : Lone) where
 
       next : Stands a (suc t) (Some g) (cond (g == h) (going_down path below) (line.Renew (renew.Entry path main [])))
       next =
-          stands_as (suc t) s.operation.generation (Some g) (line_after (a.states t) s.operation (line.Key (key.Entry path main position))) _ s.generation after
+          stands_as a (suc t) s.operation.generation (Some g) (line_after (a.states t) s.operation (line.Key (key.Entry path main position))) _ s.generation after
           (steps.next t (Some g) (line.Key (key.Entry path main position)) s more tt)
 
       pub within : position < length (entries_of (node a main))
@@ -125,11 +122,11 @@ module _ (a : Lone) where
 
       -- an indirection of the root's generation leads down
       pub goes_down : g ≡ h → Stands a (suc t) (Some g) (going_down path below)
-      goes_down same = stands_as (suc t) (Some g) (Some g) _ (going_down path below) refl (ap (λ b. cond b (going_down path below) (line.Renew (renew.Entry path main []))) (equal g h same)) next
+      goes_down same = stands_as a (suc t) (Some g) (Some g) _ (going_down path below) refl (ap (λ b. cond b (going_down path below) (line.Renew (renew.Entry path main []))) (equal g h same)) next
 
       -- at any other the entries are renewed
       pub renews : (g == h) ≡ false → Stands a (suc t) (Some g) (line.Renew (renew.Entry path main []))
-      renews other = stands_as (suc t) (Some g) (Some g) _ (line.Renew (renew.Entry path main [])) refl (ap (λ b. cond b (going_down path below) (line.Renew (renew.Entry path main []))) other) next
+      renews other = stands_as a (suc t) (Some g) (Some g) _ (line.Renew (renew.Entry path main [])) refl (ap (λ b. cond b (going_down path below) (line.Renew (renew.Entry path main []))) other) next
 
 -- ---- the READ of KEY
 

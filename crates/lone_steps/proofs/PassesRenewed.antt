@@ -3,16 +3,14 @@ use Rattle.std.proofs.Common.{◌≡◌, ℕ, ◌<◌, ◌≤◌, inl, inr, List
 use Rattle.std.proofs.lemmas.List.{take_all}
 use Rattle.ctrie_base.specs.Paths.{position_of}
 use Rattle.slot_arena.specs.declared.refs.Ref.{Ref}
-use Rattle.slot_arena.specs.declared.nodes.Node.TheVariants.{Indirection, Branch, Single}
+use Rattle.slot_arena.specs.declared.nodes.Node.TheVariants.{Branch}
 use Rattle.slot_arena.specs.Heaps.{bitmap_of, entries_from, entries_of, no_ref}
 use Rattle.nodes.specs.Builders.{renewed}
 use Rattle.lone_steps.specs.Alone.{Lone, node}
 use Rattle.lone_steps.specs.Keys.{IsOf, IsRenewed, Leads, flag_at}
+use Rattle.lone_steps.proofs.CleansEnds.{link_no_single}
 
 module _ (a : Lone) where
-  no_single : (r : Ref) (g k v : ℕ) → IsOf a r g → node a r ≡ Single k v → ⊥
-  no_single r g k v (m, is) e = let wrong : Indirection g m ≡ Single k v = sym is ∙ e in let bad : ⊥ = cc wrong in bad
-
   pub renewed_leads : (depth g h : ℕ) (main fresh below next : Ref) (done : List Ref) → length done ≤ 32 → node a fresh ≡ renewed (bitmap_of (node a main)) done → length done ≡ length (entries_of (node a main)) →
       ((k : ℕ) → 0 ≤ k → k < length done → IsRenewed a g (get_or done k no_ref)) → (x : Leads a depth main below) → position_of (flag_at a depth) x.bitmap < length (entries_of (node a main)) →
       Leads a depth fresh next → IsOf a next h → IsOf a next g
@@ -35,4 +33,4 @@ module _ (a : Lone) where
 
       by : IsRenewed a g (get_or done (position_of (flag_at a depth) x.bitmap) no_ref) → IsOf a next g
       by (inl is) = subst (λ r. IsOf a r g) place is
-      by (inr (k, v, is)) = absurd (no_single next h k v of (ap (node a) (sym place) ∙ is))
+      by (inr (k, v, is)) = absurd (link_no_single a next h k v of (ap (node a) (sym place) ∙ is))

@@ -1,6 +1,5 @@
 -- What the lines of KEY see on the way down, where one actor alone takes steps.
-use Rattle.std.proofs.Common.{◌≡◌, ℕ, ◌<◌, ◌≤◌, true, false, List, Option, get_or, length, refl, sym, ap, ap₂, subst, ◌∙◌, ltb-true}
-use Rattle.std.proofs.lemmas.Bool.{false≢true}
+use Rattle.std.proofs.Common.{◌≡◌, ℕ, ◌<◌, ◌≤◌, false, List, Option, get_or, length, refl, sym, ap, ap₂, subst, ◌∙◌, ltb-true}
 use Rattle.ctrie_base.specs.Hashes.{hash_of}
 use Rattle.history.specs.declared.calls.Call.{Call}
 use Rattle.slot_arena.specs.declared.refs.Ref.{Ref}
@@ -63,19 +62,5 @@ module _ (a : Lone) where
         by (Indirection h w) e = let (x, now) = steps.link_found t r h w le used e in let same : h ≡ g = cc (now, is) in (w, ap (λ k. Indirection k w) same)
         by (Branch b es) e = plain (Branch b es) e refl
         by (Single k v) e = plain (Single k v) e refl
-        by (Tomb single) e = plain (Tomb single) e refl
-        by (Listed singles) e = plain (Listed singles) e refl
-
-    -- and so is a single that single
-    pub single_seen : (t : ℕ) → t ≤ a.last → (r : Ref) (k v : ℕ) → IsInUse (a.states t).heap r → node a r ≡ Single k v → node_at (a.states t).heap r ≡ Single k v
-    single_seen t le r k v used is = by (node_at (a.states t).heap r) refl
-      where
-        plain : (n : Node) → node_at (a.states t).heap r ≡ n → is_indirection n ≡ false → n ≡ Single k v
-        plain n e kind = sym e ∙ steps.node_found t r le used (ap is_indirection e ∙ kind) ∙ is
-
-        by : (n : Node) → node_at (a.states t).heap r ≡ n → n ≡ Single k v
-        by (Indirection h w) e = let (x, now) = steps.link_found t r h w le used e in let wrong : true ≡ false = ap is_indirection (sym now ∙ is) in absurd (false≢true (sym wrong))
-        by (Branch b es) e = plain (Branch b es) e refl
-        by (Single k' v') e = plain (Single k' v') e refl
         by (Tomb single) e = plain (Tomb single) e refl
         by (Listed singles) e = plain (Listed singles) e refl

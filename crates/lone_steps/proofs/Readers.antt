@@ -1,5 +1,5 @@
 -- A call on one key on a read-only handle, whose actor alone takes steps, ends: it goes down 14 levels at most, and looks at 32 singles at most.
-use Rattle.std.proofs.Common.{◌≡◌, ℕ, zero, suc, ◌+◌, ◌-◌, ◌*◌, ◌<◌, ◌≤◌, true, false, List, [], ◌∷◌, ◌++◌, length, Option, Some, None, refl, sym, ap, ◌∙◌, subst, ltb-true, arith}
+use Rattle.std.proofs.Common.{◌≡◌, ℕ, zero, suc, ◌+◌, ◌-◌, ◌*◌, ◌<◌, ◌≤◌, true, false, List, ◌∷◌, ◌++◌, length, Option, Some, None, refl, sym, ap, ◌∙◌, subst, ltb-true, arith, []}
 use Rattle.std.proofs.lemmas.Bool.{false≢true}
 use Rattle.std.proofs.lemmas.List.{length-append}
 use Rattle.history.specs.declared.calls.Access.TheVariants.{ReadOnly}
@@ -24,11 +24,10 @@ use Rattle.memory_laws.specs.Wants.{TombOrList, AMain, listed, meets, is_indirec
 use Rattle.memory_laws.proofs.AtEachTime.{safe_at}
 use Rattle.memory_laws.proofs.Claims.{safe_of, meets_of, fact_of}
 use Rattle.generation_laws.proofs.RootsAlong.{ordered_at, read_only_plain}
-use Rattle.falling_laws.proofs.Paths.{knows_at}
+use Rattle.falling_laws.proofs.OwnSwaps.{knows_at}
 use Rattle.falling_laws.proofs.ReaderFalls.{KnowsReader}
 use Rattle.falling_laws.proofs.RunFalls.{Ends, Shut, LateEnd}
 use Rattle.content_laws.proofs.Shapes.{list_shape}
-use Rattle.line_laws.proofs.RunOf.{never_impossible}
 use Rattle.shape_laws.specs.LineSites.{sites_of, trie_at}
 use Rattle.shape_laws.specs.SitesAt.{way_of}
 use Rattle.shape_laws.proofs.GrownSites.{made_shaped}
@@ -38,21 +37,19 @@ use Rattle.lone_steps.specs.Keys.{IsOnKey}
 use Rattle.lone_steps.specs.Machines.{Machines, IsRead, WasRead, IsRooted}
 use Rattle.lone_steps.specs.Readers.{ReadersEnd}
 use Rattle.lone_steps.specs.Stepping.{Stepping}
-use Rattle.lone_steps.proofs.ReadersCalls.{OfReader, from_key, reader_at, reader_lines}
-use Rattle.lone_steps.proofs.ReadersLines.{keying, seeing, key_reads, AfterMain, ToEntry, ToListed, MainEnds, MainFails, AfterEntry, ToBelow, EntryEnds, EntryFails, AfterListed, ToNext, ListedEnds, ListedFails, after_main, after_entry, after_single}
+use Rattle.lone_steps.proofs.ReadersCalls.{OfReader, reader_at, reader_lines}
+use Rattle.lone_steps.proofs.ReadersLines.{AfterMain, ToEntry, ToListed, MainEnds, MainFails, AfterEntry, ToBelow, EntryEnds, EntryFails, AfterListed, ToNext, ListedEnds, ListedFails, after_main, after_entry, after_single}
 use Rattle.lone_steps.proofs.RootsMachines.{flat_machines}
-use Rattle.lone_steps.proofs.StandsAt.{begins}
+use Rattle.lone_steps.proofs.StandsAt.{begins, stands_as, never}
 use Rattle.lone_steps.proofs.Stepping.{stepping}
 use Rattle.lone_steps.proofs.SwapsFound.{handle_open}
-use Rattle.lone_steps.proofs.SwapsSteps.{placed}
 use Rattle.lone_steps.proofs.Weights.{flat, is_weight, weighs_at_most}
 use Rattle.lone_steps.proofs.Withins.{weaken, bind, one, ended}
+use Rattle.lone_steps.proofs.PassesAlong.{key_begins}
+use Rattle.lone_steps.proofs.PassesLines.{key_read_of, key_gives, key_holds_read_of}
 
 list_plain : (n : Node) → meets TombOrList n ≡ true → is_indirection n ≡ false
 list_plain n e = grind arith
-
-list_main : (n : Node) → meets TombOrList n ≡ true → meets AMain n ≡ true
-list_main n e = grind arith
 
 module _ (a : Lone) (read_only : a.own.access ≡ ReadOnly) (on_key : IsOnKey a.own.call) where
   abbrev Never : ℕ → ℕ → Type 0
@@ -68,7 +65,7 @@ module _ (a : Lone) (read_only : a.own.access ≡ ReadOnly) (on_key : IsOnKey a.
   ends n t g answer some s = weaken a (flat a) (λ u. ⊥) 1 n t some (ended a (flat a) steps (λ u. ⊥) t g answer s)
 
   fails : (n t : ℕ) (g : Option ℕ) → Stands a t g line.Impossible → Never n t
-  fails n t g s room = absurd (never_impossible a.limits a.states a.last a.run t s.until a.actor s.operation s.runs s.line)
+  fails n t g s room = absurd (never a t g s)
 
   -- ---- singles
 
@@ -97,7 +94,7 @@ module _ (a : Lone) (read_only : a.own.access ≡ ReadOnly) (on_key : IsOnKey a.
       (p + 1 < 32 → Stands a (suc t) g (line.Key (key.Listed path m (p + 1))) → Never n (suc t)) → Never (n + 1) t
   listed_step n t g path m p some s then = one a (flat a) (is_weight a) (λ u. ⊥) n t g l s tt (λ h.
       by (few_listed t g path m p s) (after_single (a.states t) s.operation (reader_at a read_only on_key t g l s) path m p (node_at (a.states t).heap (entry_at (a.states t).heap m p)))
-      (placed a (suc t) _ g _ _ s.generation refl (steps.next t g l s h tt)))
+      (stands_as a (suc t) _ g _ _ s.generation refl (steps.next t g l s h tt)))
     where
       l : Line
       l = line.Key (key.Listed path m p)
@@ -123,7 +120,7 @@ module _ (a : Lone) (read_only : a.own.access ≡ ReadOnly) (on_key : IsOnKey a.
   entry_on : (n t : ℕ) (g : Option ℕ) (path : List Ref) (m : Ref) (p : ℕ) → 1 ≤ n → Below n path t → Stands a t g (line.Key (key.Entry path m p)) → Never (n + 1) t
   entry_on n t g path m p some below s = one a (flat a) (is_weight a) (λ u. ⊥) n t g l s tt (λ h.
       by (after_entry (a.states t) s.operation (reader_at a read_only on_key t g l s) path m p (node_at (a.states t).heap (entry_at (a.states t).heap m p)))
-      (placed a (suc t) _ g _ _ s.generation refl (steps.next t g l s h tt)))
+      (stands_as a (suc t) _ g _ _ s.generation refl (steps.next t g l s h tt)))
     where
       l : Line
       l = line.Key (key.Entry path m p)
@@ -138,7 +135,7 @@ module _ (a : Lone) (read_only : a.own.access ≡ ReadOnly) (on_key : IsOnKey a.
       weaken a (flat a) (λ u. ⊥) ((n + 1) + 1) (n + 2) t (omega arith)
       (one a (flat a) (is_weight a) (λ u. ⊥) (n + 1) t g l s tt (λ h.
       by (after_main (a.states t) s.operation (reader_at a read_only on_key t g l s) path m (node_at (a.states t).heap m))
-      (placed a (suc t) _ g _ _ s.generation refl (steps.next t g l s h tt))))
+      (stands_as a (suc t) _ g _ _ s.generation refl (steps.next t g l s h tt))))
     where
       l : Line
       l = line.Key (key.Main path m)
@@ -149,16 +146,16 @@ module _ (a : Lone) (read_only : a.own.access ≡ ReadOnly) (on_key : IsOnKey a.
       by (MainEnds answer) at = ends (n + 1) (suc t) g answer (omega arith) at
       by MainFails at = fails (n + 1) (suc t) g at
 
-  read_first : (n t : ℕ) (g : Option ℕ) (path : List Ref) (i : Ref) → 32 ≤ n → Below n path t → Stands a t g (keying a.own path i read.Main) → Never (7 + (n + 2)) t
+  read_first : (n t : ℕ) (g : Option ℕ) (path : List Ref) (i : Ref) → 32 ≤ n → Below n path t → Stands a t g (key_read_of path i read.Main) → Never (7 + (n + 2)) t
   read_first n t g path i long below s =
-      bind a (flat a) (IsRead a (flat a) 7 t g (seeing a.own path i) i) (λ u. ⊥) 7 (n + 2) t
-      (machines.reads_first (keying a.own path i) (seeing a.own path i) i (key_reads a.own path i) t g s)
+      bind a (flat a) (IsRead a (flat a) 7 t g (key_gives path) i) (λ u. ⊥) 7 (n + 2) t
+      (machines.reads_first (key_read_of path i) (key_gives path) i (key_holds_read_of a.own path i) t g s)
       (λ u after inside q. main_on n u g path q.main long (λ v g' r le s'. below v g' r (omega (arith, after, le)) s') q.stands)
 
-  read_on : (n t : ℕ) (g : Option ℕ) (path : List Ref) (i : Ref) (l : ReadLine) → 32 ≤ n → Below n path t → Stands a t g (keying a.own path i l) → Never (13 + (n + 2)) t
+  read_on : (n t : ℕ) (g : Option ℕ) (path : List Ref) (i : Ref) (l : ReadLine) → 32 ≤ n → Below n path t → Stands a t g (key_read_of path i l) → Never (13 + (n + 2)) t
   read_on n t g path i l long below s =
-      bind a (flat a) (WasRead a (flat a) 7 t g (seeing a.own path i)) (λ u. ⊥) 13 (n + 2) t
-      (machines.reads_on (keying a.own path i) (seeing a.own path i) i (key_reads a.own path i) t g l s)
+      bind a (flat a) (WasRead a (flat a) 7 t g (key_gives path)) (λ u. ⊥) 13 (n + 2) t
+      (machines.reads_on (key_read_of path i) (key_gives path) i (key_holds_read_of a.own path i) t g l s)
       (λ u after inside q. main_on n u g path q.main long (λ v g' r le s'. below v g' r (omega (arith, after, le)) s') q.stands)
 
   -- ---- all levels
@@ -216,7 +213,7 @@ module _ (a : Lone) (read_only : a.own.access ≡ ReadOnly) (on_key : IsOnKey a.
       let (r, plain) = root_plain t g s in
       weaken a (flat a) (λ u. ⊥) (1 + 158) 164 t (omega arith)
       (bind a (flat a) (λ u. IsRooted a (flat a) 7 t u × IsPlain a u r) (λ u. ⊥) 1 158 t (machines.roots_plain t g r s plain)
-      (λ u after inside q. below_on 14 u [] refl u _ q.0.root (omega arith) (placed a u _ _ _ _ refl (from_key a.own.call on_key q.0.root) q.0.stands)))
+      (λ u after inside q. below_on 14 u [] refl u _ q.0.root (omega arith) (stands_as a u _ _ _ _ refl (key_begins a.own.call on_key q.0.root) q.0.stands)))
   from_line t g (line.Root (root.Completing c)) o s = absurd (never_completes t g c s)
   from_line t g (line.Key l) o s = from_key_line t g l o s
   from_line t g (line.End answer) o s = ends 164 t g answer (omega arith) s

@@ -1,8 +1,8 @@
 -- A call on one key on a read-only handle stands on the lines of ROOT and of KEY alone, and takes no root with an offer.
-use Rattle.std.proofs.Common.{◌≡◌, ℕ, suc, ◌≤◌, Option, List, [], refl, sym, ap, ◌∙◌, subst, arith}
+use Rattle.std.proofs.Common.{◌≡◌, ℕ, suc, ◌≤◌, Option, List, sym, ap, ◌∙◌, subst, arith}
 use Rattle.history.specs.declared.calls.Access.TheVariants.{ReadOnly}
 use Rattle.history.specs.declared.calls.Call.{Call}
-use Rattle.history.specs.declared.calls.Call.TheVariants.{Clear, Snapshot, Freeze, Close, Entries, Count}
+use Rattle.history.specs.declared.calls.Call.TheVariants.{Close, Entries, Count}
 use Rattle.slot_arena.specs.declared.refs.Ref.{Ref}
 use Rattle.slot_arena.specs.Heaps.{node_at, entry_at}
 use Rattle.machine_model.specs.declared.finding.KeyLine.TheVariants as key
@@ -16,8 +16,8 @@ use Rattle.machine_model.specs.declared.roots.RootLine.{RootLine}
 use Rattle.machine_model.specs.declared.steps.Limits.{Limits}
 use Rattle.machine_model.specs.declared.steps.Step.{Step}
 use Rattle.machine_model.specs.Calls.{handle_of}
-use Rattle.machine_model.specs.Finding.{going_down, key_after_read}
-use Rattle.machine_model.specs.Operations.{line_after, first_line, after_root, from_root}
+use Rattle.machine_model.specs.Finding.{key_after_read}
+use Rattle.machine_model.specs.Operations.{line_after, first_line, after_root}
 use Rattle.machine_model.specs.Acting.{operation_after}
 use Rattle.machine_model.specs.Reading.{read_step}
 use Rattle.machine_model.specs.States.{State, first_state, word_at}
@@ -31,6 +31,7 @@ use Rattle.generation_laws.proofs.Running.{Runs, Comes, began, rested, went, com
 use Rattle.lone_steps.specs.Alone.{Lone, Stands}
 use Rattle.lone_steps.specs.Keys.{IsOnKey}
 use Rattle.lone_steps.proofs.ReadersLines.{IsReader, AfterMain, ToEntry, ToListed, MainEnds, MainFails, AfterEntry, ToBelow, EntryEnds, EntryFails, AfterListed, ToNext, ListedEnds, ListedFails, after_main, after_entry, after_single}
+use Rattle.lone_steps.proofs.PassesAlong.{key_begins}
 
 abbrev pub OfReader : Line → Type 0
 OfReader (line.Root l) = Unit {0}
@@ -39,12 +40,6 @@ OfReader (line.Key l) = Unit {0}
 OfReader (line.End answer) = Unit {0}
 OfReader line.Impossible = Unit {0}
 OfReader l = ⊥
-
-pub from_key : (call : Call) → IsOnKey call → (r : Ref) → from_root call r ≡ going_down [] r
-from_key (Clear h) on r = absurd on
-from_key (Snapshot h) on r = absurd on
-from_key (Freeze h) on r = absurd on
-from_key call on r = refl
 
 first_so : (call : Call) → IsOnKey call → OfReader (first_line call)
 first_so (Close h) on = absurd on
@@ -71,7 +66,7 @@ listed_so path main p n l ListedFails = tt
 module _ (state : State) (operation : Operation) (reader : IsReader operation) where
   root_so : (out : After RootLine Ref) → OfReader (after_root operation out)
   root_so (Goes l) = tt
-  root_so (Gives r) = subst OfReader (sym (from_key operation.call reader.on_key r)) tt
+  root_so (Gives r) = subst OfReader (sym (key_begins operation.call reader.on_key r)) tt
 
   read_so : (path : List Ref) (out : After Read Ref) → OfReader (key_after_read path out)
   read_so path (Goes r) = tt

@@ -17,39 +17,11 @@ use Rattle.machine_model.specs.declared.finding.KeyLine.TheVariants as key
 use Rattle.machine_model.specs.declared.lines.Line.{Line}
 use Rattle.machine_model.specs.declared.lines.Line.TheVariants as line
 use Rattle.machine_model.specs.declared.operations.Operation.{Operation}
-use Rattle.machine_model.specs.declared.reading.After.{After}
-use Rattle.machine_model.specs.declared.reading.After.TheVariants.{Goes, Gives}
-use Rattle.machine_model.specs.declared.reading.ReadLine.{ReadLine}
-use Rattle.machine_model.specs.Calls.{handle_of, key_of, needs_writable, inserts, when_found, absent_reply}
-use Rattle.machine_model.specs.Finding.{key_after_read, going_down, absent, absent_beside, absent_listed, found, found_so, after_tomb, key_after_main, passes, is_passable, key_after_entry, after_listed}
+use Rattle.machine_model.specs.Calls.{key_of, needs_writable, inserts, when_found, absent_reply}
+use Rattle.machine_model.specs.Finding.{going_down, absent, absent_beside, absent_listed, found, found_so, after_tomb, key_after_main, passes, is_passable, key_after_entry, after_listed}
 use Rattle.machine_model.specs.Paths.{flag_in, is_start}
-use Rattle.machine_model.specs.Reading.{read_after, at_indirection}
-use Rattle.machine_model.specs.States.{State, word_at}
+use Rattle.machine_model.specs.States.{State}
 use Rattle.lone_steps.specs.Keys.{IsOnKey}
-use Rattle.lone_steps.specs.Machines.{HoldsRead, lead}
-
--- a READ of KEY's
-module _ (own : Operation) (path : List Ref) (i : Ref) where
-  abbrev pub keying : ReadLine → Line
-  keying l = line.Key (key.Read path (record { indirection = i; line = l }))
-
-  abbrev pub seeing : Ref → Line
-  seeing m = line.Key (key.Main path m)
-
-  goes_so : (out : After ReadLine Ref) → key_after_read path (at_indirection i out) ≡ lead keying seeing out
-  goes_so (Goes l) = refl
-  goes_so (Gives m) = refl
-
-  pub key_reads : HoldsRead own keying seeing i
-  key_reads = record {
-    reads = λ l. refl;
-    acts = λ state operation l. refl;
-    goes = λ state operation l call access.
-        ap (λ x. key_after_read path (at_indirection i (read_after state.heap x (word_at state (handle_of operation.call)) i l))) access
-        ∙ ap (λ c. key_after_read path (at_indirection i (read_after state.heap own.access (word_at state (handle_of c)) i l))) call
-        ∙ goes_so (read_after state.heap own.access (word_at state (handle_of own.call)) i l);
-    stays = λ state operation l. refl;
-  }
 
 -- the operation reads a key on a read-only handle
 pub record IsReader (operation : Operation) : Type 0 where

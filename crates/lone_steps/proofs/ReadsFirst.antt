@@ -15,12 +15,14 @@ use Rattle.machine_model.specs.declared.roots.RootWord.TheVariants.{Plain, Offer
 use Rattle.machine_model.specs.Reading.{verdict_by, read_action, is_licensed, is_pending, after_prev, after_ask, after_decide, after_restore}
 use Rattle.machine_model.proofs.Grown.{grown, main_word, prev_word}
 use Rattle.deciding_laws.proofs.Known.{GrownStays, GrownChanges, Either, Decided}
+use Rattle.deciding_laws.proofs.GrownWords.{link_made}
 use Rattle.lone_steps.specs.Alone.{Lone, Stands, Within, IsPlain, IsQuiet, word}
 use Rattle.lone_steps.specs.Machines.{HoldsRead, IsRead, ReadsFirst, lead}
 use Rattle.lone_steps.specs.Weighing.{Weighing, Sees}
 use Rattle.lone_steps.proofs.Withins.{Comes, at_once, within, keeps_now, keeps_on, stays, stays_on}
-use Rattle.lone_steps.proofs.ReadsWords.{link_made, still_sees, sees_has, sees_written, put_back}
-use Rattle.lone_steps.proofs.ReadsStep.{Counts, acts, acting, off, same_word_at, light, on}
+use Rattle.lone_steps.proofs.ReadsWords.{still_sees, sees_has, sees_written, put_back}
+use Rattle.lone_steps.proofs.ReadsStep.{Counts, acting, off, same_word_at, light, on}
+use Rattle.lone_steps.proofs.SwapsSteps.{read_acts}
 
 -- what stands over this node is pending over it
 pub still_pending : (q : Ref) → is_pending (prev.Pending q) q ≡ true
@@ -62,7 +64,7 @@ module _ (a : Lone) (weight : ℕ → ℕ) (x f : ℕ) (wt : Weighing a weight x
       let some = wt.weighs_failed t i m q s.since s.until sees in
       on a wrap gives i h weight P counts b t g (read.Restore m q) s (omega (arith, enough, some))
       (λ more next.
-      let found = acts a wrap gives i h t g (read.Restore m q) s more in
+      let found = read_acts a wrap gives i h t g (read.Restore m q) s more in
       let same : (main_at (a.states t).heap i == m) ≡ true = eq-eqb _ _ (found.0.main ∙ sees.main) in
       let changed = subst (λ b. Either b (GrownChanges a.states t (main_changed q) i) (GrownStays a.states t)) same found.1 in
       let now = put_back a t (omega arith) i m q found.0.link changed sees in
@@ -75,7 +77,7 @@ module _ (a : Lone) (weight : ℕ → ℕ) (x f : ℕ) (wt : Weighing a weight x
   prev_decided t b m s sees enough =
       on a wrap gives i h weight P counts b t g (read.Prev m) s (omega (arith, enough))
       (λ more next.
-      let found = acts a wrap gives i h t g (read.Prev m) s more in
+      let found = read_acts a wrap gives i h t g (read.Prev m) s more in
       let less = quiet t (read.Prev m) s more tt in
       given (suc t) (b - 1) m (omega (arith, enough, less)) (subst (λ v. Stands a (suc t) g (lead wrap gives (after_prev a.own.access m v))) (found.0.prev ∙ sees.prev) next)
       (still_sees a t i m prev.None found.1 sees))
@@ -85,7 +87,7 @@ module _ (a : Lone) (weight : ℕ → ℕ) (x f : ℕ) (wt : Weighing a weight x
       let some = wt.weighs_failed t i m q s.since s.until sees in
       on a wrap gives i h weight P counts b t g (read.Prev m) s (omega (arith, enough, some))
       (λ more next.
-      let found = acts a wrap gives i h t g (read.Prev m) s more in
+      let found = read_acts a wrap gives i h t g (read.Prev m) s more in
       let less = quiet t (read.Prev m) s more tt in
       restore (suc t) (b - 1) m q (subst (λ v. Stands a (suc t) g (lead wrap gives (after_prev a.own.access m v))) (found.0.prev ∙ sees.prev) next)
       (still_sees a t i m (prev.Failed q) found.1 sees) (omega (arith, enough, some, less)))
@@ -95,7 +97,7 @@ module _ (a : Lone) (weight : ℕ → ℕ) (x f : ℕ) (wt : Weighing a weight x
       let some = wt.weighs_failed t i m q s.since s.until sees in
       on a wrap gives i h weight P counts b t g read.Main s (omega (arith, enough, some))
       (λ more next.
-      let found = acts a wrap gives i h t g read.Main s more in
+      let found = read_acts a wrap gives i h t g read.Main s more in
       let less = quiet t read.Main s more tt in
       prev_failed (suc t) (b - 1) m q (subst (λ x. Stands a (suc t) g (wrap (read.Prev x))) (found.0.main ∙ sees.main) next)
       (still_sees a t i m (prev.Failed q) found.1 sees) (omega (arith, enough, some, less)))
@@ -120,7 +122,7 @@ module _ (a : Lone) (weight : ℕ → ℕ) (x f : ℕ) (wt : Weighing a weight x
       let some = wt.weighs t i m q s.since s.until sees in
       on a wrap gives i h weight P counts b t g (read.Decide m q told) s (omega (arith, enough, some))
       (λ more next.
-      let found = acts a wrap gives i h t g (read.Decide m q told) s more in
+      let found = read_acts a wrap gives i h t g (read.Decide m q told) s more in
       let pending : is_pending (prev_at (a.states t).heap m) q ≡ true = ap (λ v. is_pending v q) (found.1.prev ∙ sees.prev) ∙ still_pending q in
       let licensed = is_licensed (a.states t).heap i told in
       decided t b m q told s sees enough more found.1.made licensed
@@ -137,7 +139,7 @@ module _ (a : Lone) (weight : ℕ → ℕ) (x f : ℕ) (wt : Weighing a weight x
       let less = quiet t (read.AskRoot m q) s more tt in
       decide (suc t) (b - 1) m q (Some (generation_at (a.states t).heap r))
       (subst (λ y. Stands a (suc t) g (lead wrap gives (after_ask (a.states t).heap m q y))) plain next)
-      (still_sees a t i m (prev.Pending q) (acts a wrap gives i h t g (read.AskRoot m q) s more) sees) (omega (arith, enough, some, less)))
+      (still_sees a t i m (prev.Pending q) (read_acts a wrap gives i h t g (read.AskRoot m q) s more) sees) (omega (arith, enough, some, less)))
 
   abort : (t b : ℕ) (m q : Ref) (offer : Descriptor) → S t (read.Abort m q offer) → Sees a t i m (prev.Pending q) → word a t ≡ Offer offer → 4 + weight t ≤ b + x → C (P t) b t
   abort t b m q offer s sees there enough =
@@ -146,7 +148,7 @@ module _ (a : Lone) (weight : ℕ → ℕ) (x f : ℕ) (wt : Weighing a weight x
       (λ more next.
       let gone = off a wrap gives i h t g m q offer s more there in
       let two = wt.abort t offer (acting a wrap gives i h t g (read.Abort m q offer) s more) there in
-      ask_plain (suc t) (b - 1) m q gone.0 next (still_sees a t i m (prev.Pending q) (acts a wrap gives i h t g (read.Abort m q offer) s more) sees) gone.1
+      ask_plain (suc t) (b - 1) m q gone.0 next (still_sees a t i m (prev.Pending q) (read_acts a wrap gives i h t g (read.Abort m q offer) s more) sees) gone.1
       (omega (arith, enough, some, two)))
 
   ask : (t b : ℕ) (m q : Ref) → S t (read.AskRoot m q) → Sees a t i m (prev.Pending q) → 5 + weight t ≤ b + x → (y : RootWord) → word a t ≡ y → C (P t) b t
@@ -158,7 +160,7 @@ module _ (a : Lone) (weight : ℕ → ℕ) (x f : ℕ) (wt : Weighing a weight x
       let less = quiet t (read.AskRoot m q) s more tt in
       abort (suc t) (b - 1) m q offer
       (subst (λ y. Stands a (suc t) g (lead wrap gives (after_ask (a.states t).heap m q y))) e next)
-      (still_sees a t i m (prev.Pending q) (acts a wrap gives i h t g (read.AskRoot m q) s more) sees)
+      (still_sees a t i m (prev.Pending q) (read_acts a wrap gives i h t g (read.AskRoot m q) s more) sees)
       (same_word_at a wrap gives i h t g m q s more ∙ e) (omega (arith, enough, some, less)))
 
   -- on a read-only handle it is decided at once
@@ -172,7 +174,7 @@ module _ (a : Lone) (weight : ℕ → ℕ) (x f : ℕ) (wt : Weighing a weight x
       let some = wt.weighs t i m q s.since s.until sees in
       on a wrap gives i h weight P counts b t g (read.Prev m) s (omega (arith, enough, some))
       (λ more next.
-      let found = acts a wrap gives i h t g (read.Prev m) s more in
+      let found = read_acts a wrap gives i h t g (read.Prev m) s more in
       let less = quiet t (read.Prev m) s more tt in
       pending_by (suc t) (b - 1) m q a.own.access (subst (λ v. Stands a (suc t) g (lead wrap gives (after_prev a.own.access m v))) (found.0.prev ∙ sees.prev) next)
       (still_sees a t i m (prev.Pending q) found.1 sees) (omega (arith, enough, some, less)))
@@ -188,7 +190,7 @@ module _ (a : Lone) (weight : ℕ → ℕ) (x f : ℕ) (wt : Weighing a weight x
   main t b s decided failed pending =
       on a wrap gives i h weight P counts b t g read.Main s (omega (arith, decided))
       (λ more next.
-      let found = acts a wrap gives i h t g read.Main s more in
+      let found = read_acts a wrap gives i h t g read.Main s more in
       let less = quiet t read.Main s more tt in
       let m : Ref = main_word a.states t i in
       prev_by (suc t) (b - 1) m (subst (λ x. Stands a (suc t) g (wrap (read.Prev x))) found.0.main next) (prev_word a.states t m)

@@ -1,37 +1,30 @@
 -- A READ where the root that stands in the word, with no offer, is of the indirection's generation: whatever is pending is committed.
-use Rattle.std.proofs.Common.{◌≡◌, ℕ, suc, ◌+◌, ◌-◌, ◌<◌, ◌≤◌, true, false, nat_eq, Option, Some, refl, sym, ap, ◌∙◌, subst, eq-eqb, arith}
+use Rattle.std.proofs.Common.{◌≡◌, ℕ, suc, ◌+◌, ◌-◌, ◌<◌, ◌≤◌, true, nat_eq, Option, Some, refl, sym, ap, ◌∙◌, subst, eq-eqb, arith}
 use Rattle.std.specs.Option.{option_eq}
-use Rattle.std.proofs.lemmas.Option.{none-some}
 use Rattle.history.specs.declared.calls.Access.TheVariants.{Writable}
 use Rattle.slot_arena.specs.declared.refs.Ref.{Ref}
 use Rattle.slot_arena.specs.declared.nodes.Prev.{Prev}
 use Rattle.slot_arena.specs.declared.nodes.Prev.TheVariants as prev
 use Rattle.slot_arena.specs.Heaps.{prev_at, generation_at}
 use Rattle.machine_model.specs.declared.lines.Line.{Line}
-use Rattle.machine_model.specs.declared.lines.Line.TheVariants as line
-use Rattle.machine_model.specs.declared.reading.Read.{Read}
 use Rattle.machine_model.specs.declared.reading.ReadLine.{ReadLine}
 use Rattle.machine_model.specs.declared.reading.ReadLine.TheVariants as read
-use Rattle.machine_model.specs.Operations.{read_of}
 use Rattle.machine_model.specs.Reading.{read_action, verdict_by, is_licensed, is_pending, after_prev, after_ask, after_decide}
 use Rattle.machine_model.proofs.Grown.{main_word, prev_word}
-use Rattle.memory_laws.specs.Laws.{is_end}
 use Rattle.deciding_laws.proofs.Known.{Decided}
+use Rattle.deciding_laws.proofs.GrownWords.{link_made}
+use Rattle.falling_laws.proofs.KnownRoots.{reads_on}
 use Rattle.lone_steps.specs.Alone.{Lone, Stands, IsPlain, IsQuiet, generation}
 use Rattle.lone_steps.specs.Machines.{HoldsRead, lead}
 use Rattle.lone_steps.specs.Weighing.{Weighing, Sees}
 use Rattle.lone_steps.proofs.Withins.{Comes}
-use Rattle.lone_steps.proofs.ReadsWords.{link_made, still_sees, sees_written}
+use Rattle.lone_steps.proofs.ReadsWords.{still_sees, sees_written}
 use Rattle.lone_steps.proofs.ReadsLines.{on_line}
-use Rattle.lone_steps.proofs.ReadsStep.{Counts, acts, acting, on, stays}
+use Rattle.lone_steps.proofs.ReadsStep.{Counts, acting, on, stays}
 use Rattle.lone_steps.proofs.ReadsFirst as First
 use Rattle.lone_steps.proofs.ReadsOn as On
 use Rattle.lone_steps.proofs.SwapsFound.{generation_for_good, root_generation}
-
--- a line in a READ is no end
-reads_on_line : (l : Line) (r : Read) → read_of l ≡ Some r → is_end l ≡ false
-reads_on_line (line.End answer) r e = absurd (none-some r e)
-reads_on_line l r e = refl
+use Rattle.lone_steps.proofs.SwapsSteps.{read_acts}
 
 -- who was told the indirection's generation has the licence
 same_generation : (g h : ℕ) → g ≡ h → option_eq nat_eq (Some g) (Some h) ≡ true
@@ -59,12 +52,12 @@ module _ (a : Lone) (weight : ℕ → ℕ) (x f : ℕ) (wt : Weighing a weight x
 
   -- the generation that is told stays that of the root
   pub told_so : (t : ℕ) (l : ReadLine) → S t l → (r : Ref) → IsPlain a t r → generation_at (a.states t).heap r ≡ generation a r
-  told_so t l s r plain = root_generation a t g (wrap l) s (reads_on_line (wrap l) _ (h.reads l)) r plain
+  told_so t l s r plain = root_generation a t g (wrap l) s (reads_on (wrap l) _ (h.reads l)) r plain
 
   -- the indirection's stays too
   pub own_so : (t : ℕ) (m q : Ref) (told : Option ℕ) → S t (read.Decide m q told) → t < a.last → generation_at (a.states t).heap i ≡ generation a i
   own_so t m q told s more =
-      let found = acts a wrap gives i h t g (read.Decide m q told) s more in
+      let found = read_acts a wrap gives i h t g (read.Decide m q told) s more in
       found.2 ∙ generation_for_good a t (omega arith) i found.0.link
 
   module _ (r : Ref) (same : generation a r ≡ generation a i) (writable : a.own.access ≡ Writable) where
@@ -73,7 +66,7 @@ module _ (a : Lone) (weight : ℕ → ℕ) (x f : ℕ) (wt : Weighing a weight x
         let some = wt.weighs t i m q s.since s.until sees in
         on a wrap gives i h weight P counts b t g (read.Decide m q told) s (omega (arith, enough, some))
         (λ more next.
-        let found = acts a wrap gives i h t g (read.Decide m q told) s more in
+        let found = read_acts a wrap gives i h t g (read.Decide m q told) s more in
         let pending : is_pending (prev_at (a.states t).heap m) q ≡ true = ap (λ v. is_pending v q) (found.1.prev ∙ sees.prev) ∙ First.still_pending q in
         let licensed : is_licensed (a.states t).heap i told ≡ true =
         ap (λ y. is_licensed (a.states t).heap i y) own ∙ same_generation (generation a i) _ (sym (own_so t m q told s more)) in
@@ -92,7 +85,7 @@ module _ (a : Lone) (weight : ℕ → ℕ) (x f : ℕ) (wt : Weighing a weight x
         let less = quiet t (read.AskRoot m q) s more tt in
         decide (suc t) (b - 1) m q (Some (generation_at (a.states t).heap r))
         (subst (λ y. Stands a (suc t) g (lead wrap gives (after_ask (a.states t).heap m q y))) plain next)
-        (still_sees a t i m (prev.Pending q) (acts a wrap gives i h t g (read.AskRoot m q) s more) sees)
+        (still_sees a t i m (prev.Pending q) (read_acts a wrap gives i h t g (read.AskRoot m q) s more) sees)
         (ap (λ (n : ℕ). Some n) (told_so t (read.AskRoot m q) s r plain ∙ same)) (omega (arith, enough, some, less)))
 
     prev_pending : (t b : ℕ) (m q : Ref) → S t (read.Prev m) → Sees a t i m (prev.Pending q) → IsPlain a t r → 3 + weight t ≤ b + x → C (P t) b t
@@ -100,7 +93,7 @@ module _ (a : Lone) (weight : ℕ → ℕ) (x f : ℕ) (wt : Weighing a weight x
         let some = wt.weighs t i m q s.since s.until sees in
         on a wrap gives i h weight P counts b t g (read.Prev m) s (omega (arith, enough, some))
         (λ more next.
-        let found = acts a wrap gives i h t g (read.Prev m) s more in
+        let found = read_acts a wrap gives i h t g (read.Prev m) s more in
         let less = quiet t (read.Prev m) s more tt in
         ask (suc t) (b - 1) m q
         (subst (λ y. Stands a (suc t) g (lead wrap gives (after_prev y m (prev.Pending q)))) writable
@@ -119,7 +112,7 @@ module _ (a : Lone) (weight : ℕ → ℕ) (x f : ℕ) (wt : Weighing a weight x
     main t b s plain enough =
         on a wrap gives i h weight P counts b t g read.Main s (omega (arith, enough))
         (λ more next.
-        let found = acts a wrap gives i h t g read.Main s more in
+        let found = read_acts a wrap gives i h t g read.Main s more in
         let less = quiet t read.Main s more tt in
         let m : Ref = main_word a.states t i in
         prev_by (suc t) (b - 1) m (subst (λ y. Stands a (suc t) g (wrap (read.Prev y))) found.0.main next) (stays a wrap gives i h t g read.Main s more r plain) (omega (arith, enough, less))
@@ -130,13 +123,13 @@ module _ (a : Lone) (weight : ℕ → ℕ) (x f : ℕ) (wt : Weighing a weight x
     after_another t b m s plain enough prev.None e =
         on a wrap gives i h weight P counts b t g (read.Prev m) s (omega (arith, enough))
         (λ more next.
-        let found = acts a wrap gives i h t g (read.Prev m) s more in
+        let found = read_acts a wrap gives i h t g (read.Prev m) s more in
         let less = quiet t (read.Prev m) s more tt in
         given (suc t) (b - 1) m (omega (arith, enough, less)) (subst (λ v. Stands a (suc t) g (lead wrap gives (after_prev a.own.access m v))) (found.0.prev ∙ e) next))
     after_another t b m s plain enough (prev.Failed q) e =
         on a wrap gives i h weight P counts b t g (read.Prev m) s (omega (arith, enough))
         (λ more next.
-        let found = acts a wrap gives i h t g (read.Prev m) s more in
+        let found = read_acts a wrap gives i h t g (read.Prev m) s more in
         let less = quiet t (read.Prev m) s more tt in
         let restoring = subst (λ v. Stands a (suc t) g (lead wrap gives (after_prev a.own.access m v))) (found.0.prev ∙ e) next in
         On.restore_or a weight x f wt wrap gives i h c g two three seven (suc t) (b - 1) 4 m q restoring (omega (arith, enough, less))

@@ -15,14 +15,16 @@ use Rattle.machine_model.specs.Reading.{verdict_by, is_licensed, is_pending, rea
 use Rattle.machine_model.proofs.Grown.{prev_word}
 use Rattle.deciding_laws.proofs.Known.{GrownStays, GrownChanges, Either}
 use Rattle.deciding_laws.proofs.Stood.{Stood}
+use Rattle.deciding_laws.proofs.GrownWords.{link_made}
 use Rattle.lone_steps.specs.Alone.{Lone, Stands, IsPlain, IsQuiet, word}
 use Rattle.lone_steps.specs.Machines.{HoldsRead, IsRead, WasRead, ReadsOn, lead}
 use Rattle.lone_steps.specs.Weighing.{Weighing, Sees}
 use Rattle.lone_steps.proofs.Withins.{Comes, at_once, comes_map, within, keeps_now, keeps_on, stays, stays_on}
-use Rattle.lone_steps.proofs.ReadsWords.{w, sound, link_made, put_back}
+use Rattle.lone_steps.proofs.ReadsWords.{w, sound, put_back}
 use Rattle.lone_steps.proofs.ReadsLines.{on_line, pending_there}
-use Rattle.lone_steps.proofs.ReadsStep.{Counts, acts, acting, off, same_word_at, light, on}
+use Rattle.lone_steps.proofs.ReadsStep.{Counts, acting, off, same_word_at, light, on}
 use Rattle.lone_steps.proofs.ReadsFirst.{main, decide, prev_pending}
+use Rattle.lone_steps.proofs.SwapsSteps.{read_acts}
 
 -- what is found pending over this node is
 pub pending_so : (v : Prev) (q : Ref) → is_pending v q ≡ true → v ≡ prev.Pending q
@@ -75,13 +77,13 @@ module _ (a : Lone) (weight : ℕ → ℕ) (x f : ℕ) (wt : Weighing a weight x
       (same : Bool) → (main_at (a.states t).heap i == m) ≡ same → Either same (GrownChanges a.states t (main_changed q) i) (GrownStays a.states t) →
       Stands a (suc t) g (lead wrap gives (after_restore q same)) → C (P (suc t)) (b - 1) (suc t)
   restored t b n m q s enough other more true e changed next =
-      let found = acts a wrap gives i h t g (read.Restore m q) s more in
+      let found = read_acts a wrap gives i h t g (read.Restore m q) s more in
       let known = on_line a t g (wrap (read.Restore m q)) s _ (h.reads (read.Restore m q)) in
       let sees : Sees a t i m (prev.Failed q) = record { made = link_made _ found.0.link; main = sym found.0.main ∙ eqb-true _ m e; prev = known.1 } in
       let less = wt.restore t i m q (acting a wrap gives i h t g (read.Restore m q) s more) sees (put_back a t (omega arith) i m q found.0.link changed sees) in
       given (suc t) (b - 1) q (omega (arith, enough, less)) next
   restored t b n m q s enough other more false e changed next =
-      let found = acts a wrap gives i h t g (read.Restore m q) s more in
+      let found = read_acts a wrap gives i h t g (read.Restore m q) s more in
       let less = wt.restored t i m q (acting a wrap gives i h t g (read.Restore m q) s more) (λ is. true≢false (sym (eq-eqb _ m (found.0.main ∙ is)) ∙ e)) in
       other next (omega (arith, enough, less))
 
@@ -90,7 +92,7 @@ module _ (a : Lone) (weight : ℕ → ℕ) (x f : ℕ) (wt : Weighing a weight x
       C (P t) b t
   restore_or t b n m q s enough other =
       on a wrap gives i h weight P counts b t g (read.Restore m q) s (omega (arith, enough))
-      (λ more next. restored t b n m q s enough (other more) more (main_at (a.states t).heap i == m) refl (acts a wrap gives i h t g (read.Restore m q) s more).1 next)
+      (λ more next. restored t b n m q s enough (other more) more (main_at (a.states t).heap i == m) refl (read_acts a wrap gives i h t g (read.Restore m q) s more).1 next)
 
   pub restore : (t b : ℕ) (m q : Ref) → S t (read.Restore m q) → c + 1 + weight t ≤ b → C (P t) b t
   restore t b m q s enough = restore_or t b c m q s enough (λ more next room. from_main (suc t) (b - 1) next room)
@@ -106,13 +108,13 @@ module _ (a : Lone) (weight : ℕ → ℕ) (x f : ℕ) (wt : Weighing a weight x
   prev_by t b m s enough prev.None e =
       on a wrap gives i h weight P counts b t g (read.Prev m) s (omega (arith, enough))
       (λ more next.
-      let found = acts a wrap gives i h t g (read.Prev m) s more in
+      let found = read_acts a wrap gives i h t g (read.Prev m) s more in
       let less = quiet t (read.Prev m) s more tt in
       given (suc t) (b - 1) m (omega (arith, enough, less)) (subst (λ v. Stands a (suc t) g (lead wrap gives (after_prev a.own.access m v))) (found.0.prev ∙ e) next))
   prev_by t b m s enough (prev.Failed q) e =
       on a wrap gives i h weight P counts b t g (read.Prev m) s (omega (arith, enough))
       (λ more next.
-      let found = acts a wrap gives i h t g (read.Prev m) s more in
+      let found = read_acts a wrap gives i h t g (read.Prev m) s more in
       let less = quiet t (read.Prev m) s more tt in
       restore (suc t) (b - 1) m q (subst (λ v. Stands a (suc t) g (lead wrap gives (after_prev a.own.access m v))) (found.0.prev ∙ e) next) (omega (arith, enough, less)))
   prev_by t b m s enough (prev.Pending q) e =
@@ -131,14 +133,14 @@ module _ (a : Lone) (weight : ℕ → ℕ) (x f : ℕ) (wt : Weighing a weight x
   decide_by : (t b : ℕ) (m q : Ref) (told : Option ℕ) → S t (read.Decide m q told) → c + 3 + weight t ≤ b → t < a.last → (pending : Bool) → is_pending (prev_at (a.states t).heap m) q ≡ pending →
       C (P t) b t
   decide_by t b m q told s enough more true e =
-      let found = acts a wrap gives i h t g (read.Decide m q told) s more in
+      let found = read_acts a wrap gives i h t g (read.Decide m q told) s more in
       let stood = on_line a t g (wrap (read.Decide m q told)) s _ (h.reads (read.Decide m q told)) in
       let sees = sees_pending t s.until m q stood (sym found.1.prev ∙ pending_so _ q e) in
       was_read t b (decide a weight x f wt wrap gives i h c g t b m q told s sees (omega (arith, enough, seven)))
   decide_by t b m q told s enough more false e =
       on a wrap gives i h weight P counts b t g (read.Decide m q told) s (omega (arith, enough))
       (λ soon next.
-      let found = acts a wrap gives i h t g (read.Decide m q told) s soon in
+      let found = read_acts a wrap gives i h t g (read.Decide m q told) s soon in
       let less = wt.decided t i m q told (acting a wrap gives i h t g (read.Decide m q told) s soon) (λ is. not_pending_so _ q e (found.1.prev ∙ is)) in
       overtaken (suc t) (b - 1) m (is_licensed (a.states t).heap i told)
       (subst (λ y. Stands a (suc t) g (lead wrap gives (after_decide m (verdict_by (is_licensed (a.states t).heap i told) y)))) e next) (omega (arith, enough, less)))

@@ -1,33 +1,23 @@
 -- A step of a READ of an operation that is alone.
-use Rattle.std.proofs.Common.{◌≡◌, ℕ, suc, ◌-◌, ◌<◌, ◌≤◌, Option, Some, sym, ap, ◌∙◌, subst, arith}
-use Rattle.std.proofs.lemmas.Option.{none-some}
+use Rattle.std.proofs.Common.{◌≡◌, ℕ, suc, ◌-◌, ◌<◌, ◌≤◌, Option, sym, ap, ◌∙◌, subst, arith}
 use Rattle.slot_arena.specs.declared.refs.Ref.{Ref}
 use Rattle.machine_model.specs.declared.lines.Line.{Line}
-use Rattle.machine_model.specs.declared.lines.Line.TheVariants as line
 use Rattle.machine_model.specs.declared.reading.After.{After}
-use Rattle.machine_model.specs.declared.reading.Read.{Read}
 use Rattle.machine_model.specs.declared.reading.ReadLine.{ReadLine}
 use Rattle.machine_model.specs.declared.reading.ReadLine.TheVariants as read
 use Rattle.machine_model.specs.declared.roots.Descriptor.{Descriptor}
 use Rattle.machine_model.specs.declared.roots.RootWord.TheVariants.{Plain, Offer}
-use Rattle.machine_model.specs.Operations.{line_action, line_after, read_of}
+use Rattle.machine_model.specs.Operations.{line_action}
 use Rattle.machine_model.specs.Reading.{read_action, read_after}
-use Rattle.deciding_laws.proofs.Known.{ActsOn}
 use Rattle.lone_steps.specs.Alone.{Lone, Stands, Keeps, WordStays, IsQuiet, IsWeight, word}
 use Rattle.lone_steps.specs.Machines.{HoldsRead, lead}
-use Rattle.lone_steps.specs.Stepping.{IsNoEnd, LeavesWords}
+use Rattle.lone_steps.specs.Stepping.{LeavesWords}
 use Rattle.lone_steps.specs.Weighing.{Acts}
 use Rattle.lone_steps.proofs.Withins.{Comes, lighter, same_stays}
-use Rattle.lone_steps.proofs.SteppingNext.{next}
-use Rattle.lone_steps.proofs.SteppingKeeps.{acts_so, words}
 use Rattle.lone_steps.proofs.Weights.{stays_plain, taken_back}
 use Rattle.lone_steps.proofs.NonePending.{IsNoPublish, none_pending}
 use Rattle.lone_steps.proofs.ReadsWords.{keeps_unless}
-
--- a line in a READ is no end
-no_end : (l : Line) (r : Read) → read_of l ≡ Some r → IsNoEnd l
-no_end (line.End answer) r e = none-some r e
-no_end l r e = tt
+use Rattle.lone_steps.proofs.SwapsSteps.{read_no_end, read_acts, read_next, same_word}
 
 -- no line of a READ but one writes root words
 abbrev IsNoAbort : ReadLine → Type 0
@@ -52,49 +42,32 @@ no_publish i (read.Decide m q told) = tt
 no_publish i (read.Restore m q) = tt
 
 module _ (a : Lone) (wrap : ReadLine → Line) (gives : Ref → Line) (i : Ref) (h : HoldsRead a.own wrap gives i) where
-  -- ---- what it finds
-
-  goes_on : (l : ReadLine) → IsNoEnd (wrap l)
-  goes_on l = no_end (wrap l) _ (h.reads l)
-
-  pub acts : (t : ℕ) (g : Option ℕ) (l : ReadLine) → Stands a t g (wrap l) → t < a.last → ActsOn a.states t (read_action i l)
-  acts t g l s more = subst (ActsOn a.states t) (h.acts (a.states t) s.operation l) (acts_so a t g (wrap l) s more)
-
   -- what comes after the line
   abbrev pub out : ℕ → ReadLine → After ReadLine Ref
   out t l = read_after (a.states t).heap a.own.access (word a t) i l
 
   -- ---- what it leaves
 
-  pub after : (t : ℕ) (g : Option ℕ) (l : ReadLine) → Stands a t g (wrap l) → t < a.last → Stands a (suc t) g (lead wrap gives (out t l))
-  after t g l s more =
-      subst (λ x. Stands a (suc t) g x) (h.goes (a.states t) s.operation l s.call s.access)
-      (subst (λ x. Stands a (suc t) x (line_after (a.states t) s.operation (wrap l))) (h.stays (a.states t) s.operation l ∙ s.generation)
-      (next a t g (wrap l) s more (goes_on l)))
-
   action : (t : ℕ) (g : Option ℕ) (l : ReadLine) (s : Stands a t g (wrap l)) → line_action (a.states t) s.operation (wrap l) ≡ read_action i l
   action t g l s = h.acts (a.states t) s.operation l
 
   pub keeps : (t : ℕ) (g : Option ℕ) (l : ReadLine) → Stands a t g (wrap l) → t < a.last → Keeps a t (suc t)
-  keeps t g l s more = keeps_unless a t more (none_pending a t (read_action i l) (no_publish i l) (acts t g l s more))
-
-  same_word : (t : ℕ) (g : Option ℕ) (l : ReadLine) → Stands a t g (wrap l) → t < a.last → IsNoAbort l → word a (suc t) ≡ word a t
-  same_word t g l s more not = words a t g (wrap l) s more (goes_on l) (subst LeavesWords (sym (action t g l s)) (leaves i l not))
+  keeps t g l s more = keeps_unless a t more (none_pending a t (read_action i l) (no_publish i l) (read_acts a wrap gives i h t g l s more))
 
   -- to ask for the root leaves it
   pub same_word_at : (t : ℕ) (g : Option ℕ) (m q : Ref) → Stands a t g (wrap (read.AskRoot m q)) → t < a.last → word a (suc t) ≡ word a t
-  same_word_at t g m q s more = same_word t g (read.AskRoot m q) s more tt
+  same_word_at t g m q s more = same_word a wrap gives i h t g (read.AskRoot m q) s more (leaves i (read.AskRoot m q) tt)
 
   -- a plain root stays
   pub stays : (t : ℕ) (g : Option ℕ) (l : ReadLine) → Stands a t g (wrap l) → t < a.last → WordStays a t (suc t)
-  stays t g (read.Abort m q offer) s more = stays_plain a t g (wrap (read.Abort m q offer)) s more (goes_on (read.Abort m q offer)) offer (action t g (read.Abort m q offer) s)
-  stays t g l s more = same_stays a t (suc t) (same_word t g l s more tt)
+  stays t g (read.Abort m q offer) s more = stays_plain a t g (wrap (read.Abort m q offer)) s more (read_no_end a wrap gives i h t g (read.Abort m q offer) s more) offer (action t g (read.Abort m q offer) s)
+  stays t g l s more = same_stays a t (suc t) (same_word a wrap gives i h t g l s more (leaves i l tt))
 
   -- an offer that is taken back is off
   pub off : (t : ℕ) (g : Option ℕ) (m q : Ref) (offer : Descriptor) → Stands a t g (wrap (read.Abort m q offer)) → t < a.last → word a t ≡ Offer offer →
       (r : Ref) × (word a (suc t) ≡ Plain r)
   off t g m q offer s more there =
-      taken_back a t g (wrap (read.Abort m q offer)) s more (goes_on (read.Abort m q offer)) offer (action t g (read.Abort m q offer) s) there
+      taken_back a t g (wrap (read.Abort m q offer)) s more (read_no_end a wrap gives i h t g (read.Abort m q offer) s more) offer (action t g (read.Abort m q offer) s) there
 
   -- ---- put together
 
@@ -107,7 +80,7 @@ module _ (a : Lone) (wrap : ReadLine → Line) (gives : Ref → Line) (i : Ref) 
       (t < a.last → Stands a (suc t) g (lead wrap gives (out t l)) → Comes a weight (P (suc t)) (b - 1) (suc t)) → Comes a weight (P t) b t
   on weight P c b t g l s some then room =
       let more : t < a.last = omega (arith, some, room) in
-      let (u, from, soon, found) = then more (after t g l s more) (omega (arith, some, room)) in
+      let (u, from, soon, found) = then more (read_next a wrap gives i h t g l s more) (omega (arith, some, room)) in
       (u, omega (arith, from), omega (arith, soon, some), c.earlier t (suc t) u (omega arith) (keeps t g l s more) (stays t g l s more) found)
 
   -- what its step does

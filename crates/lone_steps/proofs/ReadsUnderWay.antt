@@ -17,10 +17,11 @@ use Rattle.lone_steps.specs.Machines.{HoldsRead, lead}
 use Rattle.lone_steps.specs.Weighing.{Weighing}
 use Rattle.lone_steps.proofs.Withins.{Comes}
 use Rattle.lone_steps.proofs.ReadsLines.{on_line, asks_writable}
-use Rattle.lone_steps.proofs.ReadsStep.{Counts, acts, acting, off, same_word_at, stays, on}
+use Rattle.lone_steps.proofs.ReadsStep.{Counts, acting, off, same_word_at, stays, on}
 use Rattle.lone_steps.proofs.ReadsFirst as First
 use Rattle.lone_steps.proofs.ReadsOn as On
 use Rattle.lone_steps.proofs.ReadsLicensed as Licensed
+use Rattle.lone_steps.proofs.SwapsSteps.{read_acts}
 
 -- who has the licence was told that generation
 told_same : (g h : ℕ) → option_eq nat_eq (Some g) (Some h) ≡ true → g ≡ h
@@ -58,7 +59,7 @@ module _ (a : Lone) (weight : ℕ → ℕ) (x f : ℕ) (wt : Weighing a weight x
   decide_by : (t b : ℕ) (m q r : Ref) → S t (read.Decide m q (Some (generation a r))) → IsPlain a t r → a.own.access ≡ Writable → c + 1 + weight t ≤ b → t < a.last → (pending : Bool) →
       is_pending (prev_at (a.states t).heap m) q ≡ pending → C (P t) b t
   decide_by t b m q r s plain writable enough more true e =
-      let found = acts a wrap gives i h t g (read.Decide m q (Some (generation a r))) s more in
+      let found = read_acts a wrap gives i h t g (read.Decide m q (Some (generation a r))) s more in
       let stood = on_line a t g (wrap (read.Decide m q (Some (generation a r)))) s _ (h.reads (read.Decide m q (Some (generation a r)))) in
       let sees = On.sees_pending a weight x f wt wrap gives i h c g two three seven t s.until m q stood (sym found.1.prev ∙ On.pending_so _ q e) in
       On.was_read a weight x f wt wrap gives i h c g two three seven t b (First.decide a weight x f wt wrap gives i h c g t b m q (Some (generation a r)) s sees (omega (arith, enough, seven)))
@@ -66,7 +67,7 @@ module _ (a : Lone) (weight : ℕ → ℕ) (x f : ℕ) (wt : Weighing a weight x
       let told = Some (generation a r) in
       on a wrap gives i h weight P counts b t g (read.Decide m q told) s (omega (arith, enough))
       (λ soon next.
-      let found = acts a wrap gives i h t g (read.Decide m q told) s soon in
+      let found = read_acts a wrap gives i h t g (read.Decide m q told) s soon in
       let less = wt.decided t i m q told (acting a wrap gives i h t g (read.Decide m q told) s soon) (λ is. On.not_pending_so _ q e (found.1.prev ∙ is)) in
       overtaken (suc t) (b - 1) m r (is_licensed (a.states t).heap i told)
       (subst (λ y. Stands a (suc t) g (lead wrap gives (after_decide m (verdict_by (is_licensed (a.states t).heap i told) y)))) e next)

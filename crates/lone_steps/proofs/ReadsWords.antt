@@ -1,13 +1,10 @@
 -- What is known of main words and prev words of the run, and what the steps of a READ write to them.
-use Rattle.std.proofs.Common.{◌≡◌, ℕ, suc, ◌<◌, ◌≤◌, ◌⊎◌, inl, inr, true, Option, Some, None, option_map, is_some, refl, sym, ap, ◌∙◌, subst, arith}
+use Rattle.std.proofs.Common.{◌≡◌, ℕ, suc, ◌<◌, ◌≤◌, ◌⊎◌, inl, inr, true, option_map, is_some, sym, ap, ◌∙◌, subst}
 use Rattle.std.proofs.lemmas.Bool.{cases_eq, true≢false}
 use Rattle.slot_arena.specs.declared.refs.Ref.{Ref}
-use Rattle.slot_arena.specs.declared.nodes.Node.{Node}
-use Rattle.slot_arena.specs.declared.nodes.Node.TheVariants.{Indirection, Branch, Single, Tomb, List as Listed}
 use Rattle.slot_arena.specs.declared.nodes.Prev.{Prev}
 use Rattle.slot_arena.specs.declared.nodes.Prev.TheVariants as prev
-use Rattle.slot_arena.specs.declared.nodes.Slot.{Slot}
-use Rattle.slot_arena.specs.Heaps.{node_of, main_of, prev_of, with_main_word, main_changed, prev_changed}
+use Rattle.slot_arena.specs.Heaps.{node_of, main_of, prev_of, main_changed, prev_changed}
 use Rattle.machine_model.proofs.Grown.{grown, node_under, main_word, prev_word}
 use Rattle.deciding_laws.proofs.Words.{Words, Protocol, Makes}
 use Rattle.deciding_laws.proofs.Stood.{none≢pending, none≢failed, over_failed}
@@ -15,7 +12,7 @@ use Rattle.deciding_laws.proofs.Effects.{Effect, Nothing, Made, SwappedIn, PutBa
 use Rattle.deciding_laws.proofs.Owners.{IsSound}
 use Rattle.deciding_laws.proofs.Sounds.{sound_at}
 use Rattle.deciding_laws.proofs.Finals.{effect}
-use Rattle.deciding_laws.proofs.GrownWords.{slot_prev_node, slot_kept}
+use Rattle.deciding_laws.proofs.GrownWords.{slot_prev_node, slot_kept, slot_prev, slot_main, slot_main_prev}
 use Rattle.deciding_laws.proofs.Known.{GrownStays, GrownChanges}
 use Rattle.memory_laws.specs.Wants.{is_indirection}
 use Rattle.deciding_laws.proofs.RunWords.{protocol}
@@ -23,18 +20,6 @@ use Rattle.content_laws.specs.Runs.{is_made}
 use Rattle.line_laws.proofs.Nodes.{known_run}
 use Rattle.lone_steps.specs.Alone.{Lone, Has, Keeps}
 use Rattle.lone_steps.specs.Weighing.{Sees}
-
--- an indirection is made
-pub link_made : (o : Option Slot) → is_indirection (node_of o) ≡ true → is_some o ≡ true
-link_made None e = absurd (true≢false (sym e))
-link_made o e = grind arith
-
-node_main : (q : Ref) (n : Node) → is_indirection n ≡ true → main_of (with_main_word q n) ≡ q
-node_main q (Indirection g m) e = refl
-node_main q (Branch b es) e = absurd (true≢false (sym e))
-node_main q (Single k v) e = absurd (true≢false (sym e))
-node_main q (Tomb s) e = absurd (true≢false (sym e))
-node_main q (Listed s) e = absurd (true≢false (sym e))
 
 module _ (a : Lone) where
   abbrev pub p : Protocol
@@ -62,9 +47,6 @@ module _ (a : Lone) where
 
   made_apart : (t : ℕ) (n i m : Ref) → Makes w t n → Has a t i m → i ≡ n → ⊥
   made_apart t n i m e has same = true≢false (sym has.made ∙ ap (is_made a.states t) same ∙ e.was_unmade)
-
-  decided_apart : (t : ℕ) (m q : Ref) (v : Prev) → prev_word a.states t m ≡ prev.None → prev_word a.states t q ≡ v → (v ≡ prev.None → ⊥) → m ≡ q → ⊥
-  decided_apart t m q v decided is undecided same = undecided (sym is ∙ ap (prev_word a.states t) (sym same) ∙ decided)
 
   put_apart : (t : ℕ) (i j m x q : Ref) → Has a t i m → main_word a.states t j ≡ x → prev_word a.states t x ≡ prev.Failed q → i ≡ j → ⊥
   put_apart t i j m x q has stood failed same =
@@ -100,10 +82,6 @@ module _ (a : Lone) where
   pub sees_has : (t : ℕ) (i m : Ref) → Sees a t i m prev.None → Has a t i m
   sees_has t i m s = record { made = s.made; main = s.main; decided = s.prev }
 
-  slot_prev : (v : Prev) (o : Option Slot) → is_some o ≡ true → prev_of (option_map (prev_changed v) o) ≡ v
-  slot_prev v None e = absurd (true≢false (sym e))
-  slot_prev v o e = grind arith
-
   prev_writes : (t : ℕ) (v : Prev) (m : Ref) → GrownChanges a.states t (prev_changed v) m → (i : Ref) → (i ≡ m) ⊎ (i ≡ m → ⊥) →
       (node_under a.states (suc t) i ≡ node_under a.states t i) × (is_made a.states (suc t) i ≡ is_made a.states t i)
   prev_writes t v m e i (inl same) =
@@ -121,14 +99,6 @@ module _ (a : Lone) where
         main = ap main_of kept.0 ∙ s.main;
         prev = ap prev_of e.here ∙ slot_prev now (grown a.states t m) made;
       }
-
-  slot_main : (q : Ref) (o : Option Slot) → is_indirection (node_of o) ≡ true → main_of (node_of (option_map (main_changed q) o)) ≡ q
-  slot_main q None e = absurd (true≢false (sym e))
-  slot_main q (Some slot) e = node_main q slot.node e
-
-  slot_main_prev : (q : Ref) (o : Option Slot) → prev_of (option_map (main_changed q) o) ≡ prev_of o
-  slot_main_prev q None = refl
-  slot_main_prev q (Some slot) = refl
 
   main_leaves_prev : (t : ℕ) (i q : Ref) → GrownChanges a.states t (main_changed q) i → (r : Ref) → (r ≡ i) ⊎ (r ≡ i → ⊥) → prev_word a.states (suc t) r ≡ prev_word a.states t r
   main_leaves_prev t i q e r (inl same) =

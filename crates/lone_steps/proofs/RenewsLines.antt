@@ -27,9 +27,10 @@ use Rattle.lone_steps.specs.Alone.{Lone, Stands, Within, IsWeight, node}
 use Rattle.lone_steps.specs.Keys.{IsOf, IsRenewed}
 use Rattle.lone_steps.specs.Machines.{Machines, HoldsRead, lead, IsRead, WasRead}
 use Rattle.lone_steps.specs.Stepping.{Stepping}
-use Rattle.lone_steps.proofs.RenewsNodes.{SeesMore, sees_more, looks_at, never}
+use Rattle.lone_steps.proofs.RenewsNodes.{SeesMore, sees_more, looks_at}
 use Rattle.lone_steps.proofs.RenewsCalm.{Calm, calm_on, calm_step, step_on, holds_read}
 use Rattle.lone_steps.proofs.Withins.{here, weaken, map, bind, one}
+use Rattle.lone_steps.proofs.StandsAt.{never}
 
 -- the READ of an entry in RENEW, and the line after it
 abbrev pub entry_read : List Ref → Ref → List Ref → Ref → ReadLine → Line
@@ -123,9 +124,9 @@ module _ (a : Lone) (steps : Stepping a) (g : ℕ) (path : List Ref) (main : Ref
         cond_both (is_start s.operation h) _ _ (λ l. Stands a (suc t) (Some g) l → Looked t) (λ is. passes (inl (of_start h word e is)))
         (λ other stands. record { entry = entry; calm = looks_calm; so = inr stands }) stands
     by_node (Single k v) e stands = passes (inr (k, v, sym (steps.node_found t entry s.until used (ap is_indirection e)) ∙ e)) stands
-    by_node (Branch b es) e stands = absurd (never a steps (suc t) (Some g) stands)
-    by_node (Tomb x) e stands = absurd (never a steps (suc t) (Some g) stands)
-    by_node (Listed ss) e stands = absurd (never a steps (suc t) (Some g) stands)
+    by_node (Branch b es) e stands = absurd (never a (suc t) (Some g) stands)
+    by_node (Tomb x) e stands = absurd (never a (suc t) (Some g) stands)
+    by_node (Listed ss) e stands = absurd (never a (suc t) (Some g) stands)
 
     pub looks : Looked t
     looks = by_node (node_at (a.states t).heap entry) refl looks_next

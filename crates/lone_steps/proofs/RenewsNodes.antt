@@ -4,31 +4,25 @@ use Rattle.std.proofs.lemmas.Bool.{false≢true}
 use Rattle.arrayvec.specs.ArrayVec.{ArrayVec}
 use Rattle.slot_arena.specs.declared.refs.Ref.{Ref}
 use Rattle.slot_arena.specs.declared.nodes.Node.{Node}
-use Rattle.slot_arena.specs.declared.nodes.Node.TheVariants.{Indirection, Branch, Single, Tomb}
+use Rattle.slot_arena.specs.declared.nodes.Node.TheVariants.{Branch, Single, Tomb}
 use Rattle.slot_arena.specs.declared.nodes.Slot.{Slot}
 use Rattle.slot_arena.specs.Heaps.{node_at, node_of, entries_of}
 use Rattle.node_contents.proofs.Branches.{standing-le}
 use Rattle.machine_model.specs.declared.actions.Action.TheVariants as act
 use Rattle.machine_model.specs.declared.lines.Line.{Line}
-use Rattle.machine_model.specs.declared.lines.Line.TheVariants as line
 use Rattle.machine_model.specs.Operations.{line_action}
 use Rattle.machine_model.proofs.Grown.{grown}
 use Rattle.memory_laws.specs.Wants.{AMain, ABranch, AnEntry, meets, is_indirection, is_branch, Is, Holds, AllHold, action_wants, done_wants, all_done_wants}
 use Rattle.memory_laws.specs.Laws.{IsInUse}
 use Rattle.memory_laws.proofs.AtTimes.{action_at}
 use Rattle.memory_laws.proofs.Claims.{Meets, safe_of, meets_of, all_of}
-use Rattle.line_laws.proofs.RunOf.{never_impossible}
 use Rattle.content_laws.proofs.Shapes.{branch_shape, tomb_shape}
+use Rattle.memory_laws.proofs.Nodes.{main_plain}
 use Rattle.shape_laws.specs.LineSites.{sites_of, trie_at}
 use Rattle.shape_laws.proofs.GrownSites.{made_shaped}
 use Rattle.shape_laws.proofs.Places.{bare_single}
 use Rattle.lone_steps.specs.Alone.{Lone, Stands, node}
 use Rattle.lone_steps.specs.Stepping.{Stepping}
-
--- a main node is no indirection
-pub main_plain : (n : Node) → meets AMain n ≡ true → is_indirection n ≡ false
-main_plain (Indirection g m) e = absurd (false≢true e)
-main_plain n e = refl
 
 branch_plain : (n : Node) → meets ABranch n ≡ true → is_indirection n ≡ false
 branch_plain (Branch b es) e = refl
@@ -36,9 +30,6 @@ branch_plain n e = absurd (false≢true e)
 
 module _ (a : Lone) where
   -- ---- what was ever made
-
-  abbrev Nodes : Ref → Node
-  Nodes = node a
 
   -- a branch has at most 32 entries
   pub few_entries : (m : Ref) (b : ℕ) (es : ArrayVec Ref) → node a m ≡ Branch b es → length es.items ≤ 32
@@ -114,7 +105,3 @@ module _ (a : Lone) where
     looks_at t g l s r is =
         let claims = action_at a.limits a.states a.last a.run t s.until a.actor s.operation s.runs in
         safe_of (subst (λ x. AllHold (IsInUse (a.states t).heap) (a.states t).heap (action_wants x)) (ap (line_action (a.states t) s.operation) s.line ∙ is) claims).0
-
-    -- the impossible line is never come to
-    pub never : (t : ℕ) (g : Option ℕ) → Stands a t g line.Impossible → ⊥
-    never t g s = never_impossible a.limits a.states a.last a.run t s.until a.actor s.operation s.runs s.line

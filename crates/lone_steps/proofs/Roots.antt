@@ -27,8 +27,8 @@ use Rattle.lone_steps.proofs.RootsLines.{HoldsRoot, led}
 use Rattle.lone_steps.proofs.RootsPlain.{AtPlain, plain_first, plain_on_from}
 use Rattle.lone_steps.proofs.SwapsFound.{root_generation}
 use Rattle.lone_steps.proofs.SwapsLines.{climbing_so, climbed_so}
-use Rattle.lone_steps.proofs.SwapsSteps.{placed}
 use Rattle.lone_steps.proofs.Withins.{here, weaken, map, bind, one, same_stays, keeps_on, stays_on}
+use Rattle.lone_steps.proofs.StandsAt.{stands_as}
 
 -- ---- the lines that hold a ROOT
 
@@ -89,7 +89,7 @@ module _ (a : Lone) (steps : Stepping a) (weight : ℕ → ℕ) (heavy : IsWeigh
         record {
           root = r;
           plain = same ∙ plain;
-          stands = placed a (suc t) _ _ _ _ (ap (λ x. given_root (a.states t) (after_root_word x) s.operation.generation) it ∙ ap (λ x. Some x) told)
+          stands = stands_as a (suc t) _ _ _ _ (ap (λ x. given_root (a.states t) (after_root_word x) s.operation.generation) it ∙ ap (λ x. Some x) told)
               (ap (λ x. after_root s.operation (after_root_word x)) it ∙ ap (λ x. from_root x r) s.call)
               (steps.next t g (line.Root root.Read) s h tt);
           keeps = steps.keeps t g (line.Root root.Read) s h tt tt;
@@ -115,7 +115,7 @@ module _ (a : Lone) (steps : Stepping a) (weight : ℕ → ℕ) (heavy : IsWeigh
         record {
           root = r;
           plain = same ∙ plain;
-          stands = placed a (suc t) _ _ _ _ s.generation (ap (λ y. climb_after_root (a.states t) s.operation x (after_root_word y)) it ∙ climb_line x t g s r told) (steps.next t g l s h tt);
+          stands = stands_as a (suc t) _ _ _ _ s.generation (ap (λ y. climb_after_root (a.states t) s.operation x (after_root_word y)) it ∙ climb_line x t g s r told) (steps.next t g l s h tt);
           keeps = steps.keeps t g l s h tt tt;
           word = same_stays a t (suc t) same;
         },

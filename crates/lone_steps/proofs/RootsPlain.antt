@@ -20,8 +20,7 @@ use Rattle.lone_steps.specs.Machines.{IsRead, WasRead, ReadsFirst, ReadsOn}
 use Rattle.lone_steps.specs.Stepping.{Stepping}
 use Rattle.lone_steps.proofs.RootsLines.{HoldsRoot, led, reading_line, swapping_line, root_reads}
 use Rattle.lone_steps.proofs.RootsWords.{NoOffer, plain_on, settles_on, offer_stood}
-use Rattle.lone_steps.proofs.StandsAt.{goes_on}
-use Rattle.lone_steps.proofs.SwapsSteps.{placed}
+use Rattle.lone_steps.proofs.StandsAt.{goes_on, stands_as}
 use Rattle.lone_steps.proofs.Withins.{here, weaken, map, bind, one, keeps_now, keeps_on, stays, stays_on}
 
 module _ (a : Lone) (steps : Stepping a) (weight : ℕ → ℕ) (heavy : IsWeight a weight) (c : ℕ) (reads_first : ReadsFirst a weight c) (reads_on : ReadsOn a weight c)
@@ -60,7 +59,7 @@ module _ (a : Lone) (steps : Stepping a) (weight : ℕ → ℕ) (heavy : IsWeigh
     finds_offer s d is =
         let more = goes_on a t g (wrap root.Read) s h in
         left root.Read s tt tt _
-        (placed a (suc t) _ g _ _ (holds.finds_offer (a.states t) s.operation d (ap (λ x. word_at (a.states t) (handle_of x)) s.call ∙ is) ∙ s.generation)
+        (stands_as a (suc t) _ g _ _ (holds.finds_offer (a.states t) s.operation d (ap (λ x. word_at (a.states t) (handle_of x)) s.call ∙ is) ∙ s.generation)
         (holds.goes (a.states t) s.operation root.Read s.call s.access ∙ ap (λ x. led wrap (gives (a.states t) s.operation) (after_root_word x)) is)
         (steps.next t g (wrap root.Read) s h more))
 
@@ -69,7 +68,7 @@ module _ (a : Lone) (steps : Stepping a) (weight : ℕ → ℕ) (heavy : IsWeigh
         let l = root.Completing (record { offer = d; line = complete.Swap m }) in
         let more = goes_on a t g (wrap l) s h in
         left l s tt tt _
-        (placed a (suc t) _ g _ _ (holds.stays (a.states t) s.operation (record { offer = d; line = complete.Swap m }) ∙ s.generation)
+        (stands_as a (suc t) _ g _ _ (holds.stays (a.states t) s.operation (record { offer = d; line = complete.Swap m }) ∙ s.generation)
         (holds.goes (a.states t) s.operation l s.call s.access) (steps.next t g (wrap l) s h more))
 
     -- the offer that it completes goes

@@ -1,8 +1,9 @@
 -- Each time from its start on an operation that is alone stands on a line, and that isn't an end.
-use Rattle.std.proofs.Common.{ℕ, ◌<◌, ◌≤◌, Option, refl, arith}
+use Rattle.std.proofs.Common.{ℕ, ◌<◌, ◌≤◌, Option, refl, arith, subst, ◌≡◌}
 use Rattle.machine_model.specs.declared.lines.Line.{Line}
 use Rattle.machine_model.specs.declared.lines.Line.TheVariants as line
 use Rattle.deciding_laws.proofs.Finals.{from_time}
+use Rattle.line_laws.proofs.RunOf.{never_impossible}
 use Rattle.lone_steps.specs.Alone.{Lone, Stands}
 use Rattle.lone_steps.specs.Stepping.{IsNoEnd}
 use Rattle.lone_steps.proofs.SteppingNext.{next, ends_never}
@@ -12,6 +13,10 @@ module _ (a : Lone) where
     pub generation : Option ℕ
     pub line : Line
     pub stands : Stands a t generation line
+
+  -- the same of a line and a generation that are equal
+  pub stands_as : (t : ℕ) (g h : Option ℕ) (l m : Line) → g ≡ h → l ≡ m → Stands a t g l → Stands a t h m
+  stands_as t g h l m one two s = subst (λ x. Stands a t x m) one (subst (Stands a t g) two s)
 
   -- it stands on its line at the start
   pub begins : a.start ≤ a.last → Stands a a.start a.own.generation a.own.line
@@ -41,3 +46,7 @@ module _ (a : Lone) where
         line = _;
         stands = next a v so_far.generation so_far.line so_far.stands more (goes_on v so_far.generation so_far.line so_far.stands more);
       }) t since within
+
+  -- nor is one the line on which nothing is possible
+  pub never : (t : ℕ) (g : Option ℕ) → Stands a t g line.Impossible → ⊥
+  never t g s = never_impossible a.limits a.states a.last a.run t s.until a.actor s.operation s.runs s.line

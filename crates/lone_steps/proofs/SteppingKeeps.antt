@@ -1,34 +1,24 @@
 -- A quiet step of an operation that is alone leaves decided main nodes where they stand; most steps leave the root word.
 use Rattle.std.proofs.Common.{◌≡◌, ℕ, suc, ◌<◌, inl, inr, Option, Some, None, is_some, refl, sym, ap, ◌∙◌, subst}
 use Rattle.std.proofs.lemmas.Bool.{cases_eq, false≢true}
-use Rattle.std.proofs.lemmas.Option.{same_Some}
 use Rattle.slot_arena.specs.declared.nodes.Node.{Node}
 use Rattle.slot_arena.specs.Heaps.{node_of, main_of, prev_of, next_ref}
 use Rattle.machine_model.specs.declared.actions.Action.{Action}
 use Rattle.machine_model.specs.declared.actions.Action.TheVariants as act
 use Rattle.machine_model.specs.declared.lines.Line.{Line}
-use Rattle.machine_model.specs.declared.operations.Operation.{Operation}
-use Rattle.machine_model.specs.declared.steps.Outcome.{Outcome}
-use Rattle.machine_model.specs.declared.steps.Step.TheVariants as step
 use Rattle.machine_model.specs.Acting.{acted, gone, new_root_taken}
 use Rattle.machine_model.specs.Calls.{handle_of}
 use Rattle.machine_model.specs.Counting.{settled}
 use Rattle.machine_model.specs.Operations.{action_of, line_action}
-use Rattle.machine_model.specs.States.{State, operation_of, word_at}
+use Rattle.machine_model.specs.States.{State, word_at}
 use Rattle.machine_model.proofs.Grown.{grown}
-use Rattle.machine_model.proofs.Moves.{Moves, Goes, Ends, GoesOn}
+use Rattle.machine_model.proofs.Moves.{GoesOn}
 use Rattle.deciding_laws.proofs.Known.{Known, ActsOn, GrownStays, GrownTakes, Taken}
 use Rattle.line_laws.proofs.Nodes.{known_run}
+use Rattle.falling_laws.proofs.ReadsGive.{gone_is}
 use Rattle.lone_steps.specs.Alone.{Lone, Stands, Keeps, IsQuiet, word}
 use Rattle.lone_steps.specs.Stepping.{IsNoEnd, LeavesWords}
 use Rattle.lone_steps.proofs.SteppingNext.{takes, no_end}
-
--- a step of an operation that goes on
-went : (before : State) (actor : ℕ) (o : Outcome) (after : State) → Moves before (step.Go actor) o after → (operation : Operation) → operation_of before actor ≡ Some operation →
-    GoesOn (action_of before operation) → after ≡ settled before (gone before actor operation)
-went before actor o after (Goes {operation = x} d is a g) operation runs goes = ap (λ y. settled before (gone before actor y)) (same_Some _ _ (sym is ∙ runs))
-went before actor o after (Ends {operation = x} {answer} d is a) operation runs goes =
-    absurd (subst (λ b. GoesOn b) (ap (action_of before) (sym (same_Some _ _ (sym is ∙ runs))) ∙ a) goes)
 
 -- what isn't the end goes on
 pub goes_by : (action : Action) → ((answer : _) → action ≡ act.End answer → ⊥) → GoesOn action
@@ -64,7 +54,7 @@ module _ (a : Lone) where
   pub after_so : (t : ℕ) (g : Option ℕ) (l : Line) (s : Stands a t g l) → t < a.last → IsNoEnd l → a.states (suc t) ≡ settled (a.states t) (gone (a.states t) a.actor s.operation)
   after_so t g l s more not =
       let moved = takes a t s.since more in
-      went (a.states t) a.actor moved.outcome (a.states (suc t)) moved.moves s.operation s.runs
+      gone_is (a.states t) a.actor moved.outcome (a.states (suc t)) moved.moves s.operation s.runs
       (goes_by (action_of (a.states t) s.operation) (λ answer e. no_end (a.states t) s.operation l not answer (ap (line_action (a.states t) s.operation) (sym s.line) ∙ e)))
 
   -- ---- what it leaves

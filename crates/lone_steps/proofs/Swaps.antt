@@ -17,7 +17,7 @@ use Rattle.lone_steps.specs.Machines.{HasSwapped, IsSwapped, WasSwapped, WasRead
 use Rattle.lone_steps.specs.Stepping.{Stepping}
 use Rattle.lone_steps.specs.Weighing.{Acts}
 use Rattle.machine_model.specs.Swapping.{action_at}
-use Rattle.lone_steps.proofs.ReadsWords.{link_made}
+use Rattle.deciding_laws.proofs.GrownWords.{link_made}
 use Rattle.lone_steps.proofs.SwapsSteps.{keeps_left}
 use Rattle.lone_steps.proofs.SwapsLines.{swap_line, deciding, checking, swap_reads, is_decided, checks, publishes, Publishes}
 use Rattle.lone_steps.proofs.SwapsFound.{swap_generation, fresh_nowhere}

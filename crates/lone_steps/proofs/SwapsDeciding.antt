@@ -52,12 +52,12 @@ module _ (a : Lone) (steps : Stepping a) (why : Purpose) (i replaced fresh : Ref
     goes : (l : ReadLine) → At (swap.Deciding l) u → (out : After ReadLine Ref) → read_after (a.states u).heap a.own.access (word a u) i l ≡ out → GoesTo l out
     goes l s out e = record {
       stands = subst (λ x. Stands a (suc u) g (lead (deciding a why i replaced fresh) (checking a why i replaced fresh) x)) e
-          (read_next a (deciding a why i replaced fresh) (checking a why i replaced fresh) i (swap_reads a why i replaced fresh) u g l s h steps);
+          (read_next a (deciding a why i replaced fresh) (checking a why i replaced fresh) i (swap_reads a why i replaced fresh) u g l s h);
       turn = subst (ReadTurn (w a) u i l) e (reads a (deciding a why i replaced fresh) (checking a why i replaced fresh) i (swap_reads a why i replaced fresh) u g l s h);
     }
 
     stays : (l : ReadLine) → At (swap.Deciding l) u → LeavesWords (read_action i l) → WordStays a u (suc u)
-    stays l s free = same_stays a u (suc u) (same_word a (deciding a why i replaced fresh) (checking a why i replaced fresh) i (swap_reads a why i replaced fresh) u g l s h steps free)
+    stays l s free = same_stays a u (suc u) (same_word a (deciding a why i replaced fresh) (checking a why i replaced fresh) i (swap_reads a why i replaced fresh) u g l s h free)
 
     on : (v : Prev) → Leaves (w a) u → WordStays a u (suc u) → H u v → H (suc u) v
     on v e same holds = left a i replaced fresh t u v e same holds
@@ -94,7 +94,7 @@ module _ (a : Lone) (steps : Stepping a) (why : Purpose) (i replaced fresh : Ref
     asks_offer s holds d stands =
         let l = read.AskRoot fresh replaced in
         let x = goes l s (Goes (read.Abort fresh replaced d)) (ap (after_ask (a.states u).heap fresh replaced) stands) in
-        let same = same_word a (deciding a why i replaced fresh) (checking a why i replaced fresh) i (swap_reads a why i replaced fresh) u g l s h steps tt in
+        let same = same_word a (deciding a why i replaced fresh) (checking a why i replaced fresh) i (swap_reads a why i replaced fresh) u g l s h tt in
         (record { stands = x.stands; holds = on (over.Pending replaced) (ask_leaves a u i fresh replaced _ x.turn) (stays l s tt) holds; word = stays l s tt }, same ∙ stands)
 
     pub takes_back : (d : Descriptor) → At (swap.Deciding (read.Abort fresh replaced d)) u → H u (over.Pending replaced) → word a u ≡ Offer d →

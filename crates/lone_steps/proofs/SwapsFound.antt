@@ -4,7 +4,7 @@ use Rattle.std.proofs.lemmas.Bool.{true≢false}
 use Rattle.history.specs.declared.calls.Access.TheVariants.{Writable}
 use Rattle.slot_arena.specs.declared.refs.Ref.{Ref}
 use Rattle.slot_arena.specs.declared.nodes.Node.{Node}
-use Rattle.slot_arena.specs.Heaps.{no_ref, node_of, main_of, generation_at, generation_of}
+use Rattle.slot_arena.specs.Heaps.{no_ref, node_of, generation_at, generation_of}
 use Rattle.machine_model.specs.declared.lines.Line.{Line}
 use Rattle.machine_model.specs.declared.lines.Purpose.{Purpose}
 use Rattle.machine_model.specs.declared.reading.SwapLine.{SwapLine}
@@ -21,6 +21,7 @@ use Rattle.memory_laws.specs.Laws.{IsInUse, is_end}
 use Rattle.memory_laws.proofs.AtEachTime.{safe_at}
 use Rattle.memory_laws.proofs.AtTimes.{kind_at, generation_found}
 use Rattle.memory_laws.proofs.Claims.{safe_of}
+use Rattle.memory_laws.proofs.Nodes.{no_main}
 use Rattle.deciding_laws.proofs.Owners.{Staged}
 use Rattle.deciding_laws.proofs.ReadTurns.{generation_stays}
 use Rattle.deciding_laws.proofs.RunWords.{protocol}
@@ -31,16 +32,13 @@ use Rattle.generation_laws.proofs.Handles.{has_handles_at}
 use Rattle.generation_laws.proofs.OpenRoots.{no_close_at}
 use Rattle.generation_laws.proofs.Running.{place_of_actor}
 use Rattle.falling_laws.proofs.NoRef.{nothing_stands}
-use Rattle.falling_laws.proofs.Paths.{swaps_in_own_generation}
+use Rattle.falling_laws.proofs.OwnSwaps.{swaps_in_own_generation}
 use Rattle.lone_steps.specs.Alone.{Lone, Stands, Has, IsPlain, generation}
 use Rattle.lone_steps.proofs.SwapsSteps.{known, w}
 use Rattle.lone_steps.proofs.SwapsLines.{swap_line}
 
 link_met : (n : Node) → meets AnIndirection n ≡ true → is_indirection n ≡ true
 link_met n e = grind arith
-
-pub no_main : (n : Node) → is_indirection n ≡ false → main_of n ≡ no_ref
-no_main n e = grind arith
 
 module _ (a : Lone) where
   -- what is an indirection has its generation for good

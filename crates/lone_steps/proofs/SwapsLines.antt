@@ -1,5 +1,5 @@
 -- The lines of a SWAP, where one actor alone takes steps: what its first and its last step find and do.
-use Rattle.std.proofs.Common.{◌≡◌, ℕ, suc, ◌<◌, ◌==◌, Bool, true, false, cond, Option, None, refl, sym, ap, ◌∙◌, subst, eqb-true, arith}
+use Rattle.std.proofs.Common.{◌≡◌, ℕ, suc, ◌<◌, ◌==◌, Bool, true, false, cond, Option, None, refl, sym, ap, ◌∙◌, subst, eqb-true}
 use Rattle.slot_arena.specs.declared.refs.Ref.{Ref}
 use Rattle.slot_arena.specs.declared.nodes.Node.{Node}
 use Rattle.slot_arena.specs.declared.nodes.Node.TheVariants.{Indirection, Branch, Single, Tomb, List as Listed}
@@ -26,8 +26,8 @@ use Rattle.machine_model.specs.Paths.{is_below_root, current, above}
 use Rattle.machine_model.specs.Reading.{reading, read_after}
 use Rattle.machine_model.specs.States.{State, word_at}
 use Rattle.machine_model.specs.Swapping.{after_publish, after_deciding, after_check, on_line}
-use Rattle.memory_laws.specs.Wants.{AMain, is_indirection, meets}
 use Rattle.memory_laws.proofs.Claims.{safe_of, meets_of}
+use Rattle.memory_laws.proofs.Nodes.{main_plain}
 use Rattle.deciding_laws.proofs.Words.{Leaves, SwapsIn}
 use Rattle.deciding_laws.proofs.GrownWords.{leaves_words, swaps_words}
 use Rattle.deciding_laws.proofs.Known.{Either, GrownSwaps, GrownStays}
@@ -35,7 +35,8 @@ use Rattle.deciding_laws.proofs.ReadTurns.{no_commit}
 use Rattle.lone_steps.specs.Alone.{Lone, Stands, node, word}
 use Rattle.lone_steps.specs.Machines.{HoldsRead, lead}
 use Rattle.lone_steps.specs.Stepping.{Stepping}
-use Rattle.lone_steps.proofs.SwapsSteps.{known, w, facts, placed}
+use Rattle.lone_steps.proofs.SwapsSteps.{known, w, facts}
+use Rattle.lone_steps.proofs.StandsAt.{stands_as}
 
 -- ---- what comes after a SWAP is told by the call
 
@@ -62,10 +63,6 @@ swapped_so x y e (Single k v) (purpose.Climb c) true = climbed_so x y e c.former
 swapped_so x y e (Listed s) (purpose.Climb c) true = climbed_so x y e c.former
 swapped_so x y e n (purpose.Climb c) false = refl
 
--- a main node is no indirection
-main_no_link : (n : Node) → meets AMain n ≡ true → is_indirection n ≡ false
-main_no_link n e = grind arith
-
 -- the fresh node was found decided
 abbrev pub is_decided : Prev → Bool
 is_decided over.None = true
@@ -88,12 +85,6 @@ module _ (a : Lone) (why : Purpose) (i replaced fresh : Ref) where
   abbrev pub checking : Ref → Line
   checking m = swap_line swap.Check
 
-  deciding_goes : (state : State) (operation : Operation) (out : After ReadLine Ref) →
-      after_swap state operation why (record { indirection = i; replaced = replaced; fresh = fresh; line = swap.Check }) (on_line (record { indirection = i; replaced = replaced; fresh = fresh; line = swap.Check }) (after_deciding out))
-      ≡ lead deciding checking out
-  deciding_goes state operation (Goes l) = refl
-  deciding_goes state operation (Gives m) = refl
-
   -- its deciding part is a READ
   pub swap_reads : HoldsRead a.own deciding checking i
   swap_reads = record {
@@ -115,7 +106,7 @@ module _ (a : Lone) (why : Purpose) (i replaced fresh : Ref) where
   module _ (steps : Stepping a) where
     -- the fresh node is what it was made as
     pub fresh_found : (t : ℕ) (g : Option ℕ) (x : SwapLine) → Stands a t g (swap_line x) → node_at (a.states t).heap fresh ≡ node a fresh
-    fresh_found t g x s = let claim = (steps.wants t g (swap_line x) s).1.1.0 in steps.node_found t fresh s.until (safe_of claim) (main_no_link _ (meets_of claim))
+    fresh_found t g x s = let claim = (steps.wants t g (swap_line x) s).1.1.0 in steps.node_found t fresh s.until (safe_of claim) (main_plain _ (meets_of claim))
 
     -- it ends so
     ends_so : (t : ℕ) (g : Option ℕ) (x : SwapLine) (s : Stands a t g (swap_line x)) (done : Bool) →
@@ -134,7 +125,7 @@ module _ (a : Lone) (why : Purpose) (i replaced fresh : Ref) where
         let f = facts a t g (swap_line swap.Check) s h tt in
         record {
           stands =
-              placed a (suc t) _ g _ _ s.generation
+              stands_as a (suc t) _ g _ _ s.generation
               (ap (λ x. after_swap (a.states t) s.operation why (record { indirection = i; replaced = replaced; fresh = fresh; line = swap.Check })
               (on_line (record { indirection = i; replaced = replaced; fresh = fresh; line = swap.Check }) (after_check x))) (f.acts.0.prev ∙ is)
               ∙ ap (λ x. after_swap (a.states t) s.operation why (record { indirection = i; replaced = replaced; fresh = fresh; line = swap.Check })
@@ -174,7 +165,7 @@ module _ (a : Lone) (why : Purpose) (i replaced fresh : Ref) where
           main = f.acts.0.main;
           link = f.acts.0.link;
           stands =
-              placed a (suc t) _ g _ _ s.generation
+              stands_as a (suc t) _ g _ _ s.generation
               (ap (λ x. after_swap (a.states t) s.operation why (record { indirection = i; replaced = replaced; fresh = fresh; line = swap.Publish })
               (on_line (record { indirection = i; replaced = replaced; fresh = fresh; line = swap.Publish }) (after_publish fresh x))) test
               ∙ first_goes t g s b)

@@ -23,11 +23,13 @@ use Rattle.deciding_laws.proofs.ReadTurns.{read_turn}
 use Rattle.deciding_laws.proofs.RunWords.{line_facts}
 use Rattle.lone_steps.specs.Alone.{Lone, Stands, Keeps, word}
 use Rattle.lone_steps.specs.Machines.{HoldsRead, lead}
-use Rattle.lone_steps.specs.Stepping.{Stepping, IsNoEnd, LeavesWords}
-use Rattle.lone_steps.proofs.SteppingKeeps.{after_so}
+use Rattle.lone_steps.specs.Stepping.{IsNoEnd, LeavesWords}
+use Rattle.lone_steps.proofs.SteppingKeeps.{after_so, words}
+use Rattle.lone_steps.proofs.StandsAt.{stands_as}
+use Rattle.lone_steps.proofs.SteppingNext.{next}
 
 -- a line with a READ is no end
-reads_no_end : (l : Line) (r : Read) → read_of l ≡ Some r → IsNoEnd l
+pub reads_no_end : (l : Line) (r : Read) → read_of l ≡ Some r → IsNoEnd l
 reads_no_end (line.End answer) r e = absurd (none-some r e)
 reads_no_end l r e = tt
 
@@ -52,10 +54,6 @@ module _ (a : Lone) where
         let (o, m) = own_move t s.since h in
         at_line t g l s (λ x. LineFacts a.limits a.states a.last known t h a.actor s.operation x)
         (line_facts a.limits a.states a.last known t h a.actor s.operation o m s.runs (after_so a t g l s h more))
-
-  -- the same place in other words
-  pub placed : (t : ℕ) (g h : Option ℕ) (l m : Line) → g ≡ h → l ≡ m → Stands a t g l → Stands a t h m
-  placed t g h l m e f s = subst (λ x. Stands a t h x) f (subst (λ x. Stands a t x l) e s)
 
   -- a step that leaves all words keeps main nodes
   pub keeps_left : (t : ℕ) → Leaves w t → Keeps a t (suc t)
@@ -83,10 +81,10 @@ module _ (a : Lone) where
         (λ m p is r plain c closed. absurd (none-some c closed))
 
     -- where the operation stands afterwards
-    pub read_next : Stepping a → Stands a (suc t) g (lead wrap gives (read_after (a.states t).heap a.own.access (word a t) i l))
-    read_next steps =
-        placed (suc t) _ g _ _ (holds.stays (a.states t) s.operation l ∙ s.generation) (holds.goes (a.states t) s.operation l s.call s.access)
-        (steps.next t g (wrap l) s h read_no_end)
+    pub read_next : Stands a (suc t) g (lead wrap gives (read_after (a.states t).heap a.own.access (word a t) i l))
+    read_next =
+        stands_as a (suc t) _ g _ _ (holds.stays (a.states t) s.operation l ∙ s.generation) (holds.goes (a.states t) s.operation l s.call s.access)
+        (next a t g (wrap l) s h read_no_end)
 
-    pub same_word : Stepping a → LeavesWords (read_action i l) → word a (suc t) ≡ word a t
-    same_word steps leaves = steps.words t g (wrap l) s h read_no_end (subst LeavesWords (sym acts_so) leaves)
+    pub same_word : LeavesWords (read_action i l) → word a (suc t) ≡ word a t
+    same_word leaves = words a t g (wrap l) s h read_no_end (subst LeavesWords (sym acts_so) leaves)

@@ -33,12 +33,3 @@ level_most c = 34 * (c + 2) + 12
 -- from where its path ends to a new try
 abbrev pub stale_bottom_most : ℕ → ℕ
 stale_bottom_most c = 33 * c + 250
-
--- from any line to a new try
-abbrev pub stale_most : ℕ → ℕ
-stale_most c = 32 * (c + 2) + 22 + 14 * level_most c + stale_bottom_most c
-
--- ---- a call on one key
-
-abbrev pub key_most : ℕ → ℕ
-key_most c = stale_most c + fresh_most c

@@ -1,9 +1,8 @@
 -- The programs of a call on one key on a writable handle, where one actor alone takes steps: how many steps each part takes, and what it leaves.
-use Rattle.std.specs.Prelude.{◌≡◌, ℕ, suc, ◌+◌, ◌-◌, ◌*◌, ◌<◌, ◌≤◌, ◌⊎◌, ◌&&◌, Bool, true, false, List, [], ◌∷◌, ◌++◌, length, slice_index_or, Option, Some}
+use Rattle.std.specs.Prelude.{◌≡◌, ℕ, suc, ◌+◌, ◌-◌, ◌*◌, ◌<◌, ◌≤◌, ◌⊎◌, ◌&&◌, Bool, true, false, List, ◌∷◌, ◌++◌, length, slice_index_or, Option, Some, []}
 use Rattle.arrayvec.specs.ArrayVec.{ArrayVec}
 use Rattle.ctrie_base.specs.Hashes.{hash_of}
 use Rattle.ctrie_base.specs.Paths.{position_of}
-use Rattle.history.specs.declared.calls.Access.TheVariants.{Writable}
 use Rattle.history.specs.declared.calls.Call.{Call}
 use Rattle.history.specs.declared.calls.Call.TheVariants.{Clear, Snapshot, Freeze, Close, Entries, Count}
 use Rattle.slot_arena.specs.declared.refs.Ref.{Ref}
@@ -15,7 +14,6 @@ use Rattle.machine_model.specs.declared.building.BuildLine.{BuildLine}
 use Rattle.machine_model.specs.declared.finding.KeyLine.TheVariants as key
 use Rattle.machine_model.specs.declared.lines.Line.TheVariants as line
 use Rattle.machine_model.specs.declared.lines.Purpose.TheVariants as purpose
-use Rattle.machine_model.specs.declared.repairs.Climb.{Climb}
 use Rattle.machine_model.specs.declared.repairs.ClimbLine.{ClimbLine}
 use Rattle.machine_model.specs.declared.repairs.CleanLine.{CleanLine}
 use Rattle.machine_model.specs.declared.repairs.CleanLine.TheVariants as clean
@@ -25,7 +23,6 @@ use Rattle.machine_model.specs.Calls.{key_of}
 use Rattle.machine_model.specs.Finding.{going_down}
 use Rattle.machine_model.specs.Lines.{new_try}
 use Rattle.machine_model.specs.Cleaning.{is_single}
-use Rattle.machine_model.specs.Climbing.{climbing}
 use Rattle.machine_model.specs.Paths.{current, depth_of, is_below_root}
 use Rattle.machine_model.specs.Reading.{reading}
 use Rattle.machine_model.specs.Swapping.{swapping}
@@ -51,10 +48,6 @@ main_of_build (build.Pair path main position single depth) = main
 main_of_build (build.Link path main position below depth) = main
 main_of_build (build.Rung path main position below depth) = main
 main_of_build (build.Main path main c former) = main
-
--- the operation's call is on one key, on a writable handle
-abbrev pub Changes : Lone → Type 0
-Changes a = IsOnKey a.own.call × (a.own.access ≡ Writable)
 
 module _ (a : Lone) where
   -- the flag of the call's key at a depth
@@ -169,11 +162,6 @@ module _ (a : Lone) where
       pub keeps : Keeps a t u
       pub word : WordStays a t u
 
-    abbrev pub CleansFrom : Type 0
-    CleansFrom =
-        (path : List Ref) (main : Ref) (done : List Ref) (t left : ℕ) (g : Option ℕ) → Stands a t g (line.Clean (clean.Entry path main done)) →
-        length done + left ≡ length (entries_of (node a main)) → W (IsCleaning t g path main (length done)) (left * (c + 2) + 2) t
-
     -- Where the operation's root is the handle's, and the key's path ends in a tomb below: CLEAN puts an end to the path one level higher. That end is
     -- another tomb only where the branch had that one entry.
     pub record IsCleanedUp (r : Ref) (g : ℕ) (path : List Ref) (entries u : ℕ) : Type 0 where
@@ -205,11 +193,6 @@ module _ (a : Lone) where
 
     abbrev pub BuildsOn : Type 0
     BuildsOn = (l : BuildLine) (t : ℕ) (g : Option ℕ) → Stands a t g (line.Build l) → W (IsBuilt t g (build_path l) (main_of_build l)) 30 t
-
-    -- CLIMB ends
-    abbrev pub ClimbsFrom : Type 0
-    ClimbsFrom =
-        (x : Climb) (t : ℕ) (g : Option ℕ) → Stands a t g (climbing a.own x) → W (λ u. ⊥) (length x.path * (c + 12) + 3) t
 
     abbrev pub ClimbsOn : Type 0
     ClimbsOn = (l : ClimbLine) (t : ℕ) (g : Option ℕ) → Stands a t g (line.Climb l) → W (λ u. ⊥) (14 * (c + 12) + 3 * c + 40) t

@@ -1,6 +1,6 @@
 -- What holds of operations whatever stands in memory: their handle is open until they end, a reader changes nothing, and their epoch is the present one or the one
 -- before it; the present one where the sweep has passed their actor.
-use Rattle.std.proofs.Common.{◌≡◌, ℕ, zero, suc, ◌+◌, ◌-◌, ◌<◌, ◌≤◌, ◌==◌, ◌||◌, Bool, true, false, cond, nat_le, is_some, List, [], ◌∷◌, map, length, get_or, set, Option, Some, None, refl, sym, ap, ◌∙◌, subst, inl, inr, eqb-true, eq-eqb, leb-false, arith}
+use Rattle.std.proofs.Common.{◌≡◌, ℕ, zero, suc, ◌+◌, ◌-◌, ◌<◌, ◌≤◌, ◌==◌, ◌||◌, Bool, true, false, cond, nat_le, is_some, List, ◌∷◌, map, length, get_or, set, Option, Some, None, refl, sym, ap, ◌∙◌, subst, inl, inr, eqb-true, eq-eqb, leb-false, arith, []}
 use Rattle.std.proofs.lemmas.Bool.{cases_eq, cases_lt, cases_Bool, false≢true, cond_both, or_left, or_right, or_cases}
 use Rattle.std.proofs.lemmas.Option.{none-some}
 use Rattle.std.proofs.Math.ListN.{get_or-map}
@@ -111,19 +111,19 @@ closed_root state call id handle other =
     cond_both (is_close call) _ _ (λ (s : State). root_at s handle ≡ root_at state handle) (λ e. found_elsewhere state.roots (handle_of call) handle None (other e)) (λ e. refl)
 
 -- a handle on which an operation runs isn't closed
-running_on : (actors : List (Option Operation)) (k : ℕ) (operation : Operation) → get_or actors k None ≡ Some operation → list_any (names (handle_of operation.call)) actors ≡ true
+pub running_on : (actors : List (Option Operation)) (k : ℕ) (operation : Operation) → get_or actors k None ≡ Some operation → list_any (names (handle_of operation.call)) actors ≡ true
 running_on [] k operation e = absurd (none-some operation e)
 running_on (o ∷ actors) zero operation e =
     or_left _ _ (subst (λ x. names (handle_of operation.call) x ≡ true) (sym e) (eq-eqb (handle_of operation.call) (handle_of operation.call) refl))
 running_on (o ∷ actors) (suc k) operation e = or_right _ _ (running_on actors k operation e)
 
-close_denied : (state : State) (actor : ℕ) (call : Call) → begin_denial state actor call ≡ None → is_close call ≡ true → runs_on state (handle_of call) ≡ true → ⊥
+pub close_denied : (state : State) (actor : ℕ) (call : Call) → begin_denial state actor call ≡ None → is_close call ≡ true → runs_on state (handle_of call) ≡ true → ⊥
 close_denied state actor call d c r = grind arith
 
-handle_given : (state : State) (actor : ℕ) (call : Call) → begin_denial state actor call ≡ None → is_some (root_at state (handle_of call)) ≡ true
+pub handle_given : (state : State) (actor : ℕ) (call : Call) → begin_denial state actor call ≡ None → is_some (root_at state (handle_of call)) ≡ true
 handle_given state actor call d = grind arith
 
-close_ends : (call : Call) → is_close call ≡ true → is_end (first_line call) ≡ true
+pub close_ends : (call : Call) → is_close call ≡ true → is_end (first_line call) ≡ true
 close_ends (Close h) e = refl
 close_ends call e = absurd (false≢true e)
 

@@ -1,5 +1,5 @@
 -- All that a running operation has got since its begin is safe.
-use Rattle.std.proofs.Common.{◌≡◌, ℕ, zero, suc, ◌==◌, ◌&&◌, List, [], ◌∷◌, ◌++◌, All, Contains, get_or, Option, Some, None, Ok, Err, refl, sym, ap, ◌∙◌, subst, eqb-true, append-nil, arith}
+use Rattle.std.proofs.Common.{◌≡◌, ℕ, zero, suc, ◌==◌, ◌&&◌, List, ◌∷◌, ◌++◌, All, Contains, get_or, Option, Some, None, Ok, Err, refl, sym, ap, ◌∙◌, subst, eqb-true, append-nil, arith, [], ◌<◌}
 use Rattle.std.proofs.lemmas.Bool.{cond_both, and_parts, false≢true}
 use Rattle.std.proofs.lemmas.Option.{none-some}
 use Rattle.std.proofs.lemmas.List.Elements.{All-nil, All-cons, All-append, All-weaker, All-contains}
@@ -99,8 +99,12 @@ module _ (state : State) (I : IsSafe state) (actor k : ℕ) (operation : Operati
   got_safe action e h = All-nil T
 
 -- an actor that begins ran nothing
-idle_before : (state : State) (actor : ℕ) (call : Call) → begin_denial state actor call ≡ None → operation_of state actor ≡ None
+pub idle_before : (state : State) (actor : ℕ) (call : Call) → begin_denial state actor call ≡ None → operation_of state actor ≡ None
 idle_before state actor call d = grind arith
+
+-- and is one
+pub begin_counts : (state : State) (actor : ℕ) (call : Call) → begin_denial state actor call ≡ None → 0 < actor
+begin_counts state actor call d = grind arith
 
 not_running : (state : State) (actor : ℕ) (call : Call) (k : ℕ) → actor ≡ suc k → begin_denial state actor call ≡ None → get_or state.actors k None ≡ None
 not_running state actor call k own d = sym (ap (λ a. operation_of state a) own) ∙ idle_before state actor call d

@@ -1,5 +1,5 @@
 -- What holds later in a run; births never repeat.
-use Rattle.std.proofs.Common.{◌≡◌, ℕ, ◌+◌, ◌≤◌, List, [], ◌∷◌, ◌++◌, Option, Some, None, sym, ap, ◌∙◌, subst, inl, inr, arith}
+use Rattle.std.proofs.Common.{◌≡◌, ℕ, ◌+◌, ◌≤◌, List, ◌∷◌, ◌++◌, Option, Some, None, sym, ap, ◌∙◌, subst, inl, inr, arith, []}
 use Rattle.std.proofs.lemmas.Bool.{cases_eq}
 use Rattle.std.proofs.lemmas.Option.{none-some, same_Some}
 use Rattle.slot_arena.specs.Refs.{birth_of}
@@ -87,7 +87,7 @@ births_later b state I h s o after m = later (births_grow _ _ _ _ _ _ ((step_eff
     later x y = omega arith
 
 -- a reference that is drawn has a birth that none had
-drawn_birth : (state : State) → IsSafe state → (r : Ref) → next_ref state.heap ≡ Some r → birth_of r ≡ state.heap.births + 1
+pub drawn_birth : (state : State) → IsSafe state → (r : Ref) → next_ref state.heap ≡ Some r → birth_of r ≡ state.heap.births + 1
 drawn_birth state I r e = (taken_all state.limits.slots state.heap (I.sound.heap) (I.small) (Indirection 0 0) r e).3
 
 pub drawn_once : (limits : Limits) → AreLimits limits → (before since : List Step) (r : Ref) → next_ref (run limits (before ++ since)).heap ≡ Some r → IsInUse (run limits before).heap r → ⊥

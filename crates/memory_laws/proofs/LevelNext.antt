@@ -1,5 +1,5 @@
 -- Levels after any line's step, and those of the node that a step makes.
-use Rattle.std.proofs.Common.{◌≡◌, ℕ, zero, suc, ◌+◌, ◌-◌, ◌<◌, ◌≤◌, ◌==◌, ◌&&◌, Bool, true, false, nat_lt, List, [], ◌∷◌, ◌++◌, All, length, Option, Some, None, is_some, refl, sym, ◌∙◌, subst, inl, inr, eqb-true, ltb-true, arith}
+use Rattle.std.proofs.Common.{◌≡◌, ℕ, zero, suc, ◌+◌, ◌-◌, ◌<◌, ◌≤◌, ◌==◌, ◌&&◌, Bool, true, false, nat_lt, List, ◌∷◌, ◌++◌, All, length, Option, Some, None, is_some, refl, sym, ◌∙◌, subst, inl, inr, eqb-true, ltb-true, arith, []}
 use Rattle.std.specs.Prelude.{bit_or, bit_xor}
 use Rattle.std.proofs.lemmas.Bool.{false≢true, cond_both, eqb-false}
 use Rattle.std.proofs.lemmas.List.Elements.{All-nil, All-cons, All-take, All-set}
@@ -25,8 +25,6 @@ use Rattle.machine_model.specs.declared.roots.CompleteLine.TheVariants as comple
 use Rattle.machine_model.specs.declared.roots.Descriptor.{Descriptor}
 use Rattle.machine_model.specs.declared.roots.RootLine.{RootLine}
 use Rattle.machine_model.specs.declared.roots.RootLine.TheVariants as root
-use Rattle.machine_model.specs.declared.roots.RootWord.{RootWord}
-use Rattle.machine_model.specs.declared.roots.RootWord.TheVariants.{Plain, Offer}
 use Rattle.machine_model.specs.declared.finding.KeyLine.TheVariants as key
 use Rattle.machine_model.specs.declared.building.BuildLine.{BuildLine}
 use Rattle.machine_model.specs.declared.building.BuildLine.TheVariants as build
@@ -46,7 +44,7 @@ use Rattle.machine_model.specs.declared.lines.Purpose.TheVariants as purpose
 use Rattle.machine_model.specs.declared.lines.Line.{Line}
 use Rattle.machine_model.specs.declared.lines.Line.TheVariants as line
 use Rattle.machine_model.specs.Calls.{handle_of}
-use Rattle.machine_model.specs.States.{State, word_at, root_of}
+use Rattle.machine_model.specs.States.{State, word_at}
 use Rattle.machine_model.specs.Paths.{current, above, depth_of, flag_in, hash_in, is_below_root}
 use Rattle.machine_model.specs.Reading.{read_action, read_after}
 use Rattle.machine_model.specs.Swapping.{action_at, complete_action_at, root_action, after_swap, is_plain}
@@ -319,10 +317,6 @@ module _ (lv : Ref → ℕ) (state : State) (operation : Operation) (S : Ref →
     renews (purpose.Renew path) h = fact_of h.1.0
     renews purpose.Clean h = tt
     renews (purpose.Climb c) h = tt
-
-    root_word_level : (word : RootWord) → WordLevel lv word → lv (root_of word) ≡ 1
-    root_word_level (Plain r) w = w
-    root_word_level (Offer offer) w = w.0
 
     pub line_level_next : (l : Line) → Wants l → L l → Made l → L (line_after state operation l)
     line_level_next (line.Root l) h e m = root_line_level lv state operation S N _ (root_next lv state operation S N W l h e)

@@ -1,12 +1,11 @@
 -- Every run gives each reference a level, once, where it is made.
-use Rattle.std.proofs.Common.{zero, suc, ◌≡◌, ℕ, ◌+◌, ◌<◌, ◌≤◌, true, cond, List, [], ◌∷◌, Option, Some, None, Ok, Err, refl, sym, ap, ◌∙◌, eqb-true, eq-eqb, arith}
+use Rattle.std.proofs.Common.{zero, suc, ◌≡◌, ℕ, ◌+◌, ◌<◌, ◌≤◌, true, cond, List, ◌∷◌, Option, Some, None, Ok, Err, refl, sym, ap, ◌∙◌, eqb-true, eq-eqb, arith, []}
 use Rattle.std.proofs.lemmas.Bool.{cond_both, false≢true}
 use Rattle.std.proofs.lemmas.Option.{none-some}
 use Rattle.std.proofs.lemmas.List.Elements.{All-nil}
 use Rattle.slot_arena.specs.Refs.{ref_to, birth_of}
 use Rattle.slot_arena.specs.declared.refs.Ref.{Ref}
 use Rattle.slot_arena.specs.declared.nodes.Node.{Node}
-use Rattle.slot_arena.specs.declared.nodes.Node.TheVariants.{Indirection}
 use Rattle.slot_arena.specs.Heaps.{Heap, next_ref}
 use Rattle.machine_model.specs.declared.operations.Operation.{Operation}
 use Rattle.machine_model.specs.declared.steps.Limits.{Limits}
@@ -22,13 +21,14 @@ use Rattle.machine_model.proofs.Times.{states_from, states_of}
 use Rattle.machine_model.proofs.Found.{none_found}
 use Rattle.machine_model.proofs.Moves.{Moves, Begins, Goes, Ends, Sweeps, MovesIfTaken, moves}
 use Rattle.memory_laws.proofs.Claims.{safe_of}
-use Rattle.memory_laws.proofs.Under.{taken_all, births_taken}
+use Rattle.memory_laws.proofs.Under.{births_taken}
 use Rattle.memory_laws.proofs.Next.{made_node}
 use Rattle.memory_laws.proofs.Safety.{IsSafe, births_grow}
 use Rattle.memory_laws.proofs.Invariant.{made_heap, step_effect, safe_after}
 use Rattle.memory_laws.proofs.First.{safe_at_first, first_words, first_stands}
 use Rattle.memory_laws.proofs.Levels.{WordLevel, EntryLevel, made_level}
 use Rattle.memory_laws.proofs.LevelStates.{HasLevels, GivesLevel, SlotLevel, levels_after}
+use Rattle.memory_laws.proofs.Later.{drawn_birth}
 
 -- ---- what a step makes, and its level
 
@@ -63,9 +63,6 @@ levels_from state (s ∷ steps) r = given state s (next state s) (levels_from (n
 
 -- ---- what is made has the next birth
 
-made_birth : (state : State) → IsSafe state → (made : Ref) → next_ref state.heap ≡ Some made → birth_of made ≡ state.heap.births + 1
-made_birth state I made e = (taken_all state.limits.slots state.heap (I.sound.heap) (I.small) (Indirection 0 0) made e).3
-
 made_next_by : (o : Option Node) (next made : Option Ref) (r : Ref) → if_made o next ≡ Some r → next ≡ Some r
 made_next_by None next made r e = absurd (none-some r e)
 made_next_by (Some node) next made r e = e
@@ -74,13 +71,13 @@ made_next_of : (state : State) (o : Option Operation) (r : Ref) → made_by stat
 made_next_of state None r e = absurd (none-some r e)
 made_next_of state (Some operation) r e = made_next_by (made_node state (action_of state operation)) (next_ref state.heap) None r e
 
-made_next : (state : State) (s : Step) (r : Ref) → made_now state s ≡ Some r → next_ref state.heap ≡ Some r
+pub made_next : (state : State) (s : Step) (r : Ref) → made_now state s ≡ Some r → next_ref state.heap ≡ Some r
 made_next state (step.Go actor) r e = made_next_of state (operation_of state actor) r e
 made_next state (step.Begin actor call) r e = absurd (none-some r e)
 made_next state step.Sweep r e = absurd (none-some r e)
 
 -- the number is that of the reference that is made
-number_is : (r : Ref) (o : Option Ref) → is_number r o ≡ true → o ≡ Some r
+pub number_is : (r : Ref) (o : Option Ref) → is_number r o ≡ true → o ≡ Some r
 number_is r None e = absurd (false≢true e)
 number_is r (Some m) e = ap Some (eqb-true m r e)
 
@@ -100,7 +97,7 @@ births_made state I s o after (Goes {actor} {operation} d is a g) r e = by_node 
         birth_of r ≤ (gone state actor operation).heap.births
     by_node None n made = absurd (none-some r (sym (ap (λ x. if_made x (next_ref state.heap)) n) ∙ made))
     by_node (Some node) n made =
-        let next = sym (ap (λ x. if_made x (next_ref state.heap)) n) ∙ made in enough (made_birth state I r next) (drawn node n next)
+        let next = sym (ap (λ x. if_made x (next_ref state.heap)) n) ∙ made in enough (drawn_birth state I r next) (drawn node n next)
 births_made state I s o after (Ends {actor} {operation} d is a) r e =
     absurd (none-some r (sym (ap (λ x. if_made x (next_ref state.heap)) (ap (made_node state) a)) ∙ ap (made_by state) (sym is) ∙ e))
 births_made state I s o after (Sweeps spent) r e = absurd (none-some r e)
@@ -125,7 +122,7 @@ module _ (lv : Ref → ℕ) (state : State) (I : IsSafe state) (s : Step) (steps
   agrees_by o after m agrees = (
     (λ actor operation node made is running n e.
         let its = made_is actor operation node made is running n e in
-        agrees made (above made (made_birth state I made e)) ∙ given_here (levels_from after steps made) made its ∙ level_is actor operation is running),
+        agrees made (above made (drawn_birth state I made e)) ∙ given_here (levels_from after steps made) made its ∙ level_is actor operation is running),
     (λ r high. agrees r (still_above r (births_grow _ _ _ _ _ _ ((step_effect state I s o after m).3)) high) ∙ given_later (levels_from after steps r) r (λ e. too_high r (births_made state I s o after m r e) high)),
   )
     where
@@ -177,7 +174,7 @@ old_by : (state : State) → IsSafe state → (s : Step) (steps : List Step) (an
     ((after : State) → IsSafe after → birth_of r ≤ after.heap.births → levels_from after steps r ≡ 1) → given state s answer (levels_from (state_after state answer) steps r) r ≡ 1
 old_by state I s steps (Err why) m r low go_on = go_on state I low
 old_by state I s steps (Ok done) m r low go_on =
-    given_later (λ r. 1) state I s steps (levels_from done.1 steps r) r (λ e. too_low (made_birth state I r (made_next state s r e)) low)
+    given_later (λ r. 1) state I s steps (levels_from done.1 steps r) r (λ e. too_low (drawn_birth state I r (made_next state s r e)) low)
     ∙ go_on done.1 (safe_after state I s done.0 done.1 m) (still (births_grow _ _ _ _ _ _ ((step_effect state I s done.0 done.1 m).3)) low)
   where
     too_low : birth_of r ≡ state.heap.births + 1 → birth_of r ≤ state.heap.births → ⊥

@@ -1,5 +1,5 @@
 -- What several programs' lines share: paths, positions, and the lines to which several programs lead.
-use Rattle.std.proofs.Common.{◌≡◌, ℕ, ◌-◌, ◌^◌, ◌<◌, ◌≤◌, ◌==◌, ◌&&◌, Bool, true, false, not, nat_lt, nat_le, List, [], ◌∷◌, ◌++◌, length, sym, ap, ◌∙◌, ltb-true, lt-ltb, leb-true, ltb-false, eq-eqb, arith}
+use Rattle.std.proofs.Common.{◌≡◌, ℕ, ◌-◌, ◌^◌, ◌<◌, ◌≤◌, ◌==◌, ◌&&◌, Bool, true, false, not, nat_lt, nat_le, List, ◌∷◌, ◌++◌, length, sym, ap, ◌∙◌, ltb-true, lt-ltb, leb-true, ltb-false, eq-eqb, arith, []}
 use Rattle.std.specs.Prelude.{bit_and, count_ones}
 use Rattle.std.proofs.lemmas.Bool.{false≢true, and_parts, not_from_true, le-leb, eqb-true, eqb-false}
 use Rattle.std.proofs.lemmas.List.{length-append, length-take-le}
@@ -61,10 +61,6 @@ above_long path h =
 
 pub pushed_long : (path : List Ref) (below : Ref) → nat_lt 0 (length (path ++ below ∷ [])) ≡ true
 pushed_long path below = lt-ltb 0 (length (path ++ below ∷ [])) (omega (arith, length-append path (below ∷ [])))
-
--- a path with two has one
-pub one_of_two : (path : List Ref) → nat_lt 1 (length path) ≡ true → nat_lt 0 (length path) ≡ true
-one_of_two path h = let two : 1 < length path = ltb-true 1 (length path) h in lt-ltb 0 (length path) (omega arith)
 
 -- ---- entries
 

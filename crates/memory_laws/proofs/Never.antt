@@ -1,5 +1,5 @@
 -- Where no tomb stands at the end of a path of one indirection and no list is a parent in CLIMB, no operation comes to the impossible line.
-use Rattle.std.proofs.Common.{◌≡◌, ℕ, suc, ◌≤◌, Option, Some, None, get_or, sym, subst, arith}
+use Rattle.std.proofs.Common.{◌≡◌, ℕ, Option, Some, None, get_or, subst}
 use Rattle.history.specs.declared.calls.Call.{Call}
 use Rattle.history.specs.declared.calls.Call.TheVariants.{Close, Entries}
 use Rattle.machine_model.specs.declared.operations.Operation.{Operation}
@@ -12,11 +12,9 @@ use Rattle.machine_model.specs.Acting.{operation_after}
 use Rattle.machine_model.proofs.Found.{none_found}
 use Rattle.machine_model.proofs.Moves.{Moves}
 use Rattle.machine_model.proofs.Actors.{mark_one, mark_only}
-use Rattle.machine_model.proofs.Times.{IsRun, Turn, turns, along_run}
 use Rattle.memory_laws.proofs.Guards.{Safe}
 use Rattle.memory_laws.proofs.EachStep.{each_after}
 use Rattle.memory_laws.proofs.Safety.{IsSafe, heaped}
-use Rattle.memory_laws.proofs.AtEachTime.{safe_at}
 use Rattle.memory_laws.proofs.Impossible.{IsImpossible, IsStrange, impossible_strange}
 
 -- no running operation is on a line of which P holds
@@ -44,13 +42,3 @@ never_after state I strange before s o after m =
 pub none_at_first : (limits : Limits) → NoneRuns (λ state operation. IsImpossible operation.line) (first_state limits)
 unfolding first_state
 none_at_first limits k operation found i = none_found limits.actors k operation found
-
-pub never_impossible : (limits : Limits) (states : ℕ → State) (last : ℕ) → IsRun limits states last →
-    ((t : ℕ) → t ≤ last → NoneRuns (λ state operation. IsStrange state operation.line) (states t)) → (t : ℕ) → t ≤ last → NoneRuns (λ state operation. IsImpossible operation.line) (states t)
-never_impossible limits states last r strange =
-    along_run limits states last r (λ t. NoneRuns (λ state operation. IsImpossible operation.line) (states t)) (subst (NoneRuns (λ state operation. IsImpossible operation.line)) (sym r.first) (none_at_first limits))
-    (λ t h turn before. by_turn (states t) (states (suc t)) (safe_at limits states last r t (omega arith)) (strange t (omega arith)) before turn)
-  where
-    by_turn : (before after : State) → IsSafe before → NoneRuns (λ state operation. IsStrange state operation.line) before → NoneRuns (λ state operation. IsImpossible operation.line) before → Turn before after →
-        NoneRuns (λ state operation. IsImpossible operation.line) after
-    by_turn before after I s h (turns x o m) = never_after before I s h x o after m

@@ -1,5 +1,5 @@
 -- What a line wants gives what the line after it wants, once the step is taken.
-use Rattle.std.proofs.Common.{◌≡◌, ℕ, ◌+◌, ◌==◌, Bool, true, false, nat_lt, List, [], ◌∷◌, ◌++◌, Option, Some, None, length, refl, ap, ◌∙◌}
+use Rattle.std.proofs.Common.{◌≡◌, ℕ, ◌+◌, ◌==◌, Bool, true, false, nat_lt, List, ◌∷◌, ◌++◌, Option, Some, None, length, refl, ap, ◌∙◌, []}
 use Rattle.std.proofs.lemmas.Bool.{false≢true, cond_both}
 use Rattle.std.specs.Prelude.{is_some}
 use Rattle.history.specs.declared.calls.Access.TheVariants.{ReadOnly}
@@ -48,7 +48,7 @@ use Rattle.machine_model.specs.Walking.{walk_after}
 use Rattle.machine_model.specs.Operations.{line_action, line_after}
 use Rattle.memory_laws.specs.Wants.{Wanted, AnIndirection, AMain, ABranch, BranchOrList, AnEntry, ASingle, WithEntry, AtMost, meets, Claim, Is, Each, So, Holds, is, so, AllHold, word_wants, line_wants, build_wants, update_wants, renew_wants, clean_wants, climb_wants, climb_carries, copy_wants, walk_wants}
 use Rattle.memory_laws.proofs.Claims.{safe_of, meets_of, is_also, fact_of, carried, all_carried, Carries}
-use Rattle.memory_laws.proofs.Nodes.{Heaped, branch_entries, at_position, branch_main, both_main, branch_both}
+use Rattle.memory_laws.proofs.Nodes.{Heaped, IsNoLink, branch_entries, at_position, branch_main, both_main, branch_both, main_no_link}
 use Rattle.memory_laws.proofs.Rooting.{root_next, complete_next}
 use Rattle.memory_laws.proofs.Lines.{current_is, above_each, above_long, none_each, pushed_each, at_most}
 use Rattle.memory_laws.proofs.Keys.{step_next, key_next}
@@ -63,10 +63,10 @@ made_node state action = None
 
 -- ---- main nodes
 
-pair_main : (kind : HashKind) (depth a b : ℕ) (x y : Ref) → meets AMain (pair kind depth a b x y) ≡ true
+pub pair_main : (kind : HashKind) (depth a b : ℕ) (x y : Ref) → meets AMain (pair kind depth a b x y) ≡ true
 pair_main kind depth a b x y = cond_both (depth == list_depth kind) _ _ (λ node. meets AMain node ≡ true) (λ e. refl) (λ e. refl)
 
-changed_main : (flag : ℕ) (node : Node) (c : Change) → meets BranchOrList node ≡ true → meets AMain (changed flag node c) ≡ true
+pub changed_main : (flag : ℕ) (node : Node) (c : Change) → meets BranchOrList node ≡ true → meets AMain (changed flag node c) ≡ true
 changed_main flag (Branch bitmap entries) (change.Insert single) b = refl
 changed_main flag (Branch bitmap entries) (change.Update position entry) b = refl
 changed_main flag (Branch bitmap entries) (change.Remove position) b = refl
@@ -77,11 +77,20 @@ changed_main flag (Listed singles) (change.Remove position) b = refl
 changed_main flag (Listed singles) (change.Entomb single) b = refl
 changed_main flag node c b = absurd (false≢true b)
 
-contracted_main : (may : Bool) (bitmap : ℕ) (es : List Ref) → meets AMain (contracted may bitmap es) ≡ true
+pub contracted_main : (may : Bool) (bitmap : ℕ) (es : List Ref) → meets AMain (contracted may bitmap es) ≡ true
 contracted_main true bitmap [] = refl
 contracted_main true bitmap (single ∷ []) = refl
 contracted_main true bitmap (x ∷ y ∷ es) = refl
 contracted_main false bitmap es = refl
+
+pub pair_no_link : (kind : HashKind) (depth a b : ℕ) (x y : Ref) → IsNoLink (pair kind depth a b x y)
+pair_no_link kind depth a b x y = main_no_link (pair kind depth a b x y) (pair_main kind depth a b x y)
+
+pub changed_no_link : (flag : ℕ) (node : Node) (c : Change) → meets BranchOrList node ≡ true → IsNoLink (changed flag node c)
+changed_no_link flag node c b = main_no_link (changed flag node c) (changed_main flag node c b)
+
+pub contracted_no_link : (may : Bool) (bitmap : ℕ) (es : List Ref) → IsNoLink (contracted may bitmap es)
+contracted_no_link may bitmap es = main_no_link (contracted may bitmap es) (contracted_main may bitmap es)
 
 module _ (state : State) (operation : Operation) (S : Ref → Type 0) (H : Heaped S state.heap)
     (T : Ref → Type 0) (after : Heap) (carries : Carries S state.heap T after) where

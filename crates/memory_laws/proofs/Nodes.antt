@@ -1,12 +1,12 @@
 -- What is read from a node or a prev word, where what stands in what is safe is safe and as wanted.
-use Rattle.std.proofs.Common.{◌≡◌, ℕ, true, List, [], ◌∷◌, All, length, refl, ltb-true}
+use Rattle.std.proofs.Common.{◌≡◌, ℕ, true, false, List, ◌∷◌, All, length, refl, sym, ap, ◌∙◌, ltb-true, []}
 use Rattle.std.proofs.lemmas.Bool.{false≢true}
 use Rattle.std.proofs.lemmas.List.Elements.{All-weaker, All-nil, All-cons}
 use Rattle.slot_arena.specs.declared.refs.Ref.{Ref}
 use Rattle.slot_arena.specs.declared.nodes.Node.{Node}
 use Rattle.slot_arena.specs.declared.nodes.Node.TheVariants.{Indirection, Branch, Single, Tomb, List as Listed}
 use Rattle.slot_arena.specs.Heaps.{Heap, node_at, prev_at, main_at, main_of, entry_at, entries_of, no_ref}
-use Rattle.memory_laws.specs.Wants.{Wanted, AnIndirection, AMain, ABranch, AList, BranchOrList, TombOrList, AnEntry, ASingle, WithEntry, meets, is_formed, Is, Holds, AllHold, node_wants, prev_wants}
+use Rattle.memory_laws.specs.Wants.{Wanted, AnIndirection, AMain, ABranch, AList, BranchOrList, TombOrList, AnEntry, ASingle, WithEntry, meets, is_formed, is_indirection, Is, Holds, AllHold, node_wants, prev_wants}
 use Rattle.memory_laws.proofs.Claims.{Meets, safe_of, meets_of, all_of}
 
 pub record Heaped (S : Ref → Type 0) (heap : Heap) : Type 0 where
@@ -41,6 +41,22 @@ branch_both node e = absurd (false≢true e)
 pub list_both : (node : Node) → meets AList node ≡ true → meets BranchOrList node ≡ true
 list_both (Listed singles) e = refl
 list_both node e = absurd (false≢true e)
+
+-- what is no indirection has no main word
+pub no_main : (node : Node) → is_indirection node ≡ false → main_of node ≡ no_ref
+no_main (Indirection generation main) e = absurd (false≢true (sym e))
+no_main node e = refl
+
+pub main_plain : (node : Node) → meets AMain node ≡ true → is_indirection node ≡ false
+main_plain (Indirection generation main) e = absurd (false≢true e)
+main_plain node e = refl
+
+-- it is no indirection
+abbrev pub IsNoLink : Node → Type 0
+IsNoLink node = (generation : ℕ) (main : Ref) → node ≡ Indirection generation main → ⊥
+
+pub main_no_link : (node : Node) → meets AMain node ≡ true → IsNoLink node
+main_no_link node e generation main is = false≢true (sym (main_plain node e) ∙ ap is_indirection is)
 
 module _ (S : Ref → Type 0) (heap : Heap) where
   singles_entries : (rs : List Ref) → All (Meets S heap ASingle) rs → All (Meets S heap AnEntry) rs

@@ -1,5 +1,5 @@
 -- RENEW, CLEAN and CLIMB: what their lines want gives what the lines after them do, where a step makes no node.
-use Rattle.std.proofs.Common.{◌≡◌, nat_lt, nat_eq, List, [], ◌∷◌, ◌++◌, length, refl}
+use Rattle.std.proofs.Common.{◌≡◌, nat_lt, nat_eq, List, ◌∷◌, ◌++◌, length, refl, []}
 use Rattle.std.proofs.lemmas.Bool.{and_parts, cond_both}
 use Rattle.slot_arena.specs.declared.refs.Ref.{Ref}
 use Rattle.slot_arena.specs.declared.nodes.Node.{Node}
@@ -38,10 +38,6 @@ module _ (state : State) (operation : Operation) (S : Ref → Type 0) (H : Heape
 
   abbrev IsPath : List Ref → Type 0
   IsPath path = Holds S state.heap (Each path AnIndirection) × Holds S state.heap (So (nat_lt 0 (length path)))
-
-  -- the entry that comes next
-  next_in : (main : Ref) (done : List Ref) → At main ABranch → At main (WithEntry (length done)) → S (next_entry state main done)
-  next_in main done m w = (at_position S state.heap AnEntry (length done) (branch_entries S state.heap H m) w).0
 
   -- ---- RENEW
 

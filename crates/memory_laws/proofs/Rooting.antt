@@ -1,5 +1,5 @@
 -- READ, COMPLETE and ROOT: what their lines want gives what their steps want, and what the lines after them do.
-use Rattle.std.proofs.Common.{◌==◌, Bool, true, false, List, [], ◌∷◌}
+use Rattle.std.proofs.Common.{◌==◌, Bool, true, false, List, ◌∷◌, []}
 use Rattle.history.specs.declared.calls.Access.{Access}
 use Rattle.history.specs.declared.calls.Access.TheVariants.{Writable, ReadOnly}
 use Rattle.slot_arena.specs.declared.refs.Ref.{Ref}
@@ -66,15 +66,6 @@ module _ (S : Ref → Type 0) (heap : Heap) where
   pub root_acts : (l : RootLine) → AllHold S heap (root_wants l) → AllHold S heap (action_wants (root_action l))
   root_acts root.Read h = tt
   root_acts (root.Completing c) h = complete_acts c.offer c.line h
-
-  -- each READ wants its indirection
-  pub its_indirection : (i : Ref) (l : ReadLine) → AllHold S heap (read_wants i l) → Holds S heap (Is i AnIndirection)
-  its_indirection i read.Main h = h.0
-  its_indirection i (read.Prev main) h = h.0
-  its_indirection i (read.AskRoot main previous) h = h.0
-  its_indirection i (read.Abort main previous offer) h = h.0
-  its_indirection i (read.Decide main previous told) h = h.0
-  its_indirection i (read.Restore main previous) h = h.0
 
   -- ---- what comes after
 

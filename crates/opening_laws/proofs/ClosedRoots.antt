@@ -1,9 +1,7 @@
 -- After the generation of a root was closed no main node of that root is replaced; and roots of one generation are one.
 use Rattle.std.proofs.Common.{◌≡◌, ℕ, ◌≤◌, true, Some, is_some, refl, sym, ap, ◌∙◌, arith}
 use Rattle.slot_arena.specs.declared.refs.Ref.{Ref}
-use Rattle.slot_arena.specs.declared.nodes.Node.{Node}
-use Rattle.slot_arena.specs.declared.nodes.Node.TheVariants.{Indirection}
-use Rattle.slot_arena.specs.Heaps.{node_at, node_of, logical_main, with_main_word}
+use Rattle.slot_arena.specs.Heaps.{node_at, node_of, logical_main}
 use Rattle.machine_model.specs.declared.roots.Root.{Root}
 use Rattle.machine_model.specs.declared.roots.RootWord.{RootWord}
 use Rattle.machine_model.specs.declared.roots.RootWord.TheVariants.{Plain, Offer}
@@ -24,6 +22,7 @@ use Rattle.generation_laws.specs.Laws.{root_generation}
 use Rattle.content_laws.specs.Runs as trie
 use Rattle.content_laws.specs.Runs.{main_at}
 use Rattle.content_laws.proofs.Runs.{main_at-made}
+use Rattle.deciding_laws.proofs.GrownWords.{link_kept}
 use Rattle.opening_laws.specs.Openings.{IsRootOf}
 use Rattle.opening_laws.specs.Laws.{OneRootIn, ClosedRootsStayIn}
 use Rattle.opening_laws.proofs.Closings.{ClosesSo, closing_swaps}
@@ -32,10 +31,6 @@ use Rattle.opening_laws.proofs.InUse.{nodes_stay}
 use Rattle.opening_laws.proofs.NoLateCommit.{no_late_commit}
 use Rattle.opening_laws.proofs.RootOf.{roots_are_one, root_in_use}
 use Rattle.opening_laws.proofs.SwapState.{old_stands}
-
-link_kept : (m : Ref) (n : Node) → is_indirection (with_main_word m n) ≡ is_indirection n
-link_kept m (Indirection g word) = refl
-link_kept m n = refl
 
 module _ (limits : Limits) (states : ℕ → State) (last : ℕ) (run : IsRun limits states last) where
   stands : (t handle : ℕ) (root : Root) → root_at (states t) handle ≡ Some root → IsRootOf states t handle (root_of root.word) (root_generation (states t) root)

@@ -1,8 +1,6 @@
 -- Where the fresh roots that an operation is to offer come from in a step: its line had them, or has just made them.
 use Rattle.std.proofs.Common.{◌≡◌, ℕ, suc, Bool, inl, inr, Some, sym, ap, ◌∙◌}
 use Rattle.std.proofs.lemmas.Option.{none-some, same_Some}
-use Rattle.history.specs.declared.calls.Call.{Call}
-use Rattle.history.specs.declared.calls.Call.TheVariants.{Entries, Count, Close}
 use Rattle.slot_arena.specs.declared.refs.Ref.{Ref}
 use Rattle.slot_arena.specs.declared.nodes.Node.{Node}
 use Rattle.slot_arena.specs.declared.nodes.Node.TheVariants.{Indirection}
@@ -13,7 +11,7 @@ use Rattle.machine_model.specs.declared.steps.Outcome.{Outcome}
 use Rattle.machine_model.specs.declared.steps.Step.{Step}
 use Rattle.machine_model.specs.declared.steps.Step.TheVariants as step
 use Rattle.machine_model.specs.States.{State, operation_of}
-use Rattle.machine_model.specs.Operations.{action_of, first_line, line_after}
+use Rattle.machine_model.specs.Operations.{action_of, line_after}
 use Rattle.machine_model.proofs.Moves.{Moves, Begins, Goes, Ends, Sweeps}
 use Rattle.memory_laws.proofs.Guards.{Safe}
 use Rattle.memory_laws.proofs.Next.{made_node}
@@ -24,12 +22,7 @@ use Rattle.generation_laws.proofs.Running.{Runs, comes}
 use Rattle.generation_laws.proofs.Handles.{Ran, ran_or_began}
 use Rattle.generation_laws.proofs.RootsKept.{safe_kept, fresh_in, fresh_safe, fresh_from, FreshFrom, had, new, makes_first}
 use Rattle.generation_laws.proofs.RootsAlong.{IsOrdered}
-
-first_none : (call : Call) (x : Bool) (r : Ref) → fresh_in x (first_line call) ≡ Some r → ⊥
-first_none (Entries h) x r e = none-some r e
-first_none (Count h) x r e = none-some r e
-first_none (Close h) x r e = none-some r e
-first_none call x r e = none-some r e
+use Rattle.generation_laws.proofs.Roots.{first_none}
 
 -- what a step makes stands behind it
 pub stands_made : (state : State) (S : IsSafe state) (s : Step) (o : Outcome) (after : State) → Moves state s o after → (k : ℕ) (was : Operation) → s ≡ step.Go (suc k) → Runs state k was → (node : Node) (r : Ref) →

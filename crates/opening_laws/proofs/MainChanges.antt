@@ -22,7 +22,7 @@ use Rattle.generation_laws.proofs.Running.{place_of_actor}
 use Rattle.generation_laws.proofs.OpenRoots.{no_close_at}
 use Rattle.generation_laws.proofs.Roots.{IsUnused}
 use Rattle.generation_laws.proofs.Rooted.{rooted_at}
-use Rattle.falling_laws.proofs.Paths.{swaps_in_own_generation}
+use Rattle.falling_laws.proofs.OwnSwaps.{swaps_in_own_generation}
 use Rattle.opening_laws.proofs.CompleteTimes.{w, known_run}
 use Rattle.memory_laws.specs.Wants.{is_indirection}
 use Rattle.falling_laws.proofs.FreshRoots.{not_rooted}

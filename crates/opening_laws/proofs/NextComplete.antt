@@ -1,7 +1,6 @@
 -- Where the COMPLETE of a line comes from in a step: it goes on, or it is at its first line.
-use Rattle.std.proofs.Common.{◌≡◌, Bool, true, false, cond, ◌||◌, inl, inr, [], Some, None, refl, sym, ap, ◌∙◌, arith}
+use Rattle.std.proofs.Common.{◌≡◌, Bool, true, false, cond, ◌||◌, inl, inr, Some, None, refl, sym, ap, ◌∙◌, arith, []}
 use Rattle.std.proofs.lemmas.Option.{none-some, same_Some}
-use Rattle.history.specs.declared.calls.Call.{Call}
 use Rattle.slot_arena.specs.declared.refs.Ref.{Ref}
 use Rattle.slot_arena.specs.Heaps.{generation_at}
 use Rattle.machine_model.specs.declared.copying.CopyLine.{CopyLine}
@@ -39,8 +38,8 @@ use Rattle.machine_model.specs.Finding.{key_after_read}
 use Rattle.machine_model.specs.Climbing.{climbed, climbing, climb_after_root}
 use Rattle.machine_model.specs.Copying.{copy_after_complete, copied_reply, after_offer}
 use Rattle.machine_model.specs.Swapping.{complete_after, completing, after_root_word, after_completing, is_plain}
-use Rattle.machine_model.specs.Operations.{line_after, after_root, from_root}
-use Rattle.generation_laws.proofs.OfferLines.{completing_of, CompletesFrom, completes_after}
+use Rattle.machine_model.specs.Operations.{line_after, after_root}
+use Rattle.generation_laws.proofs.OfferLines.{completing_of, CompletesFrom, completes_after, from_root_none}
 
 pub data ComesFrom (state : State) (operation : Operation) (l : Line) (c : Complete) : Type 0 where
   -- it begins
@@ -95,9 +94,6 @@ module _ (state : State) (operation : Operation) (c : Complete) where
 
   -- ---- ROOT
 
-  from_none : (call : Call) (r : Ref) → completing_of (from_root call r) ≡ None
-  from_none call r = grind arith
-
   started : (offer : Descriptor) → Some (completing offer) ≡ Some c → c.line ≡ complete.Reading read.Main
   started offer e = ap (λ (x : Complete). x.line) (sym (same_Some (completing offer) c e))
 
@@ -105,7 +101,7 @@ module _ (state : State) (operation : Operation) (c : Complete) where
   root_comes root.Read e = by (word_at state (handle_of operation.call)) e
     where
       by : (word : RootWord) → completing_of (after_root operation (after_root_word word)) ≡ Some c → ComesFrom state operation (line.Root root.Read) c
-      by (Plain r) e = absurd (none-some c (sym (from_none operation.call r) ∙ e))
+      by (Plain r) e = absurd (none-some c (sym (from_root_none operation.call r) ∙ e))
       by (Offer offer) e = starts (started offer e)
   root_comes (root.Completing d) e = by (complete_after state.heap operation.access (word_at state (handle_of operation.call)) d) refl e
     where

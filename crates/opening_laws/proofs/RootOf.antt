@@ -1,16 +1,13 @@
 -- The root of a generation, as the trie of a run has it, is that of the handle whose root has the generation.
-use Rattle.std.proofs.Common.{◌≡◌, ℕ, zero, suc, ◌≤◌, ◌==◌, Bool, true, false, cond, ◌⊎◌, inl, inr, List, [], ◌∷◌, Option, Some, None, get_or, unwrap_or, refl, sym, ap, ◌∙◌, subst, arith, eqb-true, eq-eqb}
+use Rattle.std.proofs.Common.{◌≡◌, ℕ, zero, suc, ◌≤◌, ◌==◌, Bool, true, false, cond, ◌⊎◌, inl, inr, List, ◌∷◌, Option, Some, None, get_or, unwrap_or, refl, sym, ap, ◌∙◌, subst, arith, eqb-true, eq-eqb, []}
 use Rattle.std.proofs.lemmas.Bool.{cases_eq}
 use Rattle.std.proofs.lemmas.Option.{none-some, same_Some}
-use Rattle.history.specs.declared.calls.Access.{Access}
-use Rattle.history.specs.declared.calls.Access.TheVariants.{Writable}
 use Rattle.slot_arena.specs.declared.refs.Ref.{Ref}
 use Rattle.slot_arena.specs.Heaps.{Heap, generation_at, generation_of}
 use Rattle.machine_model.specs.declared.roots.Root.{Root}
 use Rattle.machine_model.specs.declared.roots.RootWord.{RootWord}
 use Rattle.machine_model.specs.declared.roots.RootWord.TheVariants.{Plain, Offer}
 use Rattle.machine_model.specs.declared.steps.Limits.{Limits}
-use Rattle.machine_model.specs.States as state
 use Rattle.machine_model.specs.States.{State, root_of}
 use Rattle.machine_model.proofs.Grown.{node_under}
 use Rattle.machine_model.proofs.Times.{IsRun}
@@ -22,7 +19,6 @@ use Rattle.memory_laws.proofs.AtTimes.{generation_found}
 use Rattle.memory_laws.proofs.WordMoves.{grown_in_use}
 use Rattle.generation_laws.proofs.Counter.{generation_stays}
 use Rattle.content_laws.specs.Runs.{or_before, root_if, root_among, root_until, root_at}
-use Rattle.order_laws.specs.Facts.{HasStood, standing_of}
 use Rattle.opening_laws.specs.Openings.{IsRootOf, RootsAreOne}
 use Rattle.opening_laws.proofs.OneRoot.{one_at}
 
@@ -126,17 +122,3 @@ module _ (limits : Limits) (states : ℕ → State) (last : ℕ) (run : IsRun li
           let used = root_in_use t handle r generation within is in
           generation_stays limits states last run t last within (omega arith) r used.0 (grown_in_use states t r used.0 used.1)
           ∙ sym (generation_found states t r used) ∙ is.its
-
-  -- a generation that stood on a handle has its root
-  pub stood_root : (t generation : ℕ) → t ≤ last → HasStood states t generation → generation_of (node_under states last (root_at states last generation)) ≡ generation
-  stood_root t generation within (u, handle, le, on) = by (state.root_at (states u) handle) refl on
-    where
-      gens : (p q : Access × ℕ) → Some p ≡ Some q → p.1 ≡ q.1
-      gens p q e = ap (λ (x : Access × ℕ). x.1) (same_Some p q e)
-
-      by : (o : Option Root) → state.root_at (states u) handle ≡ o → standing_of (states u).heap o ≡ Some (Writable, generation) →
-          generation_of (node_under states last (root_at states last generation)) ≡ generation
-      by None e is = absurd (none-some _ is)
-      by (Some root) e is =
-          let one = roots_are_one u handle (root_of root.word) generation (omega arith) (record { root = root; is_open = e; is = refl; its = gens _ (Writable, generation) is }) in
-          ap (λ r. generation_of (node_under states last r)) one.0 ∙ one.1

@@ -1,10 +1,7 @@
 -- What handles show: at the end each open one the content of its root's generation, and at first the first generation nothing.
 use Rattle.std.proofs.Common.{◌≡◌, ℕ, true, refl, sym, ◌∙◌, arith}
-use Rattle.std.proofs.lemmas.Bool.{false≢true}
 use Rattle.std.specs.FinMap as map
 use Rattle.slot_arena.specs.declared.refs.Ref.{Ref}
-use Rattle.slot_arena.specs.declared.nodes.Node.{Node}
-use Rattle.slot_arena.specs.declared.nodes.Node.TheVariants.{Indirection, Branch, Single, Tomb, List as Listed}
 use Rattle.slot_arena.specs.Heaps.{node_at, generation_at}
 use Rattle.machine_model.specs.declared.roots.RootWord.{RootWord}
 use Rattle.machine_model.specs.declared.roots.RootWord.TheVariants.{Plain, Offer}
@@ -21,17 +18,10 @@ use Rattle.content_laws.specs.Steps.{IsTrie}
 use Rattle.content_laws.specs.Tries.{content}
 use Rattle.content_laws.proofs.HeapPairs.{content_is}
 use Rattle.content_laws.proofs.Started.{starts_empty}
+use Rattle.falling_laws.proofs.ReaderKnows.{indirection_is}
 use Rattle.opening_laws.specs.Openings.{IsRootOf, HandlesShow}
 use Rattle.opening_laws.proofs.InUse.{nodes_stay, reaches_in_use}
 use Rattle.opening_laws.proofs.RootOf.{roots_are_one, root_in_use}
-
--- what is taken for an indirection is one
-is_indirection : (n : Node) → meets AnIndirection n ≡ true → (g : ℕ) × (word : Ref) × (n ≡ Indirection g word)
-is_indirection (Indirection g word) e = (g, word, refl)
-is_indirection (Branch bitmap entries) e = absurd (false≢true e)
-is_indirection (Single key value) e = absurd (false≢true e)
-is_indirection (Tomb single) e = absurd (false≢true e)
-is_indirection (Listed singles) e = absurd (false≢true e)
 
 module _ (limits : Limits) (states : ℕ → State) (last : ℕ) (run : IsRun limits states last) where
   pub handles_show : HandlesShow limits states last
@@ -39,7 +29,7 @@ module _ (limits : Limits) (states : ℕ → State) (last : ℕ) (run : IsRun li
       let g = generation_at (states last).heap (root_of root.word) in
       let stands : IsRootOf states last handle (root_of root.word) g = record { root = root; is_open = e; is = refl; its = refl } in
       let used = root_in_use limits states last run last handle (root_of root.word) g (omega arith) stands in
-      let node = is_indirection (node_at (states last).heap (root_of root.word)) (by root.word ((safe_at limits states last run last (omega arith)).words handle root e)) in
+      let node = indirection_is (node_at (states last).heap (root_of root.word)) (by root.word ((safe_at limits states last run last (omega arith)).words handle root e)) in
       content_is states last (reaches_in_use limits states last run last (omega arith)) limits depth path ok handle root g node.0 node.1 e
       (roots_are_one limits states last run last handle (root_of root.word) g (omega arith) stands).0 (sym (node_found states last (root_of root.word) used) ∙ node.2)
     where

@@ -25,9 +25,8 @@ use Rattle.machine_model.proofs.Times.{IsRun, at_each_time}
 use Rattle.machine_model.proofs.Actors.{mark_one, mark_only, marks_in, marks_by, marks_of}
 use Rattle.generation_laws.proofs.Marks.{marks_mark}
 use Rattle.generation_laws.proofs.Offers.{offer_line}
-use Rattle.generation_laws.proofs.Running.{place_of_actor, one_at}
+use Rattle.generation_laws.proofs.Running.{place_of_actor, one_at, at_place}
 use Rattle.order_laws.specs.Facts.{Runs, IsReply, CarriesOut}
-use Rattle.order_laws.proofs.Running.{at_place}
 use Rattle.order_laws.proofs.Books.{one_by_id, begin_events}
 use Rattle.order_laws.proofs.AllBooks.{gone_events}
 use Rattle.order_laws.proofs.Growing.{IsKept, ended_before, events_grow, holds_later}

@@ -1,5 +1,5 @@
 -- What the history says of the running operations: it is well formed, and those run that have begun and not ended.
-use Rattle.std.proofs.Common.{◌≡◌, ℕ, suc, ◌-◌, ◌<◌, ◌≤◌, cond, inl, inr, List, [], ◌∷◌, ◌++◌, set, get_or, take, length, Option, Some, None, slice_get, refl, sym, ap, ◌∙◌, subst, take_all, length-set, arith}
+use Rattle.std.proofs.Common.{◌≡◌, ℕ, suc, ◌-◌, ◌<◌, ◌≤◌, cond, inl, inr, List, ◌∷◌, ◌++◌, set, get_or, take, length, Option, Some, None, slice_get, refl, sym, ap, ◌∙◌, subst, take_all, length-set, arith, []}
 use Rattle.std.proofs.lemmas.List.{get_or-set_same}
 use Rattle.std.proofs.lemmas.Option.{slice_get_within}
 use Rattle.history.specs.declared.calls.Call.{Call}
@@ -18,9 +18,9 @@ use Rattle.machine_model.specs.Calls.{opens_handle}
 use Rattle.machine_model.specs.States.{State}
 use Rattle.machine_model.specs.Machine.{begin_denial, with_begin, least_free}
 use Rattle.machine_model.proofs.Moves.{Moves, begun_operation}
-use Rattle.generation_laws.proofs.Running.{one_at}
+use Rattle.generation_laws.proofs.Running.{one_at, begin_not_running}
 use Rattle.order_laws.specs.Facts.{Runs}
-use Rattle.order_laws.proofs.Running.{begin_not_running, IsSame, IsBegun, IsEnded, ran_before, runs_on}
+use Rattle.order_laws.proofs.Running.{IsSame, IsBegun, IsEnded, ran_before, runs_on}
 
 -- ---- histories
 

@@ -1,5 +1,5 @@
 -- What a step changes in the order, in the closed generations and in the handles: one constructor for each kind of change.
-use Rattle.std.proofs.Common.{◌≡◌, ℕ, ◌==◌, ◌&&◌, Bool, true, false, cond, inl, inr, List, set, get_or, length, Option, Some, None, refl, sym, ap, ◌∙◌, subst, arith, eqb-true}
+use Rattle.std.proofs.Common.{◌≡◌, ℕ, ◌==◌, ◌&&◌, Bool, true, false, cond, inl, inr, List, set, get_or, length, Option, Some, None, refl, sym, ap, ◌∙◌, subst, arith}
 use native.Mathlib.Decide.{ℕ_discrete}
 use Rattle.std.proofs.lemmas.Bool.{cases_lt, true≢false, false≢true}
 use Rattle.std.proofs.lemmas.List.{get_or_past, get_or-set_same, length-set}
@@ -24,6 +24,7 @@ use Rattle.machine_model.specs.Orders.{committed_in}
 use Rattle.machine_model.specs.Acting.{if_changed, acted, aborted, offered, completed, carried_out, opened, opened_root, new_root_taken}
 use Rattle.machine_model.proofs.Found.{found_elsewhere}
 use Rattle.generation_laws.specs.Laws.{settles}
+use Rattle.generation_laws.proofs.Footings.{plain_root}
 
 -- ---- the roots of handles
 
@@ -98,10 +99,6 @@ taken_back : (state : State) (handle : ℕ) (offer : Descriptor) (b : Bool) → 
     footing (if_changed b (with_word state handle (Plain offer.root)) state) other ≡ footing state other
 taken_back state handle offer true e other = footing_written state handle (Plain offer.root) (ap root_of (sym (e refl))) other
 taken_back state handle offer false e other = refl
-
-plain_root : (word : RootWord) (root : Ref) → is_plain word root ≡ true → root ≡ root_of word
-plain_root (Plain r) root e = sym (eqb-true r root e)
-plain_root (Offer offer) root e = absurd (false≢true e)
 
 put_up : (state : State) (handle : ℕ) (offer : Descriptor) (b : Bool) → (b ≡ true → offer.root ≡ root_of (word_at state handle)) → (other : ℕ) →
     footing (if_changed b (with_word state handle (Offer offer)) state) other ≡ footing state other

@@ -23,9 +23,8 @@ use Rattle.machine_model.proofs.Moves.{Moves, Begins, Goes, Ends, Sweeps, GoesOn
 use Rattle.machine_model.proofs.Found.{none_found}
 use Rattle.machine_model.proofs.Times.{IsRun, at_each_time}
 use Rattle.machine_model.proofs.Actors.{IsOf, is_of, mark_one, mark_only, of_others, of_itself, of_begin, of_end}
-use Rattle.generation_laws.proofs.Running.{place_of_actor}
+use Rattle.generation_laws.proofs.Running.{place_of_actor, at_place}
 use Rattle.order_laws.specs.Facts.{Runs}
-use Rattle.order_laws.proofs.Running.{at_place}
 use Rattle.order_laws.proofs.Books.{Books, begin_events, ended_below}
 use Rattle.order_laws.proofs.AllBooks.{books_kept, gone_events, first_books}
 use Rattle.order_laws.proofs.Growing.{IsKept}

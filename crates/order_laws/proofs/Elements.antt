@@ -1,5 +1,5 @@
 -- Which elements a list has, by recursion on it: what stands among them, what holds of each, and what a filter keeps.
-use Rattle.std.proofs.Common.{◌≡◌, ℕ, zero, suc, ◌<◌, ◌≤◌, ◌==◌, Bool, true, false, cond, nat_lt, ◌⊎◌, inl, inr, List, [], ◌∷◌, ◌++◌, map, filter, flat_map, length, get_or, Option, Some, None, slice_get, Contains, refl, sym, ap, ◌∙◌, subst, arith, lt-ltb, le-ltb, ne_eqb, eq-eqb, length-append, ◌+◌}
+use Rattle.std.proofs.Common.{◌≡◌, ℕ, zero, suc, ◌<◌, ◌≤◌, ◌==◌, Bool, true, false, cond, nat_lt, ◌⊎◌, inl, inr, List, ◌∷◌, ◌++◌, map, filter, flat_map, length, get_or, Option, Some, None, slice_get, Contains, refl, sym, ap, ◌∙◌, subst, arith, lt-ltb, le-ltb, ne_eqb, eq-eqb, length-append, ◌+◌, []}
 use Rattle.std.proofs.lemmas.Bool.{false≢true, cases_order}
 
 -- x stands among the elements
@@ -126,14 +126,6 @@ abbrev pub Along : {X : Type 0} → (X → ℕ) → List X → Type 0
 Along f [] = Unit {0}
 Along f (x ∷ xs) = Each (λ y. f x ≤ f y) xs × Along f xs
 
-along_kept : {X : Type 0} (f : X → ℕ) (b : Bool) (x : X) (xs : List X) → Each (λ y. f x ≤ f y) xs → Along f xs → Along f (cond b (x ∷ xs) xs)
-along_kept f true x xs first rest = (first, rest)
-along_kept f false x xs first rest = rest
-
-pub along_filter : {X : Type 0} (f : X → ℕ) (p : X → Bool) (xs : List X) → Along f xs → Along f (filter p xs)
-along_filter f p [] h = tt
-along_filter f p (x ∷ xs) h = along_kept f (p x) x (filter p xs) (each_filter (λ y. f x ≤ f y) p xs h.0) (along_filter f p xs h.1)
-
 -- tests of a number
 abbrev pub below : {X : Type 0} → (X → ℕ) → ℕ → X → Bool
 below f n x = nat_lt (f x) n
@@ -144,10 +136,6 @@ equals f n x = f x == n
 -- none is below a number where the first isn't
 none_below : {X : Type 0} (f : X → ℕ) (n m : ℕ) (xs : List X) → n ≤ m → Each (λ y. m ≤ f y) xs → filter (below f n) xs ≡ []
 none_below f n m xs le h = filter_none (below f n) xs (λ y a. let up = of_each (λ y. m ≤ f y) xs h y a in le-ltb (f y) n (omega arith))
-
--- nor has it where the first is above it
-none_equal : {X : Type 0} (f : X → ℕ) (n m : ℕ) (xs : List X) → n < m → Each (λ y. m ≤ f y) xs → filter (equals f n) xs ≡ []
-none_equal f n m xs lt h = filter_none (equals f n) xs (λ y a. let up = of_each (λ y. m ≤ f y) xs h y a in ne_eqb (f y) n (λ e. omega arith))
 
 -- those below the next number are those below this one, and then those that have it
 pub next_below : {X : Type 0} (f : X → ℕ) (n : ℕ) (xs : List X) → Along f xs → filter (below f (suc n)) xs ≡ filter (below f n) xs ++ filter (equals f n) xs

@@ -6,12 +6,13 @@ use Rattle.history.specs.Worlds.{KeyMap, HandleState, HandleMap, first_world}
 use Rattle.history.specs.declared.calls.Access.{Access}
 use Rattle.history.specs.declared.calls.Access.TheVariants.{Writable, ReadOnly}
 use Rattle.slot_arena.specs.Refs.{ref_to}
-use Rattle.slot_arena.specs.Heaps.{generation_at, node_at, stored, taken}
+use Rattle.slot_arena.specs.Heaps.{generation_at}
 use Rattle.machine_model.specs.declared.roots.Root.{Root}
 use Rattle.machine_model.specs.declared.steps.Limits.{Limits}
 use Rattle.machine_model.specs.States.{State, first_state, first_heap, root_at, root_of}
 use Rattle.machine_model.specs.Contents.{content_at}
 use Rattle.machine_model.proofs.Times.{IsRun}
+use Rattle.content_laws.proofs.Started.{first_generation}
 use Rattle.order_laws.specs.Facts.{standing_of, standing, Facts}
 use Rattle.order_laws.specs.Laws.{Names, ShowsContents}
 use Rattle.order_laws.proofs.Views.{View, Shows, but}
@@ -20,10 +21,6 @@ use Rattle.order_laws.proofs.Sound.{first_standing}
 use Rattle.order_laws.proofs.Timeline.{shown, view}
 
 -- ---- at first
-
-first_generation : (n : ℕ) → generation_at (first_heap (suc (suc n))) (ref_to 2 1) ≡ 0
-unfolding taken stored node_at
-first_generation n = refl
 
 first_stands : (limits : Limits) (n : ℕ) → limits.slots ≡ suc (suc n) → standing (first_state limits) 0 ≡ Some (Writable, 0)
 unfolding first_state

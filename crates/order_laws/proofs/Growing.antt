@@ -1,5 +1,5 @@
 -- What only grows along a run: the history, the places, the closed generations; and that all of it lies in the past.
-use Rattle.std.proofs.Common.{◌≡◌, ◌≢◌, ℕ, zero, suc, ◌+◌, ◌-◌, ◌≤◌, ◌==◌, Bool, true, false, cond, ◌⊎◌, inl, inr, List, [], ◌∷◌, ◌++◌, Some, slice_get, refl, sym, ap, ◌∙◌, subst, append-nil, append_assoc, arith, eqb-true}
+use Rattle.std.proofs.Common.{◌≡◌, ◌≢◌, ℕ, zero, suc, ◌+◌, ◌-◌, ◌≤◌, ◌==◌, Bool, true, false, cond, ◌⊎◌, inl, inr, List, ◌∷◌, ◌++◌, Some, slice_get, refl, sym, ap, ◌∙◌, subst, append-nil, append_assoc, arith, eqb-true, []}
 use Rattle.std.specs.List.{list_any}
 use Rattle.std.proofs.lemmas.Bool.{false≢true, or_cases, or_parts, eqb-false}
 use Rattle.history.specs.declared.calls.Call.{Call}
@@ -68,7 +68,7 @@ grows_trans xs ys zs (a, d) (b, e) = (a ++ b, e ∙ ap (λ l. l ++ b) d ∙ appe
 pub among_grown : {X : Type 0} (xs ys : List X) (x : X) → Grows xs ys → Among x xs → Among x ys
 among_grown xs ys x (more, e) a = subst (Among x) (sym e) (among_left xs more x a)
 
-get_left : {X : Type 0} (xs ys : List X) (i : ℕ) (x : X) → slice_get xs i ≡ Some x → slice_get (xs ++ ys) i ≡ Some x
+pub get_left : {X : Type 0} (xs ys : List X) (i : ℕ) (x : X) → slice_get xs i ≡ Some x → slice_get (xs ++ ys) i ≡ Some x
 get_left [] ys i x e = cc
 get_left (y ∷ xs) ys zero x e = e
 get_left (y ∷ xs) ys (suc i) x e = get_left xs ys i x e

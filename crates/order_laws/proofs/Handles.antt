@@ -25,6 +25,7 @@ use Rattle.machine_model.specs.Machine.{begin_denial, with_begin, is_taken, take
 use Rattle.machine_model.proofs.Moves.{Moves, Begins, Goes, Ends, Sweeps, begun_operation}
 use Rattle.machine_model.proofs.Found.{none_found}
 use Rattle.machine_model.proofs.Times.{IsRun, at_each_time}
+use Rattle.generation_laws.proofs.Handles.{opens_allowed}
 use Rattle.order_laws.specs.Facts.{Runs}
 use Rattle.order_laws.proofs.Running.{ran_before}
 use Rattle.order_laws.proofs.Growing.{IsKept}
@@ -108,9 +109,6 @@ least_in_range state e = elim (least_found state 256 0) [
   where
     full : (n : ℕ) → n ≡ 0 + 256 → nat_le 256 n ≡ false → ⊥
     full n is e = grind arith
-
-pub opens_allowed : (state : State) (actor : ℕ) (call : Call) → begin_denial state actor call ≡ None → opens_handle call ≡ true → nat_le handle_limit (handles_taken state) ≡ false
-opens_allowed state actor call d o = grind arith
 
 -- ---- what an operation opens is in range
 

@@ -9,8 +9,9 @@ use Rattle.machine_model.specs.Operations.{action_of}
 use Rattle.machine_model.specs.Acting.{operation_after}
 use Rattle.machine_model.proofs.Moves.{Moves, Begins, Goes, Ends, Sweeps, GoesOn, begun_operation}
 use Rattle.machine_model.proofs.Actors.{IsOf, is_of, mark_one, marks_in, marks_by, of_others, of_itself, of_begin, of_end}
+use Rattle.generation_laws.proofs.Running.{at_place}
 use Rattle.order_laws.specs.Facts.{Runs}
-use Rattle.order_laws.proofs.Running.{IsBegun, own_step, at_place}
+use Rattle.order_laws.proofs.Running.{IsBegun, own_step}
 
 -- where an operation that runs behind a step comes from
 pub data From (state : State) (s : Step) (k : ℕ) (found : Operation) : Type 0 where

@@ -1,5 +1,5 @@
 -- Moments, commits and closings lie in the past.
-use Rattle.std.proofs.Common.{◌≡◌, ℕ, suc, ◌+◌, ◌<◌, ◌≤◌, ◌==◌, max, Bool, true, false, cond, ◌⊎◌, inl, inr, List, [], ◌∷◌, ◌++◌, find, Option, Some, None, refl, sym, ap, ◌∙◌, subst, arith}
+use Rattle.std.proofs.Common.{◌≡◌, ℕ, suc, ◌+◌, ◌<◌, ◌≤◌, ◌==◌, max, Bool, true, false, cond, ◌⊎◌, inl, inr, List, ◌∷◌, ◌++◌, find, Option, Some, None, refl, sym, ap, ◌∙◌, subst, arith, []}
 use Rattle.history.specs.declared.calls.Call.{Call}
 use Rattle.slot_arena.specs.declared.refs.Ref.{Ref}
 use Rattle.slot_arena.specs.Heaps.{generation_at}
@@ -26,9 +26,10 @@ use Rattle.machine_model.proofs.Frames.{acted_framed, steps_counted}
 use Rattle.machine_model.proofs.Found.{none_found}
 use Rattle.machine_model.proofs.Times.{IsRun, at_each_time}
 use Rattle.machine_model.proofs.Actors.{IsOf, is_of, mark_one, mark_only, of_others, of_itself, of_begin, of_end}
+use Rattle.generation_laws.proofs.Running.{at_place}
 use Rattle.order_laws.specs.Facts.{Runs}
 use Rattle.order_laws.proofs.Elements.{Among, among_either}
-use Rattle.order_laws.proofs.Running.{IsBegun, own_step, at_place}
+use Rattle.order_laws.proofs.Running.{IsBegun, own_step}
 use Rattle.order_laws.proofs.Changes.{carries, acted_places, completed_is, carried_roots}
 use Rattle.order_laws.proofs.Growing.{IsKept, begin_grows}
 

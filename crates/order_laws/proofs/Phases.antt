@@ -64,7 +64,7 @@ gives_carried state operation c offer main e carried gives = grind arith
 
 -- ---- marks
 
-marked_or : (m : Option ℕ) (operation : Operation) → (mark_one m operation).is_marked ≡ true → (operation.is_marked ≡ true) ⊎ (m ≡ Some operation.id)
+pub marked_or : (m : Option ℕ) (operation : Operation) → (mark_one m operation).is_marked ≡ true → (operation.is_marked ≡ true) ⊎ (m ≡ Some operation.id)
 marked_or None operation e = inl e
 marked_or (Some id) operation e = by (operation.id == id) refl e
   where
@@ -80,7 +80,7 @@ stays_marked (Some id) operation e = by (operation.id == id)
     by true = refl
     by false = e
 
-marked_before : (mark : Bool) (action : Action) → mark_after mark action ≡ true → mark ≡ true
+pub marked_before : (mark : Bool) (action : Action) → mark_after mark action ≡ true → mark ≡ true
 marked_before mark action e = grind arith
 
 pub mark_kept : (mark : Bool) (action : Action) → ((offer : Descriptor) → action ≡ act.Offer offer → ⊥) → mark_after mark action ≡ mark

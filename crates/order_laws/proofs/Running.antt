@@ -1,8 +1,6 @@
 -- Which operations run before and after a step: each keeps its id, its call, its handle to open and its kind.
-use Rattle.std.proofs.Common.{◌≡◌, ℕ, suc, ◌-◌, ◌<◌, ◌⊎◌, inl, inr, List, [], ◌∷◌, ◌++◌, set, get_or, Option, Some, None, refl, sym, ap, ◌∙◌, subst, arith}
-use native.Mathlib.Decide.{ℕ_discrete}
+use Rattle.std.proofs.Common.{◌≡◌, ℕ, suc, ◌-◌, ◌<◌, ◌⊎◌, inl, inr, List, ◌∷◌, ◌++◌, set, get_or, Option, Some, None, refl, sym, ap, ◌∙◌, subst, arith, []}
 use Rattle.std.proofs.Math.ListN.{get_or-map}
-use Rattle.std.proofs.lemmas.List.{get_or-set_same}
 use Rattle.history.specs.declared.calls.Call.{Call}
 use Rattle.history.specs.declared.replies.Reply.{Reply}
 use Rattle.history.specs.declared.events.Event.TheVariants.{End}
@@ -12,13 +10,13 @@ use Rattle.machine_model.specs.Operations.{action_of}
 use Rattle.machine_model.specs.declared.steps.Outcome.{Outcome}
 use Rattle.machine_model.specs.declared.steps.Step.{Step}
 use Rattle.machine_model.specs.declared.steps.Step.TheVariants as step
-use Rattle.machine_model.specs.States.{State, operation_of}
+use Rattle.machine_model.specs.States.{State}
 use Rattle.machine_model.specs.Acting.{operation_after, marked}
-use Rattle.machine_model.specs.Machine.{begin_denial, go_denial}
+use Rattle.machine_model.specs.Machine.{go_denial}
 use Rattle.machine_model.proofs.Moves.{Moves, Begins, Goes, Ends, Sweeps, begun_operation}
-use Rattle.machine_model.proofs.Found.{found_within, found_elsewhere}
 use Rattle.machine_model.proofs.Actors.{IsOf, is_of, mark_one, mark_only, marks_by, after_marks, of_others, of_itself, of_begin, of_end, gone_actors, begin_actors}
-use Rattle.generation_laws.proofs.Running.{one_at}
+use Rattle.memory_laws.proofs.Held.{begin_counts}
+use Rattle.generation_laws.proofs.Running.{one_at, at_place, write_cases, begin_not_running}
 use Rattle.order_laws.specs.Facts.{Runs}
 
 -- it is the same operation, further on
@@ -40,10 +38,6 @@ marked_same m operation = record {
 -- and after its step
 pub after_same : (state : State) (m : Option ℕ) (operation : Operation) → IsSame operation (mark_one m (operation_after state operation))
 after_same state m operation = let s = marked_same m (operation_after state operation) in record { id = s.id; call = s.call; opens = s.opens; access = s.access }
-
--- an actor's operation by its place
-pub at_place : (state : State) (actor k : ℕ) (operation : Operation) → actor ≡ suc k → operation_of state actor ≡ Some operation → Runs state k operation
-at_place state actor k operation own is = subst (λ a. operation_of state a ≡ Some operation) own is
 
 -- ---- backwards
 
@@ -75,14 +69,6 @@ ran_before state s o after m k found at_k = ran_by state s o after m k found at_
 
 -- ---- forwards
 
--- what is found at a place after a write there, or what was found
-write_cases : {X : Type 0} (xs : List (Option X)) (i k : ℕ) (put : Option X) (x : X) → get_or xs k None ≡ Some x →
-    ((k ≡ i) × (get_or (set xs i put) k None ≡ put)) ⊎ ((k ≡ i → ⊥) × (get_or (set xs i put) k None ≡ Some x))
-write_cases xs i k put x at_k = elim (ℕ_discrete k i) [
-  | yes same ↦ inl (same, subst (λ j. get_or (set xs j put) k None ≡ put) same (get_or-set_same xs k put None (found_within xs k x at_k)))
-  | no apart ↦ inr (apart, found_elsewhere xs i k put apart ∙ at_k)
-]
-
 -- what runs at a place still runs there once some are marked
 marked_runs : (m : Option ℕ) (xs : List (Option Operation)) (k : ℕ) (operation : Operation) → get_or xs k None ≡ Some operation →
     (found : Operation) × (get_or (after_marks m xs) k None ≡ Some found) × IsSame operation found
@@ -96,17 +82,6 @@ same_trans a b c p q = record { id = q.id ∙ p.id; call = q.call ∙ p.call; op
 -- the actor whose place it is
 actor_at : (actor k : ℕ) → 0 < actor → k ≡ actor - 1 → actor ≡ suc k
 actor_at actor k pos e = omega arith
-
--- an actor that runs an operation begins no other
-pub begin_not_running : (state : State) (k actor : ℕ) (call : Call) (operation : Operation) → begin_denial state actor call ≡ None → actor ≡ suc k → Runs state k operation → ⊥
-begin_not_running state k actor call operation d own is = denied (subst (λ a. operation_of state a ≡ Some operation) (sym own) is)
-  where
-    denied : operation_of state actor ≡ Some operation → ⊥
-    denied e = grind arith
-
--- an actor whose step is taken isn't 0
-pub begin_counts : (state : State) (actor : ℕ) (call : Call) → begin_denial state actor call ≡ None → 0 < actor
-begin_counts state actor call d = grind arith
 
 pub go_counts : (state : State) (actor : ℕ) → go_denial state actor ≡ None → 0 < actor
 go_counts state actor d = grind arith

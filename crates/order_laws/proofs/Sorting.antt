@@ -1,5 +1,5 @@
 -- Placing sorts: the places rise, and each stands there once.
-use Rattle.std.proofs.Common.{◌≡◌, ℕ, ◌<◌, ◌≤◌, Bool, true, false, cond, nat_lt, ◌⊎◌, inl, inr, List, [], ◌∷◌, ◌++◌, filter, refl, sym, ap, ◌∙◌, subst, arith}
+use Rattle.std.proofs.Common.{◌≡◌, ℕ, ◌<◌, ◌≤◌, Bool, true, false, cond, nat_lt, ◌⊎◌, inl, inr, List, ◌∷◌, ◌++◌, filter, refl, sym, ap, ◌∙◌, subst, arith, []}
 use Rattle.std.proofs.lemmas.Bool.{true≢false, false≢true}
 use Rattle.places.specs.declared.place.Place.{Place}
 use Rattle.places.specs.Places.{number_before, bool_before, is_before, placed, rising}
@@ -18,9 +18,6 @@ number_transitive a b c r s u h d e = grind arith
 
 bool_transitive : (a b c r s u : Bool) → (r ≡ true → s ≡ true → u ≡ true) → bool_before a b r ≡ true → bool_before b c s ≡ true → bool_before a c u ≡ true
 bool_transitive a b c r s u h d e = grind arith
-
-lt_asymmetric : (a b : ℕ) → number_before a b false ≡ true → number_before b a false ≡ false
-lt_asymmetric a b e = grind arith
 
 id_asymmetric : (a b : ℕ) → nat_lt a b ≡ true → nat_lt b a ≡ false
 id_asymmetric a b e = grind arith
@@ -158,14 +155,6 @@ pub only_one : (p : Place → Bool) (xs : List Place) (x : Place) → AreApart x
 only_one p [] x apart a passes one = absurd a
 only_one p (y ∷ ys) x apart a passes one =
     only_by (p y) p x y ys refl a passes apart one (λ within. only_one p ys x apart.1 within passes (λ z w. one z (inr w)))
-
--- two of them with one id are one
-pub same_id : (xs : List Place) (x y : Place) → AreApart xs → Among x xs → Among y xs → x.id ≡ y.id → x ≡ y
-same_id [] x y apart a b e = absurd a
-same_id (z ∷ zs) x y apart (inl i) (inl j) e = i ∙ sym j
-same_id (z ∷ zs) x y apart (inl i) (inr b) e = absurd (of_each (λ q. z.id ≡ q.id → ⊥) zs apart.0 y b (ap (λ (q : Place). q.id) (sym i) ∙ e))
-same_id (z ∷ zs) x y apart (inr a) (inl j) e = absurd (of_each (λ q. z.id ≡ q.id → ⊥) zs apart.0 x a (ap (λ (q : Place). q.id) (sym j) ∙ sym e))
-same_id (z ∷ zs) x y apart (inr a) (inr b) e = same_id zs x y apart.1 a b e
 
 -- one more of another operation stays apart
 pub apart_push : (xs : List Place) (x : Place) → AreApart xs → ((y : Place) → Among y xs → y.id ≡ x.id → ⊥) → AreApart (xs ++ x ∷ [])

@@ -1,5 +1,5 @@
 -- Each step of a run by what the facts say of it: one constructor for each kind.
-use Rattle.std.proofs.Common.{◌≡◌, ◌≢◌, ℕ, suc, ◌+◌, ◌<◌, Bool, true, false, cond, ◌⊎◌, inl, inr, List, [], ◌∷◌, ◌++◌, length, Some, None, slice_get, refl, sym, ap, ◌∙◌, subst, append-nil, arith}
+use Rattle.std.proofs.Common.{◌≡◌, ◌≢◌, ℕ, suc, ◌+◌, ◌<◌, Bool, true, false, cond, ◌⊎◌, inl, inr, List, ◌∷◌, ◌++◌, length, Some, None, slice_get, refl, sym, ap, ◌∙◌, subst, append-nil, arith, []}
 use Rattle.history.specs.Worlds.{KeyMap}
 use Rattle.history.specs.declared.calls.Access.{Access}
 use Rattle.history.specs.declared.calls.Call.TheVariants.{Close}
@@ -83,10 +83,6 @@ module _ (limits : Limits) (states : ℕ → State) (last : ℕ) (V : ℕ → �
         (states (suc t)).roots ≡ roots_swapped (states t) handle offer offer.opens → (states (suc t)).heap ≡ (states t).heap → IsStill t → Kind t
 
 module _ (limits : Limits) (states : ℕ → State) (last : ℕ) (r : IsRun limits states last) (V : ℕ → ℕ → KeyMap) (facts : Facts limits states last V) where
-  -- where only a place that is entered changes nothing, or none
-  still_at : (t : ℕ) (lt : t < last) → entered_by_step (states t) (step_at limits states last r V facts t lt).its ≡ [] → IsStill limits states last V t
-  still_at t lt e = let a = step_at limits states last r V facts t lt in facts.still t a.its a.outcome lt a.move e
-
   kept_all : (t : ℕ) → t < last → ((h : ℕ) → footing (states (suc t)) h ≡ footing (states t) h) → KeepsAll limits states last V t
   kept_all t lt same handle = keeps_standing limits states last r V facts t handle lt (same handle)
 

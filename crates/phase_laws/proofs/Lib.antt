@@ -17,5 +17,3 @@ pub mod Writers
 pub mod OwnUpdates
 pub mod Closers
 pub mod Behind
-pub mod Ending
-pub mod Once

@@ -1,5 +1,5 @@
 -- Past its own commit an operation stays so, in its own steps and in those of others.
-use Rattle.std.proofs.Common.{◌≡◌, ℕ, suc, ◌<◌, ◌≤◌, List, Option, Some, refl, sym, ap, ◌∙◌, subst, arith}
+use Rattle.std.proofs.Common.{◌≡◌, ℕ, suc, ◌<◌, ◌≤◌, List, Option, Some, sym, ap, ◌∙◌, subst, arith}
 use Rattle.slot_arena.specs.declared.nodes.Prev.TheVariants as prev
 use Rattle.slot_arena.specs.declared.refs.Ref.{Ref}
 use Rattle.slot_arena.specs.Heaps.{prev_at}
@@ -18,13 +18,13 @@ use Rattle.machine_model.specs.Acting.{operation_after}
 use Rattle.machine_model.proofs.Moves.{GoesOn}
 use Rattle.machine_model.proofs.Actors.{mark_one, mark_only, marks_in, marks_by}
 use Rattle.machine_model.proofs.Grown.{prev_word}
-use Rattle.machine_model.proofs.Times.{IsRun, Turn, turns}
+use Rattle.machine_model.proofs.Times.{IsRun}
 use Rattle.generation_laws.proofs.Running.{one_at}
 use Rattle.order_laws.specs.Facts.{Runs}
 use Rattle.order_laws.proofs.Offers.{running_below}
 use Rattle.order_laws.proofs.OfferStands.{offers_at}
-use Rattle.order_laws.proofs.OneStep.{From, began, kept, stepped, from}
-use Rattle.phase_laws.specs.Phases.{IsPast, IsPastAt, PastStays}
+use Rattle.order_laws.proofs.OneStep.{From, began, kept, stepped}
+use Rattle.phase_laws.specs.Phases.{IsPast, IsPastAt}
 use Rattle.phase_laws.proofs.PastLines.{past_after}
 use Rattle.phase_laws.proofs.Published.{stays_none, seen}
 
@@ -82,10 +82,3 @@ module _ (limits : Limits) (states : ℕ → State) (last : ℕ) (r : IsRun limi
       let one = one_at (states t) k was operation at_k runs in
       subst (λ x. IsPast states (suc t) x former) (sym (it ∙ ap (λ (x : Operation). mark_one (marks_by (states t) (Some x)) (operation_after (states t) x)) one))
       (past_went k operation former runs h (marks_by (states t) (Some operation)) (subst (λ x. GoesOn (action_of (states t) x)) one goes))
-
-pub past_stays : (limits : Limits) (states : ℕ → State) (last : ℕ) → IsRun limits states last → PastStays states last
-past_stays limits states last r t k operation found former lt runs h at_k same = by (states (suc t)) (r.turn t lt) refl
-  where
-    by : (after : State) → Turn (states t) after → after ≡ states (suc t) → IsPast states (suc t) found former
-    by after (turns s o m) e =
-        past_by limits states last r t lt s k operation found former runs h same (from (states t) s o after m k found (subst (λ (q : State). Runs q k found) (sym e) at_k))

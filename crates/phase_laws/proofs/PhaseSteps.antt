@@ -19,11 +19,8 @@ use Rattle.machine_model.proofs.Actors.{mark_one, mark_only, marks_in, marks_by}
 use Rattle.machine_model.proofs.Times.{IsRun}
 use Rattle.order_laws.specs.Facts.{Runs}
 use Rattle.order_laws.proofs.Elements.{Among}
-use Rattle.order_laws.proofs.Books.{Books}
 use Rattle.order_laws.proofs.Growing.{placed, unplaced}
 use Rattle.order_laws.proofs.HaveBegun.{places_below}
-use Rattle.order_laws.proofs.Offers.{Offers}
-use Rattle.order_laws.proofs.OfferStands.{offers_at}
 use Rattle.order_laws.proofs.OneStep.{From, began, kept, stepped}
 use Rattle.order_laws.proofs.Phases.{stays_marked, mark_kept}
 use Rattle.order_laws.proofs.Answering.{phased_at, no_offer}
@@ -53,12 +50,6 @@ module _ (limits : Limits) (states : ℕ → State) (last : ℕ) (r : IsRun limi
   module _ (t : ℕ) (lt : t < last) where
     pub within : t ≤ last
     within = omega (arith, lt)
-
-    pub offers : Offers (states t)
-    offers = offers_at limits states last r t within
-
-    pub books : Books (states t)
-    books = offers.books
 
     -- ---- one that had its place
 

@@ -1,5 +1,5 @@
 -- Where an operation has its root from: it keeps it in a step, or its step gives it that of its handle.
-use Rattle.std.proofs.Common.{◌≡◌, Bool, false, ◌⊎◌, inl, inr, Some, refl, ap}
+use Rattle.std.proofs.Common.{◌≡◌, false, ◌⊎◌, inl, inr, Some, refl, ap}
 use Rattle.slot_arena.specs.declared.refs.Ref.{Ref}
 use Rattle.slot_arena.specs.Heaps.{generation_at}
 use Rattle.machine_model.specs.declared.lines.Line.{Line}
@@ -7,30 +7,14 @@ use Rattle.machine_model.specs.declared.lines.Line.TheVariants as line
 use Rattle.machine_model.specs.declared.operations.Operation.{Operation}
 use Rattle.machine_model.specs.declared.reading.After.{After}
 use Rattle.machine_model.specs.declared.reading.After.TheVariants.{Goes as Continues, Gives}
-use Rattle.machine_model.specs.declared.roots.Complete.{Complete}
 use Rattle.machine_model.specs.declared.roots.RootLine.{RootLine}
-use Rattle.machine_model.specs.declared.roots.RootLine.TheVariants as root
-use Rattle.machine_model.specs.declared.roots.RootWord.{RootWord}
-use Rattle.machine_model.specs.declared.roots.RootWord.TheVariants.{Plain, Offer}
+use Rattle.machine_model.specs.declared.roots.RootWord.TheVariants.{Plain}
 use Rattle.machine_model.specs.Calls.{handle_of}
 use Rattle.machine_model.specs.States.{State, word_at}
-use Rattle.machine_model.specs.Swapping.{root_after, after_root_word, after_completing, complete_after}
+use Rattle.machine_model.specs.Swapping.{root_after}
 use Rattle.machine_model.specs.Operations.{generation_from, given_root, line_after, after_root, from_root}
 use Rattle.memory_laws.specs.Laws.{is_end}
-
--- ROOT gives the plain root of the word
-root_given : (state : State) (operation : Operation) (l : RootLine) (r : Ref) → root_after state.heap operation.access (word_at state (handle_of operation.call)) l ≡ Gives r →
-    word_at state (handle_of operation.call) ≡ Plain r
-root_given state operation root.Read r e = by (word_at state (handle_of operation.call)) e
-  where
-    by : (word : RootWord) → after_root_word word ≡ Gives r → word ≡ Plain r
-    by (Plain q) e = let same : q ≡ r = cc e in ap Plain same
-    by (Offer offer) e = let wrong : ⊥ = cc e in absurd wrong
-root_given state operation (root.Completing c) r e = absurd (by (complete_after state.heap operation.access (word_at state (handle_of operation.call)) c) e)
-  where
-    by : (a : After Complete Bool) → after_completing a ≡ Gives r → ⊥
-    by (Continues next) e = cc e
-    by (Gives done) e = cc e
+use Rattle.generation_laws.proofs.Rooted.{root_given}
 
 -- the step gives the operation the root of its handle, and leads below it
 pub record GetsRoot (state : State) (operation : Operation) (l : Line) : Type 0 where

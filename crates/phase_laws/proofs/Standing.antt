@@ -130,13 +130,3 @@ module _ (limits : Limits) (states : ℕ → State) (last : ℕ) (r : IsRun limi
 
 pub read_only_stands : (limits : Limits) (states : ℕ → State) (last : ℕ) → IsRun limits states last → ReadOnlyStands states last
 read_only_stands limits states last r t k operation le runs read_only no_close since = one_root limits states last r t k operation le read_only no_close since
-
--- ---- the generation of a root
-
--- a step leaves the generation of a handle's root as it is
-pub keeps_generation : (limits : Limits) (states : ℕ → State) (last : ℕ) → IsRun limits states last → (t handle : ℕ) (root : Root) → t < last → root_at (states t) handle ≡ Some root →
-    generation_at (states (suc t)).heap (root_of root.word) ≡ generation_at (states t).heap (root_of root.word)
-keeps_generation limits states last r t handle root lt is = by (states (suc t)) (r.turn t lt)
-  where
-    by : (after : State) → Turn (states t) after → generation_at after.heap (root_of root.word) ≡ generation_at (states t).heap (root_of root.word)
-    by after (turns s o m) = root_kept (states t) (safe_at limits states last r t (omega (arith, lt))) s o after m handle root is

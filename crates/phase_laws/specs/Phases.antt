@@ -1,5 +1,5 @@
 -- When an operation has its place in the order, along a run. State t is the state before step t.
-use Rattle.std.specs.Prelude.{◌≡◌, ◌≢◌, ℕ, suc, ◌≤◌, ◌<◌, true, false, List, [], ◌∷◌, Contains, Option, Some}
+use Rattle.std.specs.Prelude.{◌≡◌, ◌≢◌, ℕ, suc, ◌≤◌, ◌<◌, true, false, List, ◌∷◌, Contains, Option, Some, []}
 use Rattle.history.specs.declared.calls.Access.TheVariants.{Writable}
 use Rattle.history.specs.declared.calls.Call.{Call}
 use Rattle.history.specs.declared.replies.Reply.{Reply}
@@ -75,12 +75,6 @@ abbrev pub PlacedPhase : (ℕ → State) → ℕ → Type 0
 PlacedPhase states last =
     (t k : ℕ) (operation : Operation) → t ≤ last → Runs (states t) k operation → is_placed (states t) operation.id ≡ true → Phase states t operation
 
--- past its own commit an operation stays so until it ends, and answers that it made the change
-abbrev pub PastStays : (ℕ → State) → ℕ → Type 0
-PastStays states last =
-    (t k : ℕ) (operation found : Operation) (former : Option ℕ) → t < last → Runs (states t) k operation → IsPast states t operation former → Runs (states (suc t)) k found →
-    found.id ≡ operation.id → IsPast states (suc t) found former
-
 abbrev pub PastAnswers : (ℕ → State) → ℕ → Type 0
 PastAnswers states last =
     (t k : ℕ) (operation : Operation) (former : Option ℕ) → t ≤ last → Runs (states t) k operation → IsPast states t operation former →
@@ -111,12 +105,6 @@ pub record OwnUpdate (states : ℕ → State) (last t : ℕ) (s : Step) : Type 0
 abbrev pub OwnUpdatesEnter : (ℕ → State) → ℕ → Type 0
 OwnUpdatesEnter states last =
     (t : ℕ) (s : Step) (o : Outcome) → t < last → Moves (states t) s o (states (suc t)) → entered_by_step (states t) s ≢ [] → OwnUpdate states last t s
-
--- an operation commits its own update at most once
-abbrev pub OwnUpdatesOnce : (ℕ → State) → ℕ → Type 0
-OwnUpdatesOnce states last =
-    (t u : ℕ) (s v : Step) (o q : Outcome) → t < last → u < last → Moves (states t) s o (states (suc t)) → Moves (states u) v q (states (suc u)) → (a : OwnUpdate states last t s)
-    (b : OwnUpdate states last u v) → a.owner.id ≡ b.owner.id → t ≡ u
 
 -- ---- facts of the order
 

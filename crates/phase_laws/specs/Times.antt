@@ -1,8 +1,6 @@
 -- Since when a running operation runs, since when it has its root, and where its moment lies. State t is the state before step t.
 use Rattle.std.specs.Prelude.{◌≡◌, ℕ, suc, ◌≤◌, ◌<◌, Bool, true, false, Some}
 use Rattle.history.specs.declared.calls.Access.TheVariants.{Writable, ReadOnly}
-use Rattle.history.specs.declared.replies.Reply.{Reply}
-use Rattle.machine_model.specs.declared.actions.Action.TheVariants as act
 use Rattle.machine_model.specs.declared.copying.CopyLine.{CopyLine}
 use Rattle.machine_model.specs.declared.copying.CopyLine.TheVariants as copy
 use Rattle.machine_model.specs.declared.finding.KeyLine.{KeyLine}
@@ -15,9 +13,7 @@ use Rattle.machine_model.specs.declared.reading.ReadLine.TheVariants as read
 use Rattle.machine_model.specs.declared.walking.WalkLine.{WalkLine}
 use Rattle.machine_model.specs.declared.walking.WalkLine.TheVariants as walk
 use Rattle.machine_model.specs.Calls.{handle_of, is_close}
-use Rattle.machine_model.specs.States.{State, operation_of}
-use Rattle.machine_model.specs.Operations.{action_of}
-use Rattle.machine_model.specs.Orders.{is_placed}
+use Rattle.machine_model.specs.States.{State}
 use Rattle.order_laws.specs.Facts.{standing, IsRooted, Runs}
 use Rattle.order_laws.proofs.Running.{IsSame}
 
@@ -129,17 +125,3 @@ abbrev pub ReadOnlyStands : (ℕ → State) → ℕ → Type 0
 ReadOnlyStands states last =
     (t k : ℕ) (operation : Operation) → t ≤ last → Runs (states t) k operation → operation.access ≡ ReadOnly → is_close operation.call ≡ false → (since : Since states t k operation) →
     (generation : ℕ) × ((u : ℕ) → since.at < u → u ≤ t → standing (states u) (handle_of operation.call) ≡ Some (ReadOnly, generation))
-
--- What stands on the handle of an operation that has read, behind its moment: on a writable one the root of its generation, or that until it was closed, and the moment
--- closes nothing; on a read-only one a root.
-pub data MomentStands (states : ℕ → State) (operation : Operation) : Type 0 where
-  on_writable : (generation : ℕ) → operation.access ≡ Writable → operation.generation ≡ Some generation →
-      IsRooted states (suc operation.moment) (handle_of operation.call) generation → ClosesNone states operation.moment → MomentStands states operation
-  on_read_only : (generation : ℕ) → operation.access ≡ ReadOnly → standing (states (suc operation.moment)) (handle_of operation.call) ≡ Some (ReadOnly, generation) →
-      MomentStands states operation
-
--- so for each operation that ends without a place
-abbrev pub EndsStand : (ℕ → State) → ℕ → Type 0
-EndsStand states last =
-    (t actor : ℕ) (operation : Operation) (answer : Reply) → t < last → operation_of (states t) actor ≡ Some operation → action_of (states t) operation ≡ act.End answer →
-    is_placed (states t) operation.id ≡ false → MomentStands states operation

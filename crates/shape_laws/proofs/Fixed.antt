@@ -1,5 +1,5 @@
 -- More steps leave the sites of what is in use.
-use Rattle.std.proofs.Common.{◌≡◌, ℕ, zero, suc, ◌<◌, ◌≤◌, Bool, true, false, cond, List, [], ◌∷◌, ◌++◌, All, length, slice_index_or, Option, Some, None, refl, ap, ap₂, ◌∙◌, arith}
+use Rattle.std.proofs.Common.{◌≡◌, ℕ, zero, suc, ◌<◌, ◌≤◌, Bool, true, false, cond, List, ◌∷◌, ◌++◌, All, length, slice_index_or, Option, Some, None, refl, ap, ap₂, ◌∙◌, arith, []}
 use Rattle.std.proofs.lemmas.List.{get_or_append_left, length-append}
 use Rattle.std.proofs.lemmas.List.Elements.{All-nil, All-cons, All-head, All-tail}
 use Rattle.slot_arena.specs.declared.refs.Ref.{Ref}
@@ -19,16 +19,17 @@ use Rattle.memory_laws.proofs.WordMoves.{grown_in_use}
 use Rattle.memory_laws.proofs.LevelRuns.{made_now, level_now}
 use Rattle.shape_laws.specs.Sites.{path_to, depth_at, leads_by, leads_of, leads_now, level_until, path_until, steps_of}
 use Rattle.machine_model.specs.Keys.{FitsKey, KeysFit}
+use Rattle.deciding_laws.proofs.InHeap.{states_at_zero}
 use Rattle.shape_laws.specs.SitesAt.{StepsFit}
 use Rattle.shape_laws.specs.Laws.{SitesAreFixed}
-use Rattle.shape_laws.proofs.Stepped.{takes_steps, states_from-zero}
+use Rattle.shape_laws.proofs.Stepped.{takes_steps}
 use Rattle.shape_laws.proofs.Given.{level_stays, path_stays}
 
 -- ---- more steps go on from where those before end
 
 pub states_from-append : (state : State) (xs ys : List Step) (t : ℕ) → t ≤ length xs → states_from state (xs ++ ys) t ≡ states_from state xs t
 unfolding states_from
-states_from-append state [] ys t h = let none : t ≡ zero = omega (arith, h) in ap (states_from state ys) none ∙ states_from-zero state ys
+states_from-append state [] ys t h = let none : t ≡ zero = omega (arith, h) in ap (states_from state ys) none ∙ states_at_zero state ys
 states_from-append state (x ∷ xs) ys zero h = refl
 states_from-append state (x ∷ xs) ys (suc t) h = states_from-append (next_state state x) xs ys t (omega arith)
 
@@ -42,6 +43,11 @@ taken-append state (x ∷ xs) ys = by_test (is_taken_step (next state x)) (taken
         ≡ cond b (x ∷ taken_from (next_state state x) xs) (taken_from (next_state state x) xs) ++ taken_from (run_from (next_state state x) xs) ys
     by_test true e = ap (λ zs. x ∷ zs) e
     by_test false e = e
+
+pub states_of-append : (limits : Limits) (xs ys : List Step) (t : ℕ) → t ≤ last_of limits xs → states_of limits (xs ++ ys) t ≡ states_of limits xs t
+states_of-append limits xs ys t h =
+    ap (λ l. states_from (first_state limits) l t) (taken-append (first_state limits) xs ys)
+    ∙ states_from-append (first_state limits) (taken_steps limits xs) (taken_from (run limits xs) ys) t h
 
 -- ---- where a line leads goes by older nodes alone
 

@@ -1,6 +1,6 @@
 -- What a step makes is given its level and its path there, and keeps them; so nodes stand at their levels at each time.
-use Rattle.std.proofs.Common.{◌≡◌, ℕ, zero, suc, ◌+◌, ◌<◌, ◌≤◌, true, cond, Option, Some, None, refl, sym, ap, ◌∙◌, subst, inl, inr, ◌++◌, eqb-true, eq-eqb, arith}
-use Rattle.std.proofs.lemmas.Bool.{cases_eq, cond_both, false≢true}
+use Rattle.std.proofs.Common.{◌≡◌, ℕ, zero, suc, ◌+◌, ◌<◌, ◌≤◌, cond, Option, Some, None, refl, sym, ap, ◌∙◌, subst, inl, inr, ◌++◌, eq-eqb, arith}
+use Rattle.std.proofs.lemmas.Bool.{cases_eq, cond_both}
 use Rattle.std.proofs.lemmas.Option.{none-some}
 use Rattle.std.proofs.lemmas.List.Elements.{All-nil}
 use Rattle.slot_arena.specs.Refs.{ref_to}
@@ -9,13 +9,12 @@ use Rattle.slot_arena.specs.declared.nodes.Node.{Node}
 use Rattle.slot_arena.specs.declared.nodes.Slot.{Slot}
 use Rattle.slot_arena.specs.Heaps.{next_ref}
 use Rattle.nodes.specs.Levels.{list_depth}
-use Rattle.machine_model.specs.declared.operations.Operation.{Operation}
 use Rattle.machine_model.specs.declared.steps.Limits.{Limits}
 use Rattle.machine_model.specs.declared.steps.Outcome.{Outcome}
 use Rattle.machine_model.specs.declared.steps.Step.{Step}
 use Rattle.machine_model.specs.declared.steps.Step.TheVariants as step
 use Rattle.machine_model.specs.Calls.{handle_of}
-use Rattle.machine_model.specs.States.{State, first_state, operation_of}
+use Rattle.machine_model.specs.States.{State, first_state}
 use Rattle.machine_model.specs.Operations.{action_of}
 use Rattle.machine_model.specs.Machine.{is_number}
 use Rattle.machine_model.proofs.Times.{IsRun}
@@ -34,30 +33,13 @@ use Rattle.memory_laws.proofs.First.{first_words, first_stands, safe_at_first}
 use Rattle.memory_laws.proofs.WordMoves.{grown_in_use, grown_stays, not_yet_drawn}
 use Rattle.memory_laws.proofs.Levels.{WordLevel, EntryLevel}
 use Rattle.memory_laws.proofs.LevelStates.{HasLevels, GivesLevel, SlotLevel, levels_after}
-use Rattle.memory_laws.proofs.LevelRuns.{if_made, made_by, made_now, level_now, level_by}
+use Rattle.memory_laws.proofs.LevelRuns.{if_made, made_by, made_now, level_now, level_by, made_next, number_is}
 use Rattle.memory_laws.proofs.Shapes.{ShapeAt, deep_low}
 use Rattle.memory_laws.proofs.ShapeStates.{HasShapes, shapes_after}
 use Rattle.shape_laws.specs.Sites.{path_to, depth_at, leads_now, level_until, path_until}
 use Rattle.shape_laws.specs.SitesAt.{TakesSteps}
 
 -- ---- what is made is drawn, and stands
-
-next_by : (o : Option Node) (next : Option Ref) (r : Ref) → if_made o next ≡ Some r → next ≡ Some r
-next_by None next r e = absurd (none-some r e)
-next_by (Some node) next r e = e
-
-next_of : (state : State) (o : Option Operation) (r : Ref) → made_by state o ≡ Some r → next_ref state.heap ≡ Some r
-next_of state None r e = absurd (none-some r e)
-next_of state (Some operation) r e = next_by (made_node state (action_of state operation)) (next_ref state.heap) r e
-
-pub made_next : (state : State) (s : Step) (r : Ref) → made_now state s ≡ Some r → next_ref state.heap ≡ Some r
-made_next state (step.Go actor) r e = next_of state (operation_of state actor) r e
-made_next state (step.Begin actor call) r e = absurd (none-some r e)
-made_next state step.Sweep r e = absurd (none-some r e)
-
-is_made : (r : Ref) (o : Option Ref) → is_number r o ≡ true → o ≡ Some r
-is_made r None e = absurd (false≢true e)
-is_made r (Some m) e = ap Some (eqb-true m r e)
 
 made_stands : (state : State) → IsSafe state → (s : Step) (o : Outcome) (after : State) → Moves state s o after → (r : Ref) → made_now state s ≡ Some r →
     (slot : Slot) × (standing after.heap r ≡ Some slot)
@@ -94,7 +76,7 @@ module _ (limits : Limits) (states : ℕ → State) (steps : ℕ → Step) (last
       none-some now (sym (not_yet_drawn limits states last run u (omega arith) r (made_next (states u) (steps u) r e)) ∙ found_now)
 
   keeps_by : {A : Type 0} (r : Ref) (o : Option Ref) (x y : A) → (o ≡ Some r → ⊥) → cond (is_number r o) x y ≡ y
-  keeps_by {A} r o x y other = cond_both (is_number r o) x y (λ z. z ≡ y) (λ e. absurd (other (is_made r o e))) (λ e. refl)
+  keeps_by {A} r o x y other = cond_both (is_number r o) x y (λ z. z ≡ y) (λ e. absurd (other (number_is r o e))) (λ e. refl)
 
   gives_by : {A : Type 0} (r : Ref) (o : Option Ref) (x y : A) → o ≡ Some r → cond (is_number r o) x y ≡ x
   gives_by {A} r o x y e = ap (λ b. cond b x y) (ap (is_number r) e ∙ eq-eqb r r refl)

@@ -15,6 +15,7 @@ use Rattle.memory_laws.specs.Wants.{is_indirection}
 use Rattle.content_laws.specs.Tries.{Trie, IsChild, IsShaped, generation}
 use Rattle.content_laws.proofs.Shapes.{IsBranch, branch_shape}
 use Rattle.content_laws.proofs.Parting.{leads_down}
+use Rattle.falling_laws.proofs.ReaderKnows.{indirection_is}
 use Rattle.shape_laws.specs.Sites.{path_to, depth_at}
 use Rattle.shape_laws.specs.LineSites.{Sites, bare, trie_at}
 
@@ -72,31 +73,11 @@ pub bare_tomb : (n : Node) (t : Ref) → bare n ≡ Tomb t → n ≡ Tomb t
 bare_tomb (Indirection g w) t e = absurd (let bad : Indirection 0 no_ref ≡ Tomb t = e in cc)
 bare_tomb n t e = e
 
--- an indirection
-pub link_node : (n : Node) → is_indirection n ≡ true → (g : ℕ) × (w : Ref) × (n ≡ Indirection g w)
-link_node (Indirection g w) e = (g, w, refl)
-link_node (Branch b es) e = absurd (false_true e)
-  where
-    false_true : is_indirection (Branch b es) ≡ true → ⊥
-    false_true e = cc
-link_node (Single k v) e = absurd (false_true e)
-  where
-    false_true : is_indirection (Single k v) ≡ true → ⊥
-    false_true e = cc
-link_node (Tomb t) e = absurd (false_true e)
-  where
-    false_true : is_indirection (Tomb t) ≡ true → ⊥
-    false_true e = cc
-link_node (Listed ss) e = absurd (false_true e)
-  where
-    false_true : is_indirection (Listed ss) ≡ true → ⊥
-    false_true e = cc
-
 pub no_generation : (kind : HashKind) (s : Sites) (i : Ref) → generation (trie_at kind s) i ≡ 0
 no_generation kind s i = bare_generation (s.node i)
 
 pub bare_link_node : (s : Sites) (i : Ref) → is_indirection (s.node i) ≡ true → bare (s.node i) ≡ Indirection 0 no_ref
-bare_link_node s i e = let (g, w, is) = link_node (s.node i) e in ap bare is
+bare_link_node s i e = let (g, w, is) = indirection_is (s.node i) e in ap bare is
 
 module _ (kind : HashKind) (s : Sites) (fits : (i : Ref) → s.path i < 2 ^ (5 * depth_at (s.level i))) where
   abbrev T : Trie

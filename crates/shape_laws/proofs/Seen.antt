@@ -1,5 +1,5 @@
 -- What a state shows of sites, and what READ gives: it stays on the path.
-use Rattle.std.proofs.Common.{◌≡◌, ℕ, ◌+◌, ◌-◌, ◌<◌, ◌==◌, Bool, true, false, nat_lt, List, [], ◌∷◌, ◌++◌, length, get_or, sym, ap, subst, ◌∙◌, inl, inr, ltb-true, arith}
+use Rattle.std.proofs.Common.{◌≡◌, ℕ, ◌+◌, ◌-◌, ◌<◌, ◌==◌, Bool, true, false, nat_lt, List, ◌∷◌, ◌++◌, length, get_or, sym, ap, subst, ◌∙◌, inl, inr, ltb-true, arith, []}
 use Rattle.std.proofs.lemmas.Bool.{cases_lt, false≢true}
 use Rattle.std.proofs.lemmas.List.{get_or-take, get_or_append_left, get_or_push, length-take-le, length-append}
 use Rattle.arrayvec.specs.ArrayVec.{ArrayVec}
@@ -9,7 +9,7 @@ use Rattle.history.specs.declared.calls.Access.{Access}
 use Rattle.history.specs.declared.calls.Access.TheVariants.{Writable, ReadOnly}
 use Rattle.slot_arena.specs.declared.refs.Ref.{Ref}
 use Rattle.slot_arena.specs.declared.nodes.Node.{Node}
-use Rattle.slot_arena.specs.declared.nodes.Node.TheVariants.{Indirection, Branch, List as Listed}
+use Rattle.slot_arena.specs.declared.nodes.Node.TheVariants.{Indirection, Branch}
 use Rattle.slot_arena.specs.declared.nodes.Prev.{Prev}
 use Rattle.slot_arena.specs.declared.nodes.Prev.TheVariants as prev
 use Rattle.slot_arena.specs.Heaps.{node_at, prev_at, main_at, main_of, entries_of, bitmap_of, no_ref}
@@ -27,7 +27,7 @@ use Rattle.memory_laws.proofs.Claims.{safe_of, meets_of}
 use Rattle.memory_laws.proofs.Levels.{NodeLevel, PrevLevel}
 use Rattle.shape_laws.specs.LineSites.{Sites, bare, trie_at, InsideSite, PrevSite, ReadSite, IsOnWay, PathSite}
 use Rattle.shape_laws.specs.Sites.{path_to}
-use Rattle.shape_laws.proofs.Places.{bare_entries, bare_bitmap, bare_link, bare_branch, bare_list}
+use Rattle.shape_laws.proofs.Places.{bare_entries, bare_bitmap, bare_link, bare_branch}
 
 -- of the references that are in use
 pub record Sees (s : Sites) (state : State) (S : Ref → Type 0) : Type 0 where
@@ -52,9 +52,6 @@ module _ (s : Sites) (state : State) (S : Ref → Type 0) (N : Sees s state S) w
   -- a main node has its shape
   pub branch_seen : (r : Ref) (b : ℕ) (es : ArrayVec Ref) → S r → s.node r ≡ Branch b es → IsShaped (trie_at kind s) r (Branch b es)
   branch_seen r b es u e = subst (InsideSite kind s r) (bare_branch (node_at state.heap r) b es (sym (N.same r u) ∙ ap bare e)) (N.inside r u)
-
-  pub list_seen : (r : Ref) (ss : ArrayVec Ref) → S r → s.node r ≡ Listed ss → IsShaped (trie_at kind s) r (Listed ss)
-  list_seen r ss u e = subst (InsideSite kind s r) (bare_list (node_at state.heap r) ss (sym (N.same r u) ∙ ap bare e)) (N.inside r u)
 
   -- ---- READ
 

@@ -1,5 +1,5 @@
 -- The trie of a run has its shape at each time.
-use Rattle.std.proofs.Common.{◌≡◌, ℕ, zero, suc, ◌+◌, ◌-◌, ◌*◌, ◌%◌, ◌^◌, ◌<◌, ◌≤◌, Bool, true, false, cond, List, [], ◌∷◌, Contains, Option, Some, None, is_some, unwrap_or, ◌⊎◌, inl, inr, refl, sym, ap, ap₂, subst, ◌∙◌, arith}
+use Rattle.std.proofs.Common.{◌≡◌, ℕ, zero, suc, ◌+◌, ◌-◌, ◌*◌, ◌%◌, ◌^◌, ◌<◌, ◌≤◌, Bool, true, false, cond, List, ◌∷◌, Contains, Option, Some, None, is_some, unwrap_or, ◌⊎◌, inl, inr, refl, sym, ap, ap₂, subst, ◌∙◌, arith, []}
 use Rattle.std.proofs.lemmas.Bool.{false≢true, cond_both}
 use Rattle.ctrie_base.specs.Hashes.{hash_of}
 use Rattle.slot_arena.specs.declared.refs.Ref.{Ref}
@@ -7,7 +7,7 @@ use Rattle.node_contents.specs.Looking.{look_at, look_among, or_else}
 use Rattle.slot_arena.specs.declared.nodes.Node.{Node}
 use Rattle.slot_arena.specs.declared.nodes.Node.TheVariants.{Indirection, Branch, Single}
 use Rattle.slot_arena.specs.declared.nodes.Slot.{Slot}
-use Rattle.slot_arena.specs.Heaps.{node_of, main_of, prev_of, logical, entries_of, no_ref, empty_branch, entries_from}
+use Rattle.slot_arena.specs.Heaps.{node_of, prev_of, logical, entries_of, no_ref, empty_branch, entries_from}
 use Rattle.nodes.specs.Levels.{index_in, list_depth}
 use Rattle.node_contents.specs.Lists.{AreSingles}
 use Rattle.node_contents.specs.Branches.{at_place}
@@ -25,6 +25,8 @@ use Rattle.content_laws.specs.Runs.{is_made, main_within, main_at, root_until}
 use Rattle.content_laws.proofs.Runs.{key_until}
 use Rattle.content_laws.proofs.Shaping.{empty_shaped}
 use Rattle.content_laws.proofs.ListShaping.{shape_moves}
+use Rattle.memory_laws.proofs.Nodes.{no_main}
+use Rattle.deciding_laws.proofs.GrownWords.{link_made}
 use Rattle.shape_laws.specs.Sites.{depth_at, level_until, path_until}
 use Rattle.shape_laws.specs.LineSites.{Sites, sites_of, bare, trie_at}
 use Rattle.shape_laws.specs.SitesAt.{TakesSteps, StepsFit}
@@ -153,14 +155,10 @@ module _ (limits : Limits) (states : ℕ → State) (steps : ℕ → Step) (last
   slot_of_made None e = absurd (false≢true e)
   slot_of_made (Some slot) e = (slot, refl)
 
-  made_link : (o : Option Slot) → is_indirection (node_of o) ≡ true → is_some o ≡ true
-  made_link None e = absurd (false≢true e)
-  made_link (Some slot) e = refl
-
   link_shaped : (t : ℕ) (i : Ref) → t ≤ last → is_indirection (node_under states last i) ≡ true → IsShaped trie i (node_in trie t i)
   link_shaped t i h link =
       let (u, le, is, still) = main_of_some t i h in
-      let (slot, found) = slot_of_made (grown states u i) (still (made_link (grown states last i) link)) in
+      let (slot, found) = slot_of_made (grown states u i) (still (link_made (grown states last i) link)) in
       let c = counts limits states steps last run takes keys u le i slot found (sym (link_same limits states steps last run takes keys u le i slot found) ∙ link) in
       with_generations i link (node_under states last (main_at states last t i))
       (λ k child x within its. newer t h i child k x within its)
@@ -170,10 +168,6 @@ module _ (limits : Limits) (states : ℕ → State) (steps : ℕ → Step) (last
 
   -- ---- anything else has no main node
 
-  no_word : (n : Node) → is_indirection n ≡ false → main_of n ≡ no_ref
-  no_word (Indirection g w) e = absurd (false≢true (sym e))
-  no_word n e = refl
-
   no_link : (u : ℕ) → u ≤ last → (i : Ref) → is_indirection (node_under states last i) ≡ false → is_indirection (node_under states u i) ≡ false
   no_link u h i none = by_slot (grown states u i) refl
     where
@@ -181,9 +175,9 @@ module _ (limits : Limits) (states : ℕ → State) (steps : ℕ → Step) (last
       by_slot None e = refl
       by_slot (Some slot) e = sym (link_same limits states steps last run takes keys u h i slot e) ∙ none
 
-  no_main : (u : ℕ) → u ≤ last → (i : Ref) → is_indirection (node_under states last i) ≡ false → main_before states u i ≡ no_ref
-  no_main u h i none =
-      ap (λ m. logical m (prev_of (grown states u m))) (no_word (node_under states u i) (no_link u h i none)) ∙ ap (λ o. logical no_ref (prev_of o)) (never_made limits states last run u h)
+  no_main_at : (u : ℕ) → u ≤ last → (i : Ref) → is_indirection (node_under states last i) ≡ false → main_before states u i ≡ no_ref
+  no_main_at u h i none =
+      ap (λ m. logical m (prev_of (grown states u m))) (no_main (node_under states u i) (no_link u h i none)) ∙ ap (λ o. logical no_ref (prev_of o)) (never_made limits states last run u h)
 
   no_node : shown empty_branch ≡ empty_branch
   no_node = bare_branch (shown empty_branch) 0 (entries_from []) (tells empty_branch)
@@ -192,7 +186,7 @@ module _ (limits : Limits) (states : ℕ → State) (steps : ℕ → Step) (last
   other_shaped t i h none =
       let (u, le, is, still) = main_of_some t i h in
       let root : trie.depth i ≡ 0 = ap (λ b. cond b (depth_at (level_until states steps last i)) 0) none in
-      subst (IsShaped trie i) (sym (ap (λ m. shown (node_under states last m)) (is ∙ no_main u le i none) ∙ ap (λ o. shown (node_of o)) (never_made limits states last run last (omega arith)) ∙ no_node)) (empty_shaped trie fits i (omega (arith, root, deep_low limits.hash)))
+      subst (IsShaped trie i) (sym (ap (λ m. shown (node_under states last m)) (is ∙ no_main_at u le i none) ∙ ap (λ o. shown (node_of o)) (never_made limits states last run last (omega arith)) ∙ no_node)) (empty_shaped trie fits i (omega (arith, root, deep_low limits.hash)))
 
   shaped_at : (t : ℕ) (i : Ref) → t ≤ last → IsShaped trie i (node_in trie t i)
   shaped_at t i h = by_test (is_indirection (node_under states last i)) refl

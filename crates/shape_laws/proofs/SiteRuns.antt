@@ -39,7 +39,7 @@ use Rattle.shape_laws.proofs.Given.{path_given, path_stays, gives_level, levels_
 use Rattle.shape_laws.proofs.SiteActs.{roots_alike}
 use Rattle.shape_laws.proofs.SiteStates.{HasSites, AreBare, GivesPath, sites_after}
 
-bare_main : (m : Ref) (n : Node) → bare (with_main_word m n) ≡ bare n
+pub bare_main : (m : Ref) (n : Node) → bare (with_main_word m n) ≡ bare n
 bare_main m (Indirection g w) = refl
 bare_main m (Branch b es) = refl
 bare_main m (Single k v) = refl

@@ -1,12 +1,11 @@
 -- Main nodes, lines and the paths of operations stand at their sites at each time of a run.
-use Rattle.std.proofs.Common.{◌≡◌, ℕ, ◌+◌, ◌<◌, ◌≤◌, true, cond, length, get_or, slice_index_or, Option, Some, None, is_some, ◌⊎◌, inl, inr, refl, sym, ap, subst, ◌∙◌, ltb-true, arith}
+use Rattle.std.proofs.Common.{◌≡◌, ℕ, ◌+◌, ◌<◌, ◌≤◌, true, cond, length, get_or, slice_index_or, Some, None, inl, inr, sym, ap, subst, ◌∙◌, ltb-true, arith}
 use Rattle.std.proofs.lemmas.Bool.{cases_lt, false≢true}
 use Rattle.ctrie_base.specs.Hashes.{hash_of}
 use Rattle.slot_arena.specs.declared.refs.Ref.{Ref}
 use Rattle.slot_arena.specs.declared.nodes.Node.{Node}
-use Rattle.slot_arena.specs.declared.nodes.Node.TheVariants.{Indirection, Branch, Single, Tomb, List as Listed}
-use Rattle.slot_arena.specs.declared.nodes.Slot.{Slot}
-use Rattle.slot_arena.specs.Heaps.{node_of, main_of, no_ref}
+use Rattle.slot_arena.specs.declared.nodes.Node.TheVariants.{Indirection}
+use Rattle.slot_arena.specs.Heaps.{no_ref}
 use Rattle.nodes.specs.Levels.{list_depth}
 use Rattle.machine_model.specs.declared.lines.Purpose.TheVariants as purpose
 use Rattle.machine_model.specs.declared.operations.Operation.{Operation}
@@ -16,7 +15,7 @@ use Rattle.machine_model.specs.Calls.{key_of}
 use Rattle.machine_model.specs.Paths.{depth_of}
 use Rattle.machine_model.specs.States.{State, operation_of}
 use Rattle.machine_model.proofs.Times.{IsRun}
-use Rattle.machine_model.proofs.Grown.{grown, node_under, main_word, main_before}
+use Rattle.machine_model.proofs.Grown.{node_under}
 use Rattle.memory_laws.specs.Wants.{AnIndirection, is_indirection, AllHold, line_wants, swap_wants, purpose_wants}
 use Rattle.memory_laws.specs.Laws.{IsInUse}
 use Rattle.memory_laws.proofs.Claims.{Meets, fact_of, last_hold}
@@ -28,48 +27,19 @@ use Rattle.memory_laws.proofs.Shapes.{ShapeAt}
 use Rattle.content_laws.proofs.Shapes.{list_depth-le}
 use Rattle.shape_laws.specs.Sites.{path_to, depth_at, level_until, path_until, depth_of_run, path_of_run}
 use Rattle.shape_laws.specs.LineSites.{Sites, sites_of, LineSite}
-use Rattle.shape_laws.specs.SitesAt.{TakesSteps, StepsFit, LinksAreShallow, MainsHaveSites, LinesHaveSites, WaysHaveSites, UpdatesHaveSites, way_of}
+use Rattle.shape_laws.specs.SitesAt.{TakesSteps, StepsFit, LinesHaveSites, WaysHaveSites, UpdatesHaveSites, way_of}
 use Rattle.shape_laws.proofs.LineWays.{way_level, way_site, way_links}
 use Rattle.shape_laws.proofs.Given.{levels_there}
 use Rattle.shape_laws.proofs.SiteRuns.{sites_there}
-use Rattle.shape_laws.proofs.GrownSites.{grown_sites, counts, word_site, link_same}
+use Rattle.shape_laws.proofs.GrownSites.{link_same}
 
-link_high : (deep level : ℕ) (n : Node) → is_indirection n ≡ true → ShapeAt deep level n → level ≤ deep + 1
+pub link_high : (deep level : ℕ) (n : Node) → is_indirection n ≡ true → ShapeAt deep level n → level ≤ deep + 1
 link_high deep level (Indirection g w) e h = h
 link_high deep level n e h = absurd (false≢true e)
 
 module _ (limits : Limits) (states : ℕ → State) (steps : ℕ → Step) (last : ℕ) (run : IsRun limits states last) (takes : TakesSteps states steps last) (keys : StepsFit steps last) where
   abbrev s : Sites
   s = sites_of states steps last
-
-  -- ---- main nodes
-
-  pub mains_have_sites : MainsHaveSites states steps last
-  mains_have_sites t h i m link (made, which) = by_slot (grown states t i) refl made which
-    where
-      by_slot : (o : Option Slot) → grown states t i ≡ o → is_some o ≡ true → (main_before states t i ≡ m) ⊎ (main_word states t i ≡ m) → (s.level m ≡ s.level i) × (s.path m ≡ s.path i)
-      by_slot None e none which = absurd (false≢true none)
-      by_slot (Some slot) e some (inl is) =
-          let c = counts limits states steps last run takes keys t h i slot e (sym (link_same limits states steps last run takes keys t h i slot e) ∙ link) in
-          (ap s.level (sym is) ∙ c.level, ap s.path (sym is) ∙ c.path)
-      by_slot (Some slot) e some (inr is) =
-          let w = word_site limits states steps last run takes keys t h i slot e (sym (link_same limits states steps last run takes keys t h i slot e) ∙ link) in
-          let its : m ≡ main_of slot.node = sym is ∙ ap (λ o. main_of (node_of o)) e in
-          (ap s.level its ∙ w.0, ap s.path its ∙ w.1)
-
-  pub links_are_shallow : LinksAreShallow states steps last
-  links_are_shallow i = by_slot (grown states last i) refl
-    where
-      by_link : (n : Node) → ShapeAt (list_depth limits.hash) (s.level i) n → cond (is_indirection n) (depth_at (s.level i)) 0 ≤ 13
-      by_link (Indirection g w) shape = omega (arith, shape, list_depth-le limits.hash)
-      by_link (Branch b es) shape = omega arith
-      by_link (Single k v) shape = omega arith
-      by_link (Tomb x) shape = omega arith
-      by_link (Listed ss) shape = omega arith
-
-      by_slot : (o : Option Slot) → grown states last i ≡ o → cond (is_indirection (node_of o)) (depth_at (s.level i)) 0 ≤ 13
-      by_slot None e = omega arith
-      by_slot (Some slot) e = by_link slot.node (grown_sites limits states steps last run takes keys last (omega arith) i slot e).shape
 
   -- ---- lines
 

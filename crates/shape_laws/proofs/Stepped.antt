@@ -1,5 +1,5 @@
 -- The steps of a list that are taken lead from each state of its run to the next one.
-use Rattle.std.proofs.Common.{◌≡◌, ℕ, zero, suc, cond, ◌<◌, List, [], ◌∷◌, length, slice_index_or, Ok, Err, refl, ap, subst, sym, arith}
+use Rattle.std.proofs.Common.{◌≡◌, ℕ, zero, suc, cond, ◌<◌, List, ◌∷◌, length, slice_index_or, Ok, Err, refl, ap, subst, sym, arith, []}
 use Rattle.machine_model.specs.declared.steps.Limits.{Limits}
 use Rattle.machine_model.specs.declared.steps.Outcome.{Outcome}
 use Rattle.machine_model.specs.declared.steps.Step.{Step}
@@ -8,6 +8,7 @@ use Rattle.machine_model.specs.States.{State, first_state}
 use Rattle.machine_model.specs.Machine.{Answer, next, next_state, state_after, is_taken_step, taken_from}
 use Rattle.machine_model.proofs.Moves.{Moves, MovesIfTaken, moves}
 use Rattle.machine_model.proofs.Times.{states_from, states_of, last_of}
+use Rattle.deciding_laws.proofs.InHeap.{states_at_zero}
 use Rattle.shape_laws.specs.Sites.{steps_of}
 use Rattle.shape_laws.specs.SitesAt.{TakesSteps}
 
@@ -17,14 +18,9 @@ MovesAt state s after = (o : Outcome) × Moves state s o after
 abbrev LeadsOn : State → List Step → Type 0
 LeadsOn state steps = (t : ℕ) → t < length steps → MovesAt (states_from state steps t) (slice_index_or steps t step.Sweep) (states_from state steps (suc t))
 
-pub states_from-zero : (state : State) (steps : List Step) → states_from state steps zero ≡ state
-unfolding states_from
-states_from-zero state [] = refl
-states_from-zero state (s ∷ steps) = refl
-
 in_front : (state : State) (s : Step) (steps : List Step) → MovesAt state s (next_state state s) → LeadsOn (next_state state s) steps → LeadsOn state (s ∷ steps)
 unfolding states_from
-in_front state s steps m rest zero h = subst (MovesAt state s) (sym (states_from-zero (next_state state s) steps)) m
+in_front state s steps m rest zero h = subst (MovesAt state s) (sym (states_at_zero (next_state state s) steps)) m
 in_front state s steps m rest (suc t) h = rest t (omega arith)
 
 leads_to : (state : State) (s : Step) (after : State) (steps : List Step) → after ≡ next_state state s → MovesAt state s after → LeadsOn after steps → LeadsOn state (s ∷ steps)

@@ -1,5 +1,5 @@
 -- What is asked of a run, and where nodes and paths of operations stand at each time of it.
-use Rattle.std.specs.Prelude.{◌≡◌, ℕ, suc, ◌^◌, ◌<◌, ◌≤◌, true, List, [], length, slice_index_or, Option, Some}
+use Rattle.std.specs.Prelude.{◌≡◌, ℕ, suc, ◌^◌, ◌<◌, ◌≤◌, true, List, length, slice_index_or, Option, Some, []}
 use Rattle.ctrie_base.specs.Hashes.{hash_of}
 use Rattle.slot_arena.specs.declared.refs.Ref.{Ref}
 use Rattle.slot_arena.specs.Heaps.{no_ref}
@@ -24,8 +24,8 @@ use Rattle.machine_model.proofs.Grown.{node_under}
 use Rattle.machine_model.proofs.Moves.{Moves}
 use Rattle.memory_laws.specs.Wants.{is_indirection}
 use Rattle.memory_laws.proofs.Levels.{LineLevel}
-use Rattle.falling_laws.specs.Falling.{IsMainOf, build_path, renew_path, purpose_path}
-use Rattle.shape_laws.specs.Sites.{path_to, level_until, path_until, depth_of_run, path_of_run}
+use Rattle.falling_laws.specs.Falling.{build_path, renew_path, purpose_path}
+use Rattle.shape_laws.specs.Sites.{path_to, level_until, depth_of_run, path_of_run}
 use Rattle.shape_laws.specs.LineSites.{LineSite, sites_of}
 use Rattle.machine_model.specs.Keys.{FitsKey}
 
@@ -38,18 +38,6 @@ TakesSteps states steps last = (t : ℕ) → t < last → (o : Outcome) × Moves
 -- their keys have 64 bits
 abbrev pub StepsFit : (ℕ → Step) → ℕ → Type 0
 StepsFit steps last = (t : ℕ) → t < last → FitsKey (steps t)
-
--- ---- main nodes
-
--- a main node that stands in an indirection's word, or counts for it, has its level and path
-abbrev pub MainsHaveSites : (ℕ → State) → (ℕ → Step) → ℕ → Type 0
-MainsHaveSites states steps last =
-    (t : ℕ) → t ≤ last → (i m : Ref) → is_indirection (node_under states last i) ≡ true → IsMainOf states t i m →
-    (level_until states steps last m ≡ level_until states steps last i) × (path_until states steps last m ≡ path_until states steps last i)
-
--- indirections have depth 13 at most
-abbrev pub LinksAreShallow : (ℕ → State) → (ℕ → Step) → ℕ → Type 0
-LinksAreShallow states steps last = (i : Ref) → depth_of_run states steps last i ≤ 13
 
 -- ---- lines
 

@@ -41,6 +41,7 @@ use Rattle.content_laws.specs.Runs.{trie_of}
 use Rattle.content_laws.specs.Knowing.{KnowsLine, IsGet}
 use Rattle.content_laws.proofs.KeyEnds.{EndsRight}
 use Rattle.generation_laws.proofs.OpenRoots.{no_close_at}
+use Rattle.generation_laws.proofs.Rooted.{root_given}
 use Rattle.order_laws.specs.Facts.{Runs, standing}
 use Rattle.line_laws.specs.Knowing.{known_with, first_main, IsPlaced}
 use Rattle.line_laws.proofs.Placed.{is_keyed, is_walking, walk_walking}
@@ -49,15 +50,14 @@ use Rattle.line_laws.proofs.Knows.{knows_at}
 use Rattle.line_laws.proofs.Places.{FitsCall, settled_at, places_at}
 use Rattle.line_laws.proofs.Seen.{keyed_get, fits_at}
 use Rattle.falling_laws.specs.Falling.{GivenForEver}
+use Rattle.phase_laws.proofs.Closers.{still_placed}
 use Rattle.trie_laws.specs.Below.{RootsAreKept}
 use Rattle.trie_laws.proofs.Behind.{is_right, Behind, IfEnds, is_still, plain_behind, climbing_behind, still_behind, root_plain, build_plain, renew_plain, clean_plain, key_still, climb_climbs}
 use Rattle.trie_laws.proofs.CopyBehind.{copy_behind}
 use Rattle.trie_laws.proofs.EachOperation.{OwnStep}
 use Rattle.trie_laws.proofs.EachRoute.{has_route}
 use Rattle.trie_laws.proofs.KeyAnswers.{AnswersSo, keyed_so, key_right}
-use Rattle.trie_laws.proofs.Placing.{stays_placed}
 use Rattle.trie_laws.proofs.ReaderRoots.{StandsOn, stands_on, stood_before}
-use Rattle.trie_laws.proofs.RouteTimes.{root_given}
 use Rattle.trie_laws.proofs.Routes.{LineRoute}
 use Rattle.trie_laws.proofs.SwapBehind.{swap_behind}
 use Rattle.trie_laws.proofs.WalkAnswers.{goes_at, Walks as Walks', walk_right}
@@ -107,7 +107,7 @@ module _ (limits : Limits) (states : ℕ → State) (last : ℕ) (depth path : R
 
     -- what has its place keeps it
     keeps_place : is_placed state operation.id ≡ true → is_placed (states (suc t)) operation.id ≡ true
-    keeps_place is = stays_placed state (step.Go (suc k)) own.outcome (states (suc t)) own.moves operation.id is
+    keeps_place is = still_placed state (step.Go (suc k)) own.outcome (states (suc t)) own.moves operation.id is
 
     going : is_end operation.line ≡ false
     going = by_line operation.line own.goes

@@ -163,9 +163,6 @@ climbed_climbs operation c n done = grind arith
 -- ---- what is behind such lines
 
 module _ (states : ℕ → State) (t id : ℕ) (Right : Reply → Type 0) (Walks : WalkLine → Type 0) where
-  abbrev B : Line → Type 0
-  B l = Behind states t id Right Walks l
-
   refusal : (answer : Reply) → is_refusal answer ≡ true → answer ≡ reply.NoSlots
   refusal answer e = grind arith
 

@@ -14,7 +14,6 @@ use Rattle.machine_model.specs.declared.reading.After.TheVariants.{Goes, Gives}
 use Rattle.machine_model.specs.declared.roots.Complete.{Complete}
 use Rattle.machine_model.specs.declared.roots.CompleteLine.{CompleteLine}
 use Rattle.machine_model.specs.declared.roots.CompleteLine.TheVariants as complete
-use Rattle.machine_model.specs.declared.roots.RootWord.{RootWord}
 use Rattle.machine_model.specs.declared.reading.ReadLine.{ReadLine}
 use Rattle.machine_model.specs.Lines.{new_try}
 use Rattle.machine_model.specs.declared.steps.Limits.{Limits}
@@ -29,10 +28,11 @@ use Rattle.machine_model.specs.Orders.{is_placed}
 use Rattle.machine_model.proofs.Times.{IsRun}
 use Rattle.generation_laws.proofs.CopyLines.{LineFits}
 use Rattle.order_laws.proofs.OfferStands.{offers_at}
+use Rattle.phase_laws.proofs.Closers.{still_placed}
 use Rattle.trie_laws.proofs.Behind.{has_place, Behind, plain_behind, copy_plain}
 use Rattle.trie_laws.proofs.EachOperation.{OwnStep}
 use Rattle.trie_laws.proofs.Given.{own_after}
-use Rattle.trie_laws.proofs.Placing.{stays_placed, carried_placed, marked_placed}
+use Rattle.trie_laws.proofs.Placing.{carried_placed, marked_placed}
 
 module _ (limits : Limits) (states : ℕ → State) (last : ℕ) (run : IsRun limits states last) (t k : ℕ) (lt : t < last) (operation : Operation) (own : OwnStep states t k operation)
     (Right : Reply → Type 0) (Walks : WalkLine → Type 0) where
@@ -43,9 +43,6 @@ module _ (limits : Limits) (states : ℕ → State) (last : ℕ) (run : IsRun li
   On l = Behind states (suc t) operation.id Right Walks l
 
   module _ (c : Complete) (e : operation.line ≡ line.Copy (copy.Complete c)) where
-    word : RootWord
-    word = word_at state (handle_of operation.call)
-
     its_offer : c.offer.operation ≡ operation.id
     its_offer =
         let mine = subst (λ l. LineFits operation.call operation.id operation.opens operation.attempt l) e ((offers_at limits states last run t (omega arith)).own.own k operation own.runs) in
@@ -71,7 +68,7 @@ module _ (limits : Limits) (states : ℕ → State) (last : ℕ) (run : IsRun li
     complete_on (Gives false) is = by_mark operation.is_marked refl
       where
         by_mark : (b : Bool) → operation.is_marked ≡ b → On (cond b (line.End (copied_reply operation.call operation.opens)) new_try)
-        by_mark true marked = has_place (stays_placed state (step.Go (suc k)) own.outcome (states (suc t)) own.moves operation.id (marked_placed limits states last run t (omega arith) k operation own.runs marked))
+        by_mark true marked = has_place (still_placed state (step.Go (suc k)) own.outcome (states (suc t)) own.moves operation.id (marked_placed limits states last run t (omega arith) k operation own.runs marked))
         by_mark false unmarked = tt
 
   pub copy_behind : (l : CopyLine) → operation.line ≡ line.Copy l → On (copy_after state operation l)

@@ -40,6 +40,7 @@ use Rattle.generation_laws.proofs.OpenRoots.{no_close_at}
 use Rattle.content_laws.specs.Tries.{Trie, generation}
 use Rattle.content_laws.specs.Steps.{IsTrie}
 use Rattle.content_laws.specs.Runs.{trie_of}
+use Rattle.generation_laws.proofs.Rooted.{root_given}
 use Rattle.line_laws.proofs.Nodes.{nodes_stay}
 use Rattle.falling_laws.specs.Falling.{GivenForEver}
 use Rattle.trie_laws.specs.Below.{RootsAreKept}
@@ -49,7 +50,7 @@ use Rattle.trie_laws.proofs.Routes.{IsAt, KeyRoute, LineRoute, route_later, rout
 use Rattle.trie_laws.proofs.KeyRoutes.{main_on, entry_on, listed_on, sibling_on}
 use Rattle.trie_laws.proofs.LineRoutes.{clean_on, climb_on, copy_on, walk_on, build_on, renew_on, swap_on}
 use Rattle.trie_laws.proofs.RouteSteps.{read_on, leads_there}
-use Rattle.trie_laws.proofs.RouteTimes.{later, root_given}
+use Rattle.trie_laws.proofs.RouteTimes.{later}
 
 -- a SWAP's path is no matter of moments
 swap_route : (trie : Trie) (access : Access) (g q t b mu c nu : ℕ) (why : Purpose) (s : Swap) → LineRoute trie access g q t b mu (line.Swap why s) → LineRoute trie access g q t c nu (line.Swap why s)

@@ -1,11 +1,10 @@
 -- What the order takes of contents: a step that commits no own update leaves them all, and one that does leads one of them on.
-use Rattle.std.proofs.Common.{◌≡◌, ◌≢◌, ℕ, suc, ◌<◌, ◌≤◌, ◌^◌, ◌⊎◌, inl, inr, List, [], ◌∷◌, Option, Some, refl, sym, ap, subst₂, ◌∙◌}
+use Rattle.std.proofs.Common.{◌≡◌, ◌≢◌, ℕ, suc, ◌<◌, ◌≤◌, ◌^◌, ◌⊎◌, inl, inr, List, ◌∷◌, Option, Some, refl, sym, ap, subst₂, ◌∙◌, []}
 use Rattle.std.proofs.lemmas.Option.{same_Some}
 use Rattle.ctrie_base.specs.Hashes.{hash_of}
 use Rattle.history.specs.declared.calls.Access.TheVariants.{Writable}
 use Rattle.slot_arena.specs.declared.refs.Ref.{Ref}
 use Rattle.places.specs.declared.place.Place.{Place}
-use Rattle.machine_model.specs.declared.lines.Purpose.{Purpose}
 use Rattle.machine_model.specs.declared.lines.Purpose.TheVariants as purpose
 use Rattle.machine_model.specs.declared.lines.Line.TheVariants as line
 use Rattle.machine_model.specs.declared.operations.Operation.{Operation}
@@ -49,16 +48,6 @@ module _ (limits : Limits) (states : ℕ → State) (last : ℕ) (t : ℕ) (s : 
 
   pub own_enters : (own : Own) → entered_by_step (states t) s ≡ places_for (states t) own.owner t own.why
   own_enters own = ap (entered (states t)) (committed_is own) ∙ own.enters
-
-  -- a repair enters nobody
-  some_enters : (own : Own) → (entered_by_step (states t) s ≢ []) → (p : List Ref) × (former : Option ℕ) × (own.why ≡ purpose.Update p former)
-  some_enters own some = by_purpose own.why refl
-    where
-      by_purpose : (why : Purpose) → own.why ≡ why → (p : List Ref) × (former : Option ℕ) × (own.why ≡ purpose.Update p former)
-      by_purpose (purpose.Update p former) e = (p, former, e)
-      by_purpose (purpose.Renew p) e = absurd (some (own_enters own ∙ ap (places_for (states t) own.owner t) e))
-      by_purpose purpose.Clean e = absurd (some (own_enters own ∙ ap (places_for (states t) own.owner t) e))
-      by_purpose (purpose.Climb c) e = absurd (some (own_enters own ∙ ap (places_for (states t) own.owner t) e))
 
   nobody_enters : (own : Own) → entered_by_step (states t) s ≡ [] → (p : List Ref) (former : Option ℕ) → own.why ≡ purpose.Update p former → ⊥
   nobody_enters own none p former e = by_places (sym none ∙ own_enters own ∙ ap (places_for (states t) own.owner t) e)

@@ -1,24 +1,16 @@
 -- What a step of an operation's own READ gives, in the words of the trie: just behind the operation's moment it was the main node.
-use Rattle.std.proofs.Common.{◌≡◌, ℕ, suc, ◌<◌, ◌≤◌, true, Option, Some, None, is_some, refl, sym, ap, subst, ◌∙◌, arith}
-use Rattle.std.proofs.lemmas.Bool.{true≢false}
-use Rattle.std.proofs.lemmas.Option.{same_Some}
+use Rattle.std.proofs.Common.{◌≡◌, ℕ, suc, ◌<◌, ◌≤◌, true, is_some, ◌∙◌, arith}
 use Rattle.slot_arena.specs.declared.refs.Ref.{Ref}
-use Rattle.slot_arena.specs.declared.nodes.Slot.{Slot}
-use Rattle.slot_arena.specs.Heaps.{node_of}
 use Rattle.machine_model.specs.declared.operations.Operation.{Operation}
 use Rattle.machine_model.specs.declared.reading.After.TheVariants.{Gives}
 use Rattle.machine_model.specs.declared.reading.ReadLine.{ReadLine}
 use Rattle.machine_model.specs.declared.steps.Limits.{Limits}
-use Rattle.machine_model.specs.declared.steps.Outcome.{Outcome}
-use Rattle.machine_model.specs.declared.steps.Step.TheVariants as step
 use Rattle.machine_model.specs.Calls.{handle_of}
-use Rattle.machine_model.specs.States.{State, word_at, operation_of}
+use Rattle.machine_model.specs.States.{State, word_at}
 use Rattle.machine_model.specs.Reading.{read_after}
-use Rattle.machine_model.specs.Operations.{action_of}
 use Rattle.machine_model.specs.Orders.{read_at_after, moment_after}
 use Rattle.machine_model.specs.Acting.{gone}
 use Rattle.machine_model.specs.Counting.{settled}
-use Rattle.machine_model.proofs.Moves.{Moves, Goes, Ends, GoesOn}
 use Rattle.machine_model.proofs.Times.{IsRun}
 use Rattle.machine_model.proofs.Grown.{grown}
 use Rattle.deciding_laws.proofs.Words.{Reads}
@@ -32,22 +24,11 @@ use Rattle.deciding_laws.proofs.Moments.{moment_at}
 use Rattle.content_laws.specs.Runs.{main_at}
 use Rattle.content_laws.proofs.Runs.{main_at-made}
 use Rattle.trie_laws.proofs.EachOperation.{OwnStep}
-use Rattle.memory_laws.specs.Wants.{is_indirection}
-
--- a step of an operation that goes on
-pub went : (before : State) (actor : ℕ) (o : Outcome) (after : State) → Moves before (step.Go actor) o after → (operation : Operation) → operation_of before actor ≡ Some operation →
-    GoesOn (action_of before operation) → after ≡ settled before (gone before actor operation)
-went before actor o after (Goes {operation = x} d is a g) operation runs goes = ap (λ y. settled before (gone before actor y)) (same_Some _ _ (sym is ∙ runs))
-went before actor o after (Ends {operation = x} {answer} d is a) operation runs goes =
-    absurd (subst (λ b. GoesOn b) (ap (action_of before) (sym (same_Some _ _ (sym is ∙ runs))) ∙ a) goes)
+use Rattle.deciding_laws.proofs.GrownWords.{link_made}
+use Rattle.falling_laws.proofs.ReadsGive.{gone_is}
 
 pub own_after : (states : ℕ → State) (t k : ℕ) (operation : Operation) → OwnStep states t k operation → states (suc t) ≡ settled (states t) (gone (states t) (suc k) operation)
-own_after states t k operation own = went (states t) (suc k) own.outcome (states (suc t)) own.moves operation own.runs own.goes
-
--- an indirection is made
-link_made : (o : Option Slot) → is_indirection (node_of o) ≡ true → is_some o ≡ true
-link_made None e = absurd (true≢false (sym e))
-link_made (Some slot) e = refl
+own_after states t k operation own = gone_is (states t) (suc k) own.outcome (states (suc t)) own.moves operation own.runs own.goes
 
 module _ (limits : Limits) (states : ℕ → State) (last : ℕ) (run : IsRun limits states last) where
   abbrev known : Known limits states last

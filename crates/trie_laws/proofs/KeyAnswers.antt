@@ -42,10 +42,11 @@ use Rattle.content_laws.proofs.Shapes.{leads_below}
 use Rattle.content_laws.proofs.KeyKnows.{Sees, SeesSingle}
 use Rattle.content_laws.proofs.KeyEnds.{EndsRight, Answering, main_ends, entry_ends, listed_ends, tomb_ends}
 use Rattle.content_laws.proofs.Answers.{writable_answers, read_only_answers}
+use Rattle.memory_laws.proofs.Nodes.{branch_main}
 use Rattle.line_laws.specs.Knowing.{known_with, first_main}
 use Rattle.line_laws.proofs.EachAt.{GoesAt}
 use Rattle.line_laws.proofs.Placed.{is_keyed}
-use Rattle.line_laws.proofs.Seen.{branch_main, listed_main, sees, single_seen}
+use Rattle.line_laws.proofs.Seen.{listed_main, sees, single_seen}
 use Rattle.line_laws.proofs.KeyStep.{same_known, claims, looks}
 use Rattle.trie_laws.proofs.Routes.{IsAt, KeyRoute, looks_at, route_end}
 

@@ -1,9 +1,8 @@
 -- What has its place: an operation whose offer was carried out, and one whose own change of its key is committed.
-use Rattle.std.proofs.Common.{◌≡◌, ℕ, suc, ◌≤◌, ◌==◌, Bool, true, false, cond, [], ◌∷◌, ◌++◌, ◌⊎◌, inl, inr, Option, Some, None, refl, sym, ap, subst, ◌∙◌, arith, eqb-true}
+use Rattle.std.proofs.Common.{◌≡◌, ℕ, suc, ◌≤◌, true, false, ◌∷◌, ◌++◌, ◌⊎◌, inl, inr, Some, refl, sym, ap, subst, ◌∙◌, []}
 use Rattle.std.proofs.lemmas.Bool.{false≢true}
 use Rattle.slot_arena.specs.declared.refs.Ref.{Ref}
 use Rattle.places.specs.Places.{on_time}
-use Rattle.machine_model.specs.declared.actions.Action.{Action}
 use Rattle.machine_model.specs.declared.actions.Action.TheVariants as act
 use Rattle.machine_model.specs.declared.operations.Operation.{Operation}
 use Rattle.machine_model.specs.declared.roots.Descriptor.{Descriptor}
@@ -15,40 +14,24 @@ use Rattle.machine_model.specs.States.{State, word_at, with_operation}
 use Rattle.machine_model.specs.Swapping.{is_carried_out}
 use Rattle.machine_model.specs.Operations.{action_of}
 use Rattle.machine_model.specs.Orders.{is_placed, committed_now}
-use Rattle.machine_model.specs.Acting.{acted, gone, carried_out, entered, commits_after, operation_after, mark_after}
+use Rattle.machine_model.specs.Acting.{acted, gone, carried_out, entered, commits_after, operation_after}
 use Rattle.machine_model.specs.Counting.{settled}
-use Rattle.machine_model.proofs.Actors.{mark_one, mark_only, marks_in, marks_by}
+use Rattle.machine_model.proofs.Actors.{mark_only, marks_in, marks_by}
 use Rattle.machine_model.proofs.Moves.{Moves, GoesOn}
 use Rattle.machine_model.proofs.Times.{IsRun, Turn, turns, along_run}
 use Rattle.order_laws.specs.Facts.{Runs}
 use Rattle.order_laws.proofs.Elements.{Among, among_right}
-use Rattle.order_laws.proofs.Growing.{places_grow, among_grown, placed}
 use Rattle.order_laws.proofs.Changes.{completed_is}
 use Rattle.order_laws.proofs.OfferStands.{marks_says, nobody}
 use Rattle.order_laws.proofs.OneStep.{From, began, kept, stepped, from}
-use Rattle.order_laws.proofs.Phases.{own_marks}
+use Rattle.order_laws.proofs.Phases.{own_marks, marked_or, marked_before}
+use Rattle.falling_laws.proofs.ReadsGive.{gone_is}
 use Rattle.phase_laws.proofs.PhaseSteps.{is_placed_so}
-use Rattle.trie_laws.proofs.Given.{went}
+use Rattle.phase_laws.proofs.Closers.{still_placed}
 
 -- ---- a place stays
 
-pub stays_placed : (state : State) (s : Step) (o : Outcome) (after : State) → Moves state s o after → (id : ℕ) → is_placed state id ≡ true → is_placed after id ≡ true
-stays_placed state s o after m id is =
-    let (p, a, same) = placed state id is in
-    is_placed_so after p (among_grown state.places after.places p (places_grow state s o after m) a) id same
-
 -- ---- marks
-
-marked_before : (mark : Bool) (action : Action) → mark_after mark action ≡ true → mark ≡ true
-marked_before mark action e = grind arith
-
-marked_or : (m : Option ℕ) (operation : Operation) → (mark_one m operation).is_marked ≡ true → (operation.is_marked ≡ true) ⊎ (m ≡ Some operation.id)
-marked_or None operation e = inl e
-marked_or (Some id) operation e = by_test (operation.id == id) refl e
-  where
-    by_test : (b : Bool) → (operation.id == id) ≡ b → (cond b (record operation { is_marked = true }) operation).is_marked ≡ true → (operation.is_marked ≡ true) ⊎ (Some id ≡ Some operation.id)
-    by_test true is e = inr (ap Some (sym (eqb-true operation.id id is)))
-    by_test false is e = inl e
 
 -- ---- by its offer
 
@@ -75,7 +58,7 @@ module _ (limits : Limits) (states : ℕ → State) (last : ℕ) (run : IsRun li
   marks_place t s o m id e =
       let it = marks_says (states t) s id e in
       let after : states (suc t) ≡ settled (states t) (gone (states t) (suc it.k) it.operation) =
-      went (states t) (suc it.k) o (states (suc t)) (subst (λ x. Moves (states t) x o (states (suc t))) it.is_step m) it.operation it.runs (subst (λ a. GoesOn a) (sym it.does) tt) in
+      gone_is (states t) (suc it.k) o (states (suc t)) (subst (λ x. Moves (states t) x o (states (suc t))) it.is_step m) it.operation it.runs (subst (λ a. GoesOn a) (sym it.does) tt) in
       subst (λ (q : State). is_placed q id ≡ true) (sym after)
       (subst (λ n. is_placed (settled (states t) (gone (states t) (suc it.k) it.operation)) n ≡ true) it.marks
       (carried_placed (states t) (suc it.k) it.operation it.offer it.main it.does it.carried))
@@ -93,7 +76,7 @@ module _ (limits : Limits) (states : ℕ → State) (last : ℕ) (run : IsRun li
       id_is = ap (λ (x : Operation). x.id) (is ∙ mark_only (marks_in (states t) s) was)
 
       by_mark : (was.is_marked ≡ true) ⊎ (marks_in (states t) s ≡ Some was.id) → is_placed (states (suc t)) found.id ≡ true
-      by_mark (inl marked) = ap (is_placed (states (suc t))) id_is ∙ stays_placed (states t) s o (states (suc t)) m was.id (all k was at_k marked)
+      by_mark (inl marked) = ap (is_placed (states (suc t))) id_is ∙ still_placed (states t) s o (states (suc t)) m was.id (all k was at_k marked)
       by_mark (inr now) = ap (is_placed (states (suc t))) id_is ∙ marks_place t s o m was.id now
   marked_by t s o m all k found (stepped was at_k is_step goes is) e =
       by_mark (marked_or (marks_by (states t) (Some was)) (operation_after (states t) was) (ap (λ (x : Operation). x.is_marked) (sym is) ∙ e))
@@ -103,7 +86,7 @@ module _ (limits : Limits) (states : ℕ → State) (last : ℕ) (run : IsRun li
 
       by_mark : ((operation_after (states t) was).is_marked ≡ true) ⊎ (marks_by (states t) (Some was) ≡ Some was.id) → is_placed (states (suc t)) found.id ≡ true
       by_mark (inl marked) =
-          ap (is_placed (states (suc t))) id_is ∙ stays_placed (states t) s o (states (suc t)) m was.id (all k was at_k (marked_before was.is_marked (action_of (states t) was) marked))
+          ap (is_placed (states (suc t))) id_is ∙ still_placed (states t) s o (states (suc t)) m was.id (all k was at_k (marked_before was.is_marked (action_of (states t) was) marked))
       by_mark (inr now) = ap (is_placed (states (suc t))) id_is ∙ marks_place t s o m was.id (own_marks (states t) s k was is_step at_k ∙ now)
 
   -- a marked operation has its place

@@ -1,5 +1,5 @@
 -- What an operation answers that has no place is right.
-use Rattle.std.proofs.Common.{◌≡◌, ◌≢◌, ℕ, suc, ◌<◌, ◌≤◌, ◌^◌, Bool, true, false, true≢false, [], ◌∷◌, inl, None, refl, sym, ap, subst, ◌∙◌, arith}
+use Rattle.std.proofs.Common.{◌≡◌, ◌≢◌, ℕ, suc, ◌<◌, ◌≤◌, ◌^◌, Bool, true, false, true≢false, ◌∷◌, inl, None, refl, sym, ap, subst, ◌∙◌, arith, []}
 use Rattle.std.proofs.lemmas.Option.{none-some}
 use Rattle.history.specs.Histories.{begun}
 use Rattle.history.specs.declared.calls.Access.{Access}
@@ -39,12 +39,12 @@ use Rattle.phase_laws.proofs.Since.{run_since}
 use Rattle.phase_laws.proofs.Standing.{rooted_at_moments, read_only_stands}
 use Rattle.line_laws.specs.Commits.{CommitsAt, assigned_at}
 use Rattle.falling_laws.specs.Falling.{GivenForEver}
+use Rattle.phase_laws.proofs.Closers.{still_placed}
 use Rattle.trie_laws.specs.Below.{RootsAreKept}
 use Rattle.trie_laws.specs.Laws.{RepliesRight}
 use Rattle.trie_laws.proofs.Answering.{RightAt, WalksAt, IsAnswering, answering_goes}
 use Rattle.trie_laws.proofs.Behind.{EndsSo, refused, has_place, is_right, Behind, later_behind}
 use Rattle.trie_laws.proofs.EachOperation.{each_operation}
-use Rattle.trie_laws.proofs.Placing.{stays_placed}
 use Rattle.trie_laws.proofs.ReaderRoots.{stood_before}
 use Rattle.trie_laws.proofs.SwapBehind.{none_next}
 
@@ -92,7 +92,7 @@ module _ (limits : Limits) (states : ℕ → State) (last : ℕ) (depth path : R
   module _ (t k : ℕ) (lt : t < last) (operation : Operation) (runs : Runs (states t) k operation) (s : Step) (o : Outcome) (m : Moves (states t) s o (states (suc t)))
       (before : IsAnswering states (trie_of limits states last depth path) t k operation) where
     keeps_place : is_placed (states t) operation.id ≡ true → is_placed (states (suc t)) operation.id ≡ true
-    keeps_place is = stays_placed (states t) s o (states (suc t)) m operation.id is
+    keeps_place is = still_placed (states t) s o (states (suc t)) m operation.id is
 
     module _ (no_close : is_close operation.call ≡ false) where
       right_later : (answer : Reply) → RightAt states trie t operation.access operation.generation operation.moment operation.call answer →

@@ -6,7 +6,6 @@ use Rattle.ctrie_base.specs.Paths.{position_of}
 use Rattle.history.specs.declared.calls.Access.{Access}
 use Rattle.history.specs.declared.calls.Access.TheVariants.{Writable, ReadOnly}
 use Rattle.slot_arena.specs.declared.refs.Ref.{Ref}
-use Rattle.slot_arena.specs.declared.nodes.Node.{Node}
 use Rattle.slot_arena.specs.declared.nodes.Node.TheVariants.{Indirection}
 use Rattle.slot_arena.specs.Heaps.{node_at, entry_at, entries_of, no_ref, generation_of}
 use Rattle.nodes.specs.Levels.{flag_of}
@@ -27,7 +26,7 @@ use Rattle.machine_model.specs.Operations.{line_action, read_of}
 use Rattle.machine_model.specs.Orders.{counted_from, read_at_after, moment_after}
 use Rattle.machine_model.proofs.Times.{IsRun, steps_at}
 use Rattle.memory_laws.specs.Laws.{IsInUse}
-use Rattle.memory_laws.specs.Wants.{Is, Holds, ABranch, AMain, meets, AllHold, line_wants, action_wants}
+use Rattle.memory_laws.specs.Wants.{Is, Holds, ABranch, AllHold, line_wants, action_wants}
 use Rattle.memory_laws.proofs.Claims.{safe_of, meets_of}
 use Rattle.memory_laws.proofs.AtTimes.{line_at, action_at}
 use Rattle.deciding_laws.specs.Deciding.{IsNoSwap}
@@ -43,6 +42,7 @@ use Rattle.content_laws.specs.Runs.{trie_of}
 use Rattle.content_laws.specs.Knowing.{KnowsKey, KnowsLine}
 use Rattle.content_laws.proofs.Shapes.{leads}
 use Rattle.content_laws.proofs.RepairKnows.{read_stays}
+use Rattle.memory_laws.proofs.Nodes.{branch_main}
 use Rattle.line_laws.specs.Knowing.{known_with, first_main}
 use Rattle.line_laws.proofs.Knows.{knows_at}
 use Rattle.line_laws.proofs.Nodes.{nodes_stay}
@@ -142,16 +142,10 @@ module _ (limits : Limits) (states : ℕ → State) (last : ℕ) (depth path : R
     -- ---- at an entry that is an indirection
 
     module _ (p : List Ref) (main : Ref) (position : ℕ) (e : operation.line ≡ line.Key (key.Entry p main position)) where
-      entry : Ref
-      entry = entry_at state.heap main position
-
       main_used : Holds (IsInUse state.heap) state.heap (Is main ABranch)
       main_used =
           let wants = subst (λ l. AllHold (IsInUse state.heap) state.heap (line_wants limits.hash operation.call operation.access l)) e (line_at limits states last run t within (suc k) operation own.runs) in
           wants.1.1.0
-
-      branch_main : (n : Node) → meets ABranch n ≡ true → meets AMain n ≡ true
-      branch_main n is = grind arith
 
       main_is : trie.node main ≡ node_at state.heap main
       main_is = seen_main states last (nodes_stay limits states last run) t within main (safe_of main_used) (branch_main (node_at state.heap main) (meets_of main_used))

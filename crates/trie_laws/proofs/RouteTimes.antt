@@ -1,25 +1,16 @@
 -- From when on a READ counts for a path, and that what a line knows of its path stays while others move.
-use Rattle.std.proofs.Common.{◌≡◌, ℕ, suc, ◌≤◌, Bool, ap, arith}
+use Rattle.std.proofs.Common.{◌≡◌, ℕ, suc, ◌≤◌, arith}
 use Rattle.history.specs.declared.calls.Access.{Access}
 use Rattle.slot_arena.specs.declared.refs.Ref.{Ref}
 use Rattle.machine_model.specs.declared.finding.KeyLine.TheVariants as key
 use Rattle.machine_model.specs.declared.lines.Purpose.TheVariants as purpose
 use Rattle.machine_model.specs.declared.lines.Line.{Line}
 use Rattle.machine_model.specs.declared.lines.Line.TheVariants as line
-use Rattle.machine_model.specs.declared.operations.Operation.{Operation}
 use Rattle.machine_model.specs.declared.reading.After.{After}
 use Rattle.machine_model.specs.declared.reading.After.TheVariants.{Goes, Gives}
 use Rattle.machine_model.specs.declared.reading.ReadLine.{ReadLine}
 use Rattle.machine_model.specs.declared.reading.ReadLine.TheVariants as read
-use Rattle.machine_model.specs.declared.roots.Complete.{Complete}
-use Rattle.machine_model.specs.declared.roots.RootLine.{RootLine}
-use Rattle.machine_model.specs.declared.roots.RootLine.TheVariants as root
-use Rattle.machine_model.specs.declared.roots.RootWord.{RootWord}
-use Rattle.machine_model.specs.declared.roots.RootWord.TheVariants.{Plain, Offer}
-use Rattle.machine_model.specs.Calls.{handle_of}
-use Rattle.machine_model.specs.States.{State, word_at}
 use Rattle.machine_model.specs.Reading.{at_indirection}
-use Rattle.machine_model.specs.Swapping.{root_after, after_root_word, after_completing, complete_after}
 use Rattle.deciding_laws.proofs.Words.{counts_at}
 use Rattle.content_laws.specs.Tries.{Trie}
 use Rattle.trie_laws.proofs.Routes.{since, LineRoute, route_later}
@@ -53,20 +44,6 @@ since_later (read.Decide m p told) t b = omega arith
 pub given_read : (i : Ref) (out : After ReadLine Ref) (m : Ref) → at_indirection i out ≡ Gives m → out ≡ Gives m
 given_read i (Gives x) m e = cc
 given_read i (Goes l) m e = let wrong : ⊥ = cc in absurd wrong
-
--- what ROOT gives is the plain root of the word
-pub root_given : (state : State) (operation : Operation) (l : RootLine) (r : Ref) → root_after state.heap operation.access (word_at state (handle_of operation.call)) l ≡ Gives r →
-    word_at state (handle_of operation.call) ≡ Plain r
-root_given state operation root.Read r e = by_word (word_at state (handle_of operation.call)) e
-  where
-    by_word : (word : RootWord) → after_root_word word ≡ Gives r → word ≡ Plain r
-    by_word (Plain q) e = let same : q ≡ r = cc e in ap Plain same
-    by_word (Offer offer) e = let wrong : ⊥ = cc e in absurd wrong
-root_given state operation (root.Completing c) r e = absurd (by_end (complete_after state.heap operation.access (word_at state (handle_of operation.call)) c) e)
-  where
-    by_end : (a : After Complete Bool) → after_completing a ≡ Gives r → ⊥
-    by_end (Goes next) e = cc e
-    by_end (Gives done) e = cc e
 
 -- ---- while others move
 

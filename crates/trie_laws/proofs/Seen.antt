@@ -2,14 +2,12 @@
 use Rattle.std.proofs.Common.{◌≡◌, ◌≢◌, ℕ, ◌≤◌, true, Some, sym, ap, ◌∙◌}
 use Rattle.std.proofs.lemmas.Bool.{true≢false}
 use Rattle.slot_arena.specs.declared.refs.Ref.{Ref}
-use Rattle.slot_arena.specs.declared.nodes.Node.{Node}
 use Rattle.slot_arena.specs.declared.nodes.Node.TheVariants.{Indirection}
 use Rattle.slot_arena.specs.Heaps.{node_at, node_of}
 use Rattle.machine_model.specs.States.{State}
 use Rattle.machine_model.proofs.Grown.{grown, node_under}
-use Rattle.memory_laws.specs.Wants.{meets, AMain, Is, Holds}
+use Rattle.memory_laws.specs.Wants.{meets, AMain}
 use Rattle.memory_laws.specs.Laws.{IsInUse}
-use Rattle.memory_laws.proofs.Claims.{safe_of, meets_of}
 use Rattle.memory_laws.proofs.AtTimes.{node_found}
 use Rattle.memory_laws.proofs.WordMoves.{grown_in_use}
 use Rattle.content_laws.specs.Grows.{NodesStay}
@@ -26,9 +24,6 @@ module _ (states : ℕ → State) (last : ℕ) (stay : NodesStay states last) (t
   pub seen : ((g : ℕ) (w : Ref) → node_at (states t).heap r ≢ Indirection g w) → node_under states last r ≡ node_at (states t).heap r
   seen other = node_stays states last stay t r used.0 within slot_is (λ g w e. other g w (looked_at ∙ e)) ∙ sym looked_at
 
-  pub seen_as : (n : Node) → node_at (states t).heap r ≡ n → ((g : ℕ) (w : Ref) → n ≢ Indirection g w) → node_under states last r ≡ n
-  seen_as n e other = seen (λ g w is. other g w (sym e ∙ is)) ∙ e
-
   -- an indirection of that generation
   pub seen_link : (g : ℕ) (w : Ref) → node_at (states t).heap r ≡ Indirection g w → (word : Ref) × (node_under states last r ≡ Indirection g word)
   seen_link g w e = indirection_stays states last stay t r used.0 g w within slot_is (sym looked_at ∙ e)
@@ -36,7 +31,3 @@ module _ (states : ℕ → State) (last : ℕ) (stay : NodesStay states last) (t
   -- a main node
   pub seen_main : meets AMain (node_at (states t).heap r) ≡ true → node_under states last r ≡ node_at (states t).heap r
   seen_main main = seen (λ g w e. absurd (true≢false (sym main ∙ ap (meets AMain) e)))
-
-pub main_seen : (states : ℕ → State) (last : ℕ) → NodesStay states last → (t : ℕ) → t ≤ last → (r : Ref) → Holds (IsInUse (states t).heap) (states t).heap (Is r AMain) →
-    node_under states last r ≡ node_at (states t).heap r
-main_seen states last stay t within r h = seen_main states last stay t within r (safe_of h) (meets_of h)

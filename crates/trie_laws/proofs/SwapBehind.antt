@@ -1,12 +1,10 @@
 -- Behind the SWAP of its own change of its key an operation has its place.
-use Rattle.std.proofs.Common.{◌≡◌, ℕ, suc, ◌<◌, ◌==◌, Bool, true, false, List, Option, Some, None, option_map, is_some, refl, sym, ap, subst, ◌∙◌, arith}
-use Rattle.std.proofs.lemmas.Bool.{true≢false}
+use Rattle.std.proofs.Common.{◌≡◌, ℕ, suc, ◌<◌, ◌==◌, Bool, true, false, List, Option, refl, sym, ap, subst, ◌∙◌, arith}
 use Rattle.history.specs.declared.replies.Reply.{Reply}
 use Rattle.slot_arena.specs.declared.refs.Ref.{Ref}
 use Rattle.slot_arena.specs.declared.nodes.Prev.{Prev}
 use Rattle.slot_arena.specs.declared.nodes.Prev.TheVariants as prev
-use Rattle.slot_arena.specs.declared.nodes.Slot.{Slot}
-use Rattle.slot_arena.specs.Heaps.{node_at, main_at, prev_at, prev_of, prev_changed}
+use Rattle.slot_arena.specs.Heaps.{node_at, main_at, prev_at, prev_of}
 use Rattle.machine_model.specs.declared.actions.Action.TheVariants as act
 use Rattle.machine_model.specs.declared.walking.WalkLine.{WalkLine}
 use Rattle.machine_model.specs.declared.lines.Purpose.{Purpose}
@@ -44,20 +42,16 @@ use Rattle.deciding_laws.proofs.Known.{ActsOn, Either, GrownSwaps, GrownStays}
 use Rattle.deciding_laws.proofs.OtherLayers.{memory_acts}
 use Rattle.deciding_laws.proofs.FromMemory.{memory}
 use Rattle.deciding_laws.proofs.RunWords.{protocol}
+use Rattle.deciding_laws.proofs.GrownWords.{slot_prev}
 use Rattle.order_laws.specs.Facts.{Runs}
 use Rattle.phase_laws.specs.Phases.{IsPublished}
 use Rattle.phase_laws.proofs.Published.{seen}
 use Rattle.line_laws.specs.Commits.{CommitsAt, assigned_at}
 use Rattle.line_laws.proofs.Nodes.{known_run}
+use Rattle.phase_laws.proofs.Closers.{still_placed}
 use Rattle.trie_laws.proofs.Behind.{Behind, climbing_behind, update_climbs, climbed_climbs}
 use Rattle.trie_laws.proofs.EachOperation.{OwnStep}
 use Rattle.trie_laws.proofs.OwnPlaced.{commit_places}
-use Rattle.trie_laws.proofs.Placing.{stays_placed}
-
--- a prev word that is written
-prev_put : (v : Prev) (o : Option Slot) → is_some o ≡ true → prev_of (option_map (prev_changed v) o) ≡ v
-prev_put v None e = absurd (true≢false (sym e))
-prev_put v (Some slot) e = refl
 
 module _ (limits : Limits) (states : ℕ → State) (last : ℕ) (run : IsRun limits states last) (all : CommitsAt limits states last (assigned_at states last)) where
   abbrev p : Protocol
@@ -89,7 +83,7 @@ module _ (limits : Limits) (states : ℕ → State) (last : ℕ) (run : IsRun li
             (ap stage_of_actor runs ∙ ap stage_of at ∙ ap (λ y. stage_of (line.Swap (purpose.Update path former) (record { indirection = x.indirection; replaced = x.replaced; fresh = x.fresh; line = y }))) e) q pending)
 
         by_word : (v : Prev) → prev_word states t x.fresh ≡ v → is_placed (states (suc t)) operation.id ≡ true
-        by_word prev.None e = stays_placed (states t) s o (states (suc t)) m operation.id (before published e)
+        by_word prev.None e = still_placed (states t) s o (states (suc t)) m operation.id (before published e)
         by_word (prev.Pending q) e = by_line q e x.line refl published
         by_word (prev.Failed q) e = absurd (none≢failed none (failed_final p x.fresh q t (suc t) (omega arith) lt e))
 
@@ -117,7 +111,7 @@ module _ (limits : Limits) (states : ℕ → State) (last : ℕ) (run : IsRun li
           subst (ActsOn states t) does (memory_acts limits states last (memory limits states last run) t lt (suc k) own.outcome own.moves operation own.runs) in
           let written : GrownSwaps states t x.indirection x.replaced x.fresh =
           subst (λ b. Either b (GrownSwaps states t x.indirection x.replaced x.fresh) (GrownStays states t)) there acts.2 in
-          ap prev_of written.prev ∙ prev_put (prev.Pending x.replaced) (grown states t x.fresh) acts.1.made
+          ap prev_of written.prev ∙ slot_prev (prev.Pending x.replaced) (grown states t x.fresh) acts.1.made
 
       published_on : x.line ≡ swap.Publish → (b : Bool) → (main_at (states t).heap x.indirection == x.replaced) ≡ b →
           On (after_swap (states t) operation (purpose.Update path former) x (on_line x (after_publish x.fresh b)))
@@ -132,7 +126,7 @@ module _ (limits : Limits) (states : ℕ → State) (last : ℕ) (run : IsRun li
       checked_on e prev.None is =
           let none = sym (seen limits states last run t k (omega arith) operation own.runs (purpose.Update path former) x at lt e) ∙ is in
           climbing_behind states (suc t) operation.id Right Walks _ (update_climbs operation path former (node_at (states t).heap x.fresh))
-          (stays_placed (states t) (step.Go (suc k)) own.outcome (states (suc t)) own.moves operation.id (before (subst IsPublished (sym e) tt) none))
+          (still_placed (states t) (step.Go (suc k)) own.outcome (states (suc t)) own.moves operation.id (before (subst IsPublished (sym e) tt) none))
       checked_on e (prev.Pending q) is = tt
       checked_on e (prev.Failed q) is = tt
 
@@ -154,10 +148,10 @@ module _ (limits : Limits) (states : ℕ → State) (last : ℕ) (run : IsRun li
     other_on (purpose.Renew path) x h not (Gives false) = tt
     other_on purpose.Clean x h not (Goes y) = tt
     other_on purpose.Clean x h not (Gives done) = tt
-    other_on (purpose.Climb c) x h not (Goes y) = stays_placed (states t) (step.Go (suc k)) own.outcome (states (suc t)) own.moves operation.id h
+    other_on (purpose.Climb c) x h not (Goes y) = still_placed (states t) (step.Go (suc k)) own.outcome (states (suc t)) own.moves operation.id h
     other_on (purpose.Climb c) x h not (Gives done) =
         climbing_behind states (suc t) operation.id Right Walks _ (climbed_climbs operation c (node_at (states t).heap x.fresh) done)
-        (stays_placed (states t) (step.Go (suc k)) own.outcome (states (suc t)) own.moves operation.id h)
+        (still_placed (states t) (step.Go (suc k)) own.outcome (states (suc t)) own.moves operation.id h)
 
     pub swap_behind : (why : Purpose) (x : Swap) → operation.line ≡ line.Swap why x → Behind states t operation.id Right Walks (line.Swap why x) → On (after_swap (states t) operation why x (after x))
     swap_behind (purpose.Update path former) x at h = update_on path former x at h

@@ -51,9 +51,6 @@ module _ (limits : Limits) (states : ℕ → State) (last : ℕ) (depth path : R
   module _ (final : GivenForEver states last) (roots : RootsAreKept states last)
       (fits : (t : ℕ) → t ≤ last → (k : ℕ) (operation : Operation) → Runs (states t) k operation → key_of operation.call < 2 ^ 64) where
     module _ (t : ℕ) (s : Step) (lt : t < last) (own : OwnCommit limits states last (assigned_at states last) t s) (p : List Ref) (former : Option ℕ) (e : own.why ≡ purpose.Update p former) where
-      q : ℕ
-      q = key_of own.owner.call
-
       place : (k : ℕ) × (own.actor ≡ suc k) × Runs (states t) k own.owner
       place = place_of_actor (states t) own.actor own.owner own.runs
 

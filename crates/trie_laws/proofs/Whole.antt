@@ -13,7 +13,7 @@ use Rattle.line_laws.specs.Commits.{CommitsAt, assigned_at}
 use Rattle.line_laws.proofs.FreshCommits.{fresh_commits_at}
 use Rattle.falling_laws.specs.Falling.{SwapsInOwnGeneration, GivenForEver}
 use Rattle.falling_laws.proofs.Final.{given_for_ever}
-use Rattle.falling_laws.proofs.Paths.{swaps_in_own_generation}
+use Rattle.falling_laws.proofs.OwnSwaps.{swaps_in_own_generation}
 use Rattle.shape_laws.specs.Sites.{depth_of_run, path_of_run}
 use Rattle.shape_laws.specs.SitesAt.{TakesSteps, StepsFit}
 use Rattle.shape_laws.specs.Shaped.{HasShape, trie_of_run}
@@ -70,9 +70,6 @@ module _ (limits : Limits) (states : ℕ → State) (steps : ℕ → Step) (last
 
   pub updates_at : law.UpdatesAt limits states last (trie_of_run limits states steps last)
   updates_at = updates.updates_at limits states last depth path run commits swaps given sites shape final roots fits
-
-  pub updates_act : law.UpdatesAct limits states last (trie_of_run limits states steps last)
-  updates_act = updates.updates_act limits states last depth path run commits swaps given sites shape final roots fits
 
   pub steps_keep : law.StepsKeep states last (trie_of_run limits states steps last)
   steps_keep = facts.steps_keep limits states last depth path run commits swaps given sites shape
