@@ -13,6 +13,8 @@ pub struct Ticks {
     marks: Trace<()>,
 }
 
+const _: () = prove!(size_of::<Ticks>() == 0);
+
 impl Model for Ticks {
     ghost use Rattle.std.specs.Prelude.{length};
     ghost use Rattle.ctrie_base.specs.Ticks.{Count};

@@ -17,6 +17,8 @@ pub struct Trace<T> {
     pub ghost items: { List T },
 }
 
+const _: () = prove!(size_of::<Trace<u64>>() == 0);
+
 impl<T> Model for Trace<T> {
     ghost also_owns = { λ _. ftrue };
 }

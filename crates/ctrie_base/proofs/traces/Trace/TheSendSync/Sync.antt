@@ -1,6 +1,6 @@
 -- A trace owns nothing, so any thread may share it.
 use denote.RattleType.{RattleType}
-use denote.Param.Send.{IsSend, IsSync, part_keyless}
+use denote.Param.Send.{IsSync, part_keyless}
 use Rattle.ctrie_base.specs.contracts.traces.Trace.{the_row}
 use Rattle.ctrie_base.proofs.traces.Trace.TheSendSync.Send.{send}
 

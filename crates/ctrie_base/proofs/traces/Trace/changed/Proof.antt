@@ -1,11 +1,9 @@
 -- `changed` makes a value of no bytes that clauses see as the items after the change.
 use mathlib.Core.Path.{refl}
 use mathlib.Core.List.{[], ◌∷◌}
-use seplogic.Ra.Ura.{Ura}
 use mir.Syntax.{a_type, dcons, dnil, named}
 use mir.Val.{Val, vptr, vstruct, vcons, vnil}
 use mir.MapTy.{inst_fn}
-use base.Logic.{SProp, ent}
 use base.Fml.{Fml}
 use prog.Wp.{WpFn, Tables}
 use sound.WpLaws.{WpFn-mono}
@@ -15,7 +13,7 @@ use types.Part.{agg}
 use types.Run.{enter, returns, and_then, no_more}
 use types.ByLocal.{alloc_all, pass_all, free_all, look_at, get, sets}
 use denote.Exit.{yes}
-use denote.RattleType.{RattleType, owns}
+use denote.RattleType.{owns}
 use denote.Ref.{shr_vals, shr_Tells}
 use denote.Builtin.{RefOf}
 use denote.Param.{param, bounded}

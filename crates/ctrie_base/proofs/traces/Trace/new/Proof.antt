@@ -14,12 +14,12 @@ use contract.Monad.{Fun}
 use contract.Running.{tables, tables_of}
 use sound.WpLaws.{WpFn-mono}
 use types.Logic.{Logic}
-use types.Kit.{‵, raw, ◌⊛◌, ◌$◌, ◌∵◌, !, qed, move, keep, split, fjoin, use0, suffices, done}
+use types.Kit.{‵, raw, ◌⊛◌, ◌$◌, ◌∵◌, !, qed, move, keep, split, use0, suffices, done}
 use types.Part.{agg}
 use types.Run.{enter, returns, and_then, no_more}
 use types.ByLocal.{alloc_all, pass_all, free_all, look_at, get, sets}
 use denote.RattleType.{RattleType, owns}
-use denote.Param.{param, layouts}
+use denote.Param.{layouts}
 use denote.Shadow.{makes_shadow}
 use denote.Signature.{types_at, type_at}
 use denote.Steps.{nothing}
