@@ -25,7 +25,7 @@ use Rattle.machine_model.specs.States.{State}
 use Rattle.machine_model.specs.Paths as path
 use Rattle.machine_model.specs.Paths.{depth_of, hash_in, start_of}
 use Rattle.machine_model.specs.Building.{changed, key_in, old_hash, after_single, after_link, build_after_made}
-use Rattle.content_laws.specs.Knowing.{Known, Absence, no_flag, not_listed, Presence, in_branch, in_list, Neighbour, IsOther, of_branch, of_list, LeadsToBoth, LeadsBelow, by_pair, by_link, KnowsChange, KnowsBuild, KnowsLine}
+use Rattle.content_laws.specs.Knowing.{Known, Absence, no_flag, not_listed, Presence, in_branch, in_list, Neighbour, IsOther, of_branch, of_list, LeadsToBoth, LeadsBelow, by_pair, by_link, KnowsChange, KnowsBuild, KnowsLine, main_of_build, build_path}
 use Rattle.content_laws.proofs.Shapes.{list_depth-le}
 use Rattle.content_laws.proofs.KeyKnows.{known, Sees}
 
@@ -236,21 +236,7 @@ module _ (state : State) (operation : Operation) (node : Ref → Node) (first : 
   made_by (build.Rung p main position below depth) = rung (hash_in state operation) depth below
   made_by (build.Main p main c former) = changed (path.flag_in state operation p) (node_at state.heap main) c
 
-  abbrev pub main_of_build : BuildLine → Ref
-  main_of_build (build.Single p main site former) = main
-  main_of_build (build.Pair p main position single depth) = main
-  main_of_build (build.Link p main position below depth) = main
-  main_of_build (build.Rung p main position below depth) = main
-  main_of_build (build.Main p main c former) = main
-
-  abbrev pub path_of_build : BuildLine → List Ref
-  path_of_build (build.Single p main site former) = p
-  path_of_build (build.Pair p main position single depth) = p
-  path_of_build (build.Link p main position below depth) = p
-  path_of_build (build.Rung p main position below depth) = p
-  path_of_build (build.Main p main c former) = p
-
-  pub build_knows : (l : BuildLine) → Sees state operation node first (main_of_build l) → depth_of (path_of_build l) < list_depth state.limits.hash →
+  pub build_knows : (l : BuildLine) → Sees state operation node first (main_of_build l) → depth_of (build_path l) < list_depth state.limits.hash →
       ((position k v : ℕ) → node (entry_at state.heap (main_of_build l) position) ≡ Single k v → node_at state.heap (entry_at state.heap (main_of_build l) position) ≡ Single k v) →
       IsMade (made_by l) → KnowsBuild K operation.call l → KnowsLine K operation.call (build_after_made state operation l made)
   build_knows (build.Single p main site former) sees shallow back is knows = single_knows main sees p site former knows back is

@@ -56,6 +56,10 @@ looked_value node flag q value (Listed singles) e = listed_value node q value si
 looked_value node flag q value (Indirection g word) e = absurd (let bad : Absent ≡ Has value = e in cc)
 looked_value node flag q value (Single k v) e = absurd (let bad : Absent ≡ Has value = e in cc)
 
+pub map_of-same : (keys : List ℕ) (f h : ℕ → Option ℕ) → ((q : ℕ) → f q ≡ h q) → map_of keys f ≡ map_of keys h
+map_of-same [] f h same = refl
+map_of-same (key ∷ keys) f h same = ap₂ (put_value key) (same key) (map_of-same keys f h same)
+
 module _ (trie : Trie) where
   found_value : (A : Ref → Ref) (q value levels depth : ℕ) (i : Ref) → find_at trie.node A (hash_of trie.kind) q levels depth i ≡ Some value → HasSingle trie.node q
   found_value A q value zero depth i e = absurd (let bad : None ≡ Some value = sym (found_nothing trie A q depth i) ∙ e in cc)
@@ -76,10 +80,6 @@ module _ (trie : Trie) where
       known : (o : Option ℕ) → value_at trie g t q ≡ o → (value_at trie g t q ≡ None) ⊎ Contains trie.keys q
       known None e = inl e
       known (Some v) e = let single = found_value (assigned trie g t) q v most_levels 0 (trie.root g) e in inr (ok.has_key single.0 q single.1 single.2)
-
-  map_of-same : (keys : List ℕ) (f h : ℕ → Option ℕ) → ((q : ℕ) → f q ≡ h q) → map_of keys f ≡ map_of keys h
-  map_of-same [] f h same = refl
-  map_of-same (key ∷ keys) f h same = ap₂ (put_value key) (same key) (map_of-same keys f h same)
 
   -- contents with the same values are the same
   pub same_content : (g h t u : ℕ) → ((q : ℕ) → value_at trie g t q ≡ value_at trie h u q) → content trie g t ≡ content trie h u

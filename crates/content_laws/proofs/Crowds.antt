@@ -8,6 +8,7 @@ use Rattle.std.specs.FinMap.Entries.{below_all}
 use Rattle.std.proofs.lemmas.Map.Made.{length-from_same_keys, length-le_from_is_member}
 use Rattle.std.proofs.lemmas.Map.Views.{any-filter_same}
 use Rattle.std.proofs.lemmas.List.Sums.{length-filter}
+use Rattle.std.proofs.lemmas.Bool.{and_parts}
 use Rattle.history.specs.Worlds.{KeyMap}
 use Rattle.history.specs.Effects.{others}
 
@@ -74,10 +75,6 @@ module _ (hash : ℕ → ℕ) (m : KeyMap) (k : ℕ) where
       any-filter_same (eq_by_cmp nat_cmp q) is_other (is_other q) (λ x same. ap is_other (sym (eqb-true q x (sym (unsigned_tied q x) ∙ same)))) (keys m)
       ∙ ap (λ b. is_other q && b) (sym (contains_key-keys m q))
 
-  both_true : (a b : Bool) → (a && b) ≡ true → (a ≡ true) × (b ≡ true)
-  both_true true b e = (refl, e)
-  both_true false b e = absurd (let bad : false ≡ true = e in cc)
-
   not_true : (b : Bool) → not b ≡ true → b ≡ false
   not_true true e = sym e
   not_true false e = refl
@@ -88,8 +85,8 @@ module _ (hash : ℕ → ℕ) (m : KeyMap) (k : ℕ) where
   -- what it is to be among the others
   of_others : (q : ℕ) → is_among (filter is_other (keys m)) q ≡ true → hash q ≡ hash k × q ≢ k × is_some (get m q) ≡ true
   of_others q e =
-      let parts = both_true (is_other q) (contains_key m q) (sym (among_others q) ∙ e) in
-      let other = both_true (hash q == hash k) (not (q == k)) parts.0 in
+      let parts = and_parts (is_other q) (contains_key m q) (sym (among_others q) ∙ e) in
+      let other = and_parts (hash q == hash k) (not (q == k)) parts.0 in
       (eqb-true (hash q) (hash k) other.0, differs q k (not_true (q == k) other.1), parts.1)
 
   -- there are no more than these, where each stands among them

@@ -38,7 +38,7 @@ use Rattle.node_contents.specs.Looking.{Absent, look_among, or_else}
 use Rattle.node_contents.proofs.Branches.{differ}
 use Rattle.node_contents.proofs.Changes.{look-other}
 use Rattle.node_contents.proofs.ListChanges.{look_among-append}
-use Rattle.content_laws.specs.Knowing.{Known, IsFlagged, Absence, no_flag, not_listed, Presence, in_branch, in_list, Neighbour, GoesThrough, IsOther, of_branch, of_list, KnowsKey, KnowsLine, IsGet}
+use Rattle.content_laws.specs.Knowing.{Known, IsFlagged, Absence, no_flag, not_listed, Presence, in_branch, in_list, Neighbour, GoesThrough, IsOther, of_branch, of_list, KnowsKey, KnowsLine, IsGet, main_of_key}
 
 second_true : (a b : Bool) → (a && b) ≡ true → b ≡ true
 second_true true b e = e
@@ -281,13 +281,6 @@ module _ (state : State) (operation : Operation) (node : Ref → Node) (first : 
 
   -- ---- the whole of KEY
 
-  abbrev pub main_in : KeyLine → Option Ref
-  main_in (key.Read p read) = None
-  main_in (key.Main p main) = Some main
-  main_in (key.Entry p main position) = Some main
-  main_in (key.Listed p main position) = Some main
-  main_in (key.Sibling p main position former) = Some main
-
   -- the position at which a line looks
   abbrev pub position_in : KeyLine → Option (Ref × ℕ)
   position_in (key.Read p read) = None
@@ -296,7 +289,7 @@ module _ (state : State) (operation : Operation) (node : Ref → Node) (first : 
   position_in (key.Listed p main position) = Some (main, position)
   position_in (key.Sibling p main position former) = Some (main, 1 - position)
 
-  pub key_knows : (l : KeyLine) → OnlyGets → ((main : Ref) → main_in l ≡ Some main → Sees main) →
+  pub key_knows : (l : KeyLine) → OnlyGets → ((main : Ref) → main_of_key l ≡ Some main → Sees main) →
       ((main : Ref) (position : ℕ) → position_in l ≡ Some (main, position) → SeesSingle main position) → KnowsKey known operation.call l → KnowsLine known operation.call (key_after state operation l)
   key_knows (key.Read p read) gets sees single knows = by_read (read_step state operation read)
     where

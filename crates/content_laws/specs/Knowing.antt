@@ -1,6 +1,6 @@
 -- What an operation's line knows of the nodes that it has looked at and made, where it goes down to a key or builds a change of
 -- it. What stands under each reference is a function, and so is the main node with which each indirection was made.
-use Rattle.std.specs.Prelude.{◌≡◌, ◌≢◌, ℕ, suc, ◌+◌, ◌-◌, ◌<◌, ◌≤◌, ◌⊎◌, true, false, length, take, slice_index_or, Option, Some, None}
+use Rattle.std.specs.Prelude.{◌≡◌, ◌≢◌, ℕ, suc, ◌+◌, ◌-◌, ◌<◌, ◌≤◌, ◌⊎◌, true, false, length, take, slice_index_or, Option, Some, None, List}
 use Rattle.arrayvec.specs.ArrayVec.{ArrayVec}
 use Rattle.ctrie_base.specs.Paths.{position_of}
 use Rattle.ctrie_base.specs.Hashes.{hash_of}
@@ -30,6 +30,30 @@ use Rattle.machine_model.specs.declared.lines.Line.TheVariants as line
 use Rattle.machine_model.specs.Calls.{key_of, value_of, inserts, when_found}
 use Rattle.machine_model.specs.Paths.{depth_of}
 use Rattle.machine_model.specs.Building.{changed}
+
+-- the path of a line of BUILD
+abbrev pub build_path : BuildLine → List Ref
+build_path (build.Single path main site former) = path
+build_path (build.Pair path main position single depth) = path
+build_path (build.Link path main position below depth) = path
+build_path (build.Rung path main position below depth) = path
+build_path (build.Main path main c former) = path
+
+-- the main node from which it builds
+abbrev pub main_of_build : BuildLine → Ref
+main_of_build (build.Single path main site former) = main
+main_of_build (build.Pair path main position single depth) = main
+main_of_build (build.Link path main position below depth) = main
+main_of_build (build.Rung path main position below depth) = main
+main_of_build (build.Main path main c former) = main
+
+-- the main node that KEY was given
+abbrev pub main_of_key : KeyLine → Option Ref
+main_of_key (key.Read path read) = None
+main_of_key (key.Main path main) = Some main
+main_of_key (key.Entry path main position) = Some main
+main_of_key (key.Listed path main position) = Some main
+main_of_key (key.Sibling path main position former) = Some main
 
 -- what nodes there are, and how keys are hashed
 pub record Known : Type 0 where

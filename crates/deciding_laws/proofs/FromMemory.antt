@@ -20,7 +20,7 @@ use Rattle.machine_model.specs.States.{State, operation_of}
 use Rattle.machine_model.specs.Operations.{action_of}
 use Rattle.machine_model.proofs.Times.{IsRun}
 use Rattle.machine_model.proofs.Grown.{standing}
-use Rattle.memory_laws.specs.Wants.{Wanted, AnIndirection, AMain, ABranch, BranchOrList, line_wants, meets, Is, Holds, AllHold, action_wants, node_wants, prev_wants, place_wants, change_wants, flag_on, is_indirection}
+use Rattle.memory_laws.specs.Wants.{Wanted, AnIndirection, AMain, ABranch, BranchOrList, line_wants, meets, Is, Holds, AllHold, action_wants, node_wants, prev_wants, place_wants, change_wants, flag_on, is_indirection, is_branch_or_list}
 use Rattle.memory_laws.specs.Laws.{IsInUse}
 use Rattle.memory_laws.proofs.Claims.{safe_of, meets_of, first_hold}
 use Rattle.memory_laws.proofs.Under.{node_under, taken_all}
@@ -28,19 +28,19 @@ use Rattle.memory_laws.proofs.Safety.{IsSafe}
 use Rattle.memory_laws.proofs.AtEachTime.{safe_at}
 use Rattle.memory_laws.proofs.AtTimes.{action_at, line_at}
 use Rattle.memory_laws.proofs.WordMoves.{not_yet_drawn}
-use Rattle.deciding_laws.proofs.Known.{is_solid, BuildsFrom, HasSolid}
+use Rattle.deciding_laws.proofs.Known.{BuildsFrom, HasSolid}
 use Rattle.deciding_laws.proofs.OtherLayers.{HasLink, HasMain, Finds, Draws, Memory}
 use Rattle.deciding_laws.proofs.Laws.{MemoryOfRuns}
 use Rattle.machine_model.proofs.Times.{states_of, last_of, run_is}
 use Rattle.memory_laws.proofs.Nodes.{main_plain}
 
-built_solid : (node : Node) → meets BranchOrList node ≡ true → is_solid node ≡ true
+built_solid : (node : Node) → meets BranchOrList node ≡ true → is_branch_or_list node ≡ true
 built_solid node e = grind arith
 
-branch_solid : (node : Node) → meets ABranch node ≡ true → is_solid node ≡ true
+branch_solid : (node : Node) → meets ABranch node ≡ true → is_branch_or_list node ≡ true
 branch_solid node e = grind arith
 
-has_solid : (state : State) (m : Ref) (wanted : Wanted) → ((node : Node) → meets wanted node ≡ true → is_solid node ≡ true) →
+has_solid : (state : State) (m : Ref) (wanted : Wanted) → ((node : Node) → meets wanted node ≡ true → is_branch_or_list node ≡ true) →
     Holds (IsInUse state.heap) state.heap (Is m wanted) → HasSolid state m
 has_solid state m wanted f h =
     let (slot, found) = safe_of h in

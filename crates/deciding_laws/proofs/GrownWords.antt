@@ -14,8 +14,8 @@ use Rattle.machine_model.specs.States.{State, operation_of}
 use Rattle.machine_model.proofs.Grown.{grown, node_under, main_word, prev_word}
 use Rattle.deciding_laws.proofs.Words.{Words, Kept, Written, MakesNothing, Leaves, Makes, SwapsIn, PutsBack, CommitsNode, FailsNode}
 use Rattle.deciding_laws.proofs.Stages.{stage_of_actor, from_of_actor}
-use Rattle.deciding_laws.proofs.Known.{is_solid, GrownStays, GrownChanges, GrownSwaps, GrownTakes}
-use Rattle.memory_laws.specs.Wants.{is_indirection}
+use Rattle.deciding_laws.proofs.Known.{GrownStays, GrownChanges, GrownSwaps, GrownTakes}
+use Rattle.memory_laws.specs.Wants.{is_indirection, is_branch_or_list}
 
 -- the step in which a main node was committed, if it was
 abbrev pub commit_of : State → Ref → Option ℕ
@@ -29,7 +29,7 @@ words_of states last closing = record {
   generation = λ i. generation_of (node_under states last i);
   made = λ t r. is_some (grown states t r);
   link = λ t r. is_indirection (node_under states t r);
-  solid = λ r. is_solid (node_under states last r);
+  solid = λ r. is_branch_or_list (node_under states last r);
   commit = λ t m. commit_of (states t) m;
   closing = closing;
   stage = λ t k. stage_of_actor (operation_of (states t) k);
@@ -53,7 +53,7 @@ generation_kept : (x : Ref) (n : Node) → generation_of (with_main_word x n) �
 generation_kept x (Indirection g y) = refl
 generation_kept x n = refl
 
-solid_kept : (x : Ref) (n : Node) → is_solid (with_main_word x n) ≡ is_solid n
+solid_kept : (x : Ref) (n : Node) → is_branch_or_list (with_main_word x n) ≡ is_branch_or_list n
 solid_kept x (Indirection g y) = refl
 solid_kept x n = refl
 
@@ -86,7 +86,7 @@ pub slot_generation : (x : Ref) (o : Option Slot) → generation_of (node_of (op
 slot_generation x None = refl
 slot_generation x (Some slot) = generation_kept x slot.node
 
-pub slot_solid : (x : Ref) (o : Option Slot) → is_solid (node_of (option_map (main_changed x) o)) ≡ is_solid (node_of o)
+pub slot_solid : (x : Ref) (o : Option Slot) → is_branch_or_list (node_of (option_map (main_changed x) o)) ≡ is_branch_or_list (node_of o)
 slot_solid x None = refl
 slot_solid x (Some slot) = solid_kept x slot.node
 

@@ -1,10 +1,9 @@
 -- What the heap that only grows says is what the machine's heap says, of what is in use; and the states of a run by number.
-use Rattle.std.proofs.Common.{◌≡◌, ℕ, zero, suc, ◌≤◌, Bool, true, false, cond, ◌==◌, List, ◌∷◌, take, slice_get, Option, Some, None, Ok, Err, refl, sym, ◌∙◌, ap, subst, []}
+use Rattle.std.proofs.Common.{◌≡◌, ℕ, zero, suc, ◌≤◌, true, cond, List, ◌∷◌, take, slice_get, Some, Ok, Err, refl, sym, ◌∙◌, ap, subst, []}
 use Rattle.std.proofs.lemmas.Option.{none-some, same_Some}
-use Rattle.slot_arena.specs.Refs.{birth_of}
 use Rattle.slot_arena.specs.declared.refs.Ref.{Ref}
 use Rattle.slot_arena.specs.declared.nodes.Slot.{Slot}
-use Rattle.slot_arena.specs.Heaps.{Heap, stored, node_at, node_of, prev_at, prev_of, main_of, logical, logical_main}
+use Rattle.slot_arena.specs.Heaps.{node_at, node_of, prev_at, prev_of, main_of, logical, logical_main}
 use Rattle.machine_model.specs.declared.steps.Limits.{Limits}
 use Rattle.machine_model.specs.declared.steps.Outcome.{Outcome}
 use Rattle.machine_model.specs.declared.steps.Step.{Step}
@@ -12,12 +11,13 @@ use Rattle.machine_model.specs.States.{State, first_state}
 use Rattle.machine_model.specs.Machine.{Answer, next, next_state, state_after, is_taken_step, run_from, taken_from, taken_steps}
 use Rattle.machine_model.proofs.Moves.{Moves, moved}
 use Rattle.machine_model.proofs.Times.{states_from, states_of}
-use Rattle.machine_model.proofs.Grown.{standing, of_birth, or_before, grown, node_under, prev_word}
+use Rattle.machine_model.proofs.Grown.{standing, or_before, grown, node_under, prev_word}
 use Rattle.deciding_laws.proofs.Words.{main_at}
 use Rattle.deciding_laws.proofs.Known.{Known}
 use Rattle.deciding_laws.proofs.GrownWords.{words_of}
 use Rattle.deciding_laws.specs.Runs.{state_before}
 use Rattle.memory_laws.specs.Wants.{is_indirection}
+use Rattle.memory_laws.proofs.Under.{standing_parts}
 
 -- ---- states by number
 
@@ -84,24 +84,13 @@ module _ (states : ℕ → State) where
   grown_standing zero r slot e = e
   grown_standing (suc t) r slot e = ap (λ o. or_before o (grown states t r)) e
 
-  of_birth_some : (b : ℕ) (o : Option Slot) (slot : Slot) → of_birth b o ≡ Some slot → o ≡ Some slot
-  of_birth_some b None slot e = absurd (none-some slot e)
-  of_birth_some b (Some x) slot e = by_test (x.birth == b) e
-    where
-      by_test : (c : Bool) → cond c (Some x) None ≡ Some slot → Some x ≡ Some slot
-      by_test true is = is
-      by_test false is = absurd (none-some slot is)
-
-  stored_standing : (heap : Heap) (r : Ref) (slot : Slot) → standing heap r ≡ Some slot → stored heap r ≡ Some slot
-  stored_standing heap r slot e = of_birth_some (birth_of r) (stored heap r) slot e
-
   pub node_standing : (t : ℕ) (r : Ref) (slot : Slot) → standing (states t).heap r ≡ Some slot → node_at (states t).heap r ≡ node_under states t r
   unfolding node_at
-  node_standing t r slot e = ap node_of (stored_standing (states t).heap r slot e) ∙ sym (ap node_of (grown_standing t r slot e))
+  node_standing t r slot e = ap node_of ((standing_parts (states t).heap r slot e).0) ∙ sym (ap node_of (grown_standing t r slot e))
 
   pub prev_standing : (t : ℕ) (r : Ref) (slot : Slot) → standing (states t).heap r ≡ Some slot → prev_at (states t).heap r ≡ prev_word states t r
   unfolding prev_at
-  prev_standing t r slot e = ap prev_of (stored_standing (states t).heap r slot e) ∙ sym (ap prev_of (grown_standing t r slot e))
+  prev_standing t r slot e = ap prev_of ((standing_parts (states t).heap r slot e).0) ∙ sym (ap prev_of (grown_standing t r slot e))
 
 -- the logical main node of an indirection in use
 pub logical_standing : (limits : Limits) (states : ℕ → State) (last : ℕ) (known : Known limits states last) (t : ℕ) → t ≤ last → (i : Ref) (slot : Slot) →

@@ -15,7 +15,6 @@ use Rattle.machine_model.specs.declared.repairs.RenewLine.TheVariants as renew
 use Rattle.machine_model.specs.declared.repairs.CleanLine.TheVariants as clean
 use Rattle.machine_model.specs.declared.repairs.ClimbLine.TheVariants as climb
 use Rattle.machine_model.specs.declared.lines.Line.{Line}
-use Rattle.slot_arena.specs.declared.nodes.Node.TheVariants.{Branch, List as Listed}
 use Rattle.machine_model.specs.declared.lines.Line.TheVariants as line
 use Rattle.machine_model.specs.declared.operations.Operation.{Operation}
 use Rattle.machine_model.specs.declared.roots.RootWord.TheVariants.{Plain}
@@ -31,7 +30,7 @@ use Rattle.machine_model.specs.Reading.{Verdict, Commits, Fails, Overtaken, verd
 use Rattle.machine_model.proofs.Moves.{Moves}
 use Rattle.machine_model.proofs.Times.{IsRun}
 use Rattle.machine_model.proofs.Grown.{standing, grown, node_under, main_word, prev_word}
-use Rattle.memory_laws.specs.Wants.{is_indirection}
+use Rattle.memory_laws.specs.Wants.{is_indirection, is_branch_or_list}
 
 -- ---- what a step does to the heap that only grows
 
@@ -105,12 +104,6 @@ IsNoGo s = Unit {0}
 
 -- ---- what is built from
 
--- a branch or a list
-abbrev pub is_solid : Node → Bool
-is_solid (Branch bitmap entries) = true
-is_solid (Listed singles) = true
-is_solid node = false
-
 -- the line's step makes the node that is to replace this main node
 abbrev pub BuildsFrom : Line → Ref → Type 0
 BuildsFrom (line.Build (build.Main path main c former)) m = main ≡ m
@@ -123,7 +116,7 @@ BuildsFrom l m = ⊥
 pub record HasSolid (state : State) (m : Ref) : Type 0 where
   pub slot : Slot
   pub stands : standing state.heap m ≡ Some slot
-  pub solid : is_solid slot.node ≡ true
+  pub solid : is_branch_or_list slot.node ≡ true
 
 -- ---- the whole
 

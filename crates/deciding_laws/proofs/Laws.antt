@@ -44,7 +44,7 @@ use Rattle.deciding_laws.proofs.Readings.{IsMoment, closed_once, given_for_good 
 use Rattle.deciding_laws.proofs.Closings.{commits_early}
 use Rattle.deciding_laws.proofs.Swaps.{checked, tomb_stays}
 use Rattle.deciding_laws.proofs.Stages.{stage_of, stage_of_actor}
-use Rattle.deciding_laws.proofs.Known.{is_solid, Known}
+use Rattle.deciding_laws.proofs.Known.{Known}
 use Rattle.deciding_laws.proofs.OtherLayers.{Memory, OtherLayers, known_of_memory, known}
 use Rattle.deciding_laws.proofs.GrownWords.{words_of}
 use Rattle.deciding_laws.proofs.ReadTurns.{generation_stays, solid_stays}
@@ -55,7 +55,7 @@ use Rattle.deciding_laws.proofs.InHeap.{grown_standing, states_are, step_leads, 
 use Rattle.deciding_laws.proofs.SwapLines.{runs_deciding, runs_publishing, in_swap_fresh, reads_stage}
 use Rattle.deciding_laws.specs.Runs.{steps_taken, state_before, HasIndirection}
 use Rattle.deciding_laws.specs.Deciding.{IsInSwap, Owner, PendingHasOwner, PrevChange, Stays, IsSwappedIn, IsCommitted as ChangeCommitted, HasFailed, PrevWordsChange, DecidedForGood, CommitsMain, MainsChangeByCommits, ReplacedForGood, IsGiven, MomentIsFirst, GivenForGood, CheckedIsDecided, ChangesLate, LateStoodBefore, LateOnce, IsTomb, TombsStay}
-use Rattle.memory_laws.specs.Wants.{is_indirection}
+use Rattle.memory_laws.specs.Wants.{is_indirection, is_branch_or_list}
 use Rattle.memory_laws.specs.Laws.{IsInUse}
 
 -- what other layers give of every run
@@ -74,7 +74,7 @@ abbrev known_of : LayersOfRuns → (limits : Limits) (steps : List Step) → Are
 known_of layers limits steps ok = known limits (states_of limits steps) (last_of limits steps) (layers limits steps ok)
 
 -- the states of a run, told as a list of steps
-same_states : (limits : Limits) (steps : List Step) → states_of limits steps ≡ state_before limits steps
+pub same_states : (limits : Limits) (steps : List Step) → states_of limits steps ≡ state_before limits steps
 same_states limits steps = λ i n. states_are limits steps n i
 
 -- ---- owners
@@ -85,6 +85,10 @@ OwnedIn state =
     (fresh replaced : Ref) → IsInUse state.heap fresh → prev_at state.heap fresh ≡ over.Pending replaced →
     (indirection : Ref) × (owner : Owner state indirection replaced fresh)
     × ((actor : ℕ) (operation : Operation) (i r : Ref) (l : SwapLine) → operation_of state actor ≡ Some operation → IsInSwap operation i r fresh l → actor ≡ owner.actor)
+
+pub given_read : (i : Ref) (out : After ReadLine Ref) (m : Ref) → at_indirection i out ≡ Gives m → out ≡ Gives m
+given_read i (Gives x) m e = cc
+given_read i (Goes l) m e = let wrong : ⊥ = cc in absurd wrong
 
 module _ (limits : Limits) (ok : AreLimits limits) (steps : List Step) (known : Known limits (states_of limits steps) (last_of limits steps)) where
   abbrev states : ℕ → State
@@ -191,7 +195,7 @@ module _ (limits : Limits) (ok : AreLimits limits) (steps : List Step) (known : 
       replaced_for_good p i (logical_main (states n).heap i) n k l nk kl h (link_in_use n i at_n) (sym main) (λ e. other (main_in_use k (omega arith) i at_k ∙ e))
       (sym (main_in_use l h i at_l) ∙ back)
 
-  not_solid : (node : Node) → IsTomb node → is_solid node ≡ false
+  not_solid : (node : Node) → IsTomb node → is_branch_or_list node ≡ false
   not_solid (Tomb single) h = refl
   not_solid node h = absurd h
 
@@ -199,7 +203,7 @@ module _ (limits : Limits) (ok : AreLimits limits) (steps : List Step) (known : 
       IsInUse (states n).heap a → IsTomb (node_at (states n).heap a) → logical_main (states k).heap i ≡ a
   tomb_at n k nk h i a at_n at_k is used tomb =
       let solid : w.solid a ≡ false =
-      solid_stays limits states last known n a (omega arith) (ap is_some (grown_standing states n a used.0 used.1)) ∙ ap is_solid (sym (node_in_use n a used))
+      solid_stays limits states last known n a (omega arith) (ap is_some (grown_standing states n a used.0 used.1)) ∙ ap is_branch_or_list (sym (node_in_use n a used))
       ∙ not_solid (node_at (states n).heap a) tomb in
       main_in_use k h i at_k ∙ tomb_stays p i a n k nk h (link_in_use n i at_n) solid (sym (main_in_use n (omega arith) i at_n) ∙ is)
 
@@ -229,10 +233,6 @@ module _ (limits : Limits) (ok : AreLimits limits) (steps : List Step) (known : 
       ap (λ y. settled before (gone before actor y)) (same_Some _ _ (sym is ∙ runs))
   go_after before actor o after (Machine.Ends {operation = x} {answer} d is a) operation runs goes =
       absurd (goes answer (ap (action_of before) (sym (same_Some _ _ (sym is ∙ runs))) ∙ a))
-
-  given_read : (i : Ref) (out : After ReadLine Ref) (m : Ref) → at_indirection i out ≡ Gives m → out ≡ Gives m
-  given_read i (Gives x) m e = cc
-  given_read i (Goes l) m e = let wrong : ⊥ = cc in absurd wrong
 
   not_rests : (i : Ref) (x : ReadLine) → Reads i x ≡ Rests → ⊥
   not_rests i x e = cc

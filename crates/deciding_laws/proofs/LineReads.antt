@@ -196,15 +196,18 @@ module _ (state : State) (operation : Operation) where
   root_goes : (l : RootLine) → Goes (line.Root l)
   root_goes l answer e = grind (arith, read_goes)
 
+  pub only_end : (l : Line) (answer : Reply) → line_action state operation l ≡ act.End answer → l ≡ line.End answer
+  only_end (line.End x) answer e = let same : x ≡ answer = cc e in ap (λ y. line.End y) same
+  only_end line.Impossible answer e = let wrong : ⊥ = cc e in absurd wrong
+  only_end (line.Root l) answer e = absurd (root_goes l answer e)
+  only_end (line.Key l) answer e = absurd (key_goes l answer e)
+  only_end (line.Build l) answer e = absurd (build_goes l answer e)
+  only_end (line.Swap why s) answer e = absurd (swap_goes s.indirection s.replaced s.fresh s.line answer e)
+  only_end (line.Renew l) answer e = absurd (renew_goes l answer e)
+  only_end (line.Clean l) answer e = absurd (clean_goes l answer e)
+  only_end (line.Climb l) answer e = absurd (climb_goes l answer e)
+  only_end (line.Copy l) answer e = absurd (copy_goes l answer e)
+  only_end (line.Walk l) answer e = absurd (walk_goes l answer e)
+
   pub ends_at_end : (l : Line) (answer : Reply) → line_action state operation l ≡ act.End answer → stage_of l ≡ Rests
-  ends_at_end (line.End x) answer e = refl
-  ends_at_end line.Impossible answer e = refl
-  ends_at_end (line.Root l) answer e = absurd (root_goes l answer e)
-  ends_at_end (line.Key l) answer e = absurd (key_goes l answer e)
-  ends_at_end (line.Build l) answer e = absurd (build_goes l answer e)
-  ends_at_end (line.Swap why s) answer e = absurd (swap_goes s.indirection s.replaced s.fresh s.line answer e)
-  ends_at_end (line.Renew l) answer e = absurd (renew_goes l answer e)
-  ends_at_end (line.Clean l) answer e = absurd (clean_goes l answer e)
-  ends_at_end (line.Climb l) answer e = absurd (climb_goes l answer e)
-  ends_at_end (line.Copy l) answer e = absurd (copy_goes l answer e)
-  ends_at_end (line.Walk l) answer e = absurd (walk_goes l answer e)
+  ends_at_end l answer e = ap stage_of (only_end l answer e)

@@ -5,7 +5,6 @@ use Rattle.history.specs.declared.calls.Access.TheVariants.{Writable}
 use Rattle.history.specs.declared.calls.Call.{Call}
 use Rattle.slot_arena.specs.declared.refs.Ref.{Ref}
 use Rattle.slot_arena.specs.declared.nodes.Node.{Node}
-use Rattle.slot_arena.specs.declared.nodes.Node.TheVariants.{Indirection, Branch, Single, Tomb, List as Listed}
 use Rattle.slot_arena.specs.declared.nodes.Prev.{Prev}
 use Rattle.slot_arena.specs.declared.nodes.Prev.TheVariants as over
 use Rattle.slot_arena.specs.Heaps.{Heap, node_at, entry_at, entries_of}
@@ -14,7 +13,6 @@ use Rattle.machine_model.specs.declared.reading.After.{After}
 use Rattle.machine_model.specs.declared.reading.After.TheVariants.{Goes, Gives}
 use Rattle.machine_model.specs.declared.reading.ReadLine.{ReadLine}
 use Rattle.machine_model.specs.declared.reading.ReadLine.TheVariants as read
-use Rattle.machine_model.specs.declared.building.Change.{Change}
 use Rattle.machine_model.specs.declared.building.BuildLine.{BuildLine}
 use Rattle.machine_model.specs.declared.building.BuildLine.TheVariants as build
 use Rattle.machine_model.specs.declared.finding.KeyLine.{KeyLine}
@@ -41,10 +39,7 @@ use Rattle.machine_model.specs.declared.lines.Line.TheVariants as line
 use Rattle.machine_model.specs.States.{State}
 use Rattle.machine_model.specs.Renewing.{renew_after_link, renew_after_branch, next_entry}
 use Rattle.machine_model.specs.Finding.{found}
-use Rattle.nodes.specs.Builders.{pair, contracted}
-use Rattle.ctrie_base.specs.declared.hashes.HashKind.{HashKind}
-use Rattle.machine_model.specs.declared.building.Change.TheVariants as change
-use Rattle.machine_model.specs.Building.{changed_branch, changed_list, changed, after_single, after_link, build_if_made}
+use Rattle.machine_model.specs.Building.{after_single, after_link, build_if_made}
 use Rattle.machine_model.specs.Cleaning.{clean_after_contracted}
 use Rattle.machine_model.specs.Climbing.{climb_after_contracted, climb_after_root}
 use Rattle.machine_model.specs.Copying.{after_given, copy_if_made}
@@ -74,7 +69,7 @@ use Rattle.machine_model.proofs.Grown.{node_under}
 use Rattle.machine_model.proofs.Moves.{GoesOn}
 use Rattle.deciding_laws.proofs.Words.{Words, HasMade, Stage, Rests, Reads, Holds, Publishes, Decides, Checks, IsFree, MayName, Given, ReadTurn, Moves, Idles, MakesNode, SwapsNode, ReadsOn, DecidesOn, after_read}
 use Rattle.deciding_laws.proofs.Stages.{stage_of, ReadRemembers, Remembers}
-use Rattle.deciding_laws.proofs.Known.{is_solid, BuildsFrom, HasSolid, GrownStays, GrownSwaps, FindsMain, FindsPrev, Either, Taken, ActsOn, Known}
+use Rattle.deciding_laws.proofs.Known.{BuildsFrom, HasSolid, GrownStays, GrownSwaps, FindsMain, FindsPrev, Either, Taken, ActsOn, Known}
 use Rattle.deciding_laws.proofs.GrownWords.{words_of, leaves_words, swaps_words, makes_words, takes_node}
 use Rattle.deciding_laws.proofs.ReadTurns.{no_commit, solid_stays, read_turn}
 use Rattle.deciding_laws.proofs.InHeap.{grown_standing, node_standing}
@@ -84,7 +79,9 @@ use Rattle.machine_model.specs.declared.building.Site.TheVariants as site
 use Rattle.deciding_laws.proofs.LineReads.{ReadsSo, on_stage}
 use Rattle.deciding_laws.proofs.LineRests
 use Rattle.deciding_laws.proofs.LineRests.{AtRest}
-use Rattle.memory_laws.specs.Wants.{is_indirection}
+use Rattle.memory_laws.specs.Wants.{is_indirection, is_branch_or_list}
+use Rattle.memory_laws.proofs.Next.{pair_main, contracted_main, changed_main}
+use Rattle.memory_laws.proofs.Nodes.{main_plain}
 
 module _ (limits : Limits) (states : ℕ → State) (last : ℕ) (known : Known limits states last) (t : ℕ) (h : t < last) (k : ℕ) (operation : Operation) where
   abbrev w : Words
@@ -129,18 +126,10 @@ module _ (limits : Limits) (states : ℕ → State) (last : ℕ) (known : Known 
   solid_of : (m : Ref) → HasSolid (states t) m → w.solid m ≡ true
   solid_of m x =
       let found = grown_standing states t m x.slot x.stands in
-      solid_stays limits states last known t m (omega arith) (ap is_some found) ∙ ap (λ o. is_solid (node_of o)) found ∙ x.solid
+      solid_stays limits states last known t m (omega arith) (ap is_some found) ∙ ap (λ o. is_branch_or_list (node_of o)) found ∙ x.solid
 
-  solid_no_link : (node : Node) → is_solid node ≡ true → is_indirection node ≡ false
-  solid_no_link (Indirection x y) e = absurd (true≢false (sym e))
-  solid_no_link (Branch b es) e = refl
-  solid_no_link (Single k v) e = refl
-  solid_no_link (Tomb s) e = refl
-  solid_no_link (Listed s) e = refl
-
-  -- and is no indirection
-  link_of_solid : (m : Ref) → HasSolid (states t) m → is_indirection (node_at heap m) ≡ false
-  link_of_solid m x = ap is_indirection (node_standing states t m x.slot x.stands ∙ ap node_of (grown_standing states t m x.slot x.stands)) ∙ solid_no_link x.slot.node x.solid
+  solid_at : (m : Ref) → HasSolid (states t) m → is_branch_or_list (node_at heap m) ≡ true
+  solid_at m x = ap is_branch_or_list (node_standing states t m x.slot x.stands ∙ ap node_of (grown_standing states t m x.slot x.stands)) ∙ x.solid
 
   -- a turn that leads to this line
   abbrev pub NextLine : Stage → Line → Type 0
@@ -160,11 +149,7 @@ module _ (limits : Limits) (states : ℕ → State) (last : ℕ) (known : Known 
       MakesNode n (makes_words states last known.closing t n node e (no_commit limits states last known t h c)) free
       (λ l. subst (λ x. MayName w t k s (main_of x)) (sym is) (name (subst (λ x. is_indirection x ≡ true) is l))) (some n)
 
-  -- no indirection is made
-  abbrev IsNoLink : Node → Type 0
-  IsNoLink node = is_indirection node ≡ false
-
-  names_none : (s : Stage) (node : Node) → IsNoLink node → is_indirection node ≡ true → MayName w t k s (main_of node)
+  names_none : (s : Stage) (node : Node) → is_indirection node ≡ false → is_indirection node ≡ true → MayName w t k s (main_of node)
   names_none s node none is = absurd (true≢false (sym is ∙ none))
 
   -- a step of a READ
@@ -204,28 +189,6 @@ module _ (limits : Limits) (states : ℕ → State) (last : ℕ) (known : Known 
 
   -- ---- BUILD
 
-  pair_no_link : (kind : HashKind) (depth a b : ℕ) (old single : Ref) → IsNoLink (pair kind depth a b old single)
-  pair_no_link kind depth a b old single = grind arith
-
-  branch_no_link : (flag bitmap : ℕ) (es : List Ref) (c : Change) → IsNoLink (changed_branch flag bitmap es c)
-  branch_no_link flag bitmap es (change.Insert single) = refl
-  branch_no_link flag bitmap es (change.Update position entry) = refl
-  branch_no_link flag bitmap es (change.Remove position) = refl
-  branch_no_link flag bitmap es (change.Entomb single) = refl
-
-  list_no_link : (es : List Ref) (c : Change) → IsNoLink (changed_list es c)
-  list_no_link es (change.Insert single) = refl
-  list_no_link es (change.Update position entry) = refl
-  list_no_link es (change.Remove position) = refl
-  list_no_link es (change.Entomb single) = refl
-
-  changed_no_link : (flag : ℕ) (node : Node) (c : Change) → IsNoLink node → IsNoLink (changed flag node c)
-  changed_no_link flag (Branch b es) c e = branch_no_link flag b es.items c
-  changed_no_link flag (Listed s) c e = list_no_link s.items c
-  changed_no_link flag (Indirection x y) c e = e
-  changed_no_link flag (Single x y) c e = e
-  changed_no_link flag (Tomb x) c e = e
-
   single_has : (path : List Ref) (main : Ref) (former : Option ℕ) (x : Site) (n : Ref) → HasMade GS n (stage_of (after_single (states t) operation path main former x n))
   single_has path main former site.Absent n = tt
   single_has path main former (site.At position) n = tt
@@ -240,7 +203,7 @@ module _ (limits : Limits) (states : ℕ → State) (last : ℕ) (known : Known 
       (λ l. absurd (true≢false (sym l))) (next_ref heap) s.acts
   build_turn (build.Pair path main position single depth) s =
       make_turn Rests tt _ (build_if_made (states t) operation (build.Pair path main position single depth)) s.commits (tt, tt) (λ n. refl)
-      (names_none Rests _ (pair_no_link _ depth _ _ _ single)) (next_ref heap) s.acts
+      (names_none Rests _ (main_plain _ (pair_main _ depth _ _ _ single))) (next_ref heap) s.acts
   build_turn (build.Link path main position below depth) s =
       make_turn (Holds below) tt _ (build_if_made (states t) operation (build.Link path main position below depth)) s.commits (tt, tt) (link_has path main position depth)
       (λ l. inr refl) (next_ref heap) s.acts
@@ -250,7 +213,7 @@ module _ (limits : Limits) (states : ℕ → State) (last : ℕ) (known : Known 
   build_turn (build.Main path main c former) s =
       make_turn Rests tt _ (build_if_made (states t) operation (build.Main path main c former)) s.commits (tt, tt)
       (λ n. (refl, (s.remembers, solid_of main (s.built main refl))))
-      (names_none Rests _ (changed_no_link _ (node_at heap main) c (link_of_solid main (s.built main refl)))) (next_ref heap) s.acts
+      (names_none Rests _ (main_plain _ (changed_main _ (node_at heap main) c (solid_at main (s.built main refl))))) (next_ref heap) s.acts
 
   -- ---- SWAP
 
@@ -309,9 +272,6 @@ module _ (limits : Limits) (states : ℕ → State) (last : ℕ) (known : Known 
 
   -- ---- CLEAN
 
-  contracted_no_link : (b : Bool) (bitmap : ℕ) (es : List Ref) → IsNoLink (contracted b bitmap es)
-  contracted_no_link b bitmap es = grind arith
-
   clean_stage : (path : List Ref) (i : Ref) (o : After ReadLine Ref) → stage_of (clean_after_read path (at_indirection i o)) ≡ after_read i o
   clean_stage path i (Goes l) = refl
   clean_stage path i (Gives m) = refl
@@ -335,7 +295,7 @@ module _ (limits : Limits) (states : ℕ → State) (last : ℕ) (known : Known 
       rest_turn Rests _ tt s.acts s.commits (LineRests.clean_tomb_rest G W (states t) path main done (node_at heap child) s.remembers.0)
   clean_turn (clean.Contracted path main done) s =
       make_turn Rests tt _ (clean_after_contracted path main) s.commits (tt, tt) (λ n. (refl, (s.remembers, solid_of main (s.built main refl))))
-      (names_none Rests _ (contracted_no_link _ _ done)) (next_ref heap) s.acts
+      (names_none Rests _ (main_plain _ (contracted_main _ _ done))) (next_ref heap) s.acts
 
   -- ---- ROOT
 
@@ -379,7 +339,7 @@ module _ (limits : Limits) (states : ℕ → State) (last : ℕ) (known : Known 
   climb_turn (climb.Main c main) s = rest_turn Rests _ tt s.acts s.commits (LineRests.climb_main_rest G W (states t) operation c main (node_at heap main) s.remembers)
   climb_turn (climb.Contracted c main) s =
       make_turn Rests tt _ (climb_after_contracted operation c main) s.commits (tt, tt) (λ n. (refl, (s.remembers, solid_of main (s.built main refl))))
-      (names_none Rests _ (contracted_no_link _ _ _)) (next_ref heap) s.acts
+      (names_none Rests _ (main_plain _ (contracted_main _ _ _))) (next_ref heap) s.acts
   climb_turn (climb.Root c root.Read) s = rest_turn Rests _ tt s.acts s.commits (LineRests.climb_word_rest G W (states t) operation c word)
   climb_turn (climb.Root c (root.Completing x)) s = climb_completing c x.offer x.line s
 

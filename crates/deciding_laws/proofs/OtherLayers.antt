@@ -4,7 +4,6 @@ use Rattle.std.specs.Prelude.{is_some}
 use Rattle.std.proofs.lemmas.Bool.{true≢false}
 use Rattle.std.proofs.lemmas.Option.{none-some, same_Some}
 use Rattle.history.specs.declared.calls.Access.TheVariants.{Writable}
-use Rattle.history.specs.declared.calls.Call.{Call}
 use Rattle.slot_arena.specs.declared.refs.Ref.{Ref}
 use Rattle.slot_arena.specs.declared.nodes.Node.{Node}
 use Rattle.slot_arena.specs.declared.nodes.Node.TheVariants.{Indirection}
@@ -17,7 +16,6 @@ use Rattle.machine_model.specs.declared.actions.Action.{Action}
 use Rattle.machine_model.specs.declared.actions.Action.TheVariants as act
 use Rattle.machine_model.specs.declared.operations.Operation.{Operation}
 use Rattle.machine_model.specs.declared.reading.ReadLine.TheVariants as read
-use Rattle.machine_model.specs.declared.roots.Descriptor.{Descriptor}
 use Rattle.machine_model.specs.declared.roots.RootWord.TheVariants.{Plain}
 use Rattle.machine_model.specs.declared.steps.Limits.{Limits}
 use Rattle.machine_model.specs.declared.steps.Outcome.{Outcome}
@@ -27,16 +25,18 @@ use Rattle.machine_model.specs.Calls.{handle_of}
 use Rattle.machine_model.specs.States.{State, word_at, operation_of, closed_at}
 use Rattle.machine_model.specs.Reading.{Verdict, Commits, Fails, Overtaken, verdict}
 use Rattle.machine_model.specs.Operations.{action_of, read_of}
-use Rattle.machine_model.specs.Acting.{acted, aborted, offered, completed, decided, new_root_taken, if_changed}
-use Rattle.machine_model.specs.Machine.{with_begin, reclaimer_of}
+use Rattle.machine_model.specs.Acting.{acted, decided, new_root_taken, if_changed}
+use Rattle.machine_model.specs.Machine.{reclaimer_of}
 use Rattle.machine_model.proofs.Moves.{Moves, Begins, Goes, Ends, Sweeps, begun_operation}
 use Rattle.machine_model.proofs.Times.{IsRun}
 use Rattle.machine_model.proofs.Grown.{standing, or_before, grown}
+use Rattle.machine_model.proofs.HeapMoves.{begin_heap, aborted_heap, offered_heap, completed_heap}
 use Rattle.deciding_laws.proofs.Known.{GrownStays, GrownChanges, GrownSwaps, FindsMain, FindsPrev, Either, Decided, Taken, ActsOn, IsNoGo, BuildsFrom, HasSolid, Known}
 use Rattle.deciding_laws.proofs.InHeap.{grown_standing, node_standing, prev_standing}
 use Rattle.deciding_laws.proofs.FromHeap.{main_here, main_other, prev_here, prev_other, freed_before}
 use Rattle.memory_laws.specs.Wants.{is_indirection}
 use Rattle.memory_laws.proofs.Under.{none_taken}
+use Rattle.memory_laws.proofs.WordMoves.{grown_same}
 
 -- ---- what memory gives
 
@@ -102,9 +102,6 @@ pub record OtherLayers (limits : Limits) (states : ℕ → State) (last : ℕ) :
 abbrev Fewer : Heap → Heap → Type 0
 Fewer before after = (q : Ref) (slot : Slot) → standing after q ≡ Some slot → standing before q ≡ Some slot
 
-begin_heap : (state : State) (actor : ℕ) (call : Call) (operation : Operation) → (with_begin state actor call operation).heap ≡ state.heap
-begin_heap state actor call operation = grind arith
-
 idle_sweep : (pins : List (Option ℕ)) (r : Reclaimer) → (sweep_by pins r None).1.heap ≡ r.heap
 idle_sweep pins r = grind arith
 
@@ -132,10 +129,6 @@ module _ (states : ℕ → State) (t : ℕ) where
   stays_same : (states (suc t)).heap ≡ (states t).heap → GrownStays states t
   stays_same e = stays_fewer (λ q slot is. subst (λ x. standing x q ≡ Some slot) e is)
 
-  -- one reference
-  stays_at : (q : Ref) → standing (states (suc t)).heap q ≡ standing (states t).heap q → grown states (suc t) q ≡ grown states t q
-  stays_at q e = stays_by q (standing (states (suc t)).heap q) refl (λ slot is. sym e ∙ is)
-
   becomes_at : (q : Ref) (was now : Slot) (change : Slot → Slot) → standing (states t).heap q ≡ Some was → standing (states (suc t)).heap q ≡ Some now → now ≡ change was →
       grown states (suc t) q ≡ option_map change (grown states t q)
   becomes_at q was now change before after is =
@@ -162,13 +155,13 @@ module _ (states : ℕ → State) (t : ℕ) where
   main_written : (i x : Ref) → HasLink (states t) i → (states (suc t)).heap ≡ with_main H i x → GrownChanges states t (main_changed x) i
   main_written i x h e = record {
     here = becomes_at i h.slot (main_changed x h.slot) (main_changed x) h.stands (ap (λ y. standing y i) e ∙ main_here H x i h.slot h.stands) refl;
-    elsewhere = λ q other. stays_at q (ap (λ y. standing y q) e ∙ main_other H x i h.slot h.stands q other);
+    elsewhere = λ q other. grown_same states t q (ap (λ y. standing y q) e ∙ main_other H x i h.slot h.stands q other);
   }
 
   prev_written : (m : Ref) (v : Prev) → HasMain (states t) m → (states (suc t)).heap ≡ with_prev H m v → GrownChanges states t (prev_changed v) m
   prev_written m v h e = record {
     here = becomes_at m h.slot (prev_changed v h.slot) (prev_changed v) h.stands (ap (λ y. standing y m) e ∙ prev_here H v m h.slot h.stands) refl;
-    elsewhere = λ q other. stays_at q (ap (λ y. standing y q) e ∙ prev_other H v m h.slot h.stands q other);
+    elsewhere = λ q other. grown_same states t q (ap (λ y. standing y q) e ∙ prev_other H v m h.slot h.stands q other);
   }
 
   -- an indirection isn't a main node
@@ -186,7 +179,7 @@ module _ (states : ℕ → State) (t : ℕ) where
         main = becomes_at i h.slot (main_changed f h.slot) (main_changed f) h.stands (after i apart ∙ main_here H f i h.slot h.stands) refl;
         prev = becomes_at f g.slot (prev_changed (over.Pending a) g.slot) (prev_changed (over.Pending a)) g.stands
             (ap (λ y. standing y f) e ∙ prev_here (with_main H i f) (over.Pending a) f g.slot fresh) refl;
-        elsewhere = λ q x y. stays_at q (after q y ∙ main_other H f i h.slot h.stands q x);
+        elsewhere = λ q x y. grown_same states t q (after q y ∙ main_other H f i h.slot h.stands q x);
       }
 
   swap_by : (i a f : Ref) → HasLink (states t) i → HasMain (states t) f → (b : Bool) →
@@ -212,7 +205,7 @@ module _ (states : ℕ → State) (t : ℕ) where
         new = d.new;
         birth = d.birth;
         here = grown_standing states (suc t) n _ (ap (λ y. standing y n) e ∙ d.here);
-        elsewhere = λ q other. stays_at q (ap (λ y. standing y q) e ∙ d.elsewhere q other);
+        elsewhere = λ q other. grown_same states t q (ap (λ y. standing y q) e ∙ d.elsewhere q other);
       }
 
   root_by : (X : State) → X.heap ≡ H → X.generations ≡ (states t).generations → (main : Ref) → (o : Option Ref) → next_ref H ≡ o →
@@ -222,15 +215,6 @@ module _ (states : ℕ → State) (t : ℕ) where
       e ∙ ap (λ y. taken y (Indirection X.generations main)) heap ∙ ap (λ g. taken H (Indirection g main)) generations
 
   -- ---- by the action
-
-  aborted_heap : (X : State) (handle : ℕ) (offer : Descriptor) → (aborted X handle offer).heap ≡ X.heap
-  aborted_heap X handle offer = grind arith
-
-  offered_heap : (X : State) (handle : ℕ) (offer : Descriptor) → (offered X handle offer).heap ≡ X.heap
-  offered_heap X handle offer = grind arith
-
-  completed_heap : (X : State) (handle : ℕ) (offer : Descriptor) (main : Ref) → (completed X handle offer main).heap ≡ X.heap
-  completed_heap X handle offer main = grind arith
 
   acts_by : ((node : Node) (n : Ref) → next_ref H ≡ Some n → Draws states t node n) → (X : State) → X.heap ≡ H → X.generations ≡ (states t).generations → (handle : ℕ) →
       (a : Action) → Finds (states t) a → (states (suc t)).heap ≡ (acted X handle a).heap → ActsOn states t a

@@ -28,10 +28,10 @@ use Rattle.machine_model.proofs.Times.{steps_at}
 use Rattle.machine_model.proofs.Grown.{grown, node_under, prev_word}
 use Rattle.deciding_laws.proofs.Words.{Words, Kept, Leaves, ReadTurn, ReadsMain, FindsDecided, FindsFailed, FindsPending, DecidesAtOnce, Asks, FindsOffer, Aborts, Commits as CommitsTurn, Fails as FailsTurn, Overtaken as OvertakenTurn, Restores, FindsAnother}
 use Rattle.deciding_laws.proofs.Finals.{from_time}
-use Rattle.deciding_laws.proofs.Known.{is_solid, GrownStays, GrownChanges, GrownSwaps, GrownTakes, FindsMain, FindsPrev, Either, Decided, Taken, ActsOn, Known}
+use Rattle.deciding_laws.proofs.Known.{GrownStays, GrownChanges, GrownSwaps, GrownTakes, FindsMain, FindsPrev, Either, Decided, Taken, ActsOn, Known}
 use Rattle.deciding_laws.proofs.GrownWords.{words_of, leaves_words, commits_words, fails_words, puts_back_words, slot_generation, slot_main_link, slot_prev_node, slot_solid, slot_kept}
 use Rattle.deciding_laws.proofs.StepsAt.{StepAt, IsBegin, IsGo, IsEnd, IsSweep, step_at, commit_here, commit_elsewhere, commit_kept}
-use Rattle.memory_laws.specs.Wants.{is_indirection}
+use Rattle.memory_laws.specs.Wants.{is_indirection, is_branch_or_list}
 
 -- ---- generations stay
 
@@ -134,20 +134,20 @@ generation_stays limits states last k t i within l =
 
 -- what stands under a reference afterwards was made, and is solid, as before
 abbrev KeepsSolid : (ℕ → State) → ℕ → Ref → Type 0
-KeepsSolid states t m = (is_some (grown states (suc t) m) ≡ true) × (is_solid (node_under states (suc t) m) ≡ is_solid (node_under states t m))
+KeepsSolid states t m = (is_some (grown states (suc t) m) ≡ true) × (is_branch_or_list (node_under states (suc t) m) ≡ is_branch_or_list (node_under states t m))
 
-solid_by : (states : ℕ → State) (t : ℕ) (m : Ref) (change : Slot → Slot) → ((o : Option Slot) → is_solid (node_of (option_map change o)) ≡ is_solid (node_of o)) →
+solid_by : (states : ℕ → State) (t : ℕ) (m : Ref) (change : Slot → Slot) → ((o : Option Slot) → is_branch_or_list (node_of (option_map change o)) ≡ is_branch_or_list (node_of o)) →
     is_some (grown states t m) ≡ true → grown states (suc t) m ≡ option_map change (grown states t m) → KeepsSolid states t m
 solid_by states t m change same made e =
-    (ap is_some e ∙ slot_kept change (grown states t m) ∙ made, ap (λ o. is_solid (node_of o)) e ∙ same (grown states t m))
+    (ap is_some e ∙ slot_kept change (grown states t m) ∙ made, ap (λ o. is_branch_or_list (node_of o)) e ∙ same (grown states t m))
 
 solid_same : (states : ℕ → State) (t : ℕ) (m : Ref) → is_some (grown states t m) ≡ true → grown states (suc t) m ≡ grown states t m → KeepsSolid states t m
-solid_same states t m made e = (ap is_some e ∙ made, ap (λ o. is_solid (node_of o)) e)
+solid_same states t m made e = (ap is_some e ∙ made, ap (λ o. is_branch_or_list (node_of o)) e)
 
-prev_solid : (v : Prev) (o : Option Slot) → is_solid (node_of (option_map (prev_changed v) o)) ≡ is_solid (node_of o)
-prev_solid v o = ap is_solid (slot_prev_node v o)
+prev_solid : (v : Prev) (o : Option Slot) → is_branch_or_list (node_of (option_map (prev_changed v) o)) ≡ is_branch_or_list (node_of o)
+prev_solid v o = ap is_branch_or_list (slot_prev_node v o)
 
-solid_changed : (states : ℕ → State) (t : ℕ) (change : Slot → Slot) (r m : Ref) → ((o : Option Slot) → is_solid (node_of (option_map change o)) ≡ is_solid (node_of o)) →
+solid_changed : (states : ℕ → State) (t : ℕ) (change : Slot → Slot) (r m : Ref) → ((o : Option Slot) → is_branch_or_list (node_of (option_map change o)) ≡ is_branch_or_list (node_of o)) →
     is_some (grown states t m) ≡ true → GrownChanges states t change r → (m ≡ r) ⊎ (m ≡ r → ⊥) → KeepsSolid states t m
 solid_changed states t change r m same made e (inl is) = solid_by states t m change same made (subst (λ q. grown states (suc t) q ≡ option_map change (grown states t q)) (sym is) e.here)
 solid_changed states t change r m same made e (inr apart) = solid_same states t m made (e.elsewhere m apart)
@@ -174,9 +174,9 @@ keeps_solid states t m made (Takes n node e) = solid_taken states t n node m mad
 
 -- what was made is solid at the end if it is now
 pub solid_stays : (limits : Limits) (states : ℕ → State) (last : ℕ) → Known limits states last → (t : ℕ) (m : Ref) → t ≤ last → is_some (grown states t m) ≡ true →
-    is_solid (node_under states last m) ≡ is_solid (node_under states t m)
+    is_branch_or_list (node_under states last m) ≡ is_branch_or_list (node_under states t m)
 solid_stays limits states last k t m within made =
-    (from_time (λ v. (is_some (grown states v m) ≡ true) × (is_solid (node_under states v m) ≡ is_solid (node_under states t m))) t last (made, refl)
+    (from_time (λ v. (is_some (grown states v m) ≡ true) × (is_branch_or_list (node_under states v m) ≡ is_branch_or_list (node_under states t m))) t last (made, refl)
     (λ v before h so_far. let kept = keeps_solid states v m so_far.0 (grown_step_of limits states last k v h (step_at (states v) (states (suc v)) (k.run.turn v h))) in
     (kept.0, kept.1 ∙ so_far.1)) last within (omega arith)).1
 

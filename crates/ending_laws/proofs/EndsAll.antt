@@ -7,10 +7,10 @@ use Rattle.history.specs.declared.calls.Call.TheVariants.{Clear, Freeze, Snapsho
 use Rattle.lone_steps.specs.Alone.{Lone}
 use Rattle.lone_steps.specs.Keys.{IsOnKey}
 use Rattle.lone_steps.specs.Laws.{AloneItEnds, EachStepLeadsToItsEnd, IsOnKeyOrRoot, most_steps_alone}
-use Rattle.lone_steps.proofs.Copies.{copies_end}
+use Rattle.lone_steps.proofs.Copies.{no_long_copy}
 use Rattle.lone_steps.proofs.EndsAlone.{NoneIsLong, ends_alone, steps_lead_to_the_end}
 use Rattle.lone_steps.proofs.Fine.{fine, fine_at_most, fine_weighing}
-use Rattle.lone_steps.proofs.Readers.{readers_end}
+use Rattle.lone_steps.proofs.Readers.{no_long_reader}
 use Rattle.lone_steps.proofs.RootsMachines.{machines}
 use Rattle.lone_steps.proofs.Stepping.{stepping}
 use Rattle.ending_laws.proofs.Whole.{fine_ends, fine_most_is}
@@ -25,12 +25,12 @@ writes_end a on writes long =
 
 by_access : (a : Lone) → IsOnKey a.own.call → (x : Access) → a.own.access ≡ x → a.start + most_steps_alone ≤ a.last → ⊥
 by_access a on Writable e long = writes_end a on e long
-by_access a on ReadOnly e long = readers_end a on e (omega (arith, long))
+by_access a on ReadOnly e long = no_long_reader a on e (omega (arith, long))
 
 by_call : (a : Lone) → (call : Call) → a.own.call ≡ call → IsOnKeyOrRoot call → a.start + most_steps_alone ≤ a.last → ⊥
-by_call a (Clear h) e on long = copies_end a (rw e tt) (omega (arith, long))
-by_call a (Snapshot h) e on long = copies_end a (rw e tt) (omega (arith, long))
-by_call a (Freeze h) e on long = copies_end a (rw e tt) (omega (arith, long))
+by_call a (Clear h) e on long = no_long_copy a (rw e tt) (omega (arith, long))
+by_call a (Snapshot h) e on long = no_long_copy a (rw e tt) (omega (arith, long))
+by_call a (Freeze h) e on long = no_long_copy a (rw e tt) (omega (arith, long))
 by_call a (Close h) e on long = on
 by_call a (Entries h) e on long = on
 by_call a (Count h) e on long = on

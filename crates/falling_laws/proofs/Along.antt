@@ -15,7 +15,7 @@ use Rattle.memory_laws.proofs.Next.{made_node}
 use Rattle.falling_laws.proofs.OwnKnows.{inner_generation}
 use Rattle.falling_laws.proofs.NewLinks.{makes_inner, reader_makes, made_root}
 use Rattle.falling_laws.proofs.RunFalls.{Ends, Shut, LateEnd}
-use Rattle.slot_arena.specs.Refs.{ref_to, birth_of, slot_of}
+use Rattle.slot_arena.specs.Refs.{ref_to, slot_of}
 use Rattle.slot_arena.specs.declared.refs.Ref.{Ref}
 use Rattle.slot_arena.specs.declared.nodes.Node.TheVariants.{Indirection}
 use Rattle.slot_arena.specs.declared.nodes.Slot.{Slot}
@@ -34,9 +34,10 @@ use Rattle.machine_model.proofs.Moves.{Moves}
 use Rattle.machine_model.proofs.Times.{IsRun, Turn, turns, along_run}
 use Rattle.machine_model.proofs.Grown.{standing, grown, node_under}
 use Rattle.memory_laws.proofs.Claims.{entries_same}
+use Rattle.memory_laws.proofs.Under.{standing_parts}
 use Rattle.deciding_laws.proofs.Sounds.{sound_at}
 use Rattle.deciding_laws.proofs.Stood.{Stood}
-use Rattle.generation_laws.proofs.Counter.{taken_list, standing_stored}
+use Rattle.generation_laws.proofs.Counter.{taken_list}
 use Rattle.generation_laws.proofs.Handles.{ran_or_began}
 use Rattle.generation_laws.proofs.Marks.{unmarked_before}
 use Rattle.generation_laws.proofs.RootsAlong.{ordered_at}
@@ -72,7 +73,7 @@ first_entries slots k slot e =
 
 standing_entries : (slots : ℕ) (r : Ref) (slot : Slot) → standing (first_heap slots) r ≡ Some slot → entries_of slot.node ≡ []
 unfolding stored
-standing_entries slots r slot e = first_entries slots (slot_of r) slot (standing_stored (birth_of r) (stored (first_heap slots) r) slot e)
+standing_entries slots r slot e = first_entries slots (slot_of r) slot ((standing_parts (first_heap slots) r slot e).0)
 
 module _ (limits : Limits) (states : ℕ → State) (last : ℕ) (run : IsRun limits states last) where
   made_entries : (m : Ref) (o : Option Slot) → grown states zero m ≡ o → is_some o ≡ true → entries_of (node_under states last m) ≡ []

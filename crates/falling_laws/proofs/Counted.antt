@@ -37,7 +37,7 @@ module _ (limits : Limits) (states : ℕ → State) (last : ℕ) (run : IsRun li
   counted_by : (t : ℕ) → Turn (states t) (states (suc t)) → (states t).generations ≤ (states (suc t)).generations
   counted_by t (turns s o m) = counter_rises (states t) s o (states (suc t)) m
 
-  counted : (t u : ℕ) → t ≤ u → u ≤ last → (states t).generations ≤ (states u).generations
+  pub counted : (t u : ℕ) → t ≤ u → u ≤ last → (states t).generations ≤ (states u).generations
   counted t u le within =
       from_time (λ v. (states t).generations ≤ (states v).generations) t last (omega arith) (λ v b w h. omega (arith, counted_by v (run.turn v w), h)) u le within
 

@@ -38,11 +38,12 @@ use Rattle.falling_laws.proofs.KnownRoots.{words, known, protocol_of}
 use Rattle.falling_laws.proofs.Opened.{closed_until}
 use Rattle.falling_laws.proofs.Knows.{Knows, IsInner, KnowsRenew, KnowsClean}
 use Rattle.falling_laws.proofs.ReaderFalls.{KnowsReader, ReaderKey, ReaderWalk}
-use Rattle.falling_laws.proofs.ReadsGive.{gone_is, gives_so, reads_on, late_after}
+use Rattle.falling_laws.proofs.ReadsGive.{gone_is, reads_on, late_after}
 use Rattle.falling_laws.proofs.RunFalls.{gen_of, IsOwn, FitsBelow, FallsBelow, LateBelow, Ends, Shut, LateEnd, KnowsGenerations}
 use Rattle.falling_laws.proofs.OwnSwaps.{knows_at}
 use Rattle.content_laws.specs.Repairing.{ReadsBelow}
 use Rattle.deciding_laws.proofs.GrownWords.{link_made}
+use Rattle.deciding_laws.proofs.Laws.{given_read}
 
 -- ---- what lines say of their READs
 
@@ -145,7 +146,7 @@ module _ (limits : Limits) (states : ℕ → State) (last : ℕ) (run : IsRun li
         subst (λ j. IsMoment (words states last) j m (read_at_after (states t) operation) (moment_after (states t) operation) t) g.of
         (moment_at limits states last (known limits states last run) t lt actor operation g.outcome g.moves g.runs
         (gone_is (states t) actor g.outcome (states (suc t)) g.moves operation g.runs (reads_on limits states last run t lt actor operation g.runs g.read own_stage)) g.read.indirection g.read.line own_stage m
-        (gives_so g.read.indirection (read_after (states t).heap operation.access (word_at (states t) (handle_of operation.call)) g.read.indirection g.read.line) m g.gives))
+        (given_read g.read.indirection (read_after (states t).heap operation.access (word_at (states t) (handle_of operation.call)) g.read.indirection g.read.line) m g.gives))
 
     -- the indirection is one from what the READ counts from on
     link_from : (u : ℕ) → moment_after (states t) operation < u → u ≤ last → (words states last).link u i ≡ true

@@ -1,5 +1,5 @@
 -- What is known of generations in the node that a line makes.
-use Rattle.std.proofs.Common.{◌≡◌, ℕ, ◌⊎◌, true, ◌∷◌, set, Some, refl, sym, ap, ◌∙◌, subst, inl, inr, ◌&&◌, arith, []}
+use Rattle.std.proofs.Common.{◌≡◌, ℕ, ◌⊎◌, true, ◌∷◌, set, Some, refl, sym, ap, ◌∙◌, subst, inl, inr, ◌&&◌, []}
 use Rattle.std.specs.Prelude.{unwrap_or, Option}
 use Rattle.std.specs.List.{All}
 use Rattle.std.proofs.lemmas.Bool.{false≢true}
@@ -16,27 +16,18 @@ use Rattle.machine_model.specs.declared.building.Change.{Change}
 use Rattle.machine_model.specs.declared.building.Change.TheVariants as change
 use Rattle.machine_model.specs.declared.copying.CopyLine.{CopyLine}
 use Rattle.machine_model.specs.declared.copying.CopyLine.TheVariants as copy
-use Rattle.machine_model.specs.declared.finding.KeyLine.{KeyLine}
 use Rattle.machine_model.specs.declared.lines.Line.{Line}
 use Rattle.machine_model.specs.declared.lines.Line.TheVariants as line
-use Rattle.machine_model.specs.declared.lines.Purpose.{Purpose}
 use Rattle.machine_model.specs.declared.operations.Operation.{Operation}
 use Rattle.machine_model.specs.declared.reading.Read.{Read}
-use Rattle.machine_model.specs.declared.reading.ReadLine.{ReadLine}
-use Rattle.machine_model.specs.declared.reading.Swap.{Swap}
 use Rattle.machine_model.specs.declared.repairs.CleanLine.{CleanLine}
 use Rattle.machine_model.specs.declared.repairs.CleanLine.TheVariants as clean
 use Rattle.machine_model.specs.declared.repairs.ClimbLine.{ClimbLine}
 use Rattle.machine_model.specs.declared.repairs.ClimbLine.TheVariants as climb
 use Rattle.machine_model.specs.declared.repairs.RenewLine.{RenewLine}
 use Rattle.machine_model.specs.declared.repairs.RenewLine.TheVariants as renew
-use Rattle.machine_model.specs.declared.roots.Complete.{Complete}
-use Rattle.machine_model.specs.declared.roots.RootLine.{RootLine}
-use Rattle.machine_model.specs.declared.walking.WalkLine.{WalkLine}
 use Rattle.machine_model.specs.States.{State}
 use Rattle.machine_model.specs.Paths.{flag_in, is_below_root, above, start_of}
-use Rattle.machine_model.specs.Reading.{read_action}
-use Rattle.machine_model.specs.Swapping.{complete_action}
 use Rattle.machine_model.specs.Cleaning.{leaves_single}
 use Rattle.machine_model.specs.Climbing.{place_in}
 use Rattle.machine_model.specs.Operations.{line_action}
@@ -44,14 +35,9 @@ use Rattle.memory_laws.specs.Wants.{ASingle, meets, AllHold, line_wants, change_
 use Rattle.memory_laws.proofs.Claims.{safe_of, meets_of, entry_of}
 use Rattle.memory_laws.proofs.Next.{made_node, pair_no_link, contracted_no_link, changed_no_link}
 use Rattle.memory_laws.proofs.Nodes.{IsNoLink}
+use Rattle.generation_laws.proofs.Made.{root_makes, key_makes, swap_makes, walk_makes, read_makes, complete_makes}
 use Rattle.falling_laws.proofs.Knows.{Knows, KnowsBuild, KnowsRenew, KnowsClean, KnowsClimb, KnowsCopy, KnowsChange, one_of}
 use Rattle.falling_laws.proofs.MadeNodes.{pair_entries, contracted_entries, changed_entries, ChangeFits}
-
-read_makes : (state : State) (i : Ref) (l : ReadLine) (node : Node) → made_node state (read_action i l) ≡ Some node → ⊥
-read_makes state i l node e = grind arith
-
-complete_makes : (state : State) (c : Complete) (node : Node) → made_node state (complete_action c) ≡ Some node → ⊥
-complete_makes state c node e = grind arith
 
 module _ (state : State) (operation : Operation) (start : ℕ) (begun : operation.generation ≡ Some start) (Own Fits Falls : Ref → Type 0) (Late : Read → Type 0) (S : Ref → Type 0)
     (own_fits : (r : Ref) → Own r → Fits r) (single_fits : (r : Ref) → S r → meets ASingle (node_at state.heap r) ≡ true → Fits r)
@@ -141,9 +127,6 @@ module _ (state : State) (operation : Operation) (start : ℕ) (begun : operatio
         contracted_entries Fits (is_below_root path && leaves_single state done) (bitmap_of (node_at state.heap main)) done k.1,
       )
 
-  root_makes : (l : RootLine) (n : Node) → made_node state (line_action state operation (line.Root l)) ≡ Some n → ⊥
-  root_makes l n e = grind arith
-
   climb_node : (l : ClimbLine) → KnowsClimb Own Fits Falls Late l → Wants (line.Climb l) → (n : Node) → made_node state (line_action state operation (line.Climb l)) ≡ Some n → MainMade n
   climb_node (climb.Read c r) k w n e = absurd (read_makes state r.indirection r.line n e)
   climb_node (climb.Main c main) k w n e = absurd (none-some n e)
@@ -154,7 +137,7 @@ module _ (state : State) (operation : Operation) (start : ℕ) (begun : operatio
       let all = All-set Fits (entries_of (node_at state.heap main)) (place_in state operation c main) c.single (single_fits c.single (safe_of single) (meets_of single)) (entries_fit main (safe_of at) k.1) in
       subst MainMade (same_Some _ _ e)
       (contracted_no_link (is_below_root (above c.path)) (bitmap_of (node_at state.heap main)) es, contracted_entries Fits (is_below_root (above c.path)) (bitmap_of (node_at state.heap main)) es all)
-  climb_node (climb.Root c l) k w n e = absurd (root_makes l n e)
+  climb_node (climb.Root c l) k w n e = absurd (root_makes state operation l n e)
 
   -- ---- SNAP and CLEAR
 
@@ -169,25 +152,16 @@ module _ (state : State) (operation : Operation) (start : ℕ) (begun : operatio
 
   -- ---- all lines
 
-  key_makes : (l : KeyLine) (n : Node) → made_node state (line_action state operation (line.Key l)) ≡ Some n → ⊥
-  key_makes l n e = grind arith
-
-  swap_makes : (why : Purpose) (s : Swap) (n : Node) → made_node state (line_action state operation (line.Swap why s)) ≡ Some n → ⊥
-  swap_makes why s n e = grind arith
-
-  walk_makes : (l : WalkLine) (n : Node) → made_node state (line_action state operation (line.Walk l)) ≡ Some n → ⊥
-  walk_makes l n e = grind arith
-
   pub node_made : (l : Line) → Knows Own Fits Falls Late l → Wants l → (n : Node) → made_node state (line_action state operation l) ≡ Some n → NodeMade l n
   node_made (line.Build l) k w n e = build_node l k w n e
   node_made (line.Renew l) k w n e = renew_node l k n e
   node_made (line.Clean l) k w n e = clean_node l k n e
   node_made (line.Climb l) k w n e = climb_node l k w n e
   node_made (line.Copy l) k w n e = copy_node l k n e
-  node_made (line.Root l) k w n e = absurd (root_makes l n e)
-  node_made (line.Key l) k w n e = absurd (key_makes l n e)
-  node_made (line.Swap why s) k w n e = absurd (swap_makes why s n e)
-  node_made (line.Walk l) k w n e = absurd (walk_makes l n e)
+  node_made (line.Root l) k w n e = absurd (root_makes state operation l n e)
+  node_made (line.Key l) k w n e = absurd (key_makes state operation l n e)
+  node_made (line.Swap why s) k w n e = absurd (swap_makes state operation why s n e)
+  node_made (line.Walk l) k w n e = absurd (walk_makes state operation l n e)
   node_made (line.End answer) k w n e = absurd (none-some n e)
   node_made line.Impossible k w n e = absurd (none-some n e)
 

@@ -10,14 +10,11 @@ use Rattle.slot_arena.specs.declared.nodes.Node.TheVariants.{Indirection}
 use Rattle.slot_arena.specs.declared.nodes.Slot.{Slot}
 use Rattle.slot_arena.specs.Heaps.{node_of, main_of, next_ref}
 use Rattle.machine_model.specs.declared.actions.Action.TheVariants as act
-use Rattle.machine_model.specs.declared.finding.KeyLine.{KeyLine}
 use Rattle.machine_model.specs.declared.lines.Line.{Line}
 use Rattle.machine_model.specs.declared.lines.Line.TheVariants as line
 use Rattle.machine_model.specs.declared.operations.Operation.{Operation}
 use Rattle.machine_model.specs.declared.reading.Read.{Read}
-use Rattle.machine_model.specs.declared.roots.RootLine.{RootLine}
 use Rattle.machine_model.specs.declared.steps.Limits.{Limits}
-use Rattle.machine_model.specs.declared.walking.WalkLine.{WalkLine}
 use Rattle.machine_model.specs.States.{State}
 use Rattle.machine_model.specs.Operations.{action_of, line_action}
 use Rattle.machine_model.proofs.Times.{IsRun}
@@ -37,18 +34,10 @@ use Rattle.falling_laws.proofs.ReaderFalls.{KnowsReader}
 use Rattle.falling_laws.proofs.RunFalls.{gen_of, IsOwn, FitsBelow, FallsBelow, LateBelow, Ends, Shut, LateEnd, AllKnow, KnowsGenerations, own_fits, entries_fit, single_fits}
 use Rattle.memory_laws.specs.Wants.{is_indirection}
 use Rattle.deciding_laws.proofs.GrownWords.{link_kept}
+use Rattle.generation_laws.proofs.Made.{root_makes, key_makes, walk_makes}
 use Rattle.falling_laws.proofs.ReaderKnows.{indirection_is}
 
 -- ---- which lines make nodes
-
-key_makes : (state : State) (operation : Operation) (l : KeyLine) (n : Node) → made_node state (line_action state operation (line.Key l)) ≡ Some n → ⊥
-key_makes state operation l n e = grind arith
-
-root_makes : (state : State) (operation : Operation) (l : RootLine) (n : Node) → made_node state (line_action state operation (line.Root l)) ≡ Some n → ⊥
-root_makes state operation l n e = grind arith
-
-walk_makes : (state : State) (operation : Operation) (l : WalkLine) (n : Node) → made_node state (line_action state operation (line.Walk l)) ≡ Some n → ⊥
-walk_makes state operation l n e = grind arith
 
 pub makes_inner : (state : State) (operation : Operation) (l : Line) (n : Node) → made_node state (line_action state operation l) ≡ Some n → IsInner l
 makes_inner state operation (line.Root l) n e = absurd (root_makes state operation l n e)

@@ -3,8 +3,7 @@ use Rattle.std.proofs.Common.{◌≡◌, ℕ, suc, ◌<◌, ◌⊎◌, inl, inr,
 use Rattle.std.proofs.lemmas.Option.{same_Some}
 use Rattle.slot_arena.specs.declared.refs.Ref.{Ref}
 use Rattle.machine_model.specs.declared.operations.Operation.{Operation}
-use Rattle.machine_model.specs.declared.reading.After.{After}
-use Rattle.machine_model.specs.declared.reading.After.TheVariants.{Goes as Continues, Gives}
+use Rattle.machine_model.specs.declared.reading.After.TheVariants.{Gives}
 use Rattle.machine_model.specs.declared.reading.Read.{Read}
 use Rattle.machine_model.specs.declared.reading.ReadLine.{ReadLine}
 use Rattle.machine_model.specs.declared.reading.ReadLine.TheVariants as read
@@ -13,7 +12,7 @@ use Rattle.machine_model.specs.declared.steps.Outcome.{Outcome}
 use Rattle.machine_model.specs.declared.steps.Step.TheVariants as step
 use Rattle.machine_model.specs.Calls.{handle_of}
 use Rattle.machine_model.specs.States.{State, word_at, operation_of}
-use Rattle.machine_model.specs.Reading.{read_after, read_step, at_indirection, read_action}
+use Rattle.machine_model.specs.Reading.{read_after, read_step, read_action}
 use Rattle.machine_model.specs.Operations.{action_of}
 use Rattle.machine_model.specs.Orders.{counted_from, read_at_after}
 use Rattle.machine_model.specs.Acting.{gone}
@@ -26,6 +25,7 @@ use Rattle.deciding_laws.proofs.Sounds.{sound_at}
 use Rattle.deciding_laws.proofs.Stages.{stage_of, stage_of_actor}
 use Rattle.deciding_laws.proofs.LineReads.{on_stage, read_counts}
 use Rattle.deciding_laws.proofs.RunWords.{reading_turn}
+use Rattle.deciding_laws.proofs.Laws.{given_read}
 use Rattle.falling_laws.proofs.KnownRoots.{words, known, protocol_of}
 
 -- the state after a step of an operation that goes on
@@ -34,11 +34,6 @@ pub gone_is : (before : State) (actor : ℕ) (o : Outcome) (after : State) → M
 gone_is before actor o after (Goes {operation = x} d is a g) operation runs goes = ap (λ y. settled before (gone before actor y)) (same_Some _ _ (sym is ∙ runs))
 gone_is before actor o after (Ends {operation = x} {answer} d is a) operation runs goes =
     absurd (subst GoesOn (ap (action_of before) (same_Some _ _ (sym runs ∙ is)) ∙ a) goes)
-
--- a READ that gives does so behind its line
-pub gives_so : (i : Ref) (a : After ReadLine Ref) (m : Ref) → at_indirection i a ≡ Gives m → a ≡ Gives m
-gives_so i (Gives x) m e = ap (λ y. Gives y) (let same : x ≡ m = cc e in same)
-gives_so i (Continues l) m e = let wrong : ⊥ = cc e in absurd wrong
 
 -- what was before the READ began is before what it counts from
 pub counts_late : (l : ReadLine) (c t before : ℕ) → c < t → (l ≡ read.Main) ⊎ (c < before) → c < counts_at l t before
@@ -83,7 +78,7 @@ module _ (limits : Limits) (states : ℕ → State) (last : ℕ) (run : IsRun li
   pub given_stands : (o : Outcome) → Moves (states t) (step.Go actor) o (states (suc t)) → (m : Ref) → read_step (states t) operation r ≡ Gives m → Stood (words states last) (suc t) r.indirection m
   given_stands o moves m gives =
       let turn = reading_turn limits states last (known limits states last run) t lt actor operation o moves is (gone_is (states t) actor o (states (suc t)) moves operation is reads_on) r.indirection r.line stage in
-      let out = gives_so r.indirection (read_after (states t).heap operation.access (word_at (states t) (handle_of operation.call)) r.indirection r.line) m gives in
+      let out = given_read r.indirection (read_after (states t).heap operation.access (word_at (states t) (handle_of operation.call)) r.indirection r.line) m gives in
       let given : Given (words states last) (suc t) actor r.indirection m =
       record { at = t; past = omega arith; line = r.line; stage = ap stage_of_actor is ∙ stage; gives = subst (λ x. ReadTurn (words states last) t r.indirection r.line x) out turn } in
       ((sound_at (protocol_of limits states last run) (suc t) lt).given actor r.indirection m given).stood

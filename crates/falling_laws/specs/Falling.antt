@@ -4,8 +4,6 @@ use Rattle.history.specs.declared.calls.Access.TheVariants.{Writable, ReadOnly}
 use Rattle.slot_arena.specs.declared.refs.Ref.{Ref}
 use Rattle.slot_arena.specs.declared.nodes.Node.TheVariants.{Indirection}
 use Rattle.slot_arena.specs.Heaps.{generation_of, entries_of}
-use Rattle.machine_model.specs.declared.building.BuildLine.{BuildLine}
-use Rattle.machine_model.specs.declared.building.BuildLine.TheVariants as build
 use Rattle.machine_model.specs.declared.lines.Line.TheVariants as line
 use Rattle.machine_model.specs.declared.lines.Purpose.{Purpose}
 use Rattle.machine_model.specs.declared.lines.Purpose.TheVariants as purpose
@@ -58,13 +56,6 @@ NoneIsNewer limits states last =
     trie.node child ≡ Indirection h word → generation trie child ≤ generation trie i
 
 -- ---- the paths of operations
-
-abbrev pub build_path : BuildLine → List Ref
-build_path (build.Single path main site former) = path
-build_path (build.Pair path main position single depth) = path
-build_path (build.Link path main position below depth) = path
-build_path (build.Rung path main position below depth) = path
-build_path (build.Main path main c former) = path
 
 abbrev pub renew_path : RenewLine → List Ref
 renew_path (renew.Entry path main done) = path

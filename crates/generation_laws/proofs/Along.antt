@@ -1,6 +1,6 @@
 -- After each list of steps: offers, handles and the counter.
 use Rattle.std.proofs.Common.{◌≡◌, ℕ, ◌<◌, Option, Some, List, unwrap_or, ap, arith}
-use Rattle.slot_arena.specs.Refs.{birth_of, slot_of}
+use Rattle.slot_arena.specs.Refs.{slot_of}
 use Rattle.slot_arena.specs.declared.refs.Ref.{Ref}
 use Rattle.slot_arena.specs.declared.nodes.Slot.{Slot}
 use Rattle.slot_arena.specs.Heaps.{stored, generation_of}
@@ -12,9 +12,9 @@ use Rattle.machine_model.specs.Machine.{AreLimits, run}
 use Rattle.machine_model.proofs.Along.{along}
 use Rattle.machine_model.proofs.Grown.{standing}
 use Rattle.memory_laws.proofs.AtEachTime.{safe_along}
+use Rattle.memory_laws.proofs.Under.{standing_parts}
 use Rattle.generation_laws.proofs.SameOffer.{HasOffers, has_offers_after, no_offers_at_first}
 use Rattle.generation_laws.proofs.Handles.{HasHandles, handles_after, handles_at_first}
-use Rattle.generation_laws.proofs.Counter.{standing_stored}
 use Rattle.generation_laws.proofs.Below.{IsBelow, below_after, below_at_first}
 use Rattle.generation_laws.proofs.Running.{place_of_actor}
 
@@ -29,7 +29,7 @@ below_along limits ok = along limits IsBelow (below_at_first limits) (λ steps s
 -- what stands is in the slots
 pub standing_below : (state : State) → IsBelow state → (r : Ref) (slot : Slot) → standing state.heap r ≡ Some slot → generation_of slot.node < state.generations
 unfolding stored
-standing_below state h r slot e = h.nodes (slot_of r) slot (standing_stored (birth_of r) (stored state.heap r) slot e)
+standing_below state h r slot e = h.nodes (slot_of r) slot ((standing_parts state.heap r slot e).0)
 
 pub operation_below : (state : State) → IsBelow state → (actor : ℕ) (operation : Operation) (g : ℕ) → operation_of state actor ≡ Some operation → operation.generation ≡ Some g → g < state.generations
 operation_below state h actor operation g is e =

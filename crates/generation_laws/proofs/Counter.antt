@@ -1,5 +1,5 @@
 -- All generations are below the counter from which the next one is drawn: those of indirections, of operations and of closings. An indirection keeps its own.
-use Rattle.std.proofs.Common.{◌≡◌, ℕ, ◌+◌, ◌≤◌, ◌==◌, Bool, true, false, cond, inl, inr, ◌⊎◌, List, ◌∷◌, set, get_or, Option, Some, None, refl, sym, ap, ◌∙◌, subst, arith, []}
+use Rattle.std.proofs.Common.{◌≡◌, ℕ, ◌+◌, ◌≤◌, inl, inr, ◌⊎◌, List, ◌∷◌, set, get_or, Option, Some, None, refl, sym, ap, ◌∙◌, subst, arith, []}
 use Rattle.std.proofs.lemmas.Bool.{cases_eq}
 use Rattle.std.proofs.lemmas.Option.{none-some, same_Some}
 use Rattle.slot_arena.specs.Refs.{ref_to}
@@ -24,7 +24,7 @@ use Rattle.machine_model.specs.Machine.{with_begin}
 use Rattle.machine_model.proofs.Moves.{Moves, Begins, Goes, Ends, Sweeps, begun_operation}
 use Rattle.machine_model.proofs.Found.{found_elsewhere, found_here, none_found}
 use Rattle.machine_model.proofs.Times.{IsRun}
-use Rattle.machine_model.proofs.Grown.{of_birth, grown, node_under}
+use Rattle.machine_model.proofs.Grown.{grown, node_under}
 use Rattle.memory_laws.specs.Laws.{SameNode}
 use Rattle.memory_laws.proofs.Next.{made_node}
 use Rattle.memory_laws.proofs.WordMoves.{WordMove, keeps, makes, publishes, restores, commits, fails, grown_stays}
@@ -127,14 +127,6 @@ taken_list heap node (n ∷ free) k slot e =
   where
     node_is : (birth : ℕ) → Some (record { birth = birth; node = node; prev = prev.None }) ≡ Some slot → slot.node ≡ node
     node_is birth e = ap (λ (x : Slot). x.node) (sym (same_Some _ _ e))
-
-pub standing_stored : (birth : ℕ) (o : Option Slot) (slot : Slot) → of_birth birth o ≡ Some slot → o ≡ Some slot
-standing_stored birth None slot e = absurd (none-some slot e)
-standing_stored birth (Some now) slot e = by (now.birth == birth) e
-  where
-    by : (b : Bool) → cond b (Some now) None ≡ Some slot → Some now ≡ Some slot
-    by true e = e
-    by false e = absurd (none-some slot e)
 
 pub first_list : (slots k : ℕ) (slot : Slot) → get_or (first_heap slots).slots k None ≡ Some slot → generation_of slot.node ≡ 0
 unfolding taken

@@ -66,11 +66,23 @@ pair_plain kind depth a b x y = cond_both (depth == list_depth kind) _ _ (λ nod
 contracted_plain : (may : Bool) (bitmap : ℕ) (entries : List Ref) → generation_of (contracted may bitmap entries) ≡ 0
 contracted_plain may bitmap entries = grind arith
 
-read_makes : (state : State) (i : Ref) (l : ReadLine) (node : Node) → made_node state (read_action i l) ≡ Some node → ⊥
+pub read_makes : (state : State) (i : Ref) (l : ReadLine) (node : Node) → made_node state (read_action i l) ≡ Some node → ⊥
 read_makes state i l node e = grind arith
 
-complete_makes : (state : State) (c : Complete) (node : Node) → made_node state (complete_action c) ≡ Some node → ⊥
+pub complete_makes : (state : State) (c : Complete) (node : Node) → made_node state (complete_action c) ≡ Some node → ⊥
 complete_makes state c node e = grind arith
+
+pub root_makes : (state : State) (operation : Operation) (l : RootLine) (made : Node) → made_node state (line_action state operation (line.Root l)) ≡ Some made → ⊥
+root_makes state operation l made e = grind arith
+
+pub key_makes : (state : State) (operation : Operation) (l : KeyLine) (made : Node) → made_node state (line_action state operation (line.Key l)) ≡ Some made → ⊥
+key_makes state operation l made e = grind arith
+
+pub swap_makes : (state : State) (operation : Operation) (why : Purpose) (s : Swap) (made : Node) → made_node state (line_action state operation (line.Swap why s)) ≡ Some made → ⊥
+swap_makes state operation why s made e = grind arith
+
+pub walk_makes : (state : State) (operation : Operation) (l : WalkLine) (made : Node) → made_node state (line_action state operation (line.Walk l)) ≡ Some made → ⊥
+walk_makes state operation l made e = grind arith
 
 module _ (state : State) (operation : Operation) (S : Ref → Type 0) where
   abbrev Of : Line → Node → Type 0
@@ -125,27 +137,15 @@ module _ (state : State) (operation : Operation) (S : Ref → Type 0) where
   copy_made (copy.Offer offer) made e = absurd (none-some made e)
   copy_made (copy.Complete c) made e = absurd (complete_makes state c made e)
 
-  root_makes : (l : RootLine) (made : Node) → made_node state (line_action state operation (line.Root l)) ≡ Some made → ⊥
-  root_makes l made e = grind arith
-
-  key_makes : (l : KeyLine) (made : Node) → made_node state (line_action state operation (line.Key l)) ≡ Some made → ⊥
-  key_makes l made e = grind arith
-
-  swap_makes : (why : Purpose) (s : Swap) (made : Node) → made_node state (line_action state operation (line.Swap why s)) ≡ Some made → ⊥
-  swap_makes why s made e = grind arith
-
-  walk_makes : (l : WalkLine) (made : Node) → made_node state (line_action state operation (line.Walk l)) ≡ Some made → ⊥
-  walk_makes l made e = grind arith
-
   pub made_of : (l : Line) → AllHold S state.heap (line_wants state.limits.hash operation.call operation.access l) → (made : Node) → made_node state (line_action state operation l) ≡ Some made → Of l made
-  made_of (line.Root l) h made e = absurd (root_makes l made e)
-  made_of (line.Key l) h made e = absurd (key_makes l made e)
+  made_of (line.Root l) h made e = absurd (root_makes state operation l made e)
+  made_of (line.Key l) h made e = absurd (key_makes state operation l made e)
   made_of (line.Build l) h made e = build_made l h made e
-  made_of (line.Swap why s) h made e = absurd (swap_makes why s made e)
+  made_of (line.Swap why s) h made e = absurd (swap_makes state operation why s made e)
   made_of (line.Renew l) h made e = renew_made l made e
   made_of (line.Clean l) h made e = clean_made l made e
   made_of (line.Climb l) h made e = climb_made l made e
   made_of (line.Copy l) h made e = copy_made l made e
-  made_of (line.Walk l) h made e = absurd (walk_makes l made e)
+  made_of (line.Walk l) h made e = absurd (walk_makes state operation l made e)
   made_of (line.End answer) h made e = absurd (none-some made e)
   made_of line.Impossible h made e = absurd (none-some made e)

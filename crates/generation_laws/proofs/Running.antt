@@ -1,8 +1,8 @@
 -- Which operations run after a step, by those that ran before it.
-use Rattle.std.proofs.Common.{◌≡◌, ℕ, zero, suc, ◌-◌, ◌<◌, ◌⊎◌, inl, inr, List, set, get_or, Option, Some, None, refl, sym, ap, ◌∙◌, subst, arith}
+use Rattle.std.proofs.Common.{◌≡◌, ℕ, zero, suc, ◌-◌, ◌<◌, ◌⊎◌, inl, inr, List, set, get_or, Option, Some, None, refl, sym, ap, ◌∙◌, subst, arith, length}
 use native.Mathlib.Decide.{ℕ_discrete}
 use Rattle.std.proofs.Math.ListN.{get_or-map}
-use Rattle.std.proofs.lemmas.List.{get_or-set_same}
+use Rattle.std.proofs.lemmas.List.{get_or-set_same, length-map}
 use Rattle.std.proofs.lemmas.Option.{none-some, same_Some}
 use Rattle.history.specs.declared.calls.Call.{Call}
 use Rattle.history.specs.declared.replies.Reply.{Reply}
@@ -122,3 +122,8 @@ comes_by state s o after (Sweeps spent) k found at_k (yes own) = absurd own
 
 pub comes : (state : State) (s : Step) (o : Outcome) (after : State) → Moves state s o after → (k : ℕ) (found : Operation) → Runs after k found → Comes state s k found
 comes state s o after m k found at_k = comes_by state s o after m k found at_k (is_of (suc k) s)
+
+-- marks leave each actor at its place
+pub marks_length : (m : Option ℕ) (xs : List (Option Operation)) → length (after_marks m xs) ≡ length xs
+marks_length None xs = refl
+marks_length (Some id) xs = length-map xs (marked id)

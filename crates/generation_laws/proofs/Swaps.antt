@@ -172,7 +172,7 @@ here_from st state same at action handle now from = by from
     by (newly offer n c its at_it is) = newly offer n (here offer c) its at_it is
 
 -- the state on which a step's action works
-abbrev noted : State → ℕ → Operation → State
+abbrev pub noted : State → ℕ → Operation → State
 noted state actor operation =
     with_operation (record state { commits = commits_after state (committed_now state operation); places = state.places ++ entered state (committed_now state operation) }) actor
     (Some (operation_after state operation))

@@ -1,5 +1,5 @@
 -- How keys are found by other main nodes and nodes that say the same.
-use Rattle.std.proofs.Common.{◌≡◌, ℕ, zero, suc, cond, List, [], ◌∷◌, slice_index_or, Option, refl, ap, ap₂, ◌∙◌}
+use Rattle.std.proofs.Common.{◌≡◌, ℕ, zero, suc, cond, slice_index_or, refl, ap, ◌∙◌}
 use Rattle.ctrie_base.specs.Paths.{position_of}
 use Rattle.slot_arena.specs.declared.refs.Ref.{Ref}
 use Rattle.slot_arena.specs.declared.nodes.Node.{Node}
@@ -7,7 +7,6 @@ use Rattle.slot_arena.specs.declared.nodes.Node.TheVariants.{Indirection, Branch
 use Rattle.slot_arena.specs.Heaps.{no_ref}
 use Rattle.nodes.specs.Levels.{flag_of, has_flag}
 use Rattle.node_contents.specs.Looking.{Absent, look_in, value_by, find_at, value_in}
-use Rattle.content_laws.specs.Tries.{map_of, put_value}
 use Rattle.content_laws.proofs.Values.{value_by-same}
 use Rattle.shape_laws.specs.LineSites.{bare}
 use Rattle.shape_laws.proofs.Changed.{bare_look, bare_among}
@@ -38,8 +37,3 @@ module _ (node : Ref → Node) (hash : ℕ → ℕ) (key : ℕ) where
       ap (value_by (find_at (λ r. bare (node r)) A hash key levels (suc depth))) (bare_says (flag_of (hash key) depth) (node (A i)))
       ∙ value_by-same (find_at (λ r. bare (node r)) A hash key levels (suc depth)) (find_at node A hash key levels (suc depth)) (look_in node (flag_of (hash key) depth) key (node (A i)))
       (λ j e. bare_found A levels (suc depth) j)
-
--- the map of the same values is the same
-pub map_alike : (keys : List ℕ) (f g : ℕ → Option ℕ) → ((key : ℕ) → f key ≡ g key) → map_of keys f ≡ map_of keys g
-map_alike [] f g same = refl
-map_alike (key ∷ keys) f g same = ap₂ (put_value key) (same key) (map_alike keys f g same)

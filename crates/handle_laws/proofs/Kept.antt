@@ -15,6 +15,7 @@ use Rattle.machine_model.proofs.Moves.{Moves}
 use Rattle.machine_model.proofs.Times.{IsRun}
 use Rattle.content_laws.specs.Steps.{IsTrie, IsRepair}
 use Rattle.content_laws.specs.Tries.{Trie, generation, node_in, most_levels}
+use Rattle.content_laws.proofs.Contents.{map_of-same}
 use Rattle.line_laws.specs.Commits.{OwnCommit, CommitsAt, MainStep, stays, changes, assigned_at}
 use Rattle.line_laws.proofs.FreshCommits.{fresh_commits_at}
 use Rattle.falling_laws.proofs.OwnSwaps.{swaps_in_own_generation}
@@ -27,7 +28,6 @@ use Rattle.trie_laws.proofs.Does.{own_does}
 use Rattle.trie_laws.proofs.Taken.{repairs_are_known, sites_of_updates}
 use Rattle.trie_laws.proofs.Whole as whole
 use Rattle.handle_laws.specs.Touching.{Reaches}
-use Rattle.handle_laws.proofs.Finding.{map_alike}
 use Rattle.handle_laws.proofs.Reaching.{reach_from}
 use Rattle.handle_laws.proofs.Showing.{root_deep, root_link, content_shown}
 use Rattle.handle_laws.proofs.Values.{value_below, nothing_below, repair_below}
@@ -87,5 +87,5 @@ module _ (limits : Limits) (states : ℕ → State) (steps : ℕ → Step) (t : 
         ((key : ℕ) → value_below trie (suc t) (root_of now.word) key ≡ value_below trie t (root_of root.word) key) → content_at (states (suc t)) other ≡ content_at (states t) handle
     content_later other now at_now same =
         content_shown limits states steps (suc t) run takes keys (suc t) (omega arith) other now at_now
-        ∙ ap entries (map_alike trie.keys (value_below trie (suc t) (root_of now.word)) (value_below trie t (root_of root.word)) same)
+        ∙ ap entries (map_of-same trie.keys (value_below trie (suc t) (root_of now.word)) (value_below trie t (root_of root.word)) same)
         ∙ sym (content_shown limits states steps (suc t) run takes keys t (omega arith) handle root at)

@@ -29,6 +29,7 @@ use Rattle.content_laws.specs.Tries.{Trie, content, map_of, most_levels}
 use Rattle.content_laws.proofs.HeapPairs.{flat_map-same, entry_refs}
 use Rattle.content_laws.proofs.Shown.{reached_entries}
 use Rattle.content_laws.proofs.Values.{assigned-last}
+use Rattle.content_laws.proofs.Contents.{map_of-same}
 use Rattle.falling_laws.proofs.ReaderKnows.{indirection_is}
 use Rattle.opening_laws.proofs.ClosedRoots.{main_there}
 use Rattle.opening_laws.proofs.InUse.{nodes_stay}
@@ -45,7 +46,7 @@ use Rattle.shape_laws.proofs.RootBranches.{root_wanted}
 use Rattle.shape_laws.proofs.Shaped.{runs_have_shape}
 use Rattle.shape_laws.proofs.SiteActs.{root_path}
 use Rattle.shape_laws.proofs.SiteRuns.{paths_fit, bare_main}
-use Rattle.handle_laws.proofs.Finding.{found_alike, map_alike}
+use Rattle.handle_laws.proofs.Finding.{found_alike}
 use Rattle.handle_laws.proofs.Values.{value_below}
 
 -- ---- nodes whose generations and words don't count
@@ -158,7 +159,7 @@ module _ (limits : Limits) (states : ℕ → State) (steps : ℕ → Step) (last
 
     pub content_now : content now 0 0 ≡ map_of trie.keys (value_below trie t r)
     unfolding content
-    content_now = map_alike trie.keys _ _ (λ key. found_alike trie.node _ key _ _ (assigned-last now 0) most_levels 0 r)
+    content_now = map_of-same trie.keys _ _ (λ key. found_alike trie.node _ key _ _ (assigned-last now 0) most_levels 0 r)
 
     pub content_shown : content_at (states t) handle ≡ entries (map_of trie.keys (value_below trie t r))
     content_shown =

@@ -19,12 +19,13 @@ use Rattle.content_laws.specs.Steps.{IsTrie, Updates, Does, an_update, IsOwnUpda
 use Rattle.content_laws.proofs.Generations.{update_acts}
 use Rattle.content_laws.proofs.Paths.{on-path}
 use Rattle.content_laws.proofs.Values.{assigned-own, assigned-last}
+use Rattle.content_laws.proofs.Contents.{map_of-same}
 use Rattle.shape_laws.specs.LineSites.{bare}
 use Rattle.shape_laws.specs.Shaped.{HasShape}
 use Rattle.shape_laws.proofs.Changed.{bare_among}
 use Rattle.shape_laws.proofs.KeysOnce.{same_shape}
 use Rattle.shape_laws.proofs.Places.{bare_entries, bare_generation}
-use Rattle.handle_laws.proofs.Finding.{found_alike, bare_found, map_alike}
+use Rattle.handle_laws.proofs.Finding.{found_alike, bare_found}
 use Rattle.handle_laws.proofs.Values.{value_below}
 use Rattle.handle_laws.proofs.Ways.{From, itself, through, on_way}
 
@@ -139,7 +140,7 @@ module _ (trie : Trie) (t : ℕ) (end : trie.last ≡ suc t) (root : Ref) where
           ∙ ap (λ m. Some (changed_reply call former, m)) after
         where
           earlier : content (two_states trie t root) 0 0 ≡ map_of trie.keys (value_below trie t root)
-          earlier = map_alike trie.keys _ _ (same_value 0 (trie.main t) (λ j. refl))
+          earlier = map_of-same trie.keys _ _ (same_value 0 (trie.main t) (λ j. refl))
 
           after : content (two_states trie t root) 0 1 ≡ map_of trie.keys (value_below trie (suc t) root)
-          after = map_alike trie.keys _ _ (same_value 1 (trie.main (suc t)) (λ j. refl))
+          after = map_of-same trie.keys _ _ (same_value 1 (trie.main (suc t)) (λ j. refl))

@@ -36,14 +36,14 @@ use Rattle.deciding_laws.proofs.Owners.{Staged}
 use Rattle.deciding_laws.proofs.Sounds.{sound_at}
 use Rattle.deciding_laws.proofs.Stages.{stage_of, stage_of_actor}
 use Rattle.deciding_laws.proofs.RunWords.{protocol}
-use Rattle.content_laws.specs.Knowing.{Known, KnowsBuild, KnowsLine}
+use Rattle.content_laws.specs.Knowing.{Known, KnowsBuild, KnowsLine, main_of_build, build_path}
 use Rattle.content_laws.proofs.KeyKnows.{known, Sees}
-use Rattle.content_laws.proofs.BuildKnows.{IsMade, a_link, another, made_by, main_of_build, path_of_build, build_knows}
+use Rattle.content_laws.proofs.BuildKnows.{IsMade, a_link, another, made_by, build_knows}
 use Rattle.memory_laws.proofs.Next.{pair_no_link, changed_main}
+use Rattle.memory_laws.proofs.NoRef.{nothing_stands}
 use Rattle.line_laws.specs.Knowing.{known_with, first_main}
 use Rattle.line_laws.proofs.EachAt.{GoesAt}
 use Rattle.line_laws.proofs.Nodes.{known_run, known_node, made_node, made_link, prev_still, first_is}
-use Rattle.line_laws.proofs.NoRef.{never_made}
 use Rattle.line_laws.proofs.RunOf.{HasSites, sites_at, branch_shallow}
 use Rattle.line_laws.proofs.Seen.{sees}
 use Rattle.line_laws.proofs.KeyStep.{same_known, claims}
@@ -71,7 +71,7 @@ module _ (limits : Limits) (states : ℕ → State) (last : ℕ) (run : IsRun li
           (λ g w bad. let wrong : Single k v ≡ Indirection g w = bad in cc)
       by_place false beyond =
           let nothing : slice_index_or entries position no_ref ≡ no_ref = out_of_range entries (ltb-false position (length entries) beyond) in
-          let bad : node_of None ≡ Single k v = sym (ap node_of (ap (grown states last) nothing ∙ never_made limits states last run last (omega arith))) ∙ is in
+          let bad : node_of None ≡ Single k v = sym (ap node_of (ap (grown states last) nothing ∙ nothing_stands limits states last run last (omega arith))) ∙ is in
           let wrong : ⊥ = cc in absurd wrong
 
 module _ (limits : Limits) (states : ℕ → State) (last : ℕ) (run : IsRun limits states last) (t : ℕ) (h : t < last) (actor : ℕ) (operation : Operation) (go : GoesAt states t actor operation) where
@@ -103,7 +103,7 @@ module _ (limits : Limits) (states : ℕ → State) (last : ℕ) (run : IsRun li
 
     over_branch : (l : BuildLine) (e : operation.line ≡ line.Build l) (main : Ref) (path : List Ref) → Holds (IsInUse heap) heap (Is main ABranch) →
         depth_of path < list_depth (states t).limits.hash → IsMade (states t) operation node first made (made_by (states t) operation node first made l) →
-        main ≡ main_of_build (states t) operation node first made l → path ≡ path_of_build (states t) operation node first made l →
+        main ≡ main_of_build l → path ≡ build_path l →
         KnowsBuild K operation.call l → NextOf l made
     over_branch l e main path claim shallow is same_main same_path knows =
         build_knows (states t) operation node first made l

@@ -1,6 +1,6 @@
 -- A step of CLIMB, or of a swap that leads to it, hands on what the line knows of the tomb that it climbs from.
-use Rattle.std.proofs.Common.{◌≡◌, ℕ, zero, suc, ◌<◌, ◌==◌, ◌&&◌, nat_lt, Bool, true, false, cond, List, ◌∷◌, length, slice_index_or, slice_set, Option, Some, None, refl, sym, ◌∙◌, ap, ap₂, subst, arith, eqb-true, ltb-true, ltb-false, []}
-use Rattle.std.proofs.lemmas.Bool.{true≢false}
+use Rattle.std.proofs.Common.{◌≡◌, ℕ, zero, suc, ◌<◌, ◌==◌, nat_lt, Bool, true, false, cond, List, ◌∷◌, length, slice_index_or, slice_set, Option, Some, None, refl, sym, ◌∙◌, ap, ap₂, subst, arith, eqb-true, ltb-true, ltb-false, []}
+use Rattle.std.proofs.lemmas.Bool.{and_parts}
 use Rattle.std.proofs.lemmas.List.{get_or_past}
 use Rattle.ctrie_base.specs.Paths.{position_of}
 use Rattle.history.specs.declared.calls.Access.TheVariants.{Writable}
@@ -39,19 +39,15 @@ use Rattle.content_laws.specs.Knowing.{Known}
 use Rattle.content_laws.proofs.KeyKnows.{known}
 use Rattle.memory_laws.proofs.Next.{contracted_no_link}
 use Rattle.memory_laws.proofs.Nodes.{branch_main}
+use Rattle.memory_laws.proofs.NoRef.{nothing_stands}
 use Rattle.line_laws.specs.Given.{Was}
 use Rattle.line_laws.specs.Climbing.{WasTombed, HoldsIt, KnowsClimb, KnowsClimbing}
 use Rattle.line_laws.specs.Knowing.{first_main}
 use Rattle.line_laws.proofs.EachAt.{GoesAt}
 use Rattle.line_laws.proofs.Nodes.{known_run, made_node}
-use Rattle.line_laws.proofs.NoRef.{never_made}
 use Rattle.line_laws.proofs.Seen.{main_seen}
 use Rattle.line_laws.proofs.KeyStep.{claims}
 use Rattle.line_laws.proofs.Was.{was_given, given_link}
-
-both_true : (a b : Bool) → (a && b) ≡ true → (a ≡ true) × (b ≡ true)
-both_true true b e = (refl, e)
-both_true false b e = absurd (true≢false (sym e))
 
 -- ---- a climb goes on or is over
 
@@ -81,7 +77,7 @@ module _ (limits : Limits) (states : ℕ → State) (last : ℕ) (run : IsRun li
       by_test true e = ltb-true p (length entries) e
       by_test false e =
           let nothing : i ≡ no_ref = sym at ∙ get_or_past entries p no_ref (ltb-false p (length entries) e) in
-          let bad : node_of None ≡ Indirection g w = sym (ap node_of (ap (grown states last) nothing ∙ never_made limits states last run last (omega arith))) ∙ is in
+          let bad : node_of None ≡ Indirection g w = sym (ap node_of (ap (grown states last) nothing ∙ nothing_stands limits states last run last (omega arith))) ∙ is in
           let wrong : ⊥ = cc in absurd wrong
 
 module _ (limits : Limits) (states : ℕ → State) (last : ℕ) (run : IsRun limits states last) (t : ℕ) (h : t < last) (actor : ℕ) (operation : Operation) (go : GoesAt states t actor operation) where
@@ -110,7 +106,7 @@ module _ (limits : Limits) (states : ℕ → State) (last : ℕ) (run : IsRun li
             KnowsClimbing K W operation.call (cond b (line.Climb (climb.Contracted c main)) (climbed operation c.former))
         by_test false test = tt
         by_test true test =
-            let both = both_true (has_flag bitmap (flag_in (states t) operation (above c.path))) (slice_index_or entries.items (place_in (states t) operation c main) no_ref == current c.path) test in (
+            let both = and_parts (has_flag bitmap (flag_in (states t) operation (above c.path))) (slice_index_or entries.items (place_in (states t) operation c main) no_ref == current c.path) test in (
               tombed,
               record {
                 bitmap = bitmap;

@@ -22,9 +22,9 @@ use Rattle.deciding_laws.proofs.GrownWords.{words_of}
 use Rattle.deciding_laws.proofs.RunWords.{protocol}
 use Rattle.content_laws.specs.Runs.{is_made}
 use Rattle.content_laws.proofs.Runs.{made_next}
+use Rattle.memory_laws.proofs.NoRef.{nothing_stands}
 use Rattle.line_laws.specs.Knowing.{first_main}
 use Rattle.line_laws.proofs.Nodes.{known_run}
-use Rattle.line_laws.proofs.NoRef.{never_made}
 use Rattle.line_laws.proofs.LevelsAlong.{level, levels_along}
 use Rattle.line_laws.proofs.Takers.{taker}
 use Rattle.line_laws.proofs.Standing.{HowStands, stood, given, private, how_stands}
@@ -104,7 +104,7 @@ module _ (limits : Limits) (states : ℕ → State) (last : ℕ) (run : IsRun li
 
       by_level : (level limits states last run j ≡ 1) ⊎ (j ≡ no_ref) → ⊥
       by_level (inl one) = too_deep fresh.deep one
-      by_level (inr nothing) = true≢false (sym fresh.made ∙ ap is_some (ap (grown states t) nothing ∙ never_made limits states last run t h))
+      by_level (inr nothing) = true≢false (sym fresh.made ∙ ap is_some (ap (grown states t) nothing ∙ nothing_stands limits states last run t h))
 
   -- what was given was made
   given_made : (t : ℕ) → t ≤ last → (k : ℕ) (i m : Ref) → Given w t k i m → is_made states t m ≡ true

@@ -19,8 +19,8 @@ use Rattle.machine_model.proofs.Times.{IsRun}
 use Rattle.memory_laws.specs.Laws.{IsInUse}
 use Rattle.memory_laws.specs.Wants.{AMain, ABranch, listed, AllHold, line_wants}
 use Rattle.memory_laws.proofs.AtTimes.{line_at, limits_at}
-use Rattle.content_laws.specs.Knowing.{Known, KnowsKey, KnowsLine}
-use Rattle.content_laws.proofs.KeyKnows.{known, Sees, SeesSingle, OnlyGets, main_in, position_in, key_knows}
+use Rattle.content_laws.specs.Knowing.{Known, KnowsKey, KnowsLine, main_of_key}
+use Rattle.content_laws.proofs.KeyKnows.{known, Sees, SeesSingle, OnlyGets, position_in, key_knows}
 use Rattle.memory_laws.proofs.Nodes.{branch_main}
 use Rattle.line_laws.specs.Knowing.{known_with, first_main}
 use Rattle.line_laws.proofs.EachAt.{GoesAt}
@@ -53,7 +53,7 @@ module _ (limits : Limits) (states : ℕ → State) (last : ℕ) (run : IsRun li
         keyed_get operation.call (subst (λ x. FitsCall operation.call x) e (settled_at limits states last run t (omega arith) actor operation go.runs).fits)
         (fits_at limits states last run t (omega arith) actor operation go.runs a)
 
-    sees_by : (x : KeyLine) → operation.line ≡ line.Key x → (main : Ref) → main_in (states t) operation node first x ≡ Some main → Sees (states t) operation node first main
+    sees_by : (x : KeyLine) → operation.line ≡ line.Key x → (main : Ref) → main_of_key x ≡ Some main → Sees (states t) operation node first main
     sees_by (key.Read p read) e main is = let wrong : ⊥ = cc in absurd wrong
     sees_by (key.Main p m) e main is =
         subst (λ r. Sees (states t) operation node first r) (same_Some _ _ is) (sees limits states last run t (omega arith) operation m AMain (λ n x. x) (claims _ e).1.1.0)

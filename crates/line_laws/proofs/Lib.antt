@@ -21,7 +21,6 @@ pub mod Places
 pub mod Began
 pub mod Seen
 pub mod KeyStep
-pub mod NoRef
 pub mod BuildStep
 pub mod Knows
 pub mod RepairMore

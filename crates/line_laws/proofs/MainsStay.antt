@@ -20,9 +20,9 @@ use Rattle.deciding_laws.proofs.RunWords.{protocol}
 use Rattle.content_laws.specs.Runs.{is_made, main_at}
 use Rattle.content_laws.proofs.Runs.{main_at-stays}
 use Rattle.line_laws.proofs.Nodes.{known_run}
-use Rattle.line_laws.proofs.NoRef.{never_made}
 use Rattle.memory_laws.specs.Wants.{is_indirection}
 use Rattle.memory_laws.proofs.Nodes.{no_main}
+use Rattle.memory_laws.proofs.NoRef.{nothing_stands}
 use Rattle.deciding_laws.proofs.GrownWords.{link_kept}
 
 module _ (limits : Limits) (states : ℕ → State) (last : ℕ) (run : IsRun limits states last) where
@@ -42,7 +42,7 @@ module _ (limits : Limits) (states : ℕ → State) (last : ℕ) (run : IsRun li
   -- a reference to something else has no main node
   other_main : (t : ℕ) → t ≤ last → (i : Ref) → is_indirection (node_under states t i) ≡ false → main_before states t i ≡ no_ref
   other_main t h i e =
-      ap (λ m. logical m (prev_word states t m)) (no_main (node_under states t i) e) ∙ ap (λ o. logical no_ref (prev_of o)) (never_made limits states last run t h)
+      ap (λ m. logical m (prev_word states t m)) (no_main (node_under states t i) e) ∙ ap (λ o. logical no_ref (prev_of o)) (nothing_stands limits states last run t h)
 
   -- the main node of any reference, by that of indirections
   pub mains_by : (t : ℕ) → t < last → (i : Ref) → (is_indirection (node_under states t i) ≡ true → main_before states (suc t) i ≡ main_before states t i) → main_at states last (suc t) i ≡ main_at states last t i

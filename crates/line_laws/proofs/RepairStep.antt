@@ -15,7 +15,6 @@ use Rattle.machine_model.specs.declared.operations.Operation.{Operation}
 use Rattle.machine_model.specs.declared.reading.After.{After}
 use Rattle.machine_model.specs.declared.reading.After.TheVariants.{Goes, Gives}
 use Rattle.machine_model.specs.declared.reading.Read.{Read}
-use Rattle.machine_model.specs.declared.reading.ReadLine.{ReadLine}
 use Rattle.machine_model.specs.declared.repairs.CleanLine.{CleanLine}
 use Rattle.machine_model.specs.declared.repairs.CleanLine.TheVariants as clean
 use Rattle.machine_model.specs.declared.repairs.RenewLine.{RenewLine}
@@ -24,7 +23,7 @@ use Rattle.machine_model.specs.declared.steps.Limits.{Limits}
 use Rattle.machine_model.specs.Calls.{handle_of}
 use Rattle.machine_model.specs.States.{State, word_at}
 use Rattle.machine_model.specs.Paths.{start_of, is_below_root}
-use Rattle.machine_model.specs.Reading.{read_after, at_indirection, read_step}
+use Rattle.machine_model.specs.Reading.{read_after, read_step}
 use Rattle.machine_model.specs.Finding.{going_down, is_passable, key_after, key_after_main, key_after_entry, after_listed, after_sibling}
 use Rattle.machine_model.specs.Renewing.{next_entry, renew_next, branch_of, renew_after, renew_after_link, renew_after_branch}
 use Rattle.machine_model.specs.Cleaning.{cleaned, leaves_single, clean_after, clean_after_read, clean_after_contracted}
@@ -42,6 +41,7 @@ use Rattle.content_laws.specs.Repairing.{KnowsRenew, KnowsClean, KnowsRepair, Re
 use Rattle.content_laws.proofs.RepairKnows.{renew_starts, clean_starts, renew_entry_knows, renew_read_knows, renew_link_knows, renew_branch_knows, clean_entry_knows, clean_child_knows, clean_tomb_knows, clean_contracted_knows, read_stays}
 use Rattle.memory_laws.proofs.Nodes.{IsNoLink, branch_main}
 use Rattle.memory_laws.proofs.Next.{contracted_no_link}
+use Rattle.deciding_laws.proofs.Laws.{given_read}
 use Rattle.line_laws.specs.Given.{GaveBelow}
 use Rattle.line_laws.specs.Knowing.{known_with, first_main}
 use Rattle.line_laws.proofs.EachAt.{GoesAt}
@@ -73,14 +73,6 @@ key_sibling_not path main position former other node = grind arith
 pub renewed_no_link : (bitmap : ℕ) (entries : List Ref) → IsNoLink (renewed bitmap entries)
 renewed_no_link bitmap entries g w bad = cc
 
--- a READ's step gives what it gives
-pub step_gives : (i m : Ref) (out : After ReadLine Ref) → at_indirection i out ≡ Gives m → out ≡ Gives m
-step_gives i m (Goes l) e = let wrong : ⊥ = cc in absurd wrong
-step_gives i m (Gives x) e = ap (λ q. Gives q) (same_given x m e)
-  where
-    same_given : (x m : Ref) → at_indirection i (Gives x) ≡ Gives m → x ≡ m
-    same_given x m e = cc
-
 module _ (limits : Limits) (states : ℕ → State) (last : ℕ) (run : IsRun limits states last) (t : ℕ) (h : t < last) (actor : ℕ) (operation : Operation) (go : GoesAt states t actor operation) where
   abbrev heap : Heap
   heap = (states t).heap
@@ -103,7 +95,7 @@ module _ (limits : Limits) (states : ℕ → State) (last : ℕ) (run : IsRun li
         read_step (states t) operation read ≡ Gives child → G read.indirection child
     gives_now l e read on reads below child gives = record {
       gave = gave_now limits states last run t h actor operation go read.indirection read.line child (ap stage_of e ∙ on)
-          (step_gives read.indirection child (read_after heap operation.access (word_at (states t) (handle_of operation.call)) read.indirection read.line) gives);
+          (given_read read.indirection (read_after heap operation.access (word_at (states t) (handle_of operation.call)) read.indirection read.line) child gives);
       at = t;
       past = omega arith;
       outcome = go.o;

@@ -17,12 +17,12 @@ use Rattle.machine_model.specs.Calls.{key_of}
 use Rattle.machine_model.specs.Finding.{absent, key_after_main}
 use Rattle.machine_model.specs.Paths.{current, depth_of, flag_in}
 use Rattle.machine_model.specs.Swapping.{swapping}
+use Rattle.content_laws.specs.Knowing.{build_path, main_of_build}
 use Rattle.memory_laws.proofs.AtTimes.{limits_at}
 use Rattle.memory_laws.proofs.Claims.{safe_of, meets_of}
 use Rattle.memory_laws.proofs.Nodes.{main_plain}
-use Rattle.falling_laws.specs.Falling.{build_path}
 use Rattle.lone_steps.specs.Alone.{Lone, Stands, Has, Keeps, WordStays, IsCurrent, Within, IsWeight, node}
-use Rattle.lone_steps.specs.Keys.{IsBuilt, BottomEnds, IsEnd, IsNoTomb, flag_at, main_of_build}
+use Rattle.lone_steps.specs.Keys.{IsBuilt, BottomEnds, IsEnd, IsNoTomb, flag_at}
 use Rattle.lone_steps.specs.Machines.{Machines, HasSwapped}
 use Rattle.lone_steps.specs.Stepping.{Stepping}
 use Rattle.lone_steps.proofs.Withins.{weaken, bind}

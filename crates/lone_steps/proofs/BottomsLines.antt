@@ -25,11 +25,10 @@ use Rattle.memory_laws.specs.Wants.{listed, meets}
 use Rattle.memory_laws.proofs.Claims.{safe_of, meets_of}
 use Rattle.memory_laws.proofs.AtTimes.{kind_at, node_found}
 use Rattle.content_laws.proofs.Shapes.{list_shape}
+use Rattle.content_laws.specs.Knowing.{build_path, main_of_build}
 use Rattle.shape_laws.specs.LineSites.{Sites, sites_of, trie_at, InsideSite}
-use Rattle.falling_laws.specs.Falling.{build_path}
 use Rattle.shape_laws.proofs.GrownSites.{grown_sites}
 use Rattle.lone_steps.specs.Alone.{Lone, Stands, Keeps, WordStays, Within, IsWeight}
-use Rattle.lone_steps.specs.Keys.{main_of_build}
 use Rattle.lone_steps.specs.Stepping.{Stepping}
 use Rattle.lone_steps.proofs.Withins.{weaken, ended}
 use Rattle.lone_steps.proofs.BuildsSteps.{quiet_on}

@@ -13,13 +13,13 @@ use Rattle.machine_model.specs.declared.reading.SwapLine.TheVariants as swap
 use Rattle.machine_model.specs.Operations.{line_action, swapped, after_update}
 use Rattle.machine_model.specs.Paths.{current}
 use Rattle.machine_model.specs.Swapping.{swapping}
+use Rattle.content_laws.specs.Knowing.{build_path, main_of_build}
 use Rattle.memory_laws.specs.Wants.{action_wants, AllHold, is_indirection, is_branch}
 use Rattle.memory_laws.specs.Laws.{IsInUse}
 use Rattle.memory_laws.proofs.AtTimes.{action_at}
 use Rattle.memory_laws.proofs.Claims.{safe_of, meets_of}
-use Rattle.falling_laws.specs.Falling.{build_path}
 use Rattle.lone_steps.specs.Alone.{Lone, Stands, Keeps, WordStays, Within, IsWeight, node}
-use Rattle.lone_steps.specs.Keys.{IsBuilt, main_of_build}
+use Rattle.lone_steps.specs.Keys.{IsBuilt}
 use Rattle.lone_steps.specs.Machines.{Machines, IsSwapped, WasSwapped}
 use Rattle.lone_steps.specs.Stale.{Tries, UpdatesOn, BuildsAgain, AbsentAgain, ListsAgain, SiblingsAgain, EntriesAgain}
 use Rattle.lone_steps.specs.Stepping.{Stepping}

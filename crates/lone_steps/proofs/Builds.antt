@@ -12,9 +12,9 @@ use Rattle.machine_model.specs.declared.building.Site.TheVariants as site
 use Rattle.machine_model.specs.declared.lines.Line.TheVariants as line
 use Rattle.machine_model.specs.Building.{after_single, pair_depth, old_hash}
 use Rattle.machine_model.specs.Paths.{depth_of, hash_in}
-use Rattle.falling_laws.specs.Falling.{build_path}
+use Rattle.content_laws.specs.Knowing.{build_path, main_of_build}
 use Rattle.lone_steps.specs.Alone.{Lone, Stands, Keeps, WordStays, Within, IsWeight}
-use Rattle.lone_steps.specs.Keys.{IsBuilt, BuildsOn, main_of_build}
+use Rattle.lone_steps.specs.Keys.{IsBuilt, BuildsOn}
 use Rattle.lone_steps.specs.Stepping.{Stepping}
 use Rattle.lone_steps.proofs.Withins.{weaken, map, here, keeps_on, stays_on}
 use Rattle.lone_steps.proofs.BuildsSteps.{make_on, rung_low}

@@ -25,7 +25,7 @@ use Rattle.machine_model.specs.Reading.{reading}
 use Rattle.machine_model.specs.States.{word_at}
 use Rattle.machine_model.specs.Swapping.{is_plain, is_carried_out}
 use Rattle.lone_steps.specs.Alone.{word, Lone, Stands, Has, IsPlain, IsWeight, Within}
-use Rattle.lone_steps.specs.Copies.{IsCopying, CopiesEnd, CopiesEndFirst}
+use Rattle.lone_steps.specs.Copies.{IsCopying}
 use Rattle.lone_steps.specs.Machines.{Machines, IsRead, WasRead, IsRooted}
 use Rattle.lone_steps.specs.Stepping.{Stepping}
 use Rattle.lone_steps.proofs.CopiesCalls.{OfCopy, copy_lines}
@@ -164,12 +164,12 @@ module _ (a : Lone) (copies : IsCopying a.own.call) where
   none_longer : (n : ℕ) → a.start + n + 2 ≤ a.last → Never n a.start → ⊥
   none_longer n room never = let most = weighs_at_most (word a a.start) in (never (omega (arith, room, most))).3
 
-pub copies_end_first : CopiesEndFirst
-copies_end_first a copies at room =
+pub no_long_copy_first : (a : Lone) → IsCopying a.own.call → a.own.line ≡ new_try → a.start + 23 ≤ a.last → ⊥
+no_long_copy_first a copies at room =
     let s = begins a (omega (arith, room)) in
     none_longer a copies 21 (omega (arith, room)) (from_try a copies a.start a.own.generation (subst (λ l. Stands a a.start a.own.generation l) at s))
 
-pub copies_end : CopiesEnd
-copies_end a copies room =
+pub no_long_copy : (a : Lone) → IsCopying a.own.call → a.start + 49 ≤ a.last → ⊥
+no_long_copy a copies room =
     let s = begins a (omega (arith, room)) in
     none_longer a copies 47 (omega (arith, room)) (from_line a copies a.start a.own.generation a.own.line (copy_lines a copies (omega (arith, room))) s)

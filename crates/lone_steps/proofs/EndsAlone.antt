@@ -147,14 +147,15 @@ module _ (limits : Limits) (steps : List Step) (actor : ℕ) (operation : Operat
       runs = at_time;
     }
 
-    too_long : NoneIsLong → most_steps_alone ≤ n → ⊥
-    too_long short high = short lone r.call (omega (arith, high, last_all limits steps actor n each))
+    -- it is so long
+    pub lasts : last_of limits steps + n ≤ last_of limits full
+    lasts = omega (arith, last_all limits steps actor n each)
 
-  pub it_ends : NoneIsLong → EndedBefore most_steps_alone
-  it_ends short = by (goes_or_ended most_steps_alone (omega arith))
+  ended_before : (n : ℕ) → n ≤ most_steps_alone → (StillRuns n → ⊥) → EndedBefore n
+  ended_before n le short = by (goes_or_ended n le)
     where
-      by : StillRuns most_steps_alone ⊎ EndedBefore most_steps_alone → EndedBefore most_steps_alone
-      by (inl still) = absurd (too_long most_steps_alone still short (omega arith))
+      by : StillRuns n ⊎ EndedBefore n → EndedBefore n
+      by (inl still) = absurd (short still)
       by (inr ended) = ended
 
   -- ---- after its end
@@ -177,19 +178,26 @@ module _ (limits : Limits) (steps : List Step) (actor : ℕ) (operation : Operat
       let next : n + suc k ≡ suc (n + k) = omega arith in
       ap after next ∙ one_more limits steps actor (n + k) ∙ rests (after (n + k)) (ap (λ (x : State). operation_of x actor) before ∙ idle) ∙ before
 
-  pub has_ended : EndedBefore most_steps_alone → HasEnded (after most_steps_alone) actor operation.id
-  has_ended ended =
-      let rest : suc ended.at + (most_steps_alone - suc ended.at) ≡ most_steps_alone = omega (arith, ended.before) in
-      let same : after most_steps_alone ≡ after (suc ended.at) = ap after (sym rest) ∙ stays (suc ended.at) (most_steps_alone - suc ended.at) ended.idle in
+  has_ended : (n : ℕ) → EndedBefore n → HasEnded (after n) actor operation.id
+  has_ended n ended =
+      let rest : suc ended.at + (n - suc ended.at) ≡ n = omega (arith, ended.before) in
+      let same : after n ≡ after (suc ended.at) = ap after (sym rest) ∙ stays (suc ended.at) (n - suc ended.at) ended.idle in
       record {
         idle = ap (λ (x : State). operation_of x actor) same ∙ ended.idle;
         answer = ended.ends.0;
         told = subst (λ (x : State). Contains x.events (End operation.id ended.ends.0)) (sym same) ended.told;
       }
 
+  -- where no run is so long in which it never ends, it has ended
+  pub ends_within : (n : ℕ) → n ≤ most_steps_alone → (StillRuns n → ⊥) → HasEnded (after n) actor operation.id
+  ends_within n le short = has_ended n (ended_before n le short)
+
+  too_long : NoneIsLong → StillRuns most_steps_alone → ⊥
+  too_long short still = short (lone most_steps_alone still) r.call (lasts most_steps_alone still)
+
 pub ends_alone : NoneIsLong → AloneItEnds
-ends_alone short limits steps actor operation r = has_ended limits steps actor operation r (it_ends limits steps actor operation r short)
+ends_alone short limits steps actor operation r = ends_within limits steps actor operation r most_steps_alone (omega arith) (too_long limits steps actor operation r short)
 
 pub steps_lead_to_the_end : NoneIsLong → EachStepLeadsToItsEnd
 steps_lead_to_the_end short limits steps actor operation r =
-    let ended = it_ends limits steps actor operation r short in (ended.at, ended.before, ended.goes, ended.ends)
+    let ended = ended_before limits steps actor operation r most_steps_alone (omega arith) (too_long limits steps actor operation r short) in (ended.at, ended.before, ended.goes, ended.ends)

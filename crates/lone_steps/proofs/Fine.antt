@@ -115,8 +115,6 @@ module _ (a : Lone) where
   pub fine_weighing : Weighing a (fine a) 5 1
   fine_weighing = record {
     quiet = quiet;
-    at_most = omega arith;
-    no_more = omega arith;
     weighs = weighs a;
     weighs_failed = weighs_failed a;
     abort = abort;

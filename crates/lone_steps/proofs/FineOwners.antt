@@ -6,9 +6,9 @@ use Rattle.slot_arena.specs.declared.nodes.Prev.TheVariants as prev
 use Rattle.slot_arena.specs.Heaps.{no_ref, prev_of}
 use Rattle.machine_model.proofs.Grown.{node_under, main_word, prev_word}
 use Rattle.machine_model.specs.declared.reading.ReadLine.{ReadLine}
-use Rattle.falling_laws.proofs.NoRef.{nothing_stands}
 use Rattle.memory_laws.specs.Wants.{is_indirection}
 use Rattle.memory_laws.proofs.Nodes.{no_main}
+use Rattle.memory_laws.proofs.NoRef.{nothing_stands}
 use Rattle.deciding_laws.proofs.Words.{Decides}
 use Rattle.deciding_laws.proofs.Owners.{Owner}
 use Rattle.lone_steps.specs.Alone.{Lone}

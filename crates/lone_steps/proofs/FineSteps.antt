@@ -1,7 +1,7 @@
 -- What the actors weigh over one step of an operation that is alone.
-use Rattle.std.proofs.Common.{◌≡◌, ℕ, zero, suc, ◌<◌, ◌≤◌, List, length, Option, Some, None, refl, sym, ap, ◌∙◌, subst, arith}
+use Rattle.std.proofs.Common.{◌≡◌, ℕ, zero, suc, ◌<◌, ◌≤◌, length, Option, Some, None, refl, sym, ap, ◌∙◌, subst, arith}
 use native.Mathlib.Decide.{ℕ_discrete}
-use Rattle.std.proofs.lemmas.List.{length-set, length-map, length-replicate}
+use Rattle.std.proofs.lemmas.List.{length-set, length-replicate}
 use Rattle.slot_arena.specs.declared.refs.Ref.{Ref}
 use Rattle.machine_model.specs.declared.lines.Line.{Line}
 use Rattle.machine_model.specs.declared.operations.Operation.{Operation}
@@ -9,7 +9,7 @@ use Rattle.machine_model.specs.declared.steps.Outcome.{Outcome}
 use Rattle.machine_model.specs.declared.steps.Step.{Step}
 use Rattle.machine_model.specs.States.{State, first_state, operation_of}
 use Rattle.machine_model.specs.Operations.{action_of, line_action, line_after}
-use Rattle.machine_model.proofs.Actors.{after_marks, marks_by, gone_actors, begin_actors}
+use Rattle.machine_model.proofs.Actors.{marks_by, gone_actors, begin_actors}
 use Rattle.machine_model.proofs.Found.{found_within}
 use Rattle.machine_model.proofs.Moves.{Moves, Begins, Goes, Ends, Sweeps, begun_operation}
 use Rattle.machine_model.proofs.Times.{at_each_time}
@@ -20,6 +20,7 @@ use Rattle.deciding_laws.proofs.Stages.{stage_of, stage_of_actor}
 use Rattle.deciding_laws.proofs.StepsAt.{mark_stage, go_others, actor_counts}
 use Rattle.deciding_laws.proofs.LineTurns.{line_turn}
 use Rattle.deciding_laws.proofs.RunWords.{line_facts, remembers_at}
+use Rattle.generation_laws.proofs.Running.{marks_length}
 use Rattle.line_laws.proofs.Nodes.{known_run}
 use Rattle.lone_steps.specs.Alone.{Lone, Stands}
 use Rattle.lone_steps.specs.Stepping.{IsNoEnd}
@@ -29,10 +30,6 @@ use Rattle.lone_steps.proofs.ReadsWords.{w, p, sound, NonePending}
 use Rattle.lone_steps.proofs.FineWeight.{stage_weight, still_lighter, own_lighter}
 
 -- ---- how many actors there are
-
-marks_length : (m : Option ℕ) (xs : List (Option Operation)) → length (after_marks m xs) ≡ length xs
-marks_length None xs = refl
-marks_length (Some id) xs = simp length-map
 
 actors_length : (state : State) (s : Step) (o : Outcome) (after : State) → Moves state s o after → length after.actors ≡ length state.actors
 actors_length state s o after (Begins {actor} {call} d) =

@@ -44,8 +44,6 @@ module _ (a : Lone) where
   pub flat_weighing : Weighing a (flat a) 0 0
   flat_weighing = record {
     quiet = is_weight a;
-    at_most = omega arith;
-    no_more = omega arith;
     weighs = λ t i m q since until sees. omega arith;
     weighs_failed = λ t i m q since until sees. omega arith;
     abort = aborts;

@@ -82,4 +82,5 @@ pub mod ReadersCalls
 pub mod Readers
 pub mod ReadHolds
 pub mod AloneReads
+pub mod AloneEnds
 pub mod SwapsSoon

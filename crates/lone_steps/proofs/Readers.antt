@@ -35,7 +35,6 @@ use Rattle.shape_laws.proofs.SitesAt.{ways_have_sites}
 use Rattle.lone_steps.specs.Alone.{Lone, Stands, IsPlain, Within, node, word}
 use Rattle.lone_steps.specs.Keys.{IsOnKey}
 use Rattle.lone_steps.specs.Machines.{Machines, IsRead, WasRead, IsRooted}
-use Rattle.lone_steps.specs.Readers.{ReadersEnd}
 use Rattle.lone_steps.specs.Stepping.{Stepping}
 use Rattle.lone_steps.proofs.ReadersCalls.{OfReader, reader_at, reader_lines}
 use Rattle.lone_steps.proofs.ReadersLines.{AfterMain, ToEntry, ToListed, MainEnds, MainFails, AfterEntry, ToBelow, EntryEnds, EntryFails, AfterListed, ToNext, ListedEnds, ListedFails, after_main, after_entry, after_single}
@@ -226,5 +225,5 @@ module _ (a : Lone) (read_only : a.own.access ≡ ReadOnly) (on_key : IsOnKey a.
       let most = weighs_at_most (word a a.start) in
       (from_line a.start a.own.generation a.own.line (reader_lines a read_only on_key a.start a.own.generation a.own.line s) s (omega (arith, room, most))).3
 
-pub readers_end : ReadersEnd
-readers_end a on_key read_only room = it_ends a read_only on_key room
+pub no_long_reader : (a : Lone) → IsOnKey a.own.call → a.own.access ≡ ReadOnly → a.start + 166 ≤ a.last → ⊥
+no_long_reader a on_key read_only room = it_ends a read_only on_key room

@@ -1,6 +1,6 @@
 -- A READ from any of its lines, where one actor alone takes steps.
 use Rattle.std.proofs.Common.{◌≡◌, ℕ, suc, ◌+◌, ◌-◌, ◌<◌, ◌≤◌, ◌==◌, Bool, true, false, Option, Some, refl, sym, ap, ◌∙◌, subst, eqb-true, eq-eqb, arith}
-use Rattle.std.proofs.lemmas.Bool.{true≢false, false≢true}
+use Rattle.std.proofs.lemmas.Bool.{true≢false}
 use Rattle.slot_arena.specs.declared.refs.Ref.{Ref}
 use Rattle.slot_arena.specs.declared.nodes.Prev.{Prev}
 use Rattle.slot_arena.specs.declared.nodes.Prev.TheVariants as prev
@@ -16,6 +16,7 @@ use Rattle.machine_model.proofs.Grown.{prev_word}
 use Rattle.deciding_laws.proofs.Known.{GrownStays, GrownChanges, Either}
 use Rattle.deciding_laws.proofs.Stood.{Stood}
 use Rattle.deciding_laws.proofs.GrownWords.{link_made}
+use Rattle.deciding_laws.proofs.ReadTurns.{pending_so}
 use Rattle.lone_steps.specs.Alone.{Lone, Stands, IsPlain, IsQuiet, word}
 use Rattle.lone_steps.specs.Machines.{HoldsRead, IsRead, WasRead, ReadsOn, lead}
 use Rattle.lone_steps.specs.Weighing.{Weighing, Sees}
@@ -25,12 +26,6 @@ use Rattle.lone_steps.proofs.ReadsLines.{on_line, pending_there}
 use Rattle.lone_steps.proofs.ReadsStep.{Counts, acting, off, same_word_at, light, on}
 use Rattle.lone_steps.proofs.ReadsFirst.{main, decide, prev_pending}
 use Rattle.lone_steps.proofs.SwapsSteps.{read_acts}
-
--- what is found pending over this node is
-pub pending_so : (v : Prev) (q : Ref) → is_pending v q ≡ true → v ≡ prev.Pending q
-pending_so prev.None q e = absurd (false≢true e)
-pending_so (prev.Failed p) q e = absurd (false≢true e)
-pending_so (prev.Pending p) q e = ap prev.Pending (eqb-true p q e)
 
 -- what isn't found so isn't
 pub not_pending_so : (v : Prev) (q : Ref) → is_pending v q ≡ false → v ≡ prev.Pending q → ⊥

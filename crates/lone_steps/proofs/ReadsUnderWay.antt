@@ -12,6 +12,7 @@ use Rattle.machine_model.specs.declared.roots.RootWord.{RootWord}
 use Rattle.machine_model.specs.declared.roots.RootWord.TheVariants.{Plain, Offer}
 use Rattle.machine_model.specs.Reading.{verdict_by, is_licensed, is_pending, read_action, after_ask, after_decide}
 use Rattle.machine_model.proofs.Grown.{prev_word}
+use Rattle.deciding_laws.proofs.ReadTurns.{pending_so}
 use Rattle.lone_steps.specs.Alone.{Lone, Stands, IsPlain, IsQuiet, word, generation}
 use Rattle.lone_steps.specs.Machines.{HoldsRead, lead}
 use Rattle.lone_steps.specs.Weighing.{Weighing}
@@ -61,7 +62,7 @@ module _ (a : Lone) (weight : ℕ → ℕ) (x f : ℕ) (wt : Weighing a weight x
   decide_by t b m q r s plain writable enough more true e =
       let found = read_acts a wrap gives i h t g (read.Decide m q (Some (generation a r))) s more in
       let stood = on_line a t g (wrap (read.Decide m q (Some (generation a r)))) s _ (h.reads (read.Decide m q (Some (generation a r)))) in
-      let sees = On.sees_pending a weight x f wt wrap gives i h c g two three seven t s.until m q stood (sym found.1.prev ∙ On.pending_so _ q e) in
+      let sees = On.sees_pending a weight x f wt wrap gives i h c g two three seven t s.until m q stood (sym found.1.prev ∙ pending_so _ q e) in
       On.was_read a weight x f wt wrap gives i h c g two three seven t b (First.decide a weight x f wt wrap gives i h c g t b m q (Some (generation a r)) s sees (omega (arith, enough, seven)))
   decide_by t b m q r s plain writable enough more false e =
       let told = Some (generation a r) in

@@ -1,5 +1,5 @@
 -- The root word of an operation's handle over its own steps: an offer comes to stand there by an own offer alone, and goes where it is settled.
-use Rattle.std.proofs.Common.{◌≡◌, ℕ, suc, ◌<◌, ◌≤◌, ◌==◌, ◌⊎◌, ◌++◌, true, cond, inl, inr, Option, Some, None, refl, sym, ap, ◌∙◌, subst, eq-eqb, arith}
+use Rattle.std.proofs.Common.{◌≡◌, ℕ, suc, ◌<◌, ◌≤◌, ◌==◌, ◌⊎◌, true, cond, inl, inr, Option, Some, None, refl, sym, ap, ◌∙◌, subst, eq-eqb, arith}
 use Rattle.std.proofs.lemmas.Bool.{and_from}
 use Rattle.std.proofs.lemmas.Option.{none-some}
 use Rattle.slot_arena.specs.declared.refs.Ref.{Ref}
@@ -11,9 +11,8 @@ use Rattle.machine_model.specs.declared.roots.Descriptor.{Descriptor}
 use Rattle.machine_model.specs.declared.roots.RootWord.{RootWord}
 use Rattle.machine_model.specs.declared.roots.RootWord.TheVariants.{Plain, Offer}
 use Rattle.machine_model.specs.Calls.{handle_of}
-use Rattle.machine_model.specs.States.{State, root_at, word_of, word_at, rewritten, with_word, with_operation}
-use Rattle.machine_model.specs.Orders.{committed_now}
-use Rattle.machine_model.specs.Acting.{acted, commits_after, entered, operation_after, carried_out, new_root_taken, if_changed}
+use Rattle.machine_model.specs.States.{State, root_at, word_of, word_at, rewritten, with_word}
+use Rattle.machine_model.specs.Acting.{acted, carried_out, new_root_taken, if_changed}
 use Rattle.machine_model.specs.Operations.{action_of, line_action}
 use Rattle.machine_model.specs.Swapping.{is_plain, is_try, stands_in}
 use Rattle.machine_model.specs.declared.roots.Root.{Root}
@@ -26,6 +25,7 @@ use Rattle.generation_laws.proofs.Ids.{one_of_id}
 use Rattle.generation_laws.proofs.Offers.{OfferFrom, stood, put, offer_from, own_offer, own_numbers, offer_line}
 use Rattle.generation_laws.proofs.Running.{place_of_actor}
 use Rattle.generation_laws.proofs.SameOffer.{has_offers_at}
+use Rattle.generation_laws.proofs.Swaps.{noted}
 use Rattle.lone_steps.specs.Alone.{Lone, Stands, WordStays, IsPlain, word}
 use Rattle.lone_steps.specs.Stepping.{IsNoEnd}
 use Rattle.lone_steps.proofs.StandsAt.{stands_at, goes_on}
@@ -57,12 +57,6 @@ open_written : (st : State) (h : ℕ) (x : RootWord) (root : Root) → root_at s
 open_written st h x root e =
     ap word_of (get_or-set_same st.roots h (rewritten x (root_at st h)) None (found_within st.roots h root e)) ∙ ap (λ o. word_of (rewritten x o)) e
 
--- the state on which an operation's action acts
-abbrev moved : State → ℕ → Operation → State
-moved state actor operation =
-    let committed = committed_now state operation in
-    with_operation (record state { commits = commits_after state committed; places = state.places ++ entered state committed }) actor (Some (operation_after state operation))
-
 pub same_try : (d : Descriptor) → is_try d d ≡ true
 same_try d = and_from _ _ (eq-eqb d.operation d.operation refl) (eq-eqb d.attempt d.attempt refl)
 
@@ -77,7 +71,7 @@ module _ (a : Lone) where
     action = line_action (a.states t) s.operation l
 
     abbrev st : State
-    st = moved (a.states t) a.actor s.operation
+    st = noted (a.states t) a.actor s.operation
 
     word_after : word a (suc t) ≡ word_at (acted st handle action) handle
     word_after =

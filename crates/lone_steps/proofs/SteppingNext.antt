@@ -2,80 +2,26 @@
 use Rattle.std.proofs.Common.{◌≡◌, ℕ, suc, ◌<◌, ◌≤◌, Option, Some, sym, ap, ◌∙◌, subst, arith}
 use Rattle.std.proofs.lemmas.Option.{same_Some}
 use Rattle.history.specs.declared.replies.Reply.{Reply}
-use Rattle.slot_arena.specs.declared.refs.Ref.{Ref}
 use Rattle.machine_model.specs.declared.actions.Action.TheVariants as act
-use Rattle.machine_model.specs.declared.building.BuildLine.{BuildLine}
-use Rattle.machine_model.specs.declared.copying.CopyLine.{CopyLine}
-use Rattle.machine_model.specs.declared.finding.KeyLine.{KeyLine}
 use Rattle.machine_model.specs.declared.lines.Line.{Line}
 use Rattle.machine_model.specs.declared.lines.Line.TheVariants as line
 use Rattle.machine_model.specs.declared.operations.Operation.{Operation}
-use Rattle.machine_model.specs.declared.reading.ReadLine.{ReadLine}
-use Rattle.machine_model.specs.declared.reading.SwapLine.{SwapLine}
-use Rattle.machine_model.specs.declared.repairs.CleanLine.{CleanLine}
-use Rattle.machine_model.specs.declared.repairs.ClimbLine.{ClimbLine}
-use Rattle.machine_model.specs.declared.repairs.RenewLine.{RenewLine}
-use Rattle.machine_model.specs.declared.roots.RootLine.{RootLine}
 use Rattle.machine_model.specs.declared.steps.Outcome.{Outcome}
 use Rattle.machine_model.specs.declared.steps.Step.{Step}
 use Rattle.machine_model.specs.declared.steps.Step.TheVariants as step
-use Rattle.machine_model.specs.declared.walking.WalkLine.{WalkLine}
 use Rattle.machine_model.specs.Acting.{operation_after}
 use Rattle.machine_model.specs.Operations.{action_of, line_action, line_after, generation_from}
-use Rattle.machine_model.specs.Reading.{read_action}
 use Rattle.machine_model.specs.States.{State, operation_of}
-use Rattle.machine_model.specs.Swapping.{action_at}
 use Rattle.machine_model.proofs.Actors.{mark_one, mark_only, marks_in, of_end}
 use Rattle.machine_model.proofs.Moves.{Moves, Begins, Goes, Ends, Sweeps, GoesOn}
+use Rattle.deciding_laws.proofs.LineReads.{only_end}
 use Rattle.generation_laws.proofs.Running.{Runs, Follows, rests, steps, ends, follows, place_of_actor}
 use Rattle.lone_steps.specs.Alone.{Lone, Stands}
 use Rattle.lone_steps.specs.Stepping.{IsNoEnd}
 
--- ---- each line but an end goes on
-
-module _ (state : State) (operation : Operation) where
-  read_goes : (i : Ref) (l : ReadLine) (answer : Reply) → read_action i l ≡ act.End answer → ⊥
-  read_goes i l answer e = grind arith
-
-  key_goes : (l : KeyLine) (answer : Reply) → line_action state operation (line.Key l) ≡ act.End answer → ⊥
-  key_goes l answer e = grind (arith, read_goes)
-
-  build_goes : (l : BuildLine) (answer : Reply) → line_action state operation (line.Build l) ≡ act.End answer → ⊥
-  build_goes l answer e = grind arith
-
-  swap_goes : (i a f : Ref) (x : SwapLine) (answer : Reply) → action_at i a f x ≡ act.End answer → ⊥
-  swap_goes i a f x answer e = grind (arith, read_goes)
-
-  renew_goes : (l : RenewLine) (answer : Reply) → line_action state operation (line.Renew l) ≡ act.End answer → ⊥
-  renew_goes l answer e = grind (arith, read_goes)
-
-  clean_goes : (l : CleanLine) (answer : Reply) → line_action state operation (line.Clean l) ≡ act.End answer → ⊥
-  clean_goes l answer e = grind (arith, read_goes)
-
-  climb_goes : (l : ClimbLine) (answer : Reply) → line_action state operation (line.Climb l) ≡ act.End answer → ⊥
-  climb_goes l answer e = grind (arith, read_goes)
-
-  copy_goes : (l : CopyLine) (answer : Reply) → line_action state operation (line.Copy l) ≡ act.End answer → ⊥
-  copy_goes l answer e = grind (arith, read_goes)
-
-  walk_goes : (l : WalkLine) (answer : Reply) → line_action state operation (line.Walk l) ≡ act.End answer → ⊥
-  walk_goes l answer e = grind (arith, read_goes)
-
-  root_goes : (l : RootLine) (answer : Reply) → line_action state operation (line.Root l) ≡ act.End answer → ⊥
-  root_goes l answer e = grind (arith, read_goes)
-
-  pub no_end : (l : Line) → IsNoEnd l → (answer : Reply) → line_action state operation l ≡ act.End answer → ⊥
-  no_end (line.End x) more answer e = more
-  no_end line.Impossible more answer e = let wrong : ⊥ = cc in wrong
-  no_end (line.Root l) more answer e = root_goes l answer e
-  no_end (line.Key l) more answer e = key_goes l answer e
-  no_end (line.Build l) more answer e = build_goes l answer e
-  no_end (line.Swap why s) more answer e = swap_goes s.indirection s.replaced s.fresh s.line answer e
-  no_end (line.Renew l) more answer e = renew_goes l answer e
-  no_end (line.Clean l) more answer e = clean_goes l answer e
-  no_end (line.Climb l) more answer e = climb_goes l answer e
-  no_end (line.Copy l) more answer e = copy_goes l answer e
-  no_end (line.Walk l) more answer e = walk_goes l answer e
+-- each line but an end goes on
+pub no_end : (state : State) (operation : Operation) (l : Line) → IsNoEnd l → (answer : Reply) → line_action state operation l ≡ act.End answer → ⊥
+no_end state operation l more answer e = subst IsNoEnd (only_end state operation l answer e) more
 
 -- ---- one step
 

@@ -22,6 +22,7 @@ use Rattle.memory_laws.proofs.AtEachTime.{safe_at}
 use Rattle.memory_laws.proofs.AtTimes.{kind_at, generation_found}
 use Rattle.memory_laws.proofs.Claims.{safe_of}
 use Rattle.memory_laws.proofs.Nodes.{no_main}
+use Rattle.memory_laws.proofs.NoRef.{nothing_stands}
 use Rattle.deciding_laws.proofs.Owners.{Staged}
 use Rattle.deciding_laws.proofs.ReadTurns.{generation_stays}
 use Rattle.deciding_laws.proofs.RunWords.{protocol}
@@ -31,7 +32,6 @@ use Rattle.deciding_laws.proofs.Stood.{Private, stands_now}
 use Rattle.generation_laws.proofs.Handles.{has_handles_at}
 use Rattle.generation_laws.proofs.OpenRoots.{no_close_at}
 use Rattle.generation_laws.proofs.Running.{place_of_actor}
-use Rattle.falling_laws.proofs.NoRef.{nothing_stands}
 use Rattle.falling_laws.proofs.OwnSwaps.{swaps_in_own_generation}
 use Rattle.lone_steps.specs.Alone.{Lone, Stands, Has, IsPlain, generation}
 use Rattle.lone_steps.proofs.SwapsSteps.{known, w}

@@ -1,9 +1,12 @@
 -- A snapshot, a freeze or a clear whose actor alone takes steps.
-use Rattle.std.specs.Prelude.{◌≡◌, ◌+◌, ◌≤◌}
+use Rattle.std.specs.Prelude.{◌≡◌, ℕ, List}
 use Rattle.history.specs.declared.calls.Call.{Call}
 use Rattle.history.specs.declared.calls.Call.TheVariants.{Clear, Snapshot, Freeze}
+use Rattle.machine_model.specs.declared.operations.Operation.{Operation}
+use Rattle.machine_model.specs.declared.steps.Limits.{Limits}
+use Rattle.machine_model.specs.declared.steps.Step.{Step}
 use Rattle.machine_model.specs.Lines.{new_try}
-use Rattle.lone_steps.specs.Alone.{Lone}
+use Rattle.lone_steps.specs.Laws.{HasEnded, RunsAlone, alone_after}
 
 -- a call that offers to swap the root
 abbrev pub IsCopying : Call → Type 0
@@ -12,10 +15,14 @@ IsCopying (Snapshot h) = Unit {0}
 IsCopying (Freeze h) = Unit {0}
 IsCopying call = ⊥
 
--- it ends within so many steps from where a try begins, so from its begin too
+-- it has ended after so many steps from where a try begins, so from its begin too
 abbrev pub CopiesEndFirst : Type 0
-CopiesEndFirst = (a : Lone) → IsCopying a.own.call → a.own.line ≡ new_try → a.start + 23 ≤ a.last → ⊥
+CopiesEndFirst =
+    (limits : Limits) (steps : List Step) (actor : ℕ) (operation : Operation) → RunsAlone limits steps actor operation → IsCopying operation.call → operation.line ≡ new_try →
+    HasEnded (alone_after limits steps actor 23) actor operation.id
 
--- and from wherever it stands
+-- and after so many from wherever it stands
 abbrev pub CopiesEnd : Type 0
-CopiesEnd = (a : Lone) → IsCopying a.own.call → a.start + 49 ≤ a.last → ⊥
+CopiesEnd =
+    (limits : Limits) (steps : List Step) (actor : ℕ) (operation : Operation) → RunsAlone limits steps actor operation → IsCopying operation.call →
+    HasEnded (alone_after limits steps actor 49) actor operation.id

@@ -27,8 +27,8 @@ use Rattle.machine_model.specs.Paths.{current, depth_of, is_below_root}
 use Rattle.machine_model.specs.Reading.{reading}
 use Rattle.machine_model.specs.Swapping.{swapping}
 use Rattle.nodes.specs.Builders.{renewed, contracted}
-use Rattle.machine_model.specs.declared.building.BuildLine.TheVariants as build
-use Rattle.falling_laws.specs.Falling.{renew_path, build_path}
+use Rattle.content_laws.specs.Knowing.{build_path, main_of_build}
+use Rattle.falling_laws.specs.Falling.{renew_path}
 use Rattle.lone_steps.specs.Alone.{Lone, Stands, Has, Keeps, WordStays, IsCurrent, Within, node}
 
 -- a call on one key
@@ -40,14 +40,6 @@ IsOnKey (Close h) = ⊥
 IsOnKey (Entries h) = ⊥
 IsOnKey (Count h) = ⊥
 IsOnKey call = Unit {0}
-
--- the main node from which a line builds
-abbrev pub main_of_build : BuildLine → Ref
-main_of_build (build.Single path main site former) = main
-main_of_build (build.Pair path main position single depth) = main
-main_of_build (build.Link path main position below depth) = main
-main_of_build (build.Rung path main position below depth) = main
-main_of_build (build.Main path main c former) = main
 
 module _ (a : Lone) where
   -- the flag of the call's key at a depth

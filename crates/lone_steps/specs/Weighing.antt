@@ -33,8 +33,6 @@ module _ (a : Lone) where
 -- takes that off. So does an offer in the handle's root word, which weighs 2.
 pub record Weighing (a : Lone) (weight : ℕ → ℕ) (pending failed : ℕ) : Type 0 where
   pub quiet : IsWeight a weight
-  pub at_most : failed ≤ 1
-  pub no_more : failed ≤ pending
   -- it weighs that as long as it stands there
   pub weighs : (t : ℕ) (i m q : Ref) → a.start ≤ t → t ≤ a.last → Sees a t i m (prev.Pending q) → pending ≤ weight t
   pub weighs_failed : (t : ℕ) (i m q : Ref) → a.start ≤ t → t ≤ a.last → Sees a t i m (prev.Failed q) → failed ≤ weight t

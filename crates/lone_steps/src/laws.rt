@@ -23,14 +23,14 @@ pub fn roots_end()
     ensures { (a : Lone) → RootEnds a }
 {}
 
-/// A law: a snapshot, a freeze or a clear ends within 23 steps from its begin (`first`), and within 49 from wherever
-/// it stands (`under_way`).
+/// A law: a snapshot, a freeze or a clear has ended after 23 steps of its actor alone from its begin (`first`), and
+/// after 49 from wherever it stands (`under_way`).
 pub fn copies_end()
     ensures first { CopiesEndFirst }
     ensures under_way { CopiesEnd }
 {}
 
-/// A law: a call on one key of a read-only handle ends within 166 steps from wherever it stands.
+/// A law: a call on one key of a read-only handle has ended after 166 steps of its actor alone, from wherever it stands.
 pub fn readers_end()
     ensures { ReadersEnd }
 {}

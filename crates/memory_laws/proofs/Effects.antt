@@ -40,6 +40,10 @@ pub data Effect (C : List Claim → Type 0) (f g : Ref → Option Slot) (b c : �
 
 -- ---- the effect of an action
 
+pub births_prev : (after : Heap) (r : Ref) (p : Prev) → (with_prev after r p).births ≡ after.births
+unfolding with_prev
+births_prev after r p = refl
+
 module _ (S : Ref → Type 0) (heap : Heap) (due : Option Ref) (used : (r : Ref) → S r → IsInUse heap r) where
   abbrev pub Does : Heap → Type 0
   Does after = Effect (AllHold S heap) (standing heap) (standing after) heap.births after.births due
@@ -66,10 +70,6 @@ module _ (S : Ref → Type 0) (heap : Heap) (due : Option Ref) (used : (r : Ref)
   births_main : (r m : Ref) → (with_main heap r m).births ≡ heap.births
   unfolding with_main
   births_main r m = refl
-
-  births_prev : (after : Heap) (r : Ref) (p : Prev) → (with_prev after r p).births ≡ after.births
-  unfolding with_prev
-  births_prev after r p = refl
 
   births_freed : (r : Ref) → (freed heap r).births ≡ heap.births
   unfolding freed

@@ -9,7 +9,6 @@ use Rattle.slot_arena.specs.Refs.{birth_of}
 use Rattle.slot_arena.specs.declared.refs.Ref.{Ref}
 use Rattle.slot_arena.specs.declared.nodes.Node.{Node}
 use Rattle.slot_arena.specs.declared.nodes.Node.TheVariants.{Indirection, Branch, Single, Tomb, List as Listed}
-use Rattle.slot_arena.specs.declared.nodes.Prev.{Prev}
 use Rattle.slot_arena.specs.declared.nodes.Prev.TheVariants as prev
 use Rattle.slot_arena.specs.declared.nodes.Slot.{Slot}
 use Rattle.slot_arena.specs.Heaps.{Heap, node_at, prev_at, main_at, with_main, with_prev, with_main_word, main_changed, prev_changed, next_ref, refs_of_option}
@@ -49,6 +48,7 @@ use Rattle.memory_laws.proofs.AtTimes.{line_finds}
 use Rattle.memory_laws.proofs.WordMoves.{WordMove, keeps, makes, publishes, restores, commits, fails, standing_move, sweep_goes}
 use Rattle.memory_laws.proofs.Levels.{InsideLevel, KindLevel, NodeLevel, PrevLevel, WordLevel, LineLevel, ActionLevel, made_level}
 use Rattle.memory_laws.proofs.LevelNext.{line_level_acts, line_level_next}
+use Rattle.memory_laws.proofs.Effects.{births_prev}
 
 pub record HasLevels (lv : Ref → ℕ) (state : State) : Type 0 where
   pub nodes : (r : Ref) (slot : Slot) → standing state.heap r ≡ Some slot → NodeLevel lv r slot.node × PrevLevel lv r slot.prev
@@ -148,13 +148,9 @@ main_births : (heap : Heap) (r m : Ref) → (with_main heap r m).births ≡ heap
 unfolding with_main
 main_births heap r m = refl
 
-prev_births : (heap : Heap) (r : Ref) (p : Prev) → (with_prev heap r p).births ≡ heap.births
-unfolding with_prev
-prev_births heap r p = refl
-
 decided_births : (heap : Heap) (main previous : Ref) (v : Verdict) → (decided heap main previous v).births ≡ heap.births
-decided_births heap main previous Commits = prev_births heap main prev.None
-decided_births heap main previous Fails = prev_births heap main (prev.Failed previous)
+decided_births heap main previous Commits = births_prev heap main prev.None
+decided_births heap main previous Fails = births_prev heap main (prev.Failed previous)
 decided_births heap main previous (Overtaken licensed) = refl
 
 -- an action that makes no node draws no birth
@@ -164,7 +160,7 @@ births_same state handle (act.Offer offer) e = ap (λ (heap : Heap). heap.births
 births_same state handle (act.Complete offer main) e = ap (λ (heap : Heap). heap.births) (completed_heap state handle offer main)
 births_same state handle (act.Publish i replaced fresh) e =
     if_births (main_at state.heap i == replaced) (with_prev (with_main state.heap i fresh) fresh (prev.Pending replaced)) state.heap
-    (prev_births (with_main state.heap i fresh) fresh (prev.Pending replaced) ∙ main_births state.heap i fresh)
+    (births_prev (with_main state.heap i fresh) fresh (prev.Pending replaced) ∙ main_births state.heap i fresh)
 births_same state handle (act.Restore i main previous) e = if_births (main_at state.heap i == main) (with_main state.heap i previous) state.heap (main_births state.heap i previous)
 births_same state handle (act.Decide i main previous told) e = decided_births state.heap main previous (verdict state.heap i main previous told)
 births_same state handle (act.Make node) e = absurd (none-some node (sym e))

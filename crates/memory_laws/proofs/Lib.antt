@@ -60,3 +60,4 @@ pub mod LevelRuns
 pub mod Measure
 pub mod Shapes
 pub mod ShapeStates
+pub mod NoRef

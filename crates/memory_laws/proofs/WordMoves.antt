@@ -168,7 +168,7 @@ grown_same_by states t r None e e' = stands_not _ (grown states t r) e'
 grown_same_by states t r (Some slot) e e' = stands_in _ (grown states t r) slot e' ∙ sym (grown_in_use states t r slot e)
 
 module _ (states : ℕ → State) (t : ℕ) where
-  grown_same : (r : Ref) → standing (states (suc t)).heap r ≡ standing (states t).heap r → grown states (suc t) r ≡ grown states t r
+  pub grown_same : (r : Ref) → standing (states (suc t)).heap r ≡ standing (states t).heap r → grown states (suc t) r ≡ grown states t r
   grown_same r e = grown_same_by states t r (standing (states t).heap r) refl e
 
   grown_freed : (r : Ref) → standing (states (suc t)).heap r ≡ None → grown states (suc t) r ≡ grown states t r

@@ -1,20 +1,14 @@
 -- The laws for every list of steps, from those over runs.
-use Rattle.std.proofs.Common.{◌≡◌, ℕ, List, subst}
-use Rattle.machine_model.specs.declared.steps.Limits.{Limits}
-use Rattle.machine_model.specs.declared.steps.Step.{Step}
+use Rattle.std.proofs.Common.{ℕ, subst}
 use Rattle.machine_model.specs.States.{State}
 use Rattle.machine_model.proofs.Times.{states_of, last_of, run_is}
-use Rattle.deciding_laws.specs.Runs.{steps_taken, state_before}
-use Rattle.deciding_laws.proofs.InHeap.{states_are}
+use Rattle.deciding_laws.specs.Runs.{steps_taken}
+use Rattle.deciding_laws.proofs.Laws.{same_states}
 use Rattle.opening_laws.specs.Laws.{OneRootIn, HandlesRiseIn, ClosedRootsStayIn, NewRootsFollowIn, NewRootsFollow, OneRoot, HandlesRise, ClosedRootsStay, ClosingsDiffer}
 use Rattle.opening_laws.proofs.ClosedRoots as over
 use Rattle.opening_laws.proofs.Closings as closings
 use Rattle.opening_laws.proofs.HandlesRise as rising
 use Rattle.opening_laws.proofs.RootsFollow as following
-
--- the states of a run, told as a list of steps
-same_states : (limits : Limits) (steps : List Step) → states_of limits steps ≡ state_before limits steps
-same_states limits steps = λ i n. states_are limits steps n i
 
 pub one_root : OneRoot
 one_root limits steps ok =

@@ -1,5 +1,5 @@
 -- No handle ever had a root of the generation of a root that is still to be offered.
-use Rattle.std.proofs.Common.{◌≡◌, ℕ, zero, suc, ◌<◌, ◌≤◌, Bool, false, inl, inr, Some, sym, ap, ◌∙◌, arith}
+use Rattle.std.proofs.Common.{◌≡◌, ℕ, suc, ◌<◌, ◌≤◌, Bool, false, inl, inr, Some, sym, ap, ◌∙◌, arith}
 use Rattle.std.proofs.lemmas.Bool.{cases_eq}
 use Rattle.std.proofs.lemmas.Option.{none-some}
 use Rattle.slot_arena.specs.declared.refs.Ref.{Ref}
@@ -13,39 +13,25 @@ use Rattle.machine_model.specs.declared.steps.Outcome.{Outcome}
 use Rattle.machine_model.specs.declared.steps.Step.{Step}
 use Rattle.machine_model.specs.States.{State, root_at, root_of}
 use Rattle.machine_model.proofs.Moves.{Moves}
-use Rattle.machine_model.proofs.Times.{IsRun, Turn, turns}
+use Rattle.machine_model.proofs.Times.{IsRun}
 use Rattle.memory_laws.proofs.AtEachTime.{safe_at}
 use Rattle.memory_laws.proofs.Guards.{Safe}
 use Rattle.generation_laws.proofs.Running.{Runs}
-use Rattle.generation_laws.proofs.Counter.{counter_rises}
 use Rattle.generation_laws.proofs.Below.{looked_up_below}
 use Rattle.generation_laws.proofs.Handles.{Ran}
 use Rattle.generation_laws.proofs.Roots.{gen, IsUnused}
 use Rattle.generation_laws.proofs.RootsKept.{fresh_in, safe_kept}
 use Rattle.generation_laws.proofs.RootsAlong.{IsOrdered, ordered_at}
+use Rattle.falling_laws.proofs.Counted.{counted}
 use Rattle.opening_laws.proofs.AlongMoves.{along_moves}
 use Rattle.opening_laws.proofs.CopyLines.{copied, copied_kept, copied_made, makes_over, line_safe, fresh_copies, over_copies}
 use Rattle.opening_laws.proofs.Fresh.{FreshBehind, stays, made, fresh_behind}
 
 module _ (limits : Limits) (states : ℕ → State) (last : ℕ) (run : IsRun limits states last) where
-  -- the counter never falls
-  pub counter_later : (u t : ℕ) → u ≤ t → t ≤ last → (states u).generations ≤ (states t).generations
-  counter_later u zero le within = omega (arith, ap (λ v. (states v).generations) (nothing_below u le))
-    where
-      nothing_below : (u : ℕ) → u ≤ zero → u ≡ zero
-      nothing_below u h = omega arith
-  counter_later u (suc t) le within = elim (cases_eq u (suc t)) [
-    | inl same ↦ omega (arith, ap (λ v. (states v).generations) same)
-    | inr other ↦ by_turn (counter_later u t (omega arith) (omega arith)) (run.turn t within)
-  ]
-    where
-      by_turn : (states u).generations ≤ (states t).generations → Turn (states t) (states (suc t)) → (states u).generations ≤ (states (suc t)).generations
-      by_turn h (turns s o m) = omega (arith, h, counter_rises (states t) s o (states (suc t)) m)
-
   -- a handle's root up to a time has a generation that was drawn
   pub stood_below : (u t handle : ℕ) (root : Root) → u ≤ t → t ≤ last → gen (states u) root < (states t).generations
   stood_below u t handle root le within =
-      omega (arith, looked_up_below (states u) (ordered_at limits states last run u (omega arith)).below (root_of root.word), counter_later u t le within)
+      omega (arith, looked_up_below (states u) (ordered_at limits states last run u (omega arith)).below (root_of root.word), counted limits states last run u t le within)
 
   -- the root that an operation is to replace keeps its generation
   root_stays : (t : ℕ) → t < last → (s : Step) (o : Outcome) → Moves (states t) s o (states (suc t)) → (k : ℕ) (operation : Operation) → Runs (states t) k operation → (c : CopyLine) → operation.line ≡ line.Copy c →

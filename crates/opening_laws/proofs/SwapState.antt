@@ -13,23 +13,20 @@ use Rattle.machine_model.specs.declared.steps.Limits.{Limits}
 use Rattle.machine_model.specs.declared.steps.Outcome.{Outcome}
 use Rattle.machine_model.specs.declared.steps.Step.{Step}
 use Rattle.machine_model.specs.Calls.{handle_of}
-use Rattle.machine_model.specs.States.{State, root_at, root_of, word_at, with_operation, operation_of, closed_at, rewritten}
+use Rattle.machine_model.specs.States.{State, root_at, root_of, word_at, operation_of, closed_at, rewritten}
 use Rattle.machine_model.specs.Operations.{action_of}
-use Rattle.machine_model.specs.Orders.{committed_now}
 use Rattle.machine_model.specs.Swapping.{is_carried_out}
-use Rattle.machine_model.specs.Acting.{acted, gone, carried_out, entered, operation_after, commits_after, opened_root}
+use Rattle.machine_model.specs.Acting.{acted, gone, carried_out, opened_root}
 use Rattle.machine_model.specs.Counting.{settled}
 use Rattle.machine_model.proofs.Moves.{Moves, Begins, Goes, Ends, Sweeps}
 use Rattle.machine_model.proofs.Found.{found_within, found_elsewhere}
 use Rattle.machine_model.proofs.Times.{IsRun, steps_at}
 use Rattle.generation_laws.proofs.CopyLines.{IsOwn}
 use Rattle.generation_laws.proofs.Offers.{StandsBy, own_numbers}
-use Rattle.generation_laws.proofs.SameOffer.{HasOffers, has_offers_after}
-use Rattle.generation_laws.proofs.Swaps.{closing_of, closed_in, closed_last}
-use Rattle.generation_laws.proofs.RootsAlong.{closed_stays, ordered_at}
+use Rattle.generation_laws.proofs.Swaps.{closing_of, closed_in, closed_last, noted}
 use Rattle.order_laws.proofs.Changes.{completed_is, roots_swapped, carried_roots, same_swapped}
-use Rattle.order_laws.proofs.Growing.{holds_later}
 use Rattle.order_laws.proofs.Handles.{opens_in_range}
+use Rattle.order_laws.proofs.Closed.{closed_later}
 use Rattle.opening_laws.specs.Openings.{IsSwap, IsRootOf}
 use Rattle.opening_laws.proofs.Carried.{Carried, mover, root, word, IsOffered, ordered}
 
@@ -38,12 +35,6 @@ pub record Swapped (state : State) (handle : ℕ) (offer : Descriptor) (after : 
   pub closings : after.closings ≡ state.closings ++ closing_of state offer ∷ []
   pub roots : after.roots ≡ roots_swapped state handle offer offer.opens
   pub heap : after.heap ≡ state.heap
-
--- the state in which a step's action takes place
-abbrev noted : State → ℕ → Operation → State
-noted state actor operation =
-    let committed = committed_now state operation in
-    with_operation (record state { commits = commits_after state committed; places = state.places ++ entered state committed }) actor (Some (operation_after state operation))
 
 gone_swapped : (state : State) (actor : ℕ) (operation : Operation) (offer : Descriptor) (main : Ref) → action_of state operation ≡ act.Complete offer main →
     is_carried_out (word_at state (handle_of operation.call)) offer main ≡ true → Swapped state (handle_of operation.call) offer (settled state (gone state actor operation))
@@ -77,12 +68,6 @@ swapped_by state s o after handle offer (Ends {actor} {operation} {answer} d is 
 swapped_by state s o after handle offer (Sweeps spent) c = let go = c.go in let wrong : ⊥ = cc go in absurd wrong
 
 module _ (limits : Limits) (states : ℕ → State) (last : ℕ) (r : IsRun limits states last) where
-  -- what is closed stays closed, by that very step
-  pub closed_later : (t u generation c : ℕ) → t ≤ u → u ≤ last → closed_at (states t) generation ≡ Some c → closed_at (states u) generation ≡ Some c
-  closed_later t u generation c le within e =
-      (holds_later limits states last r (λ state. HasOffers state × (closed_at state generation ≡ Some c))
-      (λ state s o after m I. (has_offers_after state I.0 s o after m, closed_stays state I.0 s o after m generation c I.1)) t u le within ((ordered_at limits states last r t (omega arith)).offers, e)).1
-
   module _ (t handle : ℕ) (offer : Descriptor) (swap : IsSwap states last t handle offer) where
     pub swapped : Swapped (states t) handle offer (states (suc t))
     swapped = swapped_by (states t) swap.step swap.outcome (states (suc t)) handle offer swap.moves (mover limits states last r t handle offer swap)
@@ -100,7 +85,7 @@ module _ (limits : Limits) (states : ℕ → State) (last : ℕ) (r : IsRun limi
         ap (λ l. closed_in l g) swapped.closings ∙ closed_last (states t).closings (closing_of (states t) offer) g open_then refl ∙ ap Some (steps_at limits states last r t (omega (arith, swap.taken)))
 
     pub closed_for_ever : (u : ℕ) → t < u → u ≤ last → closed_at (states u) (generation_at (states t).heap offer.root) ≡ Some t
-    closed_for_ever u after within = closed_later (suc t) u (generation_at (states t).heap offer.root) t after within closes
+    closed_for_ever u after within = closed_later limits states last r (suc t) u (generation_at (states t).heap offer.root) t after within closes
 
     -- ---- the new roots
 

@@ -1,6 +1,6 @@
 -- At each time of a run the history is well formed, and says which operations run.
-use Rattle.std.proofs.Common.{◌≡◌, ℕ, suc, ◌-◌, ◌≤◌, inl, inr, List, [], ◌∷◌, ◌++◌, set, get_or, length, Option, Some, None, refl, sym, ap, ◌∙◌, subst, length-set}
-use Rattle.std.proofs.lemmas.List.{length-map, length-replicate}
+use Rattle.std.proofs.Common.{◌≡◌, ℕ, suc, ◌-◌, ◌≤◌, inl, inr, List, [], ◌∷◌, ◌++◌, set, get_or, length, Some, None, refl, sym, ap, ◌∙◌, subst, length-set}
+use Rattle.std.proofs.lemmas.List.{length-replicate}
 use Rattle.history.specs.declared.replies.Reply.{Reply}
 use Rattle.history.specs.declared.events.Event.{Event}
 use Rattle.history.specs.declared.events.Event.TheVariants.{End}
@@ -14,15 +14,15 @@ use Rattle.machine_model.specs.declared.steps.Step.{Step}
 use Rattle.machine_model.specs.declared.steps.Step.TheVariants as step
 use Rattle.machine_model.specs.States.{State, first_state}
 use Rattle.machine_model.specs.Operations.{action_of}
-use Rattle.machine_model.specs.Acting.{gone, marked}
+use Rattle.machine_model.specs.Acting.{gone}
 use Rattle.machine_model.specs.Counting.{settled}
 use Rattle.machine_model.specs.Machine.{swept}
 use Rattle.machine_model.proofs.Moves.{Moves, Begins, Goes, Ends, Sweeps, begun_operation}
 use Rattle.machine_model.proofs.Frames.{acted_framed, limits_kept}
 use Rattle.machine_model.proofs.Found.{none_found}
 use Rattle.machine_model.proofs.Times.{IsRun, at_each_time}
-use Rattle.machine_model.proofs.Actors.{after_marks, gone_actors, begin_actors, of_end}
-use Rattle.generation_laws.proofs.Running.{place_of_actor, one_at}
+use Rattle.machine_model.proofs.Actors.{gone_actors, begin_actors, of_end}
+use Rattle.generation_laws.proofs.Running.{place_of_actor, one_at, marks_length}
 use Rattle.order_laws.specs.Facts.{Runs}
 use Rattle.order_laws.proofs.Elements.{no_last}
 use Rattle.order_laws.proofs.Running.{IsSame, IsBegun, IsEnded, ran_before, runs_on}
@@ -88,10 +88,6 @@ ends_books state actor k operation answer o after m own is actors limits e books
         ]
 
 -- ---- each step
-
-marks_length : (m : Option ℕ) (xs : List (Option Operation)) → length (after_marks m xs) ≡ length xs
-marks_length None xs = refl
-marks_length (Some id) xs = length-map xs (marked id)
 
 go_no_begin : (state : State) (actor : ℕ) (k : ℕ) (found : Operation) → ¬ IsBegun state (step.Go actor) k found
 go_no_begin state actor k found new = let is = new.is_step in cc is

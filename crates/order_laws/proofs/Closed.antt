@@ -19,16 +19,17 @@ none_at_first : (limits : Limits) (generation c : ℕ) → closed_at (first_stat
 unfolding first_state
 none_at_first limits generation c e = none-some c e
 
-module _ (limits : Limits) (states : ℕ → State) (last : ℕ) (r : IsRun limits states last) (V : ℕ → ℕ → KeyMap) (facts : Facts limits states last V) where
+module _ (limits : Limits) (states : ℕ → State) (last : ℕ) (r : IsRun limits states last) where
   -- what is closed stays closed, by the same step
   pub closed_later : (t u generation c : ℕ) → t ≤ u → u ≤ last → closed_at (states t) generation ≡ Some c → closed_at (states u) generation ≡ Some c
   closed_later t u generation c le within e = holds_later limits states last r (λ state. closed_at state generation ≡ Some c) (kept_closed generation c) t u le within e
 
   -- the same generation is closed once
-  pub closed_once : (t u generation c d : ℕ) → t ≤ last → u ≤ last → closed_at (states t) generation ≡ Some c → closed_at (states u) generation ≡ Some d → c ≡ d
+  closed_once : (t u generation c d : ℕ) → t ≤ last → u ≤ last → closed_at (states t) generation ≡ Some c → closed_at (states u) generation ≡ Some d → c ≡ d
   closed_once t u generation c d le within e f =
       same_Some c d (sym (closed_later t last generation c le (omega arith) e) ∙ closed_later u last generation d within (omega arith) f)
 
+module _ (limits : Limits) (states : ℕ → State) (last : ℕ) (r : IsRun limits states last) (V : ℕ → ℕ → KeyMap) (facts : Facts limits states last V) where
   -- the step that closed it lies before, and it wasn't closed then
   abbrev pub ClosedFrom : ℕ → ℕ → ℕ → Type 0
   ClosedFrom u generation c = (c < u) × (closed_at (states c) generation ≡ None) × (closed_at (states (suc c)) generation ≡ Some c)
@@ -48,7 +49,7 @@ module _ (limits : Limits) (states : ℕ → State) (last : ℕ) (r : IsRun limi
   from_by : (u generation c : ℕ) → suc u ≤ last → closed_at (states (suc u)) generation ≡ Some c → ((d : ℕ) → closed_at (states u) generation ≡ Some d → ClosedFrom u generation d) →
       (before : Option ℕ) → closed_at (states u) generation ≡ before → ClosedFrom (suc u) generation c
   from_by u generation c le e rest (Some d) was =
-      let same = closed_once u (suc u) generation d c (omega arith) le was e in
+      let same = closed_once limits states last r u (suc u) generation d c (omega arith) le was e in
       let (lt, none, some) = rest c (was ∙ ap Some same) in
       (omega arith, none, some)
   from_by u generation c le e rest None was =

@@ -131,7 +131,7 @@ module _ (limits : Limits) (states : ℕ → State) (last : ℕ) (r : IsRun limi
       -- the generation is closed by now
       closed_now : old ≡ update.generation → closed_at (states n) update.generation ≡ Some t
       closed_now same =
-          subst (λ g. closed_at (states n) g ≡ Some t) same (closed_later limits states last r V facts (suc t) n old t behind (omega arith)
+          subst (λ g. closed_at (states n) g ≡ Some t) same (closed_later limits states last r (suc t) n old t behind (omega arith)
           (ap (λ l. closed_in l old) closings
           ∙ closed_last (states t).closings _ old ((sound_at limits states last r V facts t (omega arith)).unclosed handle old swap.stands) refl))
 
@@ -211,7 +211,7 @@ module _ (limits : Limits) (states : ℕ → State) (last : ℕ) (r : IsRun limi
           let closed_u : closed_at (states u) generation ≡ Some t = sym (closing_is (states u) reads.operation generation writable of) ∙ reading_closing in
           let same = closing_is_old u generation (omega arith) closed_u in
           let from = closed_from limits states last r V facts u generation t (omega arith) closed_u in
-          let closed_n : closed_at (states (suc n)) generation ≡ Some t = closed_later limits states last r V facts (suc t) (suc n) generation t (omega arith) (omega arith) from.2 in
+          let closed_n : closed_at (states (suc n)) generation ≡ Some t = closed_later limits states last r (suc t) (suc n) generation t (omega arith) (omega arith) from.2 in
           let rooted_n = subst (λ x. IsRooted states (suc x) (handle_of reads.operation.call) generation) m rooted in
           let here = rooted_here (suc n) (handle_of reads.operation.call) generation (omega arith) closed_n same rooted_n in
           let before = view limits states last V t in

@@ -55,7 +55,7 @@ module _ (limits : Limits) (states : ℕ → State) (last : ℕ) (r : IsRun limi
           | inl stands ↦ stands
           | inr was ↦
               let (c, before, closed, stood) = was in
-              let closed_u = closed_later limits states last r V facts (suc t) u generation c (omega arith) (omega arith) closed in
+              let closed_u = closed_later limits states last r (suc t) u generation c (omega arith) (omega arith) closed in
               let late_enough = not_early c (is_closing ∙ closed_u) in
               let now : c ≡ t = omega arith in
               let from = closed_from limits states last r V facts (suc t) generation c lt closed in

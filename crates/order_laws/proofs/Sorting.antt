@@ -3,15 +3,10 @@ use Rattle.std.proofs.Common.{◌≡◌, ℕ, ◌<◌, ◌≤◌, Bool, true, fa
 use Rattle.std.proofs.lemmas.Bool.{true≢false, false≢true}
 use Rattle.places.specs.declared.place.Place.{Place}
 use Rattle.places.specs.Places.{number_before, bool_before, is_before, placed, rising}
+use Rattle.places.proofs.Comparing.{not_both}
 use Rattle.order_laws.proofs.Elements.{Among, Each, Along, each_of, of_each, each_filter, filter_none, among_either, tested}
 
 -- ---- comparing places
-
-number_asymmetric : (a b : ℕ) (r s : Bool) → (r ≡ true → s ≡ false) → number_before a b r ≡ true → number_before b a s ≡ false
-number_asymmetric a b r s h e = grind arith
-
-bool_asymmetric : (a b r s : Bool) → (r ≡ true → s ≡ false) → bool_before a b r ≡ true → bool_before b a s ≡ false
-bool_asymmetric a b r s h e = grind arith
 
 number_transitive : (a b c : ℕ) (r s u : Bool) → (r ≡ true → s ≡ true → u ≡ true) → number_before a b r ≡ true → number_before b c s ≡ true → number_before a c u ≡ true
 number_transitive a b c r s u h d e = grind arith
@@ -19,17 +14,8 @@ number_transitive a b c r s u h d e = grind arith
 bool_transitive : (a b c r s u : Bool) → (r ≡ true → s ≡ true → u ≡ true) → bool_before a b r ≡ true → bool_before b c s ≡ true → bool_before a c u ≡ true
 bool_transitive a b c r s u h d e = grind arith
 
-id_asymmetric : (a b : ℕ) → nat_lt a b ≡ true → nat_lt b a ≡ false
-id_asymmetric a b e = grind arith
-
 id_transitive : (a b c : ℕ) → nat_lt a b ≡ true → nat_lt b c ≡ true → nat_lt a c ≡ true
 id_transitive a b c d e = grind arith
-
--- no two places are each before the other
-pub before_asymmetric : (p q : Place) → is_before p q ≡ true → is_before q p ≡ false
-before_asymmetric p q =
-    number_asymmetric p.step q.step _ _
-    (bool_asymmetric p.on_time q.on_time _ _ (number_asymmetric p.moment q.moment _ _ (bool_asymmetric p.changed_nothing q.changed_nothing _ _ (id_asymmetric p.id q.id))))
 
 pub before_transitive : (p q r : Place) → is_before p q ≡ true → is_before q r ≡ true → is_before p r ≡ true
 before_transitive p q r =
@@ -75,7 +61,7 @@ placed_among p (q ∷ qs) x a = placed_among_by p q qs (is_before p q) x (placed
 
 placed_rises_by : (p q : Place) (qs : List Place) (b : Bool) → is_before p q ≡ b → Rises (q ∷ qs) → Rises (placed p qs) → Rises (cond b (p ∷ q ∷ qs) (q ∷ placed p qs))
 placed_rises_by p q qs true e h rest =
-    ((before_asymmetric p q e, each_of (λ r. is_before r p ≡ false) qs (λ r a. not_after p q r e (of_each (λ r. is_before r q ≡ false) qs h.0 r a))), h)
+    ((not_both p q e, each_of (λ r. is_before r p ≡ false) qs (λ r a. not_after p q r e (of_each (λ r. is_before r q ≡ false) qs h.0 r a))), h)
 placed_rises_by p q qs false e h rest = (
   each_of (λ r. is_before r q ≡ false) (placed p qs) (λ r a. elim (among_placed p qs r a) [
     | inl is ↦ subst (λ x. is_before x q ≡ false) (sym is) e

@@ -26,6 +26,7 @@ use Rattle.content_laws.proofs.Runs.{key_until}
 use Rattle.content_laws.proofs.Shaping.{empty_shaped}
 use Rattle.content_laws.proofs.ListShaping.{shape_moves}
 use Rattle.memory_laws.proofs.Nodes.{no_main}
+use Rattle.memory_laws.proofs.NoRef.{nothing_stands}
 use Rattle.deciding_laws.proofs.GrownWords.{link_made}
 use Rattle.shape_laws.specs.Sites.{depth_at, level_until, path_until}
 use Rattle.shape_laws.specs.LineSites.{Sites, sites_of, bare, trie_at}
@@ -37,7 +38,6 @@ use Rattle.shape_laws.proofs.Made.{stands}
 use Rattle.shape_laws.proofs.SiteActs.{root_path}
 use Rattle.shape_laws.proofs.SiteRuns.{paths_fit}
 use Rattle.falling_laws.proofs.Generations.{none_is_newer}
-use Rattle.line_laws.proofs.NoRef.{never_made}
 use Rattle.shape_laws.proofs.FoundRoots.{level_of_root}
 use Rattle.shape_laws.proofs.GrownSites.{link_same, counts, made_shaped}
 
@@ -177,7 +177,7 @@ module _ (limits : Limits) (states : ℕ → State) (steps : ℕ → Step) (last
 
   no_main_at : (u : ℕ) → u ≤ last → (i : Ref) → is_indirection (node_under states last i) ≡ false → main_before states u i ≡ no_ref
   no_main_at u h i none =
-      ap (λ m. logical m (prev_of (grown states u m))) (no_main (node_under states u i) (no_link u h i none)) ∙ ap (λ o. logical no_ref (prev_of o)) (never_made limits states last run u h)
+      ap (λ m. logical m (prev_of (grown states u m))) (no_main (node_under states u i) (no_link u h i none)) ∙ ap (λ o. logical no_ref (prev_of o)) (nothing_stands limits states last run u h)
 
   no_node : shown empty_branch ≡ empty_branch
   no_node = bare_branch (shown empty_branch) 0 (entries_from []) (tells empty_branch)
@@ -186,7 +186,7 @@ module _ (limits : Limits) (states : ℕ → State) (steps : ℕ → Step) (last
   other_shaped t i h none =
       let (u, le, is, still) = main_of_some t i h in
       let root : trie.depth i ≡ 0 = ap (λ b. cond b (depth_at (level_until states steps last i)) 0) none in
-      subst (IsShaped trie i) (sym (ap (λ m. shown (node_under states last m)) (is ∙ no_main_at u le i none) ∙ ap (λ o. shown (node_of o)) (never_made limits states last run last (omega arith)) ∙ no_node)) (empty_shaped trie fits i (omega (arith, root, deep_low limits.hash)))
+      subst (IsShaped trie i) (sym (ap (λ m. shown (node_under states last m)) (is ∙ no_main_at u le i none) ∙ ap (λ o. shown (node_of o)) (nothing_stands limits states last run last (omega arith)) ∙ no_node)) (empty_shaped trie fits i (omega (arith, root, deep_low limits.hash)))
 
   shaped_at : (t : ℕ) (i : Ref) → t ≤ last → IsShaped trie i (node_in trie t i)
   shaped_at t i h = by_test (is_indirection (node_under states last i)) refl
@@ -201,7 +201,7 @@ module _ (limits : Limits) (states : ℕ → State) (steps : ℕ → Step) (last
   root_is g = by_root (root_until states g last) refl
     where
       by_root : (o : Option Ref) → root_until states g last ≡ o → (s.level (unwrap_or o no_ref) ≡ 1) ⊎ (is_indirection (node_under states last (unwrap_or o no_ref)) ≡ false)
-      by_root None e = inr (ap (λ o. is_indirection (node_of o)) (never_made limits states last run last (omega arith)))
+      by_root None e = inr (ap (λ o. is_indirection (node_of o)) (nothing_stands limits states last run last (omega arith)))
       by_root (Some r) e = inl (level_of_root limits states steps last run takes last (omega arith) g r e)
 
   at_root : (r : Ref) → (s.level r ≡ 1) ⊎ (is_indirection (node_under states last r) ≡ false) → (trie.depth r ≡ 0) × (trie.path r ≡ 0)

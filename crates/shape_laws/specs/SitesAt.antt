@@ -24,10 +24,11 @@ use Rattle.machine_model.proofs.Grown.{node_under}
 use Rattle.machine_model.proofs.Moves.{Moves}
 use Rattle.memory_laws.specs.Wants.{is_indirection}
 use Rattle.memory_laws.proofs.Levels.{LineLevel}
-use Rattle.falling_laws.specs.Falling.{build_path, renew_path, purpose_path}
+use Rattle.falling_laws.specs.Falling.{renew_path, purpose_path}
 use Rattle.shape_laws.specs.Sites.{path_to, level_until, depth_of_run, path_of_run}
 use Rattle.shape_laws.specs.LineSites.{LineSite, sites_of}
 use Rattle.machine_model.specs.Keys.{FitsKey}
+use Rattle.content_laws.specs.Knowing.{build_path}
 
 -- ---- what is given
 

@@ -37,9 +37,10 @@ use Rattle.machine_model.specs.Copying.{copy_after}
 use Rattle.machine_model.specs.Walking.{walk_after}
 use Rattle.machine_model.specs.Operations.{after_update, climbed_on, swapped, after_swap}
 use Rattle.content_laws.specs.Tries.{Trie}
+use Rattle.content_laws.specs.Knowing.{build_path}
 use Rattle.trie_laws.specs.Paths.{path_of}
 use Rattle.trie_laws.proofs.Routes.{Route, LineRoute, route_later}
-use Rattle.falling_laws.specs.Falling.{build_path, renew_path}
+use Rattle.falling_laws.specs.Falling.{renew_path}
 
 clean_none : (state : State) (operation : Operation) (l : CleanLine) → path_of (clean_after state operation l) ≡ None
 clean_none state operation l = grind arith

@@ -22,10 +22,11 @@ use Rattle.phase_laws.proofs.Since.{run_since}
 use Rattle.content_laws.specs.Tries.{Trie}
 use Rattle.content_laws.specs.Steps.{IsTrie, Looks}
 use Rattle.content_laws.specs.Runs.{trie_of}
+use Rattle.content_laws.specs.Knowing.{main_of_key}
 use Rattle.falling_laws.specs.Falling.{GivenForEver}
 use Rattle.trie_laws.specs.Below.{RootsAreKept}
 use Rattle.trie_laws.specs.Laws.{PathsLie, KeysLook}
-use Rattle.trie_laws.specs.Paths.{LiesOn, path_of, main_of_key}
+use Rattle.trie_laws.specs.Paths.{LiesOn, path_of}
 use Rattle.trie_laws.proofs.Routes.{Route, IsAt, KeyRoute, LineRoute, since, route_later, looks_at}
 use Rattle.trie_laws.proofs.EachRoute.{has_route}
 

@@ -43,6 +43,7 @@ use Rattle.content_laws.specs.Knowing.{KnowsKey, KnowsLine}
 use Rattle.content_laws.proofs.Shapes.{leads}
 use Rattle.content_laws.proofs.RepairKnows.{read_stays}
 use Rattle.memory_laws.proofs.Nodes.{branch_main}
+use Rattle.deciding_laws.proofs.Laws.{given_read}
 use Rattle.line_laws.specs.Knowing.{known_with, first_main}
 use Rattle.line_laws.proofs.Knows.{knows_at}
 use Rattle.line_laws.proofs.Nodes.{nodes_stay}
@@ -51,7 +52,7 @@ use Rattle.trie_laws.specs.Below.{RootsAreKept}
 use Rattle.trie_laws.proofs.EachOperation.{OwnStep}
 use Rattle.trie_laws.proofs.Given.{GivenAt, given_at}
 use Rattle.trie_laws.proofs.Seen.{seen_link, seen_main}
-use Rattle.trie_laws.proofs.RouteTimes.{counts_since, since_next, given_read}
+use Rattle.trie_laws.proofs.RouteTimes.{counts_since, since_next}
 use Rattle.trie_laws.proofs.Routes.{IsGiven, IsOf, since, KeyRoute, LineRoute, route_later}
 
 -- ---- its own step

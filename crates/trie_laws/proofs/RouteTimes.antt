@@ -1,16 +1,12 @@
 -- From when on a READ counts for a path, and that what a line knows of its path stays while others move.
-use Rattle.std.proofs.Common.{◌≡◌, ℕ, suc, ◌≤◌, arith}
+use Rattle.std.proofs.Common.{ℕ, suc, ◌≤◌, arith}
 use Rattle.history.specs.declared.calls.Access.{Access}
-use Rattle.slot_arena.specs.declared.refs.Ref.{Ref}
 use Rattle.machine_model.specs.declared.finding.KeyLine.TheVariants as key
 use Rattle.machine_model.specs.declared.lines.Purpose.TheVariants as purpose
 use Rattle.machine_model.specs.declared.lines.Line.{Line}
 use Rattle.machine_model.specs.declared.lines.Line.TheVariants as line
-use Rattle.machine_model.specs.declared.reading.After.{After}
-use Rattle.machine_model.specs.declared.reading.After.TheVariants.{Goes, Gives}
 use Rattle.machine_model.specs.declared.reading.ReadLine.{ReadLine}
 use Rattle.machine_model.specs.declared.reading.ReadLine.TheVariants as read
-use Rattle.machine_model.specs.Reading.{at_indirection}
 use Rattle.deciding_laws.proofs.Words.{counts_at}
 use Rattle.content_laws.specs.Tries.{Trie}
 use Rattle.trie_laws.proofs.Routes.{since, LineRoute, route_later}
@@ -40,10 +36,6 @@ since_later (read.Prev m) t b = omega arith
 since_later (read.AskRoot m p) t b = omega arith
 since_later (read.Abort m p offer) t b = omega arith
 since_later (read.Decide m p told) t b = omega arith
-
-pub given_read : (i : Ref) (out : After ReadLine Ref) (m : Ref) → at_indirection i out ≡ Gives m → out ≡ Gives m
-given_read i (Gives x) m e = cc
-given_read i (Goes l) m e = let wrong : ⊥ = cc in absurd wrong
 
 -- ---- while others move
 

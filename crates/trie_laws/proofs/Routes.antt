@@ -23,7 +23,8 @@ use Rattle.content_laws.specs.Tries.{Trie, generation, On, at_root}
 use Rattle.content_laws.specs.Steps.{IsTrie, Looks, IsReached, root_is, below_is}
 use Rattle.content_laws.proofs.Paths.{on-depth}
 use Rattle.content_laws.proofs.Readers.{step_down}
-use Rattle.falling_laws.specs.Falling.{build_path, renew_path}
+use Rattle.content_laws.specs.Knowing.{build_path}
+use Rattle.falling_laws.specs.Falling.{renew_path}
 
 -- ---- of one indirection, as far as it is known up to time b
 

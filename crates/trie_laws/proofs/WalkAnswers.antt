@@ -35,6 +35,7 @@ use Rattle.content_laws.proofs.PairLists.{Pairs}
 use Rattle.content_laws.proofs.RepairKnows.{read_stays}
 use Rattle.content_laws.proofs.WalkKnows.{WalksRight, walk_read_knows, walk_main_knows, walk_entry_knows}
 use Rattle.content_laws.proofs.Walks.{walk_single}
+use Rattle.deciding_laws.proofs.Laws.{given_read}
 use Rattle.order_laws.specs.Facts.{standing}
 use Rattle.line_laws.proofs.EachAt.{GoesAt}
 use Rattle.line_laws.proofs.Nodes.{nodes_stay}
@@ -46,7 +47,6 @@ use Rattle.trie_laws.proofs.EachOperation.{OwnStep}
 use Rattle.trie_laws.proofs.Given.{given_at, own_after}
 use Rattle.trie_laws.proofs.KeyAnswers.{AnswersSo}
 use Rattle.trie_laws.proofs.ReaderRoots.{IsRoot, root_stands}
-use Rattle.trie_laws.proofs.RouteTimes.{given_read}
 use Rattle.trie_laws.proofs.Seen.{seen_link}
 use Rattle.trie_laws.proofs.WalkSteps.{below, below_main, walked_right, KnowsWalk}
 

@@ -22,9 +22,10 @@ use Rattle.machine_model.specs.States.{State, operation_of}
 use Rattle.machine_model.proofs.Moves.{Moves}
 use Rattle.content_laws.specs.Tries.{Trie, content}
 use Rattle.content_laws.specs.Steps.{Does, Updates, Looks}
+use Rattle.content_laws.specs.Knowing.{main_of_key}
 use Rattle.order_laws.specs.Facts.{act_in, entered_by_step, Update, Replied}
 use Rattle.line_laws.specs.Commits.{OwnCommit, assigned_at}
-use Rattle.trie_laws.specs.Paths.{LiesOn, path_of, main_of_key}
+use Rattle.trie_laws.specs.Paths.{LiesOn, path_of}
 
 -- each step leaves the main nodes, repairs one, or updates a key in one
 abbrev pub StepsDo : Trie → Type 0

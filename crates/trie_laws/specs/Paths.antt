@@ -8,7 +8,8 @@ use Rattle.machine_model.specs.declared.lines.Purpose.TheVariants as purpose
 use Rattle.machine_model.specs.declared.lines.Line.{Line}
 use Rattle.machine_model.specs.declared.lines.Line.TheVariants as line
 use Rattle.content_laws.specs.Tries.{Trie, On}
-use Rattle.falling_laws.specs.Falling.{build_path, renew_path}
+use Rattle.content_laws.specs.Knowing.{build_path}
+use Rattle.falling_laws.specs.Falling.{renew_path}
 
 -- each indirection of the path was on the key's path in the generation, at some time up to t
 abbrev pub LiesOn : Trie → ℕ → ℕ → ℕ → List Ref → Type 0
@@ -30,11 +31,3 @@ path_of (line.Renew l) = Some (renew_path l)
 path_of (line.Swap (purpose.Update p former) s) = Some p
 path_of (line.Swap (purpose.Renew p) s) = Some p
 path_of l = None
-
--- the main node that KEY was given
-abbrev pub main_of_key : KeyLine → Option Ref
-main_of_key (key.Read p read) = None
-main_of_key (key.Main p main) = Some main
-main_of_key (key.Entry p main position) = Some main
-main_of_key (key.Listed p main position) = Some main
-main_of_key (key.Sibling p main position former) = Some main

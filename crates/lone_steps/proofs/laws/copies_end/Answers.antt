@@ -1,4 +1,4 @@
-use Rattle.lone_steps.proofs.Copies.{copies_end_first, copies_end as all_copies_end}
+use Rattle.lone_steps.proofs.AloneEnds.{copies_end_first, copies_end as all_copies_end}
 use Rattle.lone_steps.proofs.laws.copies_end.Goals as goal
 
 pub returns-clause-first : goal.returns-clause-first

@@ -1,29 +1,20 @@
--- Nothing ever stands under the reference to nothing.
-use Rattle.std.proofs.Common.{◌≡◌, ℕ, zero, suc, ◌+◌, ◌≤◌, Some, None, refl, sym, ◌∙◌, ap, arith}
+-- Nothing ever stands under the reference that stands for none.
+use Rattle.std.proofs.Common.{◌≡◌, ℕ, zero, suc, ◌+◌, ◌≤◌, Some, None, refl, sym, ◌∙◌, ap, arith, Option}
 use Rattle.std.proofs.lemmas.Option.{none-some}
 use Rattle.slot_arena.specs.Refs.{birth_of}
 use Rattle.slot_arena.specs.declared.refs.Ref.{Ref}
 use Rattle.slot_arena.specs.declared.nodes.Node.{Node}
-use Rattle.slot_arena.specs.Heaps.{stored, taken, no_ref, next_ref}
+use Rattle.slot_arena.specs.Heaps.{no_ref, next_ref}
 use Rattle.machine_model.specs.declared.steps.Limits.{Limits}
-use Rattle.machine_model.specs.States.{State, first_heap}
+use Rattle.machine_model.specs.States.{State, first_state}
 use Rattle.machine_model.proofs.Grown.{standing, grown}
-use Rattle.machine_model.proofs.Times.{IsRun}
-use Rattle.content_laws.proofs.Started.{first_heap_is}
+use Rattle.machine_model.proofs.Times.{IsRun, along_run}
 use Rattle.memory_laws.proofs.Under.{taken_all}
 use Rattle.memory_laws.proofs.Safety.{IsSafe}
 use Rattle.memory_laws.proofs.AtEachTime.{safe_at}
 use Rattle.memory_laws.proofs.WordMoves.{WordMove, keeps, makes, publishes, restores, commits, fails, word_move}
-use Rattle.deciding_laws.proofs.Finals.{from_time}
-
-two_slots : (slots : ℕ) → 2 ≤ slots → (n : ℕ) × (slots ≡ suc (suc n))
-two_slots zero le = absurd (omega arith)
-two_slots (suc zero) le = absurd (omega arith)
-two_slots (suc (suc n)) le = (n, refl)
-
-nothing_first : (n : ℕ) → standing (first_heap (suc (suc n))) no_ref ≡ None
-unfolding stored taken
-nothing_first n = refl
+use Rattle.slot_arena.specs.declared.nodes.Slot.{Slot}
+use Rattle.memory_laws.proofs.First.{first_stands}
 
 born_later : (r : Ref) (n : ℕ) → birth_of r ≡ n + 1 → no_ref ≡ r → ⊥
 born_later r n is same = not_zero (ap birth_of same ∙ is)
@@ -32,11 +23,18 @@ born_later r n is same = not_zero (ap birth_of same ∙ is)
     not_zero e = omega (arith, e)
 
 module _ (limits : Limits) (states : ℕ → State) (last : ℕ) (run : IsRun limits states last) where
-  at_first : grown states zero no_ref ≡ None
-  unfolding grown
-  at_first =
-      let two = two_slots limits.slots run.limits_ok.0 in
-      ap (λ (s : State). standing s.heap no_ref) run.first ∙ ap (λ heap. standing heap no_ref) (first_heap_is limits ∙ ap first_heap two.1) ∙ nothing_first two.0
+  first_none : grown states zero no_ref ≡ None
+  unfolding grown first_state
+  first_none = by (standing (states zero).heap no_ref) refl
+    where
+      some_ref : (slot : Slot) → standing (states zero).heap no_ref ≡ Some slot → ⊥
+      some_ref slot e =
+          first_stands (λ r slot. r ≡ no_ref → ⊥) limits.slots run.limits_ok.0 run.limits_ok.1 (λ birth is. absurd (omega arith)) (λ birth is. absurd (omega arith)) no_ref slot
+          (ap (λ (s : State). standing s.heap no_ref) (sym run.first) ∙ e) refl
+
+      by : (o : Option Slot) → standing (states zero).heap no_ref ≡ o → standing (states zero).heap no_ref ≡ None
+      by None e = e
+      by (Some slot) e = absurd (some_ref slot e)
 
   birth_is : (t : ℕ) → t ≤ last → (node : Node) (made : Ref) → next_ref (states t).heap ≡ Some made → birth_of made ≡ (states t).heap.births + 1
   birth_is t h node made e = let I : IsSafe (states t) = safe_at limits states last run t h in (taken_all (states t).limits.slots (states t).heap (I.sound.heap) (I.small) node made e).3
@@ -51,6 +49,5 @@ module _ (limits : Limits) (states : ℕ → State) (last : ℕ) (run : IsRun li
   by_move t h none (commits actor operation i main previous told at_main takes v f_main g_main others) = others no_ref (λ same. none-some at_main (sym none ∙ ap (grown states t) same ∙ f_main)) ∙ none
   by_move t h none (fails actor operation i main previous told at_main takes v f_main g_main others) = others no_ref (λ same. none-some at_main (sym none ∙ ap (grown states t) same ∙ f_main)) ∙ none
 
-  pub never_made : (t : ℕ) → t ≤ last → grown states t no_ref ≡ None
-  never_made t h =
-      from_time (λ u. grown states u no_ref ≡ None) zero last at_first (λ u low below none. by_move u (omega arith) none (word_move limits states last run u below)) t (omega arith) h
+  pub nothing_stands : (t : ℕ) → t ≤ last → grown states t no_ref ≡ None
+  nothing_stands = along_run limits states last run (λ t. grown states t no_ref ≡ None) first_none (λ t lt turn none. by_move t (omega arith) none (word_move limits states last run t lt))
