@@ -33,7 +33,7 @@ unfolding going run_from
 going_stops zero wanted actor state stop = refl
 going_stops (suc n) wanted actor state stop = rw stop refl
 
-one_more : (n : ℕ) (wanted : Option Kind) (actor : ℕ) (state : State) → stops wanted (next_kind state actor) ≡ false →
+pub one_more : (n : ℕ) (wanted : Option Kind) (actor : ℕ) (state : State) → stops wanted (next_kind state actor) ≡ false →
     run_from state (going (suc n) wanted actor state) ≡ run_from (next_state state (Go actor)) (going n wanted actor (next_state state (Go actor)))
 unfolding going run_from
 one_more n wanted actor state goes = rw goes refl

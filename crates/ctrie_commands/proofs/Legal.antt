@@ -24,6 +24,7 @@ use Rattle.step_machine.specs.Legality.{IsLegalFor, IsLegalRecord}
 use Rattle.step_machine.specs.Records.{IsRecordOf}
 use Rattle.step_machine.specs.declared.records.Record.{Record}
 use Rattle.lock_runner.specs.Finishing.{recorded}
+use Rattle.lone_steps.specs.Laws.{AloneItEnds}
 use Rattle.script_text.specs.Reading.{Reading as Script, script_of}
 use Rattle.script_text.specs.Steps.{all_steps}
 use Rattle.ctrie_commands.specs.Reports.{last_state, report}
@@ -31,6 +32,7 @@ use Rattle.ctrie_commands.specs.Scripts.{IsReport}
 use Rattle.ctrie_commands.specs.Threads.{thread_report}
 use Rattle.ctrie_commands.specs.Verdicts.{IsVerdict}
 use Rattle.ctrie_commands.specs.Legality.{told_in, IsLegalText, AppendsJudged}
+use Rattle.ctrie_commands.proofs.Endings.{each_line_ends}
 use Rattle.ctrie_commands.proofs.Growing.{limits_stay}
 use Rattle.ctrie_commands.proofs.Spelled.{report_spelled, thread_report_spelled}
 use Rattle.ctrie_commands.proofs.Short.{report_short}
@@ -100,14 +102,15 @@ record_text_legal hash told text denials its legal fit same is =
 
 -- ---- what is written
 
-pub is_report : (text : List ℕ) (script : Script) (bytes : List ℕ) → script_of text ≡ Ok script → bytes ≡ report script → IsLegalText bytes (told_in script.limits.hash (last_state script)) →
-    IsReport text bytes
-is_report text script bytes is whole right = record {
+pub is_report : AloneItEnds → (text : List ℕ) (script : Script) (bytes : List ℕ) → script_of text ≡ Ok script → bytes ≡ report script →
+    IsLegalText bytes (told_in script.limits.hash (last_state script)) → IsReport text bytes
+is_report law text script bytes is whole right = record {
   script = script;
   read = is;
   whole = whole;
   legal = right;
   judged = judged_legal bytes (told_in script.limits.hash (last_state script)) right (subst IsShort (sym whole) (report_short text script is));
+  ends = each_line_ends law text script is;
 }
 
 pub appends_judged : (old new : Option (List ℕ)) (text bytes : List ℕ) → IsReport text bytes → Appends old new bytes → AppendsJudged old new

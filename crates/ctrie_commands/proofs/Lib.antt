@@ -7,6 +7,7 @@ pub mod Ranks
 pub mod Reported
 pub mod Growing
 pub mod Spelled
+pub mod Endings
 pub mod Legal
 pub mod Adding
 pub mod Short

@@ -3,6 +3,7 @@ use Rattle.std.specs.Prelude.{◌≡◌, ℕ, true, List, Option, Ok, Err}
 use Rattle.std.specs.Io.KnownBytes.{Appends}
 use Rattle.ctrie_base.specs.declared.refusals.Refusal.{Refusal}
 use Rattle.script_text.specs.Reading.{Reading, script_of}
+use Rattle.ctrie_commands.specs.Endings.{EachLineEnds}
 use Rattle.ctrie_commands.specs.Reports.{last_state, report}
 use Rattle.ctrie_commands.specs.Verdicts.{IsVerdict}
 use Rattle.ctrie_commands.specs.Legality.{told_in, IsLegalText}
@@ -11,13 +12,14 @@ use Rattle.counted_io.specs.declared.faults.Fault.{Fault}
 use Rattle.counted_io.specs.declared.faults.Fault.TheVariants.{Line, Memory}
 
 -- The text is a script without a fault, and these bytes are its report. They spell the history and the order of its run; the order is legal, and a check
--- of the report answers true.
+-- of the report answers true. Its lines have ended the operations that are sure to end.
 pub record IsReport (text bytes : List ℕ) : Type 0 where
   pub script : Reading
   pub read : script_of text ≡ Ok script
   pub whole : bytes ≡ report script
   pub legal : IsLegalText bytes (told_in script.limits.hash (last_state script))
   pub judged : IsVerdict bytes true
+  pub ends : EachLineEnds script
 
 -- the text's first line with a fault is this one, with this fault
 abbrev pub HasScriptFault : List ℕ → ℕ → Refusal → Type 0

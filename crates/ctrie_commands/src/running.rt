@@ -19,6 +19,7 @@ fn carried_out(alloc: Global, text: &[u8]) -> Result<String, Fault>
     ensures report { IfOk result (λ report. IsReport text.now (string_bytes report)) }
     ensures faults { IfErr result (IsOfScript text.now) }
 {
+    ending_laws::alone_it_ends();
     match read_script(alloc, text) {
         Ok(script) => Ok(report_of(alloc, &script)?),
         Err(Told::Line(number, refusal)) => Err(Fault::Line(number, refusal)),
@@ -35,7 +36,8 @@ pub fn run_script<R: Read, W: Write>(
     requires input_count { failures input.old < 2 ^ 63 }
     requires output_count { failures output.old < 2 ^ 63 }
 
-    // What the reader had is a script without a fault, and just its report was written.
+    // What the reader had is a script without a fault, and just its report was written. A `finish` or `do` has
+    // ended its operation, if its call is on one key or is a snapshot, freeze or clear, while enough steps are left.
     ensures written { OnOk result (IfSome (R.remaining (inner_of input.old)) (λ text.
         AppendsReport (W.contents (inner_of output.old)) (W.contents (inner_of output.new)) text)) }
     ensures all_read { OnOk result (IsAtEnd (R.remaining (inner_of input.new))) }

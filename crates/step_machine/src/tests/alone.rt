@@ -1,6 +1,6 @@
 //! Operations that alone take steps: how many, and a long run of them in a state made for it.
 
-ghost use Rattle.std.specs.Prelude.{◌<◌, ◌≤◌};
+ghost use Rattle.std.specs.Prelude.{◌<◌};
 
 use crate::{Limits, Machine, Step};
 use ctrie_base::{HashKind, Kind, Refusal};

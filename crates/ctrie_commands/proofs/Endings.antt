@@ -1,0 +1,171 @@
+-- Lines of a script end the operations that are sure to end.
+use Rattle.std.proofs.Common.{◌≡◌, ℕ, zero, suc, ◌+◌, Bool, true, false, cond, List, [], ◌∷◌, ◌++◌, Option, Some, None, Ok, refl, sym, ap, subst, ◌∙◌, arith}
+use Rattle.std.specs.Prelude.{replicate}
+use Rattle.std.specs.List.{AllByRecursion}
+use Rattle.std.proofs.lemmas.List.{replicate-append-replicate}
+use Rattle.std.proofs.lemmas.List.Elements.{All-nil, All-cons, All-push, All-append, All-replicate}
+use Rattle.ctrie_base.specs.declared.kinds.Kind.{Kind}
+use Rattle.ctrie_base.specs.declared.refusals.Refusal.{Refusal}
+use Rattle.history.specs.Histories.{begun}
+use Rattle.history.specs.declared.calls.Call.{Call}
+use Rattle.history.specs.declared.calls.Call.TheVariants.{Get, Put, PutIfAbsent, Replace, ReplaceIf, Remove, RemoveIf}
+use Rattle.history_text.specs.Grammar.{CallFits}
+use Rattle.machine_model.specs.declared.operations.Operation.{Operation}
+use Rattle.machine_model.specs.declared.steps.Limits.{Limits}
+use Rattle.machine_model.specs.declared.steps.Step.{Step}
+use Rattle.machine_model.specs.declared.steps.Step.TheVariants as step
+use Rattle.machine_model.specs.Going.{go_limit}
+use Rattle.machine_model.specs.Keys.{FitsKey, KeysFit}
+use Rattle.machine_model.specs.Machine.{AreLimits, begin_denial, go_denial, go_on, go_unless, next, next_kind, next_state, run, run_from, state_after}
+use Rattle.machine_model.specs.States.{State, first_state, operation_of}
+use Rattle.machine_model.proofs.Along.{run-append, run_push}
+use Rattle.machine_model.proofs.Moves.{begun_operation}
+use Rattle.lone_steps.specs.Laws.{AloneItEnds, HasEnded, RunsAlone, alone_after, most_steps_alone}
+use Rattle.step_machine.specs.Ending.{IsSure}
+use Rattle.step_machine.specs.Machines.{Taken, state_of}
+use Rattle.step_machine.proofs.Ending.{begun_runs_on, sure_behind}
+use Rattle.script_text.specs.declared.commands.Command.{Command}
+use Rattle.script_text.specs.declared.commands.Command.TheVariants.{Begin, Go, Until, Finish, Do, Sweep}
+use Rattle.script_text.specs.Grammar.{CommandFits}
+use Rattle.script_text.specs.Reading.{Reading, script_of}
+use Rattle.script_text.specs.Steps.{stops, going, doing, steps_of, after_command, all_steps}
+use Rattle.script_text.proofs.Found.{spelled}
+use Rattle.ctrie_commands.specs.Endings.{FinishEnds, DoEnds, LineEnds, EachLineEnds}
+use Rattle.ctrie_commands.proofs.Carrying.{going_stops, one_more}
+
+-- ---- keys of a script have 64 bits
+
+call_fits : (actor : ℕ) (call : Call) → CallFits call → FitsKey (step.Begin actor call)
+call_fits actor (Get h k) fits = omega (arith, fits.1)
+call_fits actor (Put h k v) fits = omega (arith, fits.1)
+call_fits actor (PutIfAbsent h k v) fits = omega (arith, fits.1)
+call_fits actor (Replace h k v) fits = omega (arith, fits.1)
+call_fits actor (ReplaceIf h k a b) fits = omega (arith, fits.1)
+call_fits actor (Remove h k) fits = omega (arith, fits.1)
+call_fits actor (RemoveIf h k v) fits = omega (arith, fits.1)
+call_fits actor call fits = omega arith
+
+going_fits : (n : ℕ) (wanted : Option Kind) (actor : ℕ) (state : State) → KeysFit (going n wanted actor state)
+unfolding going
+going_fits zero wanted actor state = All-nil FitsKey
+going_fits (suc n) wanted actor state =
+    by_test (going n wanted actor (next_state state (step.Go actor))) (going_fits n wanted actor (next_state state (step.Go actor))) (stops wanted (next_kind state actor))
+  where
+    by_test : (rest : List Step) → KeysFit rest → (b : Bool) → KeysFit (cond b [] (step.Go actor ∷ rest))
+    by_test rest fit true = All-nil FitsKey
+    by_test rest fit false = All-cons FitsKey (step.Go actor) rest tt fit
+
+doing_fits : (state : State) (actor : ℕ) (begins : Step) (denial : Option Refusal) → FitsKey begins → KeysFit (doing actor begins denial state)
+doing_fits state actor begins (Some refusal) fits = All-cons FitsKey begins [] fits (All-nil FitsKey)
+doing_fits state actor begins None fits = All-cons FitsKey begins _ fits (going_fits go_limit None actor (next_state state begins))
+
+line_fits : (state : State) (line : Command) → CommandFits line → KeysFit (steps_of state line)
+unfolding steps_of
+line_fits state (Begin actor call) fits = All-cons FitsKey (step.Begin actor call) [] (call_fits actor call fits.1) (All-nil FitsKey)
+line_fits state (Go actor times) fits = going_fits times None actor state
+line_fits state (Until actor kind) fits = going_fits go_limit (Some kind) actor state
+line_fits state (Finish actor) fits = going_fits go_limit None actor state
+line_fits state (Do actor call) fits = doing_fits state actor (step.Begin actor call) (begin_denial state actor call) (call_fits actor call fits.1)
+line_fits state (Sweep times) fits = All-replicate FitsKey times step.Sweep tt
+
+all_fit : (lines : List Command) (state : State) → AllByRecursion CommandFits lines → KeysFit (all_steps state lines)
+unfolding all_steps
+all_fit [] state fit = All-nil FitsKey
+all_fit (line ∷ more) state fit =
+    All-append FitsKey (steps_of state line) (all_steps (after_command state line) more) (line_fits state line fit.0) (all_fit more (after_command state line) fit.1)
+
+first_fit : (first rest : List Command) (line : Command) → AllByRecursion CommandFits (first ++ line ∷ rest) → AllByRecursion CommandFits first × CommandFits line
+first_fit [] rest line fit = (tt, fit.0)
+first_fit (command ∷ first) rest line fit = let more = first_fit first rest line fit.1 in ((fit.0, more.0), more.1)
+
+-- ---- steps up to the end are steps alone
+
+idle_by : (state : State) (actor : ℕ) (denial : Option Refusal) → operation_of state actor ≡ None → state_after state (go_unless state actor denial) ≡ state
+idle_by state actor None idle = ap (λ o. state_after state (go_on state actor o)) idle
+idle_by state actor (Some why) idle = refl
+
+-- where the actor runs nothing its steps change nothing
+idle_stays : (n : ℕ) (state : State) (actor : ℕ) → operation_of state actor ≡ None → run_from state (replicate n (step.Go actor)) ≡ state
+unfolding next run_from
+idle_stays zero state actor idle = refl
+idle_stays (suc n) state actor idle =
+    ap (λ s. run_from s (replicate n (step.Go actor))) (idle_by state actor (go_denial state actor) idle) ∙ idle_stays n state actor idle
+
+by_running : (n : ℕ) (state : State) (actor : ℕ) →
+    run_from (next_state state (step.Go actor)) (going n None actor (next_state state (step.Go actor))) ≡ run_from (next_state state (step.Go actor)) (replicate n (step.Go actor)) →
+    (o : Option Operation) → operation_of state actor ≡ o → run_from state (going (suc n) None actor state) ≡ run_from state (replicate (suc n) (step.Go actor))
+unfolding run_from
+by_running n state actor more None idle =
+    let stop : stops None (next_kind state actor) ≡ true = rw idle refl in
+    going_stops (suc n) None actor state stop ∙ sym (idle_stays (suc n) state actor idle)
+by_running n state actor more (Some operation) runs =
+    let goes : stops None (next_kind state actor) ≡ false = rw runs refl in
+    one_more n None actor state goes ∙ more
+
+-- where nothing is waited for, steps up to the end are as many steps of the actor
+going_alone : (n : ℕ) (state : State) (actor : ℕ) → run_from state (going n None actor state) ≡ run_from state (replicate n (step.Go actor))
+unfolding going run_from
+going_alone zero state actor = refl
+going_alone (suc n) state actor = by_running n state actor (going_alone n (next_state state (step.Go actor)) actor) (operation_of state actor) refl
+
+-- ---- it has ended
+
+module _ (law : AloneItEnds) (limits : Limits) (steps : List Step) (actor : ℕ) (operation : Operation) (facts : RunsAlone limits steps actor operation) where
+  -- the steps that go on to the end come to where it has ended
+  ended : HasEnded (run_from (run limits steps) (going go_limit None actor (run limits steps))) actor operation.id
+  ended =
+      let rest : ℕ = 12422 in
+      let last = alone_after limits steps actor most_steps_alone in
+      let has : HasEnded last actor operation.id = law limits steps actor operation facts in
+      let parts : replicate go_limit (step.Go actor) ≡ replicate most_steps_alone (step.Go actor) ++ replicate rest (step.Go actor) =
+      sym (replicate-append-replicate most_steps_alone rest (step.Go actor)) in
+      let same : run_from (run limits steps) (going go_limit None actor (run limits steps)) ≡ last =
+      going_alone go_limit (run limits steps) actor ∙ ap (run_from (run limits steps)) parts
+      ∙ run-append (run limits steps) (replicate most_steps_alone (step.Go actor)) (replicate rest (step.Go actor))
+      ∙ ap (λ s. run_from s (replicate rest (step.Go actor))) (sym (run-append (first_state limits) steps (replicate most_steps_alone (step.Go actor))))
+      ∙ idle_stays rest last actor has.idle in
+      subst (λ s. HasEnded s actor operation.id) (sym same) has
+
+-- ---- each line of a script
+
+module _ (law : AloneItEnds) (before : Taken) (sizes : AreLimits before.limits) (keys : KeysFit before.steps) where
+  finish_ends : (actor : ℕ) → FinishEnds (state_of before) actor (after_command (state_of before) (Finish actor))
+  unfolding steps_of
+  finish_ends actor operation runs sure =
+      ended law before.limits before.steps actor operation (record { limits_ok = sizes; keys_fit = keys; runs = runs; call = sure.0; left = sure.1 })
+
+  -- a begin, and the steps behind it
+  begun_ends : (actor : ℕ) (call : Call) → FitsKey (step.Begin actor call) → begin_denial (state_of before) actor call ≡ None → IsSure (state_of before) call (1 + most_steps_alone) →
+      HasEnded (run_from (state_of before) (doing actor (step.Begin actor call) None (state_of before))) actor (begun (state_of before).events)
+  unfolding run_from
+  begun_ends actor call fits d sure =
+      let begins = step.Begin actor call in
+      let operation = begun_operation (state_of before) call in
+      let behind = sure_behind before actor call d most_steps_alone sure in
+      let facts : RunsAlone before.limits (before.steps ++ begins ∷ []) actor operation = record {
+        limits_ok = sizes;
+        keys_fit = All-push FitsKey before.steps begins keys fits;
+        runs = begun_runs_on before actor call d;
+        call = behind.0;
+        left = behind.1;
+      } in
+      subst (λ s. HasEnded (run_from s (going go_limit None actor s)) actor operation.id) (run_push (first_state before.limits) before.steps begins)
+      (ended law before.limits (before.steps ++ begins ∷ []) actor operation facts)
+
+  do_ends : (actor : ℕ) (call : Call) → FitsKey (step.Begin actor call) → DoEnds (state_of before) actor call (after_command (state_of before) (Do actor call))
+  unfolding steps_of
+  do_ends actor call fits d sure =
+      subst (λ denial. HasEnded (run_from (state_of before) (doing actor (step.Begin actor call) denial (state_of before))) actor (begun (state_of before).events)) (sym d)
+      (begun_ends actor call fits d sure)
+
+  line_ends : (line : Command) → CommandFits line → LineEnds (state_of before) line
+  line_ends (Finish actor) fits = finish_ends actor
+  line_ends (Do actor call) fits = do_ends actor call (call_fits actor call fits.1)
+  line_ends other fits = tt
+
+pub each_line_ends : AloneItEnds → (text : List ℕ) (script : Reading) → script_of text ≡ Ok script → EachLineEnds script
+each_line_ends law text script is first rest line parts =
+    let spelling = spelled text script is in
+    let fit = first_fit first rest line (subst (AllByRecursion CommandFits) parts spelling.2) in
+    let before : Taken = record { limits = script.limits; steps = all_steps (first_state script.limits) first } in
+    line_ends law before spelling.1 (all_fit first (first_state script.limits) fit.0) line fit.1

@@ -1,0 +1,34 @@
+-- Lines of a script that are sure to end an operation.
+use Rattle.std.specs.Prelude.{◌≡◌, ℕ, ◌+◌, List, ◌∷◌, ◌++◌, Some, None}
+use Rattle.history.specs.Histories.{begun}
+use Rattle.history.specs.declared.calls.Call.{Call}
+use Rattle.machine_model.specs.declared.operations.Operation.{Operation}
+use Rattle.machine_model.specs.Machine.{begin_denial}
+use Rattle.machine_model.specs.States.{State, operation_of}
+use Rattle.lone_steps.specs.Laws.{HasEnded, most_steps_alone}
+use Rattle.step_machine.specs.Ending.{IsSure}
+use Rattle.script_text.specs.declared.commands.Command.{Command}
+use Rattle.script_text.specs.declared.commands.Command.TheVariants.{Finish, Do}
+use Rattle.script_text.specs.Reading.{Reading}
+use Rattle.script_text.specs.Steps.{after_command}
+use Rattle.ctrie_commands.specs.Reports.{last_state}
+
+-- `finish` has ended the operation that the actor ran, if its call is sure to end
+abbrev pub FinishEnds : State → ℕ → State → Type 0
+FinishEnds before actor after =
+    (operation : Operation) → operation_of before actor ≡ Some operation → IsSure before operation.call most_steps_alone → HasEnded after actor operation.id
+
+-- `do` has ended the operation that it began, if its call is sure to end
+abbrev pub DoEnds : State → ℕ → Call → State → Type 0
+DoEnds before actor call after = begin_denial before actor call ≡ None → IsSure before call (1 + most_steps_alone) → HasEnded after actor (begun before.events)
+
+-- a line that goes on until an operation has ended has ended it
+abbrev pub LineEnds : State → Command → Type 0
+LineEnds before (Finish actor) = FinishEnds before actor (after_command before (Finish actor))
+LineEnds before (Do actor call) = DoEnds before actor call (after_command before (Do actor call))
+LineEnds before other = Unit {0}
+
+-- so has each line of the script, behind the lines before it
+abbrev pub EachLineEnds : Reading → Type 0
+EachLineEnds script =
+    (first rest : List Command) (line : Command) → script.commands ≡ first ++ line ∷ rest → LineEnds (last_state (record script { commands = first })) line
