@@ -1,6 +1,7 @@
 //! Checks of histories and runs of scripts by their bytes, and what is told of readers and writers that
 //! fail.
 
+mod endings;
 mod rows;
 mod scripts;
 mod threads;

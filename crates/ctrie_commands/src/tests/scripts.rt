@@ -6,11 +6,13 @@ mod overlapping;
 mod refused;
 mod starved;
 
+pub use halted::CASES as HALTED;
+
 /// By what they are about.
 pub static GROUPS: [&str; 5] = [
     alone::CASES,
     starved::CASES,
     overlapping::CASES,
-    halted::CASES,
+    HALTED,
     refused::CASES,
 ];
