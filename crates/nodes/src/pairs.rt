@@ -9,9 +9,9 @@ use crate::levels::{flag_of, index_in, list_depth};
 use ctrie_base::HashKind;
 use slot_arena::{Node, Ref};
 
-/// Their main node at the depth where they part: a branch, and below all levels a list, the older one
+/// The main node of both, at the depth where they part: a branch, and below all levels a list, the older one
 /// first.
-pub fn pair(kind: HashKind, depth: usize, old_hash: u64, hash: u64, old: Ref, single: Ref) -> Node
+pub fn dual(kind: HashKind, depth: usize, old_hash: u64, hash: u64, old: Ref, single: Ref) -> Node
     requires { depth ≤ list_depth kind }
     ensures { result ≡ pair kind depth old_hash hash old single }
 {

@@ -1,8 +1,8 @@
 //! Nodes against values written by hand.
 
 use crate::{
-    compressed, contracted, flag_of, has_flag, has_room, index_in, inserted, list_depth,
-    list_inserted, list_removed, list_updated, pair, parting, position_of, removed, renewed, rung,
+    compressed, contracted, dual, flag_of, has_flag, has_room, index_in, inserted, list_depth,
+    list_inserted, list_removed, list_updated, parting, position_of, removed, renewed, rung,
     updated,
 };
 use ctrie_base::HashKind;
@@ -95,18 +95,18 @@ fn parts_paths(rt: HostRuntime) {
     assert_eq!(rt; parting(HashKind::Wide, 5, 5, 1), 13);
     assert!(rt;
         is_branch(
-            &pair(HashKind::Low, 1, 33, 1, a, b),
+            &dual(HashKind::Low, 1, 33, 1, a, b),
             0b11,
             [b, a].as_slice()
         ),
         "by index"
     );
     assert!(rt;
-        is_list(&pair(HashKind::Low, 7, 5, 5, b, a), [b, a].as_slice()),
+        is_list(&dual(HashKind::Low, 7, 5, 5, b, a), [b, a].as_slice()),
         "the older one first"
     );
     assert!(rt;
-        is_list(&pair(HashKind::Wide, 13, 5, 5, b, a), [b, a].as_slice()),
+        is_list(&dual(HashKind::Wide, 13, 5, 5, b, a), [b, a].as_slice()),
         "of 64 bits"
     );
     assert!(rt; is_branch(&rung(64, 1, c), 0b100, [c].as_slice()), "rung");
