@@ -19,17 +19,17 @@ use Rattle.ctrie_commands.specs.Reports.{line, hash_text, denied_text, denied_li
 use Rattle.ctrie_commands.specs.Threads.{all_denied, thread_report}
 use Rattle.ctrie_commands.proofs.Spelled.{denied_words, slots_words, denied_none, slots_none}
 
-one_line : (l rest : List ℕ) → HasNoFeed l → length (lines_of (line l ++ rest)) ≡ suc (length (lines_of rest))
+pub one_line : (l rest : List ℕ) → HasNoFeed l → length (lines_of (line l ++ rest)) ≡ suc (length (lines_of rest))
 one_line l rest none = ap (λ t. length (lines_of t)) (append_assoc l (10 ∷ []) rest) ∙ ap length (first_line l rest none)
 
-each_event : (events : List Event) (rest : List ℕ) → length (lines_of (event_lines events ++ rest)) ≡ length events + length (lines_of rest)
+pub each_event : (events : List Event) (rest : List ℕ) → length (lines_of (event_lines events ++ rest)) ≡ length events + length (lines_of rest)
 each_event [] rest = omega arith
 each_event (event ∷ events) rest =
     let first = line (event_text event) in
     let parts = ap (λ t. t ++ rest) (flat_map-cons (λ e. line (event_text e)) event events) ∙ append_assoc first (event_lines events) rest in
     omega (arith, ap (λ t. length (lines_of t)) parts, one_line (event_text event) (event_lines events ++ rest) (event_line_none event), each_event events rest)
 
-denied_line_none : (actor : ℕ) (refusal : Refusal) → HasNoFeed (denied_text actor refusal)
+pub denied_line_none : (actor : ℕ) (refusal : Refusal) → HasNoFeed (denied_text actor refusal)
 denied_line_none actor refusal = no_feed_append (codes "denied ") (spaced (denied_words actor refusal)) (no_feed (codes "denied ") refl) (denied_none actor refusal)
 
 slots_line_none : (used free limbo : ℕ) → HasNoFeed (slots_text used free limbo)
@@ -50,7 +50,7 @@ denials_counted actor (denied ∷ more) rest =
     let parts = append_assoc (denied_lines actor denied) (all_denied (actor + 1) more) rest in
     omega (arith, ap (λ t. length (lines_of t)) parts, each_denial actor denied (all_denied (actor + 1) more ++ rest), denials_counted (actor + 1) more rest, sum_by-cons (λ (d : List Refusal). length d) denied more)
 
-last_counted : (state : State) → length (lines_of (last_lines state)) ≡ 2
+pub last_counted : (state : State) → length (lines_of (last_lines state)) ≡ 2
 last_counted state =
     let slots = slots_text (length (in_use state.heap)) (length state.heap.free) (length state.limbo) in
     let last : length (lines_of (line slots)) ≡ 1 =

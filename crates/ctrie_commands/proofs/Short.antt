@@ -1,32 +1,25 @@
 -- The report of a script's run is never too long to be read: a script has at most 100,000 lines, and each tells two at most.
-use Rattle.std.proofs.Common.{◌≡◌, ℕ, suc, ◌+◌, ◌*◌, ◌≤◌, Bool, true, false, cond, List, [], ◌∷◌, ◌++◌, length, Option, Some, None, Result, Ok, Err, refl, sym, ap, ◌∙◌, append_assoc, append-nil, arith}
-use Rattle.std.specs.Prelude.{nat_lt, codes, map, not, filter}
+use Rattle.std.proofs.Common.{◌≡◌, ℕ, ◌+◌, ◌*◌, ◌≤◌, Bool, true, false, cond, List, [], ◌∷◌, ◌++◌, length, Option, Some, None, Result, Ok, Err, refl, ap, ◌∙◌, append_assoc, arith}
+use Rattle.std.specs.Prelude.{nat_lt, map, not, filter}
 use Rattle.std.proofs.lemmas.List.{length-drop, length-append, length-map}
-use Rattle.std.proofs.lemmas.List.Concat.{flat_map-cons}
 use borrow.Author.Tests.{ltb-false}
 use Rattle.ctrie_base.specs.declared.refusals.Refusal.{Refusal}
 use Rattle.ctrie_base.specs.declared.refusals.Refusal.TheVariants.{TooLong}
-use Rattle.history.specs.declared.events.Event.{Event}
 use Rattle.text_lines.specs.Texts.{lines_of, said_lines, is_ignored, HasLines}
 use Rattle.text_lines.specs.Reading.{Format, line_after, read_lines, at_line, text_of}
 use Rattle.text_lines.specs.Words.{spaced, words_of}
 use Rattle.text_lines.proofs.Parts.{bind_ok}
-use Rattle.text_lines.proofs.FirstLine.{no_lines}
-use Rattle.history_text.specs.Texts.{event_text, order_text}
 use Rattle.history_text.specs.Grammar.{IsShort}
-use Rattle.history_text.proofs.Feeds.{HasNoFeed, no_feed, no_feed_append, first_line, event_line_none, order_line_none}
 use Rattle.history_text.proofs.Spelled.{hash_none}
-use Rattle.slot_arena.specs.Heaps.{in_use}
 use Rattle.machine_model.specs.States.{State, first_state}
-use Rattle.machine_model.specs.Orders.{order_of}
 use Rattle.script_text.specs.declared.commands.Command.{Command}
 use Rattle.script_text.specs.Reading.{Reading, script_format, script_of}
 use Rattle.script_text.specs.Grammar.{command_words, header_words}
 use Rattle.script_text.specs.Steps.{denial_of, after_command}
 use Rattle.script_text.proofs.Found.{spelled}
-use Rattle.ctrie_commands.specs.Reports.{line, hash_text, denied_text, slots_text, event_lines, actor_of, told_by, added_events, told, all_told, last_lines, last_state, report}
+use Rattle.ctrie_commands.specs.Reports.{hash_text, denied_text, actor_of, told_by, added_events, told, all_told, last_lines, last_state, report}
 use Rattle.ctrie_commands.proofs.Adding.{line_adds}
-use Rattle.ctrie_commands.proofs.Spelled.{denied_words, slots_words, denied_none, slots_none}
+use Rattle.ctrie_commands.proofs.LineCounts.{one_line, each_event, denied_line_none, last_counted}
 
 -- ---- a text that is read isn't too long
 
@@ -83,22 +76,6 @@ few_commands text script e =
 
 -- ---- the lines of its report
 
-one_line : (l rest : List ℕ) → HasNoFeed l → length (lines_of (line l ++ rest)) ≡ suc (length (lines_of rest))
-one_line l rest none = ap (λ t. length (lines_of t)) (append_assoc l (10 ∷ []) rest) ∙ ap length (first_line l rest none)
-
-each_event : (events : List Event) (rest : List ℕ) → length (lines_of (event_lines events ++ rest)) ≡ length events + length (lines_of rest)
-each_event [] rest = omega arith
-each_event (event ∷ events) rest =
-    let first = line (event_text event) in
-    let parts = ap (λ t. t ++ rest) (flat_map-cons (λ e. line (event_text e)) event events) ∙ append_assoc first (event_lines events) rest in
-    omega (arith, ap (λ t. length (lines_of t)) parts, one_line (event_text event) (event_lines events ++ rest) (event_line_none event), each_event events rest)
-
-denied_line_none : (actor : ℕ) (refusal : Refusal) → HasNoFeed (denied_text actor refusal)
-denied_line_none actor refusal = no_feed_append (codes "denied ") (spaced (denied_words actor refusal)) (no_feed (codes "denied ") refl) (denied_none actor refusal)
-
-slots_line_none : (used free limbo : ℕ) → HasNoFeed (slots_text used free limbo)
-slots_line_none used free limbo = no_feed_append (codes "slots ") (spaced (slots_words used free limbo)) (no_feed (codes "slots ") refl) (slots_none used free limbo)
-
 by_denial : (state : State) (command : Command) (denial : Option Refusal) (rest : List ℕ) →
     length (lines_of (told_by denial (actor_of command) (added_events state command) ++ rest)) ≤ 2 + length (lines_of rest)
 by_denial state command None rest =
@@ -113,13 +90,6 @@ all_counted (command ∷ more) state rest =
     let after = after_command state command in
     let parts = append_assoc (told state command) (all_told after more) rest in
     omega (arith, ap (λ t. length (lines_of t)) parts, by_denial state command (denial_of state command) (all_told after more ++ rest), all_counted more after rest)
-
-last_counted : (state : State) → length (lines_of (last_lines state)) ≡ 2
-last_counted state =
-    let slots = slots_text (length (in_use state.heap)) (length state.heap.free) (length state.limbo) in
-    let last : length (lines_of (line slots)) ≡ 1 =
-    ap (λ t. length (lines_of t)) (sym (append-nil (line slots))) ∙ one_line slots [] (slots_line_none (length (in_use state.heap)) (length state.heap.free) (length state.limbo)) ∙ ap suc (ap length no_lines) in
-    one_line (order_text (order_of state)) (line slots) (order_line_none (order_of state)) ∙ ap suc last
 
 report_counted : (script : Reading) → length (lines_of (report script)) ≤ 2 * length script.commands + 3
 unfolding report
