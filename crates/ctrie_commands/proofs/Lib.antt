@@ -4,6 +4,7 @@ pub mod Telling
 pub mod Advancing
 pub mod Gathering
 pub mod Ranks
+pub mod Grouping
 pub mod Reported
 pub mod Growing
 pub mod Spelled

@@ -1,13 +1,12 @@
 -- The workers of a script's threads: the one at the place k is that of actor k + 1.
-use Rattle.std.proofs.Common.{◌≡◌, ℕ, zero, suc, ◌+◌, ◌<◌, List, [], ◌∷◌, ◌++◌, map, length, refl, sym, ap, ◌∙◌, arith}
-use Rattle.std.specs.Prelude.{Result, Ok, Some, slice_get, All, sum_by, option_map}
-use Rattle.std.specs.List.{flat_map}
-use Rattle.std.specs.declared.alloc.AllocError.{AllocError}
+use Rattle.std.proofs.Common.{◌≡◌, ℕ, zero, suc, ◌+◌, ◌<◌, List, [], ◌∷◌, ◌++◌, map, length, refl, ap, ◌∙◌, arith}
+use Rattle.std.specs.Prelude.{Some, slice_get, All, sum_by, option_map}
+use Rattle.std.specs.List.{flat_map, AllZip}
 use Rattle.std.proofs.lemmas.List.Concat.{flat_map-cons}
 use Rattle.std.proofs.lemmas.List.Sums.{sum_by-cons}
 use Rattle.std.proofs.lemmas.List.Elements.{All-nil, All-cons, All-same}
-use Rattle.std.proofs.lemmas.List.{length-map}
 use Rattle.std.proofs.lemmas.Option.{none-some, same_Some, slice_get-map, slice_get_within}
+use Rattle.std.proofs.lemmas.Slice.Zip.{AllZip-long, AllZip-left}
 use Rattle.machine_model.specs.declared.steps.Limits.{Limits}
 use Rattle.atomic_table.specs.Seated.{TableId}
 use Rattle.lock_runner.specs.Seats.{Room, Seated}
@@ -15,7 +14,7 @@ use Rattle.lock_runner.specs.Opening.{fresh_seat, fresh_seats, IsMade}
 use Rattle.thread_script.specs.Reading.{Reading}
 use Rattle.ctrie_commands.specs.declared.working.Worker.{Worker}
 use Rattle.ctrie_commands.specs.Reports.{denied_lines}
-use Rattle.ctrie_commands.specs.Working.{IsUnused, HasPerformedAll, HasSweptAll, HasWorked, HaveWorked, AreGathered}
+use Rattle.ctrie_commands.specs.Working.{IsUnused, HasPerformedAll, HasSweptAll, HasWorked, HaveWorked}
 use Rattle.ctrie_commands.specs.Threads.{all_denied}
 
 -- the worker of actor k + 1
@@ -59,6 +58,9 @@ from_map f (x ∷ xs) (suc k) y e = from_map f xs k y e
 pub to_map : {A B : Type 0} (f : A → B) (xs : List A) (k : ℕ) (x : A) → slice_get xs k ≡ Some x → slice_get (map f xs) k ≡ Some (f x)
 to_map f xs k x e = slice_get-map f xs k ∙ ap (option_map f) e
 
+zip_at : {A B : Type 0} (R : A → B → Type 0) (xs : List A) (ys : List B) (k : ℕ) (x : A) (y : B) → AllZip R xs ys → slice_get xs k ≡ Some x → slice_get ys k ≡ Some y → R x y
+zip_at R xs ys k x y all e f = rw f at (rw e at (AllZip-left R xs ys all k))
+
 ranked_one : (script : Reading) (id : TableId) (limits : Limits) (k : ℕ) (worker : Worker) → HasWorked script (fresh_seat id limits (k + 1)) worker → IsWorkerOf script id k worker
 ranked_one script id limits k worker worked = record {
   runner = worked.runner;
@@ -67,19 +69,17 @@ ranked_one script id limits k worker worked = record {
   sweeps = λ last. worked.sweeps (omega arith);
 }
 
-pub ranked : (script : Reading) (limits : Limits) (runner : Room) (seats after : List Seated) (results : List (Result Worker AllocError)) (text : List ℕ) →
-    IsMade limits (script.limits.actors + 1) runner seats → HaveWorked script seats results → (gathered : AreGathered results after text) → AreRanked script runner.id gathered.workers
-ranked script limits runner seats after results text made worked gathered =
+pub ranked : (script : Reading) (limits : Limits) (runner : Room) (seats : List Seated) (workers : List Worker) → IsMade limits (script.limits.actors + 1) runner seats →
+    HaveWorked script seats workers → AreRanked script runner.id workers
+ranked script limits runner seats workers made worked =
     let n : ℕ = script.limits.actors + 1 in
-    let number : length gathered.workers ≡ n =
-    sym (length-map gathered.workers Ok) ∙ ap (λ rs. length rs) (sym gathered.all) ∙ worked.number ∙ ap (λ ss. length ss) made.fresh ∙ fresh_number runner.id limits 1 n in
+    let number : length workers ≡ n = AllZip-long (HasWorked script) seats workers worked ∙ ap (λ ss. length ss) made.fresh ∙ fresh_number runner.id limits 1 n in
     record {
       number = number;
       each = λ k worker at.
-          let below : k < n = omega (arith, slice_get_within gathered.workers k worker at, number) in
+          let below : k < n = omega (arith, slice_get_within workers k worker at, number) in
           let seat : slice_get seats k ≡ Some (fresh_seat runner.id limits (k + 1)) = ap (λ ss. slice_get ss k) made.fresh ∙ fresh_at runner.id limits 1 n k below in
-          let result : slice_get results k ≡ Some (Ok worker) = ap (λ rs. slice_get rs k) gathered.all ∙ to_map Ok gathered.workers k worker at in
-          ranked_one script runner.id limits k worker (worked.each k _ worker seat result);
+          ranked_one script runner.id limits k worker (zip_at (HasWorked script) seats workers k _ worker worked seat at);
     }
 
 -- ---- the lines of their denials, and their steps of the sweep

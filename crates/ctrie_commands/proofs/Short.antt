@@ -1,5 +1,5 @@
 -- The report of a script's run is never too long to be read: a script has at most 100,000 lines, and each tells two at most.
-use Rattle.std.proofs.Common.{◌≡◌, ℕ, ◌+◌, ◌*◌, ◌≤◌, Bool, true, false, cond, List, [], ◌∷◌, ◌++◌, length, Option, Some, None, Result, Ok, Err, refl, ap, ◌∙◌, append_assoc, arith}
+use Rattle.std.proofs.Common.{◌≡◌, ℕ, ◌+◌, ◌*◌, ◌≤◌, Bool, true, false, cond, List, [], ◌∷◌, ◌++◌, length, Option, Some, None, Result, Ok, Err, refl, ap, append_assoc, arith}
 use Rattle.std.specs.Prelude.{nat_lt, map, not, filter}
 use Rattle.std.proofs.lemmas.List.{length-drop, length-append, length-map}
 use borrow.Author.Tests.{ltb-false}

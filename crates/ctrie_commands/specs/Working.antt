@@ -1,7 +1,8 @@
 -- What a thread does with the lines of a script that are its actor's.
 use Rattle.std.specs.Prelude.{◌≡◌, ℕ, ◌+◌, ◌<◌, ◌≤◌, ◌==◌, ◌⊎◌, Bool, true, false, List, [], ◌∷◌, ◌++◌, map, length, slice_get, Some, Result, Ok, sum_by, count_by, if◌then◌else◌}
-use Rattle.std.specs.List.{flat_map}
+use Rattle.std.specs.List.{flat_map, AllZip}
 use Rattle.std.specs.declared.alloc.AllocError.{AllocError}
+use Rattle.std.specs.Global.{Vec}
 use Rattle.ctrie_base.specs.declared.refusals.Refusal.{Refusal}
 use Rattle.history.specs.declared.calls.Call.{Call}
 use Rattle.actor_history.specs.declared.accounts.Answer.{Answer}
@@ -103,14 +104,29 @@ pub record HasWorked (script : Reading) (seat : Seated) (worker : Worker) : Type
   pub calls : seat.actor ≤ script.limits.actors → HasPerformedAll seat.actor script.lines worker × (worker.seat.sweeps ≡ 0)
   pub sweeps : script.limits.actors < seat.actor → HasSweptAll script.lines worker × (worker.seat.answers ≡ [])
 
--- one thread for each seat, which has done so unless a growth was refused
-pub record HaveWorked (script : Reading) (seats : List Seated) (results : List (Result Worker AllocError)) : Type 0 where
-  pub number : length results ≡ length seats
-  pub each : (k : ℕ) (seat : Seated) (worker : Worker) → slice_get seats k ≡ Some seat → slice_get results k ≡ Some (Ok worker) → HasWorked script seat worker
+-- what was done with each of these seats, in their order
+abbrev pub HaveWorked : Reading → List Seated → List Worker → Type 0
+HaveWorked script seats workers = AllZip (HasWorked script) seats workers
 
--- all of them have, and these are their seats and the lines of their denials
-pub record AreGathered (results : List (Result Worker AllocError)) (seats : List Seated) (denied : List ℕ) : Type 0 where
-  pub workers : List Worker
-  pub all : results ≡ map Ok workers
+-- ---- all threads
+
+-- the seats of all groups, in their order
+abbrev pub all_seats : List (Vec Seated) → List Seated
+all_seats groups = flat_map (λ group. group.items) groups
+
+-- one thread for each group, which has done so with its seats unless a growth was refused
+pub record GroupsHaveWorked (script : Reading) (groups : List (Vec Seated)) (results : List (Result (Vec Worker) AllocError)) : Type 0 where
+  pub number : length results ≡ length groups
+  pub each : (k : ℕ) (group : Vec Seated) (workers : Vec Worker) → slice_get groups k ≡ Some group → slice_get results k ≡ Some (Ok workers) →
+      HaveWorked script group.items workers.items
+
+-- all of them have, and these are their workers, in their order
+pub record AreJoined (results : List (Result (Vec Worker) AllocError)) (workers : List Worker) : Type 0 where
+  pub groups : List (Vec Worker)
+  pub all : results ≡ map Ok groups
+  pub workers_are : workers ≡ flat_map (λ group. group.items) groups
+
+-- the workers' seats, and the lines of their denials
+pub record AreGathered (workers : List Worker) (seats : List Seated) (denied : List ℕ) : Type 0 where
   pub seats_are : seats ≡ map (λ worker. worker.seat) workers
   pub denied_are : denied ≡ flat_map (λ worker. denied_lines worker.seat.actor worker.denied.items) workers

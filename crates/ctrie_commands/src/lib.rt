@@ -3,6 +3,7 @@
 #![tactic(auto)]
 
 mod checking;
+mod groups;
 mod reports;
 mod running;
 mod stepping;

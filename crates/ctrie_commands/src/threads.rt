@@ -1,16 +1,17 @@
 //! Carrying out a script for threads.
 
-ghost use Rattle.std.specs.Prelude.{◌≡◌, ◌≢◌, ◌<◌, ◌≤◌, ◌+◌, ◌^◌, ℕ, All, IfOk, OnOk, IfErr, IfSome, Err};
+ghost use Rattle.std.specs.Prelude.{◌≡◌, ◌≢◌, ◌<◌, ◌≤◌, ◌+◌, ◌^◌, ℕ, IfOk, OnOk, IfErr, IfSome, Err};
 ghost use Rattle.std.specs.Io.KnownBytes.{Keeps, IsAtEnd};
 ghost use Rattle.std.specs.String.{string_bytes};
 ghost use Rattle.counted_io.specs.Counts.{inner_of, failures};
-ghost use Rattle.lock_runner.specs.Seats.{IsSeatOf, AreSeatsOf};
+ghost use Rattle.lock_runner.specs.Seats.{AreSeatsOf};
 ghost use Rattle.lock_runner.specs.Opening.{IsMade};
 ghost use Rattle.thread_script.specs.Views.{read};
 ghost use Rattle.ctrie_commands.specs.Legality.{AppendsJudged};
-ghost use Rattle.ctrie_commands.specs.Working.{IsUnused, HasWorked, HaveWorked, AreGathered};
+ghost use Rattle.ctrie_commands.specs.Working.{AreGathered};
 ghost use Rattle.ctrie_commands.specs.Threads.{with_sweeper, IsReportOf, IsThreadReport, HasThreadFault, AppendsThreadReport, AppendsThreadReportPart, IsOfThreadScript};
 
+use crate::groups::work_all;
 use crate::reports::{report_of_record, tell_denied};
 use crate::working::Worker;
 use counted_io::{Counted, Fault, read_all, write_all};
@@ -20,36 +21,8 @@ use machine_model::Limits;
 use std::alloc::{AllocError, Global};
 use std::io::{Read, Write};
 use std::sync::Wait;
-use std::thread;
 use std::thread::Threads;
 use thread_script::{ThreadScript, read_thread_script};
-
-/// What one thread does: the calls that the lines name for the seat's actor, or for the last actor the steps
-/// of the sweep.
-fn work<R: Wait, B: Between>(
-    rt: &R,
-    alloc: Global,
-    runner: &Runner,
-    script: &ThreadScript,
-    between: &B,
-    seat: Seat,
-) -> Result<Worker, AllocError>
-    requires seat { IsSeatOf runner.now seat }
-    requires unused { IsUnused seat }
-    ensures { IfOk result (HasWorked (read script.now) seat) }
-{
-    let performs = seat.actor() <= script.limits.actors;
-    let mut worker = Worker {
-        seat,
-        denied: Vec::new(alloc),
-    };
-    if performs {
-        worker.perform_lines(rt, runner, &script.lines, between)?;
-    } else {
-        worker.sweep_lines(rt, runner, &script.lines)?;
-    }
-    Ok(worker)
-}
 
 /// A runner with a seat for each of the actors, and one more for the sweep.
 fn runner_of(alloc: Global, limits: Limits) -> Result<(Runner, Vec<Seat>), Fault>
@@ -66,37 +39,13 @@ fn runner_of(alloc: Global, limits: Limits) -> Result<(Runner, Vec<Seat>), Fault
     }
 }
 
-/// Each seat's thread carries out the lines that are its actor's. Where no thread can be made, the caller does.
-fn work_all<R: Threads + Wait + Sync, B: Between + Sync>(
-    rt: &R,
-    alloc: Global,
-    runner: &Runner,
-    script: &ThreadScript,
-    between: &B,
-    seats: Vec<Seat>,
-) -> Result<Vec<Result<Worker, AllocError>>, AllocError>
-    requires seats { AreSeatsOf runner.now seats.items }
-    requires unused { All IsUnused seats.items }
-    ensures { IfOk result (λ results. HaveWorked (read script.now) seats.items results.items) }
-{
-    thread::map_vec(
-        rt,
-        seats,
-        &|seat: Seat| work(rt, alloc, runner, script, between, seat),
-    )
-}
-
-/// The seats, and the lines of their denials; unless a growth was refused to one.
-fn gathered(
-    alloc: Global,
-    results: Vec<Result<Worker, AllocError>>,
-) -> Result<(Vec<Seat>, String), AllocError>
-    ensures { IfOk result (λ got. AreGathered results.items got.0.items (string_bytes got.1)) }
+/// The seats, and the lines of their denials.
+fn gathered(alloc: Global, workers: Vec<Worker>) -> Result<(Vec<Seat>, String), AllocError>
+    ensures { IfOk result (λ got. AreGathered workers.items got.0.items (string_bytes got.1)) }
 {
     let mut seats = Vec::new(alloc);
     let mut denied = String::new(alloc);
-    for result in results {
-        let worker = result?;
+    for worker in workers {
         tell_denied(&mut denied, worker.seat.actor(), &worker.denied)?;
         seats.push(worker.seat)?;
     }
@@ -114,8 +63,8 @@ fn reported<R: Threads + Wait + Sync, B: Between + Sync>(
     ensures memory { IfErr result (λ fault. fault ≡ Fault.Memory) }
 {
     let (runner, seats) = runner_of(alloc, script.limits)?;
-    let results = work_all(rt, alloc, &runner, script, between, seats)?;
-    let (seats, denied) = gathered(alloc, results)?;
+    let workers = work_all(rt, alloc, &runner, script, between, seats)?;
+    let (seats, denied) = gathered(alloc, workers)?;
     match runner.finish(seats) {
         Ok(record) => Ok(report_of_record(alloc, &record, denied.as_str())?),
         Err(Unfinished::Memory(_)) => Err(Fault::Memory),
@@ -143,9 +92,9 @@ fn carried_out<R: Threads + Wait + Sync, B: Between + Sync>(
 
 /// Reads a script for threads to its end, carries it out, and writes the report of what came of it.
 ///
-/// Each actor is a thread that performs the calls of its lines in their order, and one actor more takes the
-/// steps of the sweep. Where a thread can't be made, the caller does what it had to do. `between` is called
-/// between two steps of a call.
+/// Each actor that has lines is a thread that performs their calls in their order, and one actor more takes
+/// the steps of the sweep. Where a thread can't be made, the caller does what it had to do. `between` is
+/// called between two steps of a call.
 pub fn run_threads<R: Threads + Wait + Sync, I: Read, W: Write, B: Between + Sync>(
     rt: &R,
     alloc: Global,

@@ -106,8 +106,8 @@ fn two_lines_meet(rt: HostRuntime) -> Result<(), Fail> {
     Ok(())
 }
 
-/// Scripts of one actor, whose report is settled.
-const SETTLED: [(&str, &str); 3] = [
+/// Scripts of which one actor's calls alone are answered, so that the report is settled.
+const SETTLED: [(&str, &str); 4] = [
     (
         "slots 64\nhash low\nactors 1\ndo 1 get 0 5\ndo 1 put 0 5 50\ndo 1 get 0 5\ndo 1 put 0 5 51\ndo 1 remove 0 5\ndo 1 remove 0 5\n",
         "hash low\nbegin 0 1 get 0 5\nend 0 none\nbegin 1 1 put 0 5 50\nend 1 none\nbegin 2 1 get 0 5\nend 2 some 50\nbegin 3 1 put 0 5 51\nend 3 some 50\nbegin 4 1 remove 0 5\nend 4 some 51\nbegin 5 1 remove 0 5\nend 5 none\norder 0 1 2 3 4 5\nslots used 7 free 57 limbo 3\n",
@@ -119,6 +119,10 @@ const SETTLED: [(&str, &str); 3] = [
     (
         "slots 64\nhash low\nactors 3\ndo 2 get 1 5\ndo 2 put 0 5 50\ndo 2 count 0\n",
         "hash low\nbegin 0 2 put 0 5 50\nend 0 none\ndenied 2 1 NoHandle\ndenied 2 3 NotReadOnly\norder 0\nslots used 4 free 60 limbo 1\n",
+    ),
+    (
+        "slots 64\nhash low\nactors 63\ndo 40 get 1 5\ndo 7 count 0\ndo 40 put 0 5 50\n",
+        "hash low\nbegin 0 40 put 0 5 50\nend 0 none\ndenied 7 3 NotReadOnly\ndenied 40 1 NoHandle\norder 0\nslots used 4 free 60 limbo 1\n",
     ),
 ];
 
