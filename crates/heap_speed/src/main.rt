@@ -7,6 +7,8 @@
 //! that they were.
 #![tactic(auto)]
 
+ghost use Rattle.slot_arena.specs.Arenas.{AreLive};
+
 mod arenas;
 mod builders;
 mod heaps;
@@ -17,6 +19,8 @@ use crate::builders::branches;
 use crate::heaps::{hold_and_release, look, new_heap, settle, swap};
 use crate::placing::places;
 use ctrie_base::Refusal;
+use epochs::Heap;
+use slot_arena::Ref;
 use std::alloc::Global;
 use std::env;
 use std::process::ExitCode;
@@ -38,27 +42,23 @@ fn each<C: Clock>(rt: &C, start: Instant, count: u32) -> u128 {
     start.elapsed(rt).map_or(0, |time| time.as_nanos()) / u128::from(count.max(1))
 }
 
-/// Writes how long each of so many took.
-fn tell<R: Clock + Print>(rt: &R, what: &str, start: Instant, count: u32) {
-    let nanos = each(rt, start, count);
-    let _ = println!(rt; "{what}: {nanos} ns");
+/// Writes how long each of so many took, where the clock told the start.
+fn tell<R: Clock + Print>(rt: &R, what: &str, start: Option<Instant>, count: u32) {
+    if let Some(start) = start {
+        let nanos = each(rt, start, count);
+        let _ = println!(rt; "{what}: {nanos} ns");
+    }
 }
 
 /// The figures of builders and places.
 fn measure_parts<R: Clock + Print + AllocGlobal>(rt: &R, load: Load) -> Result<(), Refusal> {
-    let Ok(start) = Instant::now(rt) else {
-        return Ok(());
-    };
+    let start = Instant::now(rt).ok();
     let sum = branches(load.count);
     tell(rt, "a changed branch", start, load.count);
-    let Ok(start) = Instant::now(rt) else {
-        return Ok(());
-    };
+    let start = Instant::now(rt).ok();
     let places = places(rt.alloc(), load.count, load.every)?;
     tell(rt, "a place", start, load.count);
-    let Ok(start) = Instant::now(rt) else {
-        return Ok(());
-    };
+    let start = Instant::now(rt).ok();
     let order = places.order()?;
     tell(rt, "a place in the order", start, load.count);
     let _ = println!(rt; "({sum}, {})", order.len());
@@ -68,9 +68,7 @@ fn measure_parts<R: Clock + Print + AllocGlobal>(rt: &R, load: Load) -> Result<(
 /// The figures of the arena.
 fn measure_arena<R: Clock + Print + AllocGlobal>(rt: &R, load: Load) -> Result<(), Refusal> {
     let (mut arena, refs) = new_arena(rt.alloc(), load.slots)?;
-    let Ok(start) = Instant::now(rt) else {
-        return Ok(());
-    };
+    let start = Instant::now(rt).ok();
     let made = make_and_free(&mut arena, refs.as_slice(), load.count);
     tell(rt, "a branch made and freed", start, load.count);
     let _ = println!(rt; "({made})");
@@ -80,34 +78,39 @@ fn measure_arena<R: Clock + Print + AllocGlobal>(rt: &R, load: Load) -> Result<(
 /// The figures of the heap.
 fn measure_heap<R: Clock + Print + AllocGlobal>(rt: &R, load: Load) -> Result<(), Refusal> {
     let (mut heap, refs) = new_heap(rt.alloc(), load.slots)?;
-    let Ok(start) = Instant::now(rt) else {
-        return Ok(());
-    };
-    let few = &refs.as_slice()[..refs.len().min(FEW)];
-    let few_sum = look(&heap, few, load.count);
-    tell(rt, "a look at one of few slots", start, load.count);
-    let Ok(start) = Instant::now(rt) else {
-        return Ok(());
-    };
-    let sum = look(&heap, refs.as_slice(), load.count);
-    tell(rt, "a look at one of all slots", start, load.count);
-    let Ok(start) = Instant::now(rt) else {
-        return Ok(());
-    };
-    let settled = hold_and_release(&mut heap, refs.as_slice(), load.count);
-    tell(rt, "four slots out of limbo and into it", start, load.count);
-    let Ok(start) = Instant::now(rt) else {
-        return Ok(());
-    };
-    settle(&mut heap, load.count);
-    tell(rt, "a settling of nothing", start, load.count);
-    let Ok(start) = Instant::now(rt) else {
-        return Ok(());
-    };
-    let swapped = swap(&mut heap, refs.as_slice(), load.count);
-    tell(rt, "a swap of a main word", start, load.count);
-    let _ = println!(rt; "({few_sum}, {sum}, {settled}, {swapped})");
+    measure_looks(rt, &heap, refs.as_slice(), load.count);
+    measure_changes(rt, &mut heap, refs.as_slice(), load.count);
     Ok(())
+}
+
+/// The figures of looks at a heap.
+fn measure_looks<R: Clock + Print>(rt: &R, heap: &Heap, refs: &[Ref], count: u32)
+    requires { AreLive heap.now.heap refs.now }
+{
+    let few = &refs[..refs.len().min(FEW)];
+    let start = Instant::now(rt).ok();
+    let few_sum = look(heap, few, count);
+    tell(rt, "a look at one of few slots", start, count);
+    let start = Instant::now(rt).ok();
+    let sum = look(heap, refs, count);
+    tell(rt, "a look at one of all slots", start, count);
+    let _ = println!(rt; "({few_sum}, {sum})");
+}
+
+/// The figures of what changes a heap.
+fn measure_changes<R: Clock + Print>(rt: &R, heap: &mut Heap, refs: &[Ref], count: u32)
+    requires { AreLive heap.old.heap refs.now }
+{
+    let start = Instant::now(rt).ok();
+    let settled = hold_and_release(heap, refs, count);
+    tell(rt, "four slots out of limbo and into it", start, count);
+    let start = Instant::now(rt).ok();
+    settle(heap, count);
+    tell(rt, "a settling of nothing", start, count);
+    let start = Instant::now(rt).ok();
+    let swapped = swap(heap, refs, count);
+    tell(rt, "a swap of a main word", start, count);
+    let _ = println!(rt; "({settled}, {swapped})");
 }
 
 /// All figures, one after the other.
@@ -139,6 +142,11 @@ fn small<R: Print + AllocGlobal>(rt: &R) -> Result<(), Refusal> {
     let sum = branches(100);
     let order = places(rt.alloc(), 100, 10)?.order()?;
     let _ = println!(rt; "100 branches with the sum {sum}, {} places", order.len());
+    small_heap(rt)
+}
+
+/// The same of an arena and a heap.
+fn small_heap<R: Print + AllocGlobal>(rt: &R) -> Result<(), Refusal> {
     let (mut arena, refs) = new_arena(rt.alloc(), 64)?;
     let made = make_and_free(&mut arena, refs.as_slice(), 100);
     let (mut heap, refs) = new_heap(rt.alloc(), 64)?;
