@@ -80,6 +80,7 @@ impl Heap {
         ensures heap { self.new.heap ≡ taken self.old.heap node }
         ensures outside { self.new.outside ≡ self.old.outside }
         ensures epochs { KeepsEpochs self.old self.new }
+        ensures few { length self.new.noted ≤ length self.old.noted + 33 }
         ensures ticks { self.new.ticks ≤ self.old.ticks + 12 }
         ensures rising { self.old.ticks ≤ self.new.ticks }
     {
@@ -124,6 +125,7 @@ impl Heap {
         ensures outside { self.new.outside ≡ self.old.outside }
         ensures stay { (q : Ref) → is_live self.new.heap q ≡ is_live self.old.heap q }
         ensures epochs { KeepsEpochs self.old self.new }
+        ensures few { length self.new.noted ≤ length self.old.noted + 2 }
         ensures ticks { self.new.ticks ≡ self.old.ticks }
     {
         self.arena.swap_main(at, from, to)
@@ -139,6 +141,7 @@ impl Heap {
         ensures outside { self.new.outside ≡ self.old.outside }
         ensures stay { (q : Ref) → is_live self.new.heap q ≡ is_live self.old.heap q }
         ensures epochs { KeepsEpochs self.old self.new }
+        ensures few { length self.new.noted ≤ length self.old.noted + 2 }
         ensures ticks { self.new.ticks ≡ self.old.ticks }
     {
         self.arena.swap_prev(at, from, to)
@@ -151,6 +154,7 @@ impl Heap {
         ensures heap { self.new.heap ≡ self.old.heap }
         ensures outside { self.new.outside ≡ at ∷ self.old.outside }
         ensures epochs { KeepsEpochs self.old self.new }
+        ensures few { length self.new.noted ≤ length self.old.noted + 1 }
         ensures ticks { self.new.ticks ≡ self.old.ticks }
     {
         self.arena.hold(at);
@@ -162,6 +166,7 @@ impl Heap {
         ensures heap { self.new.heap ≡ self.old.heap }
         ensures outside { self.new.outside ≡ without at self.old.outside }
         ensures epochs { KeepsEpochs self.old self.new }
+        ensures few { length self.new.noted ≤ length self.old.noted + 1 }
         ensures ticks { self.new.ticks ≡ self.old.ticks }
     {
         self.arena.release(at);
@@ -217,6 +222,7 @@ impl Heap {
         ensures stay { (q : Ref) → IsLive self.old.heap q → 0 < count_of self.old.heap self.old.outside q → IsLive self.new.heap q }
         ensures outside { self.new.outside ≡ self.old.outside }
         ensures pins { self.new.pins ≡ self.old.pins }
+        ensures few { length self.new.noted ≤ 34 }
         ensures ticks { self.new.ticks ≤ self.old.ticks + 12 }
         ensures rising { self.old.ticks ≤ self.new.ticks }
     {

@@ -73,6 +73,7 @@ impl Arena {
         ensures fresh { IfSome result (λ r. is_live self.old.heap r ≡ false) }
         ensures stay { (q : Ref) → IsLive self.old.heap q → IsLive self.new.heap q }
         ensures noted { NotesWaiting self.old self.new }
+        ensures few { length self.new.noted ≤ length self.old.noted + 33 }
         ensures ticks { self.new.ticks ≤ self.old.ticks + 3 }
         ensures rising { self.old.ticks ≤ self.new.ticks }
     {
@@ -124,6 +125,7 @@ impl Arena {
         ensures outside { self.new.outside ≡ self.old.outside }
         ensures stay { (q : Ref) → is_live self.new.heap q ≡ is_live self.old.heap q }
         ensures noted { NotesWaiting self.old self.new }
+        ensures few { length self.new.noted ≤ length self.old.noted + 2 }
         ensures ticks { self.new.ticks ≡ self.old.ticks }
     {
         if self.main(at) != from {
@@ -145,6 +147,7 @@ impl Arena {
         ensures outside { self.new.outside ≡ self.old.outside }
         ensures stay { (q : Ref) → is_live self.new.heap q ≡ is_live self.old.heap q }
         ensures noted { NotesWaiting self.old self.new }
+        ensures few { length self.new.noted ≤ length self.old.noted + 2 }
         ensures ticks { self.new.ticks ≡ self.old.ticks }
     {
         if self.prev(at) != from {
@@ -163,6 +166,7 @@ impl Arena {
         ensures heap { self.new.heap ≡ self.old.heap }
         ensures outside { self.new.outside ≡ at ∷ self.old.outside }
         ensures noted { NotesWaiting self.old self.new }
+        ensures few { length self.new.noted ≤ length self.old.noted + 1 }
         ensures ticks { self.new.ticks ≡ self.old.ticks }
     {
         self.tally.raise_all(from_ref(&at));
@@ -175,6 +179,7 @@ impl Arena {
         ensures heap { self.new.heap ≡ self.old.heap }
         ensures outside { self.new.outside ≡ without at self.old.outside }
         ensures noted { NotesWaiting self.old self.new }
+        ensures few { length self.new.noted ≤ length self.old.noted + 1 }
         ensures ticks { self.new.ticks ≡ self.old.ticks }
     {
         self.tally.lower_all(from_ref(&at));
@@ -189,6 +194,7 @@ impl Arena {
         ensures outside { self.new.outside ≡ self.old.outside }
         ensures stay { (q : Ref) → (q ≡ at → ⊥) → IsLive self.old.heap q → IsLive self.new.heap q }
         ensures noted { NotesWaiting self.old self.new }
+        ensures few { length self.new.noted ≤ length self.old.noted + 34 }
         ensures ticks { self.new.ticks ≡ self.old.ticks + 3 }
     {
         let slot = at.slot();

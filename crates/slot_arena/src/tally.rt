@@ -55,6 +55,7 @@ impl Tally {
         ensures counts { self.new.counts ≡ self.old.counts }
         ensures noted { 0 < times slot self.new.noted }
         ensures others { NotesZeros self.old self.new }
+        ensures few { length self.new.noted ≤ length self.old.noted + 1 }
     {
         if !self.is_noted[slot as usize] {
             self.is_noted[slot as usize] = true;
@@ -87,6 +88,7 @@ impl Tally {
         requires room { slice_index self.old.counts slot + 1 < 2 ^ 32 }
         ensures counts { self.new.counts ≡ slice_set self.old.counts slot (slice_index self.old.counts slot + 1) }
         ensures noted { NotesZeros self.old self.new }
+        ensures few { length self.new.noted ≤ length self.old.noted + 1 }
     {
         if self.counts[slot as usize] == 0 {
             self.note(slot);
@@ -100,6 +102,7 @@ impl Tally {
         requires some { 0 < slice_index self.old.counts slot }
         ensures counts { self.new.counts ≡ slice_set self.old.counts slot (slice_index self.old.counts slot - 1) }
         ensures noted { NotesZeros self.old self.new }
+        ensures few { length self.new.noted ≤ length self.old.noted + 1 }
     {
         if self.counts[slot as usize] == 1 {
             self.note(slot);
@@ -114,6 +117,7 @@ impl Tally {
         ensures size { length self.new.counts ≡ length self.old.counts }
         ensures counts { (slot : ℕ) → slice_index self.new.counts slot ≡ slice_index self.old.counts slot + naming slot refs.now }
         ensures noted { NotesZeros self.old self.new }
+        ensures few { length self.new.noted ≤ length self.old.noted + length refs.now }
     {
         for one in refs {
             self.raise(one.slot());
@@ -127,6 +131,7 @@ impl Tally {
         ensures size { length self.new.counts ≡ length self.old.counts }
         ensures counts { (slot : ℕ) → slice_index self.new.counts slot + naming slot refs.now ≡ slice_index self.old.counts slot }
         ensures noted { NotesZeros self.old self.new }
+        ensures few { length self.new.noted ≤ length self.old.noted + length refs.now }
     {
         for one in refs {
             self.lower(one.slot());

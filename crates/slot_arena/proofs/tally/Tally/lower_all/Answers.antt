@@ -45,4 +45,5 @@ loop-one-preserved c =
         ap (once slot) c.slot.ensures,
       );
       noted = zeros_trans c.args.self.now c.loop-one.self c.lower.new.self c.loop-one.invariant.noted c.lower.ensures.noted;
+      few = omega (arith, c.loop-one.invariant.few, c.lower.ensures.few);
     }
