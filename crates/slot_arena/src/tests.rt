@@ -1,6 +1,6 @@
 //! References against values written by hand.
 
-ghost use Rattle.std.specs.Prelude.{◌≡◌, []};
+ghost use Rattle.std.specs.Prelude.{◌≡◌, [], ◌∷◌};
 ghost use Rattle.slot_arena.specs.Heaps.{refs_of_node};
 
 use crate::{Arena, Links, Node, Prev, Ref, Refs};
@@ -25,9 +25,17 @@ fn single(value: u64) -> Node
 }
 
 #[test]
-fn takes_and_frees(rt: HostRuntime) -> Result<(), Fail> {
-    let mut arena = Arena::new(rt.alloc(), 2)?;
+fn opens_with_free_slots(rt: HostRuntime) -> Result<(), Fail> {
+    let arena = Arena::new(rt.alloc(), 2)?;
     assert_eq!(rt; arena.len(), 2);
+    assert_eq!(rt; arena.births(), 0);
+    assert_eq!(rt; arena.free_slots(), 2);
+    Ok(())
+}
+
+#[test]
+fn takes_a_slot(rt: HostRuntime) -> Result<(), Fail> {
+    let mut arena = Arena::new(rt.alloc(), 2)?;
     assert!(rt; arena.births() < 4);
     let first = arena.make(single(70)).ok_or("a slot is free")?;
     assert!(rt;
@@ -35,12 +43,35 @@ fn takes_and_frees(rt: HostRuntime) -> Result<(), Fail> {
         "the node is there"
     );
     assert_eq!(rt; arena.births(), 1);
+    Ok(())
+}
+
+#[test]
+fn counts_slots(rt: HostRuntime) -> Result<(), Fail> {
+    let mut arena = Arena::new(rt.alloc(), 2)?;
+    assert!(rt; arena.births() < 4);
+    let _first = arena.make(single(70)).ok_or("a slot is free")?;
     assert_eq!(rt; arena.used(), 1);
     assert_eq!(rt; arena.free_slots(), 1);
+    Ok(())
+}
+
+#[test]
+fn frees_a_slot(rt: HostRuntime) -> Result<(), Fail> {
+    let mut arena = Arena::new(rt.alloc(), 2)?;
+    assert!(rt; arena.births() < 4);
+    let first = arena.make(single(70)).ok_or("a slot is free")?;
     assert!(rt; arena.count(first) == 0, "nothing refers to it");
     arena.free(first);
     assert_eq!(rt; arena.free_slots(), 2);
     Ok(())
+}
+
+/// A tomb of it.
+fn tomb(of: Ref) -> Node
+    ensures { refs_of_node result ≡ of ∷ [] }
+{
+    Node::Tomb { single: of }
 }
 
 #[test]
@@ -49,14 +80,31 @@ fn counts_references(rt: HostRuntime) -> Result<(), Fail> {
     assert!(rt; arena.births() < 4);
     let leaf = arena.make(single(1)).ok_or("a slot is free")?;
     assert!(rt; arena.births() < 4);
-    let tomb = arena
-        .make(Node::Tomb { single: leaf })
-        .ok_or("a slot is free")?;
+    let _tomb = arena.make(tomb(leaf)).ok_or("a slot is free")?;
     assert!(rt; arena.count(leaf) == 1, "the tomb's");
+    Ok(())
+}
+
+#[test]
+fn counts_what_is_held(rt: HostRuntime) -> Result<(), Fail> {
+    let mut arena = Arena::new(rt.alloc(), 4)?;
+    assert!(rt; arena.births() < 4);
+    let leaf = arena.make(single(1)).ok_or("a slot is free")?;
+    assert!(rt; arena.count(leaf) == 0, "nothing refers to it");
     arena.hold(leaf);
-    assert_eq!(rt; arena.count(leaf), 2);
-    arena.release(leaf);
     assert_eq!(rt; arena.count(leaf), 1);
+    arena.release(leaf);
+    assert_eq!(rt; arena.count(leaf), 0);
+    Ok(())
+}
+
+#[test]
+fn swaps_prev_words(rt: HostRuntime) -> Result<(), Fail> {
+    let mut arena = Arena::new(rt.alloc(), 4)?;
+    assert!(rt; arena.births() < 4);
+    let leaf = arena.make(single(1)).ok_or("a slot is free")?;
+    assert!(rt; arena.births() < 4);
+    let tomb = arena.make(tomb(leaf)).ok_or("a slot is free")?;
     if let Node::Tomb { .. } = arena.look(tomb) {
         assert!(rt; arena.prev(tomb) == Prev::None, "undecided");
         assert!(rt;
