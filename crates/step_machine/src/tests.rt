@@ -5,7 +5,9 @@ mod alone;
 use crate::{Limits, Machine, Outcome, Step, run};
 use ctrie_base::{HashKind, Kind, Refusal};
 use history::Call;
-use std::alloc::{AllocError, Global};
+use std::alloc::{AllocError, AllocGlobal, Global};
+use std::fmt::Debug;
+use std::process::Abort;
 use std::test::Fail;
 
 const LIMITS: Limits = Limits {
@@ -42,9 +44,15 @@ const CALLS: [(Call, &str); 6] = [
     (REMOVE, "Some(Found(None))"),
 ];
 
-/// Calls are completed one after the other; then the sweep frees what they left in limbo.
-#[test]
-fn completes_and_reclaims(rt: HostRuntime) -> Result<(), Fail> {
+/// The value is written so by `Debug`.
+fn is_told(rt: &(impl Abort + AllocGlobal), value: &impl Debug, wanted: &str) -> Result<(), Fail> {
+    let told = format!(in rt.alloc(); "{value:?}")?;
+    assert_eq!(rt; told.as_str(), wanted);
+    Ok(())
+}
+
+/// A machine of one actor that has completed the calls, each with its reply.
+fn completed(rt: &(impl Abort + AllocGlobal)) -> Result<Machine, Fail> {
     let limits = Limits {
         actors: 1,
         ..LIMITS
@@ -52,18 +60,38 @@ fn completes_and_reclaims(rt: HostRuntime) -> Result<(), Fail> {
     let mut machine = Machine::new(rt.alloc(), limits)?;
     for (call, wanted) in &CALLS {
         let reply = machine.complete(1, *call)?;
-        let told = format!(in rt.alloc(); "{reply:?}")?;
-        assert_eq!(rt; told.as_str(), *wanted);
+        is_told(rt, &reply, wanted)?;
     }
+    Ok(machine)
+}
+
+/// So many slots are in use and free, and so many nodes are in limbo.
+fn has_slots(rt: &impl Abort, machine: &Machine, used: u32, free: u32, limbo: u32) {
+    assert_eq!(rt; machine.used(), used);
+    assert_eq!(rt; machine.free_slots(), free);
+    assert_eq!(rt; machine.limbo_len(), limbo);
+}
+
+/// Calls are completed one after the other.
+#[test]
+fn completes(rt: HostRuntime) -> Result<(), Fail> {
+    let machine = completed(&rt)?;
     assert_eq!(rt; machine.events().len(), 12);
     assert!(rt; machine.order()?.as_slice() == [0, 1, 2, 3, 4, 5].as_slice());
-    assert!(rt; machine.used() == 7 && machine.free_slots() == 57 && machine.limbo_len() == 3);
+    has_slots(&rt, &machine, 7, 57, 3);
+    Ok(())
+}
+
+/// The sweep frees what calls left in limbo.
+#[test]
+fn reclaims(rt: HostRuntime) -> Result<(), Fail> {
+    let mut machine = completed(&rt)?;
     let taken = machine.steps_taken();
     machine.reclaim()?;
     // Five slots are freed, and four times the actor is scanned and the epoch grows.
     assert!(rt; machine.steps_taken().checked_sub(taken) == Some(13));
     assert_eq!(rt; machine.epoch(), 4);
-    assert!(rt; machine.used() == 2 && machine.free_slots() == 62 && machine.limbo_len() == 0);
+    has_slots(&rt, &machine, 2, 62, 0);
     assert!(rt; machine.content(0)?.is_empty());
     assert_eq!(rt; machine.events().len(), 12);
     Ok(())
@@ -119,82 +147,129 @@ fn goes(machine: &mut Machine, actor: u8, kind: Kind) -> Result<bool, Refusal> {
     Ok(next == Some(kind) && went == next)
 }
 
-/// Operations take steps of the kinds that are known of them.
-#[test]
-fn takes_steps(rt: HostRuntime) -> Result<(), Fail> {
-    let mut machine = Machine::new(rt.alloc(), LIMITS)?;
-    let rows = [
-        (PUT, PUT_KINDS.as_slice()),
-        (GET, GET_KINDS.as_slice()),
-        (FREEZE, FREEZE_KINDS.as_slice()),
-    ];
-    for (call, kinds) in &rows {
-        machine.apply(Step::Begin {
-            actor: 2,
-            call: *call,
-        })?;
-        assert!(rt; machine.is_running(2) && !machine.is_running(1) && machine.is_busy());
-        assert!(rt; machine.runs_on(0) && !machine.runs_on(1));
-        for kind in *kinds {
-            assert!(rt; goes(&mut machine, 2, *kind)?, "{kind}");
-        }
-        assert!(rt; !machine.is_busy() && !machine.runs_on(0));
-        assert!(rt; machine.next_kind(2) == None);
+/// Actor 2 runs, and alone.
+fn one_runs(rt: &impl Abort, machine: &Machine) {
+    assert!(rt; machine.is_running(2) && !machine.is_running(1) && machine.is_busy());
+    assert!(rt; machine.runs_on(0) && !machine.runs_on(1));
+}
+
+fn none_runs(rt: &impl Abort, machine: &Machine) {
+    assert!(rt; !machine.is_busy() && !machine.runs_on(0));
+    assert!(rt; machine.next_kind(2) == None);
+}
+
+/// Actor 2's call takes steps of these kinds and ends.
+fn goes_by(
+    rt: &impl Abort,
+    machine: &mut Machine,
+    call: Call,
+    kinds: &[Kind],
+) -> Result<(), Refusal> {
+    machine.apply(Step::Begin { actor: 2, call })?;
+    one_runs(rt, machine);
+    for kind in kinds {
+        assert!(rt; goes(machine, 2, *kind)?, "{kind}");
     }
-    // A step for each kind, and three begins.
-    assert_eq!(rt; machine.steps_taken(), 30);
-    assert_eq!(rt; machine.steps().len(), 30);
-    assert!(rt; machine.content(1)?.as_slice() == [(5, 50)].as_slice());
-    assert!(rt; machine.content(2).err() == Some(Refusal::NoHandle));
-    assert!(rt; machine.is_writable(0) == Some(true) && machine.is_writable(1) == Some(false));
-    assert!(rt; machine.is_writable(2) == None && machine.handles_taken() == 2);
+    none_runs(rt, machine);
     Ok(())
 }
 
-/// What is denied changes nothing.
-#[test]
-fn denies(rt: HostRuntime) -> Result<(), Fail> {
+/// A machine on which actor 2 has put a value, got it, and frozen the map.
+fn frozen(rt: &(impl Abort + AllocGlobal)) -> Result<Machine, Refusal> {
     let mut machine = Machine::new(rt.alloc(), LIMITS)?;
+    goes_by(rt, &mut machine, PUT, PUT_KINDS.as_slice())?;
+    goes_by(rt, &mut machine, GET, GET_KINDS.as_slice())?;
+    goes_by(rt, &mut machine, FREEZE, FREEZE_KINDS.as_slice())?;
+    Ok(machine)
+}
+
+/// Operations take steps of the kinds that are known of them.
+#[test]
+fn takes_steps(rt: HostRuntime) -> Result<(), Fail> {
+    let machine = frozen(&rt)?;
+    // A step for each kind, and three begins.
+    assert_eq!(rt; machine.steps_taken(), 30);
+    assert_eq!(rt; machine.steps().len(), 30);
+    Ok(())
+}
+
+/// A freeze opens a second handle, on a copy that can't be written.
+#[test]
+fn opens_a_copy(rt: HostRuntime) -> Result<(), Fail> {
+    let machine = frozen(&rt)?;
+    assert_eq!(rt; machine.handles_taken(), 2);
+    assert!(rt; machine.content(1)?.as_slice() == [(5, 50)].as_slice());
+    assert!(rt; machine.content(2).err() == Some(Refusal::NoHandle));
+    for (handle, writable) in [(0, Some(true)), (1, Some(false)), (2, None)] {
+        assert!(rt; machine.is_writable(handle) == writable, "{handle}");
+    }
+    Ok(())
+}
+
+/// Calls of actors that are denied while actor 2 runs on a map that was frozen once.
+const DENIED: [(u8, Call, Refusal); 6] = [
+    (3, GET, Refusal::NoActor),
+    (2, GET, Refusal::ActorBusy),
+    (1, Call::Get { handle: 2, key: 5 }, Refusal::NoHandle),
+    (1, Call::Remove { handle: 1, key: 5 }, Refusal::ReadOnly),
+    (1, Call::Count { handle: 0 }, Refusal::NotReadOnly),
+    (1, Call::Close { handle: 0 }, Refusal::Busy),
+];
+
+/// A machine with one copy, on which actor 2 has begun a get.
+fn busy(alloc: Global) -> Result<Machine, Refusal> {
+    let mut machine = Machine::new(alloc, LIMITS)?;
     machine.complete(1, FREEZE)?;
     machine.apply(Step::Begin {
         actor: 2,
         call: GET,
     })?;
-    let taken = machine.steps_taken();
-    let calls = [
-        (3, GET, Refusal::NoActor),
-        (2, GET, Refusal::ActorBusy),
-        (1, Call::Get { handle: 2, key: 5 }, Refusal::NoHandle),
-        (1, Call::Remove { handle: 1, key: 5 }, Refusal::ReadOnly),
-        (1, Call::Count { handle: 0 }, Refusal::NotReadOnly),
-        (1, Call::Close { handle: 0 }, Refusal::Busy),
-    ];
-    for (actor, call, refusal) in &calls {
-        let begins = Step::Begin {
-            actor: *actor,
-            call: *call,
-        };
-        assert!(rt; machine.denial(begins) == Some(*refusal), "{refusal}");
-        assert!(rt;
-            machine.complete(*actor, *call).err() == Some(*refusal),
-            "{refusal}"
-        );
-    }
+    Ok(machine)
+}
+
+/// The call is denied so, whether it is asked for or made.
+fn is_denied(rt: &impl Abort, machine: &mut Machine, actor: u8, call: Call, refusal: Refusal) {
+    let denial = machine.denial(Step::Begin { actor, call });
+    assert!(rt; denial == Some(refusal), "{refusal}");
+    let made = machine.complete(actor, call).err();
+    assert!(rt; made == Some(refusal), "{refusal}");
+}
+
+/// What can't go on while actor 2 runs.
+fn cannot_go_on(rt: &impl Abort, machine: &mut Machine) {
     assert!(rt; machine.resume(1).err() == Some(Refusal::Idle));
     assert!(rt; machine.resume(0).err() == Some(Refusal::NoActor));
     assert!(rt; machine.reclaim().err() == Some(Refusal::Busy));
+}
+
+/// A step of the actor that runs isn't denied, nor is the sweep's.
+fn can_go_on(rt: &impl Abort, machine: &Machine) {
+    assert!(rt; machine.denial(Step::Go { actor: 2 }) == None);
+    assert!(rt; machine.denial(Step::Sweep) == None);
+}
+
+/// What is denied changes nothing.
+#[test]
+fn denies(rt: HostRuntime) -> Result<(), Fail> {
+    let mut machine = busy(rt.alloc())?;
+    let taken = machine.steps_taken();
+    for (actor, call, refusal) in &DENIED {
+        is_denied(&rt, &mut machine, *actor, *call, *refusal);
+    }
+    cannot_go_on(&rt, &mut machine);
     assert_eq!(rt; machine.steps_taken(), taken);
-    assert!(rt;
-        machine.denial(Step::Go { actor: 2 }) == None && machine.denial(Step::Sweep) == None
-    );
+    can_go_on(&rt, &machine);
     let reply = machine.resume(2)?;
-    let told = format!(in rt.alloc(); "{reply:?}")?;
-    assert_eq!(rt; told.as_str(), "Some(Found(None))");
+    is_told(&rt, &reply, "Some(Found(None))")
+}
+
+/// A machine has 2 slots or more, and no more than 65,536.
+#[test]
+fn refuses_limits(rt: HostRuntime) {
     for slots in [1, 65_537] {
         let limits = Limits { slots, ..LIMITS };
         assert!(rt; Machine::new(rt.alloc(), limits).err() == Some(Refusal::BadLimits));
     }
-    Ok(())
 }
 
 /// An operation holds the epoch at one more than it recorded.
@@ -215,8 +290,7 @@ fn sweeps(rt: HostRuntime) -> Result<(), Fail> {
     ];
     for outcome in &wanted {
         let swept = machine.apply(Step::Sweep)?;
-        let told = format!(in rt.alloc(); "{swept:?}")?;
-        assert_eq!(rt; told.as_str(), *outcome);
+        is_told(&rt, &swept, outcome)?;
     }
     assert_eq!(rt; machine.epoch(), 1);
     Ok(())
@@ -262,7 +336,7 @@ fn records_runs(rt: HostRuntime) -> Result<(), Fail> {
     assert!(rt; record.steps.len() < steps.len());
     assert_eq!(rt; record.events.len(), 6);
     assert!(rt; record.order.as_slice() == [1, 0, 2].as_slice());
-    assert!(rt; record.used == 6 && record.free == 58 && record.limbo == 1);
+    assert_eq!(rt; (record.used, record.free, record.limbo), (6, 58, 1));
     let again = run(rt.alloc(), LIMITS, record.steps.as_slice())?;
     assert!(rt; again.steps.as_slice() == record.steps.as_slice());
     assert!(rt; again.order.as_slice() == record.order.as_slice());
