@@ -1,6 +1,6 @@
 //! A slot's way through limbo, against numbers worked by hand.
 
-ghost use Rattle.std.specs.Prelude.{◌≡◌, []};
+ghost use Rattle.std.specs.Prelude.{◌≡◌};
 ghost use Rattle.slot_arena.specs.Heaps.{refs_of_node};
 ghost use Rattle.slot_arena.specs.Arenas.{AreLive, IsLive};
 
@@ -54,59 +54,18 @@ fn leaf_and_above(rt: &impl Abort, heap: &mut Heap) -> (Ref, Ref)
     (leaf, above)
 }
 
-/// Ends a step. Its clauses are just those that the tests need, since all of `Heap::settle`'s take long
-/// to check.
-fn settle(heap: &mut Heap)
-    ensures settled { heap.new.noted ≡ [] }
-    ensures outside { heap.new.outside ≡ heap.old.outside }
-    ensures pins { heap.new.pins ≡ heap.old.pins }
-{
-    heap.settle();
-}
-
 /// A step of the sweep, where all is settled.
-fn sweep(rt: &impl Abort, heap: &mut Heap) -> Swept
-    ensures { heap.new.pins ≡ heap.old.pins }
-{
-    settle(heap);
+fn sweep(rt: &impl Abort, heap: &mut Heap) -> Swept {
+    heap.settle();
     assert!(rt; heap.epoch() < 4);
     heap.sweep()
-}
-
-fn sweep_a(rt: &impl Abort, heap: &mut Heap) -> Swept {
-    settle(heap);
-    assert!(rt; heap.epoch() < 4);
-    heap.sweep()
-}
-
-fn sweep_c(heap: &mut Heap) -> Swept
-    requires settled { heap.old.noted ≡ [] }
-    requires room { heap.old.epoch < 4 }
-    ensures { heap.new.pins ≡ heap.old.pins }
-{
-    heap.sweep()
-}
-
-fn sweep_d(heap: &mut Heap) -> Swept
-    requires settled { heap.old.noted ≡ [] }
-    requires room { heap.old.epoch < 4 }
-{
-    heap.sweep()
-}
-
-fn sweep_e(rt: &impl Abort, heap: &mut Heap) -> Swept
-    ensures { heap.new.pins ≡ heap.old.pins }
-{
-    settle(heap);
-    assert!(rt; heap.epoch() < 4);
-    sweep_c(heap)
 }
 
 #[test]
 fn enters_limbo(rt: HostRuntime) -> Result<(), Fail> {
     let mut heap = Heap::new(rt.alloc(), 4, 1)?;
     let _made = single(&rt, &mut heap, 70);
-    settle(&mut heap);
+    heap.settle();
     assert_eq!(rt; heap.limbo_len(), 1);
     assert_eq!(rt; heap.used(), 1);
     Ok(())
@@ -121,7 +80,7 @@ fn frees_after_two_epochs(rt: HostRuntime) -> Result<(), Fail> {
         assert_eq!(rt; sweep(&rt, &mut heap), Swept::Advanced(epoch + 1));
     }
     assert_eq!(rt; sweep(&rt, &mut heap), Swept::Freed);
-    settle(&mut heap);
+    heap.settle();
     assert_eq!(rt; heap.limbo_len(), 0);
     assert_eq!(rt; heap.free_slots(), 4);
     let _ticks = heap.ticks();
@@ -135,7 +94,16 @@ fn holds_back_by_pins(rt: HostRuntime) -> Result<(), Fail> {
     assert_eq!(rt; sweep(&rt, &mut heap), Swept::Scanned { passed: true });
     assert_eq!(rt; sweep(&rt, &mut heap), Swept::Advanced(1));
     assert_eq!(rt; sweep(&rt, &mut heap), Swept::Scanned { passed: false });
+    Ok(())
+}
+
+#[test]
+fn gives_pins_up(rt: HostRuntime) -> Result<(), Fail> {
+    let mut heap = Heap::new(rt.alloc(), 4, 1)?;
+    heap.pin(1);
     heap.unpin(1);
+    assert_eq!(rt; sweep(&rt, &mut heap), Swept::Scanned { passed: true });
+    assert_eq!(rt; sweep(&rt, &mut heap), Swept::Advanced(1));
     assert_eq!(rt; sweep(&rt, &mut heap), Swept::Scanned { passed: true });
     Ok(())
 }
@@ -146,10 +114,10 @@ fn holds_back_by_references(rt: HostRuntime) -> Result<(), Fail> {
     let leaf = single(&rt, &mut heap, 1);
     assert!(rt; heap.count(leaf) == 0);
     heap.hold(leaf);
-    settle(&mut heap);
+    heap.settle();
     assert_eq!(rt; heap.limbo_len(), 0);
     heap.release(leaf);
-    settle(&mut heap);
+    heap.settle();
     assert_eq!(rt; heap.limbo_len(), 1);
     Ok(())
 }
@@ -161,7 +129,7 @@ fn swaps_main_words(rt: HostRuntime) -> Result<(), Fail> {
     assert!(rt; matches!(heap.look(above), Node::Indirection { generation: 7, .. }));
     assert!(rt; heap.main(above) == leaf, "as it was made");
     assert!(rt; heap.swap_main(above, leaf, above), "it was the leaf");
-    settle(&mut heap);
+    heap.settle();
     assert_eq!(rt; heap.limbo_len(), 1);
     Ok(())
 }
@@ -176,7 +144,7 @@ fn swaps_prev_words(rt: HostRuntime) -> Result<(), Fail> {
         heap.swap_prev(tomb, Prev::None, Prev::Failed(leaf)),
         "it was none"
     );
-    settle(&mut heap);
+    heap.settle();
     assert_eq!(rt; heap.limbo_len(), 1);
     Ok(())
 }

@@ -1,21 +1,40 @@
 //! How a runner ends.
 
+ghost use Rattle.std.specs.Prelude.{◌≡◌, IfOk};
+ghost use Rattle.lock_runner.specs.Seats.{IsSeatOf, AreSeatsOf};
+
 use crate::records::is_right;
-use crate::support::{Nothing, get, limits, put, two_seats};
+use crate::support::{get, limits, perform, put, two_seats};
 use ctrie_base::Refusal;
-use lock_runner::{Runner, Unfinished};
+use lock_runner::{Runner, Seat, Unfinished};
+use std::alloc::{AllocError, AllocGlobal};
+use std::process::Abort;
+use std::sync::Wait;
 use std::test::Fail;
+
+/// The runner and the one seat, with which alone it can't be finished.
+fn handed_back(
+    rt: &(impl Abort + AllocGlobal),
+    runner: Runner,
+    seat: Seat,
+) -> Result<(Runner, Vec<Seat>), AllocError>
+    requires { IsSeatOf runner seat }
+    ensures { IfOk result (λ back. (back.0 ≡ runner) × AreSeatsOf runner back.1.items) }
+{
+    let mut seats = Vec::with_capacity(rt.alloc(), 1)?;
+    seats.push(seat)?;
+    match runner.finish(seats) {
+        Err(Unfinished::Missing(runner, seats)) => Ok((runner, seats)),
+        _ => panic!(rt; "a seat is missing"),
+    }
+}
 
 /// Without one seat nothing is lost: the runner and the seats come back, and can be finished.
 #[test]
 fn finishes_with_all_seats_alone(rt: HostRuntime) -> Result<(), Fail> {
     let (runner, mut one, two) = two_seats(rt.alloc())?;
-    assert!(rt; one.perform(&rt, &runner, put(5, 50), &Nothing).is_ok());
-    let mut seats = Vec::new(rt.alloc());
-    seats.push(one)?;
-    let Err(Unfinished::Missing(runner, mut seats)) = runner.finish(seats) else {
-        panic!(rt; "a seat is missing")
-    };
+    perform(&rt, &runner, &mut one, put(5, 50));
+    let (runner, mut seats) = handed_back(&rt, runner, one)?;
     assert_eq!(rt; seats.len(), 1);
     seats.push(two)?;
     let Ok(record) = runner.finish(seats) else {
@@ -39,15 +58,23 @@ fn refuses_numbers_of_seats(rt: HostRuntime) -> Result<(), Fail> {
     Ok(())
 }
 
+/// The seat takes a step of the sweep.
+fn sweep(rt: &(impl Abort + Wait), runner: &Runner, seat: &mut Seat)
+    requires { IsSeatOf runner.now seat.old }
+    ensures { IsSeatOf runner.now seat.new }
+{
+    assert!(rt; runner.sweep(rt, seat).is_ok());
+}
+
 /// A seat's own steps of the sweep are counted, and no other's.
 #[test]
 fn counts_sweeps(rt: HostRuntime) -> Result<(), Fail> {
     let (runner, mut one, mut two) = two_seats(rt.alloc())?;
-    assert!(rt; one.perform(&rt, &runner, put(5, 50), &Nothing).is_ok());
-    assert!(rt; two.perform(&rt, &runner, get(5), &Nothing).is_ok());
-    assert!(rt; runner.sweep(&rt, &mut two).is_ok());
-    assert!(rt; runner.sweep(&rt, &mut two).is_ok());
-    assert!(rt; one.sweeps() == 0 && two.sweeps() == 2);
-    assert!(rt; one.answers().len() == 1 && two.answers().len() == 1);
+    perform(&rt, &runner, &mut one, put(5, 50));
+    perform(&rt, &runner, &mut two, get(5));
+    sweep(&rt, &runner, &mut two);
+    sweep(&rt, &runner, &mut two);
+    assert_eq!(rt; (one.sweeps(), one.answers().len()), (0, 1));
+    assert_eq!(rt; (two.sweeps(), two.answers().len()), (2, 1));
     Ok(())
 }

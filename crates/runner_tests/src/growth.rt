@@ -9,10 +9,10 @@ use crate::support::{Nothing, get, put, two_seats};
 use ctrie_base::Refusal;
 use history::Event;
 use lock_runner::{Runner, Seat, Stop, Unfinished};
-use std::alloc::Global;
+use std::alloc::{AllocGlobal, Global};
+use std::process::Abort;
 use std::sync::Wait;
-use std::test::Fail;
-use step_machine::Record;
+use step_machine::{Machine, Record};
 
 /// What came of a seat's calls.
 #[derive(Clone, Copy, PartialEq, Eq)]
@@ -56,24 +56,27 @@ fn finished(alloc: Global, runner: Runner, one: Seat, two: Seat) -> Result<Optio
     match runner.finish(seats) {
         Ok(record) => Ok(Some(record)),
         Err(Unfinished::Missing(_, _)) => Ok(None),
-        Err(Unfinished::Memory(machine)) => {
-            let limits = machine.limits();
-            let order = machine.order()?;
-            let used = machine.used();
-            let free = machine.free_slots();
-            let limbo = machine.limbo_len();
-            let (steps, events) = machine.into_parts();
-            Ok(Some(Record {
-                limits,
-                steps,
-                events,
-                order,
-                used,
-                free,
-                limbo,
-            }))
-        }
+        Err(Unfinished::Memory(machine)) => Ok(Some(record_of(machine)?)),
     }
+}
+
+/// The record of what the machine did, the order asked for once more.
+fn record_of(machine: Machine) -> Result<Record, Refusal> {
+    let limits = machine.limits();
+    let order = machine.order()?;
+    let used = machine.used();
+    let free = machine.free_slots();
+    let limbo = machine.limbo_len();
+    let (steps, events) = machine.into_parts();
+    Ok(Record {
+        limits,
+        steps,
+        events,
+        order,
+        used,
+        free,
+        limbo,
+    })
 }
 
 /// How many operations haven't ended.
@@ -87,41 +90,47 @@ fn unended(events: &[Event]) -> usize {
 
 /// A refused growth stops one call; the other seat's calls are answered all the same.
 #[test]
-fn a_refused_growth_stops_one_seat(rt: HostRuntime) -> Result<(), Fail> {
+fn a_refused_growth_stops_one_seat(rt: HostRuntime) {
     let Ok((runner, mut one, mut two)) = two_seats(rt.alloc()) else {
-        return Ok(());
+        return;
     };
     let first = write(&rt, &runner, &mut one, 60);
     let second = write(&rt, &runner, &mut two, 100);
     assert!(rt; first != Came::Wrong && second != Came::Wrong);
     assert!(rt; first == Came::Answered || second == Came::Answered);
-    let Ok(Some(record)) = finished(rt.alloc(), runner, one, two) else {
-        return Ok(());
-    };
-    assert!(rt; unended(record.events.as_slice()) <= 1);
-    if let Ok(right) = is_right(rt.alloc(), &record) {
+    if let Ok(Some(record)) = finished(rt.alloc(), runner, one, two) {
+        judge(&rt, &record, 1);
+    }
+}
+
+/// At most so many operations haven't ended, and the record is right.
+fn judge(rt: &(impl Abort + AllocGlobal), record: &Record, most: usize) {
+    assert!(rt; unended(record.events.as_slice()) <= most);
+    if let Ok(right) = is_right(rt.alloc(), record) {
         assert!(rt; right);
     }
-    Ok(())
 }
 
 /// A call that a refused growth stopped goes on, or had not begun.
 #[test]
-fn a_refused_growth_is_made_good(rt: HostRuntime) -> Result<(), Fail> {
+fn a_refused_growth_is_made_good(rt: HostRuntime) {
     let Ok((runner, mut one, mut two)) = two_seats(rt.alloc()) else {
-        return Ok(());
+        return;
     };
     if write(&rt, &runner, &mut one, 60) == Came::Refused {
-        let again = one.resume(&rt, &runner, &Nothing).err();
-        assert!(rt; again == None || again == Some(Stop::Denied(Refusal::Idle)));
+        go_on(&rt, &runner, &mut one);
         assert!(rt; write(&rt, &runner, &mut two, 100) == Came::Answered);
     }
-    let Ok(Some(record)) = finished(rt.alloc(), runner, one, two) else {
-        return Ok(());
-    };
-    assert_eq!(rt; unended(record.events.as_slice()), 0);
-    if let Ok(right) = is_right(rt.alloc(), &record) {
-        assert!(rt; right);
+    if let Ok(Some(record)) = finished(rt.alloc(), runner, one, two) {
+        judge(&rt, &record, 0);
     }
-    Ok(())
+}
+
+/// The seat's call ends, or it runs none.
+fn go_on(rt: &(impl Abort + Wait), runner: &Runner, seat: &mut Seat)
+    requires { IsSeatOf runner.now seat.old }
+    ensures { IsSeatOf runner.now seat.new }
+{
+    let again = seat.resume(rt, runner, &Nothing).err();
+    assert!(rt; again == None || again == Some(Stop::Denied(Refusal::Idle)));
 }

@@ -1,7 +1,7 @@
 //! What a record and the seats' answers are judged by.
 
 use ctrie_base::Refusal;
-use history::{Call, Event, is_order};
+use history::{Call, Event, Reply, is_order};
 use lock_runner::Answer;
 use std::alloc::{AllocError, Global};
 use step_machine::{Record, run};
@@ -66,14 +66,19 @@ pub(crate) fn are_ends(
         let Some(answer) = rest.next() else {
             return Ok(false);
         };
-        if (answer.id, answer.began, answer.ended) != (*id, begun.place, place as u64)
-            || answer.call != begun.call
-            || !answer.reply.is_same(reply)
-        {
+        if answer.id != *id || !tells(answer, begun, place as u64, reply) {
             return Ok(false);
         }
     }
     Ok(rest.next().is_none())
+}
+
+/// Whether the answer is that of the call, with this end.
+fn tells(answer: &Answer, begun: &Begun, ended: u64, reply: &Reply) -> bool {
+    answer.began == begun.place
+        && answer.ended == ended
+        && answer.call == begun.call
+        && answer.reply.is_same(reply)
 }
 
 /// Whether the two are the same event.
@@ -112,17 +117,19 @@ fn are_same(one: &[Event], other: &[Event]) -> bool {
 
 /// Whether the order is legal, and the steps run again give the record again.
 pub(crate) fn is_right(alloc: Global, record: &Record) -> Result<bool, Refusal> {
-    let hash = record.limits.hash;
     let again = run(alloc, record.limits, record.steps.as_slice())?;
-    Ok(
-        is_order(
-            alloc,
-            record.events.as_slice(),
-            record.order.as_slice(),
-            hash,
-        )? && again.steps.as_slice() == record.steps.as_slice()
-            && again.order.as_slice() == record.order.as_slice()
-            && are_same(again.events.as_slice(), record.events.as_slice())
-            && (again.used, again.free, again.limbo) == (record.used, record.free, record.limbo),
-    )
+    let is_legal = is_order(
+        alloc,
+        record.events.as_slice(),
+        record.order.as_slice(),
+        record.limits.hash,
+    )?;
+    Ok(is_legal && is_repeated(record, &again))
+}
+
+fn is_repeated(one: &Record, other: &Record) -> bool {
+    one.steps.as_slice() == other.steps.as_slice()
+        && one.order.as_slice() == other.order.as_slice()
+        && are_same(one.events.as_slice(), other.events.as_slice())
+        && (one.used, one.free, one.limbo) == (other.used, other.free, other.limbo)
 }

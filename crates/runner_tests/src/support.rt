@@ -8,6 +8,8 @@ use history::{Call, Reply};
 use lock_runner::{Between, Runner, Seat};
 use machine_model::Limits;
 use std::alloc::Global;
+use std::process::Abort;
+use std::sync::Wait;
 
 /// Nothing comes between two steps.
 pub(crate) struct Nothing;
@@ -42,6 +44,14 @@ pub(crate) fn is_found(reply: &Reply, value: Option<u64>) -> bool {
         Reply::Found(found) => *found == value,
         _ => false,
     }
+}
+
+/// The seat's call is answered.
+pub(crate) fn perform(rt: &(impl Abort + Wait), runner: &Runner, seat: &mut Seat, call: Call)
+    requires { IsSeatOf runner.now seat.old }
+    ensures { IsSeatOf runner.now seat.new }
+{
+    assert!(rt; seat.perform(rt, runner, call, &Nothing).is_ok());
 }
 
 /// A runner of two actors, and their seats.

@@ -4,7 +4,10 @@ ghost use Rattle.lock_runner.specs.Seats.{IsSeatOf};
 
 use crate::records::{are_ends, copies, is_right};
 use crate::support::{Nothing, get, limits, put, two_seats};
-use lock_runner::{Between, Runner, Seat};
+use history::Event;
+use lock_runner::{Answer, Between, Runner, Seat};
+use std::alloc::{AllocError, AllocGlobal, Global};
+use std::process::Abort;
 use std::sync::Wait;
 use std::sync::atomic::{AtomicBool, Ordering};
 use std::test::Fail;
@@ -19,6 +22,16 @@ struct Holder {
     entered: AtomicBool,
     answered: AtomicBool,
     gave_up: AtomicBool,
+}
+
+impl Holder {
+    fn new() -> Holder {
+        Holder {
+            entered: AtomicBool::new(false),
+            answered: AtomicBool::new(false),
+            gave_up: AtomicBool::new(false),
+        }
+    }
 }
 
 impl Between for Holder {
@@ -46,11 +59,7 @@ fn is_soon(told: &AtomicBool) -> bool {
 fn between_holds_call_one(rt: HostRuntime) -> Result<(), Fail> {
     let (runner, mut one, mut two) = two_seats(rt.alloc())?;
     let runs = AtomicBool::new(false);
-    let holder = Holder {
-        entered: AtomicBool::new(false),
-        answered: AtomicBool::new(false),
-        gave_up: AtomicBool::new(false),
-    };
+    let holder = Holder::new();
     let (first, second) = thread::join(
         &rt,
         || -> bool
@@ -115,26 +124,35 @@ fn four_writers(rt: HostRuntime) -> Result<(), Fail> {
             }
         },
     );
-    let mut told = Vec::new(rt.alloc());
-    for seat in &seats {
-        told.push(copies(rt.alloc(), seat.answers())?)?;
-    }
+    let told = all_told(rt.alloc(), seats.as_slice())?;
     let Ok(record) = runner.finish(seats) else {
         panic!(rt; "all seats are there")
     };
     assert!(rt; is_right(rt.alloc(), &record)?);
+    judge(&rt, record.events.as_slice(), told.as_slice())?;
+    Ok(())
+}
+
+/// Copies of what each seat was answered.
+fn all_told(alloc: Global, seats: &[Seat]) -> Result<Vec<Vec<Answer>>, AllocError> {
+    let mut told = Vec::new(alloc);
+    for seat in seats {
+        told.push(copies(alloc, seat.answers())?)?;
+    }
+    Ok(told)
+}
+
+/// Each writer was answered all its calls, and the fifth seat none, as the history tells.
+fn judge(
+    rt: &(impl Abort + AllocGlobal),
+    events: &[Event],
+    told: &[Vec<Answer>],
+) -> Result<(), AllocError> {
     let mut actor = 0u8;
-    for answers in &told {
+    for answers in told {
         actor = actor.wrapping_add(1);
         assert_eq!(rt; answers.len(), if actor <= 4 { 100 } else { 0 });
-        assert!(rt;
-            are_ends(
-                rt.alloc(),
-                record.events.as_slice(),
-                actor,
-                answers.as_slice()
-            )?
-        );
+        assert!(rt; are_ends(rt.alloc(), events, actor, answers.as_slice())?);
     }
     Ok(())
 }

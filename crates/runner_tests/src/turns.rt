@@ -1,37 +1,52 @@
 //! One thread with two seats.
 
-use crate::support::{Nothing, get, is_found, put, two_seats};
-use lock_runner::Stop;
+ghost use Rattle.lock_runner.specs.Seats.{IsSeatOf};
+
+use crate::support::{Nothing, get, is_found, perform, put, two_seats};
+use lock_runner::{Answer, Runner, Seat, Stop};
+use std::process::Abort;
+use std::sync::Wait;
 use std::test::Fail;
+
+/// The seat's get finds what was put.
+fn finds(rt: &(impl Abort + Wait), runner: &Runner, seat: &mut Seat)
+    requires { IsSeatOf runner.now seat.old }
+    ensures { IsSeatOf runner.now seat.new }
+{
+    let Ok(reply) = seat.perform(rt, runner, get(5), &Nothing) else {
+        panic!(rt; "the seat was stopped")
+    };
+    assert!(rt; is_found(reply, Some(50)));
+}
+
+/// The seat's get finds fewer events than it has heard of.
+fn is_ahead(rt: &(impl Abort + Wait), runner: &Runner, seat: &mut Seat)
+    requires { IsSeatOf runner.now seat.old }
+{
+    let stop = seat.perform(rt, runner, get(5), &Nothing).err();
+    assert!(rt; stop == Some(Stop::Ahead));
+}
+
+/// The answers began and ended at these places.
+fn stand_at(rt: &impl Abort, answers: &[Answer], places: &[(u64, u64)]) {
+    assert_eq!(rt; answers.len(), places.len());
+    for (answer, place) in answers.iter().zip(places) {
+        assert!(rt; (answer.began, answer.ended) == *place);
+    }
+}
 
 /// A seat sees what another one was answered; one that has heard of more events than there are is ahead.
 #[test]
 fn other_seat_reads_back(rt: HostRuntime) -> Result<(), Fail> {
     let (runner, mut one, mut two) = two_seats(rt.alloc())?;
-    assert!(rt; one.perform(&rt, &runner, put(5, 50), &Nothing).is_ok());
-    let Ok(reply) = two.perform(&rt, &runner, get(5), &Nothing) else {
-        panic!(rt; "seat 2 was stopped")
-    };
-    assert!(rt; is_found(reply, Some(50)));
+    perform(&rt, &runner, &mut one, put(5, 50));
+    finds(&rt, &runner, &mut two);
     one.hear(4);
-    let Ok(reply) = one.perform(&rt, &runner, get(5), &Nothing) else {
-        panic!(rt; "seat 1 was stopped")
-    };
-    assert!(rt; is_found(reply, Some(50)));
+    finds(&rt, &runner, &mut one);
     one.hear(7);
-    let stop = one.perform(&rt, &runner, get(5), &Nothing).err();
-    assert!(rt; stop == Some(Stop::Ahead));
+    is_ahead(&rt, &runner, &mut one);
     assert_eq!(rt; one.heard(), 7);
-    let places = [(0, 1), (4, 5)];
-    for (answer, place) in one.answers().iter().zip(&places) {
-        assert!(rt; (answer.began, answer.ended) == *place);
-    }
-    assert_eq!(rt; one.answers().len(), 2);
-    assert_eq!(rt; two.answers().len(), 1);
-    assert!(rt;
-        two.answers()
-            .iter()
-            .all(|answer| answer.began == 2 && answer.ended == 3)
-    );
+    stand_at(&rt, one.answers(), &[(0, 1), (4, 5)]);
+    stand_at(&rt, two.answers(), &[(2, 3)]);
     Ok(())
 }
