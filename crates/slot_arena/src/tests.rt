@@ -1,10 +1,12 @@
 //! References against values written by hand.
 
-ghost use Rattle.std.specs.Prelude.{◌≡◌, [], ◌∷◌};
+ghost use Rattle.std.specs.Prelude.{◌≡◌};
 ghost use Rattle.slot_arena.specs.Heaps.{refs_of_node};
+ghost use Rattle.slot_arena.specs.Arenas.{AreLive, IsLive};
 
 use crate::{Arena, Links, Node, Prev, Ref, Refs};
 use ctrie_base::{Refusal, Ticks};
+use std::process::Abort;
 use std::test::Fail;
 
 #[test]
@@ -17,40 +19,74 @@ fn names_slots(rt: HostRuntime) {
     assert_eq!(rt; Ref::default().birth(), 0);
 }
 
-/// A single with this value, under key 7.
-fn single(value: u64) -> Node
-    ensures { refs_of_node result ≡ [] }
+/// A slot with this node.
+fn made(rt: &impl Abort, arena: &mut Arena, node: Node) -> Ref
+    requires { AreLive arena.old.heap (refs_of_node node) }
+    ensures live { IsLive arena.new.heap result }
+    ensures stay { (q : Ref) → IsLive arena.old.heap q → IsLive arena.new.heap q }
 {
-    Node::Single { key: 7, value }
+    assert!(rt; arena.births() < 4);
+    arena.make(node).expect(rt, "a slot is free")
+}
+
+/// A slot with a single of this value, under key 7.
+fn single(rt: &impl Abort, arena: &mut Arena, value: u64) -> Ref
+    ensures { IsLive arena.new.heap result }
+{
+    made(rt, arena, Node::Single { key: 7, value })
+}
+
+/// A single, and a tomb of it.
+fn leaf_and_tomb(rt: &impl Abort, arena: &mut Arena) -> (Ref, Ref)
+    ensures leaf { IsLive arena.new.heap result.0 }
+    ensures tomb { IsLive arena.new.heap result.1 }
+{
+    let leaf = single(rt, arena, 1);
+    let tomb = made(rt, arena, Node::Tomb { single: leaf });
+    (leaf, tomb)
+}
+
+/// A single, and an indirection to it.
+fn leaf_and_above(rt: &impl Abort, arena: &mut Arena) -> (Ref, Ref)
+    ensures leaf { IsLive arena.new.heap result.0 }
+    ensures above { IsLive arena.new.heap result.1 }
+{
+    let leaf = single(rt, arena, 1);
+    let above = made(
+        rt,
+        arena,
+        Node::Indirection {
+            generation: 7,
+            main: leaf,
+        },
+    );
+    (leaf, above)
 }
 
 #[test]
 fn opens_with_free_slots(rt: HostRuntime) -> Result<(), Fail> {
     let arena = Arena::new(rt.alloc(), 2)?;
     assert_eq!(rt; arena.len(), 2);
-    assert_eq!(rt; arena.births(), 0);
-    assert_eq!(rt; arena.free_slots(), 2);
+    assert!(rt; arena.births() < 4);
     Ok(())
 }
 
 #[test]
 fn takes_a_slot(rt: HostRuntime) -> Result<(), Fail> {
     let mut arena = Arena::new(rt.alloc(), 2)?;
-    assert!(rt; arena.births() < 4);
-    let first = arena.make(single(70)).ok_or("a slot is free")?;
+    let first = single(&rt, &mut arena, 70);
     assert!(rt;
         matches!(arena.look(first), Node::Single { key: 7, value: 70 }),
         "the node is there"
     );
-    assert_eq!(rt; arena.births(), 1);
     Ok(())
 }
 
 #[test]
 fn counts_slots(rt: HostRuntime) -> Result<(), Fail> {
     let mut arena = Arena::new(rt.alloc(), 2)?;
-    assert!(rt; arena.births() < 4);
-    let _first = arena.make(single(70)).ok_or("a slot is free")?;
+    single(&rt, &mut arena, 70);
+    assert_eq!(rt; arena.births(), 1);
     assert_eq!(rt; arena.used(), 1);
     assert_eq!(rt; arena.free_slots(), 1);
     Ok(())
@@ -59,71 +95,54 @@ fn counts_slots(rt: HostRuntime) -> Result<(), Fail> {
 #[test]
 fn frees_a_slot(rt: HostRuntime) -> Result<(), Fail> {
     let mut arena = Arena::new(rt.alloc(), 2)?;
-    assert!(rt; arena.births() < 4);
-    let first = arena.make(single(70)).ok_or("a slot is free")?;
+    let first = single(&rt, &mut arena, 70);
     assert!(rt; arena.count(first) == 0, "nothing refers to it");
     arena.free(first);
     assert_eq!(rt; arena.free_slots(), 2);
     Ok(())
 }
 
-/// A tomb of it.
-fn tomb(of: Ref) -> Node
-    ensures { refs_of_node result ≡ of ∷ [] }
-{
-    Node::Tomb { single: of }
-}
-
 #[test]
 fn counts_references(rt: HostRuntime) -> Result<(), Fail> {
     let mut arena = Arena::new(rt.alloc(), 4)?;
-    assert!(rt; arena.births() < 4);
-    let leaf = arena.make(single(1)).ok_or("a slot is free")?;
-    assert!(rt; arena.births() < 4);
-    let _tomb = arena.make(tomb(leaf)).ok_or("a slot is free")?;
+    let (leaf, _) = leaf_and_tomb(&rt, &mut arena);
     assert!(rt; arena.count(leaf) == 1, "the tomb's");
-    Ok(())
-}
-
-#[test]
-fn counts_what_is_held(rt: HostRuntime) -> Result<(), Fail> {
-    let mut arena = Arena::new(rt.alloc(), 4)?;
-    assert!(rt; arena.births() < 4);
-    let leaf = arena.make(single(1)).ok_or("a slot is free")?;
-    assert!(rt; arena.count(leaf) == 0, "nothing refers to it");
     arena.hold(leaf);
-    assert_eq!(rt; arena.count(leaf), 1);
+    assert_eq!(rt; arena.count(leaf), 2);
     arena.release(leaf);
-    assert_eq!(rt; arena.count(leaf), 0);
+    assert_eq!(rt; arena.count(leaf), 1);
     Ok(())
 }
 
 #[test]
 fn swaps_prev_words(rt: HostRuntime) -> Result<(), Fail> {
     let mut arena = Arena::new(rt.alloc(), 4)?;
-    assert!(rt; arena.births() < 4);
-    let leaf = arena.make(single(1)).ok_or("a slot is free")?;
-    assert!(rt; arena.births() < 4);
-    let tomb = arena.make(tomb(leaf)).ok_or("a slot is free")?;
-    if let Node::Tomb { .. } = arena.look(tomb) {
-        assert!(rt; arena.prev(tomb) == Prev::None, "undecided");
-        assert!(rt;
-            arena.swap_prev(tomb, Prev::None, Prev::Pending(leaf)),
-            "it was none"
-        );
-    }
+    let (leaf, tomb) = leaf_and_tomb(&rt, &mut arena);
+    assert!(rt; matches!(arena.look(tomb), Node::Tomb { .. }));
+    assert!(rt; arena.prev(tomb) == Prev::None, "undecided");
+    assert!(rt;
+        arena.swap_prev(tomb, Prev::None, Prev::Pending(leaf)),
+        "it was none"
+    );
     Ok(())
 }
 
 #[test]
 fn notes_what_waits(rt: HostRuntime) -> Result<(), Fail> {
     let mut arena = Arena::new(rt.alloc(), 2)?;
-    assert!(rt; arena.births() < 4);
-    let leaf = arena.make(single(1)).ok_or("a slot is free")?;
+    let leaf = single(&rt, &mut arena, 1);
     assert_eq!(rt; arena.noted_len(), 1);
-    let slot = arena.take_noted().ok_or("it is noted")?;
+    let slot = arena.take_noted().expect(&rt, "it is noted");
     assert!(rt; arena.waiting(slot) == Some(leaf), "it waits");
-    assert!(rt; arena.take_noted() == None, "no other");
+    Ok(())
+}
+
+#[test]
+fn notes_a_slot_once(rt: HostRuntime) -> Result<(), Fail> {
+    let mut arena = Arena::new(rt.alloc(), 2)?;
+    single(&rt, &mut arena, 1);
+    assert!(rt; arena.take_noted().is_some(), "it is noted");
+    assert!(rt; arena.take_noted().is_none(), "no other");
     let _ticks = arena.ticks();
     Ok(())
 }
@@ -131,19 +150,10 @@ fn notes_what_waits(rt: HostRuntime) -> Result<(), Fail> {
 #[test]
 fn swaps_main_words(rt: HostRuntime) -> Result<(), Fail> {
     let mut arena = Arena::new(rt.alloc(), 4)?;
-    assert!(rt; arena.births() < 4);
-    let first = arena.make(single(1)).ok_or("a slot is free")?;
-    assert!(rt; arena.births() < 4);
-    let above = arena
-        .make(Node::Indirection {
-            generation: 7,
-            main: first,
-        })
-        .ok_or("a slot is free")?;
-    if let Node::Indirection { generation: 7, .. } = arena.look(above) {
-        assert!(rt; arena.main(above) == first, "as it was made");
-        assert!(rt; arena.swap_main(above, first, above), "it was the first");
-    }
+    let (leaf, above) = leaf_and_above(&rt, &mut arena);
+    assert!(rt; matches!(arena.look(above), Node::Indirection { generation: 7, .. }));
+    assert!(rt; arena.main(above) == leaf, "as it was made");
+    assert!(rt; arena.swap_main(above, leaf, above), "it was the leaf");
     Ok(())
 }
 
@@ -160,23 +170,28 @@ fn refuses_sizes(rt: HostRuntime) {
 }
 
 #[test]
-fn keeps_lists(rt: HostRuntime) -> Result<(), Fail> {
+fn adds_to_lists(rt: HostRuntime) -> Result<(), Fail> {
     let (a, b) = (Ref::new(1, 7), Ref::new(2, 5));
     let mut list = Refs::new(rt.alloc());
     list.push(a)?;
-    let longer = list.with(b)?;
     assert!(rt; list.as_slice() == [a].as_slice(), "pushed");
     assert!(rt;
-        longer.copy()?.as_slice() == [a, b].as_slice(),
+        list.with(b)?.copy()?.as_slice() == [a, b].as_slice(),
         "with one more"
     );
-    let both = Refs::from_both(longer.allocator(), &[b], &[a])?;
+    Ok(())
+}
+
+#[test]
+fn joins_lists(rt: HostRuntime) -> Result<(), Fail> {
+    let (a, b) = (Ref::new(1, 7), Ref::new(2, 5));
+    let list = Refs::from_slice(rt.alloc(), &[b])?;
+    assert!(rt; list.as_slice() == [b].as_slice(), "of a slice");
+    let both = Refs::from_both(list.allocator(), &[b], &[a])?;
     assert!(rt;
         both.as_slice() == [b, a].as_slice(),
         "one behind the other"
     );
-    let same = Refs::from_slice(rt.alloc(), &[b])?;
-    assert!(rt; same.as_slice() == [b].as_slice(), "of a slice");
     Ok(())
 }
 
