@@ -20,6 +20,9 @@ use std::slice::from_ref;
 
 /// Slots with nodes in them, each with its count of references. Where a call is handed a reference,
 /// that names a slot in use.
+///
+/// A call notes few slots (clauses `few`): its own, the one of a `prev` word, and those that a node names,
+/// which are at most 32.
 #[derive(Drop)]
 pub struct Arena {
     cells: Cells,

@@ -67,7 +67,8 @@ fn leaf_and_above(rt: &impl Abort, arena: &mut Arena) -> (Ref, Ref)
 fn opens_with_free_slots(rt: HostRuntime) -> Result<(), Fail> {
     let arena = Arena::new(rt.alloc(), 2)?;
     assert_eq!(rt; arena.len(), 2);
-    assert!(rt; arena.births() < 4);
+    assert_eq!(rt; arena.births(), 0);
+    assert_eq!(rt; arena.free_slots(), 2);
     Ok(())
 }
 
