@@ -16,7 +16,8 @@ use Rattle.machine_model.specs.declared.steps.Step.{Step}
 use Rattle.machine_model.specs.declared.steps.Outcome.{Outcome}
 use Rattle.machine_model.specs.States.{State, first_state, operation_of}
 use Rattle.machine_model.specs.Machine.{run}
-use Rattle.machine_model.proofs.Moves.{Moves, Begins, Goes, Ends, Sweeps, begun_operation}
+use Rattle.machine_model.specs.Moves.{Begins, Goes, Ends, Sweeps}
+use Rattle.machine_model.specs.Moves.{Moves, begun_operation}
 use Rattle.machine_model.proofs.Actors.{after_marks, marks_by, gone_actors, begin_actors}
 use Rattle.machine_model.proofs.Frames.{limits_kept}
 use Rattle.machine_model.proofs.Along.{along}

@@ -11,12 +11,14 @@ use Rattle.machine_model.specs.declared.steps.Step.TheVariants as step
 use Rattle.machine_model.specs.States.{State, operation_of}
 use Rattle.machine_model.specs.Operations.{action_of, kind_of}
 use Rattle.machine_model.specs.Machine.{Answer, next, next_state, state_after, run_from, next_kind, begin_denial}
-use Rattle.machine_model.proofs.Moves.{Moves, Begins, Goes, Ends, Sweeps, MovesIfTaken, moves, begun_operation}
+use Rattle.machine_model.proofs.Moves.{moves}
+use Rattle.machine_model.specs.Moves.{Begins, Goes, Ends, Sweeps}
+use Rattle.machine_model.specs.Moves.{Moves, MovesIfTaken, begun_operation}
 use Rattle.machine_model.specs.Going.{go_limit}
 use Rattle.machine_model.proofs.Actors.{of_end}
-use Rattle.generation_laws.proofs.Running.{place_of_actor}
-use Rattle.order_laws.proofs.Books.{begin_events}
-use Rattle.order_laws.proofs.AllBooks.{gone_events}
+use Rattle.ctrie_commands.specs.Beneath.proof_generations.proofs.Handles.Running.{place_of_actor}
+use Rattle.ctrie_commands.specs.Beneath.proof_order.proofs.History.Books.{begin_events}
+use Rattle.ctrie_commands.specs.Beneath.proof_order.proofs.History.AllBooks.{gone_events}
 use Rattle.script_text.specs.declared.commands.Command.{Command}
 use Rattle.script_text.specs.declared.commands.Command.TheVariants.{Begin, Go, Until, Finish, Do, Sweep}
 use Rattle.script_text.specs.Steps.{stops, going, doing, steps_of, after_command}

@@ -19,11 +19,11 @@ use Rattle.machine_model.specs.Keys.{FitsKey, KeysFit}
 use Rattle.machine_model.specs.Machine.{AreLimits, begin_denial, go_denial, go_on, go_unless, next, next_kind, next_state, run, run_from, state_after}
 use Rattle.machine_model.specs.States.{State, first_state, operation_of}
 use Rattle.machine_model.proofs.Along.{run-append, run_push}
-use Rattle.machine_model.proofs.Moves.{begun_operation}
-use Rattle.lone_steps.specs.Laws.{AloneItEnds, HasEnded, RunsAlone, alone_after, most_steps_alone}
-use Rattle.step_machine.specs.Ending.{IsSure}
-use Rattle.step_machine.specs.Machines.{Taken, state_of}
-use Rattle.step_machine.proofs.Ending.{begun_runs_on, sure_behind}
+use Rattle.machine_model.specs.Moves.{begun_operation}
+use Rattle.proof_obstruction_free.specs.Laws.{AloneItEnds, HasEnded, RunsAlone, alone_after, most_steps_alone}
+use Rattle.ctrie_commands.specs.Beneath.step_machine.specs.Ending.{IsSure}
+use Rattle.ctrie_commands.specs.Beneath.step_machine.specs.Machines.{Taken, state_of}
+use Rattle.ctrie_commands.specs.Beneath.step_machine.proofs.Ending.{begun_runs_on, sure_behind}
 use Rattle.script_text.specs.declared.commands.Command.{Command}
 use Rattle.script_text.specs.declared.commands.Command.TheVariants.{Begin, Go, Until, Finish, Do, Sweep}
 use Rattle.script_text.specs.Grammar.{CommandFits}

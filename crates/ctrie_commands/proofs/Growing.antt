@@ -9,9 +9,10 @@ use Rattle.machine_model.specs.declared.steps.Step.{Step}
 use Rattle.machine_model.specs.declared.steps.Step.TheVariants as step
 use Rattle.machine_model.specs.States.{State}
 use Rattle.machine_model.specs.Machine.{Answer, next, next_state, state_after, run_from, next_kind, begin_denial, begin_unless, go_denial, go_unless}
-use Rattle.machine_model.proofs.Moves.{MovesIfTaken, moves}
+use Rattle.machine_model.proofs.Moves.{moves}
+use Rattle.machine_model.specs.Moves.{MovesIfTaken}
 use Rattle.machine_model.proofs.Frames.{limits_kept}
-use Rattle.order_laws.proofs.Growing.{Grows, grows_same, grows_trans, events_grow}
+use Rattle.ctrie_commands.specs.Beneath.proof_order.proofs.History.Growing.{Grows, grows_same, grows_trans, events_grow}
 use Rattle.script_text.specs.declared.commands.Command.{Command}
 use Rattle.script_text.specs.declared.commands.Command.TheVariants.{Begin, Go, Until, Finish, Do, Sweep}
 use Rattle.script_text.specs.Steps.{stops, going, doing, steps_of, denial_of, after_command}

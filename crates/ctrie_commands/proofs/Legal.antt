@@ -19,12 +19,12 @@ use Rattle.machine_model.specs.declared.steps.Step.{Step}
 use Rattle.machine_model.specs.States.{State, first_state}
 use Rattle.machine_model.specs.Orders.{order_of}
 use Rattle.machine_model.specs.Machine.{run_from, run}
-use Rattle.step_machine.specs.Machines.{Taken, state_of}
-use Rattle.step_machine.specs.Legality.{IsLegalFor, IsLegalRecord}
-use Rattle.step_machine.specs.Records.{IsRecordOf}
-use Rattle.step_machine.specs.declared.records.Record.{Record}
+use Rattle.ctrie_commands.specs.Beneath.step_machine.specs.Machines.{Taken, state_of}
+use Rattle.ctrie_commands.specs.Beneath.step_machine.specs.Legality.{IsLegalFor, IsLegalRecord}
+use Rattle.ctrie_commands.specs.Beneath.step_machine.specs.Records.{IsRecordOf}
+use Rattle.ctrie_commands.specs.Beneath.step_machine.specs.declared.records.Record.{Record}
 use Rattle.lock_runner.specs.Finishing.{recorded}
-use Rattle.lone_steps.specs.Laws.{AloneItEnds}
+use Rattle.proof_obstruction_free.specs.Laws.{AloneItEnds}
 use Rattle.script_text.specs.Reading.{Reading as Script, script_of}
 use Rattle.script_text.specs.Steps.{all_steps}
 use Rattle.ctrie_commands.specs.Reports.{last_state, report}

@@ -12,7 +12,7 @@ use Rattle.text_lines.proofs.FirstLine.{no_lines}
 use Rattle.history_text.specs.Texts.{event_text, order_text}
 use Rattle.history_text.proofs.Feeds.{HasNoFeed, no_feed, no_feed_append, first_line, event_line_none, order_line_none}
 use Rattle.history_text.proofs.Spelled.{hash_none}
-use Rattle.slot_arena.specs.Heaps.{in_use}
+use Rattle.ctrie_commands.specs.Beneath.slot_arena.specs.Heaps.{in_use}
 use Rattle.machine_model.specs.States.{State}
 use Rattle.machine_model.specs.Orders.{order_of}
 use Rattle.ctrie_commands.specs.Reports.{line, hash_text, denied_text, denied_lines, slots_text, event_lines, last_lines}

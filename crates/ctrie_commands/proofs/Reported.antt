@@ -8,9 +8,9 @@ use Rattle.ctrie_base.specs.declared.hashes.HashKind.{HashKind}
 use Rattle.history_text.specs.Grammar.{EventFits}
 use Rattle.machine_model.specs.declared.steps.Limits.{Limits}
 use Rattle.actor_history.specs.Answers.{AreAnswersOf}
-use Rattle.step_machine.specs.Machines.{Taken, state_of}
-use Rattle.step_machine.specs.Records.{IsRecordOf}
-use Rattle.step_machine.specs.declared.records.Record.{Record}
+use Rattle.ctrie_commands.specs.Beneath.step_machine.specs.Machines.{Taken, state_of}
+use Rattle.ctrie_commands.specs.Beneath.step_machine.specs.Records.{IsRecordOf}
+use Rattle.ctrie_commands.specs.Beneath.step_machine.specs.declared.records.Record.{Record}
 use Rattle.lock_runner.specs.Boards.{sweeps_in}
 use Rattle.lock_runner.specs.Seats.{Room, Seated, IsSeatOf, AreSeatsOf}
 use Rattle.lock_runner.specs.Opening.{IsMade}

@@ -12,7 +12,7 @@ use Rattle.ctrie_base.specs.declared.refusals.Refusal.{Refusal}
 use Rattle.history.specs.declared.calls.Call.{Call}
 use Rattle.history_text.specs.Grammar.{IsShort}
 use Rattle.machine_model.specs.declared.steps.Limits.{Limits}
-use Rattle.step_machine.specs.Machines.{Taken, state_of}
+use Rattle.ctrie_commands.specs.Beneath.step_machine.specs.Machines.{Taken, state_of}
 use Rattle.actor_history.specs.declared.accounts.Answer.{Answer}
 use Rattle.actor_history.specs.Answers.{AreAnswersOf}
 use Rattle.actor_history.proofs.Totals.{total, total_least, total_sum}

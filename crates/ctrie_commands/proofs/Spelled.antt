@@ -15,7 +15,7 @@ use Rattle.text_lines.specs.Texts.{said_lines}
 use Rattle.history_text.specs.Grammar.{IsNumber, EventFits, SpellEvents, Spell}
 use Rattle.history_text.proofs.Feeds.{HasNoFeed, no_feed, no_feed_decimal, no_feed_spaced}
 use Rattle.history_text.proofs.Spelled.{end_spelled, denied_spelled, events_spelled, whole_spelled}
-use Rattle.slot_arena.specs.Heaps.{in_use}
+use Rattle.ctrie_commands.specs.Beneath.slot_arena.specs.Heaps.{in_use}
 use Rattle.machine_model.specs.States.{State, first_state}
 use Rattle.machine_model.specs.Orders.{order_of}
 use Rattle.machine_model.specs.Machine.{run_from}

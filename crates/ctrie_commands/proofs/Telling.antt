@@ -8,7 +8,7 @@ use Rattle.machine_model.proofs.Along.{run-append}
 use Rattle.script_text.specs.declared.commands.Command.{Command}
 use Rattle.script_text.specs.Reading.{Reading}
 use Rattle.script_text.specs.Steps.{steps_of, after_command, all_steps}
-use Rattle.step_machine.specs.Machines.{fresh, state_of}
+use Rattle.ctrie_commands.specs.Beneath.step_machine.specs.Machines.{fresh, state_of}
 use Rattle.ctrie_commands.specs.Reports.{line, hash_text, told, all_told, last_lines, last_state, report}
 
 -- the steps of a line, and those of the lines behind it

@@ -1,3 +1,4 @@
+pub mod Beneath
 pub mod Verdicts
 pub mod Legality
 pub mod Denials

@@ -9,11 +9,11 @@ use Rattle.ctrie_base.specs.Hashes as hashes
 use Rattle.history.specs.declared.events.Event.{Event}
 use Rattle.text_lines.specs.Words.{spaced}
 use Rattle.history_text.specs.Texts.{event_text, order_text}
-use Rattle.slot_arena.specs.Heaps.{in_use}
+use Rattle.ctrie_commands.specs.Beneath.slot_arena.specs.Heaps.{in_use}
 use Rattle.machine_model.specs.States.{State, first_state}
 use Rattle.machine_model.specs.Orders.{order_of}
 use Rattle.machine_model.specs.Machine.{run}
-use Rattle.step_machine.specs.declared.records.Record.{Record}
+use Rattle.ctrie_commands.specs.Beneath.step_machine.specs.declared.records.Record.{Record}
 use Rattle.script_text.specs.declared.commands.Command.{Command}
 use Rattle.script_text.specs.declared.commands.Command.TheVariants.{Begin, Go, Until, Finish, Do, Sweep}
 use Rattle.script_text.specs.Reading.{Reading}

@@ -8,7 +8,7 @@ use Rattle.counted_io.specs.declared.faults.Fault.{Fault}
 use Rattle.counted_io.specs.declared.faults.Fault.TheVariants.{Line, Memory}
 use Rattle.machine_model.specs.declared.steps.Limits.{Limits}
 use Rattle.machine_model.specs.States.{State}
-use Rattle.step_machine.specs.Machines.{Taken, state_of, AreTaken}
+use Rattle.ctrie_commands.specs.Beneath.step_machine.specs.Machines.{Taken, state_of, AreTaken}
 use Rattle.actor_history.specs.declared.accounts.Answer.{Answer}
 use Rattle.actor_history.specs.Answers.{AreAnswersOf}
 use Rattle.lock_runner.specs.Boards.{sweeps_in}

@@ -7,8 +7,8 @@ ghost use Rattle.machine_model.specs.Orders.{order_of};
 ghost use Rattle.machine_model.specs.Machine.{run_from};
 ghost use Rattle.script_text.specs.Steps.{after_command, all_steps};
 ghost use Rattle.script_text.specs.Views.{read};
-ghost use Rattle.step_machine.specs.Machines.{state_of};
-ghost use Rattle.step_machine.specs.Legality.{IsLegalFor};
+ghost use Rattle.ctrie_commands.specs.Beneath.step_machine.specs.Machines.{state_of};
+ghost use Rattle.ctrie_commands.specs.Beneath.step_machine.specs.Legality.{IsLegalFor};
 ghost use Rattle.ctrie_commands.specs.Legality.{told_in, IsLegalText};
 ghost use Rattle.ctrie_commands.specs.Reports.{denied_text, slots_text, event_lines, actor_of, told, all_told, end_lines, last_lines, last_state, report, denied_lines, record_report};
 
@@ -16,10 +16,10 @@ use crate::stepping::carry_out;
 use ctrie_base::Refusal;
 use history::Event;
 use history_text::{EventText, OrderText, events_fit};
+use lock_runner::{Machine, Record};
 use script_text::{Command, Script};
 use std::alloc::{AllocError, Global};
 use std::fmt;
-use step_machine::{Machine, Record};
 
 /// A denied line, as `denied 1 5 Busy`.
 #[derive(Clone, Copy)]

@@ -19,7 +19,7 @@ fn carried_out(alloc: Global, text: &[u8]) -> Result<String, Fault>
     ensures report { IfOk result (λ report. IsReport text.now (string_bytes report)) }
     ensures faults { IfErr result (IsOfScript text.now) }
 {
-    ending_laws::alone_it_ends();
+    proof_obstruction_free::alone_it_ends();
     match read_script(alloc, text) {
         Ok(script) => Ok(report_of(alloc, &script)?),
         Err(Told::Line(number, refusal)) => Err(Fault::Line(number, refusal)),

@@ -4,15 +4,15 @@ ghost use Rattle.std.specs.Prelude.{◌≡◌, ◌∷◌, [], IfOk, OnOk, None, 
 ghost use Rattle.machine_model.specs.Machine.{next, next_state, run_from, begin_denial, go_denial};
 ghost use Rattle.machine_model.specs.declared.steps.Step.TheVariants.{Begin, Sweep};
 ghost use Rattle.script_text.specs.Steps.{stops, going, doing, denial_of, after_command};
-ghost use Rattle.step_machine.specs.Machines.{state_of};
+ghost use Rattle.ctrie_commands.specs.Beneath.step_machine.specs.Machines.{state_of};
 ghost use Rattle.ctrie_commands.specs.Denials.{denial_in};
 
 use ctrie_base::{Kind, Refusal};
 use history::Call;
+use lock_runner::{GO_LIMIT, Machine};
 use machine_model::Step;
 use script_text::Command;
 use std::alloc::AllocError;
-use step_machine::{GO_LIMIT, Machine};
 
 /// Carries out one command, and gives why it is denied, if it is. After an error some of its steps may
 /// have been taken.

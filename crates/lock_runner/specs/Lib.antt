@@ -1,3 +1,4 @@
+pub mod Beneath
 pub mod Boards
 pub mod Plays
 pub mod Gate

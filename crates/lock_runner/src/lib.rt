@@ -18,3 +18,4 @@ pub use between::Between;
 pub use finishing::Unfinished;
 pub use runner::Runner;
 pub use seats::{Seat, Stop};
+pub use step_machine::{GO_LIMIT, Limits, Machine, Outcome, Record, Step, run};

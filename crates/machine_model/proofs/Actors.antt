@@ -19,7 +19,8 @@ use Rattle.machine_model.specs.Swapping.{is_carried_out}
 use Rattle.machine_model.specs.Acting.{acted, aborted, offered, completed, new_root_taken, marked, operation_after, gone}
 use Rattle.machine_model.specs.Machine.{with_begin, begin_denial, go_denial}
 use Rattle.machine_model.proofs.Found.{found_elsewhere, found_here}
-use Rattle.machine_model.proofs.Moves.{Moves, Begins, Goes, Ends, Sweeps}
+use Rattle.machine_model.specs.Moves.{Begins, Goes, Ends, Sweeps}
+use Rattle.machine_model.specs.Moves.{Moves}
 
 -- the id of the operation that an action marks, if it does: it carries its offer out
 abbrev pub marks_of : State → ℕ → Action → Option ℕ

@@ -5,7 +5,8 @@ use Rattle.machine_model.specs.declared.steps.Outcome.{Outcome}
 use Rattle.machine_model.specs.declared.steps.Step.{Step}
 use Rattle.machine_model.specs.States.{State, first_state}
 use Rattle.machine_model.specs.Machine.{Answer, next, next_state, state_after, run_from, run}
-use Rattle.machine_model.proofs.Moves.{Moves, MovesIfTaken, moves}
+use Rattle.machine_model.proofs.Moves.{moves}
+use Rattle.machine_model.specs.Moves.{Moves, MovesIfTaken}
 
 -- a run of two lists of steps is the run of the second one from where the first one leads
 pub run-append : (state : State) (xs ys : List Step) → run_from state (xs ++ ys) ≡ run_from (run_from state xs) ys

@@ -13,7 +13,8 @@ use Rattle.machine_model.specs.Counting.{settled}
 use Rattle.machine_model.specs.Machine.{begin_denial, with_begin, run}
 use Rattle.machine_model.proofs.Along.{along}
 use Rattle.machine_model.proofs.Found.{none_found}
-use Rattle.machine_model.proofs.Moves.{Moves, Begins, Goes, Ends, Sweeps, GoesOn, begun_operation}
+use Rattle.machine_model.specs.Moves.{Begins, Goes, Ends, Sweeps}
+use Rattle.machine_model.specs.Moves.{Moves, GoesOn, begun_operation}
 use Rattle.machine_model.proofs.Actors.{IsOf, is_of, mark_one, marks_in, marks_by, of_others, of_itself, of_begin, of_end}
 
 -- P holds of each running operation; the actor k + 1 has the place k

@@ -13,7 +13,8 @@ use Rattle.machine_model.specs.States.{State}
 use Rattle.machine_model.specs.Operations.{action_of}
 use Rattle.machine_model.specs.Acting.{acted, aborted, offered, completed, new_root_taken}
 use Rattle.machine_model.specs.Machine.{with_begin, swept}
-use Rattle.machine_model.proofs.Moves.{Moves, Begins, Goes, Ends, Sweeps, begun_operation}
+use Rattle.machine_model.specs.Moves.{Begins, Goes, Ends, Sweeps}
+use Rattle.machine_model.specs.Moves.{Moves, begun_operation}
 
 -- what stays the same, whatever the action does
 pub record IsFramed (before after : State) : Type 0 where

@@ -13,4 +13,3 @@ pub mod Rest
 pub mod InUse
 pub mod Slots
 pub mod Times
-pub mod Grown

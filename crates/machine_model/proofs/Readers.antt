@@ -24,7 +24,7 @@ use Rattle.machine_model.specs.Finding.{key_action, key_after}
 use Rattle.machine_model.specs.Walking.{walk_action, walk_after}
 use Rattle.machine_model.specs.Acting.{operation_after}
 use Rattle.machine_model.specs.Machine.{begin_denial, run}
-use Rattle.machine_model.proofs.Moves.{begun_operation}
+use Rattle.machine_model.specs.Moves.{begun_operation}
 use Rattle.machine_model.proofs.Actors.{mark_one, mark_only}
 use Rattle.machine_model.proofs.EachOperation.{OfEach, of_running, of_each_along}
 

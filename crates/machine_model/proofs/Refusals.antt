@@ -27,7 +27,7 @@ use Rattle.machine_model.specs.Cleaning.{clean_action, clean_after}
 use Rattle.machine_model.specs.Climbing.{climb_after}
 use Rattle.machine_model.specs.Copying.{copy_action, copy_after}
 use Rattle.machine_model.specs.Walking.{walk_after}
-use Rattle.machine_model.proofs.Moves.{GoesOn}
+use Rattle.machine_model.specs.Moves.{GoesOn}
 
 -- the operation is about to end for want of slots
 abbrev pub IsRefusal : Line → Type 0

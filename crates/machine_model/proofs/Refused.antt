@@ -16,7 +16,9 @@ use Rattle.machine_model.specs.Acting.{operation_after}
 use Rattle.machine_model.specs.Machine.{Answer, next, state_after, go_denial, run, run_from}
 use Rattle.machine_model.specs.Laws.{FindsNoSlot}
 use Rattle.machine_model.proofs.Along.{run_push, by_last}
-use Rattle.machine_model.proofs.Moves.{Moves, Begins, Goes, Ends, Sweeps, GoesOn, MovesIfTaken, moves, moved, ending, begun_operation, IsTaken, allowed_taken}
+use Rattle.machine_model.proofs.Moves.{moves, moved, ending, allowed_taken}
+use Rattle.machine_model.specs.Moves.{Begins, Goes, Ends, Sweeps}
+use Rattle.machine_model.specs.Moves.{Moves, GoesOn, MovesIfTaken, begun_operation, IsTaken}
 use Rattle.machine_model.proofs.Frames.{limits_kept, steps_counted}
 use Rattle.machine_model.proofs.Actors.{IsOf, is_of, not_own_go, mark_one, mark_only, marks_by, marks_in, of_others, of_itself, of_begin, of_end}
 use Rattle.machine_model.proofs.Found.{none_found}

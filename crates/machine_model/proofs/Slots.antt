@@ -18,7 +18,8 @@ use Rattle.machine_model.specs.States.{State, first_state, empty_heap}
 use Rattle.epochs.specs.Sweeping.{ripe}
 use Rattle.machine_model.specs.Machine.{run, AreLimits}
 use Rattle.machine_model.proofs.Along.{along}
-use Rattle.machine_model.proofs.Moves.{Moves, Begins, Goes, Ends, Sweeps}
+use Rattle.machine_model.specs.Moves.{Begins, Goes, Ends, Sweeps}
+use Rattle.machine_model.specs.Moves.{Moves}
 use Rattle.machine_model.proofs.HeapMoves.{HeapMoves, Stays, Takes, Publishes, Restores, Commit, Fail, Frees, heap_moves}
 use Rattle.machine_model.proofs.Rest.{IsRest, take_one, free_one, all_free}
 use Rattle.machine_model.proofs.InUse.{InUse, flag_of_used, limbo_in_use, length-named_from}

@@ -5,19 +5,11 @@ use Rattle.machine_model.specs.declared.steps.Outcome.{Outcome}
 use Rattle.machine_model.specs.declared.steps.Step.{Step}
 use Rattle.machine_model.specs.States.{State, first_state}
 use Rattle.machine_model.specs.Machine.{Answer, AreLimits, next, next_state, state_after, is_taken_step, run_from, run, taken_from, taken_steps}
-use Rattle.machine_model.proofs.Moves.{Moves, MovesIfTaken, moves}
+use Rattle.machine_model.proofs.Moves.{moves}
+use Rattle.machine_model.specs.Moves.{Moves, MovesIfTaken}
 use Rattle.machine_model.proofs.Frames.{steps_counted}
 use Rattle.machine_model.proofs.Taken.{run-taken}
-
--- a step that is taken leads from one state to the next
-pub data Turn (before after : State) : Type 0 where
-  turns : (s : Step) (o : Outcome) → Moves before s o after → Turn before after
-
--- the states of a run of so many steps, each of them taken
-pub record IsRun (limits : Limits) (states : ℕ → State) (last : ℕ) : Type 0 where
-  pub limits_ok : AreLimits limits
-  pub first : states zero ≡ first_state limits
-  pub turn : (t : ℕ) → t < last → Turn (states t) (states (suc t))
+use Rattle.machine_model.specs.Times.{Turn, turns, IsRun, states_from, states_of, last_of}
 
 -- what holds at first, and is kept by each turn, holds at each time of a run; what was shown before of that time can be used
 pub along_run : (limits : Limits) (states : ℕ → State) (last : ℕ) → IsRun limits states last → (P : ℕ → Type 0) → P zero →
@@ -45,20 +37,6 @@ steps_at limits states last r =
     by_turn before after t e (turns s o m) = omega (arith, steps_counted before s o after m, e)
 
 -- ---- each list of steps is such a run
-
--- the states after more and more of these steps
-unfoldable pub states_from : State → List Step → ℕ → State
-states_from state [] t = state
-states_from state (s ∷ steps) zero = state
-states_from state (s ∷ steps) (suc t) = states_from (next_state state s) steps t
-
--- the state before step t of those steps of the list that are taken
-abbrev pub states_of : Limits → List Step → ℕ → State
-states_of limits steps = states_from (first_state limits) (taken_steps limits steps)
-
--- how many of them are taken
-abbrev pub last_of : Limits → List Step → ℕ
-last_of limits steps = length (taken_steps limits steps)
 
 -- the steps lead on by turns alone
 abbrev TurnsFrom : State → List Step → Type 0

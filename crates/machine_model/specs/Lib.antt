@@ -1,3 +1,4 @@
+pub mod Beneath
 pub mod Calls
 pub mod States
 pub mod Pairs
@@ -23,3 +24,6 @@ pub mod Keys
 pub mod Refusing
 pub mod Runs
 pub mod Laws
+pub mod Grown
+pub mod Moves
+pub mod Times

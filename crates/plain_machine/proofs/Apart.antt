@@ -21,7 +21,8 @@ use Rattle.machine_model.specs.Machine.{run, AreLimits}
 use Rattle.machine_model.proofs.Along.{along}
 use Rattle.machine_model.proofs.HeapMoves.{heap_moves}
 use Rattle.machine_model.proofs.InUse.{InUse}
-use Rattle.machine_model.proofs.Moves.{Moves, Begins, Goes, Ends, Sweeps}
+use Rattle.machine_model.specs.Moves.{Begins, Goes, Ends, Sweeps}
+use Rattle.machine_model.specs.Moves.{Moves}
 use Rattle.machine_model.proofs.Slots.{sound_along}
 use Rattle.plain_machine.proofs.Steps.{heap_slots}
 use Rattle.plain_machine.proofs.Settling.{at_says, in_use_if, stands_if}

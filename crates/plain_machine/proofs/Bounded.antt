@@ -32,7 +32,9 @@ use Rattle.machine_model.proofs.Actors.{mark_one, mark_only, marks_by, marks_in}
 use Rattle.machine_model.proofs.EachOperation.{OfEach, of_each_along, of_running}
 use Rattle.machine_model.proofs.Frames.{acted_framed, limits_kept, steps_counted}
 use Rattle.machine_model.proofs.HeapMoves.{HeapMoves, Stays, Takes, Publishes, Restores, Commit, Fail, Frees, heap_moves}
-use Rattle.machine_model.proofs.Moves.{moved, Moves, Begins, Goes, Ends, Sweeps, begun_operation}
+use Rattle.machine_model.proofs.Moves.{moved}
+use Rattle.machine_model.specs.Moves.{Begins, Goes, Ends, Sweeps}
+use Rattle.machine_model.specs.Moves.{Moves, begun_operation}
 use Rattle.machine_model.proofs.Slots.{sound_along, add_up}
 use Rattle.plain_machine.proofs.Apart.{limbo_few}
 use Rattle.plain_machine.specs.Bounds.{IsOfRun, IsBounded, Applies}

@@ -28,7 +28,7 @@ use Rattle.machine_model.specs.Counting.{outside, settled}
 use Rattle.machine_model.specs.Machine.{next, begin_denial, begin_unless, with_begin, go_denial, go_unless, go_on, went, is_spent, pin_of, reclaimer_of, swept_with, swept, settled_after, is_taken_step, denial_of}
 use Rattle.machine_model.proofs.Frames.{acted_framed}
 use Rattle.machine_model.proofs.HeapMoves.{HeapMoves, Stays, Takes, Publishes, Restores, Commit, Fail, Frees, acted_heap}
-use Rattle.machine_model.proofs.Moves.{begun_operation}
+use Rattle.machine_model.specs.Moves.{begun_operation}
 use Rattle.plain_machine.specs.Bounds.{Applies, Leads}
 
 -- ---- the number of slots

@@ -14,3 +14,4 @@ mod stepping;
 mod sweeping;
 
 pub use machine::Plain;
+pub use plain_reading::key_of;

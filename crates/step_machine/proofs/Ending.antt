@@ -11,18 +11,19 @@ use Rattle.machine_model.specs.declared.steps.Step.TheVariants as step
 use Rattle.machine_model.specs.declared.steps.Outcome.{Outcome}
 use Rattle.machine_model.specs.declared.steps.Outcome.TheVariants as outcome
 use Rattle.machine_model.specs.Keys.{FitsKey, KeysFit}
-use Rattle.machine_model.proofs.Moves.{moved, begun_operation}
+use Rattle.machine_model.proofs.Moves.{moved}
+use Rattle.machine_model.specs.Moves.{begun_operation}
 use Rattle.machine_model.specs.Counting.{settled}
 use Rattle.machine_model.specs.Going.{go_limit}
 use Rattle.machine_model.specs.Machine.{AreLimits, next, begin_denial, begin_unless, with_begin}
 use Rattle.machine_model.specs.States.{State, operation_of}
-use Rattle.deciding_laws.proofs.StepsAt.{begin_own}
-use Rattle.order_laws.proofs.Unconditional.{books_of}
-use Rattle.order_laws.proofs.Recalling.{begin_event}
+use Rattle.step_machine.specs.Beneath.proof_commits.proofs.Known.StepsAt.{begin_own}
+use Rattle.step_machine.specs.Beneath.proof_order.proofs.Views.Unconditional.{books_of}
+use Rattle.step_machine.specs.Beneath.proof_order.proofs.History.Recalling.{begin_event}
 use Rattle.std.proofs.lemmas.List.Elements.{All-push}
 use Rattle.std.proofs.lemmas.Option.{none-some}
 use Rattle.step_machine.proofs.Telling.{stepped, begun_runs}
-use Rattle.lone_steps.specs.Laws.{EachStepLeadsToItsEnd, GoesOnAt, RunsAlone, most_steps_alone}
+use Rattle.proof_obstruction_free.specs.Laws.{EachStepLeadsToItsEnd, GoesOnAt, RunsAlone, most_steps_alone}
 use Rattle.step_machine.specs.Machines.{Taken, state_of, with_step}
 use Rattle.step_machine.specs.Callers.{going_on, Resumes, Completes, CompletesUnless}
 use Rattle.step_machine.specs.Ending.{IsSure, IsAnswer}

@@ -16,8 +16,8 @@ use Rattle.machine_model.specs.Orders.{order_of}
 use Rattle.machine_model.specs.Contents.{content_at}
 use Rattle.machine_model.specs.Keys.{KeysFit}
 use Rattle.machine_model.specs.Machine.{AreLimits, next, begin_denial, begin_unless, is_busy, run}
-use Rattle.order_laws.specs.Laws.{Names, ShowsContents, IsExplained}
-use Rattle.legal_order.specs.Laws.{AloneItActs, RanAlone, Does}
+use Rattle.step_machine.specs.Beneath.proof_order.specs.Laws.Orders.{Names, ShowsContents, IsExplained}
+use Rattle.proof_linearizable.specs.Laws.{AloneItActs, RanAlone, Does}
 use Rattle.step_machine.specs.Machines.{Taken, state_of, with_step}
 use Rattle.step_machine.specs.Callers.{Resumes, Completes, CompletesUnless}
 use Rattle.step_machine.specs.declared.records.Record.{Record}

@@ -8,8 +8,10 @@ use Rattle.machine_model.specs.declared.steps.Step.TheVariants.{Sweep}
 use Rattle.machine_model.specs.States.{State, first_state, root_at}
 use Rattle.machine_model.specs.Machine.{AreLimits, Answer, next, next_state, state_after, is_busy}
 use Rattle.machine_model.proofs.Along.{run_push}
-use Rattle.machine_model.proofs.Moves.{MovesIfTaken, Sweeps, moves}
-use Rattle.memory_laws.specs.Laws.{SweepLeaves, Reclaimed}
+use Rattle.machine_model.proofs.Moves.{moves}
+use Rattle.machine_model.specs.Moves.{Sweeps}
+use Rattle.machine_model.specs.Moves.{MovesIfTaken}
+use Rattle.proof_memory.specs.Laws.{SweepLeaves, Reclaimed}
 use Rattle.step_machine.specs.Machines.{Taken, state_of, with_step}
 use Rattle.step_machine.specs.Callers.{swept, Reclaims, ReclaimsUnless}
 use Rattle.step_machine.specs.Reclaiming.{UsesReached, LooksSame}

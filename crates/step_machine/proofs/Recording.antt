@@ -7,7 +7,7 @@ use Rattle.machine_model.specs.declared.steps.Limits.{Limits}
 use Rattle.machine_model.specs.declared.steps.Step.{Step}
 use Rattle.machine_model.specs.declared.steps.Outcome.{Outcome}
 use Rattle.std.specs.Prelude.{length}
-use Rattle.slot_arena.specs.Heaps.{in_use}
+use Rattle.step_machine.specs.Beneath.slot_arena.specs.Heaps.{in_use}
 use Rattle.machine_model.specs.Orders.{order_of}
 use Rattle.machine_model.specs.States.{State, first_state}
 use Rattle.machine_model.specs.Machine.{next, next_state, run_from, run, is_taken_step, taken_from}

@@ -19,15 +19,17 @@ use Rattle.machine_model.specs.Acting.{gone, ended}
 use Rattle.machine_model.specs.Counting.{settled}
 use Rattle.machine_model.specs.Machine.{Answer, next, state_after}
 use Rattle.machine_model.proofs.Along.{run_push}
-use Rattle.machine_model.proofs.Moves.{Moves, Begins, Goes, Ends, Sweeps, moved, begun_operation}
-use Rattle.generation_laws.proofs.Running.{place_of_actor}
-use Rattle.order_laws.proofs.Running.{runs_on}
-use Rattle.order_laws.proofs.AllBooks.{gone_events}
-use Rattle.order_laws.proofs.Books.{Books, ended_below}
-use Rattle.order_laws.proofs.Elements.{no_last}
-use Rattle.order_laws.proofs.Growing.{ended_before}
-use Rattle.order_laws.proofs.Unconditional.{books_of}
-use Rattle.order_laws.proofs.Recalling.{end_event, begin_event}
+use Rattle.machine_model.proofs.Moves.{moved}
+use Rattle.machine_model.specs.Moves.{Begins, Goes, Ends, Sweeps}
+use Rattle.machine_model.specs.Moves.{Moves, begun_operation}
+use Rattle.step_machine.specs.Beneath.proof_generations.proofs.Handles.Running.{place_of_actor}
+use Rattle.step_machine.specs.Beneath.proof_order.proofs.History.Running.{runs_on}
+use Rattle.step_machine.specs.Beneath.proof_order.proofs.History.AllBooks.{gone_events}
+use Rattle.step_machine.specs.Beneath.proof_order.proofs.History.Books.{Books, ended_below}
+use Rattle.step_machine.specs.Beneath.proof_order.proofs.Places.Elements.{no_last}
+use Rattle.step_machine.specs.Beneath.proof_order.proofs.History.Growing.{ended_before}
+use Rattle.step_machine.specs.Beneath.proof_order.proofs.Views.Unconditional.{books_of}
+use Rattle.step_machine.specs.Beneath.proof_order.proofs.History.Recalling.{end_event, begin_event}
 use Rattle.step_machine.specs.Machines.{Taken, state_of, with_step}
 use Rattle.machine_model.specs.Going.{go_limit}
 use Rattle.step_machine.specs.Callers.{Going, after_outcome, after_go, going_on}

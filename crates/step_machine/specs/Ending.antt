@@ -7,7 +7,7 @@ use Rattle.history.specs.declared.replies.Reply.{Reply}
 use Rattle.machine_model.specs.declared.operations.Operation.{Operation}
 use Rattle.machine_model.specs.Machine.{begin_denial}
 use Rattle.machine_model.specs.States.{State, operation_of, step_limit}
-use Rattle.lone_steps.specs.Laws.{IsOnKeyOrRoot, most_steps_alone}
+use Rattle.proof_obstruction_free.specs.Laws.{IsOnKeyOrRoot, most_steps_alone}
 use Rattle.step_machine.specs.Machines.{Taken, state_of}
 
 -- a call on one key, a snapshot, a freeze or a clear, while so many steps are left

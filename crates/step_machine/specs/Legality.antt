@@ -9,8 +9,8 @@ use Rattle.history.specs.declared.replies.Reply.{Reply}
 use Rattle.history.specs.Worlds.{KeyMap, HandleMap}
 use Rattle.history.specs.Orders.{Explains, IsLegal}
 use Rattle.machine_model.specs.Orders.{order_of}
-use Rattle.order_laws.specs.Laws.{ShowsContents}
-use Rattle.legal_order.specs.Laws.{Does}
+use Rattle.step_machine.specs.Beneath.proof_order.specs.Laws.Orders.{ShowsContents}
+use Rattle.proof_linearizable.specs.Laws.{Does}
 use Rattle.step_machine.specs.declared.records.Record.{Record}
 use Rattle.step_machine.specs.Machines.{Taken, state_of}
 

@@ -1,3 +1,4 @@
+pub mod Beneath
 pub mod Machines
 pub mod Callers
 pub mod Records

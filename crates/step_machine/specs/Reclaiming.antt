@@ -1,11 +1,11 @@
 -- What the sweep leaves.
 use Rattle.std.specs.Prelude.{◌≡◌, ℕ, Some}
-use Rattle.slot_arena.specs.declared.refs.Ref.{Ref}
+use Rattle.step_machine.specs.Beneath.slot_arena.specs.declared.refs.Ref.{Ref}
 use Rattle.machine_model.specs.declared.roots.Root.{Root}
 use Rattle.machine_model.specs.States.{State, root_at}
 use Rattle.machine_model.specs.Orders.{order_of}
 use Rattle.machine_model.specs.Contents.{IsReached, content_at}
-use Rattle.memory_laws.specs.Laws.{IsInUse}
+use Rattle.proof_memory.specs.Laws.{IsInUse}
 
 -- the slots in use are exactly those that the handles reach
 abbrev pub UsesReached : State → Type 0

@@ -2,7 +2,7 @@
 use Rattle.std.specs.Prelude.{◌≡◌, List, length}
 use Rattle.machine_model.specs.declared.steps.Limits.{Limits}
 use Rattle.machine_model.specs.declared.steps.Step.{Step}
-use Rattle.slot_arena.specs.Heaps.{in_use}
+use Rattle.step_machine.specs.Beneath.slot_arena.specs.Heaps.{in_use}
 use Rattle.machine_model.specs.Orders.{order_of}
 use Rattle.machine_model.specs.Machine.{run, taken_steps}
 use Rattle.step_machine.specs.Machines.{Taken, state_of}

@@ -36,8 +36,8 @@ impl Machine {
         Self::fits(Step::Begin { actor, call });
         let result = self.begin_and_go(actor, call);
         let _ = self.steps();
-        legal_order::alone_it_acts();
-        ending_laws::each_step_leads_to_its_end();
+        proof_linearizable::alone_it_acts();
+        proof_obstruction_free::each_step_leads_to_its_end();
         result
     }
 
@@ -61,7 +61,7 @@ impl Machine {
         let _ = self.limits();
         let _ = self.steps();
         let result = self.go_on(actor);
-        ending_laws::each_step_leads_to_its_end();
+        proof_obstruction_free::each_step_leads_to_its_end();
         result
     }
 
@@ -89,8 +89,8 @@ impl Machine {
     {
         let _ = self.limits();
         let result = self.sweep_all();
-        memory_laws::sweep_leaves();
-        memory_laws::reclaimed();
+        proof_memory::sweep_leaves();
+        proof_memory::reclaimed();
         result
     }
 

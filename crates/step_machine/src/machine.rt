@@ -6,14 +6,14 @@ ghost use Rattle.history.specs.declared.calls.Access.TheVariants.{ReadOnly};
 ghost use Rattle.history.specs.declared.replies.Reply.TheVariants.{NoSlots};
 ghost use Rattle.machine_model.specs.declared.operations.Operation.{Operation};
 ghost use Rattle.machine_model.specs.States.{root_at, operation_of};
-ghost use Rattle.slot_arena.specs.Heaps.{in_use};
+ghost use Rattle.step_machine.specs.Beneath.slot_arena.specs.Heaps.{in_use};
 ghost use Rattle.machine_model.specs.Orders.{order_of};
 ghost use Rattle.machine_model.specs.Contents.{content_at};
 ghost use Rattle.machine_model.specs.Keys.{FitsKey, KeysFit};
 ghost use Rattle.machine_model.specs.Machine.{AreLimits, denial_of, is_running, is_busy, runs_on, next_kind, handles_taken, is_access, access_of};
 ghost use Rattle.machine_model.specs.Refusing.{RefusesLimits, RefusesContent};
 ghost use Rattle.step_machine.specs.Machines.{Taken, fresh, state_of, AreTaken, Applied, FoundNoSlot};
-ghost use Rattle.order_laws.specs.Laws.{IsExplained};
+ghost use Rattle.step_machine.specs.Beneath.proof_order.specs.Laws.Orders.{IsExplained};
 ghost use Rattle.step_machine.specs.Legality.{IsLegalFor, IsInOrder};
 
 use ctrie_base::{Kind, Refusal};
@@ -85,7 +85,7 @@ impl Machine {
     {
         let _ = self.steps();
         let _ = self.limits();
-        legal_order::every_order_is_legal();
+        proof_linearizable::every_order_is_legal();
     }
 
     /// The key of a step has 64 bits, since it is one of the program's.
@@ -93,7 +93,7 @@ impl Machine {
         ensures { FitsKey step }
     {
         if let Step::Begin { call, .. } = step {
-            let _ = plain_reading::key_of(call);
+            let _ = plain_machine::key_of(call);
         }
     }
 

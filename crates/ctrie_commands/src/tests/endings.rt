@@ -4,10 +4,10 @@ use super::scripts::HALTED;
 use crate::stepping::carry_out;
 use ctrie_base::Refusal;
 use history::Call;
+use lock_runner::{Limits, Machine, Step};
 use script_text::read_script;
 use std::alloc::Global;
 use std::test::Fail;
-use step_machine::{Limits, Machine, Step};
 
 /// A remove cleans a long path; a put whose node is pending is overtaken by a freeze, and then a get on the
 /// copy fails that node; a remove finds no slot for its cleaning.

@@ -1,7 +1,7 @@
 use Rattle.std.proofs.Common.{◌≡◌, ap, ◌∙◌, rules}
 use Rattle.std.specs.String.{string_bytes}
 use Rattle.script_text.specs.Views.{read}
-use Rattle.step_machine.specs.Machines.{state_of}
+use Rattle.ctrie_commands.specs.Beneath.step_machine.specs.Machines.{state_of}
 use Rattle.ctrie_commands.specs.Reports.{line, hash_text}
 use Rattle.ctrie_commands.proofs.Legal.{led_to, report_legal}
 use Rattle.ctrie_commands.proofs.Telling.{fresh_state, reported}

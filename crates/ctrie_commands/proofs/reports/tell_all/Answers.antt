@@ -1,7 +1,7 @@
 use Rattle.std.proofs.Common.{◌≡◌, [], drop, sym, ◌∙◌}
 use Rattle.std.proofs.lemmas.List.{drop_all}
 use Rattle.std.specs.String.{string_bytes}
-use Rattle.step_machine.specs.Machines.{state_of}
+use Rattle.ctrie_commands.specs.Beneath.step_machine.specs.Machines.{state_of}
 use Rattle.ctrie_commands.proofs.Telling.{carried_more, told_more, carried_all, told_all}
 use Rattle.ctrie_commands.proofs.reports.tell_all.Goals as goal
 

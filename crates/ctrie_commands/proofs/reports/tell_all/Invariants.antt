@@ -3,7 +3,7 @@ use Rattle.std.proofs.Common.{◌≡◌, ◌++◌, drop}
 use Rattle.std.specs.String.{string_bytes}
 use Rattle.machine_model.specs.Machine.{run_from}
 use Rattle.script_text.specs.Steps.{all_steps}
-use Rattle.step_machine.specs.Machines.{state_of}
+use Rattle.ctrie_commands.specs.Beneath.step_machine.specs.Machines.{state_of}
 use Rattle.ctrie_commands.specs.Reports.{all_told}
 use Rattle.ctrie_commands.proofs.reports.tell_all.Given as goal
 

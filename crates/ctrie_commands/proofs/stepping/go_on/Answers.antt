@@ -1,7 +1,7 @@
 use Rattle.std.proofs.Common.{◌≡◌, ◌+◌, ◌-◌, sym, ◌∙◌, arith, true, false}
 use Rattle.machine_model.specs.Machine.{next_kind}
 use Rattle.script_text.specs.Steps.{stops}
-use Rattle.step_machine.specs.Machines.{state_of}
+use Rattle.ctrie_commands.specs.Beneath.step_machine.specs.Machines.{state_of}
 use Rattle.ctrie_commands.proofs.Carrying.{going_none, going_stops, going_on}
 use Rattle.ctrie_commands.proofs.stepping.go_on.Goals as goal
 

@@ -2,7 +2,7 @@
 use Rattle.std.proofs.Common.{◌≡◌, ◌-◌}
 use Rattle.machine_model.specs.Machine.{run_from}
 use Rattle.script_text.specs.Steps.{going}
-use Rattle.step_machine.specs.Machines.{state_of}
+use Rattle.ctrie_commands.specs.Beneath.step_machine.specs.Machines.{state_of}
 use Rattle.ctrie_commands.proofs.stepping.go_on.Given as goal
 
 abbrev pub invariant-loop : goal.invariant-loop

@@ -1,6 +1,6 @@
 use Rattle.std.proofs.Common.{sym, ◌∙◌}
 use Rattle.machine_model.specs.declared.steps.Step.TheVariants.{Begin}
-use Rattle.step_machine.specs.Machines.{state_of}
+use Rattle.ctrie_commands.specs.Beneath.step_machine.specs.Machines.{state_of}
 use Rattle.ctrie_commands.proofs.Carrying.{performed}
 use Rattle.ctrie_commands.proofs.stepping.perform.Goals as goal
 

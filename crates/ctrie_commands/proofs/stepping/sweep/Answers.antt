@@ -1,5 +1,5 @@
 use Rattle.std.proofs.Common.{◌≡◌, ◌+◌, ◌-◌, sym, ◌∙◌, arith}
-use Rattle.step_machine.specs.Machines.{state_of}
+use Rattle.ctrie_commands.specs.Beneath.step_machine.specs.Machines.{state_of}
 use Rattle.ctrie_commands.proofs.Carrying.{sweeping_none, sweeping_on}
 use Rattle.ctrie_commands.proofs.stepping.sweep.Goals as goal
 

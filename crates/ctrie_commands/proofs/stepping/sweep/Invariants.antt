@@ -2,7 +2,7 @@
 use Rattle.std.proofs.Common.{◌≡◌, ◌-◌, replicate}
 use Rattle.machine_model.specs.declared.steps.Step.TheVariants.{Sweep}
 use Rattle.machine_model.specs.Machine.{run_from}
-use Rattle.step_machine.specs.Machines.{state_of}
+use Rattle.ctrie_commands.specs.Beneath.step_machine.specs.Machines.{state_of}
 use Rattle.ctrie_commands.proofs.stepping.sweep.Given as goal
 
 abbrev pub invariant-loop : goal.invariant-loop

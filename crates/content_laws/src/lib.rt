@@ -1,2 +1,0 @@
-//! Laws of the contents of generations over a run.
-#![tactic(auto)]

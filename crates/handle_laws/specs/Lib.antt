@@ -1,2 +1,0 @@
-pub mod Touching
-pub mod Laws

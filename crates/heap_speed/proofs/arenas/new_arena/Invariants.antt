@@ -1,5 +1,0 @@
-use Rattle.slot_arena.specs.Arenas.{AreLive}
-use Rattle.heap_speed.proofs.arenas.new_arena.Given as goal
-
-abbrev pub invariant-loop-key : goal.invariant-loop-key
-invariant-loop-key l = AreLive l.arena.heap l.refs.items

@@ -1,5 +1,0 @@
-use Rattle.slot_arena.specs.Arenas.{AreLive}
-use Rattle.heap_speed.proofs.heaps.hold_and_release.Given as goal
-
-abbrev pub invariant-loop : goal.invariant-loop
-invariant-loop l = AreLive l.heap.heap l.refs

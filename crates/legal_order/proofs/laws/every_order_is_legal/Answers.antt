@@ -1,5 +1,0 @@
-use Rattle.legal_order.proofs.Legal.{every_order_is_legal}
-use Rattle.legal_order.proofs.laws.every_order_is_legal.Goals as goal
-
-pub returns : goal.returns
-returns c = every_order_is_legal

@@ -1,8 +1,0 @@
-use Rattle.lone_steps.proofs.AloneEnds.{copies_end_first, copies_end as all_copies_end}
-use Rattle.lone_steps.proofs.laws.copies_end.Goals as goal
-
-pub returns-clause-first : goal.returns-clause-first
-returns-clause-first c = copies_end_first
-
-pub returns-clause-under_way : goal.returns-clause-under_way
-returns-clause-under_way c = all_copies_end

@@ -1,5 +1,0 @@
-use Rattle.memory_laws.proofs.Zeros.{freed_late}
-use Rattle.memory_laws.proofs.laws.freed_when_zero_for_two_epochs.Goals as goal
-
-pub returns : goal.returns
-returns c limits steps s r ok = freed_late limits ok steps s r

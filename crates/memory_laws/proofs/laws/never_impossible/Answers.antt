@@ -1,5 +1,0 @@
-use Rattle.memory_laws.proofs.ShapeStates.{never_there}
-use Rattle.memory_laws.proofs.laws.never_impossible.Goals as goal
-
-pub returns : goal.returns
-returns c limits steps actor operation ok = never_there limits ok steps actor operation

@@ -1,2 +1,0 @@
-pub mod Wants
-pub mod Laws

@@ -1,6 +1,0 @@
-pub mod Branches
-pub mod Looking
-pub mod Lists
-pub mod Changing
-pub mod Chains
-pub mod Laws

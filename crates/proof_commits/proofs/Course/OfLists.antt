@@ -1,0 +1,426 @@
+-- The laws, from what other layers give of each run.
+use Rattle.std.proofs.Common.{◌≡◌, ℕ, suc, ◌+◌, ◌<◌, ◌≤◌, ◌⊎◌, true, false, List, Some, inl, inr, refl, sym, ◌∙◌, ap, subst, add-one, arith}
+use Rattle.std.proofs.lemmas.Bool.{cases_eq}
+use Rattle.std.proofs.lemmas.Option.{same_Some}
+use Rattle.proof_commits.specs.Beneath.history.specs.declared.replies.Reply.{Reply}
+use Rattle.proof_commits.specs.Beneath.slot_arena.specs.declared.refs.Ref.{Ref}
+use Rattle.proof_commits.specs.Beneath.slot_arena.specs.declared.nodes.Node.{Node}
+use Rattle.proof_commits.specs.Beneath.slot_arena.specs.declared.nodes.Node.TheVariants.{Tomb}
+use Rattle.std.specs.Prelude.{is_some}
+use Rattle.proof_commits.specs.Beneath.slot_arena.specs.declared.nodes.Prev.TheVariants as over
+use Rattle.proof_commits.specs.Beneath.slot_arena.specs.Heaps.{main_of, generation_of, main_at, prev_at, generation_at, node_at, logical_main}
+use Rattle.proof_commits.specs.Beneath.machine_model.specs.declared.actions.Action.TheVariants as act
+use Rattle.proof_commits.specs.Beneath.machine_model.specs.declared.operations.Operation.{Operation}
+use Rattle.proof_commits.specs.Beneath.machine_model.specs.declared.reading.After.{After}
+use Rattle.proof_commits.specs.Beneath.machine_model.specs.declared.reading.After.TheVariants.{Goes, Gives}
+use Rattle.proof_commits.specs.Beneath.machine_model.specs.declared.reading.ReadLine.{ReadLine}
+use Rattle.proof_commits.specs.Beneath.machine_model.specs.declared.reading.SwapLine.{SwapLine}
+use Rattle.proof_commits.specs.Beneath.machine_model.specs.declared.reading.SwapLine.TheVariants as swap
+use Rattle.proof_commits.specs.Beneath.machine_model.specs.declared.steps.Limits.{Limits}
+use Rattle.proof_commits.specs.Beneath.machine_model.specs.declared.steps.Outcome.{Outcome}
+use Rattle.proof_commits.specs.Beneath.machine_model.specs.declared.steps.Step.{Step}
+use Rattle.proof_commits.specs.Beneath.machine_model.specs.declared.steps.Step.TheVariants as step
+use Rattle.proof_commits.specs.Beneath.machine_model.specs.Calls.{handle_of}
+use Rattle.proof_commits.specs.Beneath.machine_model.specs.States.{State, operation_of, word_at, closed_at}
+use Rattle.proof_commits.specs.Beneath.machine_model.specs.Reading.{read_after, read_step, at_indirection}
+use Rattle.proof_commits.specs.Beneath.machine_model.specs.Operations.{action_of}
+use Rattle.proof_commits.specs.Beneath.machine_model.specs.Orders.{read_at_after, moment_after}
+use Rattle.proof_commits.specs.Beneath.machine_model.specs.Acting.{gone}
+use Rattle.proof_commits.specs.Beneath.machine_model.specs.Counting.{settled}
+use Rattle.proof_commits.specs.Beneath.machine_model.specs.Machine.{AreLimits, run}
+use Rattle.proof_commits.specs.Beneath.machine_model.specs.Moves as Machine
+use Rattle.proof_commits.specs.Beneath.machine_model.proofs.Times.{run_ends}
+use Rattle.proof_commits.specs.Beneath.machine_model.specs.Times.{states_of, last_of}
+use Rattle.proof_commits.specs.Beneath.machine_model.specs.Grown.{node_under}
+use Rattle.proof_commits.specs.Protocol.{Words, Rests, Reads, Protocol}
+use Rattle.proof_commits.specs.Protocol as Protocol'
+use Rattle.proof_commits.proofs.Words.Stood.{Stood, stood_still, none≢pending, stands_now, over_pending}
+use Rattle.proof_commits.proofs.Words.Effects.{Becomes, Same, GoesIn, IsCommitted, IsFailed, becomes}
+use Rattle.proof_commits.proofs.Known.Owners.{HasFresh}
+use Rattle.proof_commits.proofs.Known.Owners as Owned
+use Rattle.proof_commits.proofs.Known.Sounds.{sound_at, swapper}
+use Rattle.proof_commits.proofs.Course.Finals.{effect, none_final, failed_final, Fate, StillPending, HasFailed as FateFailed, HasCommitted, fate}
+use Rattle.proof_commits.proofs.Course.Mains.{CommitsMain as Changed, MainStep, MainStays, MainChanges, main_step, replaced_for_good}
+use Rattle.proof_commits.proofs.Course.Readings.{closed_once, given_for_good as protocol_for_good}
+use Rattle.proof_commits.specs.Moments.{IsMoment}
+use Rattle.proof_commits.proofs.Course.Closings.{commits_early}
+use Rattle.proof_commits.proofs.Course.Swaps.{checked, tomb_stays}
+use Rattle.proof_commits.specs.Stages.{stage_of, stage_of_actor}
+use Rattle.proof_commits.proofs.Known.Given.{Known}
+use Rattle.proof_commits.proofs.Known.Layers.{Memory, OtherLayers, known_of_memory, known}
+use Rattle.proof_commits.specs.Words.{words_of}
+use Rattle.proof_commits.proofs.Lines.Read.{generation_stays, solid_stays}
+use Rattle.proof_commits.proofs.Lines.Reads.{ends_at_end}
+use Rattle.proof_commits.proofs.Words.Along.{protocol}
+use Rattle.proof_commits.proofs.Course.Moments.{moment_at}
+use Rattle.proof_commits.proofs.Words.InHeap.{grown_standing, states_are, step_leads, node_standing, prev_standing, logical_standing}
+use Rattle.proof_commits.proofs.Lines.Swap.{runs_deciding, runs_publishing, in_swap_fresh, reads_stage}
+use Rattle.proof_commits.specs.Runs.{steps_taken, state_before, HasIndirection}
+use Rattle.proof_commits.specs.Laws.{IsInSwap, Owner, PendingHasOwner, PrevChange, Stays, IsSwappedIn, IsCommitted as ChangeCommitted, HasFailed, PrevWordsChange, DecidedForGood, CommitsMain, MainsChangeByCommits, ReplacedForGood, IsGiven, MomentIsFirst, GivenForGood, CheckedIsDecided, ChangesLate, LateStoodBefore, LateOnce, IsTomb, TombsStay}
+use Rattle.proof_memory.specs.Wants.{is_indirection, is_branch_or_list}
+use Rattle.proof_memory.specs.Laws.{IsInUse}
+
+-- what other layers give of every run
+abbrev pub LayersOfRuns : Type 0
+LayersOfRuns = (limits : Limits) (steps : List Step) → AreLimits limits → OtherLayers limits (states_of limits steps) (last_of limits steps)
+
+-- what memory gives of every run
+abbrev pub MemoryOfRuns : Type 0
+MemoryOfRuns = (limits : Limits) (steps : List Step) → AreLimits limits → Memory limits (states_of limits steps) (last_of limits steps)
+
+-- what is known of its words then
+abbrev known_from : MemoryOfRuns → (limits : Limits) (steps : List Step) → AreLimits limits → Known limits (states_of limits steps) (last_of limits steps)
+known_from memory limits steps ok = known_of_memory limits (states_of limits steps) (last_of limits steps) (memory limits steps ok)
+
+abbrev known_of : LayersOfRuns → (limits : Limits) (steps : List Step) → AreLimits limits → Known limits (states_of limits steps) (last_of limits steps)
+known_of layers limits steps ok = known limits (states_of limits steps) (last_of limits steps) (layers limits steps ok)
+
+-- the states of a run, told as a list of steps
+pub same_states : (limits : Limits) (steps : List Step) → states_of limits steps ≡ state_before limits steps
+same_states limits steps = λ i n. states_are limits steps n i
+
+-- ---- owners
+
+-- of one state
+abbrev OwnedIn : State → Type 0
+OwnedIn state =
+    (fresh replaced : Ref) → IsInUse state.heap fresh → prev_at state.heap fresh ≡ over.Pending replaced →
+    (indirection : Ref) × (owner : Owner state indirection replaced fresh)
+    × ((actor : ℕ) (operation : Operation) (i r : Ref) (l : SwapLine) → operation_of state actor ≡ Some operation → IsInSwap operation i r fresh l → actor ≡ owner.actor)
+
+pub given_read : (i : Ref) (out : After ReadLine Ref) (m : Ref) → at_indirection i out ≡ Gives m → out ≡ Gives m
+given_read i (Gives x) m e = cc
+given_read i (Goes l) m e = let wrong : ⊥ = cc in absurd wrong
+
+module _ (limits : Limits) (ok : AreLimits limits) (steps : List Step) (known : Known limits (states_of limits steps) (last_of limits steps)) where
+  abbrev states : ℕ → State
+  states = states_of limits steps
+
+  abbrev last : ℕ
+  last = last_of limits steps
+
+  abbrev p : Protocol
+  p = protocol limits states last known
+
+  abbrev w : Words
+  w = words_of states last known.closing
+
+  prev_in_use : (t : ℕ) (m : Ref) → IsInUse (states t).heap m → prev_at (states t).heap m ≡ w.prev t m
+  prev_in_use t m h = prev_standing states t m h.0 h.1
+
+  -- the owner in the protocol is one in the machine
+  machine_owner : (t : ℕ) (m q : Ref) (o : Owned.Owner w t m q) → Owner (states t) o.link q m
+  machine_owner t m q o =
+      let runs = runs_deciding (operation_of (states t) o.actor) o.link q m o.line o.stage in
+      record { actor = o.actor; operation = runs.operation; runs = runs.is; line = o.line; swaps = runs.swaps }
+
+  owner_alone : (t : ℕ) → t ≤ last → (m q : Ref) (o : Owned.Owner w t m q) (actor : ℕ) (operation : Operation) (i r : Ref) (l : SwapLine) →
+      operation_of (states t) actor ≡ Some operation → IsInSwap operation i r m l → (actor ≡ o.actor) ⊎ (actor ≡ o.actor → ⊥) → actor ≡ o.actor
+  owner_alone t h m q o actor operation i r l runs swaps (inl same) = same
+  owner_alone t h m q o actor operation i r l runs swaps (inr other) =
+      absurd ((sound_at p t h).apart actor o.actor m other (subst (λ x. HasFresh (stage_of_actor x) m) (sym runs) (in_swap_fresh operation i r m l swaps))
+      (subst (λ s. HasFresh s m) (sym o.stage) refl))
+
+  owned_at : (t : ℕ) → t ≤ last → OwnedIn (states t)
+  unfolding machine_owner
+  owned_at t h fresh replaced used pend =
+      let o = (sound_at p t h).owned fresh replaced (sym (prev_in_use t fresh used) ∙ pend) in (
+        o.link,
+        machine_owner t fresh replaced o,
+        λ actor operation i r l runs swaps. owner_alone t h fresh replaced o actor operation i r l runs swaps (cases_eq actor o.actor),
+      )
+
+  -- ---- prev words
+
+  prev_change_by : (n : ℕ) → n < last → (m : Ref) → IsInUse (states n).heap m → IsInUse (states (suc n)).heap m → Becomes w n m → PrevChange (states n) (states (suc n)) m
+  prev_change_by n h m used still (Same e) = Stays (prev_in_use (suc n) m still ∙ e ∙ sym (prev_in_use n m used))
+  prev_change_by n h m used still (GoesIn i a l x private d) =
+      let by = swapper w n (sound_at p n (omega arith)) (p.turn n h) m a private.none x.prev.here in
+      let runs = runs_publishing (operation_of (states n) by.0) by.1 a m by.2 in
+      IsSwappedIn by.0 runs.operation by.1 runs.is runs.swaps (prev_in_use n m used ∙ private.none) (prev_in_use (suc n) m still ∙ x.prev.here)
+  prev_change_by n h m used still (IsCommitted q x) = ChangeCommitted (prev_in_use n m used ∙ x.was) (prev_in_use (suc n) m still ∙ x.prev.here)
+  prev_change_by n h m used still (IsFailed q x) = HasFailed (prev_in_use n m used ∙ x.was) (prev_in_use (suc n) m still ∙ x.prev.here)
+
+  prev_changes : (n : ℕ) → n < last → (m : Ref) → IsInUse (states n).heap m → IsInUse (states (suc n)).heap m → PrevChange (states n) (states (suc n)) m
+  prev_changes n h m used still = prev_change_by n h m used still (becomes w n (effect p n h) m)
+
+  decided_by : (n k l : ℕ) → n ≤ k → k ≤ l → l ≤ last → (m q i : Ref) → Stood w n i m → (w.prev k m ≡ over.Pending q → ⊥) → Fate w n k m q → w.prev l m ≡ w.prev k m
+  decided_by n k l nk kl h m q i s other (StillPending e) = absurd (other e)
+  decided_by n k l nk kl h m q i s other (FateFailed e) = failed_final p m q k l kl h e ∙ sym e
+  decided_by n k l nk kl h m q i s other (HasCommitted c e) = none_final p i m k l kl h (stood_still nk s) e ∙ sym e
+
+  decided_for_good_at : (n k l : ℕ) → n ≤ k → k ≤ l → l ≤ last → (m q : Ref) → IsInUse (states n).heap m → IsInUse (states k).heap m → IsInUse (states l).heap m →
+      prev_at (states n).heap m ≡ over.Pending q → (prev_at (states k).heap m ≡ over.Pending q → ⊥) → prev_at (states l).heap m ≡ prev_at (states k).heap m
+  decided_for_good_at n k l nk kl h m q at_n at_k at_l pend other =
+      let was = sym (prev_in_use n m at_n) ∙ pend in
+      let below = (sound_at p n (omega arith)).words.over m q (over_pending was) in
+      prev_in_use l m at_l
+      ∙ decided_by n k l nk kl h m q below.link below.stood (λ e. other (prev_in_use k m at_k ∙ e)) (fate p below.link m q n k nk (omega arith) below.stood was)
+      ∙ sym (prev_in_use k m at_k)
+
+  -- ---- logical main nodes
+
+  node_in_use : (t : ℕ) (i : Ref) → IsInUse (states t).heap i → node_at (states t).heap i ≡ node_under states t i
+  node_in_use t i h = node_standing states t i h.0 h.1
+
+  link_in_use : (t : ℕ) (i : Ref) → HasIndirection (states t) i → is_indirection (node_under states t i) ≡ true
+  link_in_use t i h = subst (λ x. is_indirection x ≡ true) (node_in_use t i h.0) h.1
+
+  main_in_use : (t : ℕ) → t ≤ last → (i : Ref) → HasIndirection (states t) i → logical_main (states t).heap i ≡ Protocol'.main_at w t i
+  main_in_use t h i has = logical_standing limits states last known t h i has.0.0 has.0.1 (link_in_use t i has)
+
+  main_change_by : (n : ℕ) → n < last → (i : Ref) → HasIndirection (states n) i → HasIndirection (states (suc n)) i → MainStep w n i →
+      (logical_main (states (suc n)).heap i ≡ logical_main (states n).heap i) ⊎ CommitsMain (states n) (states (suc n)) i
+  main_change_by n h i has still (MainStays e) = inl (main_in_use (suc n) h i still ∙ e ∙ sym (main_in_use n (omega arith) i has))
+  main_change_by n h i has still (MainChanges c) =
+      let sound = sound_at p n (omega arith) in
+      let o = sound.owned c.fresh c.replaced c.commits.was in
+      let same : o.link ≡ i =
+      sound.words.one_word c.fresh o.link i (λ none. none≢pending none c.commits.was) (stands_now o.is_link o.stands) (stands_now (link_in_use n i has) c.stands) in
+      inr (record {
+        fresh = c.fresh;
+        replaced = c.replaced;
+        stands = ap main_of (node_in_use n i has.0) ∙ c.stands;
+        was = main_in_use n (omega arith) i has ∙ c.before;
+        is = main_in_use (suc n) h i still ∙ c.after;
+        owner = subst (λ j. Owner (states n) j c.replaced c.fresh) same (machine_owner n c.fresh c.replaced o);
+      })
+
+  main_changes : (n : ℕ) → n < last → (i : Ref) → HasIndirection (states n) i → HasIndirection (states (suc n)) i →
+      (logical_main (states (suc n)).heap i ≡ logical_main (states n).heap i) ⊎ CommitsMain (states n) (states (suc n)) i
+  main_changes n h i has still = main_change_by n h i has still (main_step p n h i (link_in_use n i has))
+
+  replaced_at : (n k l : ℕ) → n ≤ k → k ≤ l → l ≤ last → (i : Ref) → HasIndirection (states n) i → HasIndirection (states k) i → HasIndirection (states l) i →
+      (logical_main (states k).heap i ≡ logical_main (states n).heap i → ⊥) → logical_main (states l).heap i ≡ logical_main (states n).heap i → ⊥
+  replaced_at n k l nk kl h i at_n at_k at_l other back =
+      let main = main_in_use n (omega arith) i at_n in
+      replaced_for_good p i (logical_main (states n).heap i) n k l nk kl h (link_in_use n i at_n) (sym main) (λ e. other (main_in_use k (omega arith) i at_k ∙ e))
+      (sym (main_in_use l h i at_l) ∙ back)
+
+  not_solid : (node : Node) → IsTomb node → is_branch_or_list node ≡ false
+  not_solid (Tomb single) h = refl
+  not_solid node h = absurd h
+
+  tomb_at : (n k : ℕ) → n ≤ k → k ≤ last → (i a : Ref) → HasIndirection (states n) i → HasIndirection (states k) i → logical_main (states n).heap i ≡ a →
+      IsInUse (states n).heap a → IsTomb (node_at (states n).heap a) → logical_main (states k).heap i ≡ a
+  tomb_at n k nk h i a at_n at_k is used tomb =
+      let solid : w.solid a ≡ false =
+      solid_stays limits states last known n a (omega arith) (ap is_some (grown_standing states n a used.0 used.1)) ∙ ap is_branch_or_list (sym (node_in_use n a used))
+      ∙ not_solid (node_at (states n).heap a) tomb in
+      main_in_use k h i at_k ∙ tomb_stays p i a n k nk h (link_in_use n i at_n) solid (sym (main_in_use n (omega arith) i at_n) ∙ is)
+
+  -- ---- what a READ gives
+
+  -- of a moment, over the states
+  abbrev pub MomentOver : (ℕ → State) → ℕ → Ref → Ref → ℕ → ℕ → Type 0
+  MomentOver s n i m r mu =
+      (r ≤ mu) × (mu ≤ n) × (HasIndirection (s (mu + 1)) i → logical_main (s (mu + 1)).heap i ≡ m)
+      × ((k : ℕ) → r < k → k ≤ mu → HasIndirection (s k) i → logical_main (s k).heap i ≡ m → ⊥)
+
+  main_after : (n : ℕ) → n < last → (i m : Ref) (r mu : ℕ) → IsMoment w i m r mu n → HasIndirection (states (suc mu)) i → logical_main (states (suc mu)).heap i ≡ m
+  main_after n h i m r mu moment has = main_in_use (suc mu) (omega (arith, moment.past)) i has ∙ moment.is
+
+  moment_over : (n : ℕ) → n < last → (i m : Ref) (r mu : ℕ) → IsMoment w i m r mu n → MomentOver states n i m r mu
+  moment_over n h i m r mu moment = (
+    moment.from,
+    moment.past,
+    subst (λ k. HasIndirection (states k) i → logical_main (states k).heap i ≡ m) (sym (add-one mu)) (main_after n h i m r mu moment),
+    λ k after before has same. moment.first k after before (sym (main_in_use k (omega (arith, moment.past)) i has) ∙ same),
+  )
+
+  -- the step of an operation that goes on
+  go_after : (before : State) (actor : ℕ) (o : Outcome) (after : State) → Machine.Moves before (step.Go actor) o after → (operation : Operation) →
+      operation_of before actor ≡ Some operation → ((answer : Reply) → action_of before operation ≡ act.End answer → ⊥) → after ≡ settled before (gone before actor operation)
+  go_after before actor o after (Machine.Goes {operation = x} d is a g) operation runs goes =
+      ap (λ y. settled before (gone before actor y)) (same_Some _ _ (sym is ∙ runs))
+  go_after before actor o after (Machine.Ends {operation = x} {answer} d is a) operation runs goes =
+      absurd (goes answer (ap (action_of before) (sym (same_Some _ _ (sym is ∙ runs))) ∙ a))
+
+  not_rests : (i : Ref) (x : ReadLine) → Reads i x ≡ Rests → ⊥
+  not_rests i x e = cc
+
+  moment_of_given : (n : ℕ) → n < last → (i m : Ref) (g : IsGiven limits steps n i m) → (operation_of (states n) g.actor ≡ Some g.operation) →
+      read_step (states n) g.operation g.read ≡ Gives m → IsMoment w i m (read_at_after (states n) g.operation) (moment_after (states n) g.operation) n
+  moment_of_given n h i m g runs gives =
+      let leads = step_leads limits steps n (step.Go g.actor) g.step in
+      let stage = reads_stage g.operation.line g.read g.no_swap g.reads in
+      let goes = λ (answer : Reply) (a : action_of (states n) g.operation ≡ act.End answer).
+      not_rests g.read.indirection g.read.line (sym stage ∙ ends_at_end (states n) g.operation g.operation.line answer a) in
+      let e = go_after (states n) g.actor leads.0 (states (suc n)) leads.1 g.operation runs goes in
+      subst (λ j. IsMoment w j m (read_at_after (states n) g.operation) (moment_after (states n) g.operation) n) g.of
+      (moment_at limits states last known n h g.actor g.operation leads.0 leads.1 runs e g.read.indirection g.read.line stage m
+      (given_read g.read.indirection (read_after (states n).heap g.operation.access (word_at (states n) (handle_of g.operation.call)) g.read.indirection g.read.line) m gives))
+
+  -- of what is given
+  given_moment : (n : ℕ) → n < last → (i m : Ref) (g : IsGiven limits steps n i m) →
+      IsMoment w i m (read_at_after (state_before limits steps n) g.operation) (moment_after (state_before limits steps n) g.operation) n
+  given_moment n h i m g =
+      let e = states_are limits steps n in
+      subst (λ (s : State). IsMoment w i m (read_at_after s g.operation) (moment_after s g.operation) n) e
+      (moment_of_given n h i m g (subst (λ (s : State). operation_of s g.actor ≡ Some g.operation) (sym e) g.runs)
+      (subst (λ (s : State). read_step s g.operation g.read ≡ Gives m) (sym e) g.gives))
+
+  -- ---- what is final
+
+  -- the closings are told
+  abbrev Told : Type 0
+  Told = (g : ℕ) → known.closing g ≡ closed_at (states last) g
+
+  for_good_at : Told → (n : ℕ) → n < last → (i m : Ref) (r mu : ℕ) → IsMoment w i m r mu n → (closed : ℕ) → HasIndirection (states n) i →
+      closed_at (states last) (generation_at (states n).heap i) ≡ Some closed → closed < r →
+      (k : ℕ) → mu < k → k ≤ last → HasIndirection (states k) i → logical_main (states k).heap i ≡ m
+  for_good_at told n h i m r mu moment closed has is before k after within still =
+      let generation : generation_at (states n).heap i ≡ generation_of (node_under states last i) =
+      ap generation_of (node_in_use n i has.0) ∙ sym (generation_stays limits states last known n i (omega arith) (link_in_use n i has)) in
+      main_in_use k within i still
+      ∙ protocol_for_good p i m r mu n closed h moment (told (generation_of (node_under states last i)) ∙ ap (closed_at (states last)) (sym generation) ∙ is) before k after within
+
+  -- ---- after a closing
+
+  closing_at : Told → (n : ℕ) → n ≤ last → (i : Ref) (c : ℕ) → HasIndirection (states n) i → closed_at (states last) (generation_at (states n).heap i) ≡ Some c →
+      known.closing (generation_of (node_under states last i)) ≡ Some c
+  closing_at told n h i c has is =
+      let generation : generation_at (states n).heap i ≡ generation_of (node_under states last i) =
+      ap generation_of (node_in_use n i has.0) ∙ sym (generation_stays limits states last known n i h (link_in_use n i has)) in
+      told (generation_of (node_under states last i)) ∙ ap (closed_at (states last)) (sym generation) ∙ is
+
+  -- a step that changes a logical main node commits
+  changes_commit : (n : ℕ) → n < last → (i : Ref) → HasIndirection (states n) i → HasIndirection (states (suc n)) i →
+      (logical_main (states (suc n)).heap i ≡ logical_main (states n).heap i → ⊥) → MainStep w n i → Changed w n i
+  changes_commit n h i has still other (MainStays e) = absurd (other (main_in_use (suc n) h i still ∙ e ∙ sym (main_in_use n (omega arith) i has)))
+  changes_commit n h i has still other (MainChanges c) = c
+
+  changed_at : (n : ℕ) → n < last → (i : Ref) → HasIndirection (states n) i → HasIndirection (states (suc n)) i →
+      (logical_main (states (suc n)).heap i ≡ logical_main (states n).heap i → ⊥) → Changed w n i
+  changed_at n h i has still other = changes_commit n h i has still other (main_step p n h i (link_in_use n i has))
+
+  late_stood_at : Told → (c n : ℕ) → c ≤ n → n < last → (i : Ref) → HasIndirection (states n) i → HasIndirection (states (suc n)) i →
+      closed_at (states last) (generation_at (states n).heap i) ≡ Some c → (logical_main (states (suc n)).heap i ≡ logical_main (states n).heap i → ⊥) →
+      (k : ℕ) × (k ≤ c) × (HasIndirection (states k) i → main_at (states k).heap i ≡ main_at (states n).heap i)
+  late_stood_at told c n late h i has still closing other =
+      let x = changed_at n h i has still other in
+      let early = commits_early p n h i x.fresh x.replaced x.commits (stands_now (link_in_use n i has) x.stands) in (
+        early.at,
+        early.early c (closing_at told n (omega arith) i c has closing),
+        λ there. ap main_of (node_in_use early.at i there.0) ∙ early.is ∙ sym x.stands ∙ sym (ap main_of (node_in_use n i has.0)),
+      )
+
+  late_once_at : Told → (c n k : ℕ) → c ≤ n → n < k → k < last → (i : Ref) → HasIndirection (states n) i → HasIndirection (states (suc n)) i →
+      closed_at (states last) (generation_at (states n).heap i) ≡ Some c → (logical_main (states (suc n)).heap i ≡ logical_main (states n).heap i → ⊥) →
+      HasIndirection (states k) i → HasIndirection (states (suc k)) i → (logical_main (states (suc k)).heap i ≡ logical_main (states k).heap i → ⊥) → ⊥
+  late_once_at told c n k late before h i has still closing other has_k still_k other_k =
+      let x = changed_at n (omega arith) i has still other in
+      let y = changed_at k h i has_k still_k other_k in
+      closed_once p i x.fresh x.replaced y.fresh y.replaced c n k (closing_at told n (omega arith) i c has closing) late before h (link_in_use n i has) x.stands x.commits
+      (link_in_use k i has_k) y.stands y.commits
+
+  checked_at : (t : ℕ) → t ≤ last → (actor : ℕ) (operation : Operation) (i a f q : Ref) → operation_of (states t) actor ≡ Some operation → IsInSwap operation i a f swap.Check →
+      IsInUse (states t).heap f → prev_at (states t).heap f ≡ over.Pending q → ⊥
+  checked_at t h actor operation i a f q runs swaps used pend =
+      checked w t actor (sound_at p t h) i a f (ap stage_of_actor runs ∙ ap stage_of swaps.1) q (sym (prev_in_use t f used) ∙ pend)
+
+-- ---- the laws
+
+pub pending_has_owner : MemoryOfRuns → PendingHasOwner
+pending_has_owner memory limits steps ok =
+    subst (λ s. OwnedIn s) (run_ends limits steps) (owned_at limits ok steps (known_from memory limits steps ok) (last_of limits steps) (omega arith))
+
+-- a step leads from its number to the next one
+abbrev Next : (State → State → Type 0) → (ℕ → State) → ℕ → Type 0
+Next P states n = P (states n) (states (n + 1))
+
+next_state : (P : State → State → Type 0) (states : ℕ → State) (n : ℕ) → P (states n) (states (suc n)) → Next P states n
+next_state P states n h = subst (λ k. P (states n) (states k)) (sym (add-one n)) h
+
+pub prev_words_change : MemoryOfRuns → PrevWordsChange
+prev_words_change memory limits steps ok =
+    subst (λ (s : ℕ → State). (n : ℕ) → n < steps_taken limits steps → (main : Ref) → IsInUse (s n).heap main → IsInUse (s (n + 1)).heap main → PrevChange (s n) (s (n + 1)) main)
+    (same_states limits steps)
+    (λ n h main. next_state (λ (a b : State). IsInUse a.heap main → IsInUse b.heap main → PrevChange a b main) (states_of limits steps) n (prev_changes limits ok steps (known_from memory limits steps ok) n h main))
+
+pub decided_for_good : MemoryOfRuns → DecidedForGood
+decided_for_good memory limits steps ok =
+    subst (λ (s : ℕ → State). (n k l : ℕ) → n ≤ k → k ≤ l → l ≤ steps_taken limits steps → (main replaced : Ref) → IsInUse (s n).heap main → IsInUse (s k).heap main → IsInUse (s l).heap main →
+    prev_at (s n).heap main ≡ over.Pending replaced → (prev_at (s k).heap main ≡ over.Pending replaced → ⊥) → prev_at (s l).heap main ≡ prev_at (s k).heap main)
+    (same_states limits steps) (decided_for_good_at limits ok steps (known_from memory limits steps ok))
+
+pub mains_change_by_commits : MemoryOfRuns → MainsChangeByCommits
+mains_change_by_commits memory limits steps ok =
+    subst (λ (s : ℕ → State). (n : ℕ) → n < steps_taken limits steps → (i : Ref) → HasIndirection (s n) i → HasIndirection (s (n + 1)) i →
+    (logical_main (s (n + 1)).heap i ≡ logical_main (s n).heap i) ⊎ CommitsMain (s n) (s (n + 1)) i)
+    (same_states limits steps)
+    (λ n h i. next_state (λ a b. HasIndirection a i → HasIndirection b i → (logical_main b.heap i ≡ logical_main a.heap i) ⊎ CommitsMain a b i) (states_of limits steps) n
+    (main_changes limits ok steps (known_from memory limits steps ok) n h i))
+
+pub law_replaced_for_good : MemoryOfRuns → ReplacedForGood
+law_replaced_for_good memory limits steps ok =
+    subst (λ (s : ℕ → State). (n k l : ℕ) → n ≤ k → k ≤ l → l ≤ steps_taken limits steps → (i : Ref) → HasIndirection (s n) i → HasIndirection (s k) i → HasIndirection (s l) i →
+    (logical_main (s k).heap i ≡ logical_main (s n).heap i → ⊥) → logical_main (s l).heap i ≡ logical_main (s n).heap i → ⊥)
+    (same_states limits steps) (replaced_at limits ok steps (known_from memory limits steps ok))
+
+pub moment_is_first : MemoryOfRuns → MomentIsFirst
+moment_is_first memory limits steps ok n h i m g =
+    let k = known_from memory limits steps ok in
+    subst (λ (s : ℕ → State). MomentOver limits ok steps k s n i m (read_at_after (state_before limits steps n) g.operation) (moment_after (state_before limits steps n) g.operation))
+    (same_states limits steps) (moment_over limits ok steps k n h i m _ _ (given_moment limits ok steps k n h i m g))
+
+pub law_given_for_good : LayersOfRuns → GivenForGood
+law_given_for_good layers limits steps ok n h i m g closed is before has k after within still =
+    let kn = known_of layers limits steps ok in
+    let e = states_are limits steps in
+    let was : closed_at (states_of limits steps (last_of limits steps)) (generation_at (states_of limits steps n).heap i) ≡ Some closed =
+    ap (λ (s : State). closed_at s (generation_at (states_of limits steps n).heap i)) (run_ends limits steps)
+    ∙ ap (λ (s : State). closed_at (run limits steps) (generation_at s.heap i)) (e n) ∙ is in
+    ap (λ (s : State). logical_main s.heap i) (sym (e k))
+    ∙ for_good_at limits ok steps kn (λ g. refl) n h i m _ _ (given_moment limits ok steps kn n h i m g) closed (subst (λ (s : State). HasIndirection s i) (sym (e n)) has) was before k after within
+    (subst (λ (s : State). HasIndirection s i) (sym (e k)) still)
+
+-- the same of the states of the run as a list
+late_states : (limits : Limits) (steps : List Step) (closed n : ℕ) (i : Ref) → ChangesLate limits steps closed n i →
+    HasIndirection (states_of limits steps n) i × HasIndirection (states_of limits steps (suc n)) i
+    × (closed_at (states_of limits steps (last_of limits steps)) (generation_at (states_of limits steps n).heap i) ≡ Some closed)
+    × (logical_main (states_of limits steps (suc n)).heap i ≡ logical_main (states_of limits steps n).heap i → ⊥)
+late_states limits steps closed n i x =
+    let now = states_are limits steps n in
+    let next : states_of limits steps (suc n) ≡ state_before limits steps (n + 1) = ap (states_of limits steps) (sym (add-one n)) ∙ states_are limits steps (n + 1) in (
+      subst (λ (s : State). HasIndirection s i) (sym now) x.before,
+      subst (λ (s : State). HasIndirection s i) (sym next) x.after,
+      ap (λ (s : State). closed_at s (generation_at (states_of limits steps n).heap i)) (run_ends limits steps)
+          ∙ ap (λ (s : State). closed_at (run limits steps) (generation_at s.heap i)) now ∙ x.closing,
+      λ same. x.changes (ap (λ (s : State). logical_main s.heap i) (sym next) ∙ same ∙ ap (λ (s : State). logical_main s.heap i) now),
+    )
+
+pub late_stood_before : LayersOfRuns → LateStoodBefore
+late_stood_before layers limits steps ok closed n i x =
+    let s = late_states limits steps closed n i x in
+    subst (λ (states : ℕ → State). (k : ℕ) × (k ≤ closed) × (HasIndirection (states k) i → main_at (states k).heap i ≡ main_at (states n).heap i)) (same_states limits steps)
+    (late_stood_at limits ok steps (known_of layers limits steps ok) (λ g. refl) closed n x.late x.taken i s.0 s.1 s.2 s.3)
+
+-- by which is first
+once_by : (limits : Limits) (steps : List Step) (ok : AreLimits limits) (kn : Known limits (states_of limits steps) (last_of limits steps)) → Told limits ok steps kn →
+    (closed n k : ℕ) (i : Ref) →
+    ChangesLate limits steps closed n i → ChangesLate limits steps closed k i → n < k → ⊥
+once_by limits steps ok kn told closed n k i x y before =
+    let s = late_states limits steps closed n i x in
+    let r = late_states limits steps closed k i y in
+    late_once_at limits ok steps kn told closed n k x.late before y.taken i s.0 s.1 s.2 s.3 r.0 r.1 r.3
+
+in_order : (n k : ℕ) → (n < k → ⊥) → (k < n → ⊥) → n ≡ k
+in_order n k a b = omega arith
+
+pub late_once : LayersOfRuns → LateOnce
+late_once layers limits steps ok closed n k i x y =
+    let kn = known_of layers limits steps ok in
+    in_order n k (once_by limits steps ok kn (λ g. refl) closed n k i x y) (once_by limits steps ok kn (λ g. refl) closed k n i y x)
+
+pub checked_is_decided : MemoryOfRuns → CheckedIsDecided
+checked_is_decided memory limits steps ok =
+    subst (λ (s : State). (actor : ℕ) (operation : Operation) (i a f q : Ref) → operation_of s actor ≡ Some operation → IsInSwap operation i a f swap.Check → IsInUse s.heap f →
+    prev_at s.heap f ≡ over.Pending q → ⊥) (run_ends limits steps)
+    (checked_at limits ok steps (known_from memory limits steps ok) (last_of limits steps) (omega arith))
+
+pub tombs_stay : MemoryOfRuns → TombsStay
+tombs_stay memory limits steps ok =
+    subst (λ (s : ℕ → State). (n k : ℕ) → n ≤ k → k ≤ steps_taken limits steps → (i a : Ref) → HasIndirection (s n) i → HasIndirection (s k) i → logical_main (s n).heap i ≡ a →
+    IsInUse (s n).heap a → IsTomb (node_at (s n).heap a) → logical_main (s k).heap i ≡ a)
+    (same_states limits steps) (tomb_at limits ok steps (known_from memory limits steps ok))

@@ -1,0 +1,292 @@
+-- What other layers give, in their own words: and that the words of the heap that only grows are then known.
+use Rattle.std.proofs.Common.{◌≡◌, ℕ, suc, ◌<◌, ◌≤◌, Bool, true, false, ◌==◌, List, Option, Some, None, option_map, refl, sym, ◌∙◌, ap, subst, arith}
+use Rattle.std.specs.Prelude.{is_some}
+use Rattle.std.proofs.lemmas.Bool.{true≢false}
+use Rattle.std.proofs.lemmas.Option.{none-some, same_Some}
+use Rattle.proof_commits.specs.Beneath.history.specs.declared.calls.Access.TheVariants.{Writable}
+use Rattle.proof_commits.specs.Beneath.slot_arena.specs.declared.refs.Ref.{Ref}
+use Rattle.proof_commits.specs.Beneath.slot_arena.specs.declared.nodes.Node.{Node}
+use Rattle.proof_commits.specs.Beneath.slot_arena.specs.declared.nodes.Node.TheVariants.{Indirection}
+use Rattle.proof_commits.specs.Beneath.slot_arena.specs.declared.nodes.Prev.{Prev}
+use Rattle.proof_commits.specs.Beneath.slot_arena.specs.declared.nodes.Prev.TheVariants as over
+use Rattle.proof_commits.specs.Beneath.slot_arena.specs.declared.nodes.Slot.{Slot}
+use Rattle.proof_commits.specs.Beneath.slot_arena.specs.Heaps.{Heap, node_of, main_of, main_at, generation_at, generation_of, main_changed, prev_changed, with_main, with_prev, taken, next_ref}
+use Rattle.proof_commits.specs.Beneath.epochs.specs.Sweeping.{Reclaimer, ripe, sweep_by}
+use Rattle.proof_commits.specs.Beneath.machine_model.specs.declared.actions.Action.{Action}
+use Rattle.proof_commits.specs.Beneath.machine_model.specs.declared.actions.Action.TheVariants as act
+use Rattle.proof_commits.specs.Beneath.machine_model.specs.declared.operations.Operation.{Operation}
+use Rattle.proof_commits.specs.Beneath.machine_model.specs.declared.reading.ReadLine.TheVariants as read
+use Rattle.proof_commits.specs.Beneath.machine_model.specs.declared.roots.RootWord.TheVariants.{Plain}
+use Rattle.proof_commits.specs.Beneath.machine_model.specs.declared.steps.Limits.{Limits}
+use Rattle.proof_commits.specs.Beneath.machine_model.specs.declared.steps.Outcome.{Outcome}
+use Rattle.proof_commits.specs.Beneath.machine_model.specs.declared.steps.Step.{Step}
+use Rattle.proof_commits.specs.Beneath.machine_model.specs.declared.steps.Step.TheVariants as step
+use Rattle.proof_commits.specs.Beneath.machine_model.specs.Calls.{handle_of}
+use Rattle.proof_commits.specs.Beneath.machine_model.specs.States.{State, word_at, operation_of, closed_at}
+use Rattle.proof_commits.specs.Beneath.machine_model.specs.Reading.{Verdict, Commits, Fails, Overtaken, verdict}
+use Rattle.proof_commits.specs.Beneath.machine_model.specs.Operations.{action_of, read_of}
+use Rattle.proof_commits.specs.Beneath.machine_model.specs.Acting.{acted, decided, new_root_taken, if_changed}
+use Rattle.proof_commits.specs.Beneath.machine_model.specs.Machine.{reclaimer_of}
+use Rattle.proof_commits.specs.Beneath.machine_model.specs.Moves.{Begins, Goes, Ends, Sweeps}
+use Rattle.proof_commits.specs.Beneath.machine_model.specs.Moves.{Moves, begun_operation}
+use Rattle.proof_commits.specs.Beneath.machine_model.specs.Times.{IsRun}
+use Rattle.proof_commits.specs.Beneath.machine_model.specs.Grown.{standing, or_before, grown}
+use Rattle.proof_commits.specs.Beneath.machine_model.proofs.HeapMoves.{begin_heap, aborted_heap, offered_heap, completed_heap}
+use Rattle.proof_commits.proofs.Known.Given.{GrownStays, GrownChanges, GrownSwaps, FindsMain, FindsPrev, Either, Decided, Taken, ActsOn, IsNoGo, BuildsFrom, HasSolid, Known}
+use Rattle.proof_commits.proofs.Words.InHeap.{grown_standing, node_standing, prev_standing}
+use Rattle.proof_commits.proofs.Words.FromHeap.{main_here, main_other, prev_here, prev_other, freed_before}
+use Rattle.proof_memory.specs.Wants.{is_indirection}
+use Rattle.proof_memory.proofs.Heap.Under.{none_taken}
+use Rattle.proof_memory.proofs.Heap.Moves.{grown_same}
+
+-- ---- what memory gives
+
+-- an indirection stands under the reference
+pub record HasLink (state : State) (i : Ref) : Type 0 where
+  pub slot : Slot
+  pub stands : standing state.heap i ≡ Some slot
+  pub link : is_indirection slot.node ≡ true
+
+-- what stands there isn't one
+pub record HasMain (state : State) (m : Ref) : Type 0 where
+  pub slot : Slot
+  pub stands : standing state.heap m ≡ Some slot
+  pub no_link : is_indirection slot.node ≡ false
+
+-- the words that an action reads or writes are there
+abbrev pub Finds : State → Action → Type 0
+Finds state (act.ReadMain i) = HasLink state i
+Finds state (act.ReadPrev m) = HasMain state m
+Finds state (act.Publish i a f) = HasLink state i × HasMain state f
+Finds state (act.Restore i m p) = HasLink state i
+Finds state (act.Decide i m p told) = HasLink state i × HasMain state m
+Finds state action = Unit {0}
+
+-- the reference that is drawn for a node was never drawn before, and what stands under any other stays
+pub record Draws (states : ℕ → State) (t : ℕ) (node : Node) (n : Ref) : Type 0 where
+  pub new : grown states t n ≡ None
+  pub birth : ℕ
+  pub here : standing (taken (states t).heap node) n ≡ Some (record { birth = birth; node = node; prev = over.None })
+  pub elsewhere : (q : Ref) → (q ≡ n → ⊥) → standing (taken (states t).heap node) q ≡ standing (states t).heap q
+
+-- ---- what other layers give of a run
+
+-- memory
+pub record Memory (limits : Limits) (states : ℕ → State) (last : ℕ) : Type 0 where
+  pub run : IsRun limits states last
+  -- what the action of a running operation reads or writes stands under its reference, and is what it is taken for
+  pub finds : (t : ℕ) → t < last → (actor : ℕ) (operation : Operation) → operation_of (states t) actor ≡ Some operation → Finds (states t) (action_of (states t) operation)
+  -- references are drawn once
+  pub draws : (t : ℕ) → t < last → (node : Node) (n : Ref) → next_ref (states t).heap ≡ Some n → Draws states t node n
+  -- what is to be replaced is a branch or a list
+  pub built_from : (t : ℕ) → t < last → (actor : ℕ) (operation : Operation) → operation_of (states t) actor ≡ Some operation → (main : Ref) →
+      BuildsFrom operation.line main → HasSolid (states t) main
+  -- the main word of an indirection in use names what is in use
+  pub mains_stand : (t : ℕ) → t ≤ last → (i : Ref) (slot : Slot) → standing (states t).heap i ≡ Some slot → is_indirection slot.node ≡ true →
+      (main : Slot) × (standing (states t).heap (main_of slot.node) ≡ Some main)
+
+-- roots: where a READ on a writable handle asks for the root, and finds it with no offer, the root's generation wasn't closed before
+abbrev pub RootsAreOpen : (ℕ → State) → ℕ → (ℕ → Option ℕ) → Type 0
+RootsAreOpen states last closing =
+    (t : ℕ) → t < last → (actor : ℕ) (operation : Operation) → operation_of (states t) actor ≡ Some operation → (i main previous : Ref) →
+    read_of operation.line ≡ Some (record { indirection = i; line = read.AskRoot main previous }) → operation.access ≡ Writable → (r : Ref) →
+    word_at (states t) (handle_of operation.call) ≡ Plain r → (c : ℕ) → closing (generation_at (states t).heap r) ≡ Some c → t ≤ c
+
+-- all of it
+pub record OtherLayers (limits : Limits) (states : ℕ → State) (last : ℕ) : Type 0 where
+  pub memory : Memory limits states last
+  pub roots : RootsAreOpen states last (λ g. closed_at (states last) g)
+
+-- ---- what a step leaves
+
+-- what stands under a reference afterwards stood there before
+abbrev Fewer : Heap → Heap → Type 0
+Fewer before after = (q : Ref) (slot : Slot) → standing after q ≡ Some slot → standing before q ≡ Some slot
+
+idle_sweep : (pins : List (Option ℕ)) (r : Reclaimer) → (sweep_by pins r None).1.heap ≡ r.heap
+idle_sweep pins r = grind arith
+
+fewer_swept : (pins : List (Option ℕ)) (r : Reclaimer) (due : Option Ref) → Fewer r.heap (sweep_by pins r due).1.heap
+fewer_swept pins r None q slot e = subst (λ x. standing x q ≡ Some slot) (idle_sweep pins r) e
+fewer_swept pins r (Some at) q slot e = freed_before r.heap at q slot e
+
+fewer : (before : State) (s : Step) (o : Outcome) (after : State) → Moves before s o after → IsNoGo s → Fewer before.heap after.heap
+fewer before s o after (Begins {actor} {call} d) n q slot e = subst (λ x. standing x q ≡ Some slot) (begin_heap before actor call (begun_operation before call)) e
+fewer before s o after (Goes d is a g) n q slot e = absurd n
+fewer before s o after (Ends d is a) n q slot e = absurd n
+fewer before s o after (Sweeps spent) n q slot e = fewer_swept _ (reclaimer_of before) (ripe before.epoch before.limbo) q slot e
+
+module _ (states : ℕ → State) (t : ℕ) where
+  stays_by : (q : Ref) (o : Option Slot) → standing (states (suc t)).heap q ≡ o → ((slot : Slot) → o ≡ Some slot → standing (states t).heap q ≡ Some slot) →
+      grown states (suc t) q ≡ grown states t q
+  unfolding grown
+  stays_by q None e h = ap (λ x. or_before x (grown states t q)) e
+  stays_by q (Some slot) e h = ap (λ x. or_before x (grown states t q)) e ∙ sym (grown_standing states t q slot (h slot refl))
+
+  -- what stands there stays in the heap that only grows
+  stays_fewer : Fewer (states t).heap (states (suc t)).heap → GrownStays states t
+  stays_fewer f q = stays_by q (standing (states (suc t)).heap q) refl (λ slot e. f q slot e)
+
+  stays_same : (states (suc t)).heap ≡ (states t).heap → GrownStays states t
+  stays_same e = stays_fewer (λ q slot is. subst (λ x. standing x q ≡ Some slot) e is)
+
+  becomes_at : (q : Ref) (was now : Slot) (change : Slot → Slot) → standing (states t).heap q ≡ Some was → standing (states (suc t)).heap q ≡ Some now → now ≡ change was →
+      grown states (suc t) q ≡ option_map change (grown states t q)
+  becomes_at q was now change before after is =
+      grown_standing states (suc t) q now after ∙ ap (λ (x : Slot). Some x) is ∙ sym (ap (option_map change) (grown_standing states t q was before))
+
+  finds_main : (i : Ref) → HasLink (states t) i → FindsMain states t i
+  finds_main i h = record {
+    link = ap (λ o. is_indirection (node_of o)) (grown_standing states t i h.slot h.stands) ∙ h.link;
+    main = ap main_of (node_standing states t i h.slot h.stands);
+  }
+
+  finds_prev : (m : Ref) → HasMain (states t) m → FindsPrev states t m
+  finds_prev m h = record {
+    made = ap is_some (grown_standing states t m h.slot h.stands);
+    no_link = ap (λ o. is_indirection (node_of o)) (grown_standing states t m h.slot h.stands) ∙ h.no_link;
+    prev = prev_standing states t m h.slot h.stands;
+  }
+
+  -- ---- writes
+
+  abbrev H : Heap
+  H = (states t).heap
+
+  main_written : (i x : Ref) → HasLink (states t) i → (states (suc t)).heap ≡ with_main H i x → GrownChanges states t (main_changed x) i
+  main_written i x h e = record {
+    here = becomes_at i h.slot (main_changed x h.slot) (main_changed x) h.stands (ap (λ y. standing y i) e ∙ main_here H x i h.slot h.stands) refl;
+    elsewhere = λ q other. grown_same states t q (ap (λ y. standing y q) e ∙ main_other H x i h.slot h.stands q other);
+  }
+
+  prev_written : (m : Ref) (v : Prev) → HasMain (states t) m → (states (suc t)).heap ≡ with_prev H m v → GrownChanges states t (prev_changed v) m
+  prev_written m v h e = record {
+    here = becomes_at m h.slot (prev_changed v h.slot) (prev_changed v) h.stands (ap (λ y. standing y m) e ∙ prev_here H v m h.slot h.stands) refl;
+    elsewhere = λ q other. grown_same states t q (ap (λ y. standing y q) e ∙ prev_other H v m h.slot h.stands q other);
+  }
+
+  -- an indirection isn't a main node
+  differ : (i f : Ref) → HasLink (states t) i → HasMain (states t) f → i ≡ f → ⊥
+  differ i f h g same =
+      let slots = same_Some _ _ (sym h.stands ∙ ap (λ q. standing H q) same ∙ g.stands) in
+      true≢false (sym h.link ∙ ap (λ (s : Slot). is_indirection s.node) slots ∙ g.no_link)
+
+  swap_written : (i a f : Ref) → HasLink (states t) i → HasMain (states t) f → (states (suc t)).heap ≡ with_prev (with_main H i f) f (over.Pending a) → GrownSwaps states t i a f
+  swap_written i a f h g e =
+      let apart = differ i f h g in
+      let fresh = main_other H f i h.slot h.stands f (λ same. apart (sym same)) ∙ g.stands in
+      let after = λ (q : Ref) (other : q ≡ f → ⊥). ap (λ y. standing y q) e ∙ prev_other (with_main H i f) (over.Pending a) f g.slot fresh q other in
+      record {
+        main = becomes_at i h.slot (main_changed f h.slot) (main_changed f) h.stands (after i apart ∙ main_here H f i h.slot h.stands) refl;
+        prev = becomes_at f g.slot (prev_changed (over.Pending a) g.slot) (prev_changed (over.Pending a)) g.stands
+            (ap (λ y. standing y f) e ∙ prev_here (with_main H i f) (over.Pending a) f g.slot fresh) refl;
+        elsewhere = λ q x y. grown_same states t q (after q y ∙ main_other H f i h.slot h.stands q x);
+      }
+
+  swap_by : (i a f : Ref) → HasLink (states t) i → HasMain (states t) f → (b : Bool) →
+      (states (suc t)).heap ≡ if_changed b (with_prev (with_main H i f) f (over.Pending a)) H → Either b (GrownSwaps states t i a f) (GrownStays states t)
+  swap_by i a f h g true e = swap_written i a f h g e
+  swap_by i a f h g false e = stays_same e
+
+  restore_by : (i p : Ref) → HasLink (states t) i → (b : Bool) → (states (suc t)).heap ≡ if_changed b (with_main H i p) H →
+      Either b (GrownChanges states t (main_changed p) i) (GrownStays states t)
+  restore_by i p h true e = main_written i p h e
+  restore_by i p h false e = stays_same e
+
+  decide_by : (m p : Ref) → HasMain (states t) m → (v : Verdict) → (states (suc t)).heap ≡ decided H m p v → Decided states t m p v
+  decide_by m p h Commits e = prev_written m over.None h e
+  decide_by m p h Fails e = prev_written m (over.Failed p) h e
+  decide_by m p h (Overtaken licensed) e = stays_same e
+
+  take_by : (node : Node) → ((n : Ref) → next_ref H ≡ Some n → Draws states t node n) → (o : Option Ref) → next_ref H ≡ o → (states (suc t)).heap ≡ taken H node → Taken states t node o
+  take_by node draws None is e = stays_same (e ∙ none_taken H node is)
+  take_by node draws (Some n) is e =
+      let d = draws n is in
+      record {
+        new = d.new;
+        birth = d.birth;
+        here = grown_standing states (suc t) n _ (ap (λ y. standing y n) e ∙ d.here);
+        elsewhere = λ q other. grown_same states t q (ap (λ y. standing y q) e ∙ d.elsewhere q other);
+      }
+
+  root_by : (X : State) → X.heap ≡ H → X.generations ≡ (states t).generations → (main : Ref) → (o : Option Ref) → next_ref H ≡ o →
+      (states (suc t)).heap ≡ (new_root_taken X main o).heap → (states (suc t)).heap ≡ taken H (Indirection (states t).generations main)
+  root_by X heap generations main None is e = e ∙ heap ∙ sym (none_taken H _ is)
+  root_by X heap generations main (Some n) is e =
+      e ∙ ap (λ y. taken y (Indirection X.generations main)) heap ∙ ap (λ g. taken H (Indirection g main)) generations
+
+  -- ---- by the action
+
+  acts_by : ((node : Node) (n : Ref) → next_ref H ≡ Some n → Draws states t node n) → (X : State) → X.heap ≡ H → X.generations ≡ (states t).generations → (handle : ℕ) →
+      (a : Action) → Finds (states t) a → (states (suc t)).heap ≡ (acted X handle a).heap → ActsOn states t a
+  acts_by draws X heap gens handle act.ReadRoot f e = stays_same (e ∙ heap)
+  acts_by draws X heap gens handle (act.Abort offer) f e = stays_same (e ∙ aborted_heap X handle offer ∙ heap)
+  acts_by draws X heap gens handle (act.Offer offer) f e = stays_same (e ∙ offered_heap X handle offer ∙ heap)
+  acts_by draws X heap gens handle (act.Complete offer main) f e = stays_same (e ∙ completed_heap X handle offer main ∙ heap)
+  acts_by draws X heap gens handle (act.ReadMain i) f e = (finds_main i f, stays_same (e ∙ heap))
+  acts_by draws X heap gens handle (act.ReadPrev m) f e = (finds_prev m f, stays_same (e ∙ heap))
+  acts_by draws X heap gens handle (act.Publish i a x) f e = (
+    finds_main i f.0,
+    finds_prev x f.1,
+    swap_by i a x f.0 f.1 (main_at H i == a) (e ∙ ap (λ y. if_changed (main_at y i == a) (with_prev (with_main y i x) x (over.Pending a)) y) heap),
+  )
+  acts_by draws X heap gens handle (act.Restore i m p) f e =
+      (finds_main i f, restore_by i p f (main_at H i == m) (e ∙ ap (λ y. if_changed (main_at y i == m) (with_main y i p) y) heap))
+  acts_by draws X heap gens handle (act.Decide i m p told) f e = (
+    finds_main i f.0,
+    finds_prev m f.1,
+    ap generation_of (node_standing states t i f.0.slot f.0.stands),
+    decide_by m p f.1 (verdict H i m p told) (e ∙ ap (λ y. decided y m p (verdict y i m p told)) heap),
+  )
+  acts_by draws X heap gens handle (act.Look r) f e = stays_same (e ∙ heap)
+  acts_by draws X heap gens handle (act.Make node) f e = take_by node (draws node) (next_ref H) refl (e ∙ ap (λ y. taken y node) heap)
+  acts_by draws X heap gens handle (act.MakeRoot main) f e =
+      take_by (Indirection (states t).generations main) (draws _) (next_ref H) refl
+      (root_by X heap gens main (next_ref H) refl (e ∙ ap (λ y. (new_root_taken X main (next_ref y)).heap) heap))
+  acts_by draws X heap gens handle (act.End answer) f e = stays_same (e ∙ heap)
+
+-- the heap after a step of an operation
+record HeapAfter (before after : State) (operation : Operation) : Type 0 where
+  state : State
+  heap : state.heap ≡ before.heap
+  generations : state.generations ≡ before.generations
+  is : after.heap ≡ (acted state (handle_of operation.call) (action_of before operation)).heap
+
+heap_after : (before : State) (actor : ℕ) (o : Outcome) (after : State) → Moves before (step.Go actor) o after → (operation : Operation) → operation_of before actor ≡ Some operation →
+    HeapAfter before after operation
+heap_after before actor o after (Goes {operation = x} d is a g) operation runs =
+    subst (λ y. HeapAfter before after y) (same_Some _ _ (sym is ∙ runs)) (record { state = _; heap = refl; generations = refl; is = refl })
+heap_after before actor o after (Ends {operation = x} {answer} d is a) operation runs =
+    subst (λ y. HeapAfter before after y) (same_Some _ _ (sym is ∙ runs))
+    (record { state = before; heap = refl; generations = refl; is = ap (λ y. (acted before (handle_of x.call) y).heap) (sym a) })
+
+-- then the words are known
+module _ (limits : Limits) (states : ℕ → State) (last : ℕ) (memory : Memory limits states last) where
+  pub memory_acts : (t : ℕ) → t < last → (actor : ℕ) (o : Outcome) → Moves (states t) (step.Go actor) o (states (suc t)) → (operation : Operation) →
+      operation_of (states t) actor ≡ Some operation → ActsOn states t (action_of (states t) operation)
+  memory_acts t h actor o m operation runs =
+      let after = heap_after (states t) actor o (states (suc t)) m operation runs in
+      acts_by states t (memory.draws t h) after.state after.heap after.generations (handle_of operation.call) (action_of (states t) operation) (memory.finds t h actor operation runs) after.is
+
+  pub memory_stays : (t : ℕ) → t < last → (s : Step) (o : Outcome) → Moves (states t) s o (states (suc t)) → IsNoGo s → GrownStays states t
+  memory_stays t h s o m n = stays_fewer states t (fewer (states t) s o (states (suc t)) m n)
+
+  -- as far as closings are told
+  abbrev pub known_by : (closing : ℕ → Option ℕ) → RootsAreOpen states last closing → Known limits states last
+  known_by closing roots = record {
+    run = memory.run;
+    closing = closing;
+    acts = memory_acts;
+    stays = memory_stays;
+    built_from = memory.built_from;
+    mains_stand = memory.mains_stand;
+    open_root = roots;
+  }
+
+-- from memory alone nothing is told of closings
+abbrev pub known_of_memory : (limits : Limits) (states : ℕ → State) (last : ℕ) → Memory limits states last → Known limits states last
+known_of_memory limits states last memory =
+    known_by limits states last memory (λ g. None) (λ t h actor operation runs i main previous asks writable r plain c closed. absurd (none-some c closed))
+
+abbrev pub known : (limits : Limits) (states : ℕ → State) (last : ℕ) → OtherLayers limits states last → Known limits states last
+known limits states last layers = known_by limits states last layers.memory (λ g. closed_at (states last) g) layers.roots

@@ -1,0 +1,117 @@
+-- What the laws of memory give.
+use Rattle.std.proofs.Common.{◌≡◌, ℕ, ◌+◌, ◌<◌, ◌≤◌, true, Some, sym, ◌∙◌, ap, subst, arith}
+use Rattle.std.proofs.lemmas.Bool.{true≢false}
+use Rattle.proof_commits.specs.Beneath.slot_arena.specs.declared.refs.Ref.{Ref}
+use Rattle.proof_commits.specs.Beneath.slot_arena.specs.declared.nodes.Node.{Node}
+use Rattle.proof_commits.specs.Beneath.slot_arena.specs.declared.nodes.Node.TheVariants.{Indirection, Branch, Single, Tomb, List as Listed}
+use Rattle.proof_commits.specs.Beneath.slot_arena.specs.declared.nodes.Slot.{Slot}
+use Rattle.proof_commits.specs.Beneath.slot_arena.specs.Heaps.{next_ref, main_of}
+use Rattle.proof_commits.specs.Beneath.machine_model.specs.declared.actions.Action.{Action}
+use Rattle.proof_commits.specs.Beneath.machine_model.specs.declared.actions.Action.TheVariants as act
+use Rattle.proof_commits.specs.Beneath.machine_model.specs.declared.building.BuildLine.TheVariants as build
+use Rattle.proof_commits.specs.Beneath.machine_model.specs.declared.lines.Line.{Line}
+use Rattle.proof_commits.specs.Beneath.machine_model.specs.declared.lines.Line.TheVariants as line
+use Rattle.proof_commits.specs.Beneath.machine_model.specs.declared.repairs.RenewLine.TheVariants as renew
+use Rattle.proof_commits.specs.Beneath.machine_model.specs.declared.repairs.CleanLine.TheVariants as clean
+use Rattle.proof_commits.specs.Beneath.machine_model.specs.declared.repairs.ClimbLine.TheVariants as climb
+use Rattle.proof_commits.specs.Beneath.machine_model.specs.declared.operations.Operation.{Operation}
+use Rattle.proof_commits.specs.Beneath.machine_model.specs.declared.steps.Limits.{Limits}
+use Rattle.proof_commits.specs.Beneath.machine_model.specs.States.{State, operation_of}
+use Rattle.proof_commits.specs.Beneath.machine_model.specs.Operations.{action_of}
+use Rattle.proof_commits.specs.Beneath.machine_model.specs.Times.{IsRun}
+use Rattle.proof_commits.specs.Beneath.machine_model.specs.Grown.{standing}
+use Rattle.proof_memory.specs.Wants.{Wanted, AnIndirection, AMain, ABranch, BranchOrList, line_wants, meets, Is, Holds, AllHold, action_wants, node_wants, prev_wants, place_wants, change_wants, flag_on, is_indirection, is_branch_or_list}
+use Rattle.proof_memory.specs.Laws.{IsInUse}
+use Rattle.proof_memory.proofs.Claims.Uses.{safe_of, meets_of, first_hold}
+use Rattle.proof_memory.proofs.Heap.Under.{node_under, taken_all}
+use Rattle.proof_memory.proofs.Safety.States.{IsSafe}
+use Rattle.proof_memory.proofs.Safety.AtEachTime.{safe_at}
+use Rattle.proof_memory.proofs.Safety.AtTimes.{action_at, line_at}
+use Rattle.proof_memory.proofs.Heap.Moves.{not_yet_drawn}
+use Rattle.proof_commits.proofs.Known.Given.{BuildsFrom, HasSolid}
+use Rattle.proof_commits.proofs.Known.Layers.{HasLink, HasMain, Finds, Draws, Memory}
+use Rattle.proof_commits.proofs.Course.OfLists.{MemoryOfRuns}
+use Rattle.proof_commits.specs.Beneath.machine_model.proofs.Times.{run_is}
+use Rattle.proof_commits.specs.Beneath.machine_model.specs.Times.{states_of, last_of}
+use Rattle.proof_memory.proofs.Claims.Nodes.{main_plain}
+
+built_solid : (node : Node) → meets BranchOrList node ≡ true → is_branch_or_list node ≡ true
+built_solid node e = grind arith
+
+branch_solid : (node : Node) → meets ABranch node ≡ true → is_branch_or_list node ≡ true
+branch_solid node e = grind arith
+
+has_solid : (state : State) (m : Ref) (wanted : Wanted) → ((node : Node) → meets wanted node ≡ true → is_branch_or_list node ≡ true) →
+    Holds (IsInUse state.heap) state.heap (Is m wanted) → HasSolid state m
+has_solid state m wanted f h =
+    let (slot, found) = safe_of h in
+    record { slot = slot; stands = found; solid = f slot.node (ap (meets wanted) (sym (node_under state.heap m slot found)) ∙ meets_of h) }
+
+has_link : (state : State) (i : Ref) → Holds (IsInUse state.heap) state.heap (Is i AnIndirection) → HasLink state i
+has_link state i h =
+    let (slot, found) = safe_of h in
+    record { slot = slot; stands = found; link = ap is_indirection (sym (node_under state.heap i slot found)) ∙ meets_of h }
+
+has_main : (state : State) (m : Ref) → Holds (IsInUse state.heap) state.heap (Is m AMain) → HasMain state m
+has_main state m h =
+    let (slot, found) = safe_of h in
+    record { slot = slot; stands = found; no_link = main_plain slot.node (ap (meets AMain) (sym (node_under state.heap m slot found)) ∙ meets_of h) }
+
+finds_so : (state : State) (a : Action) → AllHold (IsInUse state.heap) state.heap (action_wants a) → Finds state a
+finds_so state (act.ReadMain i) h = has_link state i h.0
+finds_so state (act.ReadPrev m) h = has_main state m h.0
+finds_so state (act.Publish i a f) h = (has_link state i h.0, has_main state f h.1.1.0)
+finds_so state (act.Restore i m p) h = has_link state i h.0
+finds_so state (act.Decide i m p told) h = (has_link state i h.0, has_main state m h.1.0)
+finds_so state a h = tt
+
+module _ (limits : Limits) (states : ℕ → State) (last : ℕ) (run : IsRun limits states last) where
+  finds : (t : ℕ) → t < last → (actor : ℕ) (operation : Operation) → operation_of (states t) actor ≡ Some operation → Finds (states t) (action_of (states t) operation)
+  finds t h actor operation is = finds_so (states t) (action_of (states t) operation) (action_at limits states last run t (omega arith) actor operation is)
+
+  draws : (t : ℕ) → t < last → (node : Node) (n : Ref) → next_ref (states t).heap ≡ Some n → Draws states t node n
+  draws t h node n e =
+      let I : IsSafe (states t) = safe_at limits states last run t (omega arith) in
+      let all = taken_all (states t).limits.slots (states t).heap (I.sound.heap) (I.small) node n e in
+      record { new = not_yet_drawn limits states last run t (omega arith) n e; birth = (states t).heap.births + 1; here = all.0; elsewhere = all.2 }
+
+  mains_stand : (t : ℕ) → t ≤ last → (i : Ref) (slot : Slot) → standing (states t).heap i ≡ Some slot → is_indirection slot.node ≡ true →
+      (main : Slot) × (standing (states t).heap (main_of slot.node) ≡ Some main)
+  mains_stand t h i slot e l =
+      by_node slot.node l (first_hold (IsInUse (states t).heap) (states t).heap (node_wants slot.node) (prev_wants slot.prev) ((safe_at limits states last run t h).nodes i slot e).0)
+    where
+      by_node : (node : Node) → is_indirection node ≡ true → AllHold (IsInUse (states t).heap) (states t).heap (node_wants node) →
+          (main : Slot) × (standing (states t).heap (main_of node) ≡ Some main)
+      by_node (Indirection g m) l w = safe_of w.0
+      by_node (Branch b es) l w = absurd (true≢false (sym l))
+      by_node (Single k v) l w = absurd (true≢false (sym l))
+      by_node (Tomb s) l w = absurd (true≢false (sym l))
+      by_node (Listed s) l w = absurd (true≢false (sym l))
+
+  built_from : (t : ℕ) → t < last → (actor : ℕ) (operation : Operation) → operation_of (states t) actor ≡ Some operation → (main : Ref) →
+      BuildsFrom operation.line main → HasSolid (states t) main
+  built_from t h actor operation is main b = by_line operation.line main b (line_at limits states last run t (omega arith) actor operation is)
+    where
+      S : Ref → Type 0
+      S = IsInUse (states t).heap
+
+      by_line : (l : Line) (m : Ref) → BuildsFrom l m → AllHold S (states t).heap (line_wants limits.hash operation.call operation.access l) → HasSolid (states t) m
+      by_line (line.Build (build.Main path main c former)) m b wants =
+          let place = first_hold S (states t).heap (place_wants path main BranchOrList) (change_wants main (flag_on limits.hash operation.call path) former c) wants in
+          subst (λ x. HasSolid (states t) x) b (has_solid (states t) main BranchOrList built_solid place.1.1.0)
+      by_line (line.Renew (renew.Branch path main done)) m b wants = subst (λ x. HasSolid (states t) x) b (has_solid (states t) main ABranch branch_solid wants.1.1.0)
+      by_line (line.Clean (clean.Contracted path main done)) m b wants = subst (λ x. HasSolid (states t) x) b (has_solid (states t) main ABranch branch_solid wants.1.1.0)
+      by_line (line.Climb (climb.Contracted c main)) m b wants = subst (λ x. HasSolid (states t) x) b (has_solid (states t) main ABranch branch_solid wants.1.1.1.0)
+      by_line l m b wants = absurd b
+
+pub memory : (limits : Limits) (states : ℕ → State) (last : ℕ) → IsRun limits states last → Memory limits states last
+memory limits states last run = record {
+  run = run;
+  finds = finds limits states last run;
+  draws = draws limits states last run;
+  built_from = built_from limits states last run;
+  mains_stand = mains_stand limits states last run;
+}
+
+pub memory_of_runs : MemoryOfRuns
+memory_of_runs limits steps ok = memory limits (states_of limits steps) (last_of limits steps) (run_is limits steps ok)

@@ -1,0 +1,4 @@
+pub mod Words
+pub mod Known
+pub mod Course
+pub mod Lines

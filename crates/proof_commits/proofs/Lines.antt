@@ -1,0 +1,9 @@
+pub mod Stages
+pub mod Read
+pub mod Remembers
+pub mod Keeps
+pub mod Reads
+pub mod Turns
+pub mod Each
+pub mod Swap
+pub mod Resting

@@ -1,0 +1,189 @@
+-- What an operation on a line is about with main words, and what the line remembers.
+use Rattle.std.proofs.Common.{◌≡◌, ℕ, Option, Some, None}
+use Rattle.proof_commits.specs.Beneath.slot_arena.specs.declared.refs.Ref.{Ref}
+use Rattle.proof_commits.specs.Beneath.machine_model.specs.declared.operations.Operation.{Operation}
+use Rattle.proof_commits.specs.Beneath.machine_model.specs.declared.reading.ReadLine.{ReadLine}
+use Rattle.proof_commits.specs.Beneath.machine_model.specs.declared.reading.ReadLine.TheVariants as read
+use Rattle.proof_commits.specs.Beneath.machine_model.specs.declared.reading.SwapLine.{SwapLine}
+use Rattle.proof_commits.specs.Beneath.machine_model.specs.declared.reading.SwapLine.TheVariants as swap
+use Rattle.proof_commits.specs.Beneath.machine_model.specs.declared.roots.Descriptor.{Descriptor}
+use Rattle.proof_commits.specs.Beneath.machine_model.specs.declared.roots.CompleteLine.{CompleteLine}
+use Rattle.proof_commits.specs.Beneath.machine_model.specs.declared.roots.CompleteLine.TheVariants as complete
+use Rattle.proof_commits.specs.Beneath.machine_model.specs.declared.roots.RootLine.{RootLine}
+use Rattle.proof_commits.specs.Beneath.machine_model.specs.declared.roots.RootLine.TheVariants as root
+use Rattle.proof_commits.specs.Beneath.machine_model.specs.declared.finding.KeyLine.{KeyLine}
+use Rattle.proof_commits.specs.Beneath.machine_model.specs.declared.finding.KeyLine.TheVariants as key
+use Rattle.proof_commits.specs.Beneath.machine_model.specs.declared.building.BuildLine.{BuildLine}
+use Rattle.proof_commits.specs.Beneath.machine_model.specs.declared.building.BuildLine.TheVariants as build
+use Rattle.proof_commits.specs.Beneath.machine_model.specs.declared.repairs.RenewLine.{RenewLine}
+use Rattle.proof_commits.specs.Beneath.machine_model.specs.declared.repairs.RenewLine.TheVariants as renew
+use Rattle.proof_commits.specs.Beneath.machine_model.specs.declared.repairs.CleanLine.{CleanLine}
+use Rattle.proof_commits.specs.Beneath.machine_model.specs.declared.repairs.CleanLine.TheVariants as clean
+use Rattle.proof_commits.specs.Beneath.machine_model.specs.declared.repairs.ClimbLine.{ClimbLine}
+use Rattle.proof_commits.specs.Beneath.machine_model.specs.declared.repairs.ClimbLine.TheVariants as climb
+use Rattle.proof_commits.specs.Beneath.machine_model.specs.declared.copying.CopyLine.{CopyLine}
+use Rattle.proof_commits.specs.Beneath.machine_model.specs.declared.copying.CopyLine.TheVariants as copy
+use Rattle.proof_commits.specs.Beneath.machine_model.specs.declared.walking.WalkLine.{WalkLine}
+use Rattle.proof_commits.specs.Beneath.machine_model.specs.declared.walking.WalkLine.TheVariants as walk
+use Rattle.proof_commits.specs.Beneath.machine_model.specs.declared.lines.Line.{Line}
+use Rattle.proof_commits.specs.Beneath.machine_model.specs.declared.lines.Line.TheVariants as line
+use Rattle.proof_commits.specs.Beneath.machine_model.specs.Paths.{current, above}
+use Rattle.proof_commits.specs.Protocol.{Stage, Rests, Reads, Holds, Publishes, Decides, Checks}
+use Rattle.proof_commits.specs.Stages.{stage_of_complete, stage_of_root, stage_of_swap, stage_of_key, stage_of_build, stage_of_renew, stage_of_clean, stage_of_climb, stage_of_copy, stage_of_walk, stage_of, stage_of_actor, from_of_actor}
+
+-- ---- what an operation is about
+
+-- ---- what a line remembers: G says of an indirection and a main node that a READ of it gave the node, and W that the handle is
+-- writable, where the root is asked for its generation
+
+abbrev pub ReadRemembers : Type 0 → ReadLine → Type 0
+ReadRemembers W (read.AskRoot main previous) = W
+ReadRemembers W (read.Abort main previous offer) = W
+ReadRemembers W l = Unit {0}
+
+abbrev pub CompleteRemembers : (Ref → Ref → Type 0) → Type 0 → Descriptor → CompleteLine → Type 0
+CompleteRemembers G W offer (complete.Reading l) = ReadRemembers W l
+CompleteRemembers G W offer (complete.Swap main) = G offer.root main
+
+abbrev pub RootRemembers : (Ref → Ref → Type 0) → Type 0 → RootLine → Type 0
+RootRemembers G W root.Read = Unit {0}
+RootRemembers G W (root.Completing c) = CompleteRemembers G W c.offer c.line
+
+abbrev pub SwapRemembers : Type 0 → SwapLine → Type 0
+SwapRemembers W (swap.Deciding l) = ReadRemembers W l
+SwapRemembers W l = Unit {0}
+
+abbrev pub KeyRemembers : (Ref → Ref → Type 0) → Type 0 → KeyLine → Type 0
+KeyRemembers G W (key.Read path r) = ReadRemembers W r.line × (r.indirection ≡ current path)
+KeyRemembers G W (key.Main path main) = G (current path) main
+KeyRemembers G W (key.Entry path main position) = G (current path) main
+KeyRemembers G W (key.Listed path main position) = G (current path) main
+KeyRemembers G W (key.Sibling path main position former) = G (current path) main
+
+abbrev pub BuildRemembers : (Ref → Ref → Type 0) → BuildLine → Type 0
+BuildRemembers G (build.Single path main site former) = G (current path) main
+BuildRemembers G (build.Pair path main position single depth) = G (current path) main
+BuildRemembers G (build.Link path main position below depth) = G (current path) main
+BuildRemembers G (build.Rung path main position below depth) = G (current path) main
+BuildRemembers G (build.Main path main c former) = G (current path) main
+
+abbrev pub RenewRemembers : (Ref → Ref → Type 0) → Type 0 → RenewLine → Type 0
+RenewRemembers G W (renew.Entry path main done) = G (current path) main
+RenewRemembers G W (renew.Read path main done r) = ReadRemembers W r.line × G (current path) main
+RenewRemembers G W (renew.Link path main done child) = G (current path) main × ((i : Ref) × G i child)
+RenewRemembers G W (renew.Branch path main done) = G (current path) main
+
+abbrev pub CleanRemembers : (Ref → Ref → Type 0) → Type 0 → CleanLine → Type 0
+CleanRemembers G W (clean.Read path r) = ReadRemembers W r.line × (r.indirection ≡ current path)
+CleanRemembers G W (clean.Main path main) = G (current path) main
+CleanRemembers G W (clean.Entry path main done) = G (current path) main
+CleanRemembers G W (clean.Child path main done r) = ReadRemembers W r.line × G (current path) main
+CleanRemembers G W (clean.Tomb path main done child) = G (current path) main × ((i : Ref) × G i child)
+CleanRemembers G W (clean.Contracted path main done) = G (current path) main
+
+abbrev pub ClimbRemembers : (Ref → Ref → Type 0) → Type 0 → ClimbLine → Type 0
+ClimbRemembers G W (climb.Read c r) = ReadRemembers W r.line × (r.indirection ≡ current (above c.path))
+ClimbRemembers G W (climb.Main c main) = G (current (above c.path)) main
+ClimbRemembers G W (climb.Contracted c main) = G (current (above c.path)) main
+ClimbRemembers G W (climb.Root c l) = RootRemembers G W l
+
+abbrev pub CopyRemembers : (Ref → Ref → Type 0) → Type 0 → CopyLine → Type 0
+CopyRemembers G W (copy.Read at r) = ReadRemembers W r.line × (r.indirection ≡ at)
+CopyRemembers G W (copy.Successor at main) = G at main
+CopyRemembers G W (copy.Second at main successor) = G at main
+CopyRemembers G W (copy.Empty at main) = G at main
+CopyRemembers G W (copy.Cleared at main branch) = G at main
+CopyRemembers G W (copy.Offer offer) = G offer.root offer.expected
+CopyRemembers G W (copy.Complete c) = CompleteRemembers G W c.offer c.line
+
+abbrev pub WalkRemembers : (Ref → Ref → Type 0) → Type 0 → WalkLine → Type 0
+WalkRemembers G W walk.Root = Unit {0}
+WalkRemembers G W (walk.Read r todo pairs) = ReadRemembers W r.line
+WalkRemembers G W (walk.Main main todo pairs) = (i : Ref) × G i main
+WalkRemembers G W (walk.Entry todo pairs) = Unit {0}
+
+abbrev pub Remembers : (Ref → Ref → Type 0) → Type 0 → Line → Type 0
+Remembers G W (line.Root l) = RootRemembers G W l
+Remembers G W (line.Key l) = KeyRemembers G W l
+Remembers G W (line.Build l) = BuildRemembers G l
+Remembers G W (line.Swap why s) = SwapRemembers W s.line × G s.indirection s.replaced
+Remembers G W (line.Renew l) = RenewRemembers G W l
+Remembers G W (line.Clean l) = CleanRemembers G W l
+Remembers G W (line.Climb l) = ClimbRemembers G W l
+Remembers G W (line.Copy l) = CopyRemembers G W l
+Remembers G W (line.Walk l) = WalkRemembers G W l
+Remembers G W (line.End answer) = Unit {0}
+Remembers G W line.Impossible = Unit {0}
+
+-- ---- what is remembered stays so
+
+module _ (G H : Ref → Ref → Type 0) (W : Type 0) (more : (i m : Ref) → G i m → H i m) where
+  complete_still : (offer : Descriptor) (l : CompleteLine) → CompleteRemembers G W offer l → CompleteRemembers H W offer l
+  complete_still offer (complete.Reading l) r = r
+  complete_still offer (complete.Swap main) r = more offer.root main r
+
+  root_still : (l : RootLine) → RootRemembers G W l → RootRemembers H W l
+  root_still root.Read r = r
+  root_still (root.Completing c) r = complete_still c.offer c.line r
+
+  key_still : (l : KeyLine) → KeyRemembers G W l → KeyRemembers H W l
+  key_still (key.Read path x) r = r
+  key_still (key.Main path main) r = more (current path) main r
+  key_still (key.Entry path main position) r = more (current path) main r
+  key_still (key.Listed path main position) r = more (current path) main r
+  key_still (key.Sibling path main position former) r = more (current path) main r
+
+  build_still : (l : BuildLine) → BuildRemembers G l → BuildRemembers H l
+  build_still (build.Single path main site former) r = more (current path) main r
+  build_still (build.Pair path main position single depth) r = more (current path) main r
+  build_still (build.Link path main position below depth) r = more (current path) main r
+  build_still (build.Rung path main position below depth) r = more (current path) main r
+  build_still (build.Main path main c former) r = more (current path) main r
+
+  renew_still : (l : RenewLine) → RenewRemembers G W l → RenewRemembers H W l
+  renew_still (renew.Entry path main done) r = more (current path) main r
+  renew_still (renew.Read path main done x) r = (r.0, more (current path) main r.1)
+  renew_still (renew.Link path main done child) r = (more (current path) main r.0, (r.1.0, more r.1.0 child r.1.1))
+  renew_still (renew.Branch path main done) r = more (current path) main r
+
+  clean_still : (l : CleanLine) → CleanRemembers G W l → CleanRemembers H W l
+  clean_still (clean.Read path x) r = r
+  clean_still (clean.Main path main) r = more (current path) main r
+  clean_still (clean.Entry path main done) r = more (current path) main r
+  clean_still (clean.Child path main done x) r = (r.0, more (current path) main r.1)
+  clean_still (clean.Tomb path main done child) r = (more (current path) main r.0, (r.1.0, more r.1.0 child r.1.1))
+  clean_still (clean.Contracted path main done) r = more (current path) main r
+
+  climb_still : (l : ClimbLine) → ClimbRemembers G W l → ClimbRemembers H W l
+  climb_still (climb.Read c x) r = r
+  climb_still (climb.Main c main) r = more (current (above c.path)) main r
+  climb_still (climb.Contracted c main) r = more (current (above c.path)) main r
+  climb_still (climb.Root c l) r = root_still l r
+
+  copy_still : (l : CopyLine) → CopyRemembers G W l → CopyRemembers H W l
+  copy_still (copy.Read at x) r = r
+  copy_still (copy.Successor at main) r = more at main r
+  copy_still (copy.Second at main successor) r = more at main r
+  copy_still (copy.Empty at main) r = more at main r
+  copy_still (copy.Cleared at main branch) r = more at main r
+  copy_still (copy.Offer offer) r = more offer.root offer.expected r
+  copy_still (copy.Complete c) r = complete_still c.offer c.line r
+
+  walk_still : (l : WalkLine) → WalkRemembers G W l → WalkRemembers H W l
+  walk_still walk.Root r = r
+  walk_still (walk.Read x todo pairs) r = r
+  walk_still (walk.Main main todo pairs) r = (r.0, more r.0 main r.1)
+  walk_still (walk.Entry todo pairs) r = r
+
+  pub remembers_still : (l : Line) → Remembers G W l → Remembers H W l
+  remembers_still (line.Root l) r = root_still l r
+  remembers_still (line.Key l) r = key_still l r
+  remembers_still (line.Build l) r = build_still l r
+  remembers_still (line.Swap why s) r = (r.0, more s.indirection s.replaced r.1)
+  remembers_still (line.Renew l) r = renew_still l r
+  remembers_still (line.Clean l) r = clean_still l r
+  remembers_still (line.Climb l) r = climb_still l r
+  remembers_still (line.Copy l) r = copy_still l r
+  remembers_still (line.Walk l) r = walk_still l r
+  remembers_still (line.End answer) r = r
+  remembers_still line.Impossible r = r

@@ -1,0 +1,7 @@
+pub mod Stood
+pub mod Effects
+pub mod OfRuns
+pub mod First
+pub mod Along
+pub mod InHeap
+pub mod FromHeap

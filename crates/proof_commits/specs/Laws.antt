@@ -1,0 +1,189 @@
+-- Laws of main words and prev words, for every list of steps: who decides what, and what a READ gives.
+use Rattle.std.specs.Prelude.{◌≡◌, ℕ, ◌+◌, ◌<◌, ◌≤◌, ◌⊎◌, List, Some, slice_get}
+use Rattle.proof_commits.specs.Beneath.slot_arena.specs.declared.refs.Ref.{Ref}
+use Rattle.proof_commits.specs.Beneath.slot_arena.specs.declared.nodes.Node.{Node}
+use Rattle.proof_commits.specs.Beneath.slot_arena.specs.declared.nodes.Node.TheVariants.{Tomb}
+use Rattle.proof_commits.specs.Beneath.slot_arena.specs.declared.nodes.Prev.TheVariants as prev
+use Rattle.proof_commits.specs.Beneath.slot_arena.specs.Heaps.{node_at, main_at, prev_at, generation_at, logical_main}
+use Rattle.proof_commits.specs.Beneath.machine_model.specs.declared.operations.Operation.{Operation}
+use Rattle.proof_commits.specs.Beneath.machine_model.specs.declared.reading.After.TheVariants.{Gives}
+use Rattle.proof_commits.specs.Beneath.machine_model.specs.declared.reading.Read.{Read}
+use Rattle.proof_commits.specs.Beneath.machine_model.specs.declared.reading.ReadLine.{ReadLine}
+use Rattle.proof_commits.specs.Beneath.machine_model.specs.declared.reading.SwapLine.{SwapLine}
+use Rattle.proof_commits.specs.Beneath.machine_model.specs.declared.reading.SwapLine.TheVariants.{Publish, Deciding, Check}
+use Rattle.proof_commits.specs.Beneath.machine_model.specs.declared.lines.Purpose.{Purpose}
+use Rattle.proof_commits.specs.Beneath.machine_model.specs.declared.lines.Line.{Line}
+use Rattle.proof_commits.specs.Beneath.machine_model.specs.declared.lines.Line.TheVariants as line
+use Rattle.proof_commits.specs.Beneath.machine_model.specs.declared.steps.Limits.{Limits}
+use Rattle.proof_commits.specs.Beneath.machine_model.specs.declared.steps.Step.{Step}
+use Rattle.proof_commits.specs.Beneath.machine_model.specs.declared.steps.Step.TheVariants.{Go}
+use Rattle.proof_commits.specs.Beneath.machine_model.specs.States.{State, operation_of, closed_at}
+use Rattle.proof_commits.specs.Beneath.machine_model.specs.Reading.{read_step}
+use Rattle.proof_commits.specs.Beneath.machine_model.specs.Operations.{read_of}
+use Rattle.proof_commits.specs.Beneath.machine_model.specs.Acting.{operation_after}
+use Rattle.proof_commits.specs.Beneath.machine_model.specs.Machine.{AreLimits, run, taken_steps}
+use Rattle.proof_commits.specs.Runs.{steps_taken, state_before, HasIndirection}
+use Rattle.proof_memory.specs.Laws.{IsInUse}
+
+-- ---- owners
+
+-- the operation stands in a SWAP of the fresh node for the replaced one, at this line of it
+abbrev pub IsInSwap : Operation → Ref → Ref → Ref → SwapLine → Type 0
+IsInSwap operation indirection replaced fresh l =
+    (why : Purpose) × (operation.line ≡ line.Swap why (record { indirection = indirection; replaced = replaced; fresh = fresh; line = l }))
+
+-- a running operation that swapped the fresh node in over the replaced one, and is about to see how it is decided
+pub record Owner (state : State) (indirection replaced fresh : Ref) : Type 0 where
+  pub actor : ℕ
+  pub operation : Operation
+  pub runs : operation_of state actor ≡ Some operation
+  pub line : ReadLine
+  pub swaps : IsInSwap operation indirection replaced fresh (Deciding line)
+
+-- a pending node has one running operation that swapped it in, still in that SWAP; nobody else is in a SWAP of it
+abbrev pub PendingHasOwner : Type 0
+PendingHasOwner =
+    (limits : Limits) (steps : List Step) → AreLimits limits → (fresh replaced : Ref) → IsInUse (run limits steps).heap fresh →
+    prev_at (run limits steps).heap fresh ≡ prev.Pending replaced →
+    (indirection : Ref) × (owner : Owner (run limits steps) indirection replaced fresh)
+    × ((actor : ℕ) (operation : Operation) (at before : Ref) (l : SwapLine) → operation_of (run limits steps) actor ≡ Some operation → IsInSwap operation at before fresh l →
+    actor ≡ owner.actor)
+
+-- who is about to see how its fresh node was decided finds it decided
+abbrev pub CheckedIsDecided : Type 0
+CheckedIsDecided =
+    (limits : Limits) (steps : List Step) → AreLimits limits → (actor : ℕ) (operation : Operation) (indirection replaced fresh other : Ref) →
+    operation_of (run limits steps) actor ≡ Some operation → IsInSwap operation indirection replaced fresh Check → IsInUse (run limits steps).heap fresh →
+    ¬ (prev_at (run limits steps).heap fresh ≡ prev.Pending other)
+
+-- ---- prev words
+
+-- what one step does to a prev word
+pub data PrevChange (before after : State) (main : Ref) : Type 0 where
+  Stays : prev_at after.heap main ≡ prev_at before.heap main → PrevChange before after main
+  -- in the step that swaps the node in
+  IsSwappedIn : {replaced : Ref} (actor : ℕ) (operation : Operation) (indirection : Ref) → operation_of before actor ≡ Some operation →
+      IsInSwap operation indirection replaced main Publish → prev_at before.heap main ≡ prev.None →
+      prev_at after.heap main ≡ prev.Pending replaced → PrevChange before after main
+  IsCommitted : {replaced : Ref} → prev_at before.heap main ≡ prev.Pending replaced → prev_at after.heap main ≡ prev.None → PrevChange before after main
+  HasFailed : {replaced : Ref} → prev_at before.heap main ≡ prev.Pending replaced → prev_at after.heap main ≡ prev.Failed replaced → PrevChange before after main
+
+-- a prev word goes from none to pending in the step that swaps the node in, and from pending to none or failed
+abbrev pub PrevWordsChange : Type 0
+PrevWordsChange =
+    (limits : Limits) (steps : List Step) → AreLimits limits → (n : ℕ) → n < steps_taken limits steps → (main : Ref) →
+    IsInUse (state_before limits steps n).heap main → IsInUse (state_before limits steps (n + 1)).heap main →
+    PrevChange (state_before limits steps n) (state_before limits steps (n + 1)) main
+
+-- once it was pending and isn't any more, it stays as it is
+abbrev pub DecidedForGood : Type 0
+DecidedForGood =
+    (limits : Limits) (steps : List Step) → AreLimits limits → (n k l : ℕ) → n ≤ k → k ≤ l → l ≤ steps_taken limits steps → (main replaced : Ref) →
+    IsInUse (state_before limits steps n).heap main → IsInUse (state_before limits steps k).heap main → IsInUse (state_before limits steps l).heap main →
+    prev_at (state_before limits steps n).heap main ≡ prev.Pending replaced → ¬ (prev_at (state_before limits steps k).heap main ≡ prev.Pending replaced) →
+    prev_at (state_before limits steps l).heap main ≡ prev_at (state_before limits steps k).heap main
+
+-- ---- logical main nodes
+
+-- a step commits the node that stands in the main word; its owner built it from the one that was the logical main node
+pub record CommitsMain (before after : State) (indirection : Ref) : Type 0 where
+  pub fresh : Ref
+  pub replaced : Ref
+  pub stands : main_at before.heap indirection ≡ fresh
+  pub was : logical_main before.heap indirection ≡ replaced
+  pub is : logical_main after.heap indirection ≡ fresh
+  pub owner : Owner before indirection replaced fresh
+
+-- a logical main node changes only in a commit, from the node that the new one was built from
+abbrev pub MainsChangeByCommits : Type 0
+MainsChangeByCommits =
+    (limits : Limits) (steps : List Step) → AreLimits limits → (n : ℕ) → n < steps_taken limits steps → (indirection : Ref) →
+    HasIndirection (state_before limits steps n) indirection → HasIndirection (state_before limits steps (n + 1)) indirection →
+    (logical_main (state_before limits steps (n + 1)).heap indirection ≡ logical_main (state_before limits steps n).heap indirection)
+    ⊎ CommitsMain (state_before limits steps n) (state_before limits steps (n + 1)) indirection
+
+-- a node that was replaced never comes back
+abbrev pub ReplacedForGood : Type 0
+ReplacedForGood =
+    (limits : Limits) (steps : List Step) → AreLimits limits → (n k l : ℕ) → n ≤ k → k ≤ l → l ≤ steps_taken limits steps → (indirection : Ref) →
+    HasIndirection (state_before limits steps n) indirection → HasIndirection (state_before limits steps k) indirection → HasIndirection (state_before limits steps l) indirection →
+    ¬ (logical_main (state_before limits steps k).heap indirection ≡ logical_main (state_before limits steps n).heap indirection) →
+    ¬ (logical_main (state_before limits steps l).heap indirection ≡ logical_main (state_before limits steps n).heap indirection)
+
+-- a tomb that is the logical main node stays it
+abbrev pub IsTomb : Node → Type 0
+IsTomb (Tomb single) = Unit {0}
+IsTomb node = ⊥
+
+abbrev pub TombsStay : Type 0
+TombsStay =
+    (limits : Limits) (steps : List Step) → AreLimits limits → (n k : ℕ) → n ≤ k → k ≤ steps_taken limits steps → (indirection tomb : Ref) →
+    HasIndirection (state_before limits steps n) indirection → HasIndirection (state_before limits steps k) indirection →
+    logical_main (state_before limits steps n).heap indirection ≡ tomb → IsInUse (state_before limits steps n).heap tomb → IsTomb (node_at (state_before limits steps n).heap tomb) →
+    logical_main (state_before limits steps k).heap indirection ≡ tomb
+
+-- ---- what a READ gives
+
+-- the operation is in no SWAP
+abbrev pub IsNoSwap : Line → Type 0
+IsNoSwap (line.Swap why s) = ⊥
+IsNoSwap l = Unit {0}
+
+-- step n is the last of a READ of the actor's operation, and gives this main node of the indirection
+pub record IsGiven (limits : Limits) (steps : List Step) (n : ℕ) (indirection main : Ref) : Type 0 where
+  pub actor : ℕ
+  pub operation : Operation
+  pub step : slice_get (taken_steps limits steps) n ≡ Some (Go actor)
+  pub runs : operation_of (state_before limits steps n) actor ≡ Some operation
+  pub no_swap : IsNoSwap operation.line
+  pub read : Read
+  pub reads : read_of operation.line ≡ Some read
+  pub of : read.indirection ≡ indirection
+  pub gives : read_step (state_before limits steps n) operation read ≡ Gives main
+
+-- the operation after that step
+abbrev pub after_given : {limits : Limits} {steps : List Step} {n : ℕ} {indirection main : Ref} → IsGiven limits steps n indirection main → Operation
+after_given {limits} {steps} {n} given = operation_after (state_before limits steps n) given.operation
+
+-- what it gives was the logical main node after its moment, and the moment is the first such step from its last read or swap of the main word on
+abbrev pub MomentIsFirst : Type 0
+MomentIsFirst =
+    (limits : Limits) (steps : List Step) → AreLimits limits → (n : ℕ) → n < steps_taken limits steps → (indirection main : Ref) (given : IsGiven limits steps n indirection main) →
+    ((after_given given).read_at ≤ (after_given given).moment) × ((after_given given).moment ≤ n)
+    × (HasIndirection (state_before limits steps ((after_given given).moment + 1)) indirection → logical_main (state_before limits steps ((after_given given).moment + 1)).heap indirection ≡ main)
+    × ((k : ℕ) → (after_given given).read_at < k → k ≤ (after_given given).moment → HasIndirection (state_before limits steps k) indirection →
+    ¬ (logical_main (state_before limits steps k).heap indirection ≡ main))
+
+-- what it gives of an indirection whose generation was closed before that read or swap stays its logical main node for ever
+abbrev pub GivenForGood : Type 0
+GivenForGood =
+    (limits : Limits) (steps : List Step) → AreLimits limits → (n : ℕ) → n < steps_taken limits steps → (indirection main : Ref) (given : IsGiven limits steps n indirection main) →
+    (closed : ℕ) → closed_at (run limits steps) (generation_at (state_before limits steps n).heap indirection) ≡ Some closed → closed < (after_given given).read_at →
+    HasIndirection (state_before limits steps n) indirection →
+    (k : ℕ) → (after_given given).moment < k → k ≤ steps_taken limits steps → HasIndirection (state_before limits steps k) indirection →
+    logical_main (state_before limits steps k).heap indirection ≡ main
+
+-- ---- after a closing
+
+-- step n changes the logical main node of an indirection whose generation was closed before, at this step
+pub record ChangesLate (limits : Limits) (steps : List Step) (closed n : ℕ) (indirection : Ref) : Type 0 where
+  pub late : closed ≤ n
+  pub taken : n < steps_taken limits steps
+  pub before : HasIndirection (state_before limits steps n) indirection
+  pub after : HasIndirection (state_before limits steps (n + 1)) indirection
+  pub closing : closed_at (run limits steps) (generation_at (state_before limits steps n).heap indirection) ≡ Some closed
+  pub changes : ¬ (logical_main (state_before limits steps (n + 1)).heap indirection ≡ logical_main (state_before limits steps n).heap indirection)
+
+-- what commits late stood in the main word before the closing
+abbrev pub LateStoodBefore : Type 0
+LateStoodBefore =
+    (limits : Limits) (steps : List Step) → AreLimits limits → (closed n : ℕ) (indirection : Ref) → ChangesLate limits steps closed n indirection →
+    (k : ℕ) × (k ≤ closed)
+    × (HasIndirection (state_before limits steps k) indirection →
+    main_at (state_before limits steps k).heap indirection ≡ main_at (state_before limits steps n).heap indirection)
+
+-- at most one node commits late
+abbrev pub LateOnce : Type 0
+LateOnce =
+    (limits : Limits) (steps : List Step) → AreLimits limits → (closed n k : ℕ) (indirection : Ref) → ChangesLate limits steps closed n indirection →
+    ChangesLate limits steps closed k indirection → n ≡ k

@@ -1,0 +1,7 @@
+pub mod Beneath
+pub mod Runs
+pub mod Laws
+pub mod Protocol
+pub mod Stages
+pub mod Words
+pub mod Moments

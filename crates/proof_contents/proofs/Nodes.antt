@@ -1,0 +1,10 @@
+pub mod Branches
+pub mod Changes
+pub mod Lists
+pub mod Tombs
+pub mod Refilling
+pub mod Chains
+pub mod Beside
+pub mod Maps
+pub mod Builders
+pub mod Partings

@@ -1,0 +1,5 @@
+pub mod Lists
+pub mod Spreads
+pub mod Shown
+pub mod Heap
+pub mod Walks

@@ -1,0 +1,9 @@
+pub mod Maps
+pub mod Found
+pub mod Paths
+pub mod Contents
+pub mod Crowds
+pub mod Listed
+pub mod Runs
+pub mod Parting
+pub mod Started

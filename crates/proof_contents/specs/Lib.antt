@@ -1,0 +1,12 @@
+pub mod Beneath
+pub mod Nodes
+pub mod Laws
+pub mod Tries
+pub mod Steps
+pub mod Effects
+pub mod Runs
+pub mod Pairs
+pub mod Shapes
+pub mod InUse
+pub mod Grows
+pub mod Lines

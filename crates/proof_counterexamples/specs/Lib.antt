@@ -1,0 +1,5 @@
+pub mod Beneath
+pub mod Orders
+pub mod Machines
+pub mod Runs
+pub mod Laws

@@ -1,0 +1,181 @@
+-- What an operation reads through a read-only handle, or below its path of another generation, was closed before the READ; so what the READ gives counts for ever.
+use Rattle.std.proofs.Common.{◌≡◌, ℕ, suc, ◌<◌, ◌≤◌, true, Some, inl, inr, refl, sym, ap, ◌∙◌, subst, arith}
+use Rattle.std.proofs.lemmas.Option.{none-some, same_Some}
+use Rattle.proof_generations.specs.Beneath.history.specs.declared.calls.Access.{Access}
+use Rattle.proof_generations.specs.Beneath.history.specs.declared.calls.Access.TheVariants.{Writable, ReadOnly}
+use Rattle.proof_generations.specs.Beneath.slot_arena.specs.declared.refs.Ref.{Ref}
+use Rattle.proof_generations.specs.Beneath.machine_model.specs.declared.finding.KeyLine.{KeyLine}
+use Rattle.proof_generations.specs.Beneath.machine_model.specs.declared.finding.KeyLine.TheVariants as key
+use Rattle.proof_generations.specs.Beneath.machine_model.specs.declared.lines.Line.{Line}
+use Rattle.proof_generations.specs.Beneath.machine_model.specs.declared.lines.Line.TheVariants as line
+use Rattle.proof_generations.specs.Beneath.machine_model.specs.declared.operations.Operation.{Operation}
+use Rattle.proof_generations.specs.Beneath.machine_model.specs.declared.reading.Read.{Read}
+use Rattle.proof_generations.specs.Beneath.machine_model.specs.declared.repairs.CleanLine.{CleanLine}
+use Rattle.proof_generations.specs.Beneath.machine_model.specs.declared.repairs.CleanLine.TheVariants as clean
+use Rattle.proof_generations.specs.Beneath.machine_model.specs.declared.repairs.RenewLine.{RenewLine}
+use Rattle.proof_generations.specs.Beneath.machine_model.specs.declared.repairs.RenewLine.TheVariants as renew
+use Rattle.proof_generations.specs.Beneath.machine_model.specs.declared.roots.RootLine.TheVariants as root
+use Rattle.proof_generations.specs.Beneath.machine_model.specs.declared.steps.Limits.{Limits}
+use Rattle.proof_generations.specs.Beneath.machine_model.specs.declared.walking.WalkLine.{WalkLine}
+use Rattle.proof_generations.specs.Beneath.machine_model.specs.declared.walking.WalkLine.TheVariants as walk
+use Rattle.proof_generations.specs.Beneath.machine_model.specs.Calls.{handle_of}
+use Rattle.proof_generations.specs.Beneath.machine_model.specs.States.{State, word_at}
+use Rattle.proof_generations.specs.Beneath.machine_model.specs.Operations.{read_of}
+use Rattle.proof_generations.specs.Beneath.machine_model.specs.Orders.{moment_after, read_at_after}
+use Rattle.proof_generations.specs.Beneath.machine_model.specs.Reading.{read_after}
+use Rattle.proof_generations.specs.Beneath.machine_model.specs.Times.{IsRun}
+use Rattle.proof_generations.specs.Beneath.machine_model.specs.Grown.{grown, main_before}
+use Rattle.proof_commits.proofs.Course.Finals.{link_stays}
+use Rattle.proof_commits.proofs.Course.Moments.{moment_at}
+use Rattle.proof_commits.proofs.Course.Readings.{given_for_good}
+use Rattle.proof_commits.specs.Moments.{IsMoment}
+use Rattle.proof_commits.specs.Stages.{stage_of}
+use Rattle.proof_commits.proofs.Lines.Swap.{reads_stage}
+use Rattle.proof_commits.specs.Protocol.{Reads}
+use Rattle.proof_contents.proofs.Values.Runs.{main_at-made}
+use Rattle.proof_contents.specs.Runs.{main_at}
+use Rattle.proof_generations.specs.Falling.{ClosedBeforeRead, ReadsClosed, IsLate, GivesAt, GivenForEver, RepairsAreGiven}
+use Rattle.proof_generations.proofs.Falling.KnownRoots.{words, known, protocol_of}
+use Rattle.proof_generations.proofs.Falling.Opened.{closed_until}
+use Rattle.proof_generations.proofs.Lines.Knows.{Knows, IsInner, KnowsRenew, KnowsClean}
+use Rattle.proof_generations.proofs.Lines.Reader.{KnowsReader, ReaderKey, ReaderWalk}
+use Rattle.proof_generations.proofs.Falling.ReadsGive.{gone_is, reads_on, late_after}
+use Rattle.proof_generations.proofs.Falling.Runs.{gen_of, IsOwn, FitsBelow, FallsBelow, LateBelow, Ends, Shut, LateEnd, KnowsGenerations}
+use Rattle.proof_generations.proofs.Falling.OwnSwaps.{knows_at}
+use Rattle.proof_contents.specs.Lines.Repairs.{ReadsBelow}
+use Rattle.proof_commits.proofs.Words.OfRuns.{link_made}
+use Rattle.proof_commits.proofs.Course.OfLists.{given_read}
+
+-- ---- what lines say of their READs
+
+module _ (Ends Shut : Ref → Type 0) (Late : Read → Type 0) where
+  reader_key : (l : KeyLine) (r : Read) → ReaderKey Ends Shut Late l → read_of (line.Key l) ≡ Some r → Late r
+  reader_key (key.Read path q) r k e = subst Late (same_Some _ _ e) k
+  reader_key (key.Main path main) r k e = absurd (none-some r e)
+  reader_key (key.Entry path main position) r k e = absurd (none-some r e)
+  reader_key (key.Listed path main position) r k e = absurd (none-some r e)
+  reader_key (key.Sibling path main position former) r k e = absurd (none-some r e)
+
+  reader_walk : (l : WalkLine) (r : Read) → ReaderWalk Ends Shut Late l → read_of (line.Walk l) ≡ Some r → Late r
+  reader_walk (walk.Read q todo pairs) r k e = subst Late (same_Some _ _ e) k.0
+  reader_walk walk.Root r k e = absurd (none-some r e)
+  reader_walk (walk.Main main todo pairs) r k e = absurd (none-some r e)
+  reader_walk (walk.Entry todo pairs) r k e = absurd (none-some r e)
+
+  reader_late : (l : Line) (r : Read) → KnowsReader Ends Shut Late l → read_of l ≡ Some r → Late r
+  reader_late (line.Root root.Read) r k e = absurd (none-some r e)
+  reader_late (line.Root (root.Completing c)) r k e = absurd k
+  reader_late (line.Key l) r k e = reader_key l r k e
+  reader_late (line.Walk l) r k e = reader_walk l r k e
+  reader_late (line.End answer) r k e = absurd (none-some r e)
+  reader_late line.Impossible r k e = absurd (none-some r e)
+  reader_late (line.Build l) r k e = absurd k
+  reader_late (line.Swap why s) r k e = absurd k
+  reader_late (line.Renew l) r k e = absurd k
+  reader_late (line.Clean l) r k e = absurd k
+  reader_late (line.Climb l) r k e = absurd k
+  reader_late (line.Copy l) r k e = absurd k
+
+module _ (Own Fits Falls : Ref → Type 0) (Late : Read → Type 0) where
+  renew_late : (l : RenewLine) (r : Read) → ReadsBelow (line.Renew l) → KnowsRenew Own Fits Falls Late l → read_of (line.Renew l) ≡ Some r → Late r
+  renew_late (renew.Read path main done q) r b k e = subst Late (same_Some _ _ e) k.1
+  renew_late (renew.Entry path main done) r b k e = absurd b
+  renew_late (renew.Link path main done child) r b k e = absurd b
+  renew_late (renew.Branch path main done) r b k e = absurd b
+
+  clean_late : (l : CleanLine) (r : Read) → ReadsBelow (line.Clean l) → KnowsClean Own Fits Falls Late l → read_of (line.Clean l) ≡ Some r → Late r
+  clean_late (clean.Child path main done q) r b k e = subst Late (same_Some _ _ e) k.1
+  clean_late (clean.Read path q) r b k e = absurd b
+  clean_late (clean.Main path main) r b k e = absurd b
+  clean_late (clean.Entry path main done) r b k e = absurd b
+  clean_late (clean.Tomb path main done child) r b k e = absurd b
+  clean_late (clean.Contracted path main done) r b k e = absurd b
+
+  below_late : (l : Line) (r : Read) → ReadsBelow l → Knows Own Fits Falls Late l → read_of l ≡ Some r → Late r
+  below_late (line.Renew l) r b k e = renew_late l r b k e
+  below_late (line.Clean l) r b k e = clean_late l r b k e
+  below_late (line.Root l) r b k e = absurd b
+  below_late (line.Key l) r b k e = absurd b
+  below_late (line.Build l) r b k e = absurd b
+  below_late (line.Swap why s) r b k e = absurd b
+  below_late (line.Climb l) r b k e = absurd b
+  below_late (line.Copy l) r b k e = absurd b
+  below_late (line.Walk l) r b k e = absurd b
+  below_late (line.End answer) r b k e = absurd b
+  below_late line.Impossible r b k e = absurd b
+
+below_inner : (l : Line) → ReadsBelow l → IsInner l
+below_inner (line.Renew l) b = tt
+below_inner (line.Clean l) b = tt
+below_inner (line.Root l) b = absurd b
+below_inner (line.Key l) b = absurd b
+below_inner (line.Build l) b = absurd b
+below_inner (line.Swap why s) b = absurd b
+below_inner (line.Climb l) b = absurd b
+below_inner (line.Copy l) b = absurd b
+below_inner (line.Walk l) b = absurd b
+below_inner (line.End answer) b = absurd b
+below_inner line.Impossible b = absurd b
+
+module _ (limits : Limits) (states : ℕ → State) (last : ℕ) (run : IsRun limits states last) where
+  -- ---- closed before
+
+  closed_by : (t : ℕ) (operation : Operation) (r : Read) → read_of operation.line ≡ Some r → KnowsGenerations states last t operation → (access : Access) → operation.access ≡ access →
+      ReadsClosed operation (gen_of states last r.indirection) → IsLate states t operation r (gen_of states last r.indirection)
+  closed_by t operation r e knows ReadOnly w closed = (reader_late (Ends states last t) (Shut states last t) (LateEnd states last t operation) operation.line r (knows.1 w) e).1
+  closed_by t operation r e knows Writable w (inl read_only) = let wrong : ⊥ = (let both : Writable ≡ ReadOnly = sym w ∙ read_only in cc both) in absurd wrong
+  closed_by t operation r e knows Writable w (inr (below, other)) =
+      let (g, begun, known) = knows.0 w (below_inner operation.line below) in
+      (below_late (IsOwn states last g) (FitsBelow states last t g) (FallsBelow states last t g) (LateBelow states last t operation g) operation.line r below known e).2
+      (λ same. other (begun ∙ ap (λ x. Some x) (sym same)))
+
+  pub closed_before_read : ClosedBeforeRead states last
+  closed_before_read t within actor operation r is e closed = closed_by t operation r e (knows_at limits states last run t within actor operation is) operation.access refl closed
+
+  -- ---- what is given
+
+  -- the main node that counts in the words is that of the trie
+  counts_in_trie : (t : ℕ) → t ≤ last → (i m : Ref) → (words states last).link t i ≡ true → main_before states t i ≡ m → main_at states last t i ≡ m
+  counts_in_trie t within i m link is = main_at-made states last t i (link_made (grown states t i) link) ∙ is
+
+  module _ (t : ℕ) (lt : t < last) (actor : ℕ) (operation : Operation) (i m : Ref) (g : GivesAt states t actor operation i m) where
+    own_stage : stage_of operation.line ≡ Reads g.read.indirection g.read.line
+    own_stage = reads_stage operation.line g.read g.no_swap g.reads
+
+    moment : IsMoment (words states last) i m (read_at_after (states t) operation) (moment_after (states t) operation) t
+    moment =
+        subst (λ j. IsMoment (words states last) j m (read_at_after (states t) operation) (moment_after (states t) operation) t) g.of
+        (moment_at limits states last (known limits states last run) t lt actor operation g.outcome g.moves g.runs
+        (gone_is (states t) actor g.outcome (states (suc t)) g.moves operation g.runs (reads_on limits states last run t lt actor operation g.runs g.read own_stage)) g.read.indirection g.read.line own_stage m
+        (given_read g.read.indirection (read_after (states t).heap operation.access (word_at (states t) (handle_of operation.call)) g.read.indirection g.read.line) m g.gives))
+
+    -- the indirection is one from what the READ counts from on
+    link_from : (u : ℕ) → moment_after (states t) operation < u → u ≤ last → (words states last).link u i ≡ true
+    link_from u after within =
+        link_stays (protocol_of limits states last run) i (suc (read_at_after (states t) operation)) u (omega (arith, moment.from, after)) within moment.link
+
+    -- what was closed before the READ is final
+    final : ReadsClosed operation (gen_of states last i) → (u : ℕ) → moment_after (states t) operation < u → u ≤ last → main_at states last u i ≡ m
+    final closed u after within =
+        let late = closed_before_read t (omega arith) actor operation g.read g.runs g.reads (subst (λ j. ReadsClosed operation (gen_of states last j)) (sym g.of) closed) in
+        let (c, before, is, since) = subst (λ j. IsLate states t operation g.read (gen_of states last j)) g.of late in
+        counts_in_trie u within i m (link_from u after within)
+        (given_for_good (protocol_of limits states last run) i m (read_at_after (states t) operation) (moment_after (states t) operation) t c lt moment
+        (closed_until limits states last run t last (omega arith) (omega arith) (gen_of states last i) c is)
+        (late_after limits states last run t lt actor operation g.runs g.read own_stage c before since) u after within)
+
+    once : (moment_after (states t) operation ≤ t) × (main_at states last (suc (moment_after (states t) operation)) i ≡ m)
+    once = (
+      moment.past,
+      counts_in_trie (suc (moment_after (states t) operation)) (omega (arith, moment.past)) i m (link_from (suc (moment_after (states t) operation)) (omega arith) (omega (arith, moment.past))) moment.is,
+    )
+
+  pub given_for_ever : GivenForEver states last
+  given_for_ever t lt actor operation i m g closed u after within = final t lt actor operation i m g closed u after within
+
+  pub repairs_are_given : RepairsAreGiven states last
+  repairs_are_given t lt actor operation h i m g begun below =
+      let (past, is) = once t lt actor operation i m g in (
+        (suc (moment_after (states t) operation), omega (arith, past), is),
+        λ other. final t lt actor operation i m g (inr (below, λ same. other (same_Some _ _ (sym same ∙ begun)))) last (omega (arith, past)) (omega arith),
+      )

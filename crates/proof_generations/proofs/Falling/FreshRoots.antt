@@ -1,0 +1,175 @@
+-- The fresh roots that an operation is to offer: while it is to offer them none is swapped into, and no other indirection has their generation.
+use Rattle.std.proofs.Common.{◌≡◌, ℕ, suc, ◌<◌, ◌≤◌, ◌⊎◌, Bool, true, false, [], Option, Some, None, inl, inr, refl, sym, ap, ◌∙◌, subst, arith}
+use Rattle.std.proofs.lemmas.Bool.{true≢false}
+use Rattle.std.proofs.lemmas.Option.{none-some, same_Some}
+use Rattle.std.proofs.lemmas.List.Elements.{All-head}
+use Rattle.proof_generations.specs.Beneath.history.specs.declared.calls.Access.TheVariants.{Writable}
+use Rattle.proof_generations.specs.Beneath.slot_arena.specs.declared.nodes.Node.TheVariants.{Indirection}
+use Rattle.proof_generations.specs.Beneath.slot_arena.specs.declared.nodes.Slot.{Slot}
+use Rattle.proof_generations.specs.Beneath.machine_model.specs.declared.steps.Outcome.{Outcome}
+use Rattle.proof_generations.specs.Beneath.machine_model.specs.declared.steps.Step.TheVariants as step
+use Rattle.proof_generations.specs.Beneath.machine_model.specs.Calls.{handle_of}
+use Rattle.proof_generations.specs.Beneath.machine_model.specs.Operations.{action_of}
+use Rattle.proof_generations.specs.Beneath.machine_model.specs.Moves.{Moves, GoesOn}
+use Rattle.proof_generations.specs.Beneath.machine_model.specs.Grown.{main_word}
+use Rattle.proof_generations.specs.Beneath.proof_memory.specs.Making.{made_node}
+use Rattle.proof_generations.specs.Beneath.proof_memory.proofs.Heap.Moves.{not_yet_drawn}
+use Rattle.proof_commits.proofs.Known.Sounds.{sound_at}
+use Rattle.proof_generations.proofs.Falling.Nodes.{link_used, told_generation}
+use Rattle.proof_generations.proofs.Lines.Knows.{IsInner}
+use Rattle.proof_generations.proofs.Falling.Runs.{MainsFall}
+use Rattle.proof_generations.proofs.Falling.Counted.{made_below, start_below}
+use Rattle.proof_generations.proofs.Lines.OwnKnows.{new_used}
+use Rattle.proof_generations.specs.Beneath.slot_arena.specs.declared.refs.Ref.{Ref}
+use Rattle.proof_generations.specs.Beneath.slot_arena.specs.Heaps.{Heap, node_at, node_of, generation_at, main_of, next_ref, refs_of_option}
+use Rattle.proof_generations.specs.Beneath.machine_model.specs.declared.actions.Action.TheVariants as act
+use Rattle.proof_generations.specs.Beneath.machine_model.specs.declared.copying.CopyLine.TheVariants as copy
+use Rattle.proof_generations.specs.Beneath.machine_model.specs.declared.lines.Line.{Line}
+use Rattle.proof_generations.specs.Beneath.machine_model.specs.declared.lines.Line.TheVariants as line
+use Rattle.proof_generations.specs.Beneath.machine_model.specs.declared.operations.Operation.{Operation}
+use Rattle.proof_generations.specs.Beneath.machine_model.specs.declared.roots.CompleteLine.{CompleteLine}
+use Rattle.proof_generations.specs.Beneath.machine_model.specs.declared.roots.CompleteLine.TheVariants as complete
+use Rattle.proof_generations.specs.Beneath.machine_model.specs.declared.roots.Descriptor.{Descriptor}
+use Rattle.proof_generations.specs.Beneath.machine_model.specs.declared.steps.Limits.{Limits}
+use Rattle.proof_generations.specs.Beneath.machine_model.specs.States.{State}
+use Rattle.proof_generations.specs.Beneath.machine_model.specs.Times.{IsRun}
+use Rattle.proof_generations.specs.Beneath.machine_model.specs.Grown.{grown}
+use Rattle.proof_generations.specs.Beneath.proof_memory.specs.Laws.{IsInUse}
+use Rattle.proof_generations.specs.Beneath.proof_memory.specs.Wants.{AnIndirection, Is, Each, Holds, AllHold, line_wants, complete_wants, offer_wants, is_indirection}
+use Rattle.proof_generations.specs.Beneath.proof_memory.proofs.Safety.AtEachTime.{safe_at}
+use Rattle.proof_generations.specs.Beneath.proof_memory.proofs.Safety.AtTimes.{line_finds, node_found}
+use Rattle.proof_generations.specs.Beneath.proof_memory.proofs.Claims.Uses.{Meets, all_of, safe_of, meets_of, from_meets}
+use Rattle.proof_commits.proofs.Words.Stood.{Stood}
+use Rattle.proof_generations.proofs.Counter.Below.{below_at, looked_up_below}
+use Rattle.proof_generations.proofs.Roots.Own.{IsUnused}
+use Rattle.proof_generations.proofs.Roots.Along.{ordered_at}
+use Rattle.proof_generations.proofs.Roots.Kept.{fresh_in, fresh_of}
+use Rattle.proof_generations.specs.Running.{Runs}
+use Rattle.proof_generations.proofs.Falling.KnownRoots.{words, protocol_of}
+use Rattle.proof_generations.proofs.Falling.Nodes.{used_generation}
+use Rattle.proof_generations.proofs.Falling.Runs.{gen_of, FallsBelow, AllKnow, FreshFalls, falls_next}
+use Rattle.proof_generations.proofs.Falling.NewLinks.{new_link}
+use Rattle.proof_generations.proofs.Falling.Counted.{fresh_used}
+use Rattle.proof_generations.proofs.Falling.MainsNext.{inner_rooted, swaps_in}
+use Rattle.proof_generations.proofs.Falling.Brought.{Brought, makes, swaps, comes_in}
+use Rattle.proof_generations.proofs.Lines.ReaderKnows.{indirection_is}
+use Rattle.proof_generations.specs.Standing.{IsRooted}
+use Rattle.proof_generations.proofs.Roots.Rooted.{standing_root}
+
+-- ---- a fresh root is an indirection
+
+module _ (S : Ref → Type 0) (heap : Heap) where
+  offer_link : (offer : Descriptor) → AllHold S heap (offer_wants offer) → (x : Bool) (r : Ref) → fresh_of x offer ≡ Some r → Holds S heap (Is r AnIndirection)
+  offer_link offer h true r e = subst (λ q. Holds S heap (Is q AnIndirection)) (same_Some _ _ e) h.1.1.0
+  offer_link offer h false r e = by offer.second h.1.1.1.0 e
+    where
+      by : (second : Option Ref) → Holds S heap (Each (refs_of_option second) AnIndirection) → second ≡ Some r → Holds S heap (Is r AnIndirection)
+      by None h e = absurd (none-some r e)
+      by (Some q) h e = subst (λ p. Holds S heap (Is p AnIndirection)) (same_Some _ _ e) (from_meets q (All-head (Meets S heap AnIndirection) q [] (all_of h)))
+
+  complete_link : (offer : Descriptor) (l : CompleteLine) → AllHold S heap (complete_wants offer l) → (x : Bool) (r : Ref) → fresh_of x offer ≡ Some r → Holds S heap (Is r AnIndirection)
+  complete_link offer (complete.Reading l) h = offer_link offer (h.0, (h.1.0, (h.1.1.0, (h.1.1.1.0, tt))))
+  complete_link offer (complete.Swap main) h = offer_link offer (h.0, (h.1.0, (h.1.1.0, (h.1.1.1.0, tt))))
+
+  fresh_link : (state : State) (operation : Operation) (l : Line) → AllHold S heap (line_wants state.limits.hash operation.call operation.access l) → (x : Bool) (r : Ref) → fresh_in x l ≡ Some r → Holds S heap (Is r AnIndirection)
+  fresh_link state operation (line.Copy (copy.Second root main successor)) h true r e = subst (λ q. Holds S heap (Is q AnIndirection)) (same_Some _ _ e) h.1.1.0
+  fresh_link state operation (line.Copy (copy.Second root main successor)) h false r e = absurd (none-some r e)
+  fresh_link state operation (line.Copy (copy.Offer offer)) h x r e = offer_link offer h x r e
+  fresh_link state operation (line.Copy (copy.Complete c)) h x r e = complete_link c.offer c.line h x r e
+  fresh_link state operation l h x r e = absurd (none-some r e)
+
+-- a generation that no root has isn't that of an operation
+pub not_rooted : (states : ℕ → State) (t handle g : ℕ) → IsUnused (states t) g → IsRooted states t handle g → ⊥
+not_rooted states t handle g u (inl on) = let (root, is, writable, its) = standing_root (states t) handle Writable g on in u.alone handle root is its
+not_rooted states t handle g u (inr (c, before, closed, on)) = none-some c (sym u.unclosed ∙ closed)
+
+module _ (limits : Limits) (states : ℕ → State) (last : ℕ) (run : IsRun limits states last) where
+  pub fresh_stands : (t : ℕ) → t ≤ last → (k : ℕ) (operation : Operation) (x : Bool) (r : Ref) → Runs (states t) k operation → fresh_in x operation.line ≡ Some r → (words states last).link t r ≡ true
+  fresh_stands t within k operation x r runs e =
+      let claim = fresh_link (IsInUse (states t).heap) (states t).heap (states t) operation operation.line (line_finds (states t) (safe_at limits states last run t within) (suc k) operation runs) x r e in
+      let (h, word, is) = indirection_is (node_at (states t).heap r) (meets_of claim) in
+      ap is_indirection (sym (node_found states t r (safe_of claim)) ∙ is)
+
+  module _ (t : ℕ) (lt : t < last) (know : AllKnow states last t) (k : ℕ) (was : Operation) (x : Bool) (r : Ref) (runs : Runs (states t) k was) (unmarked : was.is_marked ≡ false) (has : fresh_in x was.line ≡ Some r)
+      (falls : FreshFalls states last t was r) where
+    at_end : gen_of states last r ≡ generation_at (states t).heap r
+    at_end = used_generation limits states last run t (omega arith) r (fresh_used limits states last run t (omega arith) k was x r runs has)
+
+    unused : IsUnused (states t) (gen_of states last r)
+    unused = subst (IsUnused (states t)) (sym at_end) ((ordered_at limits states last run t (omega arith)).roots.fresh k was x r runs unmarked has)
+
+    counted : gen_of states last r < (states t).generations
+    counted = omega (arith, at_end, looked_up_below (states t) (below_at limits states last run t (omega arith)) r)
+
+    -- no operation has its generation
+    no_start : (j : ℕ) (other : Operation) → Runs (states t) j other → other.access ≡ Writable → IsInner other.line → (g : ℕ) → other.generation ≡ Some g → gen_of states last r ≡ g → ⊥
+    no_start j other runs w inner g begun same =
+        not_rooted states t (handle_of other.call) g (subst (IsUnused (states t)) same unused) (inner_rooted limits states last run t lt j other runs w inner g begun)
+
+    only_by : (i : Ref) (b : Bool) → (words states last).link t i ≡ b → (words states last).link (suc t) i ≡ true → gen_of states last i ≡ gen_of states last r → i ≡ r
+    only_by i true was now same = falls.only i was same
+    only_by i false was now same =
+        let n = new_link limits states last run t lt know i was now in
+        absurd (elim n.kind [
+          | inl own ↦ no_start n.k n.operation n.runs n.writable n.inner n.g n.begun (sym same ∙ own)
+          | inr drawn ↦ omega (arith, counted, drawn, same)
+        ])
+
+    falls_by : (m : Ref) (g : ℕ) → was.generation ≡ Some g → Stood (words states last) t r m ⊎ Brought (words states last) t r m → FallsBelow states last (suc t) g m
+    falls_by m g begun (inl stood) = falls_next limits states last run t lt g m (falls.falls m g stood begun)
+    falls_by m g begun (inr (makes none is main)) = absurd (true≢false (sym (fresh_stands t (omega arith) k was x r runs has) ∙ none))
+    falls_by m g begun (inr (swaps j a stage)) =
+        let s = swaps_in limits states last run t lt know j r a m stage in
+        absurd (no_start s.k s.operation s.runs s.writable s.inner s.g s.begun s.own)
+
+    pub fresh_still : (found : Operation) → found.generation ≡ was.generation → FreshFalls states last (suc t) found r
+    fresh_still found same = record {
+      only = λ i link gen. only_by i ((words states last).link t i) refl link gen;
+      falls = λ m g stood begun. falls_by m g (sym same ∙ begun) (comes_in (protocol_of limits states last run) t lt r m stood);
+      newer = λ g begun. falls.newer g (sym same ∙ begun);
+    }
+
+  -- ---- a root that is made now
+
+  module _ (t : ℕ) (lt : t < last) (know : AllKnow states last t) (k : ℕ) (was : Operation) (r main : Ref) (runs : Runs (states t) k was) (o : Outcome) (moves : Moves (states t) (step.Go (suc k)) o (states (suc t)))
+      (goes : GoesOn (action_of (states t) was)) (mains : MainsFall states last (suc t)) (makes_it : action_of (states t) was ≡ act.MakeRoot main) (takes : next_ref (states t).heap ≡ Some r) where
+    new_used_root : IsInUse (states (suc t)).heap r × (node_at (states (suc t)).heap r ≡ Indirection (states t).generations main)
+    new_used_root = new_used limits states last run t lt mains k was runs o moves goes (Indirection (states t).generations main) r (ap (made_node (states t)) makes_it) takes
+
+    drawn : gen_of states last r ≡ (states t).generations
+    drawn =
+        told_generation states last (states t).generations r (link_used limits states last run (suc t) lt r new_used_root.0 (states t).generations main new_used_root.1)
+
+    its_main : main_word states (suc t) r ≡ main
+    its_main = ap main_of (sym (node_found states (suc t) r new_used_root.0) ∙ new_used_root.1)
+
+    unmade : grown states t r ≡ None
+    unmade = not_yet_drawn limits states last run t (omega arith) r takes
+
+    no_link : (words states last).link t r ≡ false
+    no_link = ap (λ q. is_indirection (node_of q)) unmade
+
+    new_only_by : (i : Ref) (before : Option Slot) → grown states t i ≡ before → is_indirection (node_of before) ≡ false → (words states last).link (suc t) i ≡ true → i ≡ r
+    new_only_by i before was none now = same_Some _ _ (sym (new_link limits states last run t lt know i (ap (λ q. is_indirection (node_of q)) was ∙ none) now).takes ∙ takes)
+
+    new_only : (i : Ref) (before : Option Slot) → grown states t i ≡ before → (words states last).link (suc t) i ≡ true → gen_of states last i ≡ gen_of states last r → i ≡ r
+    new_only i None was now same = new_only_by i None was refl now
+    new_only i (Some slot) was now same = absurd (omega (arith, made_below limits states last run t (omega arith) i slot was, same, drawn))
+
+    module _ (g : ℕ) (begun : was.generation ≡ Some g) (falls : FallsBelow states last t g main) where
+      new_falls_by : (m : Ref) → Stood (words states last) t r m ⊎ Brought (words states last) t r m → FallsBelow states last (suc t) g m
+      new_falls_by m (inl stood) =
+          absurd (true≢false (sym ((sound_at (protocol_of limits states last run) t (omega arith)).words.link r m stood) ∙ no_link))
+      new_falls_by m (inr (makes none is word)) = subst (FallsBelow states last (suc t) g) (sym its_main ∙ word) (falls_next limits states last run t lt g main falls)
+      new_falls_by m (inr (swaps j a stage)) =
+          let s = swaps_in limits states last run t lt know j r a m stage in
+          absurd (omega (arith, start_below limits states last run t (omega arith) (suc s.k) s.operation s.g s.runs s.begun, s.own, drawn))
+
+      pub fresh_new : (found : Operation) → found.generation ≡ was.generation → FreshFalls states last (suc t) found r
+      fresh_new found same = record {
+        only = λ i link gen. new_only i (grown states t i) refl link gen;
+        falls = λ m h stood told.
+            subst (λ y. FallsBelow states last (suc t) y m) (same_Some _ _ (sym begun ∙ sym same ∙ told)) (new_falls_by m (comes_in (protocol_of limits states last run) t lt r m stood));
+        newer = λ h told.
+            omega (arith, start_below limits states last run t (omega arith) (suc k) was h runs (sym same ∙ told), drawn);
+      }

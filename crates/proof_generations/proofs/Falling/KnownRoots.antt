@@ -1,0 +1,48 @@
+-- What the laws of roots give to the laws of deciding: a root word that a READ finds with no offer shows an open generation. So the words of a run are known,
+-- with the steps that close generations.
+use Rattle.std.proofs.Common.{◌≡◌, ℕ, false, Some, refl, arith}
+use Rattle.std.proofs.lemmas.Option.{none-some}
+use Rattle.proof_generations.specs.Beneath.machine_model.specs.declared.lines.Line.{Line}
+use Rattle.proof_generations.specs.Beneath.machine_model.specs.declared.lines.Line.TheVariants as line
+use Rattle.proof_generations.specs.Beneath.machine_model.specs.declared.reading.Read.{Read}
+use Rattle.proof_generations.specs.Beneath.machine_model.specs.declared.steps.Limits.{Limits}
+use Rattle.proof_generations.specs.Beneath.machine_model.specs.States.{State, closed_at}
+use Rattle.proof_generations.specs.Beneath.machine_model.specs.Operations.{read_of}
+use Rattle.proof_generations.specs.Beneath.machine_model.proofs.Times.{run_is}
+use Rattle.proof_generations.specs.Beneath.machine_model.specs.Times.{IsRun, states_of, last_of}
+use Rattle.proof_generations.specs.Beneath.proof_memory.specs.Laws.{is_end}
+use Rattle.proof_generations.proofs.Roots.Open.{open_root}
+use Rattle.proof_commits.specs.Protocol.{Words, Protocol}
+use Rattle.proof_commits.proofs.Known.Given.{Known}
+use Rattle.proof_commits.proofs.Known.Layers.{RootsAreOpen, OtherLayers}
+use Rattle.proof_commits.proofs.Known.Layers as Layers
+use Rattle.proof_commits.proofs.Known.Memory.{memory}
+use Rattle.proof_commits.specs.Words.{words_of}
+use Rattle.proof_commits.proofs.Words.Along.{protocol}
+use Rattle.proof_commits.proofs.Course.OfLists.{LayersOfRuns}
+
+-- who is in a READ isn't at the end
+pub reads_on : (l : Line) (r : Read) → read_of l ≡ Some r → is_end l ≡ false
+reads_on (line.End answer) r e = absurd (none-some r e)
+reads_on l r e = refl
+
+pub roots_are_open : (limits : Limits) (states : ℕ → State) (last : ℕ) → IsRun limits states last → RootsAreOpen states last (λ g. closed_at (states last) g)
+roots_are_open limits states last run t h actor operation is i main previous reads writable q word c closed =
+    open_root limits states last run t (omega arith) actor operation is (reads_on operation.line _ reads) writable q word c closed
+
+-- what other layers give of a run
+pub layers : (limits : Limits) (states : ℕ → State) (last : ℕ) → IsRun limits states last → OtherLayers limits states last
+layers limits states last run = record { memory = memory limits states last run; roots = roots_are_open limits states last run }
+
+pub layers_of_runs : LayersOfRuns
+layers_of_runs limits steps ok = layers limits (states_of limits steps) (last_of limits steps) (run_is limits steps ok)
+
+-- the words of a run with the closings, and their protocol
+abbrev pub known : (limits : Limits) (states : ℕ → State) (last : ℕ) → IsRun limits states last → Known limits states last
+known limits states last run = Layers.known limits states last (layers limits states last run)
+
+abbrev pub words : (ℕ → State) → ℕ → Words
+words states last = words_of states last (λ g. closed_at (states last) g)
+
+abbrev pub protocol_of : (limits : Limits) (states : ℕ → State) (last : ℕ) → IsRun limits states last → Protocol
+protocol_of limits states last run = protocol limits states last (known limits states last run)

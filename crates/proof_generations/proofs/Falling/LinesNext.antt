@@ -1,0 +1,157 @@
+-- After a step each running operation knows of its line what it has to.
+use Rattle.std.proofs.Common.{◌≡◌, ℕ, suc, ◌<◌, List, ◌∷◌, ◌++◌, Some, refl, sym, ap, ◌∙◌, subst, arith, []}
+use Rattle.proof_generations.specs.Beneath.history.specs.declared.calls.Access.TheVariants.{Writable}
+use Rattle.proof_generations.specs.Beneath.history.specs.declared.calls.Call.{Call}
+use Rattle.proof_generations.specs.Beneath.history.specs.declared.calls.Call.TheVariants.{Entries, Count, Close}
+use Rattle.proof_generations.specs.Beneath.slot_arena.specs.declared.refs.Ref.{Ref}
+use Rattle.proof_generations.specs.Beneath.slot_arena.specs.declared.nodes.Node.{Node}
+use Rattle.proof_generations.specs.Beneath.slot_arena.specs.declared.nodes.Node.TheVariants.{Indirection, Branch, Single, Tomb, List as Listed}
+use Rattle.proof_generations.specs.Beneath.slot_arena.specs.Heaps.{node_at, generation_at, entries_of}
+use Rattle.proof_generations.specs.Beneath.machine_model.specs.declared.lines.Line.{Line}
+use Rattle.proof_generations.specs.Beneath.machine_model.specs.declared.lines.Line.TheVariants as line
+use Rattle.proof_generations.specs.Beneath.machine_model.specs.declared.operations.Operation.{Operation}
+use Rattle.proof_generations.specs.Beneath.machine_model.specs.declared.reading.After.{After}
+use Rattle.proof_generations.specs.Beneath.machine_model.specs.declared.reading.After.TheVariants.{Goes as Continues, Gives}
+use Rattle.proof_generations.specs.Beneath.machine_model.specs.declared.reading.Read.{Read}
+use Rattle.proof_generations.specs.Beneath.machine_model.specs.declared.roots.RootLine.{RootLine}
+use Rattle.proof_generations.specs.Beneath.machine_model.specs.declared.roots.RootWord.TheVariants.{Plain}
+use Rattle.proof_generations.specs.Beneath.machine_model.specs.declared.steps.Limits.{Limits}
+use Rattle.proof_generations.specs.Beneath.machine_model.specs.declared.steps.Outcome.{Outcome}
+use Rattle.proof_generations.specs.Beneath.machine_model.specs.declared.steps.Step.{Step}
+use Rattle.proof_generations.specs.Beneath.machine_model.specs.declared.steps.Step.TheVariants as step
+use Rattle.proof_generations.specs.Beneath.machine_model.specs.declared.walking.WalkLine.{WalkLine}
+use Rattle.proof_generations.specs.Beneath.machine_model.specs.declared.walking.WalkLine.TheVariants as walk
+use Rattle.proof_generations.specs.Beneath.machine_model.specs.Calls.{handle_of}
+use Rattle.proof_generations.specs.Beneath.machine_model.specs.States.{State, root_of, word_of, word_at}
+use Rattle.proof_generations.specs.Beneath.machine_model.specs.Reading.{read_step}
+use Rattle.proof_generations.specs.Beneath.machine_model.specs.Swapping.{root_after}
+use Rattle.proof_generations.specs.Beneath.machine_model.specs.Walking.{walk_after, walk_after_read, walk_next, walk_after_entry, first_of, rest_of}
+use Rattle.proof_generations.specs.Beneath.machine_model.specs.Operations.{action_of, line_after, first_line, after_root, given_root, generation_from}
+use Rattle.proof_generations.specs.Beneath.machine_model.specs.Acting.{operation_after}
+use Rattle.proof_generations.specs.Beneath.machine_model.proofs.Actors.{marks_in}
+use Rattle.proof_generations.specs.Beneath.machine_model.specs.Moves.{Moves, GoesOn, begun_operation}
+use Rattle.proof_generations.specs.Beneath.machine_model.specs.Times.{IsRun}
+use Rattle.proof_generations.specs.Beneath.proof_memory.specs.Laws.{IsInUse}
+use Rattle.proof_generations.specs.Beneath.proof_memory.proofs.Safety.AtEachTime.{safe_at}
+use Rattle.proof_generations.specs.Beneath.proof_memory.proofs.Claims.Uses.{safe_of}
+use Rattle.proof_generations.proofs.Roots.Open.{no_close_at}
+use Rattle.proof_generations.proofs.Roots.Along.{ordered_at}
+use Rattle.proof_generations.proofs.Handles.Running.{Comes, began, rested, went, comes}
+use Rattle.proof_generations.specs.Running.{Runs}
+use Rattle.proof_generations.proofs.Roots.Rooted.{root_given}
+use Rattle.proof_generations.proofs.Falling.Nodes.{used_generation}
+use Rattle.proof_generations.proofs.Lines.Knows.{Knows, IsInner}
+use Rattle.proof_generations.proofs.Lines.Climb.{root_falls}
+use Rattle.proof_generations.proofs.Lines.Reader.{KnowsReader}
+use Rattle.proof_generations.proofs.Falling.Runs.{IsOwn, FitsBelow, FallsBelow, LateBelow, Ends, Shut, LateEnd, MainsFall, AllKnow, KnowsGenerations, KnowsWritable, knows_next, marked_knows}
+use Rattle.proof_generations.proofs.Lines.OwnKnows.{inner_knows, inner_generation}
+use Rattle.proof_generations.proofs.Lines.ReaderKnows.{reader_knows, going_on, root_claim}
+
+-- ---- lines that know nothing
+
+walked_not_inner : (todo : List Ref) (pairs : List (ℕ × ℕ)) (after : After Read Ref) → IsInner (walk_after_read todo pairs after) → ⊥
+walked_not_inner todo pairs (Continues r) i = i
+walked_not_inner todo pairs (Gives m) i = i
+
+next_not_inner : (operation : Operation) (todo : List Ref) (pairs : List (ℕ × ℕ)) → IsInner (walk_next operation todo pairs) → ⊥
+next_not_inner operation [] pairs i = i
+next_not_inner operation (entry ∷ todo) pairs i = i
+
+entry_not_inner : (operation : Operation) (entry : Ref) (todo : List Ref) (pairs : List (ℕ × ℕ)) (n : Node) → IsInner (walk_after_entry operation entry todo pairs n) → ⊥
+entry_not_inner operation entry todo pairs (Indirection h word) i = i
+entry_not_inner operation entry todo pairs (Single key value) i = next_not_inner operation todo (pairs ++ (key, value) ∷ []) i
+entry_not_inner operation entry todo pairs (Branch bitmap entries) i = i
+entry_not_inner operation entry todo pairs (Tomb single) i = i
+entry_not_inner operation entry todo pairs (Listed singles) i = i
+
+walk_not_inner : (state : State) (operation : Operation) (l : WalkLine) → IsInner (walk_after state operation l) → ⊥
+walk_not_inner state operation walk.Root i = i
+walk_not_inner state operation (walk.Read r todo pairs) i = walked_not_inner todo pairs (read_step state operation r) i
+walk_not_inner state operation (walk.Main main todo pairs) i = next_not_inner operation (entries_of (node_at state.heap main) ++ todo) pairs i
+walk_not_inner state operation (walk.Entry todo pairs) i = entry_not_inner operation (first_of todo) (rest_of todo) pairs (node_at state.heap (first_of todo)) i
+
+first_not_inner : (call : Call) → IsInner (first_line call) → ⊥
+first_not_inner (Entries h) i = i
+first_not_inner (Count h) i = i
+first_not_inner (Close h) i = i
+first_not_inner call i = i
+
+first_reader : (Ends Shut : Ref → Type 0) (Late : Read → Type 0) (call : Call) → KnowsReader Ends Shut Late (first_line call)
+first_reader Ends Shut Late (Entries h) = tt
+first_reader Ends Shut Late (Count h) = tt
+first_reader Ends Shut Late (Close h) = tt
+first_reader Ends Shut Late call = tt
+
+-- ---- ROOT
+
+module _ (limits : Limits) (states : ℕ → State) (last : ℕ) (run : IsRun limits states last) (t : ℕ) (lt : t < last) (know : AllKnow states last t) (mains : MainsFall states last (suc t)) where
+  module _ (k : ℕ) (operation : Operation) (runs : Runs (states t) k operation) (o : Outcome) (moves : Moves (states t) (step.Go (suc k)) o (states (suc t))) (goes : GoesOn (action_of (states t) operation)) where
+    abbrev now : Operation
+    now = operation_after (states t) operation
+
+    -- the root in the word of its handle
+    root_found : (r : Ref) → word_at (states t) (handle_of operation.call) ≡ Plain r → IsInUse (states t).heap r
+    root_found r plain =
+        let (root, found, access) =
+        (ordered_at limits states last run t (omega arith)).handles.on_open k operation runs (no_close_at limits states last run t (omega arith) k operation runs (going_on (states t) operation operation.line goes)) in
+        let claim = root_claim (states t) root.word ((safe_at limits states last run t (omega arith)).words (handle_of operation.call) root found) in
+        subst (λ w. IsInUse (states t).heap (root_of w)) (sym (ap word_of found) ∙ plain) (safe_of claim)
+
+    abbrev KnowsAfter : After RootLine Ref → Type 0
+    KnowsAfter a =
+        IsInner (after_root operation a) → (g : ℕ) × (given_root (states t) a operation.generation ≡ Some g)
+        × Knows (IsOwn states last g) (FitsBelow states last (suc t) g) (FallsBelow states last (suc t) g) (LateBelow states last (suc t) now g) (after_root operation a)
+
+    root_knows : (l : RootLine) (a : After RootLine Ref) → root_after (states t).heap operation.access (word_at (states t) (handle_of operation.call)) l ≡ a → KnowsAfter a
+    root_knows l (Continues next) e i = absurd i
+    root_knows l (Gives r) e i =
+        let g = generation_at (states t).heap r in
+        let own : IsOwn states last g r = used_generation limits states last run t (omega arith) r (root_found r (root_given (states t) operation l r e)) in (
+          g,
+          refl,
+          root_falls (states t) operation (IsOwn states last g) (FitsBelow states last (suc t) g) (FallsBelow states last (suc t) g) (LateBelow states last (suc t) now g) (Gives r)
+              (λ q same. let one : r ≡ q = cc same in subst (IsOwn states last g) one own),
+        )
+
+    inner_by : (w : operation.access ≡ Writable) → IsInner operation.line → KnowsWritable states last t operation → KnowsWritable states last (suc t) now
+    inner_by w inner knows i =
+        let (g, begun, known) = knows inner in
+        (g, inner_generation (states t) operation operation.line inner ∙ begun, inner_knows limits states last run t lt mains k operation runs o moves goes w inner g begun known)
+
+    writable_by : (l : Line) → operation.line ≡ l → operation.access ≡ Writable → KnowsWritable states last t operation → KnowsWritable states last (suc t) now
+    writable_by (line.Root l) is w knows i =
+        subst (λ x. IsInner (line_after (states t) operation x) → (g : ℕ) × (generation_from (states t) operation x ≡ Some g)
+        × Knows (IsOwn states last g) (FitsBelow states last (suc t) g) (FallsBelow states last (suc t) g) (LateBelow states last (suc t) now g) (line_after (states t) operation x)) (sym is)
+        (root_knows l (root_after (states t).heap operation.access (word_at (states t) (handle_of operation.call)) l) refl) i
+    writable_by (line.Walk l) is w knows i = absurd (walk_not_inner (states t) operation l (subst (λ x. IsInner (line_after (states t) operation x)) is i))
+    writable_by (line.End answer) is w knows i = absurd (subst (λ x. IsInner (line_after (states t) operation x)) is i)
+    writable_by line.Impossible is w knows i = absurd (subst (λ x. IsInner (line_after (states t) operation x)) is i)
+    writable_by (line.Key l) is w knows i = inner_by w (subst IsInner (sym is) tt) knows i
+    writable_by (line.Build l) is w knows i = inner_by w (subst IsInner (sym is) tt) knows i
+    writable_by (line.Swap why s) is w knows i = inner_by w (subst IsInner (sym is) tt) knows i
+    writable_by (line.Renew l) is w knows i = inner_by w (subst IsInner (sym is) tt) knows i
+    writable_by (line.Clean l) is w knows i = inner_by w (subst IsInner (sym is) tt) knows i
+    writable_by (line.Climb l) is w knows i = inner_by w (subst IsInner (sym is) tt) knows i
+    writable_by (line.Copy l) is w knows i = inner_by w (subst IsInner (sym is) tt) knows i
+
+    goes_knows : KnowsGenerations states last (suc t) now
+    goes_knows = (
+      λ w. writable_by operation.line refl w ((know k operation runs).0 w),
+      λ r. reader_knows limits states last run t lt mains k operation runs o moves goes r ((know k operation runs).1 r),
+    )
+
+  begins_knows : (call : Call) → KnowsGenerations states last (suc t) (begun_operation (states t) call)
+  begins_knows call = (λ w i. absurd (first_not_inner call i), λ r. first_reader (Ends states last (suc t)) (Shut states last (suc t)) (LateEnd states last (suc t) (begun_operation (states t) call)) call)
+
+  module _ (s : Step) (o : Outcome) (m : Moves (states t) s o (states (suc t))) where
+    comes_knows : (k : ℕ) (found : Operation) → Comes (states t) s k found → KnowsGenerations states last (suc t) found
+    comes_knows k found (began call is d it) = subst (KnowsGenerations states last (suc t)) (sym it) (begins_knows call)
+    comes_knows k found (rested was at_was it) =
+        subst (KnowsGenerations states last (suc t)) (sym it) (marked_knows states last (suc t) (marks_in (states t) s) was (knows_next limits states last run t lt was (know k was at_was)))
+    comes_knows k found (went was is at_was g it) =
+        subst (KnowsGenerations states last (suc t)) (sym it)
+        (marked_knows states last (suc t) (marks_in (states t) s) (operation_after (states t) was)
+        (goes_knows k was at_was o (subst (λ x. Moves (states t) x o (states (suc t))) is m) g))
+
+    pub lines_next : AllKnow states last (suc t)
+    lines_next k found runs = comes_knows k found (comes (states t) s o (states (suc t)) m k found runs)

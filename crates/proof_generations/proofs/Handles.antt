@@ -1,0 +1,4 @@
+pub mod Running
+pub mod Ids
+pub mod Footings
+pub mod Operations

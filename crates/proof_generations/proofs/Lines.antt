@@ -1,0 +1,12 @@
+pub mod Copy
+pub mod Offers
+pub mod Knows
+pub mod Key
+pub mod Build
+pub mod Repair
+pub mod Climb
+pub mod Made
+pub mod Own
+pub mod Reader
+pub mod OwnKnows
+pub mod ReaderKnows

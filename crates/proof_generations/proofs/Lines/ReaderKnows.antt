@@ -1,0 +1,127 @@
+-- After its step an operation on a read-only handle knows of its new line what it knew of the one before.
+use Rattle.std.proofs.Common.{◌≡◌, ℕ, suc, ◌<◌, true, false, Some, inl, inr, refl, sym, ap, ◌∙◌, subst, arith}
+use Rattle.std.proofs.lemmas.Bool.{true≢false}
+use Rattle.proof_generations.specs.Beneath.history.specs.declared.calls.Access.TheVariants.{ReadOnly}
+use Rattle.proof_generations.specs.Beneath.slot_arena.specs.declared.refs.Ref.{Ref}
+use Rattle.proof_generations.specs.Beneath.slot_arena.specs.declared.nodes.Node.{Node}
+use Rattle.proof_generations.specs.Beneath.slot_arena.specs.declared.nodes.Node.TheVariants.{Indirection, Branch, Single, Tomb, List as Listed}
+use Rattle.proof_generations.specs.Beneath.slot_arena.specs.Heaps.{node_at}
+use Rattle.proof_generations.specs.Beneath.machine_model.specs.declared.lines.Line.{Line}
+use Rattle.proof_generations.specs.Beneath.machine_model.specs.declared.lines.Line.TheVariants as line
+use Rattle.proof_generations.specs.Beneath.machine_model.specs.declared.operations.Operation.{Operation}
+use Rattle.proof_generations.specs.Beneath.machine_model.specs.declared.roots.Root.{Root}
+use Rattle.proof_generations.specs.Beneath.machine_model.specs.declared.roots.RootWord.{RootWord}
+use Rattle.proof_generations.specs.Beneath.machine_model.specs.declared.roots.RootWord.TheVariants.{Plain, Offer}
+use Rattle.proof_generations.specs.Beneath.machine_model.specs.declared.steps.Limits.{Limits}
+use Rattle.proof_generations.specs.Beneath.machine_model.specs.declared.steps.Outcome.{Outcome}
+use Rattle.proof_generations.specs.Beneath.machine_model.specs.declared.steps.Step.TheVariants as step
+use Rattle.proof_generations.specs.Beneath.machine_model.specs.Calls.{handle_of}
+use Rattle.proof_generations.specs.Beneath.machine_model.specs.States.{State, root_at, root_of, word_of}
+use Rattle.proof_generations.specs.Beneath.machine_model.specs.Reading.{reading}
+use Rattle.proof_generations.specs.Beneath.machine_model.specs.Operations.{action_of, line_action, line_after}
+use Rattle.proof_generations.specs.Beneath.machine_model.specs.Acting.{operation_after}
+use Rattle.proof_generations.specs.Beneath.machine_model.specs.Moves.{Moves, GoesOn}
+use Rattle.proof_generations.specs.Beneath.machine_model.specs.Times.{IsRun}
+use Rattle.proof_generations.specs.Beneath.proof_memory.specs.Laws.{IsInUse, is_end}
+use Rattle.proof_generations.specs.Beneath.proof_memory.specs.Wants.{AnIndirection, meets, Is, Holds, AllHold, word_wants}
+use Rattle.proof_generations.specs.Beneath.proof_memory.proofs.Safety.AtEachTime.{safe_at}
+use Rattle.proof_generations.specs.Beneath.proof_memory.proofs.Safety.AtTimes.{line_finds, action_finds}
+use Rattle.proof_generations.specs.Beneath.proof_memory.proofs.Claims.Uses.{safe_of, meets_of}
+use Rattle.proof_generations.specs.Beneath.proof_memory.proofs.Safety.States.{IsSafe}
+use Rattle.proof_generations.proofs.Roots.Open.{no_close_at}
+use Rattle.proof_generations.proofs.Roots.Along.{IsOrdered, ordered_at, read_only_plain}
+use Rattle.proof_generations.specs.Running.{Runs}
+use Rattle.proof_contents.proofs.Lines.Repair.{read_stays}
+use Rattle.proof_generations.specs.Falling.{WasClosed, IsLate}
+use Rattle.proof_generations.proofs.Falling.Nodes.{link_used, told_generation}
+use Rattle.proof_generations.proofs.Falling.Opened.{was_closed_next, was_closed_so, closed_next, closed_so, standing_generation}
+use Rattle.proof_generations.proofs.Lines.Reader.{KnowsReader, ReaderStep, reader_still, reader_falls}
+use Rattle.proof_generations.proofs.Falling.ReadsGive.{given_stands, late_after}
+use Rattle.proof_generations.proofs.Falling.Runs.{gen_of, IsLink, Ends, Shut, LateEnd, MainsFall, falls_shut, entries_end, ends_next, shut_next}
+
+pub going_on : (state : State) (operation : Operation) (l : Line) → GoesOn (line_action state operation l) → is_end l ≡ false
+going_on state operation (line.End answer) g = absurd g
+going_on state operation l g = refl
+
+pub indirection_is : (n : Node) → meets AnIndirection n ≡ true → (h : ℕ) × (word : Ref) × (n ≡ Indirection h word)
+indirection_is (Indirection h word) e = (h, word, refl)
+indirection_is (Branch b es) e = absurd (true≢false (sym e))
+indirection_is (Single k v) e = absurd (true≢false (sym e))
+indirection_is (Tomb s) e = absurd (true≢false (sym e))
+indirection_is (Listed s) e = absurd (true≢false (sym e))
+
+-- the root in a word is an indirection
+pub root_claim : (state : State) (word : RootWord) → AllHold (IsInUse state.heap) state.heap (word_wants word) → Holds (IsInUse state.heap) state.heap (Is (root_of word) AnIndirection)
+root_claim state (Plain r) h = h.0
+root_claim state (Offer offer) h = h.0
+
+module _ (limits : Limits) (states : ℕ → State) (last : ℕ) (run : IsRun limits states last) (t : ℕ) (lt : t < last) (mains : MainsFall states last (suc t)) (k : ℕ) (operation : Operation)
+    (runs : Runs (states t) k operation) (o : Outcome) (moves : Moves (states t) (step.Go (suc k)) o (states (suc t))) (goes : GoesOn (action_of (states t) operation)) (read_only : operation.access ≡ ReadOnly) where
+  abbrev now : Operation
+  now = operation_after (states t) operation
+
+  abbrev S : Ref → Type 0
+  S = IsInUse (states t).heap
+
+  abbrev I : IsSafe (states t)
+  I = safe_at limits states last run t (omega arith)
+
+  abbrev handle : ℕ
+  handle = handle_of operation.call
+
+  -- the root of its handle
+  record HandleRoot : Type 0 where
+    root : Root
+    found : root_at (states t) handle ≡ Some root
+    plain : root.word ≡ Plain (root_of root.word)
+    closed : WasClosed states t (gen_of states last (root_of root.word))
+    link : IsLink states last (root_of root.word)
+
+  handle_root : HandleRoot
+  handle_root =
+      let O : IsOrdered (states t) = ordered_at limits states last run t (omega arith) in
+      let (root, found, access) = O.handles.on_open k operation runs (no_close_at limits states last run t (omega arith) k operation runs (going_on (states t) operation operation.line goes)) in
+      let (c, closed) = O.roots.is_closed handle root found (access ∙ read_only) in
+      let claim = root_claim (states t) root.word (I.words handle root found) in
+      let (h, word, is) = indirection_is (node_at (states t).heap (root_of root.word)) (meets_of claim) in
+      record {
+        root = root;
+        found = found;
+        plain = read_only_plain (states t) I O handle root found (access ∙ read_only);
+        closed = subst (λ x. WasClosed states t x) (sym (standing_generation limits states last run t (omega arith) handle root found)) (c, (closed_so limits states last run t (omega arith) _ c closed).0, closed);
+        link = (h, link_used limits states last run t (omega arith) (root_of root.word) (safe_of claim) h word is);
+      }
+
+  late_now : (r : Ref) → IsLink states last r → WasClosed states (suc t) (gen_of states last r) → LateEnd states last (suc t) now (reading r)
+  late_now r link (c, before, closed) = (link, (c, before, closed, inl refl))
+
+  reader_step : ReaderStep (states t) operation (Ends states last (suc t)) (Shut states last (suc t)) (LateEnd states last t operation) (LateEnd states last (suc t) now) S
+  reader_step = record {
+    read_only = read_only;
+    reads = I.fits k operation runs read_only;
+    entries_end = entries_end limits states last run t lt (suc t);
+    late_goes = λ r next stage was e.
+        let (link, (c, before, closed, since)) = was in
+        subst (λ i. IsLink states last i × IsLate states (suc t) now next (gen_of states last i)) (sym (read_stays (states t) operation r next e))
+        (link, (c, omega (arith, before), closed_next limits states last run t lt _ c closed, inr (late_after limits states last run t lt (suc k) operation runs r stage c before since)));
+    late_gives = λ r m stage was e.
+        let (link, (c, before, closed, since)) = was in
+        let still = was_closed_next limits states last run t lt (gen_of states last r.indirection) (c, before, closed) in
+        falls_shut states last (suc t) (gen_of states last r.indirection) m still
+        (mains.falls r.indirection m (given_stands limits states last run t lt (suc k) operation runs r stage o moves m e) (was_closed_so limits states last run (suc t) lt _ still));
+    begins = λ r h word used is ends.
+        let link = link_used limits states last run t (omega arith) r used h word is in
+        late_now r (h, link) (subst (λ x. WasClosed states (suc t) x) (sym (told_generation states last h r link)) (ends h link));
+    plain = subst (λ w. w ≡ Plain (root_of w)) (sym (ap word_of handle_root.found)) handle_root.plain;
+    root_late =
+        subst (λ w. LateEnd states last (suc t) now (reading (root_of w))) (sym (ap word_of handle_root.found))
+        (late_now (root_of handle_root.root.word) handle_root.link (was_closed_next limits states last run t lt _ handle_root.closed));
+  }
+
+  pub reader_knows : KnowsReader (Ends states last t) (Shut states last t) (LateEnd states last t operation) operation.line →
+      KnowsReader (Ends states last (suc t)) (Shut states last (suc t)) (LateEnd states last (suc t) now) (line_after (states t) operation operation.line)
+  reader_knows knows =
+      let known = reader_still (Ends states last t) (Shut states last t) (LateEnd states last t operation) (Ends states last (suc t)) (Shut states last (suc t)) (LateEnd states last t operation)
+      (ends_next limits states last run t lt) (shut_next limits states last run t lt) (λ r late. late) operation.line knows in
+      reader_falls (states t) operation (Ends states last (suc t)) (Shut states last (suc t)) (LateEnd states last t operation) (LateEnd states last (suc t) now) S reader_step operation.line refl known
+      (line_finds (states t) I (suc k) operation runs) (action_finds (states t) I (suc k) operation runs)

@@ -1,0 +1,4 @@
+pub mod Standing
+pub mod Same
+pub mod Marks
+pub mod Swaps

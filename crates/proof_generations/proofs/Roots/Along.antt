@@ -1,0 +1,153 @@
+-- Roots of handles, along a run and after each list of steps.
+use Rattle.std.proofs.Common.{◌≡◌, ℕ, suc, ◌≤◌, Bool, true, false, inl, inr, List, [], ◌∷◌, Some, None, get_or, set, replicate, refl, sym, ap, ◌∙◌, subst, arith}
+use Rattle.std.proofs.lemmas.Bool.{true≢false, false≢true, cases_eq}
+use Rattle.std.proofs.lemmas.Option.{none-some, same_Some}
+use Rattle.proof_generations.specs.Beneath.history.specs.declared.calls.Access.{Access}
+use Rattle.proof_generations.specs.Beneath.history.specs.declared.calls.Access.TheVariants.{Writable, ReadOnly}
+use Rattle.proof_generations.specs.Beneath.slot_arena.specs.Refs.{ref_to}
+use Rattle.proof_generations.specs.Beneath.machine_model.specs.declared.roots.Descriptor.{Descriptor}
+use Rattle.proof_generations.specs.Beneath.machine_model.specs.declared.roots.Root.{Root}
+use Rattle.proof_generations.specs.Beneath.machine_model.specs.declared.roots.RootWord.{RootWord}
+use Rattle.proof_generations.specs.Beneath.machine_model.specs.declared.roots.RootWord.TheVariants.{Plain, Offer}
+use Rattle.proof_generations.specs.Beneath.machine_model.specs.declared.steps.Limits.{Limits}
+use Rattle.proof_generations.specs.Beneath.machine_model.specs.declared.steps.Outcome.{Outcome}
+use Rattle.proof_generations.specs.Beneath.machine_model.specs.declared.steps.Step.{Step}
+use Rattle.proof_generations.specs.Beneath.machine_model.specs.States.{State, first_state, root_at, root_of, word_of, word_at, closed_at, handle_limit}
+use Rattle.proof_generations.specs.Beneath.machine_model.specs.Machine.{AreLimits, run, run_from, next_state}
+use Rattle.proof_generations.specs.Beneath.machine_model.specs.Moves.{Moves}
+use Rattle.proof_generations.specs.Beneath.machine_model.proofs.Along.{along, kept_by_moves}
+use Rattle.proof_generations.specs.Beneath.machine_model.proofs.Found.{found_elsewhere, found_here, none_found}
+use Rattle.proof_generations.specs.Beneath.machine_model.proofs.Times.{along_run}
+use Rattle.proof_generations.specs.Beneath.machine_model.specs.Times.{turns}
+use Rattle.proof_generations.specs.Beneath.machine_model.specs.Times.{IsRun, Turn}
+use Rattle.proof_generations.specs.Beneath.proof_memory.proofs.Safety.States.{IsSafe}
+use Rattle.proof_generations.specs.Beneath.proof_memory.proofs.Safety.AtEachTime.{safe_at, safe_along}
+use Rattle.proof_generations.proofs.Offers.Standing.{own_numbers}
+use Rattle.proof_generations.proofs.Offers.Same.{HasOffers, has_offers_after, no_offers_at_first}
+use Rattle.proof_generations.proofs.Handles.Operations.{HasHandles, handles_after, handles_at_first}
+use Rattle.proof_generations.proofs.Counter.Below.{IsBelow, below_after, below_at_first}
+use Rattle.proof_generations.proofs.Offers.Swaps.{StepKind, quiet, swaps, step_kind, closing_of, closed_in, closed_kept}
+use Rattle.proof_generations.proofs.Roots.Own.{HasRoots, IsUnused, gen, roots_after, writable_call, its_fresh}
+use Rattle.proof_generations.proofs.Roots.Kept.{fresh_of}
+use Rattle.proof_generations.specs.Beneath.slot_arena.specs.Heaps.{generation_at}
+use Rattle.proof_generations.specs.Beneath.slot_arena.specs.declared.refs.Ref.{Ref}
+
+-- all of generations that one state knows
+pub record IsOrdered (state : State) : Type 0 where
+  pub offers : HasOffers state
+  pub handles : HasHandles state
+  pub below : IsBelow state
+  pub roots : HasRoots state
+
+pub ordered_after : (state : State) → IsSafe state → IsOrdered state → (s : Step) (o : Outcome) (after : State) → Moves state s o after → IsOrdered after
+ordered_after state S I s o after m = record {
+  offers = has_offers_after state I.offers s o after m;
+  handles = handles_after state I.offers I.handles s o after m;
+  below = below_after state S I.below s o after m;
+  roots = roots_after state S I.offers I.handles I.below I.roots s o after m;
+}
+
+-- ---- at first
+
+first_root : (handle : ℕ) (root : Root) → get_or (set (replicate handle_limit None) 0 (Some (record { access = Writable; word = Plain (ref_to 2 1) }))) handle None ≡ Some root →
+    (handle ≡ 0) × (root.access ≡ Writable)
+first_root handle root e = elim (cases_eq handle 0) [
+  | inl same ↦ (
+    same,
+    ap (λ (r : Root). r.access) (sym (same_Some _ _ (found_here {X = Root} (replicate handle_limit None) 0 (Some (record { access = Writable; word = Plain (ref_to 2 1) })) root
+        (subst (λ h. get_or (set (replicate handle_limit None) 0 (Some (record { access = Writable; word = Plain (ref_to 2 1) }))) h None ≡ Some root) same e)))),
+  )
+  | inr other ↦ absurd (none_found {X = Root} handle_limit handle root (sym (found_elsewhere {X = Root} (replicate handle_limit None) 0 handle (Some (record { access = Writable; word = Plain (ref_to 2 1) })) other) ∙ e))
+]
+
+both_kinds : (access : Access) → access ≡ Writable → access ≡ ReadOnly → ⊥
+both_kinds access w r = let both : Writable ≡ ReadOnly = sym w ∙ r in cc both
+
+roots_at_first : (limits : Limits) → HasRoots (first_state limits)
+unfolding first_state
+roots_at_first limits = record {
+  unclosed = λ handle root e w. refl;
+  is_closed = λ handle root e w. absurd (both_kinds root.access (first_root handle root e).1 w);
+  apart = λ handle other a b e f wa wb same. (first_root handle a e).0 ∙ sym (first_root other b f).0;
+  fresh = λ k operation x r at_k. absurd (none_found limits.actors k operation at_k);
+  fresh_apart = λ k j a b x y r q at_k. absurd (none_found limits.actors k a at_k);
+}
+
+ordered_at_first : (limits : Limits) → IsOrdered (first_state limits)
+ordered_at_first limits = record { offers = no_offers_at_first limits; handles = handles_at_first limits; below = below_at_first limits; roots = roots_at_first limits }
+
+-- ---- at each time
+
+pub ordered_at : (limits : Limits) (states : ℕ → State) (last : ℕ) → IsRun limits states last → (t : ℕ) → t ≤ last → IsOrdered (states t)
+ordered_at limits states last r =
+    along_run limits states last r (λ t. IsOrdered (states t)) (subst IsOrdered (sym r.first) (ordered_at_first limits))
+    (λ t lt turn h. by_turn (states t) (states (suc t)) (safe_at limits states last r t (omega arith)) h turn)
+  where
+    by_turn : (before after : State) → IsSafe before → IsOrdered before → Turn before after → IsOrdered after
+    by_turn before after S h (turns s o m) = ordered_after before S h s o after m
+
+pub ordered_along : (limits : Limits) → AreLimits limits → (steps : List Step) → IsOrdered (run limits steps)
+ordered_along limits ok = along limits IsOrdered (ordered_at_first limits) (λ steps s o after m h. ordered_after (run limits steps) (safe_along limits ok steps) h s o after m)
+
+-- ---- what follows
+
+-- an offer stands in a writable handle's word alone
+pub offer_writable : (state : State) → IsSafe state → IsOrdered state → (handle : ℕ) (root : Root) (offer : Descriptor) → root_at state handle ≡ Some root → root.word ≡ Offer offer → root.access ≡ Writable
+offer_writable state S I handle root offer e word =
+    let b = I.offers.offers handle offer (ap word_of e ∙ word) in
+    let mine = own_numbers b.owner offer (I.offers.own b.k b.owner b.runs) b.completes in
+    let (found, at_handle, access) = I.handles.on_open b.k b.owner b.runs (writable_call b.owner.call offer.second mine.second).0 in
+    let one = same_Some _ _ (sym e ∙ ap (root_at state) (sym b.on_handle) ∙ at_handle) in
+    ap (λ (r : Root). r.access) one ∙ access ∙ by b.owner.access (S.fits b.k b.owner b.runs) (writable_call b.owner.call offer.second mine.second).1
+  where
+    by : (access : Access) {needs : Bool} → (access ≡ ReadOnly → needs ≡ false) → needs ≡ true → access ≡ Writable
+    by Writable h e = refl
+    by ReadOnly h e = absurd (true≢false (sym e ∙ h refl))
+
+-- so the word of a read-only one is plain
+pub read_only_plain : (state : State) → IsSafe state → IsOrdered state → (handle : ℕ) (root : Root) → root_at state handle ≡ Some root → root.access ≡ ReadOnly → root.word ≡ Plain (root_of root.word)
+read_only_plain state S I handle root e r = by root.word refl
+  where
+    by : (word : RootWord) → root.word ≡ word → word ≡ Plain (root_of word)
+    by (Plain q) is = refl
+    by (Offer offer) is = absurd (both_kinds root.access (offer_writable state S I handle root offer e is) r)
+
+-- what is closed stays closed, by the same step
+closed_by_kind : (state : State) (s : Step) (after : State) → StepKind state s after → (g c : ℕ) → closed_at state g ≡ Some c → closed_at after g ≡ Some c
+closed_by_kind state s after (quiet closings roots) g c e = ap (λ l. closed_in l g) closings ∙ e
+closed_by_kind state s after (swaps actor mover offer go is carried closings roots) g c e = ap (λ l. closed_in l g) closings ∙ closed_kept state.closings (closing_of state offer ∷ []) g c e
+
+pub closed_stays : (state : State) → HasOffers state → (s : Step) (o : Outcome) (after : State) → Moves state s o after → (g c : ℕ) → closed_at state g ≡ Some c → closed_at after g ≡ Some c
+closed_stays state I s o after m g c e = closed_by_kind state s after (step_kind state I s o after m) g c e
+
+-- after more steps too
+pub closed_later : (state : State) → HasOffers state → (steps : List Step) (g c : ℕ) → closed_at state g ≡ Some c → HasOffers (run_from state steps) × (closed_at (run_from state steps) g ≡ Some c)
+unfolding run_from
+closed_later state I [] g c e = (I, e)
+closed_later state I (s ∷ steps) g c e =
+    let p = kept_by_moves (λ q. HasOffers q × (closed_at q g ≡ Some c)) state s (I, e) (λ o after m. (has_offers_after state I s o after m, closed_stays state I s o after m g c e)) in
+    closed_later (next_state state s) p.0 steps g c p.1
+
+-- a handle of this generation, which is a writable handle's, is that handle
+pub alone_on : (state : State) → IsOrdered state → (handle other : ℕ) (root rival : Root) → root_at state handle ≡ Some root → root.access ≡ Writable → root_at state other ≡ Some rival →
+    gen state rival ≡ gen state root → other ≡ handle
+alone_on state I handle other root rival e w f same = by rival.access refl
+  where
+    by : (access : Access) → rival.access ≡ access → other ≡ handle
+    by Writable is = I.roots.apart other handle rival root f e is w same
+    by ReadOnly is =
+        let (c, closed) = I.roots.is_closed other rival f is in
+        absurd (none-some c (sym (I.roots.unclosed handle root e w) ∙ ap (closed_at state) (sym same) ∙ closed))
+
+-- the fresh root of an offer that stands
+pub offered_unused : (state : State) → IsOrdered state → (handle : ℕ) (offer : Descriptor) → word_at state handle ≡ Offer offer → (x : Bool) (r : Ref) → fresh_of x offer ≡ Some r → IsUnused state (generation_at state.heap r)
+offered_unused state I handle offer word x r e =
+    let b = I.offers.offers handle offer word in
+    I.roots.fresh b.k b.owner x r b.runs b.unmarked (its_fresh b.owner.line offer x r b.completes e)
+
+pub offered_apart : (state : State) → IsOrdered state → (handle : ℕ) (offer : Descriptor) → word_at state handle ≡ Offer offer → (r : Ref) → offer.second ≡ Some r →
+    generation_at state.heap r ≡ generation_at state.heap offer.successor → ⊥
+offered_apart state I handle offer word r e same =
+    let b = I.offers.offers handle offer word in
+    false≢true (I.roots.fresh_apart b.k b.k b.owner b.owner false true r offer.successor b.runs b.runs b.unmarked b.unmarked (its_fresh b.owner.line offer false r b.completes e)
+    (its_fresh b.owner.line offer true offer.successor b.completes refl) same).1

@@ -1,0 +1,37 @@
+-- After each list of steps: offers, handles and the counter.
+use Rattle.std.proofs.Common.{◌≡◌, ℕ, ◌<◌, Option, Some, List, unwrap_or, ap, arith}
+use Rattle.proof_generations.specs.Beneath.slot_arena.specs.Refs.{slot_of}
+use Rattle.proof_generations.specs.Beneath.slot_arena.specs.declared.refs.Ref.{Ref}
+use Rattle.proof_generations.specs.Beneath.slot_arena.specs.declared.nodes.Slot.{Slot}
+use Rattle.proof_generations.specs.Beneath.slot_arena.specs.Heaps.{stored, generation_of}
+use Rattle.proof_generations.specs.Beneath.machine_model.specs.declared.operations.Operation.{Operation}
+use Rattle.proof_generations.specs.Beneath.machine_model.specs.declared.steps.Limits.{Limits}
+use Rattle.proof_generations.specs.Beneath.machine_model.specs.declared.steps.Step.{Step}
+use Rattle.proof_generations.specs.Beneath.machine_model.specs.States.{State, operation_of}
+use Rattle.proof_generations.specs.Beneath.machine_model.specs.Machine.{AreLimits, run}
+use Rattle.proof_generations.specs.Beneath.machine_model.proofs.Along.{along}
+use Rattle.proof_generations.specs.Beneath.machine_model.specs.Grown.{standing}
+use Rattle.proof_generations.specs.Beneath.proof_memory.proofs.Safety.AtEachTime.{safe_along}
+use Rattle.proof_generations.specs.Beneath.proof_memory.proofs.Heap.Under.{standing_parts}
+use Rattle.proof_generations.proofs.Offers.Same.{HasOffers, has_offers_after, no_offers_at_first}
+use Rattle.proof_generations.proofs.Handles.Operations.{HasHandles, handles_after, handles_at_first}
+use Rattle.proof_generations.proofs.Counter.Below.{IsBelow, below_after, below_at_first}
+use Rattle.proof_generations.proofs.Handles.Running.{place_of_actor}
+
+pub has_handles_along : (limits : Limits) (steps : List Step) → HasOffers (run limits steps) × HasHandles (run limits steps)
+has_handles_along limits =
+    along limits (λ state. HasOffers state × HasHandles state) (no_offers_at_first limits, handles_at_first limits)
+    (λ steps s o after m I. (has_offers_after (run limits steps) I.0 s o after m, handles_after (run limits steps) I.0 I.1 s o after m))
+
+pub below_along : (limits : Limits) → AreLimits limits → (steps : List Step) → IsBelow (run limits steps)
+below_along limits ok = along limits IsBelow (below_at_first limits) (λ steps s o after m h. below_after (run limits steps) (safe_along limits ok steps) h s o after m)
+
+-- what stands is in the slots
+pub standing_below : (state : State) → IsBelow state → (r : Ref) (slot : Slot) → standing state.heap r ≡ Some slot → generation_of slot.node < state.generations
+unfolding stored
+standing_below state h r slot e = h.nodes (slot_of r) slot ((standing_parts state.heap r slot e).0)
+
+pub operation_below : (state : State) → IsBelow state → (actor : ℕ) (operation : Operation) (g : ℕ) → operation_of state actor ≡ Some operation → operation.generation ≡ Some g → g < state.generations
+operation_below state h actor operation g is e =
+    let (k, place, at_k) = place_of_actor state actor operation is in
+    omega (arith, h.starts k operation at_k, ap (λ (x : Option ℕ). unwrap_or x 0) e)

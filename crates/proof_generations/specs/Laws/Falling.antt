@@ -1,0 +1,61 @@
+-- Laws of generations along paths, for every list of steps.
+use Rattle.std.specs.Prelude.{◌≡◌, ℕ, ◌<◌, ◌≤◌, ◌⊎◌, List, Contains, Some, true}
+use Rattle.proof_generations.specs.Beneath.history.specs.declared.calls.Access.TheVariants.{Writable}
+use Rattle.proof_generations.specs.Beneath.slot_arena.specs.declared.refs.Ref.{Ref}
+use Rattle.proof_generations.specs.Beneath.slot_arena.specs.Heaps.{node_at, main_at, generation_at, entries_of, logical_main}
+use Rattle.proof_generations.specs.Beneath.machine_model.specs.declared.lines.Line.TheVariants as line
+use Rattle.proof_generations.specs.Beneath.machine_model.specs.declared.lines.Purpose.{Purpose}
+use Rattle.proof_generations.specs.Beneath.machine_model.specs.declared.operations.Operation.{Operation}
+use Rattle.proof_generations.specs.Beneath.machine_model.specs.declared.reading.Swap.{Swap}
+use Rattle.proof_generations.specs.Beneath.machine_model.specs.declared.roots.Root.{Root}
+use Rattle.proof_generations.specs.Beneath.machine_model.specs.declared.steps.Limits.{Limits}
+use Rattle.proof_generations.specs.Beneath.machine_model.specs.declared.steps.Step.{Step}
+use Rattle.proof_generations.specs.Beneath.machine_model.specs.States.{State, root_at, operation_of, closed_at}
+use Rattle.proof_generations.specs.Beneath.machine_model.specs.Machine.{AreLimits, run}
+use Rattle.proof_commits.specs.Runs.{steps_taken, state_before, HasIndirection}
+use Rattle.proof_commits.specs.Laws.{IsGiven, after_given}
+use Rattle.proof_generations.specs.Laws.Roots.{root_generation}
+use Rattle.proof_generations.specs.Falling.{ReadsClosed}
+use Rattle.proof_generations.specs.Beneath.proof_memory.specs.Wants.{is_indirection}
+
+-- after some of the steps a handle's root had this generation
+abbrev pub IsOpened : Limits → List Step → ℕ → Type 0
+IsOpened limits steps g =
+    (n : ℕ) × (n ≤ steps_taken limits steps)
+    × ((handle : ℕ) × (root : Root) × (root_at (state_before limits steps n) handle ≡ Some root) × (root_generation (state_before limits steps n) root ≡ g))
+
+-- the main node counts for the indirection, or stands in its main word
+abbrev pub HasMain : State → Ref → Ref → Type 0
+HasMain state i m = (logical_main state.heap i ≡ m) ⊎ (main_at state.heap i ≡ m)
+
+-- an indirection below another one: it is an entry of a main node of that
+pub record IsBelow (state : State) (i child : Ref) : Type 0 where
+  pub has : HasIndirection state i
+  pub main : Ref
+  pub is_main : HasMain state i main
+  pub among : Contains (entries_of (node_at state.heap main)) child
+  pub link : is_indirection (node_at state.heap child) ≡ true
+
+-- Below an indirection none has a greater generation. Once its own generation was opened, each has the same, or one that is closed; before that it is a new
+-- root, below which stands what stands below the root that it is to follow.
+abbrev pub FallBelow : Type 0
+FallBelow =
+    (limits : Limits) (steps : List Step) → AreLimits limits → (i child : Ref) → IsBelow (run limits steps) i child →
+    (generation_at (run limits steps).heap child ≤ generation_at (run limits steps).heap i)
+    × (IsOpened limits steps (generation_at (run limits steps).heap i) →
+    (generation_at (run limits steps).heap child ≡ generation_at (run limits steps).heap i)
+    ⊎ ((c : ℕ) × (closed_at (run limits steps) (generation_at (run limits steps).heap child) ≡ Some c)))
+
+-- who swaps a main node in does so on a writable handle, into an indirection of the generation that its root had when it began its try
+abbrev pub SwapsAreOwn : Type 0
+SwapsAreOwn =
+    (limits : Limits) (steps : List Step) → AreLimits limits → (actor : ℕ) (operation : Operation) → operation_of (run limits steps) actor ≡ Some operation → (why : Purpose) (s : Swap) →
+    operation.line ≡ line.Swap why s → (operation.access ≡ Writable) × (operation.generation ≡ Some (generation_at (run limits steps).heap s.indirection))
+
+-- what a READ gives through a read-only handle, or a repair's READ of an indirection of another generation than the operation's, is its logical main node for ever
+abbrev pub ReadForGood : Type 0
+ReadForGood =
+    (limits : Limits) (steps : List Step) → AreLimits limits → (n : ℕ) → n < steps_taken limits steps → (indirection main : Ref) (given : IsGiven limits steps n indirection main) →
+    HasIndirection (state_before limits steps n) indirection → ReadsClosed given.operation (generation_at (state_before limits steps n).heap indirection) →
+    (k : ℕ) → (after_given given).moment < k → k ≤ steps_taken limits steps → HasIndirection (state_before limits steps k) indirection →
+    logical_main (state_before limits steps k).heap indirection ≡ main

@@ -1,0 +1,5 @@
+pub mod Beneath
+pub mod Standing
+pub mod Laws
+pub mod Falling
+pub mod Running

@@ -1,0 +1,8 @@
+-- Which operation an actor runs.
+use Rattle.std.specs.Prelude.{◌≡◌, ℕ, get_or, Some, None}
+use Rattle.proof_generations.specs.Beneath.machine_model.specs.declared.operations.Operation.{Operation}
+use Rattle.proof_generations.specs.Beneath.machine_model.specs.States.{State}
+
+-- the actor k + 1 runs this operation
+abbrev pub Runs : State → ℕ → Operation → Type 0
+Runs state k operation = get_or state.actors k None ≡ Some operation

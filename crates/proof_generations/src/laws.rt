@@ -1,0 +1,4 @@
+//! The laws of generations.
+
+pub mod falling;
+pub mod roots;

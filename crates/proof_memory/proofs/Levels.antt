@@ -1,0 +1,9 @@
+pub mod Impossible
+pub mod Never
+pub mod Steps
+pub mod Next
+pub mod States
+pub mod Runs
+pub mod Shapes
+pub mod ShapeStates
+pub mod Paths

@@ -1,0 +1,11 @@
+pub mod Guards
+pub mod EachStep
+pub mod Base
+pub mod Started
+pub mod States
+pub mod Steps
+pub mod First
+pub mod AtEachTime
+pub mod Held
+pub mod AtTimes
+pub mod Standing

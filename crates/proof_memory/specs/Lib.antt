@@ -1,0 +1,5 @@
+pub mod Beneath
+pub mod Wants
+pub mod Laws
+pub mod Levels
+pub mod Making

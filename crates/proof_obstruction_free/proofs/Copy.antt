@@ -1,0 +1,6 @@
+pub mod Lines
+pub mod Fresh
+pub mod Made
+pub mod Reads
+pub mod Calls
+pub mod Ends

@@ -1,0 +1,6 @@
+pub mod StandsAt
+pub mod Steps
+pub mod Actors
+pub mod Lists
+pub mod Alone
+pub mod Bounds

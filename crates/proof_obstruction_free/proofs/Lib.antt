@@ -1,0 +1,14 @@
+pub mod Step
+pub mod Swap
+pub mod Root
+pub mod Ends
+pub mod Weights
+pub mod Read
+pub mod Renew
+pub mod Clean
+pub mod Pass
+pub mod Build
+pub mod Climb
+pub mod Copy
+pub mod Reader
+pub mod Inherited

@@ -1,0 +1,10 @@
+pub mod Words
+pub mod Step
+pub mod Lines
+pub mod First
+pub mod On
+pub mod Licensed
+pub mod UnderWay
+pub mod Ends
+pub mod Holds
+pub mod Bounds

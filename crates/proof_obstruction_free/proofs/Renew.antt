@@ -1,0 +1,5 @@
+pub mod Nodes
+pub mod Calm
+pub mod Lines
+pub mod Comes
+pub mod On

@@ -1,0 +1,5 @@
+pub mod Words
+pub mod Lines
+pub mod Plain
+pub mod Ends
+pub mod Machines

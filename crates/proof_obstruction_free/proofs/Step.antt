@@ -1,0 +1,5 @@
+pub mod Within
+pub mod Next
+pub mod Keeps
+pub mod Finds
+pub mod Step

@@ -1,0 +1,8 @@
+pub mod Steps
+pub mod Lines
+pub mod Found
+pub mod Course
+pub mod Deciding
+pub mod Ends
+pub mod Comes
+pub mod Soon

@@ -1,0 +1,10 @@
+pub mod Offers
+pub mod NonePending
+pub mod Flat
+pub mod FineSums
+pub mod FailedOwners
+pub mod FineWeight
+pub mod FineSteps
+pub mod FinePays
+pub mod FineOwners
+pub mod Fine

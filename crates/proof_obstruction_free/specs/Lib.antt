@@ -1,0 +1,15 @@
+pub mod Beneath
+pub mod Alone
+pub mod Stepping
+pub mod Machines
+pub mod Keys
+pub mod Weighing
+pub mod ReadEnds
+pub mod Stale
+pub mod Laws
+pub mod Copies
+pub mod Bounds
+pub mod Readers
+pub mod ReadLaws
+pub mod SwapEnds
+pub mod Inherited

@@ -1,0 +1,14 @@
+-- A call on one key on a read-only handle, whose actor alone takes steps.
+use Rattle.std.specs.Prelude.{◌≡◌, ℕ, List}
+use Rattle.proof_obstruction_free.specs.Beneath.history.specs.declared.calls.Access.TheVariants.{ReadOnly}
+use Rattle.proof_obstruction_free.specs.Beneath.machine_model.specs.declared.operations.Operation.{Operation}
+use Rattle.proof_obstruction_free.specs.Beneath.machine_model.specs.declared.steps.Limits.{Limits}
+use Rattle.proof_obstruction_free.specs.Beneath.machine_model.specs.declared.steps.Step.{Step}
+use Rattle.proof_obstruction_free.specs.Keys.{IsOnKey}
+use Rattle.proof_obstruction_free.specs.Laws.{HasEnded, RunsAlone, alone_after}
+
+-- it has ended after so many steps from wherever it stands: nine a level, 14 levels, and at most 32 singles of one hash
+abbrev pub ReadersEnd : Type 0
+ReadersEnd =
+    (limits : Limits) (steps : List Step) (actor : ℕ) (operation : Operation) → RunsAlone limits steps actor operation → IsOnKey operation.call → operation.access ≡ ReadOnly →
+    HasEnded (alone_after limits steps actor 166) actor operation.id

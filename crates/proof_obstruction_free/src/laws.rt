@@ -1,0 +1,4 @@
+//! The laws of operations whose actor alone takes steps.
+
+pub mod endings;
+pub mod programs;

@@ -1,0 +1,14 @@
+//! Laws of operations that alone take steps, for every list of steps whose keys have 64 bits.
+
+ghost use Rattle.proof_obstruction_free.specs.Laws.{AloneItEnds, EachStepLeadsToItsEnd};
+
+/// A law: an operation on one key, a snapshot, a freeze or a clear whose actor alone takes steps has ended after 3,962
+/// of them, whatever others left behind.
+pub fn alone_it_ends()
+    ensures { AloneItEnds }
+{}
+
+/// A law: until then none of its steps is denied; each goes on, and one of the first 3,962 ends it.
+pub fn each_step_leads_to_its_end()
+    ensures { EachStepLeadsToItsEnd }
+{}

@@ -1,0 +1,144 @@
+-- A close is answered with Closed, if it ends.
+use Rattle.std.proofs.Common.{◌≡◌, ℕ, suc, ◌≤◌, inl, inr, Option, Some, slice_get, sym, ap, ◌∙◌, subst, arith}
+use Rattle.proof_order.specs.Beneath.history.specs.declared.calls.Call.{Call}
+use Rattle.proof_order.specs.Beneath.history.specs.declared.calls.Call.TheVariants.{Close}
+use Rattle.proof_order.specs.Beneath.history.specs.declared.replies.Reply.{Reply}
+use Rattle.proof_order.specs.Beneath.history.specs.declared.replies.Reply.TheVariants as reply
+use Rattle.proof_order.specs.Beneath.history.specs.declared.events.Event.{Event}
+use Rattle.proof_order.specs.Beneath.history.specs.declared.events.Event.TheVariants.{Begin, End}
+use Rattle.proof_order.specs.Beneath.history.specs.Histories.{Operation as Told, HasEnded, begun}
+use Rattle.proof_order.specs.Beneath.history.proofs.Places.{at_cases}
+use Rattle.proof_order.specs.Beneath.history.proofs.Begins.{begins_once}
+use Rattle.proof_order.specs.Beneath.machine_model.specs.declared.operations.Operation.{Operation}
+use Rattle.proof_order.specs.Beneath.machine_model.specs.declared.actions.Action.{Action}
+use Rattle.proof_order.specs.Beneath.machine_model.specs.declared.actions.Action.TheVariants as act
+use Rattle.proof_order.specs.Beneath.machine_model.specs.declared.lines.Line.TheVariants as line
+use Rattle.proof_order.specs.Beneath.machine_model.specs.declared.steps.Limits.{Limits}
+use Rattle.proof_order.specs.Beneath.machine_model.specs.declared.steps.Outcome.{Outcome}
+use Rattle.proof_order.specs.Beneath.machine_model.specs.declared.steps.Step.{Step}
+use Rattle.proof_order.specs.Beneath.machine_model.specs.States.{State, first_state}
+use Rattle.proof_order.specs.Beneath.machine_model.specs.Operations.{action_of, line_action, first_line}
+use Rattle.proof_order.specs.Beneath.machine_model.specs.Acting.{operation_after}
+use Rattle.proof_order.specs.Beneath.machine_model.specs.Moves.{Begins, Goes, Ends, Sweeps}
+use Rattle.proof_order.specs.Beneath.machine_model.specs.Moves.{Moves, GoesOn, begun_operation}
+use Rattle.proof_order.specs.Beneath.machine_model.proofs.Found.{none_found}
+use Rattle.proof_order.specs.Beneath.machine_model.proofs.Times.{at_each_time}
+use Rattle.proof_order.specs.Beneath.machine_model.specs.Times.{IsRun}
+use Rattle.proof_order.specs.Beneath.machine_model.proofs.Actors.{IsOf, is_of, mark_one, mark_only, of_others, of_itself, of_begin, of_end}
+use Rattle.proof_generations.proofs.Handles.Running.{place_of_actor, at_place}
+use Rattle.proof_order.specs.Facts.{Runs}
+use Rattle.proof_order.proofs.History.Books.{Books, begin_events, ended_below}
+use Rattle.proof_order.proofs.History.AllBooks.{books_kept, gone_events, first_books}
+use Rattle.proof_order.proofs.History.Growing.{IsKept}
+
+-- ---- a close that runs is about to end
+
+-- it stands on its only line
+abbrev EndsClosed : Operation → Type 0
+EndsClosed operation = (handle : ℕ) → operation.call ≡ Close handle → operation.line ≡ line.End reply.Closed
+
+marked_closed : (m : Option ℕ) (operation : Operation) → EndsClosed operation → EndsClosed (mark_one m operation)
+marked_closed m operation h handle e =
+    ap (λ (o : Operation). o.line) (mark_only m operation) ∙ h handle (ap (λ (o : Operation). o.call) (sym (mark_only m operation)) ∙ e)
+
+begun_closed : (state : State) (call : Call) → EndsClosed (begun_operation state call)
+begun_closed state call handle e = ap first_line e
+
+goes_not_closed : (state : State) (operation : Operation) (action : Action) → action_of state operation ≡ action → GoesOn action → operation.line ≡ line.End reply.Closed → ⊥
+goes_not_closed state operation action a g e =
+    let its : action ≡ act.End reply.Closed = sym a ∙ ap (line_action state operation) e in
+    let wrong : GoesOn (act.End reply.Closed) = subst (λ x. GoesOn x) its g in
+    wrong
+
+closed_by : (state : State) (s : Step) (o : Outcome) (after : State) → Moves state s o after → (k : ℕ) (found : Operation) → Runs after k found →
+    ((k : ℕ) (operation : Operation) → Runs state k operation → EndsClosed operation) → Dec (IsOf (suc k) s) → EndsClosed found
+closed_by state s o after m k found at_k h (no other) =
+    let (was, at_was, same) = of_others state s o after m k other found at_k in
+    subst EndsClosed (sym same) (marked_closed _ was (h k was at_was))
+closed_by state s o after (Begins {actor} {call} d) k found at_k h (yes own) =
+    subst EndsClosed (sym (of_begin state actor call (begun_operation state call) k own found at_k)) (begun_closed state call)
+closed_by state s o after (Goes {actor} {operation} {action} d is a g) k found at_k h (yes own) =
+    subst EndsClosed (sym (of_itself state actor operation k own found at_k)) (marked_closed _ (operation_after state operation) (λ handle e.
+    absurd (goes_not_closed state operation action a g (h k operation (at_place state actor k operation own is) handle e))))
+closed_by state s o after (Ends {actor} d is a) k found at_k h (yes own) = absurd (of_end state actor k own found at_k)
+closed_by state s o after (Sweeps spent) k found at_k h (yes own) = absurd own
+
+-- ---- so it is answered with that
+
+record Closing (state : State) : Type 0 where
+  books : Books state
+  ends : (k : ℕ) (operation : Operation) → Runs state k operation → EndsClosed operation
+  answers : (place id actor handle : ℕ) (opens : Option ℕ) (answer : Reply) → slice_get state.events place ≡ Some (Begin id actor (Close handle) opens) →
+      HasEnded state.events id answer → answer ≡ reply.Closed
+
+ended_closed : (state : State) (k : ℕ) (operation : Operation) (told : Reply) → Closing state → Runs state k operation → action_of state operation ≡ act.End told →
+    (place actor handle : ℕ) (opens : Option ℕ) → slice_get state.events place ≡ Some (Begin operation.id actor (Close handle) opens) → told ≡ reply.Closed
+ended_closed state k operation told c runs a place actor handle opens at =
+    let its = c.books.told k operation runs in
+    let x : Told = record { actor = suc k; call = operation.call; opens = operation.opens } in
+    let y : Told = record { actor = actor; call = Close handle; opens = opens } in
+    let here : its.place ≡ place = begins_once state.events its.place place operation.id x y c.books.well_formed its.begins at in
+    let events : Some (Begin operation.id (suc k) operation.call operation.opens) ≡ Some (Begin operation.id actor (Close handle) opens) = sym its.begins ∙ ap (slice_get state.events) here ∙ at in
+    let calls : operation.call ≡ Close handle = cc events in
+    let replies : act.End told ≡ act.End reply.Closed = sym a ∙ ap (line_action state operation) (c.ends k operation runs handle calls) in
+    cc replies
+
+answers_kept : (state : State) (s : Step) (o : Outcome) (after : State) → Moves state s o after → Closing state → (place id actor handle : ℕ) (opens : Option ℕ) (answer : Reply) →
+    slice_get after.events place ≡ Some (Begin id actor (Close handle) opens) → HasEnded after.events id answer → answer ≡ reply.Closed
+answers_kept state s o after (Begins {actor = a} {call} d) c place id actor handle opens answer at ended =
+    let e = begin_events state a call (begun_operation state call) in
+    let (end, at_end) = subst (λ l. HasEnded l id answer) e ended in
+    elim (at_cases state.events _ end _ at_end) [
+      | inl old_end ↦ elim (at_cases state.events _ place _ (subst (λ l. slice_get l place ≡ Some (Begin id actor (Close handle) opens)) e at)) [
+        | inl old ↦ c.answers place id actor handle opens answer old (end, old_end)
+        | inr new ↦
+            let same : begun state.events ≡ id = let event = new.1 in cc event in
+            let lt = ended_below state.events end id answer c.books.well_formed old_end in
+            absurd (omega arith)
+      ]
+      | inr new_end ↦ let event = new_end.1 in let wrong : ⊥ = cc event in absurd wrong
+    ]
+answers_kept state s o after (Goes {actor = a} {operation} d is b g) c place id actor handle opens answer at ended =
+    let e = gone_events state a operation in
+    c.answers place id actor handle opens answer (subst (λ l. slice_get l place ≡ Some (Begin id actor (Close handle) opens)) e at) (subst (λ l. HasEnded l id answer) e ended)
+answers_kept state s o after (Ends {actor = a} {operation} {answer = told} d is b) c place id actor handle opens answer at ended =
+    elim (at_cases state.events (End operation.id told) place _ at) [
+      | inl old ↦ elim (at_cases state.events (End operation.id told) ended.0 _ ended.1) [
+        | inl old_end ↦ c.answers place id actor handle opens answer old (ended.0, old_end)
+        | inr new_end ↦
+            let event = new_end.1 in
+            let same_id : operation.id ≡ id = cc event in
+            let same_reply : told ≡ answer = cc event in
+            let (k, own, runs) = place_of_actor state a operation is in
+            sym same_reply ∙ ended_closed state k operation told c runs b place actor handle opens (subst (λ i. slice_get state.events place ≡ Some (Begin i actor (Close handle) opens)) (sym same_id) old)
+      ]
+      | inr new ↦ let event = new.1 in let wrong : ⊥ = cc event in absurd wrong
+    ]
+answers_kept state s o after (Sweeps spent) c place id actor handle opens answer at ended = c.answers place id actor handle opens answer at ended
+
+closing_kept : IsKept Closing
+closing_kept state s o after m c = record {
+  books = books_kept state s o after m c.books;
+  ends = λ k found at_k. closed_by state s o after m k found at_k c.ends (is_of (suc k) s);
+  answers = answers_kept state s o after m c;
+}
+
+none_closes : (limits : Limits) (k : ℕ) (operation : Operation) → Runs (first_state limits) k operation → EndsClosed operation
+unfolding first_state
+none_closes limits k operation at_k = absurd (none_found limits.actors k operation at_k)
+
+nothing_told : (limits : Limits) (place : ℕ) (event : Event) → slice_get (first_state limits).events place ≡ Some event → ⊥
+unfolding first_state
+nothing_told limits place event at = cc at
+
+first_closing : (limits : Limits) → Closing (first_state limits)
+first_closing limits = record {
+  books = first_books limits;
+  ends = none_closes limits;
+  answers = λ place id actor handle opens answer at ended. absurd (nothing_told limits place _ at);
+}
+
+-- at each time of a run
+pub closed_reply : (limits : Limits) (states : ℕ → State) (last : ℕ) → IsRun limits states last → (t : ℕ) → t ≤ last → (place id actor handle : ℕ) (opens : Option ℕ) (answer : Reply) →
+    slice_get (states t).events place ≡ Some (Begin id actor (Close handle) opens) → HasEnded (states t).events id answer → answer ≡ reply.Closed
+closed_reply limits states last r t le = (at_each_time limits states last r Closing (first_closing limits) closing_kept t le).answers

@@ -1,0 +1,112 @@
+-- Which operations run before and after a step: each keeps its id, its call, its handle to open and its kind.
+use Rattle.std.proofs.Common.{◌≡◌, ℕ, suc, ◌-◌, ◌<◌, ◌⊎◌, inl, inr, List, ◌∷◌, ◌++◌, set, get_or, Option, Some, None, refl, sym, ap, ◌∙◌, subst, arith, []}
+use Rattle.std.proofs.Math.ListN.{get_or-map}
+use Rattle.proof_order.specs.Beneath.history.specs.declared.calls.Call.{Call}
+use Rattle.proof_order.specs.Beneath.history.specs.declared.replies.Reply.{Reply}
+use Rattle.proof_order.specs.Beneath.history.specs.declared.events.Event.TheVariants.{End}
+use Rattle.proof_order.specs.Beneath.machine_model.specs.declared.operations.Operation.{Operation}
+use Rattle.proof_order.specs.Beneath.machine_model.specs.declared.actions.Action.TheVariants as act
+use Rattle.proof_order.specs.Beneath.machine_model.specs.Operations.{action_of}
+use Rattle.proof_order.specs.Beneath.machine_model.specs.declared.steps.Outcome.{Outcome}
+use Rattle.proof_order.specs.Beneath.machine_model.specs.declared.steps.Step.{Step}
+use Rattle.proof_order.specs.Beneath.machine_model.specs.declared.steps.Step.TheVariants as step
+use Rattle.proof_order.specs.Beneath.machine_model.specs.States.{State}
+use Rattle.proof_order.specs.Beneath.machine_model.specs.Acting.{operation_after, marked}
+use Rattle.proof_order.specs.Beneath.machine_model.specs.Machine.{go_denial}
+use Rattle.proof_order.specs.Beneath.machine_model.specs.Moves.{Begins, Goes, Ends, Sweeps}
+use Rattle.proof_order.specs.Beneath.machine_model.specs.Moves.{Moves, begun_operation}
+use Rattle.proof_order.specs.Beneath.machine_model.proofs.Actors.{IsOf, is_of, mark_one, mark_only, marks_by, after_marks, of_others, of_itself, of_begin, of_end, gone_actors, begin_actors}
+use Rattle.proof_order.specs.Beneath.proof_memory.proofs.Safety.Held.{begin_counts}
+use Rattle.proof_generations.proofs.Handles.Running.{one_at, at_place, write_cases, begin_not_running}
+use Rattle.proof_order.specs.Facts.{Runs}
+use Rattle.proof_order.specs.Running.{IsSame}
+
+-- with a mark it is the same
+pub marked_same : (m : Option ℕ) (operation : Operation) → IsSame operation (mark_one m operation)
+marked_same m operation = record {
+  id = ap (λ (o : Operation). o.id) (mark_only m operation);
+  call = ap (λ (o : Operation). o.call) (mark_only m operation);
+  opens = ap (λ (o : Operation). o.opens) (mark_only m operation);
+  access = ap (λ (o : Operation). o.access) (mark_only m operation);
+}
+
+-- and after its step
+pub after_same : (state : State) (m : Option ℕ) (operation : Operation) → IsSame operation (mark_one m (operation_after state operation))
+after_same state m operation = let s = marked_same m (operation_after state operation) in record { id = s.id; call = s.call; opens = s.opens; access = s.access }
+
+-- ---- backwards
+
+-- the step begins this operation
+pub record IsBegun (state : State) (s : Step) (k : ℕ) (found : Operation) : Type 0 where
+  pub call : Call
+  pub is_step : s ≡ step.Begin (suc k) call
+  pub is_it : found ≡ begun_operation state call
+
+pub own_step : (actor k : ℕ) (call : Call) → actor ≡ suc k → step.Begin actor call ≡ step.Begin (suc k) call
+own_step actor k call own = ap (λ a. step.Begin a call) own
+
+ran_by : (state : State) (s : Step) (o : Outcome) (after : State) → Moves state s o after → (k : ℕ) (found : Operation) → Runs after k found →
+    Dec (IsOf (suc k) s) → IsBegun state s k found ⊎ ((operation : Operation) × Runs state k operation × IsSame operation found)
+ran_by state s o after m k found at_k (no other) =
+    let (was, at_was, same) = of_others state s o after m k other found at_k in
+    inr (was, at_was, subst (λ f. IsSame was f) (sym same) (marked_same _ was))
+ran_by state s o after (Begins {actor} {call} d) k found at_k (yes own) =
+    inl (record { call = call; is_step = own_step actor k call own; is_it = of_begin state actor call (begun_operation state call) k own found at_k })
+ran_by state s o after (Goes {actor} {operation} d is a g) k found at_k (yes own) =
+    inr (operation, at_place state actor k operation own is, subst (λ f. IsSame operation f) (sym (of_itself state actor operation k own found at_k)) (after_same state _ operation))
+ran_by state s o after (Ends {actor} d is a) k found at_k (yes own) = absurd (of_end state actor k own found at_k)
+ran_by state s o after (Sweeps spent) k found at_k (yes own) = absurd own
+
+-- what runs after a step ran before, or begins with it
+pub ran_before : (state : State) (s : Step) (o : Outcome) (after : State) → Moves state s o after → (k : ℕ) (found : Operation) → Runs after k found →
+    IsBegun state s k found ⊎ ((operation : Operation) × Runs state k operation × IsSame operation found)
+ran_before state s o after m k found at_k = ran_by state s o after m k found at_k (is_of (suc k) s)
+
+-- ---- forwards
+
+-- what runs at a place still runs there once some are marked
+marked_runs : (m : Option ℕ) (xs : List (Option Operation)) (k : ℕ) (operation : Operation) → get_or xs k None ≡ Some operation →
+    (found : Operation) × (get_or (after_marks m xs) k None ≡ Some found) × IsSame operation found
+marked_runs None xs k operation at_k = (operation, at_k, record { id = refl; call = refl; opens = refl; access = refl })
+marked_runs (Some id) xs k operation at_k =
+    (mark_one (Some id) operation, get_or-map (marked id) xs k None ∙ ap (marked id) at_k, marked_same (Some id) operation)
+
+pub same_trans : (a b c : Operation) → IsSame a b → IsSame b c → IsSame a c
+same_trans a b c p q = record { id = q.id ∙ p.id; call = q.call ∙ p.call; opens = q.opens ∙ p.opens; access = q.access ∙ p.access }
+
+-- the actor whose place it is
+actor_at : (actor k : ℕ) → 0 < actor → k ≡ actor - 1 → actor ≡ suc k
+actor_at actor k pos e = omega arith
+
+pub go_counts : (state : State) (actor : ℕ) → go_denial state actor ≡ None → 0 < actor
+go_counts state actor d = grind arith
+
+-- the step is the end of this operation
+abbrev pub IsEnded : State → Step → State → ℕ → Operation → Type 0
+IsEnded state s after k operation =
+    (answer : Reply) × (s ≡ step.Go (suc k)) × (action_of state operation ≡ act.End answer) × (after.events ≡ state.events ++ End operation.id answer ∷ [])
+
+-- what runs before a step runs after it, or ends with it
+pub runs_on : (state : State) (s : Step) (o : Outcome) (after : State) → Moves state s o after → (k : ℕ) (operation : Operation) → Runs state k operation →
+    IsEnded state s after k operation ⊎ ((found : Operation) × Runs after k found × IsSame operation found)
+runs_on state s o after (Begins {actor} {call} d) k operation at_k = elim (write_cases state.actors (actor - 1) k (Some (begun_operation state call)) operation at_k) [
+  | inl here ↦ absurd (begin_not_running state k actor call operation d (actor_at actor k (begin_counts state actor call d) here.0) at_k)
+  | inr there ↦ inr (operation, rw begin_actors there.1, record { id = refl; call = refl; opens = refl; access = refl })
+]
+runs_on state s o after (Goes {actor} {operation = own} d is a g) k operation at_k = elim (write_cases state.actors (actor - 1) k (Some (operation_after state own)) operation at_k) [
+  | inl here ↦
+      let at_own = at_place state actor k own (actor_at actor k (go_counts state actor d) here.0) is in
+      let (found, at_found, same) = marked_runs (marks_by state (Some own)) (set state.actors (actor - 1) (Some (operation_after state own))) k (operation_after state own) here.1 in
+      inr (found, rw gone_actors at_found, subst (λ (x : Operation). IsSame x found) (one_at state k own operation at_own at_k) (record { id = same.id; call = same.call; opens = same.opens; access = same.access }))
+  | inr there ↦
+      let (found, at_found, same) = marked_runs (marks_by state (Some own)) (set state.actors (actor - 1) (Some (operation_after state own))) k operation there.1 in
+      inr (found, rw gone_actors at_found, same)
+]
+runs_on state s o after (Ends {actor} {operation = own} {answer} d is a) k operation at_k = elim (write_cases state.actors (actor - 1) k None operation at_k) [
+  | inl here ↦
+      let own_place = actor_at actor k (go_counts state actor d) here.0 in
+      let one = one_at state k own operation (at_place state actor k own own_place is) at_k in
+      inl (answer, ap (λ a. step.Go a) own_place, subst (λ x. action_of state x ≡ act.End answer) one a, ap (λ (x : Operation). state.events ++ End x.id answer ∷ []) one)
+  | inr there ↦ inr (operation, there.1, record { id = refl; call = refl; opens = refl; access = refl })
+]
+runs_on state s o after (Sweeps spent) k operation at_k = inr (operation, at_k, record { id = refl; call = refl; opens = refl; access = refl })

@@ -1,0 +1,5 @@
+pub mod Words
+pub mod Known
+pub mod Standing
+pub mod Honest
+pub mod Carried

@@ -1,0 +1,24 @@
+-- Offers are found as they were made, by the operation that is completing them.
+use Rattle.std.proofs.Common.{◌≡◌, ℕ, true, sym, ap, ◌∙◌, subst}
+use Rattle.std.proofs.lemmas.Bool.{and_parts}
+use Rattle.proof_order.specs.Beneath.machine_model.specs.declared.roots.Descriptor.{Descriptor}
+use Rattle.proof_order.specs.Beneath.machine_model.specs.declared.steps.Step.{Step}
+use Rattle.proof_order.specs.Beneath.machine_model.specs.Calls.{handle_of}
+use Rattle.proof_order.specs.Beneath.machine_model.specs.States.{State, word_at}
+use Rattle.proof_order.specs.Beneath.machine_model.specs.Swapping.{stands_in}
+use Rattle.proof_generations.specs.Laws.Roots.{settles}
+use Rattle.proof_generations.proofs.Offers.Same.{same_offer}
+use Rattle.proof_order.specs.Facts.{CarriesOut}
+use Rattle.proof_order.proofs.Views.EachStep.{HonestIn}
+use Rattle.proof_order.proofs.Offers.Known.{Offers, Stands, stands}
+
+-- offers are found as they were made
+pub honest : (state : State) → Offers state → HonestIn state
+honest state offers actor operation offer is settled found = same_offer state offers.own actor operation offer is settled (handle_of operation.call) found
+
+-- the operation whose offer is carried out
+pub offerer_of : (state : State) → Offers state → (s : Step) (handle : ℕ) (offer : Descriptor) → CarriesOut state s handle offer → Stands state handle offer
+offerer_of state offers s handle offer (actor, operation, main, is_step, is, does, on, out) =
+    let there = subst (λ h. stands_in (word_at state h) offer ≡ true) (sym on) ((and_parts (stands_in (word_at state handle) offer) _ out).0) in
+    let word = honest state offers actor operation offer is (ap settles does) there in
+    stands state offers handle offer (ap (word_at state) (sym on) ∙ word)

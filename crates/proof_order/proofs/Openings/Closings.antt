@@ -1,0 +1,130 @@
+-- Each closing is of another generation, and is a root swap.
+use Rattle.std.proofs.Common.{◌≡◌, ℕ, zero, suc, ◌<◌, ◌≤◌, ◌==◌, Bool, true, false, cond, ◌⊎◌, inl, inr, List, [], ◌∷◌, ◌++◌, length, find, Option, Some, None, refl, sym, ap, ◌∙◌, subst, arith, eq-eqb}
+use Rattle.std.specs.Prelude.{slice_get}
+use Rattle.std.proofs.lemmas.Bool.{true≢false}
+use Rattle.std.proofs.lemmas.Option.{none-some, same_Some}
+use Rattle.proof_order.specs.Beneath.machine_model.specs.declared.heaps.Closing.{Closing}
+use Rattle.proof_order.specs.Beneath.machine_model.specs.declared.operations.Operation.{Operation}
+use Rattle.proof_order.specs.Beneath.machine_model.specs.declared.roots.Descriptor.{Descriptor}
+use Rattle.proof_order.specs.Beneath.machine_model.specs.declared.steps.Limits.{Limits}
+use Rattle.proof_order.specs.Beneath.machine_model.specs.declared.steps.Outcome.{Outcome}
+use Rattle.proof_order.specs.Beneath.machine_model.specs.declared.steps.Step.{Step}
+use Rattle.proof_order.specs.Beneath.machine_model.specs.Calls.{handle_of}
+use Rattle.proof_order.specs.Beneath.machine_model.specs.States.{State, first_state, root_of, operation_of, closed_at, step_of}
+use Rattle.proof_order.specs.Beneath.machine_model.specs.Operations.{action_of}
+use Rattle.proof_order.specs.Beneath.machine_model.specs.Machine.{AreLimits, run}
+use Rattle.proof_order.specs.Beneath.slot_arena.specs.Heaps.{generation_at}
+use Rattle.proof_order.specs.Beneath.machine_model.specs.Moves.{Moves}
+use Rattle.proof_order.specs.Beneath.machine_model.proofs.Along.{along}
+use Rattle.proof_order.specs.Beneath.machine_model.proofs.Times.{steps_at}
+use Rattle.proof_order.specs.Beneath.machine_model.specs.Times.{turns}
+use Rattle.proof_order.specs.Beneath.machine_model.specs.Times.{IsRun, Turn}
+use Rattle.proof_order.specs.Beneath.proof_memory.proofs.Safety.AtEachTime.{safe_along}
+use Rattle.proof_order.specs.Beneath.proof_memory.proofs.Safety.States.{IsSafe}
+use Rattle.proof_generations.proofs.Handles.Footings.{CarriesOut}
+use Rattle.proof_generations.proofs.Roots.Along.{IsOrdered, ordered_at, ordered_along, closed_stays}
+use Rattle.proof_generations.proofs.Offers.Swaps.{StepKind, quiet, swaps, step_kind, closing_of, closed_in, closed_new}
+use Rattle.proof_order.specs.Openings.{IsSwap}
+use Rattle.proof_order.specs.Laws.Openings.{ClosingsDifferIn}
+use Rattle.proof_order.proofs.Openings.OneRoot.{old}
+
+-- ---- closings differ
+
+not_among_by : (xs : List Closing) (x : Closing) (generation : ℕ) (b : Bool) → (x.generation == generation) ≡ b → step_of (cond b (Some x) (find (λ c. c.generation == generation) xs)) ≡ None →
+    (b ≡ false) × (closed_in xs generation ≡ None)
+not_among_by xs x generation true is e = absurd (none-some x.step (sym e))
+not_among_by xs x generation false is e = (refl, e)
+
+-- what isn't closed has no closing
+not_among : (xs : List Closing) (generation : ℕ) → closed_in xs generation ≡ None → (n : ℕ) (c : Closing) → slice_get xs n ≡ Some c → c.generation ≡ generation → ⊥
+not_among [] generation none n c e same = none-some c e
+not_among (x ∷ xs) generation none zero c e same =
+    let b = not_among_by xs x generation (x.generation == generation) refl none in
+    true≢false (sym (eq-eqb x.generation generation (ap (λ (y : Closing). y.generation) (same_Some x c e) ∙ same)) ∙ b.0)
+not_among (x ∷ xs) generation none (suc n) c e same = not_among xs generation (not_among_by xs x generation (x.generation == generation) refl none).1 n c e same
+
+-- one more at the end
+at_end : (xs : List Closing) (new : Closing) (n : ℕ) (c : Closing) → slice_get (xs ++ new ∷ []) n ≡ Some c → (slice_get xs n ≡ Some c) ⊎ ((n ≡ length xs) × (c ≡ new))
+at_end [] new zero c e = inr (refl, sym (same_Some new c e))
+at_end [] new (suc n) c e = absurd (none-some c e)
+at_end (x ∷ xs) new zero c e = inl e
+at_end (x ∷ xs) new (suc n) c e = elim (at_end xs new n c e) [
+  | inl there ↦ inl there
+  | inr end ↦ inr (ap suc end.0, end.1)
+]
+
+differ_push : (state after : State) (new : Closing) → after.closings ≡ state.closings ++ new ∷ [] → closed_in state.closings new.generation ≡ None → ClosingsDifferIn state → ClosingsDifferIn after
+differ_push state after new is none so_far m n a b e f same =
+    by (at_end state.closings new m a (ap (λ l. slice_get l m) (sym is) ∙ e)) (at_end state.closings new n b (ap (λ l. slice_get l n) (sym is) ∙ f))
+  where
+    by : (slice_get state.closings m ≡ Some a) ⊎ ((m ≡ length state.closings) × (a ≡ new)) → (slice_get state.closings n ≡ Some b) ⊎ ((n ≡ length state.closings) × (b ≡ new)) → m ≡ n
+    by (inl x) (inl y) = so_far m n a b x y same
+    by (inl x) (inr y) = absurd (not_among state.closings new.generation none m a x (same ∙ ap (λ (c : Closing). c.generation) y.1))
+    by (inr x) (inl y) = absurd (not_among state.closings new.generation none n b y (sym same ∙ ap (λ (c : Closing). c.generation) x.1))
+    by (inr x) (inr y) = x.0 ∙ sym y.0
+
+-- the generation that a swap closes is open
+module _ (state : State) (S : IsSafe state) (I : IsOrdered state) (s : Step) (o : Outcome) (after : State) (m : Moves state s o after) where
+  open_before : (actor : ℕ) (mover : Operation) (offer : Descriptor) → operation_of state actor ≡ Some mover → CarriesOut state (handle_of mover.call) (action_of state mover) offer →
+      closed_at state (generation_at state.heap offer.root) ≡ None
+  open_before actor mover offer is c =
+      let b = old state S I s o after m actor mover offer is c in
+      ap (closed_at state) (ap (λ w. generation_at state.heap (root_of w)) (sym b.word)) ∙ I.roots.unclosed (handle_of mover.call) b.root b.is_open b.writable
+
+  differ_by : ClosingsDifferIn state → StepKind state s after → ClosingsDifferIn after
+  differ_by so_far (quiet closings roots) = λ i j a b e f same. so_far i j a b (ap (λ l. slice_get l i) (sym closings) ∙ e) (ap (λ l. slice_get l j) (sym closings) ∙ f) same
+  differ_by so_far (swaps actor mover offer go is c closings roots) = differ_push state after (closing_of state offer) closings (open_before actor mover offer is c) so_far
+
+  differ_after : ClosingsDifferIn state → ClosingsDifferIn after
+  differ_after so_far = differ_by so_far (step_kind state I.offers s o after m)
+
+differ_at_first : (limits : Limits) → ClosingsDifferIn (first_state limits)
+unfolding first_state
+differ_at_first limits m n a b e f same = absurd (none-some a e)
+
+pub closings_differ : (limits : Limits) → AreLimits limits → (steps : List Step) → ClosingsDifferIn (run limits steps)
+closings_differ limits ok steps =
+    along limits ClosingsDifferIn (differ_at_first limits)
+    (λ before s o after m h. differ_after (run limits before) (safe_along limits ok before) (ordered_along limits ok before) s o after m h) steps
+
+-- ---- a closing is a root swap
+
+-- step t carries an offer out over a root of this generation
+pub record ClosesSo (states : ℕ → State) (last t generation : ℕ) : Type 0 where
+  pub handle : ℕ
+  pub offer : Descriptor
+  pub swap : IsSwap states last t handle offer
+  pub its : generation_at (states t).heap offer.root ≡ generation
+
+module _ (limits : Limits) (states : ℕ → State) (last : ℕ) (r : IsRun limits states last) where
+  closed_by : (t generation c : ℕ) → t < last → (s : Step) (o : Outcome) → Moves (states t) s o (states (suc t)) → closed_at (states t) generation ≡ None → closed_at (states (suc t)) generation ≡ Some c →
+      StepKind (states t) s (states (suc t)) → (c ≡ t) × ClosesSo states last t generation
+  closed_by t generation c within s o m none e (quiet closings roots) = absurd (none-some c (sym none ∙ ap (λ l. closed_in l generation) (sym closings) ∙ e))
+  closed_by t generation c within s o m none e (swaps actor mover offer go is d closings roots) =
+      let new = closed_new (states t).closings (closing_of (states t) offer) generation c none (ap (λ l. closed_in l generation) (sym closings) ∙ e) in (
+        sym new.1 ∙ steps_at limits states last r t (omega arith),
+        record {
+          handle = handle_of mover.call;
+          offer = offer;
+          swap = record { taken = within; step = s; outcome = o; moves = m; carries = (actor, mover, d.main, go, is, d.is_it, refl, d.carried) };
+          its = new.0;
+        },
+      )
+
+  pub closing_swaps : (t generation c : ℕ) → t ≤ last → closed_at (states t) generation ≡ Some c → (c < t) × ClosesSo states last c generation
+  unfolding first_state
+  closing_swaps zero generation c within e = absurd (none-some c (ap (λ (q : State). closed_at q generation) (sym r.first) ∙ e))
+  closing_swaps (suc t) generation c within e = by_turn (closing_swaps t generation c (omega arith)) (r.turn t within)
+    where
+      by : (closed_at (states t) generation ≡ Some c → (c < t) × ClosesSo states last c generation) → (s : Step) (o : Outcome) → Moves (states t) s o (states (suc t)) →
+          (was : Option ℕ) → closed_at (states t) generation ≡ was → (c < suc t) × ClosesSo states last c generation
+      by before s o m None is =
+          let now = closed_by t generation c within s o m is e (step_kind (states t) (ordered_at limits states last r t (omega arith)).offers s o (states (suc t)) m) in
+          (omega (arith, now.0), subst (λ n. ClosesSo states last n generation) (sym now.0) now.1)
+      by before s o m (Some d) is =
+          let same : d ≡ c = same_Some d c (sym (closed_stays (states t) (ordered_at limits states last r t (omega arith)).offers s o (states (suc t)) m generation d is) ∙ e) in
+          let (earlier, so) = before (is ∙ ap Some same) in
+          (omega arith, so)
+
+      by_turn : (closed_at (states t) generation ≡ Some c → (c < t) × ClosesSo states last c generation) → Turn (states t) (states (suc t)) → (c < suc t) × ClosesSo states last c generation
+      by_turn before (turns s o m) = by before s o m (closed_at (states t) generation) refl

@@ -1,0 +1,82 @@
+-- What a call opens by a root swap, as the contents of generations go: a clear an empty map, a snapshot and a freeze the old root's content, as it is in the end.
+use Rattle.std.proofs.Common.{◌≡◌, ℕ, suc, ◌<◌, false, sym, ap, ◌∙◌, arith}
+use Rattle.proof_order.specs.Beneath.history.specs.declared.calls.Call.{Call}
+use Rattle.proof_order.specs.Beneath.slot_arena.specs.declared.refs.Ref.{Ref}
+use Rattle.proof_order.specs.Beneath.slot_arena.specs.Heaps.{generation_at, generation_of}
+use Rattle.proof_order.specs.Beneath.machine_model.specs.declared.operations.Operation.{Operation}
+use Rattle.proof_order.specs.Beneath.machine_model.specs.declared.roots.Descriptor.{Descriptor}
+use Rattle.proof_order.specs.Beneath.machine_model.specs.declared.steps.Limits.{Limits}
+use Rattle.proof_order.specs.Beneath.machine_model.specs.declared.steps.Outcome.{Outcome}
+use Rattle.proof_order.specs.Beneath.machine_model.specs.declared.steps.Step.{Step}
+use Rattle.proof_order.specs.Beneath.machine_model.specs.Orders.{is_placed}
+use Rattle.proof_order.specs.Beneath.machine_model.specs.Moves.{Moves}
+use Rattle.proof_order.specs.Beneath.machine_model.specs.States.{State}
+use Rattle.proof_order.specs.Beneath.machine_model.specs.Grown.{node_under}
+use Rattle.proof_order.specs.Beneath.machine_model.specs.Times.{IsRun}
+use Rattle.proof_order.specs.Beneath.proof_contents.specs.Runs.{main_at, root_at, trie_of}
+use Rattle.proof_order.specs.Beneath.proof_contents.specs.Steps as steps
+use Rattle.proof_order.specs.Beneath.proof_contents.specs.Steps.{IsTrie}
+use Rattle.proof_order.specs.Beneath.proof_contents.specs.Tries.{Trie, content}
+use Rattle.proof_order.specs.Beneath.proof_contents.proofs.Changes.Openings.{copy_opens, empty_opens}
+use Rattle.proof_order.specs.Facts as facts
+use Rattle.proof_order.specs.Facts.{Opens, CarriesOut, Runs}
+use Rattle.proof_order.specs.Openings.{IsSwap, IsNewRoot, Brings, clears, snapshots, freezes, SwapsOpen}
+use Rattle.proof_order.proofs.Openings.Carried.{swap_stands, swap_is_fresh, second_is_fresh, second_differs}
+use Rattle.proof_order.proofs.Openings.RootOf.{roots_are_one}
+use Rattle.proof_order.proofs.Openings.SwapState.{old_stands}
+use Rattle.proof_order.proofs.Openings.NoLateCommit.{no_late_commit}
+use Rattle.proof_order.proofs.Openings.Brings.{swaps_bring}
+
+module _ (limits : Limits) (states : ℕ → State) (last : ℕ) (run : IsRun limits states last) (depth path : Ref → ℕ) (t handle : ℕ) (offer : Descriptor) (swap : IsSwap states last t handle offer) where
+  abbrev pub trie : Trie
+  trie = trie_of limits states last depth path
+
+  abbrev old : ℕ
+  old = generation_at (states t).heap offer.root
+
+  abbrev gen : Ref → ℕ
+  gen r = generation_at (states t).heap r
+
+  old_one : (root_at states last old ≡ offer.root) × (generation_of (node_under states last offer.root) ≡ old)
+  old_one = roots_are_one limits states last run t handle offer.root old (omega (arith, swap.taken)) (old_stands limits states last run t handle offer swap)
+
+  -- a new root over the expected node shows, when it is opened, what the old one shows in the end
+  pub opens_over : (r : Ref) → IsNewRoot states last t offer r → main_at states last (suc t) r ≡ offer.expected → steps.Opens trie t old (gen r)
+  opens_over r new main = record {
+    newer = new.newer;
+    old_root = ap (λ q. generation_of (node_under states last q)) old_one.0 ∙ old_one.1;
+    new_root = ap (λ q. generation_of (node_under states last q)) new.is_root ∙ new.keeps;
+    in_range = swap.taken;
+    same =
+        ap (λ q. main_at states last (suc t) q) new.is_root ∙ main ∙ sym (no_late_commit limits states last run t handle offer swap last (omega (arith, swap.taken)) (omega arith))
+        ∙ ap (λ q. main_at states last last q) (sym old_one.0);
+  }
+
+  module _ (ok : IsTrie trie) where
+    opens_by : (call : Call) → Brings states last t handle offer call → Opens states last (content trie) t handle old offer call
+    opens_by call (clears opens new empty) =
+        facts.clears opens
+        (empty_opens trie ok (suc t) (gen offer.successor) (ap (λ q. generation_of (node_under states last q)) new.is_root ∙ new.keeps)
+        (ap (λ q. node_under states last (main_at states last (suc t) q)) new.is_root ∙ empty))
+    opens_by call (snapshots n second opens is first main copy its) =
+        facts.snapshots n second opens is (second_is_fresh limits states last run t handle offer swap second is) (second_differs limits states last run t handle offer swap second is)
+        (copy_opens trie ok t old (gen offer.successor) (opens_over offer.successor first main)) (copy_opens trie ok t old (gen second) (opens_over second copy its))
+    opens_by call (freezes n opens none first main) = facts.freezes n opens none (copy_opens trie ok t old (gen offer.successor) (opens_over offer.successor first main))
+
+pub swaps_open : (limits : Limits) (states : ℕ → State) (last : ℕ) → IsRun limits states last → SwapsOpen limits states last
+swaps_open limits states last run depth path ok t handle offer swap actor offerer is id =
+    opens_by limits states last run depth path t handle offer swap ok offerer.call (swaps_bring limits states last run t handle offer swap actor offerer is id)
+
+-- a step that carries an offer out is a swap as the order takes it, where the operation that offered has no place yet
+pub swap_so : (limits : Limits) (states : ℕ → State) (last : ℕ) → IsRun limits states last → (depth path : Ref → ℕ) → IsTrie (trie_of limits states last depth path) →
+    (t : ℕ) (s : Step) (o : Outcome) → t < last → Moves (states t) s o (states (suc t)) → (handle : ℕ) (offer : Descriptor) → CarriesOut (states t) s handle offer →
+    (k : ℕ) (offerer : Operation) → Runs (states t) k offerer → offerer.id ≡ offer.operation → is_placed (states t) offer.operation ≡ false →
+    facts.Swap states last (content (trie_of limits states last depth path)) t handle offer offerer.call
+swap_so limits states last run depth path ok t s o within m handle offer carries k offerer runs id unplaced =
+    let swap : IsSwap states last t handle offer = record { taken = within; step = s; outcome = o; moves = m; carries = carries } in
+    record {
+      unplaced = unplaced;
+      stands = swap_stands limits states last run t handle offer swap;
+      is_fresh = swap_is_fresh limits states last run t handle offer swap;
+      opens = swaps_open limits states last run depth path ok t handle offer swap (suc k) offerer runs id;
+    }

@@ -1,0 +1,41 @@
+-- What handles show: at the end each open one the content of its root's generation, and at first the first generation nothing.
+use Rattle.std.proofs.Common.{◌≡◌, ℕ, true, refl, sym, ◌∙◌, arith}
+use Rattle.std.specs.FinMap as map
+use Rattle.proof_order.specs.Beneath.slot_arena.specs.declared.refs.Ref.{Ref}
+use Rattle.proof_order.specs.Beneath.slot_arena.specs.Heaps.{node_at, generation_at}
+use Rattle.proof_order.specs.Beneath.machine_model.specs.declared.roots.RootWord.{RootWord}
+use Rattle.proof_order.specs.Beneath.machine_model.specs.declared.roots.RootWord.TheVariants.{Plain, Offer}
+use Rattle.proof_order.specs.Beneath.machine_model.specs.declared.steps.Limits.{Limits}
+use Rattle.proof_order.specs.Beneath.machine_model.specs.States.{State, root_of}
+use Rattle.proof_order.specs.Beneath.machine_model.specs.Times.{IsRun}
+use Rattle.proof_order.specs.Beneath.proof_memory.specs.Laws.{IsInUse}
+use Rattle.proof_order.specs.Beneath.proof_memory.specs.Wants.{AnIndirection, AllHold, meets, word_wants}
+use Rattle.proof_order.specs.Beneath.proof_memory.proofs.Safety.AtEachTime.{safe_at}
+use Rattle.proof_order.specs.Beneath.proof_memory.proofs.Safety.AtTimes.{node_found}
+use Rattle.proof_order.specs.Beneath.proof_memory.proofs.Claims.Uses.{meets_of}
+use Rattle.proof_order.specs.Beneath.proof_contents.specs.Runs.{trie_of}
+use Rattle.proof_order.specs.Beneath.proof_contents.specs.Steps.{IsTrie}
+use Rattle.proof_order.specs.Beneath.proof_contents.specs.Tries.{content}
+use Rattle.proof_order.specs.Beneath.proof_contents.proofs.Pairs.Heap.{content_is}
+use Rattle.proof_order.specs.Beneath.proof_contents.proofs.Values.Started.{starts_empty}
+use Rattle.proof_generations.proofs.Lines.ReaderKnows.{indirection_is}
+use Rattle.proof_order.specs.Openings.{IsRootOf, HandlesShow}
+use Rattle.proof_order.proofs.Openings.InUse.{nodes_stay, reaches_in_use}
+use Rattle.proof_order.proofs.Openings.RootOf.{roots_are_one, root_in_use}
+
+module _ (limits : Limits) (states : ℕ → State) (last : ℕ) (run : IsRun limits states last) where
+  pub handles_show : HandlesShow limits states last
+  handles_show depth path ok handle root e =
+      let g = generation_at (states last).heap (root_of root.word) in
+      let stands : IsRootOf states last handle (root_of root.word) g = record { root = root; is_open = e; is = refl; its = refl } in
+      let used = root_in_use limits states last run last handle (root_of root.word) g (omega arith) stands in
+      let node = indirection_is (node_at (states last).heap (root_of root.word)) (by root.word ((safe_at limits states last run last (omega arith)).words handle root e)) in
+      content_is states last (reaches_in_use limits states last run last (omega arith)) limits depth path ok handle root g node.0 node.1 e
+      (roots_are_one limits states last run last handle (root_of root.word) g (omega arith) stands).0 (sym (node_found states last (root_of root.word) used) ∙ node.2)
+    where
+      by : (word : RootWord) → AllHold (IsInUse (states last).heap) (states last).heap (word_wants word) → meets AnIndirection (node_at (states last).heap (root_of word)) ≡ true
+      by (Plain r) h = meets_of h.0
+      by (Offer offer) h = meets_of h.0
+
+  pub starts_so : (depth path : Ref → ℕ) → IsTrie (trie_of limits states last depth path) → content (trie_of limits states last depth path) 0 0 ≡ map.empty
+  starts_so depth path ok = starts_empty limits states last run (nodes_stay limits states last run) depth path ok

@@ -1,0 +1,143 @@
+-- The state behind a root swap: the old root's generation is closed, for ever, and the new roots stand.
+use Rattle.std.proofs.Common.{◌≡◌, ℕ, suc, ◌<◌, ◌≤◌, true, [], ◌∷◌, ◌++◌, set, get_or, Option, Some, None, refl, sym, ap, ◌∙◌, subst, arith}
+use Rattle.std.proofs.lemmas.List.{get_or-set_same, length-set}
+use Rattle.std.proofs.lemmas.Option.{none-some, same_Some}
+use Rattle.proof_order.specs.Beneath.history.specs.declared.calls.Access.TheVariants.{Writable}
+use Rattle.proof_order.specs.Beneath.slot_arena.specs.declared.refs.Ref.{Ref}
+use Rattle.proof_order.specs.Beneath.slot_arena.specs.Heaps.{generation_at}
+use Rattle.proof_order.specs.Beneath.machine_model.specs.declared.actions.Action.TheVariants as act
+use Rattle.proof_order.specs.Beneath.machine_model.specs.declared.operations.Operation.{Operation}
+use Rattle.proof_order.specs.Beneath.machine_model.specs.declared.roots.Descriptor.{Descriptor}
+use Rattle.proof_order.specs.Beneath.machine_model.specs.declared.roots.RootWord.TheVariants.{Plain}
+use Rattle.proof_order.specs.Beneath.machine_model.specs.declared.steps.Limits.{Limits}
+use Rattle.proof_order.specs.Beneath.machine_model.specs.declared.steps.Outcome.{Outcome}
+use Rattle.proof_order.specs.Beneath.machine_model.specs.declared.steps.Step.{Step}
+use Rattle.proof_order.specs.Beneath.machine_model.specs.Calls.{handle_of}
+use Rattle.proof_order.specs.Beneath.machine_model.specs.States.{State, root_at, root_of, word_at, operation_of, closed_at, rewritten}
+use Rattle.proof_order.specs.Beneath.machine_model.specs.Operations.{action_of}
+use Rattle.proof_order.specs.Beneath.machine_model.specs.Swapping.{is_carried_out}
+use Rattle.proof_order.specs.Beneath.machine_model.specs.Acting.{acted, gone, carried_out, opened_root}
+use Rattle.proof_order.specs.Beneath.machine_model.specs.Counting.{settled}
+use Rattle.proof_order.specs.Beneath.machine_model.specs.Moves.{Begins, Goes, Ends, Sweeps}
+use Rattle.proof_order.specs.Beneath.machine_model.specs.Moves.{Moves}
+use Rattle.proof_order.specs.Beneath.machine_model.proofs.Found.{found_within, found_elsewhere}
+use Rattle.proof_order.specs.Beneath.machine_model.proofs.Times.{steps_at}
+use Rattle.proof_order.specs.Beneath.machine_model.specs.Times.{IsRun}
+use Rattle.proof_generations.proofs.Lines.Copy.{IsOwn}
+use Rattle.proof_generations.proofs.Offers.Standing.{StandsBy, own_numbers}
+use Rattle.proof_generations.proofs.Offers.Swaps.{closing_of, closed_in, closed_last, noted}
+use Rattle.proof_order.proofs.Views.Changes.{completed_is, roots_swapped, carried_roots, same_swapped}
+use Rattle.proof_order.proofs.Views.Handles.{opens_in_range}
+use Rattle.proof_order.proofs.Views.Closed.{closed_later}
+use Rattle.proof_order.specs.Openings.{IsSwap, IsRootOf}
+use Rattle.proof_order.proofs.Openings.Carried.{Carried, mover, root, word, IsOffered, ordered}
+
+-- the state behind the swap, as far as closings, roots and the heap go
+pub record Swapped (state : State) (handle : ℕ) (offer : Descriptor) (after : State) : Type 0 where
+  pub closings : after.closings ≡ state.closings ++ closing_of state offer ∷ []
+  pub roots : after.roots ≡ roots_swapped state handle offer offer.opens
+  pub heap : after.heap ≡ state.heap
+
+gone_swapped : (state : State) (actor : ℕ) (operation : Operation) (offer : Descriptor) (main : Ref) → action_of state operation ≡ act.Complete offer main →
+    is_carried_out (word_at state (handle_of operation.call)) offer main ≡ true → Swapped state (handle_of operation.call) offer (settled state (gone state actor operation))
+gone_swapped state actor operation offer main does carried =
+    let base = noted state actor operation in
+    let at = handle_of operation.call in
+    let same : gone state actor operation ≡ carried_out base at offer = ap (acted base at) does ∙ completed_is base at offer main carried in
+    let (roots, places, closings, heap) = carried_roots base at offer offer.opens in
+    record {
+      closings = ap (λ (q : State). q.closings) same ∙ ap (λ l. l ++ closing_of state offer ∷ []) closings;
+      roots = ap (λ (q : State). q.roots) same ∙ roots ∙ same_swapped base state at offer offer.opens refl;
+      heap = ap (λ (q : State). q.heap) same ∙ heap;
+    }
+
+swapped_by : (state : State) (s : Step) (o : Outcome) (after : State) (handle : ℕ) (offer : Descriptor) → Moves state s o after → Carried state s handle offer → Swapped state handle offer after
+swapped_by state s o after handle offer (Begins d) c = let go = c.go in let wrong : ⊥ = cc go in absurd wrong
+swapped_by state s o after handle offer (Goes {actor} {operation} d is a g) c =
+    let go = c.go in
+    let place : actor ≡ c.actor = cc go in
+    let one : operation ≡ c.mover = same_Some _ _ (sym is ∙ ap (operation_of state) place ∙ c.moves) in
+    let on : handle_of operation.call ≡ handle = ap (λ (x : Operation). handle_of x.call) one ∙ c.on in
+    subst (λ h. Swapped state h offer (settled state (gone state actor operation))) on
+    (gone_swapped state actor operation offer c.main (ap (action_of state) one ∙ c.completes) (ap (λ h. is_carried_out (word_at state h) offer c.main) on ∙ c.carried))
+swapped_by state s o after handle offer (Ends {actor} {operation} {answer} d is a) c =
+    let go = c.go in
+    let place : actor ≡ c.actor = cc go in
+    let one : operation ≡ c.mover = same_Some _ _ (sym is ∙ ap (operation_of state) place ∙ c.moves) in
+    let both : act.End answer ≡ act.Complete offer c.main = sym a ∙ ap (action_of state) one ∙ c.completes in
+    let wrong : ⊥ = cc both in
+    absurd wrong
+swapped_by state s o after handle offer (Sweeps spent) c = let go = c.go in let wrong : ⊥ = cc go in absurd wrong
+
+module _ (limits : Limits) (states : ℕ → State) (last : ℕ) (r : IsRun limits states last) where
+  module _ (t handle : ℕ) (offer : Descriptor) (swap : IsSwap states last t handle offer) where
+    pub swapped : Swapped (states t) handle offer (states (suc t))
+    swapped = swapped_by (states t) swap.step swap.outcome (states (suc t)) handle offer swap.moves (mover limits states last r t handle offer swap)
+
+    abbrev old : IsOffered (states t) handle offer
+    old = root limits states last r t handle offer swap
+
+    -- the step closes the old root's generation
+    pub closes : closed_at (states (suc t)) (generation_at (states t).heap offer.root) ≡ Some t
+    closes =
+        let g = generation_at (states t).heap offer.root in
+        let open_then : closed_at (states t) g ≡ None =
+        ap (closed_at (states t)) (ap (λ w. generation_at (states t).heap (root_of w)) (sym old.word))
+        ∙ (ordered limits states last r t handle offer swap).roots.unclosed handle old.root old.is_open old.writable in
+        ap (λ l. closed_in l g) swapped.closings ∙ closed_last (states t).closings (closing_of (states t) offer) g open_then refl ∙ ap Some (steps_at limits states last r t (omega (arith, swap.taken)))
+
+    pub closed_for_ever : (u : ℕ) → t < u → u ≤ last → closed_at (states u) (generation_at (states t).heap offer.root) ≡ Some t
+    closed_for_ever u after within = closed_later limits states last r (suc t) u (generation_at (states t).heap offer.root) t after within closes
+
+    -- ---- the new roots
+
+    -- the operation that offered runs, and completes the offer
+    pub offerer : StandsBy (states t) handle offer
+    offerer = (ordered limits states last r t handle offer swap).offers.offers handle offer (word limits states last r t handle offer swap)
+
+    pub offers : IsOwn offerer.owner.call offerer.owner.id offerer.owner.opens offerer.owner.attempt offer
+    offers = own_numbers offerer.owner offer ((ordered limits states last r t handle offer swap).offers.own offerer.k offerer.owner offerer.runs) offerer.completes
+
+    -- the handle that it opens isn't open
+    pub unopened : (n : ℕ) → offer.opens ≡ Some n → root_at (states t) n ≡ None
+    unopened n e = (ordered limits states last r t handle offer swap).handles.unopened offerer.k n offerer.owner offerer.runs offerer.unmarked (sym offers.number ∙ e)
+
+    here : get_or (set (states t).roots handle (rewritten (Plain offer.successor) (root_at (states t) handle))) handle None ≡ Some (record old.root { word = Plain offer.successor })
+    here =
+        get_or-set_same (states t).roots handle _ None (found_within (states t).roots handle old.root old.is_open) ∙ ap (rewritten (Plain offer.successor)) old.is_open
+
+    successor_by : (opens : Option ℕ) → offer.opens ≡ opens → get_or (roots_swapped (states t) handle offer opens) handle None ≡ Some (record old.root { word = Plain offer.successor })
+    successor_by None e = here
+    successor_by (Some n) e =
+        found_elsewhere _ n handle (Some (opened_root offer offer.second)) (λ same. none-some old.root (sym (unopened n e) ∙ ap (root_at (states t)) (sym same) ∙ old.is_open)) ∙ here
+
+    -- the successor stands in the word of the handle
+    pub successor_stands : IsRootOf states (suc t) handle offer.successor (generation_at (states t).heap offer.successor)
+    successor_stands = record {
+      root = record old.root { word = Plain offer.successor };
+      is_open = ap (λ l. get_or l handle None) swapped.roots ∙ successor_by offer.opens refl;
+      is = refl;
+      its = ap (λ h. generation_at h offer.successor) swapped.heap;
+    }
+
+    second_by : (n : ℕ) (second : Ref) → offer.opens ≡ Some n → offer.second ≡ Some second → (opens : Option ℕ) → offer.opens ≡ opens →
+        get_or (roots_swapped (states t) handle offer opens) n None ≡ Some (record { access = Writable; word = Plain second })
+    second_by n second e f None is = absurd (none-some n (sym is ∙ e))
+    second_by n second e f (Some m) is =
+        let same : m ≡ n = same_Some _ _ (sym is ∙ e) in
+        let within = opens_in_range limits states last r t (omega (arith, swap.taken)) offerer.k offerer.owner offerer.runs n (sym offers.number ∙ e) in
+        ap (λ i. get_or (roots_swapped (states t) handle offer (Some i)) n None) same
+        ∙ get_or-set_same _ n (Some (opened_root offer offer.second)) None (rw length-set within) ∙ ap (λ x. Some (opened_root offer x)) f
+
+    -- the second root stands in the word of the handle that is opened
+    pub second_stands : (n : ℕ) (second : Ref) → offer.opens ≡ Some n → offer.second ≡ Some second → IsRootOf states (suc t) n second (generation_at (states t).heap second)
+    second_stands n second e f = record {
+      root = record { access = Writable; word = Plain second };
+      is_open = ap (λ l. get_or l n None) swapped.roots ∙ second_by n second e f offer.opens refl;
+      is = refl;
+      its = ap (λ h. generation_at h second) swapped.heap;
+    }
+
+    -- and the old one did before
+    pub old_stands : IsRootOf states t handle offer.root (generation_at (states t).heap offer.root)
+    old_stands = record { root = old.root; is_open = old.is_open; is = ap root_of old.word; its = refl }

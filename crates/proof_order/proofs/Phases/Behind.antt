@@ -1,0 +1,166 @@
+-- Just behind the step of each place the operation with its id runs.
+use Rattle.std.proofs.Common.{◌≡◌, ℕ, zero, suc, ◌<◌, ◌≤◌, Bool, true, false, inl, inr, List, [], ◌∷◌, Option, Some, None, refl, sym, ap, ◌∙◌, subst, arith}
+use Rattle.std.proofs.lemmas.Bool.{true≢false, cases_Bool}
+use Rattle.std.proofs.lemmas.Option.{none-some}
+use Rattle.std.specs.Prelude.{Contains}
+use Rattle.proof_order.specs.Beneath.history.specs.declared.calls.Access.{Access}
+use Rattle.proof_order.specs.Beneath.history.specs.declared.calls.Access.TheVariants.{Writable, ReadOnly}
+use Rattle.proof_order.specs.Beneath.history.specs.declared.calls.Call.TheVariants.{Close}
+use Rattle.proof_order.specs.Beneath.places.specs.declared.place.Place.{Place}
+use Rattle.proof_order.specs.Beneath.machine_model.specs.declared.actions.Action.TheVariants as act
+use Rattle.proof_order.specs.Beneath.machine_model.specs.declared.copying.CopyLine.TheVariants as copy
+use Rattle.proof_order.specs.Beneath.machine_model.specs.declared.lines.Line.TheVariants as line
+use Rattle.proof_order.specs.Beneath.machine_model.specs.declared.operations.Operation.{Operation}
+use Rattle.proof_order.specs.Beneath.machine_model.specs.declared.steps.Limits.{Limits}
+use Rattle.proof_order.specs.Beneath.machine_model.specs.declared.steps.Outcome.{Outcome}
+use Rattle.proof_order.specs.Beneath.machine_model.specs.declared.steps.Step.{Step}
+use Rattle.proof_order.specs.Beneath.machine_model.specs.Calls.{handle_of, is_close}
+use Rattle.proof_order.specs.Beneath.machine_model.specs.States.{State, closed_at}
+use Rattle.proof_order.specs.Beneath.machine_model.specs.Operations.{action_of}
+use Rattle.proof_order.specs.Beneath.machine_model.specs.Orders.{place_of, is_placed, closing_for, closed_after}
+use Rattle.proof_order.specs.Beneath.machine_model.specs.Acting.{operation_after, swaps_in}
+use Rattle.proof_order.specs.Beneath.machine_model.specs.Moves.{Moves, begun_operation}
+use Rattle.proof_order.specs.Beneath.machine_model.proofs.Actors.{mark_one, mark_only, marks_in}
+use Rattle.proof_order.specs.Beneath.machine_model.proofs.Times.{along_run, steps_at}
+use Rattle.proof_order.specs.Beneath.machine_model.specs.Times.{turns}
+use Rattle.proof_order.specs.Beneath.machine_model.specs.Times.{IsRun, Turn}
+use Rattle.proof_generations.proofs.Roots.Open.{closed_from}
+use Rattle.proof_generations.proofs.Roots.Along.{ordered_at}
+use Rattle.proof_generations.proofs.Handles.Running.{Follows, rests, steps, ends, follows, place_of_actor}
+use Rattle.proof_order.specs.Facts.{Runs}
+use Rattle.proof_order.proofs.Places.Elements.{Among}
+use Rattle.proof_order.proofs.Views.EachStep.{changes}
+use Rattle.proof_order.proofs.Offers.Honest.{honest, offerer_of}
+use Rattle.proof_order.proofs.Offers.Standing.{offers_at}
+use Rattle.proof_order.proofs.Places.Origins.{nothing_placed, place_says, on_time_says, late_says}
+use Rattle.proof_order.specs.Phases.{PlacesRunBehind}
+use Rattle.proof_order.specs.Times.{Try, has_read}
+use Rattle.proof_order.proofs.Phases.Closers.{begun_runs, closes_placed}
+use Rattle.proof_order.proofs.Phases.Entering.{Enters, commits, at_end, at_close, carried, entering}
+use Rattle.proof_order.proofs.Phases.Placed.{end_line}
+use Rattle.proof_order.proofs.Phases.Since.{run_since}
+use Rattle.proof_generations.proofs.Roots.Rooted.{standing_root}
+
+module _ (limits : Limits) (states : ℕ → State) (last : ℕ) (r : IsRun limits states last) where
+  -- an operation with this id runs just behind the step
+  abbrev RunsBehind : ℕ → ℕ → Type 0
+  RunsBehind n id = (k : ℕ) × (operation : Operation) × Runs (states (suc n)) k operation × (operation.id ≡ id)
+
+  -- ---- on time, and late
+
+  -- the closing of its generation lies behind the step with which an operation got its root
+  closed_behind : (t k : ℕ) (operation : Operation) (generation c : ℕ) → t ≤ last → operation.access ≡ Writable → (its : Try states t k operation generation) →
+      closed_at (states t) generation ≡ Some c → its.at ≤ c
+  closed_behind t k operation generation c le writable its closed =
+      let (root, is, access, gen) = standing_root (states its.at) (handle_of operation.call) operation.access generation its.stood in
+      let within : its.at ≤ last = omega (arith, its.past) in
+      let none = (ordered_at limits states last r its.at within).roots.unclosed (handle_of operation.call) root is (access ∙ writable) in
+      closed_from limits states last r its.at generation (ap (closed_at (states its.at)) (sym gen) ∙ none) t c le (omega (arith, its.past)) closed
+
+  late_behind : (t k : ℕ) (operation : Operation) (c : ℕ) → t ≤ last → Runs (states t) k operation → closing_for (states t) operation operation.access ≡ Some c → c < t → RunsBehind c operation.id
+  late_behind t k operation c le runs e before = by operation.access refl e
+    where
+      with_root : (g : Option ℕ) → operation.generation ≡ g → operation.access ≡ Writable → closed_after (states t) g ≡ Some c → RunsBehind c operation.id
+      with_root None of_it writable closed = absurd (none-some c closed)
+      with_root (Some generation) of_it writable closed =
+          let its = (run_since limits states last r t k operation le runs).tries generation of_it in
+          let behind = closed_behind t k operation generation c le writable its closed in
+          let (was, at_k, same, rooted) = its.runs (suc c) (omega arith) (omega arith) in
+          (k, was, at_k, sym same.id)
+
+      by : (access : Access) → operation.access ≡ access → closing_for (states t) operation access ≡ Some c → RunsBehind c operation.id
+      by Writable is closed = with_root operation.generation refl is closed
+      by ReadOnly is closed = absurd (none-some c closed)
+
+  -- a place of an operation with this moment
+  placed_behind : (t k : ℕ) (operation : Operation) (moment : ℕ) (b : Bool) → t ≤ last → Runs (states t) k operation → moment ≤ t → RunsBehind moment operation.id →
+      RunsBehind (place_of (states t) operation moment b).step operation.id
+  placed_behind t k operation moment b le runs past now = elim (cases_Bool (place_of (states t) operation moment b).on_time) [
+    | inl timely ↦
+        let says = on_time_says (closing_for (states t) operation operation.access) moment operation.id b timely in
+        subst (λ n. RunsBehind n operation.id) (sym says.0) now
+    | inr late ↦
+        let says = late_says (closing_for (states t) operation operation.access) moment operation.id b late in
+        late_behind t k operation (place_of (states t) operation moment b).step le runs says.0 (omega (arith, says.1, past))
+  ]
+
+  -- ---- what a step adds
+
+  module _ (t : ℕ) (lt : t < last) (s : Step) (o : Outcome) (m : Moves (states t) s o (states (suc t))) where
+    within : t ≤ last
+    within = omega (arith, lt)
+
+    -- who isn't at its end runs on
+    runs_on : (k : ℕ) (operation : Operation) → Runs (states t) k operation → ((answer : _) → operation.line ≡ line.End answer → ⊥) → RunsBehind t operation.id
+    runs_on k operation runs going = by (follows (states t) s o (states (suc t)) m k operation runs)
+      where
+        by : Follows (states t) s (states (suc t)) k operation → RunsBehind t operation.id
+        by (rests other after) = (k, mark_one (marks_in (states t) s) operation, after, ap (λ (x : Operation). x.id) (mark_only (marks_in (states t) s) operation))
+        by (steps go goes after) =
+            (k, mark_one (marks_in (states t) s) (operation_after (states t) operation), after, ap (λ (x : Operation). x.id) (mark_only (marks_in (states t) s) (operation_after (states t) operation)))
+        by (ends answer go does) = absurd (going answer (end_line (states t) operation operation.line answer does))
+
+    -- behind the moment of who ends without a place
+    ended_behind : (k : ℕ) (operation : Operation) (answer : _) → Runs (states t) k operation → action_of (states t) operation ≡ act.End answer → is_placed (states t) operation.id ≡ false →
+        (operation.moment ≤ t) × RunsBehind operation.moment operation.id
+    ended_behind k operation answer runs does unplaced =
+        let since = run_since limits states last r t k operation within runs in
+        let at = end_line (states t) operation operation.line answer does in
+        let moment = (since.reads no_close).moment (ap has_read at) in
+        let (was, at_k, same) = since.runs (suc operation.moment) (omega (arith, moment.behind)) moment.past in
+        (omega (arith, moment.past), (k, was, at_k, sym same.id))
+      where
+        no_close : is_close operation.call ≡ false
+        no_close = elim (cases_Bool (is_close operation.call)) [ inr none ↦ none | inl close ↦ absurd (true≢false (sym (closes_placed limits states last r t within k operation runs close) ∙ unplaced)) ]
+
+    behind_by : (q : Place) → Enters (states t) s q → RunsBehind q.step q.id
+    behind_by q (commits it) =
+        let id : q.id ≡ it.owner.id = ap (λ (x : Place). x.id) it.is_it ∙ (place_says (closing_for (states t) it.owner it.owner.access) (states t).steps it.owner.id false).2 in
+        let count = steps_at limits states last r t within in
+        let now = subst (λ n. RunsBehind n it.owner.id) (sym count) (runs_on it.k it.owner it.runs (λ answer at. swaps_no_end it.main it.owner.line answer it.swaps at)) in
+        let behind = placed_behind t it.k it.owner (states t).steps false within it.runs (omega (arith, count)) now in
+        subst (λ (x : Place). RunsBehind x.step q.id) (sym it.is_it) (subst (λ i. RunsBehind (place_of (states t) it.owner (states t).steps false).step i) (sym id) behind)
+      where
+        swaps_no_end : (main : _) (l : _) (answer : _) → swaps_in main l ≡ true → l ≡ line.End answer → ⊥
+        swaps_no_end main l answer e at = true≢false (sym e ∙ ap (swaps_in main) at)
+    behind_by q (at_end actor operation answer go is does unplaced other its) =
+        let (k, actors, runs) = place_of_actor (states t) actor operation is in
+        let (past, now) = ended_behind k operation answer runs does unplaced in
+        let id : q.id ≡ operation.id = ap (λ (x : Place). x.id) its ∙ (place_says (closing_for (states t) operation operation.access) operation.moment operation.id true).2 in
+        let behind = placed_behind t k operation operation.moment true within runs past now in
+        subst (λ (x : Place). RunsBehind x.step q.id) (sym its) (subst (λ i. RunsBehind (place_of (states t) operation operation.moment true).step i) (sym id) behind)
+    behind_by q (at_close actor handle go its) =
+        let (k, runs) = begun_runs (states t) s o (states (suc t)) m (offers_at limits states last r t within).books actor (Close handle) go in
+        let step_is : q.step ≡ t = ap (λ (x : Place). x.step) its ∙ steps_at limits states last r t within in
+        subst (λ n. RunsBehind n q.id) (sym step_is) (k, begun_operation (states t) (Close handle), runs, sym (ap (λ (x : Place). x.id) its))
+    behind_by q (carried handle offer c its) =
+        let st = offerer_of (states t) (offers_at limits states last r t within) s handle offer c in
+        let step_is : q.step ≡ t = ap (λ (x : Place). x.step) its ∙ steps_at limits states last r t within in
+        let (k, found, runs, same) = runs_on st.k st.operation st.runs (λ answer at. let wrong : ⊥ = copies_no_end st.c answer (sym st.at ∙ at) in wrong) in
+        subst (λ n. RunsBehind n q.id) (sym step_is) (k, found, runs, same ∙ st.id ∙ sym (ap (λ (x : Place). x.id) its))
+      where
+        copies_no_end : (c : _) (answer : _) → line.Copy (copy.Complete c) ≡ line.End answer → ⊥
+        copies_no_end c answer e = cc e
+
+    behind_after : ((q : Place) → Among q (states t).places → RunsBehind q.step q.id) → (q : Place) → Among q (states (suc t)).places → RunsBehind q.step q.id
+    behind_after before q a = elim (entering (states t) s (states (suc t)) (changes (states t) s o (states (suc t)) m (honest (states t) (offers_at limits states last r t within))) q a) [
+      | inl old ↦ before q old
+      | inr new ↦ behind_by q new
+    ]
+
+-- ---- along a run
+
+among_contains : {X : Type 0} (xs : List X) (x : X) → Contains xs x → Among x xs
+among_contains [] x (k, lt, e) = absurd (omega (arith, lt))
+among_contains (y ∷ ys) x (zero, lt, e) = inl (sym e)
+among_contains (y ∷ ys) x (suc k, lt, e) = inr (among_contains ys x (k, omega (arith, lt), e))
+
+pub run_behind : (limits : Limits) (states : ℕ → State) (last : ℕ) → IsRun limits states last → PlacesRunBehind states last
+run_behind limits states last r q within =
+    along_run limits states last r (λ t. (q : Place) → Among q (states t).places → RunsBehind limits states last r q.step q.id)
+    (λ q a. let none : Among q [] = subst (Among q) (ap (λ (s : State). s.places) r.first ∙ nothing_placed limits) a in absurd none)
+    (λ t lt turn before. by_turn t lt (states (suc t)) turn refl before) last (omega arith) q (among_contains (states last).places q within)
+  where
+    by_turn : (t : ℕ) → t < last → (after : State) → Turn (states t) after → after ≡ states (suc t) → ((q : Place) → Among q (states t).places → RunsBehind limits states last r q.step q.id) →
+        (q : Place) → Among q (states (suc t)).places → RunsBehind limits states last r q.step q.id
+    by_turn t lt after (turns s o m) e before = behind_after limits states last r t lt s o (subst (λ x. Moves (states t) s o x) e m) before

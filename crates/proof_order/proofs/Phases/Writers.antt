@@ -1,0 +1,62 @@
+-- An operation that is in a SWAP runs on a writable handle, and has the root of its generation.
+use Rattle.std.proofs.Common.{◌≡◌, ℕ, suc, ◌≤◌, true, Option, Some, None, is_some, refl, sym, ap, ◌∙◌, subst, arith}
+use Rattle.std.proofs.lemmas.Bool.{false≢true}
+use Rattle.proof_order.specs.Beneath.history.specs.declared.calls.Access.{Access}
+use Rattle.proof_order.specs.Beneath.history.specs.declared.calls.Access.TheVariants.{Writable, ReadOnly}
+use Rattle.proof_order.specs.Beneath.machine_model.specs.declared.lines.Line.TheVariants as line
+use Rattle.proof_order.specs.Beneath.machine_model.specs.declared.lines.Purpose.{Purpose}
+use Rattle.proof_order.specs.Beneath.machine_model.specs.declared.operations.Operation.{Operation}
+use Rattle.proof_order.specs.Beneath.machine_model.specs.declared.reading.Swap.{Swap}
+use Rattle.proof_order.specs.Beneath.machine_model.specs.declared.steps.Limits.{Limits}
+use Rattle.proof_order.specs.Beneath.machine_model.specs.declared.steps.Step.{Step}
+use Rattle.proof_order.specs.Beneath.machine_model.specs.States.{State}
+use Rattle.proof_order.specs.Beneath.machine_model.specs.Acting.{operation_after}
+use Rattle.proof_order.specs.Beneath.machine_model.proofs.Actors.{mark_only, marks_in}
+use Rattle.proof_order.specs.Beneath.machine_model.proofs.Readers.{IsReaders, first_readers, readers}
+use Rattle.proof_order.specs.Beneath.machine_model.proofs.Times.{along_run}
+use Rattle.proof_order.specs.Beneath.machine_model.specs.Times.{turns}
+use Rattle.proof_order.specs.Beneath.machine_model.specs.Times.{IsRun, Turn}
+use Rattle.proof_order.specs.Beneath.proof_memory.specs.Laws.{is_past_root}
+use Rattle.proof_order.specs.Beneath.proof_memory.proofs.Safety.AtEachTime.{safe_at}
+use Rattle.proof_order.specs.Beneath.proof_memory.proofs.Safety.States.{IsSafe}
+use Rattle.proof_generations.proofs.Handles.Running.{Comes, began, rested, went, comes}
+use Rattle.proof_order.specs.Facts.{Runs}
+use Rattle.proof_order.proofs.Offers.Standing.{nobody}
+
+-- an operation on a read-only handle stands on a reader's line
+abbrev AllReaders : State → Type 0
+AllReaders state = (k : ℕ) (operation : Operation) → Runs state k operation → operation.access ≡ ReadOnly → IsReaders operation.line
+
+readers_by : (state : State) (s : Step) → IsSafe state → AllReaders state → (k : ℕ) (found : Operation) → Comes state s k found → found.access ≡ ReadOnly → IsReaders found.line
+readers_by state s S all k found (began call go d it) e = subst IsReaders (sym (ap (λ (x : Operation). x.line) it)) (first_readers call)
+readers_by state s S all k found (rested was at_k it) e =
+    let same = it ∙ mark_only (marks_in state s) was in
+    subst IsReaders (sym (ap (λ (x : Operation). x.line) same)) (all k was at_k (ap (λ (x : Operation). x.access) (sym same) ∙ e))
+readers_by state s S all k found (went was go at_k g it) e =
+    let same = it ∙ mark_only (marks_in state s) (operation_after state was) in
+    let read_only = ap (λ (x : Operation). x.access) (sym same) ∙ e in
+    subst IsReaders (sym (ap (λ (x : Operation). x.line) same)) (readers state was was.line read_only (S.fits k was at_k read_only) (all k was at_k read_only))
+
+readers_at : (limits : Limits) (states : ℕ → State) (last : ℕ) → IsRun limits states last → (t : ℕ) → t ≤ last → AllReaders (states t)
+readers_at limits states last r =
+    along_run limits states last r (λ t. AllReaders (states t)) (λ k operation runs. absurd (nobody limits k operation (subst (λ q. Runs q k operation) r.first runs)))
+    (λ t lt turn before. by_turn (states t) (states (suc t)) (safe_at limits states last r t (omega arith)) turn before)
+  where
+    by_turn : (before after : State) → IsSafe before → Turn before after → AllReaders before → AllReaders after
+    by_turn before after S (turns s o m) all k found runs = readers_by before s S all k found (comes before s o after m k found runs)
+
+pub swaps_writable : (limits : Limits) (states : ℕ → State) (last : ℕ) → IsRun limits states last → (t k : ℕ) (operation : Operation) (why : Purpose) (s : Swap) → t ≤ last → Runs (states t) k operation →
+    operation.line ≡ line.Swap why s → operation.access ≡ Writable
+swaps_writable limits states last r t k operation why s le runs at = by operation.access refl
+  where
+    by : (access : Access) → operation.access ≡ access → access ≡ Writable
+    by Writable e = refl
+    by ReadOnly e = absurd (subst IsReaders at (readers_at limits states last r t le k operation runs e))
+
+pub swaps_rooted : (limits : Limits) (states : ℕ → State) (last : ℕ) → IsRun limits states last → (t k : ℕ) (operation : Operation) (why : Purpose) (s : Swap) → t ≤ last → Runs (states t) k operation →
+    operation.line ≡ line.Swap why s → (generation : ℕ) × (operation.generation ≡ Some generation)
+swaps_rooted limits states last r t k operation why s le runs at = by operation.generation ((safe_at limits states last r t le).known k operation runs (ap is_past_root at))
+  where
+    by : (g : Option ℕ) → is_some g ≡ true → (generation : ℕ) × (g ≡ Some generation)
+    by None e = absurd (false≢true e)
+    by (Some generation) e = (generation, refl)

@@ -1,0 +1,7 @@
+pub mod Elements
+pub mod Sorting
+pub mod Origins
+pub mod Members
+pub mod Late
+pub mod OnTime
+pub mod Blocks

@@ -1,0 +1,81 @@
+-- What holds of every list of steps, without facts about contents.
+use Rattle.std.proofs.Common.{◌≡◌, ◌≢◌, ℕ, zero, suc, ◌+◌, ◌<◌, Bool, true, false, cond, List, [], ◌∷◌, ◌++◌, length, get_or, Some, refl, sym, ap, ◌∙◌, subst, arith}
+use Rattle.std.specs.List.Sorted.{IsPermutation, IsSortedBy}
+use Rattle.std.proofs.lemmas.List.Sorted.{IsPermutation-refl, IsPermutation-trans, IsPermutation-cons, IsPermutation-swap}
+use Rattle.proof_order.specs.Beneath.history.specs.declared.replies.Reply.{Reply}
+use Rattle.proof_order.specs.Beneath.history.specs.declared.replies.Reply.TheVariants.{NoSlots}
+use Rattle.proof_order.specs.Beneath.history.specs.Histories.{HasEnded}
+use Rattle.proof_order.specs.Beneath.history.specs.Orders.{OrderedAt}
+use Rattle.proof_order.specs.Beneath.places.specs.declared.place.Place.{Place}
+use Rattle.proof_order.specs.Beneath.places.specs.Places.{is_before, placed, rising, ids_by_place}
+use Rattle.proof_order.specs.Beneath.machine_model.specs.declared.steps.Limits.{Limits}
+use Rattle.proof_order.specs.Beneath.machine_model.specs.declared.steps.Step.{Step}
+use Rattle.proof_order.specs.Beneath.machine_model.specs.States.{State, first_state}
+use Rattle.proof_order.specs.Beneath.machine_model.specs.Orders.{order_of}
+use Rattle.proof_order.specs.Beneath.machine_model.specs.Machine.{next_state, run_from, run}
+use Rattle.proof_order.specs.Beneath.machine_model.proofs.Along.{along, run-append, kept_by_moves}
+use Rattle.proof_order.proofs.Places.Elements.{among_map, get_among}
+use Rattle.proof_order.proofs.Places.Sorting.{Rises, rising_rises, rising_among}
+use Rattle.proof_order.proofs.History.Books.{Books}
+use Rattle.proof_order.proofs.History.AllBooks.{books_kept, first_books}
+use Rattle.proof_order.proofs.History.Growing.{Answered, answered_kept, first_answered, Grows, grows_same, grows_trans, places_grow}
+
+-- ---- after each list of steps
+
+pub books_of : (limits : Limits) (steps : List Step) → Books (run limits steps)
+books_of limits = along limits Books (first_books limits) (λ steps s o after m books. books_kept (run limits steps) s o after m books)
+
+answered_of : (limits : Limits) (steps : List Step) → Answered (run limits steps)
+answered_of limits = along limits Answered (first_answered limits) (λ steps s o after m h. answered_kept (run limits steps) s o after m h)
+
+-- each answered operation stands in the order
+pub ordered : (limits : Limits) (steps : List Step) (id : ℕ) (answer : Reply) → HasEnded (run limits steps).events id answer → answer ≢ NoSlots →
+    (i : ℕ) × OrderedAt (order_of (run limits steps)) i id
+unfolding ids_by_place
+ordered limits steps id answer ended other =
+    let (p, within, same) = answered_of limits steps id answer ended other in
+    let places = (run limits steps).places in
+    let (i, at) = get_among (order_of (run limits steps)) p.id (among_map (λ (q : Place). q.id) (rising places) p (rising_among places p within)) in
+    (i, at ∙ ap Some same)
+
+-- the places grow along more steps
+stay_from : (first state : State) (more : List Step) → Grows first.places state.places → Grows first.places (run_from state more).places
+unfolding run_from
+stay_from first state [] g = g
+stay_from first state (s ∷ more) g =
+    stay_from first (next_state state s) more
+    (kept_by_moves (λ q. Grows first.places q.places) state s g (λ o after m. grows_trans first.places state.places after.places g (places_grow state s o after m)))
+
+pub stay : (limits : Limits) (steps more : List Step) → Grows (run limits steps).places (run limits (steps ++ more)).places
+stay limits steps more =
+    subst (λ (q : State). Grows (run limits steps).places q.places) (sym (run-append (first_state limits) steps more))
+    (stay_from (run limits steps) (run limits steps) more (grows_same (run limits steps).places (run limits steps).places refl))
+
+-- ---- sorting
+
+placed_moves_by : (p q : Place) (qs : List Place) (b : Bool) → IsPermutation (p ∷ qs) (placed p qs) → IsPermutation (p ∷ q ∷ qs) (cond b (p ∷ q ∷ qs) (q ∷ placed p qs))
+placed_moves_by p q qs true rest = IsPermutation-refl (p ∷ q ∷ qs)
+placed_moves_by p q qs false rest =
+    IsPermutation-trans (p ∷ q ∷ qs) (q ∷ p ∷ qs) (q ∷ placed p qs)
+    (IsPermutation-swap (p ∷ q ∷ qs) (q ∷ p ∷ qs) 0 1 (omega arith) (omega arith) refl)
+    (IsPermutation-cons q (p ∷ qs) (placed p qs) rest)
+
+placed_moves : (p : Place) (qs : List Place) → IsPermutation (p ∷ qs) (placed p qs)
+placed_moves p [] = IsPermutation-refl (p ∷ [])
+placed_moves p (q ∷ qs) = placed_moves_by p q qs (is_before p q) (placed_moves p qs)
+
+pub rising_moves : (places : List Place) → IsPermutation places (rising places)
+rising_moves [] = IsPermutation-refl []
+rising_moves (p ∷ ps) = IsPermutation-trans (p ∷ ps) (p ∷ rising ps) (placed p (rising ps)) (IsPermutation-cons p ps (rising ps) (rising_moves ps)) (placed_moves p (rising ps))
+
+sorted_by : (ps : List Place) → Rises ps → (k : ℕ) (d : Place) → k + 1 < length ps → is_before (get_or ps (k + 1) d) (get_or ps k d) ≡ false
+sorted_by ps h k d lt = subst (λ n. is_before (get_or ps n d) (get_or ps k d) ≡ false) (omega arith) (next ps h k (omega (arith, lt)))
+  where
+    next : (ps : List Place) → Rises ps → (k : ℕ) → suc k < length ps → is_before (get_or ps (suc k) d) (get_or ps k d) ≡ false
+    next [] h k lt = absurd (omega (arith, lt))
+    next (p ∷ []) h k lt = absurd (omega (arith, lt))
+    next (p ∷ q ∷ ps) h zero lt = h.0.0
+    next (p ∷ q ∷ ps) h (suc k) lt = next (q ∷ ps) h.1 k (omega (arith, lt))
+
+pub rising_sorted : (places : List Place) → IsSortedBy is_before (rising places)
+rising_sorted places k d low lt = sorted_by (rising places) (rising_rises places) k d lt

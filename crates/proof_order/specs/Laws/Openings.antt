@@ -1,0 +1,73 @@
+-- Laws of root swaps, for every list of steps.
+use Rattle.std.specs.Prelude.{◌≡◌, ℕ, suc, ◌<◌, ◌≤◌, ◌⊎◌, List, Some, None, slice_get}
+use Rattle.proof_order.specs.Beneath.history.specs.declared.calls.Access.TheVariants.{Writable}
+use Rattle.proof_order.specs.Beneath.history.specs.declared.calls.Call.{Call}
+use Rattle.proof_order.specs.Beneath.history.specs.declared.calls.Call.TheVariants.{Clear, Snapshot, Freeze}
+use Rattle.proof_order.specs.Beneath.slot_arena.specs.declared.refs.Ref.{Ref}
+use Rattle.proof_order.specs.Beneath.slot_arena.specs.Heaps.{node_at, logical_main, empty_branch}
+use Rattle.proof_order.specs.Beneath.machine_model.specs.declared.heaps.Closing.{Closing}
+use Rattle.proof_order.specs.Beneath.machine_model.specs.declared.operations.Operation.{Operation}
+use Rattle.proof_order.specs.Beneath.machine_model.specs.declared.roots.Descriptor.{Descriptor}
+use Rattle.proof_order.specs.Beneath.machine_model.specs.declared.roots.Root.{Root}
+use Rattle.proof_order.specs.Beneath.machine_model.specs.declared.steps.Limits.{Limits}
+use Rattle.proof_order.specs.Beneath.machine_model.specs.declared.steps.Step.{Step}
+use Rattle.proof_order.specs.Beneath.machine_model.specs.States.{State, root_at, root_of, closed_at, operation_of}
+use Rattle.proof_order.specs.Beneath.machine_model.specs.Machine.{AreLimits, run}
+use Rattle.proof_order.specs.Beneath.proof_memory.specs.Laws.{IsInUse}
+use Rattle.proof_order.specs.Beneath.proof_commits.specs.Runs.{steps_taken, state_before}
+use Rattle.proof_generations.specs.Laws.Roots.{root_generation}
+use Rattle.proof_order.specs.Openings.{IsSwap}
+
+-- ---- of the states of a run, each before the step of its number
+
+-- roots of one generation are one, whatever handles had them, and when
+abbrev pub OneRootIn : (ℕ → State) → ℕ → Type 0
+OneRootIn states last =
+    (n k : ℕ) → n ≤ last → k ≤ last → (handle other : ℕ) (a b : Root) → root_at (states n) handle ≡ Some a → root_at (states k) other ≡ Some b →
+    root_generation (states n) a ≡ root_generation (states k) b → root_of a.word ≡ root_of b.word
+
+-- the root of a writable handle is the one that its number had before, or of a greater generation
+abbrev pub HandlesRiseIn : (ℕ → State) → ℕ → Type 0
+HandlesRiseIn states last =
+    (n k : ℕ) → n ≤ k → k ≤ last → (handle : ℕ) (before after : Root) → root_at (states n) handle ≡ Some before → root_at (states k) handle ≡ Some after → after.access ≡ Writable →
+    (root_of after.word ≡ root_of before.word) ⊎ (root_generation (states n) before < root_generation (states k) after)
+
+-- after the generation of a handle's root was closed no main node of that root is replaced
+abbrev pub ClosedRootsStayIn : (ℕ → State) → ℕ → Type 0
+ClosedRootsStayIn states last =
+    (m n k closed handle : ℕ) (root : Root) → m ≤ last → root_at (states m) handle ≡ Some root → closed_at (states last) (root_generation (states m) root) ≡ Some closed →
+    closed ≤ n → n ≤ k → k ≤ last → IsInUse (states n).heap (root_of root.word) → IsInUse (states k).heap (root_of root.word) →
+    logical_main (states k).heap (root_of root.word) ≡ logical_main (states n).heap (root_of root.word)
+
+-- each closing is of another generation
+abbrev pub ClosingsDifferIn : State → Type 0
+ClosingsDifferIn state = (m n : ℕ) (a b : Closing) → slice_get state.closings m ≡ Some a → slice_get state.closings n ≡ Some b → a.generation ≡ b.generation → m ≡ n
+
+-- What a root swap leads to: a clear to a root over an empty branch, a snapshot and a freeze to roots over the very node that is the old root's.
+pub data RootsFollow (before after : State) (offer : Descriptor) : Call → Type 0 where
+  clears : (handle : ℕ) → node_at after.heap (logical_main after.heap offer.successor) ≡ empty_branch → RootsFollow before after offer (Clear handle)
+  snapshots : (handle : ℕ) (second : Ref) → offer.second ≡ Some second → logical_main after.heap offer.successor ≡ logical_main before.heap offer.root →
+      logical_main after.heap second ≡ logical_main before.heap offer.root → RootsFollow before after offer (Snapshot handle)
+  freezes : (handle : ℕ) → offer.second ≡ None → logical_main after.heap offer.successor ≡ logical_main before.heap offer.root → RootsFollow before after offer (Freeze handle)
+
+abbrev pub NewRootsFollowIn : (ℕ → State) → ℕ → Type 0
+NewRootsFollowIn states last =
+    (t handle : ℕ) (offer : Descriptor) → IsSwap states last t handle offer → (actor : ℕ) (offerer : Operation) → operation_of (states t) actor ≡ Some offerer →
+    offerer.id ≡ offer.operation → RootsFollow (states t) (states (suc t)) offer offerer.call
+
+-- ---- for every list of steps
+
+abbrev pub OneRoot : Type 0
+OneRoot = (limits : Limits) (steps : List Step) → AreLimits limits → OneRootIn (state_before limits steps) (steps_taken limits steps)
+
+abbrev pub HandlesRise : Type 0
+HandlesRise = (limits : Limits) (steps : List Step) → AreLimits limits → HandlesRiseIn (state_before limits steps) (steps_taken limits steps)
+
+abbrev pub ClosedRootsStay : Type 0
+ClosedRootsStay = (limits : Limits) (steps : List Step) → AreLimits limits → ClosedRootsStayIn (state_before limits steps) (steps_taken limits steps)
+
+abbrev pub ClosingsDiffer : Type 0
+ClosingsDiffer = (limits : Limits) (steps : List Step) → AreLimits limits → ClosingsDifferIn (run limits steps)
+
+abbrev pub NewRootsFollow : Type 0
+NewRootsFollow = (limits : Limits) (steps : List Step) → AreLimits limits → NewRootsFollowIn (state_before limits steps) (steps_taken limits steps)

@@ -1,0 +1,68 @@
+-- Laws of the order that a machine hands out.
+use Rattle.std.specs.Prelude.{◌≡◌, ◌≢◌, ℕ, List, ◌++◌, Option, Some, None}
+use Rattle.std.specs.List.Sorted.{IsPermutation, IsSortedBy}
+use Rattle.std.specs.FinMap as map
+use Rattle.proof_order.specs.Beneath.ctrie_base.specs.Hashes.{hash_of}
+use Rattle.proof_order.specs.Beneath.history.specs.declared.replies.Reply.{Reply}
+use Rattle.proof_order.specs.Beneath.history.specs.declared.replies.Reply.TheVariants.{NoSlots}
+use Rattle.proof_order.specs.Beneath.history.specs.Worlds.{KeyMap, HandleState, HandleMap}
+use Rattle.proof_order.specs.Beneath.history.specs.Histories.{HasBegun, HasEnded, IsWellFormed}
+use Rattle.proof_order.specs.Beneath.history.specs.Orders.{OrderedAt, Explains}
+use Rattle.proof_order.specs.Beneath.places.specs.declared.place.Place.{Place}
+use Rattle.proof_order.specs.Beneath.places.specs.Places.{is_before, rising}
+use Rattle.proof_order.specs.Beneath.machine_model.specs.declared.roots.Root.{Root}
+use Rattle.proof_order.specs.Beneath.machine_model.specs.declared.steps.Limits.{Limits}
+use Rattle.proof_order.specs.Beneath.machine_model.specs.declared.steps.Step.{Step}
+use Rattle.proof_order.specs.Beneath.machine_model.specs.States.{State, root_at}
+use Rattle.proof_order.specs.Beneath.machine_model.specs.Orders.{order_of}
+use Rattle.proof_order.specs.Beneath.machine_model.specs.Contents.{content_at}
+use Rattle.proof_order.specs.Beneath.machine_model.specs.Machine.{AreLimits, run}
+use Rattle.proof_order.specs.Beneath.machine_model.specs.Times.{states_of, last_of}
+use Rattle.proof_order.specs.Facts.{Facts}
+
+-- ---- the legal order
+
+-- the handle names a map of this kind with these entries, or nothing where it isn't open
+abbrev pub Names : Option Root → List (ℕ × ℕ) → Option HandleState → Type 0
+Names None pairs shown = shown ≡ None
+Names (Some root) pairs shown = (m : KeyMap) × (shown ≡ Some (record { access = root.access; pairs = m })) × (map.entries m ≡ pairs)
+
+-- the world has just the open handles of the state, of the same kinds, each with its content
+abbrev pub ShowsContents : HandleMap → State → Type 0
+ShowsContents world state = (handle : ℕ) → Names (root_at state handle) (content_at state handle) (map.get world handle)
+
+-- the state's order explains its history, and leads to a world that shows its contents
+abbrev pub IsExplained : Limits → State → Type 0
+IsExplained limits state = (world : HandleMap) × Explains (hash_of limits.hash) state.events (order_of state) world × ShowsContents world state
+
+-- From the facts about contents it follows that the order is legal.
+abbrev pub LegalByFacts : Type 0
+LegalByFacts =
+    (limits : Limits) (steps : List Step) (V : ℕ → ℕ → KeyMap) → AreLimits limits → Facts limits (states_of limits steps) (last_of limits steps) V →
+    IsExplained limits (run limits steps)
+
+-- ---- laws without facts
+
+-- The recorded history is well formed.
+abbrev pub HistoriesWellFormed : Type 0
+HistoriesWellFormed = (limits : Limits) (steps : List Step) → IsWellFormed (run limits steps).events
+
+-- Each operation that was answered stands in the order.
+abbrev pub AnsweredAreOrdered : Type 0
+AnsweredAreOrdered =
+    (limits : Limits) (steps : List Step) (id : ℕ) (answer : Reply) → HasEnded (run limits steps).events id answer → answer ≢ NoSlots →
+    (i : ℕ) × OrderedAt (order_of (run limits steps)) i id
+
+-- Each operation in the order has begun.
+abbrev pub OrderedHaveBegun : Type 0
+OrderedHaveBegun = (limits : Limits) (steps : List Step) (i id : ℕ) → OrderedAt (order_of (run limits steps)) i id → HasBegun (run limits steps).events id
+
+-- Places once told stay: later steps add places, and change none.
+abbrev pub PlacesStay : Type 0
+PlacesStay =
+    (limits : Limits) (steps more : List Step) →
+    (new : List Place) × ((run limits (steps ++ more)).places ≡ (run limits steps).places ++ new)
+
+-- The rising places are the places, each as often as before, sorted.
+abbrev pub RisingSorts : Type 0
+RisingSorts = (places : List Place) → IsPermutation places (rising places) × IsSortedBy is_before (rising places)

@@ -1,0 +1,7 @@
+pub mod Beneath
+pub mod Facts
+pub mod Laws
+pub mod Openings
+pub mod Phases
+pub mod Times
+pub mod Running

@@ -1,0 +1,126 @@
+-- When an operation has its place in the order, along a run. State t is the state before step t.
+use Rattle.std.specs.Prelude.{◌≡◌, ◌≢◌, ℕ, suc, ◌≤◌, ◌<◌, true, false, List, ◌∷◌, Contains, Option, Some, []}
+use Rattle.proof_order.specs.Beneath.history.specs.declared.calls.Access.TheVariants.{Writable}
+use Rattle.proof_order.specs.Beneath.history.specs.declared.calls.Call.{Call}
+use Rattle.proof_order.specs.Beneath.history.specs.declared.replies.Reply.{Reply}
+use Rattle.proof_order.specs.Beneath.history.specs.declared.replies.Reply.TheVariants as reply
+use Rattle.proof_order.specs.Beneath.slot_arena.specs.declared.refs.Ref.{Ref}
+use Rattle.proof_order.specs.Beneath.slot_arena.specs.declared.nodes.Prev.TheVariants as prev
+use Rattle.proof_order.specs.Beneath.places.specs.declared.place.Place.{Place}
+use Rattle.proof_order.specs.Beneath.machine_model.specs.declared.actions.Action.TheVariants as act
+use Rattle.proof_order.specs.Beneath.machine_model.specs.declared.copying.CopyLine.TheVariants as copy
+use Rattle.proof_order.specs.Beneath.machine_model.specs.declared.lines.Line.{Line}
+use Rattle.proof_order.specs.Beneath.machine_model.specs.declared.lines.Line.TheVariants as line
+use Rattle.proof_order.specs.Beneath.machine_model.specs.declared.lines.Purpose.{Purpose}
+use Rattle.proof_order.specs.Beneath.machine_model.specs.declared.lines.Purpose.TheVariants as purpose
+use Rattle.proof_order.specs.Beneath.machine_model.specs.declared.operations.Operation.{Operation}
+use Rattle.proof_order.specs.Beneath.machine_model.specs.declared.reading.Swap.{Swap}
+use Rattle.proof_order.specs.Beneath.machine_model.specs.declared.reading.SwapLine.{SwapLine}
+use Rattle.proof_order.specs.Beneath.machine_model.specs.declared.reading.SwapLine.TheVariants as swap
+use Rattle.proof_order.specs.Beneath.machine_model.specs.declared.repairs.ClimbLine.{ClimbLine}
+use Rattle.proof_order.specs.Beneath.machine_model.specs.declared.repairs.ClimbLine.TheVariants as climb
+use Rattle.proof_order.specs.Beneath.machine_model.specs.declared.roots.Complete.{Complete}
+use Rattle.proof_order.specs.Beneath.machine_model.specs.declared.roots.Descriptor.{Descriptor}
+use Rattle.proof_order.specs.Beneath.machine_model.specs.declared.steps.Outcome.{Outcome}
+use Rattle.proof_order.specs.Beneath.machine_model.specs.declared.steps.Step.{Step}
+use Rattle.proof_order.specs.Beneath.machine_model.specs.Calls.{handle_of, changed_reply}
+use Rattle.proof_order.specs.Beneath.machine_model.specs.States.{State, operation_of}
+use Rattle.proof_order.specs.Beneath.machine_model.specs.Operations.{action_of}
+use Rattle.proof_order.specs.Beneath.machine_model.specs.Orders.{place_of, is_placed}
+use Rattle.proof_order.specs.Beneath.machine_model.specs.Moves.{Moves}
+use Rattle.proof_order.specs.Beneath.machine_model.specs.Grown.{prev_word}
+use Rattle.proof_order.specs.Facts.{IsRooted, IsReply, Runs, committed_by_step, entered_by_step, CarriesOut}
+
+-- ---- phases
+
+-- the SWAP is past its first line
+abbrev pub IsPublished : SwapLine → Type 0
+IsPublished swap.Publish = ⊥
+IsPublished l = Unit {0}
+
+abbrev pub former_of : ClimbLine → Option ℕ
+former_of (climb.Read c r) = c.former
+former_of (climb.Main c main) = c.former
+former_of (climb.Contracted c main) = c.former
+former_of (climb.Root c l) = c.former
+
+abbrev pub IsPastSwap : (ℕ → State) → ℕ → Option ℕ → Purpose → Swap → Type 0
+IsPastSwap states t former (purpose.Update path was) s = (was ≡ former) × IsPublished s.line × (prev_word states t s.fresh ≡ prev.None)
+IsPastSwap states t former (purpose.Climb c) s = c.former ≡ former
+IsPastSwap states t former why s = ⊥
+
+-- The line lies past the commit of the call's own change of its key, whose value before was this: in the SWAP of its node, which is committed, in CLIMB, or where
+-- it is about to answer that it made the change. The laws of memory say that no machine comes to the impossible line.
+abbrev pub IsPastAt : (ℕ → State) → ℕ → Call → Option ℕ → Line → Type 0
+IsPastAt states t call former (line.Swap why s) = IsPastSwap states t former why s
+IsPastAt states t call former (line.Climb l) = former_of l ≡ former
+IsPastAt states t call former (line.End answer) = answer ≡ changed_reply call former
+IsPastAt states t call former line.Impossible = Unit {0}
+IsPastAt states t call former l = ⊥
+
+abbrev pub IsPast : (ℕ → State) → ℕ → Operation → Option ℕ → Type 0
+IsPast states t operation former = IsPastAt states t operation.call former operation.line
+
+-- Where an operation stands that has its place.
+pub data Phase (states : ℕ → State) (t : ℕ) (operation : Operation) : Type 0 where
+  -- past its own commit
+  past : (former : Option ℕ) → IsPast states t operation former → Phase states t operation
+  -- its offer was carried out, and it completes it still
+  completes : (c : Complete) → operation.is_marked ≡ true → operation.line ≡ line.Copy (copy.Complete c) → Phase states t operation
+  -- a close, or its offer was carried out: it is about to answer so
+  answers : (answer : Reply) → operation.line ≡ line.End answer → answer ≢ reply.NoSlots → Phase states t operation
+
+-- a running operation that has a place is in such a phase
+abbrev pub PlacedPhase : (ℕ → State) → ℕ → Type 0
+PlacedPhase states last =
+    (t k : ℕ) (operation : Operation) → t ≤ last → Runs (states t) k operation → is_placed (states t) operation.id ≡ true → Phase states t operation
+
+abbrev pub PastAnswers : (ℕ → State) → ℕ → Type 0
+PastAnswers states last =
+    (t k : ℕ) (operation : Operation) (former : Option ℕ) → t ≤ last → Runs (states t) k operation → IsPast states t operation former →
+    IsReply (states last).events operation.id (changed_reply operation.call former)
+
+-- ---- own updates
+
+-- The step commits the node of an own update: the operation whose it is runs in its SWAP, on a writable handle. It enters the order alone, hadn't entered before,
+-- and answers that it made the change.
+pub record OwnUpdate (states : ℕ → State) (last t : ℕ) (s : Step) : Type 0 where
+  pub k : ℕ
+  pub owner : Operation
+  pub runs : Runs (states t) k owner
+  pub path : List Ref
+  pub former : Option ℕ
+  pub its : Swap
+  pub at : owner.line ≡ line.Swap (purpose.Update path former) its
+  pub published : IsPublished its.line
+  pub commits : committed_by_step (states t) s ≡ Some its.fresh
+  pub enters : entered_by_step (states t) s ≡ place_of (states t) owner t false ∷ []
+  pub unplaced : is_placed (states t) owner.id ≡ false
+  pub writable : owner.access ≡ Writable
+  pub generation : ℕ
+  pub of_generation : owner.generation ≡ Some generation
+  pub rooted : IsRooted states t (handle_of owner.call) generation
+  pub agrees : IsReply (states last).events owner.id (changed_reply owner.call former)
+
+abbrev pub OwnUpdatesEnter : (ℕ → State) → ℕ → Type 0
+OwnUpdatesEnter states last =
+    (t : ℕ) (s : Step) (o : Outcome) → t < last → Moves (states t) s o (states (suc t)) → entered_by_step (states t) s ≢ [] → OwnUpdate states last t s
+
+-- ---- facts of the order
+
+-- the operation whose offer is carried out has no place yet
+abbrev pub OffersAreUnplaced : (ℕ → State) → ℕ → Type 0
+OffersAreUnplaced states last =
+    (t : ℕ) (s : Step) (o : Outcome) → t < last → Moves (states t) s o (states (suc t)) → (handle : ℕ) (offer : Descriptor) → CarriesOut (states t) s handle offer →
+    is_placed (states t) offer.operation ≡ false
+
+-- an operation that is refused for want of slots has no place
+abbrev pub RefusedAreUnplaced : (ℕ → State) → ℕ → Type 0
+RefusedAreUnplaced states last =
+    (t actor : ℕ) (operation : Operation) → t < last → operation_of (states t) actor ≡ Some operation → action_of (states t) operation ≡ act.End reply.NoSlots →
+    is_placed (states t) operation.id ≡ false
+
+-- just behind the step of each place, the operation with its id runs
+abbrev pub PlacesRunBehind : (ℕ → State) → ℕ → Type 0
+PlacesRunBehind states last =
+    (place : Place) → Contains (states last).places place → (k : ℕ) × (operation : Operation) × Runs (states (suc place.step)) k operation × (operation.id ≡ place.id)

@@ -1,0 +1,4 @@
+//! The laws of the order.
+
+pub mod openings;
+pub mod orders;

@@ -1,0 +1,7 @@
+pub mod Was
+pub mod MainsStay
+pub mod Deciders
+pub mod Owners
+pub mod Entered
+pub mod At
+pub mod Standing

@@ -1,0 +1,111 @@
+-- A step that commits a node decides it, and somebody is in a SWAP of it.
+use Rattle.std.proofs.Common.{◌≡◌, ℕ, Bool, true, false, Option, Some, None, refl, ◌∙◌, ap, subst, arith}
+use Rattle.std.proofs.lemmas.Option.{none-some, same_Some}
+use Rattle.proof_shape.specs.Beneath.slot_arena.specs.declared.refs.Ref.{Ref}
+use Rattle.proof_shape.specs.Beneath.slot_arena.specs.declared.nodes.Prev.TheVariants as over
+use Rattle.proof_shape.specs.Beneath.slot_arena.specs.Heaps.{Heap, prev_at}
+use Rattle.proof_shape.specs.Beneath.machine_model.specs.declared.actions.Action.TheVariants as act
+use Rattle.proof_shape.specs.Beneath.machine_model.specs.declared.copying.CopyLine.{CopyLine}
+use Rattle.proof_shape.specs.Beneath.machine_model.specs.declared.finding.KeyLine.{KeyLine}
+use Rattle.proof_shape.specs.Beneath.machine_model.specs.declared.lines.Line.{Line}
+use Rattle.proof_shape.specs.Beneath.machine_model.specs.declared.lines.Line.TheVariants as line
+use Rattle.proof_shape.specs.Beneath.machine_model.specs.declared.lines.Purpose.{Purpose}
+use Rattle.proof_shape.specs.Beneath.machine_model.specs.declared.operations.Operation.{Operation}
+use Rattle.proof_shape.specs.Beneath.machine_model.specs.declared.reading.Read.{Read}
+use Rattle.proof_shape.specs.Beneath.machine_model.specs.declared.reading.ReadLine.{ReadLine}
+use Rattle.proof_shape.specs.Beneath.machine_model.specs.declared.reading.ReadLine.TheVariants as read
+use Rattle.proof_shape.specs.Beneath.machine_model.specs.declared.reading.Swap.{Swap}
+use Rattle.proof_shape.specs.Beneath.machine_model.specs.declared.repairs.CleanLine.{CleanLine}
+use Rattle.proof_shape.specs.Beneath.machine_model.specs.declared.repairs.ClimbLine.{ClimbLine}
+use Rattle.proof_shape.specs.Beneath.machine_model.specs.declared.repairs.RenewLine.{RenewLine}
+use Rattle.proof_shape.specs.Beneath.machine_model.specs.declared.roots.RootLine.{RootLine}
+use Rattle.proof_shape.specs.Beneath.machine_model.specs.declared.walking.WalkLine.{WalkLine}
+use Rattle.proof_shape.specs.Beneath.machine_model.specs.States.{State}
+use Rattle.proof_shape.specs.Beneath.machine_model.specs.Reading.{Verdict, Commits, Fails, Overtaken, verdict, verdict_by, is_licensed, is_pending, read_action, committed_by, committed_so}
+use Rattle.proof_shape.specs.Beneath.machine_model.specs.Operations.{read_of, line_action, action_of}
+use Rattle.proof_shape.specs.Beneath.machine_model.specs.Orders.{committed_in, committed_now}
+use Rattle.proof_shape.specs.Beneath.proof_commits.proofs.Lines.Read.{pending_so}
+
+-- ---- who is in a READ takes its step
+
+root_read_acts : (state : State) (operation : Operation) (l : RootLine) (r : Read) → read_of (line.Root l) ≡ Some r → line_action state operation (line.Root l) ≡ read_action r.indirection r.line
+root_read_acts state operation l r e = grind arith
+
+key_read_acts : (state : State) (operation : Operation) (l : KeyLine) (r : Read) → read_of (line.Key l) ≡ Some r → line_action state operation (line.Key l) ≡ read_action r.indirection r.line
+key_read_acts state operation l r e = grind arith
+
+swap_read_acts : (state : State) (operation : Operation) (why : Purpose) (s : Swap) (r : Read) → read_of (line.Swap why s) ≡ Some r → line_action state operation (line.Swap why s) ≡ read_action r.indirection r.line
+swap_read_acts state operation why s r e = grind arith
+
+renew_read_acts : (state : State) (operation : Operation) (l : RenewLine) (r : Read) → read_of (line.Renew l) ≡ Some r → line_action state operation (line.Renew l) ≡ read_action r.indirection r.line
+renew_read_acts state operation l r e = grind arith
+
+clean_read_acts : (state : State) (operation : Operation) (l : CleanLine) (r : Read) → read_of (line.Clean l) ≡ Some r → line_action state operation (line.Clean l) ≡ read_action r.indirection r.line
+clean_read_acts state operation l r e = grind arith
+
+climb_read_acts : (state : State) (operation : Operation) (l : ClimbLine) (r : Read) → read_of (line.Climb l) ≡ Some r → line_action state operation (line.Climb l) ≡ read_action r.indirection r.line
+climb_read_acts state operation l r e = grind arith
+
+copy_read_acts : (state : State) (operation : Operation) (l : CopyLine) (r : Read) → read_of (line.Copy l) ≡ Some r → line_action state operation (line.Copy l) ≡ read_action r.indirection r.line
+copy_read_acts state operation l r e = grind arith
+
+walk_read_acts : (state : State) (operation : Operation) (l : WalkLine) (r : Read) → read_of (line.Walk l) ≡ Some r → line_action state operation (line.Walk l) ≡ read_action r.indirection r.line
+walk_read_acts state operation l r e = grind arith
+
+pub read_acts : (state : State) (operation : Operation) (l : Line) (r : Read) → read_of l ≡ Some r → line_action state operation l ≡ read_action r.indirection r.line
+read_acts state operation (line.Root l) r e = root_read_acts state operation l r e
+read_acts state operation (line.Key l) r e = key_read_acts state operation l r e
+read_acts state operation (line.Swap why s) r e = swap_read_acts state operation why s r e
+read_acts state operation (line.Renew l) r e = renew_read_acts state operation l r e
+read_acts state operation (line.Clean l) r e = clean_read_acts state operation l r e
+read_acts state operation (line.Climb l) r e = climb_read_acts state operation l r e
+read_acts state operation (line.Copy l) r e = copy_read_acts state operation l r e
+read_acts state operation (line.Walk l) r e = walk_read_acts state operation l r e
+read_acts state operation (line.Build l) r e = absurd (none-some r e)
+read_acts state operation (line.End answer) r e = absurd (none-some r e)
+read_acts state operation line.Impossible r e = absurd (none-some r e)
+
+-- ---- who commits decides with a licence
+
+pub record DecidesNode (state : State) (operation : Operation) (x : Ref) : Type 0 where
+  pub indirection : Ref
+  pub previous : Ref
+  pub told : Option ℕ
+  pub action : action_of state operation ≡ act.Decide indirection x previous told
+  pub commits : verdict state.heap indirection x previous told ≡ Commits
+
+so_by : (m x : Ref) (v : Verdict) → committed_so m v ≡ Some x → (m ≡ x) × (v ≡ Commits)
+so_by m x Commits e = (same_Some m x e, refl)
+so_by m x Fails e = absurd (none-some x e)
+so_by m x (Overtaken licensed) e = absurd (none-some x e)
+
+by_line : (state : State) (operation : Operation) (i : Ref) (l : ReadLine) (x : Ref) → action_of state operation ≡ read_action i l → committed_by state.heap i l ≡ Some x → DecidesNode state operation x
+by_line state operation i (read.Decide m previous told) x a e =
+    let both = so_by m x (verdict state.heap i m previous told) e in
+    record {
+      indirection = i;
+      previous = previous;
+      told = told;
+      action = a ∙ ap (λ q. act.Decide i q previous told) both.0;
+      commits = subst (λ q. verdict state.heap i q previous told ≡ Commits) both.0 both.1;
+    }
+by_line state operation i read.Main x a e = absurd (none-some x e)
+by_line state operation i (read.Prev m) x a e = absurd (none-some x e)
+by_line state operation i (read.AskRoot m previous) x a e = absurd (none-some x e)
+by_line state operation i (read.Abort m previous offer) x a e = absurd (none-some x e)
+by_line state operation i (read.Restore m previous) x a e = absurd (none-some x e)
+
+pub decides_node : (state : State) (operation : Operation) (x : Ref) → committed_now state operation ≡ Some x → DecidesNode state operation x
+decides_node state operation x e = by_read (read_of operation.line) refl e
+  where
+    by_read : (o : Option Read) → read_of operation.line ≡ o → committed_in state o ≡ Some x → DecidesNode state operation x
+    by_read None is e = absurd (none-some x e)
+    by_read (Some r) is e = by_line state operation r.indirection r.line x (read_acts state operation operation.line r is) e
+
+-- such a node is pending
+commits_pending : (b c : Bool) → verdict_by b c ≡ Commits → c ≡ true
+commits_pending b true e = refl
+commits_pending b false e = let wrong : ⊥ = cc in absurd wrong
+
+pub was_pending : (heap : Heap) (i x q : Ref) (told : Option ℕ) → verdict heap i x q told ≡ Commits → prev_at heap x ≡ over.Pending q
+was_pending heap i x q told e = pending_so (prev_at heap x) q (commits_pending (is_licensed heap i told) (is_pending (prev_at heap x) q) e)

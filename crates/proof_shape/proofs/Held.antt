@@ -1,0 +1,10 @@
+pub mod Fresh
+pub mod Lines
+pub mod Build
+pub mod Chain
+pub mod Entries
+pub mod Renew
+pub mod Clean
+pub mod Free
+pub mod At
+pub mod Commits

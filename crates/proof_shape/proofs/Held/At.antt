@@ -1,0 +1,187 @@
+-- At each time of a run each line holds what its operation made: nobody else can come to read it.
+use Rattle.std.proofs.Common.{◌≡◌, ℕ, suc, ◌-◌, ◌<◌, ◌≤◌, ◌⊎◌, Bool, true, false, cond, List, [], Option, Some, None, refl, sym, ◌∙◌, ap, subst, arith}
+use Rattle.proof_shape.specs.Beneath.history.specs.declared.calls.Call.{Call}
+use Rattle.proof_shape.specs.Beneath.slot_arena.specs.declared.refs.Ref.{Ref}
+use Rattle.proof_shape.specs.Beneath.slot_arena.specs.declared.nodes.Node.{Node}
+use Rattle.proof_shape.specs.Beneath.slot_arena.specs.declared.nodes.Node.TheVariants.{Indirection, Branch, Single, Tomb, List as Listed}
+use Rattle.proof_shape.specs.Beneath.slot_arena.specs.Heaps.{node_at, entry_at}
+use Rattle.proof_shape.specs.Beneath.machine_model.specs.declared.building.BuildLine.TheVariants as build
+use Rattle.proof_shape.specs.Beneath.machine_model.specs.declared.finding.KeyLine.{KeyLine}
+use Rattle.proof_shape.specs.Beneath.machine_model.specs.declared.finding.KeyLine.TheVariants as key
+use Rattle.proof_shape.specs.Beneath.machine_model.specs.declared.lines.Line.{Line}
+use Rattle.proof_shape.specs.Beneath.machine_model.specs.declared.lines.Line.TheVariants as line
+use Rattle.proof_shape.specs.Beneath.machine_model.specs.declared.lines.Purpose.{Purpose}
+use Rattle.proof_shape.specs.Beneath.machine_model.specs.declared.lines.Purpose.TheVariants as purpose
+use Rattle.proof_shape.specs.Beneath.machine_model.specs.declared.operations.Operation.{Operation}
+use Rattle.proof_shape.specs.Beneath.machine_model.specs.declared.reading.After.{After}
+use Rattle.proof_shape.specs.Beneath.machine_model.specs.declared.reading.After.TheVariants.{Goes, Gives}
+use Rattle.proof_shape.specs.Beneath.machine_model.specs.declared.reading.Swap.{Swap}
+use Rattle.proof_shape.specs.Beneath.machine_model.specs.declared.reading.SwapLine.{SwapLine}
+use Rattle.proof_shape.specs.Beneath.machine_model.specs.declared.steps.Limits.{Limits}
+use Rattle.proof_shape.specs.Beneath.machine_model.specs.States.{State, operation_of}
+use Rattle.proof_shape.specs.Beneath.machine_model.specs.Swapping.{on_line}
+use Rattle.proof_shape.specs.Beneath.machine_model.specs.Finding.{going_down, is_passable, key_after, key_after_entry}
+use Rattle.proof_shape.specs.Beneath.machine_model.specs.Renewing.{renew_next}
+use Rattle.proof_shape.specs.Beneath.machine_model.specs.Operations.{line_action, after_swap, line_after, generation_from}
+use Rattle.proof_shape.specs.Beneath.machine_model.specs.Times.{IsRun}
+use Rattle.proof_shape.specs.Beneath.proof_commits.specs.Protocol.{Protocol}
+use Rattle.proof_shape.specs.Beneath.proof_commits.proofs.Words.Stood.{Private}
+use Rattle.proof_shape.specs.Beneath.proof_commits.proofs.Known.Owners.{Staged}
+use Rattle.proof_shape.specs.Beneath.proof_commits.proofs.Known.Sounds.{sound_at}
+use Rattle.proof_shape.specs.Beneath.proof_commits.specs.Stages.{stage_of, stage_of_actor}
+use Rattle.proof_shape.specs.Beneath.proof_commits.proofs.Words.Along.{protocol}
+use Rattle.proof_shape.specs.Lines.Knowing.{OfEachAt}
+use Rattle.proof_shape.proofs.Runs.EachAt.{GoesAt}
+use Rattle.proof_shape.proofs.Runs.Nodes.{known_run}
+use Rattle.proof_shape.proofs.Lines.Placed.{is_below}
+use Rattle.proof_shape.proofs.Lines.Places.{settled_at}
+use Rattle.proof_shape.proofs.Runs.Takers.{taker, each_with}
+use Rattle.proof_shape.proofs.Runs.MadeNodes.{is_making, maker_of}
+use Rattle.proof_shape.proofs.Runs.NewNodes.{swap_quiet, line_names}
+use Rattle.proof_shape.proofs.Opened.Mains.{IsOpen}
+use Rattle.proof_shape.proofs.Held.Fresh.{IsHeld, NotGiven, NewNames, held_still}
+use Rattle.proof_shape.proofs.Held.Lines.{HeldIn, NodeNotGiven, line_still}
+use Rattle.proof_shape.proofs.Held.Build.{quiet_held}
+use Rattle.proof_shape.proofs.Held.Chain.{build_holds}
+use Rattle.proof_shape.proofs.Held.Renew.{renew_holds}
+use Rattle.proof_shape.proofs.Held.Clean.{clean_holds}
+use Rattle.proof_shape.proofs.Held.Entries.{renew_begins}
+use Rattle.proof_shape.proofs.Held.Free.{is_free, free_holds, first_free, root_free, key_read_free, key_main_free, key_single_free, key_listed_free, key_sibling_free, swapped_free, climb_free, copy_free, walk_free}
+
+module _ (limits : Limits) (states : ℕ → State) (last : ℕ) (run : IsRun limits states last) where
+  abbrev p : Protocol
+  p = protocol limits states last (known_run limits states last run)
+
+  -- what is said of each running operation
+  abbrev pub HoldsAt : ℕ → ℕ → Operation → Type 0
+  HoldsAt t k operation = (start : ℕ) → operation.generation ≡ Some start → HeldIn limits states last run t k operation.id start operation.call operation.line
+
+  -- with no generation yet it holds nothing
+  above_holds : (t k id start : ℕ) (call : Call) (l : Line) → (is_below l ≡ true → ⊥) → HeldIn limits states last run t k id start call l
+  above_holds t k id start call (line.Root l) not = tt
+  above_holds t k id start call (line.Copy l) not = tt
+  above_holds t k id start call (line.Walk l) not = tt
+  above_holds t k id start call (line.End answer) not = tt
+  above_holds t k id start call line.Impossible not = tt
+  above_holds t k id start call (line.Key l) not = tt
+  above_holds t k id start call (line.Climb l) not = tt
+  above_holds t k id start call (line.Build l) not = absurd (not refl)
+  above_holds t k id start call (line.Swap why s) not = absurd (not refl)
+  above_holds t k id start call (line.Renew l) not = absurd (not refl)
+  above_holds t k id start call (line.Clean l) not = absurd (not refl)
+
+  -- ---- so new nodes name what may be read, or what their maker holds
+
+  new_names_at : (t : ℕ) → t < last → ((k : ℕ) (operation : Operation) → operation_of (states t) k ≡ Some operation → HoldsAt t k operation) → NewNames limits states last run t
+  new_names_at t h all m r before after names g y is =
+      let x = maker_of limits states last run t h m before after in
+      by_generation x.operation x.go x.operation.generation refl
+    where
+      by_generation : (operation : Operation) → GoesAt states t (taker limits states last run t) operation → (o : Option ℕ) → operation.generation ≡ o →
+          IsOpen limits states last run t r ⊎ ((s : ℕ) × IsHeld limits states last run t (taker limits states last run t) s r)
+      by_generation operation go (Some start) e =
+          line_names limits states last run t h (taker limits states last run t) operation go start m r before after names g y is operation.line refl
+          (all (taker limits states last run t) operation go.runs start e)
+      by_generation operation go None e =
+          line_names limits states last run t h (taker limits states last run t) operation go 0 m r before after names g y is operation.line refl
+          (above_holds t (taker limits states last run t) operation.id 0 operation.call operation.line
+          (λ b. let s = (settled_at limits states last run t (omega arith) (taker limits states last run t) operation go.runs).starts b in no_start s.0 (sym e ∙ s.1)))
+        where
+          no_start : (start : ℕ) → None ≡ Some start → ⊥
+          no_start start bad = cc
+
+  -- the main node that a link is to be made over wasn't given
+  node_not_given : (t : ℕ) → t ≤ last → (k : ℕ) (operation : Operation) → operation_of (states t) k ≡ Some operation → (l : Line) → operation.line ≡ l →
+      (l' : Line) → l ≡ l' → (path : List Ref) (main : Ref) (position : ℕ) (below : Ref) (depth : ℕ) → l' ≡ line.Build (build.Link path main position below depth) → NotGiven limits states last run t below
+  node_not_given t h k operation is l e l' e' path main position below depth e'' q i g =
+      let private : Private p.words t below = subst (λ s. Staged p.words t k s) (ap stage_of_actor is ∙ ap stage_of (e ∙ e' ∙ e'')) ((sound_at p t h).staged k) in
+      private.apart i ((sound_at p t h).given q i below g).stood
+
+  module _ (t : ℕ) (h : t < last) (all : (k : ℕ) (operation : Operation) → operation_of (states t) k ≡ Some operation → HoldsAt t k operation) where
+    new : NewNames limits states last run t
+    new = new_names_at t h all
+
+    not_given : (k : ℕ) (operation : Operation) → operation_of (states t) k ≡ Some operation → (id start : ℕ)
+        (held : (j : Ref) → IsHeld limits states last run t k start j → IsHeld limits states last run (suc t) k start j) → (l : Line) → operation.line ≡ l →
+        NodeNotGiven limits states last run t h k id start new held l
+    not_given k operation is id start held (line.Build (build.Link path main position below depth)) e = node_not_given t (omega arith) k operation is operation.line refl _ e path main position below depth refl
+    not_given k operation is id start held (line.Build (build.Single path main s former)) e = tt
+    not_given k operation is id start held (line.Build (build.Pair path main position s depth)) e = tt
+    not_given k operation is id start held (line.Build (build.Rung path main position below depth)) e = tt
+    not_given k operation is id start held (line.Build (build.Main path main c former)) e = tt
+    not_given k operation is id start held (line.Root l) e = tt
+    not_given k operation is id start held (line.Key l) e = tt
+    not_given k operation is id start held (line.Swap why s) e = tt
+    not_given k operation is id start held (line.Renew l) e = tt
+    not_given k operation is id start held (line.Clean l) e = tt
+    not_given k operation is id start held (line.Climb l) e = tt
+    not_given k operation is id start held (line.Copy l) e = tt
+    not_given k operation is id start held (line.Walk l) e = tt
+    not_given k operation is id start held (line.End answer) e = tt
+    not_given k operation is id start held line.Impossible e = tt
+
+    stays_holding : (k : ℕ) (operation : Operation) → operation_of (states t) k ≡ Some operation → (taker limits states last run t ≡ k → ⊥) → HoldsAt (suc t) k operation
+    stays_holding k operation is apart start begun =
+        let held : (j : Ref) → IsHeld limits states last run t k start j → IsHeld limits states last run (suc t) k start j = λ j x. held_still limits states last run t k start j (omega arith) new apart x in
+        line_still limits states last run t h k operation.id start new held operation.call operation.line (not_given k operation is operation.id start held operation.line refl) (all k operation is start begun)
+
+    -- ---- the own step
+
+    module _ (actor : ℕ) (operation : Operation) (go : GoesAt states t actor operation) (takes_it : taker limits states last run t ≡ actor) (start : ℕ) where
+      abbrev Next : Line → Type 0
+      Next l = HeldIn limits states last run (suc t) actor operation.id start operation.call l
+
+      free : (l : Line) → is_free l ≡ true → Next l
+      free l e = free_holds limits states last run (suc t) actor operation.id start operation.call l e
+
+      key_entry_holds : operation.generation ≡ Some start → (path : List Ref) (main : Ref) (position : ℕ) (n : Node) → Next (key_after_entry (states t) operation path main position n)
+      key_entry_holds begun path main position (Indirection g w) = by_test (is_passable operation g)
+        where
+          by_test : (b : Bool) → Next (cond b (going_down path (entry_at (states t).heap main position)) (renew_next (states t) path main []))
+          by_test true = tt
+          by_test false = renew_begins limits states last run t h actor operation go takes_it new start begun path main
+      key_entry_holds begun path main position (Single k v) = free _ (key_single_free (states t) operation path main position k v)
+      key_entry_holds begun path main position (Branch b es) = tt
+      key_entry_holds begun path main position (Tomb s) = tt
+      key_entry_holds begun path main position (Listed ss) = tt
+
+      key_holds : operation.generation ≡ Some start → (l : KeyLine) → Next (key_after (states t) operation l)
+      key_holds begun (key.Read path r) = free _ (key_read_free (states t) operation path r)
+      key_holds begun (key.Main path main) = free _ (key_main_free (states t) operation path main (node_at (states t).heap main))
+      key_holds begun (key.Entry path main position) = key_entry_holds begun path main position (node_at (states t).heap (entry_at (states t).heap main position))
+      key_holds begun (key.Listed path main position) = free _ (key_listed_free (states t) operation path main position (node_at (states t).heap (entry_at (states t).heap main position)))
+      key_holds begun (key.Sibling path main position former) =
+          free _ (key_sibling_free path main position former (entry_at (states t).heap main (1 - position)) (node_at (states t).heap (entry_at (states t).heap main (1 - position))))
+
+      swap_on : (why : Purpose) (s : Swap) (l : SwapLine) → Next (line.Swap why s) → Next (line.Swap why (record s { line = l }))
+      swap_on (purpose.Update path former) s l x = x
+      swap_on (purpose.Renew path) s l x = x
+      swap_on purpose.Clean s l x = x
+      swap_on (purpose.Climb c) s l x = tt
+
+      swap_holds : (why : Purpose) (s : Swap) → Next (line.Swap why s) → (out : After SwapLine Bool) → Next (after_swap (states t) operation why s (on_line s out))
+      swap_holds why s x (Goes l) = swap_on why s l x
+      swap_holds why s x (Gives done) = free _ (swapped_free operation (node_at (states t).heap s.fresh) why done)
+
+      line_holds : (l : Line) → operation.line ≡ l → generation_from (states t) operation l ≡ Some start →
+          (operation.generation ≡ Some start → HeldIn limits states last run t actor operation.id start operation.call l) → Next (line_after (states t) operation l)
+      line_holds (line.Root l) e begun x = free _ (root_free (states t) operation l)
+      line_holds (line.Key l) e begun x = key_holds begun l
+      line_holds (line.Build l) e begun x = build_holds limits states last run t h actor operation go takes_it new start begun l e (x begun)
+      line_holds (line.Renew l) e begun x = renew_holds limits states last run t h actor operation go takes_it new start begun l e (x begun)
+      line_holds (line.Clean l) e begun x = clean_holds limits states last run t h actor operation go takes_it new start begun l e (x begun)
+      line_holds (line.Swap why s) e begun x =
+          let held = quiet_held limits states last run t h actor operation go (ap (λ y. is_making (line_action (states t) operation y)) e ∙ swap_quiet (states t) operation why s) start in
+          swap_holds why s (line_still limits states last run t h actor operation.id start new held operation.call (line.Swap why s) (not_given actor operation go.runs operation.id start held _ e) (x begun)) _
+      line_holds (line.Climb l) e begun x = free _ (climb_free (states t) operation l)
+      line_holds (line.Copy l) e begun x = free _ (copy_free (states t) operation l)
+      line_holds (line.Walk l) e begun x = free _ (walk_free (states t) operation l)
+      line_holds (line.End answer) e begun x = tt
+      line_holds line.Impossible e begun x = tt
+
+  pub holds_at : OfEachAt states last (λ t k operation. (start : ℕ) → operation.generation ≡ Some start → HeldIn limits states last run t k operation.id start operation.call operation.line)
+  holds_at =
+      each_with limits states last run HoldsAt (λ t k operation x. x)
+      (λ t h actor call d takes e start begun. free_holds limits states last run (suc t) actor _ start call _ (first_free call))
+      (λ t h actor operation go takes_it all start begun. line_holds t h all actor operation go takes_it start operation.line refl begun (λ b. all actor operation go.runs start b))
+      (λ t h k operation is apart all. stays_holding t h all k operation is apart)

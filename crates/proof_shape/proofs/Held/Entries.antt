@@ -1,0 +1,145 @@
+-- Which entries of a repair were kept, or are singles, or were made anew; and the fresh main node of them.
+use Rattle.std.proofs.Common.{◌≡◌, ℕ, suc, ◌<◌, nat_lt, nat_eq, Bool, true, false, cond, List, ◌∷◌, ◌++◌, length, slice_index_or, Some, refl, sym, ◌∙◌, ap, subst, subst₂, arith, length-append, ltb-true, ltb-false, []}
+use Rattle.std.proofs.lemmas.List.{get_or_append_left}
+use Rattle.std.proofs.Math.Seq.{get_or-append_seam}
+use lib.Pointwise.{pointwise}
+use Rattle.arrayvec.specs.ArrayVec.{ArrayVec}
+use Rattle.proof_shape.specs.Beneath.slot_arena.specs.declared.refs.Ref.{Ref}
+use Rattle.proof_shape.specs.Beneath.slot_arena.specs.declared.nodes.Node.{Node}
+use Rattle.proof_shape.specs.Beneath.slot_arena.specs.declared.nodes.Node.TheVariants.{Indirection, Branch, Single}
+use Rattle.proof_shape.specs.Beneath.slot_arena.specs.Heaps.{Heap, node_at, entries_of, next_ref, no_ref}
+use Rattle.proof_shape.specs.Beneath.nodes.specs.Builders.{contracted}
+use Rattle.proof_shape.specs.Beneath.machine_model.specs.declared.actions.Action.TheVariants as act
+use Rattle.proof_shape.specs.Beneath.machine_model.specs.declared.lines.Line.{Line}
+use Rattle.proof_shape.specs.Beneath.machine_model.specs.declared.lines.Line.TheVariants as line
+use Rattle.proof_shape.specs.Beneath.machine_model.specs.declared.operations.Operation.{Operation}
+use Rattle.proof_shape.specs.Beneath.machine_model.specs.declared.repairs.CleanLine.TheVariants as clean
+use Rattle.proof_shape.specs.Beneath.machine_model.specs.declared.repairs.RenewLine.TheVariants as renew
+use Rattle.proof_shape.specs.Beneath.machine_model.specs.declared.steps.Limits.{Limits}
+use Rattle.proof_shape.specs.Beneath.machine_model.specs.States.{State}
+use Rattle.proof_shape.specs.Beneath.machine_model.specs.Lines.{new_try}
+use Rattle.proof_shape.specs.Beneath.machine_model.specs.Renewing.{next_entry, renew_next}
+use Rattle.proof_shape.specs.Beneath.machine_model.specs.Cleaning.{clean_next}
+use Rattle.proof_shape.specs.Beneath.machine_model.specs.Operations.{line_action, action_of}
+use Rattle.proof_shape.specs.Beneath.machine_model.specs.Grown.{node_under}
+use Rattle.proof_shape.specs.Beneath.machine_model.specs.Times.{IsRun}
+use Rattle.proof_shape.specs.Beneath.proof_memory.specs.Laws.{IsInUse}
+use Rattle.proof_shape.specs.Beneath.proof_memory.specs.Wants.{ABranch, Holds, Is}
+use Rattle.proof_shape.specs.Beneath.proof_contents.specs.Lines.Repairs.{IsDone, keeps, renews, cleans, AllDone, KnowsRepair}
+use Rattle.proof_shape.specs.Beneath.proof_memory.proofs.Claims.Nodes.{branch_main}
+use Rattle.proof_shape.specs.Lines.Given.{GaveBelow}
+use Rattle.proof_shape.specs.Lines.Knowing.{first_main}
+use Rattle.proof_shape.proofs.Runs.EachAt.{GoesAt}
+use Rattle.proof_shape.proofs.Lines.RepairsAt.{repairs_at, gave_below_later}
+use Rattle.proof_shape.proofs.Runs.Takers.{taker}
+use Rattle.proof_shape.proofs.Runs.Seen.{main_seen}
+use Rattle.proof_shape.proofs.Runs.MadeNodes.{is_making}
+use Rattle.proof_shape.proofs.Held.Fresh.{IsHeld, NewNames, IsUncommitted}
+use Rattle.proof_shape.proofs.Held.Lines.{Came, same, single, anew, DoneWith, kept, renewed, cleaned as cleaned_entry, AllCame, NamedOrHeld, HeldRepair, HeldIn, all_still}
+use Rattle.proof_shape.proofs.Held.Build.{quiet_held, named_or_held}
+
+module _ (limits : Limits) (states : ℕ → State) (last : ℕ) (run : IsRun limits states last) (t : ℕ) (h : t < last) (actor : ℕ) (operation : Operation) (go : GoesAt states t actor operation)
+    (takes_it : taker limits states last run t ≡ actor) (new : NewNames limits states last run t) (start : ℕ) (begun : operation.generation ≡ Some start) where
+  abbrev heap : Heap
+  heap = (states t).heap
+
+  abbrev node : Ref → Node
+  node = node_under states last
+
+  abbrev Held : ℕ → Ref → Type 0
+  Held v j = IsHeld limits states last run v actor start j
+
+  abbrev pub Came' : ℕ → Ref → List Ref → Type 0
+  Came' v main done = AllCame limits states last run (IsHeld limits states last run v actor start) main done
+
+  abbrev Next : Line → Type 0
+  Next l = HeldIn limits states last run (suc t) actor operation.id start operation.call l
+
+  -- ---- lists of entries
+
+  pub none_came : (v : ℕ) (main : Ref) → Came' v main []
+  none_came v main n lt = absurd (omega (arith, lt))
+
+  pub one_more : (v : ℕ) (main : Ref) (done : List Ref) (other : Ref) → Came' v main done → Came node (Held v) (slice_index_or (entries_of (node main)) (length done) no_ref) other → Came' v main (done ++ other ∷ [])
+  one_more v main done other all it n lt = by_place (nat_lt n (length done)) refl
+    where
+      by_place : (b : Bool) → nat_lt n (length done) ≡ b → Came node (Held v) (slice_index_or (entries_of (node main)) n no_ref) (slice_index_or (done ++ other ∷ []) n no_ref)
+      by_place true below =
+          subst (λ r. Came node (Held v) (slice_index_or (entries_of (node main)) n no_ref) r) (sym (get_or_append_left done (other ∷ []) no_ref n (ltb-true n (length done) below)))
+          (all n (ltb-true n (length done) below))
+      by_place false above =
+          let at : n ≡ length done = omega (arith, length-append done (other ∷ []), ltb-false n (length done) above) in
+          subst₂ (λ e r. Came node (Held v) e r) (ap (λ m. slice_index_or (entries_of (node main)) m no_ref) (sym at))
+          (sym (ap (λ m. slice_index_or (done ++ other ∷ []) m no_ref) at ∙ get_or-append_seam done other [] no_ref)) it
+
+  -- the entry itself
+  pub next_came : (v : ℕ) (main : Ref) (done : List Ref) → node_at heap main ≡ node main → Came node (Held v) (slice_index_or (entries_of (node main)) (length done) no_ref) (next_entry (states t) main done)
+  next_came v main done there = same (ap (λ n. slice_index_or (entries_of n) (length done) no_ref) (sym there))
+
+  pub renew_next_holds : (path : List Ref) (main : Ref) (done : List Ref) → Came' (suc t) main done → Next (renew_next (states t) path main done)
+  renew_next_holds path main done all = by_test (nat_lt (length done) (length (entries_of (node_at heap main))))
+    where
+      by_test : (b : Bool) → Next (cond b (line.Renew (renew.Entry path main done)) (line.Renew (renew.Branch path main done)))
+      by_test true = all
+      by_test false = all
+
+  pub clean_next_holds : (path : List Ref) (main : Ref) (done : List Ref) → Came' (suc t) main done → Next (clean_next (states t) path main done)
+  clean_next_holds path main done all = by_test (nat_lt (length done) (length (entries_of (node_at heap main)))) (pointwise nat_eq done (entries_of (node_at heap main)))
+    where
+      by_change : (b : Bool) → Next (cond b new_try (line.Clean (clean.Contracted path main done)))
+      by_change true = tt
+      by_change false = all
+
+      by_test : (b c : Bool) → Next (cond b (line.Clean (clean.Entry path main done)) (cond c new_try (line.Clean (clean.Contracted path main done))))
+      by_test true c = all
+      by_test false c = by_change c
+
+  -- where the step makes nothing
+  pub quiet_all : (l : Line) → operation.line ≡ l → is_making (line_action (states t) operation l) ≡ false → (main : Ref) (done : List Ref) → Came' t main done → Came' (suc t) main done
+  quiet_all l e q main done all =
+      all_still limits states last run t h actor operation.id start new (quiet_held limits states last run t h actor operation go (ap (λ x. is_making (line_action (states t) operation x)) e ∙ q) start) main done all
+
+  -- ---- the fresh main node
+
+  module _ (main made : Ref) (done : List Ref) (n : Node) (a : action_of (states t) operation ≡ act.Make n) (next : next_ref heap ≡ Some made) (all : Came' t main done) (b : Bool)
+      (is_made : (bitmap : ℕ) (entries : ArrayVec Ref) → node main ≡ Branch bitmap entries → node made ≡ contracted b bitmap done) where
+    pub fresh_repair : AllDone node (first_main states last) (GaveBelow states last t actor operation.id start) start main done → HeldRepair limits states last run (suc t) actor operation.id start main made
+    fresh_repair (bitmap, entries, are, count) = record {
+      done = done;
+      bitmap = bitmap;
+      entries = entries;
+      is = are.is;
+      each = λ m lt. by_done m (slice_index_or done m no_ref) (are.each m lt)
+          (subst (λ e. Came node (Held t) (slice_index_or e m no_ref) (slice_index_or done m no_ref)) (ap entries_of are.is) (all m lt));
+      all = count;
+      may_entomb = b;
+      made = is_made bitmap entries are.is;
+    }
+      where
+        by_done : (m : ℕ) (other : Ref) → IsDone node (first_main states last) (GaveBelow states last t actor operation.id start) start (slice_index_or entries.items m no_ref) other →
+            Came node (Held t) (slice_index_or entries.items m no_ref) other →
+            DoneWith node (first_main states last) (GaveBelow states last (suc t) actor operation.id start)
+            (λ r. IsUncommitted limits states last run (suc t) made → NamedOrHeld limits states last run (suc t) actor start made r) start (slice_index_or entries.items m no_ref) other
+        by_done m other (keeps e) c = kept e
+        by_done m other (cleans g word child is gave tomb) c = cleaned_entry g word child is (gave_below_later states last t actor operation.id start _ child gave) tomb
+        by_done m other (renews g word word' child is apart is' gave first) (same e) =
+            let both : Indirection g word ≡ Indirection start word' = sym is ∙ ap node e ∙ is' in
+            let generations : g ≡ start = cc in
+            absurd (apart generations)
+        by_done m other (renews g word word' child is apart is' gave first) (single k v e) =
+            let bad : Single k v ≡ Indirection start word' = sym e ∙ is' in
+            let wrong : ⊥ = cc in
+            absurd wrong
+        by_done m other (renews g word word' child is apart is' gave first) (anew held) =
+            renewed g word word' child is apart is' (gave_below_later states last t actor operation.id start _ child gave) first
+            (λ un. named_or_held limits states last run t h actor operation go n a made next start other held)
+
+  pub repairs : (l : Line) → operation.line ≡ l → KnowsRepair node (first_main states last) (GaveBelow states last t actor operation.id start) start l
+  repairs l e = subst (λ x. KnowsRepair node (first_main states last) (GaveBelow states last t actor operation.id start) start x) e (repairs_at limits states last run t (omega arith) actor operation go.runs start begun)
+
+  pub branch_there : (main : Ref) → Holds (IsInUse heap) heap (Is main ABranch) → node_at heap main ≡ node main
+  branch_there main claim = main_seen limits states last run t (omega arith) main ABranch branch_main claim
+
+  -- KEY begins a repair with none done
+  pub renew_begins : (path : List Ref) (main : Ref) → HeldIn limits states last run (suc t) actor operation.id start operation.call (renew_next (states t) path main [])
+  renew_begins path main = renew_next_holds path main [] (none_came (suc t) main)

@@ -1,0 +1,12 @@
+pub mod Placed
+pub mod Swap
+pub mod Places
+pub mod Key
+pub mod Build
+pub mod Knows
+pub mod RepairMore
+pub mod Repair
+pub mod RepairsAt
+pub mod Climb
+pub mod Grounded
+pub mod ClimbsAt

@@ -1,0 +1,23 @@
+-- What holds of each running operation at each time of a run, by what it is at its begin, what its own steps make of it, and that others leave it.
+use Rattle.std.proofs.Common.{◌≡◌, ℕ, suc, ◌<◌, true, None, Some}
+use Rattle.proof_shape.specs.Beneath.history.specs.declared.calls.Call.{Call}
+use Rattle.proof_shape.specs.Beneath.machine_model.specs.declared.operations.Operation.{Operation}
+use Rattle.proof_shape.specs.Beneath.machine_model.specs.declared.steps.Limits.{Limits}
+use Rattle.proof_shape.specs.Beneath.machine_model.specs.States.{State, operation_of}
+use Rattle.proof_shape.specs.Beneath.machine_model.specs.Acting.{operation_after}
+use Rattle.proof_shape.specs.Beneath.machine_model.specs.Machine.{begin_denial}
+use Rattle.proof_shape.specs.Beneath.machine_model.specs.Moves.{begun_operation}
+use Rattle.proof_shape.specs.Beneath.machine_model.specs.Times.{IsRun}
+use Rattle.proof_shape.specs.Lines.Knowing.{OfEachAt}
+pub use Rattle.proof_shape.proofs.Runs.Takers.{GoesAt}
+use Rattle.proof_shape.proofs.Runs.Takers.{each_with}
+
+module _ (P : ℕ → ℕ → Operation → Type 0) (with_mark : (t actor : ℕ) (operation : Operation) → P t actor operation → P t actor (record operation { is_marked = true })) (limits : Limits)
+    (states : ℕ → State) (last : ℕ) (run : IsRun limits states last)
+    (begins : (t : ℕ) → t < last → (actor : ℕ) (call : Call) → begin_denial (states t) actor call ≡ None → P (suc t) actor (begun_operation (states t) call))
+    (goes : (t : ℕ) → t < last → (actor : ℕ) (operation : Operation) → GoesAt states t actor operation → P t actor operation → P (suc t) actor (operation_after (states t) operation))
+    (stays : (t : ℕ) → t < last → (actor : ℕ) (operation : Operation) → operation_of (states t) actor ≡ Some operation → P t actor operation → P (suc t) actor operation) where
+  pub each_at : OfEachAt states last P
+  each_at =
+      each_with limits states last run P with_mark (λ t h actor call d takes e. begins t h actor call d) (λ t h actor operation go takes all. goes t h actor operation go (all actor operation go.runs))
+      (λ t h actor operation is apart all. stays t h actor operation is (all actor operation is))

@@ -1,0 +1,7 @@
+pub mod Places
+pub mod Changed
+pub mod Repaired
+pub mod Trie
+pub mod KeysOnce
+pub mod OfLists
+pub mod Roots

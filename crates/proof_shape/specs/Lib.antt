@@ -1,0 +1,5 @@
+pub mod Beneath
+pub mod Lines
+pub mod Sites
+pub mod Shaped
+pub mod Laws

@@ -1,0 +1,106 @@
+-- Which steps change a main node, whose fresh node it is, and what its owner knows.
+use Rattle.std.specs.Prelude.{◌≡◌, ◌≢◌, ℕ, suc, ◌==◌, ◌<◌, false, List, ◌∷◌, Some, None, if◌then◌else◌, []}
+use Rattle.proof_shape.specs.Beneath.history.specs.declared.calls.Access.TheVariants.{Writable}
+use Rattle.proof_shape.specs.Beneath.history.specs.declared.calls.Call.{Call}
+use Rattle.proof_shape.specs.Beneath.places.specs.declared.place.Place.{Place}
+use Rattle.proof_shape.specs.Beneath.slot_arena.specs.declared.refs.Ref.{Ref}
+use Rattle.proof_shape.specs.Beneath.slot_arena.specs.Heaps.{generation_of}
+use Rattle.proof_shape.specs.Beneath.machine_model.specs.declared.lines.Purpose.{Purpose}
+use Rattle.proof_shape.specs.Beneath.machine_model.specs.declared.lines.Purpose.TheVariants as purpose
+use Rattle.proof_shape.specs.Beneath.machine_model.specs.declared.operations.Operation.{Operation}
+use Rattle.proof_shape.specs.Beneath.machine_model.specs.declared.reading.ReadLine.{ReadLine}
+use Rattle.proof_shape.specs.Beneath.machine_model.specs.declared.reading.SwapLine.{SwapLine}
+use Rattle.proof_shape.specs.Beneath.machine_model.specs.declared.reading.SwapLine.TheVariants.{Deciding}
+use Rattle.proof_shape.specs.Beneath.machine_model.specs.declared.lines.Line.TheVariants as line
+use Rattle.proof_shape.specs.Beneath.machine_model.specs.declared.steps.Limits.{Limits}
+use Rattle.proof_shape.specs.Beneath.machine_model.specs.declared.steps.Outcome.{Outcome}
+use Rattle.proof_shape.specs.Beneath.machine_model.specs.declared.steps.Step.{Step}
+use Rattle.proof_shape.specs.Beneath.machine_model.specs.declared.steps.Step.TheVariants as step
+use Rattle.proof_shape.specs.Beneath.machine_model.specs.Paths.{depth_of}
+use Rattle.proof_shape.specs.Beneath.machine_model.specs.States.{State, operation_of}
+use Rattle.proof_shape.specs.Beneath.machine_model.specs.Orders.{committed_now, place_of}
+use Rattle.proof_shape.specs.Beneath.machine_model.specs.Acting.{entered}
+use Rattle.proof_shape.specs.Beneath.machine_model.specs.Moves.{Moves}
+use Rattle.proof_shape.specs.Beneath.machine_model.specs.Grown.{node_under}
+use Rattle.proof_shape.specs.Beneath.proof_commits.specs.Laws.{IsInSwap}
+use Rattle.proof_shape.specs.Beneath.proof_contents.specs.Lines.Changes.{KnowsSwap}
+use Rattle.proof_shape.specs.Beneath.proof_contents.specs.Lines.Repairs.{IsRepaired}
+use Rattle.proof_shape.specs.Beneath.proof_contents.specs.Runs.{main_at}
+use Rattle.proof_shape.specs.Lines.Given.{GaveBelow, Was}
+use Rattle.proof_shape.specs.Lines.Climbing.{IsClimbed}
+use Rattle.proof_shape.specs.Lines.Knowing.{known_with, first_main, SwapsAt}
+
+-- by its generation, and a time, the main nodes of the indirections that an operation made, as far as they are told
+abbrev pub Firsts : Type 0
+Firsts = ℕ → ℕ → Ref → Ref
+
+-- those with which they were made
+abbrev pub made_with : (ℕ → State) → ℕ → Firsts
+made_with states last start t i = first_main states last i
+
+-- those that they have at that time: the main nodes by which a generation's content is found before it
+abbrev pub assigned_at : (ℕ → State) → ℕ → Firsts
+assigned_at states last start t i = if generation_of (node_under states last i) == start then main_at states last t i else main_at states last last i
+
+-- what the owner of a fresh node knows of it, just before step t, which commits it
+abbrev pub KnowsFresh : Limits → (ℕ → State) → ℕ → Firsts → (t actor start : ℕ) → Operation → Ref → Ref → Purpose → Type 0
+KnowsFresh limits states last firsts t actor start owner replaced fresh (purpose.Update path former) =
+    KnowsSwap (known_with limits states last (firsts start (suc t))) owner.call (depth_of path) replaced former fresh
+KnowsFresh limits states last firsts t actor start owner replaced fresh (purpose.Renew path) =
+    IsRepaired (node_under states last) (firsts start t) (GaveBelow states last t actor owner.id start) start replaced fresh
+KnowsFresh limits states last firsts t actor start owner replaced fresh purpose.Clean =
+    IsRepaired (node_under states last) (firsts start t) (GaveBelow states last t actor owner.id start) start replaced fresh
+KnowsFresh limits states last firsts t actor start owner replaced fresh (purpose.Climb c) =
+    IsClimbed (known_with limits states last (first_main states last)) (Was states last t) owner.call c replaced fresh
+
+-- the places that the commit of an owner's node brings
+abbrev pub places_for : State → Operation → ℕ → Purpose → List Place
+places_for state owner t (purpose.Update path former) = place_of state owner t false ∷ []
+places_for state owner t why = []
+
+-- Step t commits a fresh node: whoever takes it, just one running operation is in a SWAP of that node.
+pub record OwnCommit (limits : Limits) (states : ℕ → State) (last : ℕ) (firsts : Firsts) (t : ℕ) (s : Step) : Type 0 where
+  pub indirection : Ref
+  pub replaced : Ref
+  pub fresh : Ref
+  -- the main node of the indirection is changed, and no other
+  pub before : main_at states last t indirection ≡ replaced
+  pub after : main_at states last (suc t) indirection ≡ fresh
+  pub differ : fresh ≢ replaced
+  pub others : (j : Ref) → j ≢ indirection → main_at states last (suc t) j ≡ main_at states last t j
+  -- who takes the step
+  pub taker : ℕ
+  pub takes : s ≡ step.Go taker
+  pub decider : Operation
+  pub decides : operation_of (states t) taker ≡ Some decider
+  pub commits : committed_now (states t) decider ≡ Some fresh
+  -- whose node it is
+  pub actor : ℕ
+  pub owner : Operation
+  pub runs : operation_of (states t) actor ≡ Some owner
+  pub writable : owner.access ≡ Writable
+  pub start : ℕ
+  pub generation : owner.generation ≡ Some start
+  pub why : Purpose
+  pub deciding : ReadLine
+  pub swaps : owner.line ≡ line.Swap why (record { indirection = indirection; replaced = replaced; fresh = fresh; line = Deciding deciding })
+  pub alone : (k : ℕ) (operation : Operation) (i a : Ref) (l : SwapLine) → operation_of (states t) k ≡ Some operation → IsInSwap operation i a fresh l → k ≡ actor
+  -- at the indirection for which its SWAP is
+  pub placed : SwapsAt why indirection
+  pub knows : KnowsFresh limits states last firsts t actor start owner replaced fresh why
+  -- the places that the step brings
+  pub enters : entered (states t) (Some fresh) ≡ places_for (states t) owner t why
+
+-- the main node that a step commits, if it does
+pub data CommitsNone (state : State) : Step → Type 0 where
+  begins : (actor : ℕ) (call : Call) → CommitsNone state (step.Begin actor call)
+  goes : (actor : ℕ) (operation : Operation) → operation_of state actor ≡ Some operation → committed_now state operation ≡ None → CommitsNone state (step.Go actor)
+  sweeps : CommitsNone state step.Sweep
+
+pub data MainStep (limits : Limits) (states : ℕ → State) (last : ℕ) (firsts : Firsts) (t : ℕ) (s : Step) : Type 0 where
+  stays : CommitsNone (states t) s → ((i : Ref) → main_at states last (suc t) i ≡ main_at states last t i) → MainStep limits states last firsts t s
+  changes : OwnCommit limits states last firsts t s → MainStep limits states last firsts t s
+
+-- a step leaves all main nodes and commits nothing, or it commits one fresh node
+abbrev pub CommitsAt : Limits → (ℕ → State) → ℕ → Firsts → Type 0
+CommitsAt limits states last firsts = (t : ℕ) → t < last → (s : Step) (o : Outcome) → Moves (states t) s o (states (suc t)) → MainStep limits states last firsts t s

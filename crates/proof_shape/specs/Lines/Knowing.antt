@@ -1,0 +1,68 @@
+-- What the line of each running operation knows, at each time of a run.
+use Rattle.std.specs.Prelude.{◌≡◌, ℕ, ◌≤◌, Option, Some}
+use Rattle.proof_shape.specs.Beneath.slot_arena.specs.declared.refs.Ref.{Ref}
+use Rattle.proof_shape.specs.Beneath.machine_model.specs.declared.lines.Line.{Line}
+use Rattle.proof_shape.specs.Beneath.machine_model.specs.declared.lines.Line.TheVariants as line
+use Rattle.proof_shape.specs.Beneath.machine_model.specs.declared.lines.Purpose.{Purpose}
+use Rattle.proof_shape.specs.Beneath.machine_model.specs.declared.lines.Purpose.TheVariants as purpose
+use Rattle.proof_shape.specs.Beneath.machine_model.specs.declared.operations.Operation.{Operation}
+use Rattle.proof_shape.specs.Beneath.machine_model.specs.declared.steps.Limits.{Limits}
+use Rattle.proof_shape.specs.Beneath.machine_model.specs.States.{State, operation_of}
+use Rattle.proof_shape.specs.Beneath.machine_model.specs.Paths.{current, above}
+use Rattle.proof_shape.specs.Beneath.machine_model.specs.Grown.{node_under}
+use Rattle.proof_shape.specs.Beneath.proof_contents.specs.Lines.Changes.{Known, KnowsLine}
+use Rattle.proof_shape.specs.Beneath.proof_contents.specs.Lines.Repairs.{KnowsRepair}
+use Rattle.proof_shape.specs.Beneath.proof_contents.specs.Runs.{main_at}
+use Rattle.proof_shape.specs.Lines.Given.{GaveBelow, Was}
+use Rattle.proof_shape.specs.Lines.Climbing.{KnowsClimbing}
+
+-- the nodes of a run, where indirections have these main nodes
+abbrev pub known_with : Limits → (ℕ → State) → ℕ → (Ref → Ref) → Known
+known_with limits states last first = record { kind = limits.hash; node = node_under states last; first = first }
+
+-- the main node with which an indirection is made: that at time 0, as it looks from there
+abbrev pub first_main : (ℕ → State) → ℕ → Ref → Ref
+first_main states last i = main_at states last 0 i
+
+-- of each running operation at each time
+abbrev pub OfEachAt : (ℕ → State) → ℕ → (ℕ → ℕ → Operation → Type 0) → Type 0
+OfEachAt states last P =
+    (t : ℕ) → t ≤ last → (actor : ℕ) (operation : Operation) → operation_of (states t) actor ≡ Some operation → P t actor operation
+
+-- of lines that go down to a key, build a change of it, and swap it in
+abbrev pub KnowsAt : Limits → (ℕ → State) → ℕ → Type 0
+KnowsAt limits states last =
+    OfEachAt states last (λ t actor operation. KnowsLine (known_with limits states last (first_main states last)) operation.call operation.line)
+
+-- of lines that renew and clean
+abbrev pub RepairsAt : (ℕ → State) → ℕ → Type 0
+RepairsAt states last =
+    OfEachAt states last (λ t actor operation. (start : ℕ) → operation.generation ≡ Some start →
+    KnowsRepair (node_under states last) (first_main states last) (GaveBelow states last t actor operation.id start) start operation.line)
+
+-- of lines that climb
+abbrev pub ClimbsAt : Limits → (ℕ → State) → ℕ → Type 0
+ClimbsAt limits states last =
+    OfEachAt states last (λ t actor operation. KnowsClimbing (known_with limits states last (first_main states last)) (Was states last t) operation.call operation.line)
+
+-- ---- where an operation swaps
+
+abbrev pub SwapsAt : Purpose → Ref → Type 0
+SwapsAt (purpose.Update path former) i = i ≡ current path
+SwapsAt (purpose.Renew path) i = i ≡ current path
+SwapsAt purpose.Clean i = Unit {0}
+SwapsAt (purpose.Climb c) i = i ≡ current (above c.path)
+
+-- a SWAP is at the last indirection of the path for which it is, a climb's one above it; and from the first indirection on the
+-- operation has a generation
+abbrev pub IsPlaced : Option ℕ → Line → Type 0
+IsPlaced generation (line.Key l) = (start : ℕ) × (generation ≡ Some start)
+IsPlaced generation (line.Build l) = (start : ℕ) × (generation ≡ Some start)
+IsPlaced generation (line.Swap why s) = ((start : ℕ) × (generation ≡ Some start)) × SwapsAt why s.indirection
+IsPlaced generation (line.Renew l) = (start : ℕ) × (generation ≡ Some start)
+IsPlaced generation (line.Clean l) = (start : ℕ) × (generation ≡ Some start)
+IsPlaced generation (line.Climb l) = (start : ℕ) × (generation ≡ Some start)
+IsPlaced generation l = Unit {0}
+
+abbrev pub PlacesAt : (ℕ → State) → ℕ → Type 0
+PlacesAt states last = OfEachAt states last (λ t actor operation. IsPlaced operation.generation operation.line)

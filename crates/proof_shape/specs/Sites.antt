@@ -1,0 +1,3 @@
+pub mod Nodes
+pub mod Lines
+pub mod At

@@ -1,0 +1,194 @@
+-- What an operation answers that has no place is right.
+use Rattle.std.proofs.Common.{◌≡◌, ◌≢◌, ℕ, suc, ◌<◌, ◌≤◌, ◌^◌, Bool, true, false, true≢false, ◌∷◌, inl, None, refl, sym, ap, subst, ◌∙◌, arith, []}
+use Rattle.std.proofs.lemmas.Option.{none-some}
+use Rattle.proof_updates.specs.Beneath.history.specs.Histories.{begun}
+use Rattle.proof_updates.specs.Beneath.history.specs.declared.calls.Access.{Access}
+use Rattle.proof_updates.specs.Beneath.history.specs.declared.calls.Access.TheVariants.{Writable, ReadOnly}
+use Rattle.proof_updates.specs.Beneath.history.specs.declared.calls.Call.{Call}
+use Rattle.proof_updates.specs.Beneath.history.specs.declared.calls.Call.TheVariants.{Close, Entries, Count}
+use Rattle.proof_updates.specs.Beneath.history.specs.declared.replies.Reply.{Reply}
+use Rattle.proof_updates.specs.Beneath.history.specs.declared.replies.Reply.TheVariants as reply
+use Rattle.proof_updates.specs.Beneath.slot_arena.specs.declared.refs.Ref.{Ref}
+use Rattle.proof_updates.specs.Beneath.places.specs.Places.{on_time}
+use Rattle.proof_updates.specs.Beneath.machine_model.specs.declared.lines.Purpose.TheVariants as purpose
+use Rattle.proof_updates.specs.Beneath.machine_model.specs.declared.lines.Line.{Line}
+use Rattle.proof_updates.specs.Beneath.machine_model.specs.declared.lines.Line.TheVariants as line
+use Rattle.proof_updates.specs.Beneath.machine_model.specs.declared.operations.Operation.{Operation}
+use Rattle.proof_updates.specs.Beneath.machine_model.specs.declared.steps.Limits.{Limits}
+use Rattle.proof_updates.specs.Beneath.machine_model.specs.declared.steps.Outcome.{Outcome}
+use Rattle.proof_updates.specs.Beneath.machine_model.specs.declared.steps.Step.{Step}
+use Rattle.proof_updates.specs.Beneath.machine_model.specs.declared.steps.Step.TheVariants as step
+use Rattle.proof_updates.specs.Beneath.machine_model.specs.Calls.{key_of, is_close, needs_read_only}
+use Rattle.proof_updates.specs.Beneath.machine_model.specs.States.{State}
+use Rattle.proof_updates.specs.Beneath.machine_model.specs.Operations.{first_line}
+use Rattle.proof_updates.specs.Beneath.machine_model.specs.Orders.{is_placed}
+use Rattle.proof_updates.specs.Beneath.machine_model.specs.Counting.{settled}
+use Rattle.proof_updates.specs.Beneath.machine_model.specs.Machine.{begin_denial, with_begin}
+use Rattle.proof_updates.specs.Beneath.machine_model.specs.Moves.{Begins}
+use Rattle.proof_updates.specs.Beneath.machine_model.specs.Moves.{Moves, begun_operation}
+use Rattle.proof_updates.specs.Beneath.machine_model.specs.Times.{turns}
+use Rattle.proof_updates.specs.Beneath.machine_model.specs.Times.{IsRun, Turn}
+use Rattle.proof_updates.specs.Beneath.proof_contents.specs.Tries.{Trie, content}
+use Rattle.proof_updates.specs.Beneath.proof_contents.specs.Steps.{IsTrie}
+use Rattle.proof_updates.specs.Beneath.proof_contents.specs.Runs.{trie_of}
+use Rattle.proof_order.specs.Facts.{Runs, Replied, on_writable, on_read_only}
+use Rattle.proof_order.proofs.Places.Elements.{among_right}
+use Rattle.proof_updates.specs.Beneath.proof_generations.proofs.Handles.Running.{place_of_actor}
+use Rattle.proof_order.specs.Times.{Since, IsWithin, has_read}
+use Rattle.proof_order.proofs.Phases.Steps.{is_placed_so}
+use Rattle.proof_order.proofs.Phases.Placed.{end_line}
+use Rattle.proof_order.proofs.Phases.Since.{run_since}
+use Rattle.proof_order.proofs.Phases.Standing.{rooted_at_moments, read_only_stands}
+use Rattle.proof_shape.specs.Lines.Commits.{CommitsAt, assigned_at}
+use Rattle.proof_updates.specs.Beneath.proof_generations.specs.Falling.{GivenForEver}
+use Rattle.proof_order.proofs.Phases.Closers.{still_placed}
+use Rattle.proof_updates.specs.Taken.{RootsAreKept}
+use Rattle.proof_updates.specs.Updates.{RepliesRight}
+use Rattle.proof_updates.proofs.Answers.Each.{RightAt, WalksAt, IsAnswering, answering_goes}
+use Rattle.proof_updates.proofs.Placed.Behind.{EndsSo, refused, has_place, is_right, Behind, later_behind}
+use Rattle.proof_updates.proofs.Tries.EachOperation.{each_operation}
+use Rattle.proof_updates.proofs.Answers.ReaderRoots.{stood_before}
+use Rattle.proof_updates.proofs.Placed.Swap.{none_next}
+
+-- ---- a begin
+
+-- a call that walks reads a read-only handle
+begun_reads : (state : State) (actor : ℕ) (call : Call) → begin_denial state actor call ≡ None → needs_read_only call ≡ true → (begun_operation state call).access ≡ ReadOnly
+begun_reads state actor call d e = grind arith
+
+after_begin : (state : State) (actor : ℕ) (call : Call) (o : Outcome) (after : State) → Moves state (step.Begin actor call) o after →
+    after ≡ settled state (with_begin state actor call (begun_operation state call))
+after_begin state actor call o after (Begins d) = refl
+
+-- a close has its place at once
+close_places : (state : State) (actor : ℕ) (call : Call) → is_close call ≡ true → is_placed (settled state (with_begin state actor call (begun_operation state call))) (begun state.events) ≡ true
+close_places state actor (Close handle) e =
+    is_placed_so (settled state (with_begin state actor (Close handle) (begun_operation state (Close handle)))) (on_time state.steps false (begun state.events))
+    (among_right state.places (on_time state.steps false (begun state.events) ∷ []) _ (inl refl)) (begun state.events) refl
+close_places state actor call e = absurd (true≢false (sym e))
+
+module _ (limits : Limits) (states : ℕ → State) (last : ℕ) (depth path : Ref → ℕ) (run : IsRun limits states last) (ok : IsTrie (trie_of limits states last depth path))
+    (all : CommitsAt limits states last (assigned_at states last)) (final : GivenForEver states last) (roots : RootsAreKept states last)
+    (fits : (t : ℕ) → t ≤ last → (k : ℕ) (operation : Operation) → Runs (states t) k operation → key_of operation.call < 2 ^ 64) where
+  abbrev trie : Trie
+  trie = trie_of limits states last depth path
+
+  answering_begins : (t k : ℕ) → t < last → (call : Call) (o : Outcome) → Moves (states t) (step.Begin (suc k) call) o (states (suc t)) → begin_denial (states t) (suc k) call ≡ None →
+      IsAnswering states trie (suc t) k (begun_operation (states t) call)
+  answering_begins t k lt call o m d = record {
+    closes = λ e. subst (λ (q : State). is_placed q (begun (states t).events) ≡ true) (sym (after_begin (states t) (suc k) call o (states (suc t)) m)) (close_places (states t) (suc k) call e);
+    behind = λ e. first_behind call e (begun_reads (states t) (suc k) call d);
+    its = λ e read_only g none h stands. absurd (none-some g none);
+  }
+    where
+      first_behind : (x : Call) → is_close x ≡ false → (needs_read_only x ≡ true → (begun_operation (states t) call).access ≡ ReadOnly) →
+          Behind states (suc t) (begun (states t).events) (RightAt states trie (suc t) (begun_operation (states t) call).access None 0 call)
+          (WalksAt states trie (suc t) (begun_operation (states t) call).access x) (first_line x)
+      first_behind (Entries h) e reads = (reads refl, refl, λ g stands. tt)
+      first_behind (Count h) e reads = (reads refl, refl, λ g stands. tt)
+      first_behind (Close h) e reads = absurd (true≢false e)
+      first_behind call e reads = tt
+
+  -- ---- while others move
+
+  module _ (t k : ℕ) (lt : t < last) (operation : Operation) (runs : Runs (states t) k operation) (s : Step) (o : Outcome) (m : Moves (states t) s o (states (suc t)))
+      (before : IsAnswering states (trie_of limits states last depth path) t k operation) where
+    keeps_place : is_placed (states t) operation.id ≡ true → is_placed (states (suc t)) operation.id ≡ true
+    keeps_place is = still_placed (states t) s o (states (suc t)) m operation.id is
+
+    module _ (no_close : is_close operation.call ≡ false) where
+      right_later : (answer : Reply) → RightAt states trie t operation.access operation.generation operation.moment operation.call answer →
+          RightAt states trie (suc t) operation.access operation.generation operation.moment operation.call answer
+      right_later answer = by_access operation.access refl
+        where
+          by_access : (a : Access) → operation.access ≡ a → RightAt states trie t a operation.generation operation.moment operation.call answer →
+              RightAt states trie (suc t) a operation.generation operation.moment operation.call answer
+          by_access Writable is h = h
+          by_access ReadOnly is h = λ g e. h g (stood_before limits states last run t k lt operation runs no_close is g e)
+
+      line_later : (l : Line) → operation.line ≡ l →
+          Behind states t operation.id (RightAt states trie t operation.access operation.generation operation.moment operation.call) (WalksAt states trie t operation.access operation.call) l →
+          Behind states (suc t) operation.id (RightAt states trie (suc t) operation.access operation.generation operation.moment operation.call) (WalksAt states trie (suc t) operation.access operation.call) l
+      line_later (line.Swap (purpose.Update path former) x) e h = none_next limits states last run all t k lt operation runs s o m path former x e h
+      line_later (line.Swap (purpose.Renew path) x) e h = tt
+      line_later (line.Swap purpose.Clean x) e h = tt
+      line_later (line.Swap (purpose.Climb c) x) e h = keeps_place h
+      line_later (line.Climb l) e h = keeps_place h
+      line_later (line.End answer) e h =
+          later_behind states t (suc t) operation.id (RightAt states trie t operation.access operation.generation operation.moment operation.call)
+          (RightAt states trie (suc t) operation.access operation.generation operation.moment operation.call) keeps_place right_later answer h
+      line_later (line.Walk l) e (read_only, walks, knows) = (read_only, walks, λ g e'. knows g (stood_before limits states last run t k lt operation runs no_close read_only g e'))
+      line_later (line.Root l) e h = tt
+      line_later (line.Key l) e h = tt
+      line_later (line.Build l) e h = tt
+      line_later (line.Renew l) e h = tt
+      line_later (line.Clean l) e h = tt
+      line_later (line.Copy l) e h = tt
+      line_later line.Impossible e h = tt
+
+    answering_rests : IsAnswering states (trie_of limits states last depth path) (suc t) k operation
+    answering_rests = record {
+      closes = λ e. keeps_place (before.closes e);
+      behind = λ e. line_later e operation.line refl (before.behind e);
+      its = λ e read_only g generation h stands. before.its e read_only g generation h (stood_before limits states last run t k lt operation runs e read_only h stands);
+    }
+
+  -- ---- along the run
+
+  rests : (t k : ℕ) → t < last → (operation : Operation) → Runs (states t) k operation → IsAnswering states trie t k operation → IsAnswering states trie (suc t) k operation
+  rests t k lt operation runs before = by_turn (states (suc t)) refl (run.turn t lt)
+    where
+      by_turn : (after : State) → states (suc t) ≡ after → Turn (states t) after → IsAnswering states trie (suc t) k operation
+      by_turn after is (turns s o m) = answering_rests t k lt operation runs s o (subst (λ q. Moves (states t) s o q) (sym is) m) before
+
+  pub answering_at : (t : ℕ) → t ≤ last → (k : ℕ) (operation : Operation) → Runs (states t) k operation → IsAnswering states (trie_of limits states last depth path) t k operation
+  answering_at =
+      each_operation limits states last run (λ t k operation. IsAnswering states trie t k operation)
+      (λ t k operation b h. record { closes = h.closes; behind = h.behind; its = h.its }) answering_begins rests
+      (λ t k lt operation own h. answering_goes limits states last depth path run ok all final roots fits t k lt operation own h)
+
+  -- ---- the end
+
+  module _ (t k : ℕ) (lt : t < last) (operation : Operation) (runs : Runs (states t) k operation) (answer : Reply) (e : operation.line ≡ line.End answer) where
+    within : t ≤ last
+    within = omega arith
+
+    since : Since states t k operation
+    since = run_since limits states last run t k operation within runs
+
+    replied : is_close operation.call ≡ false → RightAt states trie t operation.access operation.generation operation.moment operation.call answer → Replied limits states last (content trie) operation answer
+    replied no_close h = by_access operation.access refl h
+      where
+        moment : IsWithin states since.at t operation.moment
+        moment = (since.reads no_close).moment (ap has_read e)
+
+        by_access : (a : Access) → operation.access ≡ a → RightAt states trie t a operation.generation operation.moment operation.call answer → Replied limits states last (content trie) operation answer
+        by_access Writable is (g, generation, right) =
+            on_writable g is generation (rooted_at_moments limits states last run t k operation g within runs is generation (ap has_read e)) moment.closes_none right
+        by_access ReadOnly is right =
+            let stands = read_only_stands limits states last run t k operation within runs is no_close since in
+            on_read_only stands.0 is (stands.1 (suc operation.moment) (omega (arith, moment.behind)) (omega (arith, moment.past)))
+            (right stands.0 (stands.1 t since.past (omega arith)))
+
+    no_close_unplaced : is_placed (states t) operation.id ≡ false → is_close operation.call ≡ false
+    no_close_unplaced unplaced = by_test (is_close operation.call) refl
+      where
+        by_test : (b : Bool) → is_close operation.call ≡ b → is_close operation.call ≡ false
+        by_test false is = is
+        by_test true is = absurd (true≢false (sym ((answering_at t within k operation runs).closes is) ∙ unplaced))
+
+    right_reply : answer ≢ reply.NoSlots → is_placed (states t) operation.id ≡ false → Replied limits states last (content trie) operation answer
+    right_reply other unplaced =
+        by_ending
+        (subst (λ l. Behind states t operation.id (RightAt states trie t operation.access operation.generation operation.moment operation.call) (WalksAt states trie t operation.access operation.call) l) e
+        ((answering_at t within k operation runs).behind (no_close_unplaced unplaced)))
+      where
+        by_ending : EndsSo states t operation.id (RightAt states trie t operation.access operation.generation operation.moment operation.call) answer → Replied limits states last (content trie) operation answer
+        by_ending (refused is) = absurd (other is)
+        by_ending (has_place is) = absurd (true≢false (sym is ∙ unplaced))
+        by_ending (is_right h) = replied (no_close_unplaced unplaced) h
+
+  pub replies_right : RepliesRight limits states last (trie_of limits states last depth path)
+  replies_right t actor operation answer o lt m is does other unplaced =
+      let place = place_of_actor (states t) actor operation is in
+      right_reply t place.0 lt operation place.2 answer (end_line (states t) operation operation.line answer does) other unplaced

@@ -1,0 +1,13 @@
+pub mod Finding
+pub mod Values
+pub mod Ways
+pub mod Updated
+pub mod Showing
+pub mod Reaching
+pub mod Roots
+pub mod Committing
+pub mod Kept
+pub mod Updating
+pub mod Swapping
+pub mod OfRuns
+pub mod OfLists

@@ -1,0 +1,5 @@
+pub mod Placing
+pub mod Own
+pub mod Behind
+pub mod Swap
+pub mod Copy

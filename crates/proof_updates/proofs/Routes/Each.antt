@@ -1,0 +1,176 @@
+-- Along a run the path of each operation that looks for its key keeps to the key's path.
+use Rattle.std.proofs.Common.{◌≡◌, ℕ, suc, ◌-◌, ◌<◌, ◌≤◌, true, true≢false, List, Some, None, refl, sym, ap, subst, ◌∙◌, arith}
+use Rattle.std.proofs.lemmas.Option.{none-some, same_Some}
+use Rattle.proof_updates.specs.Beneath.history.specs.declared.calls.Access.{Access}
+use Rattle.proof_updates.specs.Beneath.history.specs.declared.calls.Call.{Call}
+use Rattle.proof_updates.specs.Beneath.history.specs.declared.calls.Call.TheVariants.{Clear, Snapshot, Freeze}
+use Rattle.proof_updates.specs.Beneath.slot_arena.specs.declared.refs.Ref.{Ref}
+use Rattle.proof_updates.specs.Beneath.slot_arena.specs.declared.nodes.Node.{Node}
+use Rattle.proof_updates.specs.Beneath.slot_arena.specs.declared.nodes.Node.TheVariants.{Indirection, Branch, Single, Tomb, List as Listed}
+use Rattle.proof_updates.specs.Beneath.slot_arena.specs.Heaps.{node_at, entry_at, generation_at, generation_of}
+use Rattle.proof_updates.specs.Beneath.machine_model.specs.declared.finding.KeyLine.{KeyLine}
+use Rattle.proof_updates.specs.Beneath.machine_model.specs.declared.finding.KeyLine.TheVariants as key
+use Rattle.proof_updates.specs.Beneath.machine_model.specs.declared.lines.Purpose.{Purpose}
+use Rattle.proof_updates.specs.Beneath.machine_model.specs.declared.lines.Purpose.TheVariants as purpose
+use Rattle.proof_updates.specs.Beneath.machine_model.specs.declared.reading.Swap.{Swap}
+use Rattle.proof_updates.specs.Beneath.machine_model.specs.declared.lines.Line.{Line}
+use Rattle.proof_updates.specs.Beneath.machine_model.specs.declared.lines.Line.TheVariants as line
+use Rattle.proof_updates.specs.Beneath.machine_model.specs.declared.operations.Operation.{Operation}
+use Rattle.proof_updates.specs.Beneath.machine_model.specs.declared.reading.After.{After}
+use Rattle.proof_updates.specs.Beneath.machine_model.specs.declared.reading.After.TheVariants.{Goes, Gives}
+use Rattle.proof_updates.specs.Beneath.machine_model.specs.declared.roots.Root.{Root}
+use Rattle.proof_updates.specs.Beneath.machine_model.specs.declared.roots.RootLine.{RootLine}
+use Rattle.proof_updates.specs.Beneath.machine_model.specs.declared.roots.RootWord.TheVariants.{Plain}
+use Rattle.proof_updates.specs.Beneath.machine_model.specs.declared.steps.Limits.{Limits}
+use Rattle.proof_updates.specs.Beneath.machine_model.specs.Calls.{key_of, handle_of}
+use Rattle.proof_updates.specs.Beneath.machine_model.specs.States.{State, root_at, root_of, word_of, word_at}
+use Rattle.proof_updates.specs.Beneath.machine_model.specs.Reading.{read_step}
+use Rattle.proof_updates.specs.Beneath.machine_model.specs.Swapping.{root_after, swap_after}
+use Rattle.proof_updates.specs.Beneath.machine_model.specs.Finding.{key_after}
+use Rattle.proof_updates.specs.Beneath.machine_model.specs.Operations.{line_after, after_root, from_root, read_of, generation_from, given_root}
+use Rattle.proof_updates.specs.Beneath.machine_model.specs.Orders.{read_at_after, moment_from, moment_after}
+use Rattle.proof_updates.specs.Beneath.machine_model.specs.Times.{IsRun}
+use Rattle.proof_updates.specs.Beneath.proof_memory.specs.Laws.{IsInUse, is_end}
+use Rattle.proof_updates.specs.Beneath.proof_memory.specs.Wants.{Is, Holds, AnIndirection, meets, AllHold, word_wants}
+use Rattle.proof_updates.specs.Beneath.proof_memory.proofs.Claims.Uses.{safe_of, meets_of}
+use Rattle.proof_updates.specs.Beneath.proof_memory.proofs.Safety.AtEachTime.{safe_at}
+use Rattle.proof_updates.specs.Beneath.proof_generations.specs.Running.{Runs}
+use Rattle.proof_updates.specs.Beneath.proof_generations.proofs.Roots.Along.{ordered_at}
+use Rattle.proof_updates.specs.Beneath.proof_generations.proofs.Roots.Open.{no_close_at}
+use Rattle.proof_updates.specs.Beneath.proof_contents.specs.Tries.{Trie, generation}
+use Rattle.proof_updates.specs.Beneath.proof_contents.specs.Steps.{IsTrie}
+use Rattle.proof_updates.specs.Beneath.proof_contents.specs.Runs.{trie_of}
+use Rattle.proof_updates.specs.Beneath.proof_generations.proofs.Roots.Rooted.{root_given}
+use Rattle.proof_shape.proofs.Runs.Nodes.{nodes_stay}
+use Rattle.proof_updates.specs.Beneath.proof_generations.specs.Falling.{GivenForEver}
+use Rattle.proof_updates.specs.Taken.{RootsAreKept}
+use Rattle.proof_updates.proofs.Tries.EachOperation.{OwnStep, each_operation}
+use Rattle.proof_updates.proofs.Tries.Seen.{seen_link}
+use Rattle.proof_updates.proofs.Routes.Known.{IsAt, KeyRoute, LineRoute, route_later, route_root}
+use Rattle.proof_updates.proofs.Routes.Key.{main_on, entry_on, listed_on, sibling_on}
+use Rattle.proof_updates.proofs.Routes.Lines.{clean_on, climb_on, copy_on, walk_on, build_on, renew_on, swap_on}
+use Rattle.proof_updates.proofs.Routes.Reads.{read_on, leads_there}
+use Rattle.proof_updates.proofs.Routes.Times.{later}
+
+-- a SWAP's path is no matter of moments
+swap_route : (trie : Trie) (access : Access) (g q t b mu c nu : ℕ) (why : Purpose) (s : Swap) → LineRoute trie access g q t b mu (line.Swap why s) → LineRoute trie access g q t c nu (line.Swap why s)
+swap_route trie access g q t b mu c nu (purpose.Update p former) s h = h
+swap_route trie access g q t b mu c nu (purpose.Renew p) s h = h
+swap_route trie access g q t b mu c nu purpose.Clean s h = tt
+swap_route trie access g q t b mu c nu (purpose.Climb x) s h = tt
+
+module _ (limits : Limits) (states : ℕ → State) (last : ℕ) (depth path : Ref → ℕ) (run : IsRun limits states last) (ok : IsTrie (trie_of limits states last depth path))
+    (final : GivenForEver states last) (roots : RootsAreKept states last) where
+  abbrev trie : Trie
+  trie = trie_of limits states last depth path
+
+  module _ (t k : ℕ) (lt : t < last) (operation : Operation) (own : OwnStep states t k operation) (g : ℕ) where
+    abbrev state : State
+    state = states t
+
+    abbrev A : Access
+    A = operation.access
+
+    abbrev Q : ℕ
+    Q = key_of operation.call
+
+    abbrev On : Line → Type 0
+    On l = LineRoute trie A g Q (suc t) (read_at_after state operation) (moment_after state operation) l
+
+    within : t ≤ last
+    within = omega arith
+
+    -- ---- ROOT gives the root of its generation
+
+    module _ (l : RootLine) (e : operation.line ≡ line.Root l) (r : Ref) (gives : root_after state.heap operation.access (word_at state (handle_of operation.call)) l ≡ Gives r)
+        (its : generation_at state.heap r ≡ g) where
+      open_root : (found : Root) × (root_at state (handle_of operation.call) ≡ Some found) × (found.access ≡ operation.access)
+      open_root = (ordered_at limits states last run t within).handles.on_open k operation own.runs (no_close_at limits states last run t within k operation own.runs (ap is_end e))
+
+      plain : (open_root.0).word ≡ Plain r
+      plain = sym (ap word_of open_root.1) ∙ root_given state operation l r gives
+
+      root_is : trie.root g ≡ r
+      root_is =
+          ap trie.root (sym (ap (λ w. generation_at state.heap (root_of w)) plain ∙ its)) ∙ roots t (handle_of operation.call) open_root.0 within open_root.1 ∙ ap root_of plain
+
+      root_used : Holds (IsInUse state.heap) state.heap (Is r AnIndirection)
+      root_used =
+          (subst (λ w. AllHold (IsInUse state.heap) state.heap (word_wants w)) plain ((safe_at limits states last run t within).words (handle_of operation.call) open_root.0 open_root.1)).0
+
+      generation_is : generation trie r ≡ g
+      generation_is = by_node (node_at state.heap r) refl (meets_of root_used) its
+        where
+          by_node : (n : Node) → node_at state.heap r ≡ n → meets AnIndirection n ≡ true → generation_of (node_at state.heap r) ≡ g → generation trie r ≡ g
+          by_node (Indirection h w) is m own_generation =
+              ap generation_of (seen_link states last (nodes_stay limits states last run) t within r (safe_of root_used) h w is).1 ∙ sym (ap generation_of is) ∙ own_generation
+          by_node (Branch b es) is m own_generation = absurd (true≢false (sym m))
+          by_node (Single q v) is m own_generation = absurd (true≢false (sym m))
+          by_node (Tomb s) is m own_generation = absurd (true≢false (sym m))
+          by_node (Listed ss) is m own_generation = absurd (true≢false (sym m))
+
+      from_root_on : (call : Call) → On (from_root call r)
+      from_root_on (Clear h) = tt
+      from_root_on (Snapshot h) = tt
+      from_root_on (Freeze h) = tt
+      from_root_on call = (route_root trie A g Q (suc t) r root_is generation_is, refl)
+
+    root_on : (l : RootLine) → operation.line ≡ line.Root l → (after : After RootLine Ref) → root_after state.heap operation.access (word_at state (handle_of operation.call)) l ≡ after →
+        given_root state after operation.generation ≡ Some g → On (after_root operation after)
+    root_on l e (Goes next) is begun = tt
+    root_on l e (Gives r) is begun = from_root_on l e r is (same_Some _ _ begun) operation.call
+
+    -- ---- KEY
+
+    -- the moment stays where no READ is
+    same_moment : (l : Line) → operation.line ≡ l → read_of l ≡ None → operation.moment ≡ moment_after state operation
+    same_moment l e none = sym (ap (λ x. moment_from state operation (read_of x)) e ∙ ap (moment_from state operation) none)
+
+    at_next : (l : Line) → operation.line ≡ l → read_of l ≡ None → (p : List Ref) (main : Ref) → IsAt trie A g Q t operation.moment p main →
+        IsAt trie A g Q (suc t) (moment_after state operation) p main
+    at_next l e none p main at =
+        subst (λ mu. IsAt trie A g Q (suc t) mu p main) (same_moment l e none) (record { past = omega (arith, at.past); route = at.route; given = at.given })
+
+    key_on : (l : KeyLine) → operation.line ≡ line.Key l → operation.generation ≡ Some g → KeyRoute trie A g Q t operation.read_at operation.moment l → On (key_after state operation l)
+    key_on (key.Read p r) e begun h = read_on limits states last depth path run ok final roots t k lt operation own g p r e h (read_step state operation r) refl
+    key_on (key.Main p main) e begun h =
+        main_on trie ok g state operation t (read_at_after state operation) (moment_after state operation) lt p main (at_next (line.Key (key.Main p main)) e refl p main h) (node_at state.heap main)
+    key_on (key.Entry p main position) e begun h =
+        entry_on trie ok g state operation t (read_at_after state operation) (moment_after state operation) lt p main (at_next (line.Key (key.Entry p main position)) e refl p main h) position
+        (node_at state.heap (entry_at state.heap main position))
+        (λ generation w is passes. leads_there limits states last depth path run ok final roots t k lt operation own g p main position e generation w is passes begun)
+    key_on (key.Listed p main position) e begun h =
+        listed_on trie ok g state operation t (read_at_after state operation) (moment_after state operation) lt p main (at_next (line.Key (key.Listed p main position)) e refl p main h) position
+        (node_at state.heap (entry_at state.heap main position))
+    key_on (key.Sibling p main position former) e begun h =
+        sibling_on trie ok g state operation t (read_at_after state operation) (moment_after state operation) lt p main (at_next (line.Key (key.Sibling p main position former)) e refl p main h) position former
+        (entry_at state.heap main (1 - position)) (node_at state.heap (entry_at state.heap main (1 - position)))
+
+    -- ---- all lines
+
+    line_on : (l : Line) → operation.line ≡ l → generation_from state operation l ≡ Some g → (operation.generation ≡ Some g → LineRoute trie A g Q t operation.read_at operation.moment l) →
+        On (line_after state operation l)
+    line_on (line.Root l) e begun h = root_on l e (root_after state.heap operation.access (word_at state (handle_of operation.call)) l) refl begun
+    line_on (line.Key l) e begun h = key_on l e begun (h begun)
+    line_on (line.Build l) e begun h = build_on trie A g Q t _ _ state operation l (route_later trie A g Q t (suc t) _ (omega arith) (h begun))
+    line_on (line.Swap why s) e begun h =
+        swap_on trie A g Q t (read_at_after state operation) (moment_after state operation) state operation why s (swap_after state.heap operation.access (word_at state (handle_of operation.call)) s) (swap_route trie A g Q t operation.read_at operation.moment (read_at_after state operation) (moment_after state operation) why s (h begun))
+    line_on (line.Renew l) e begun h = renew_on trie A g Q t _ _ state operation l (route_later trie A g Q t (suc t) _ (omega arith) (h begun))
+    line_on (line.Clean l) e begun h = clean_on trie A g Q t _ _ state operation l
+    line_on (line.Climb l) e begun h = climb_on trie A g Q t _ _ state operation l
+    line_on (line.Copy l) e begun h = copy_on trie A g Q t _ _ state operation l
+    line_on (line.Walk l) e begun h = walk_on trie A g Q t _ _ state operation l
+    line_on (line.End answer) e begun h = tt
+    line_on line.Impossible e begun h = tt
+
+  -- ---- along the run
+
+  abbrev pub HasRoute : ℕ → ℕ → Operation → Type 0
+  HasRoute t k operation =
+      (g : ℕ) → operation.generation ≡ Some g → LineRoute trie operation.access g (key_of operation.call) t operation.read_at operation.moment operation.line
+
+  pub has_route : (t : ℕ) → t ≤ last → (k : ℕ) (operation : Operation) → Runs (states t) k operation → HasRoute t k operation
+  has_route =
+      each_operation limits states last run HasRoute (λ t k operation b h. h) (λ t k lt call o m d g e. absurd (none-some g e))
+      (λ t k lt operation runs h g e. later trie operation.access g (key_of operation.call) t operation.read_at operation.moment operation.line (h g e))
+      (λ t k lt operation own h g e. line_on t k lt operation own g operation.line refl e (h g))

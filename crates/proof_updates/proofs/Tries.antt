@@ -1,0 +1,9 @@
+pub mod Repairing
+pub mod Does
+pub mod EachOperation
+pub mod Seen
+pub mod Updates
+pub mod Facts
+pub mod Taken
+pub mod Whole
+pub mod OfLists

@@ -1,0 +1,98 @@
+-- What the layers below show, in the words in which it is taken here.
+use Rattle.std.specs.Prelude.{ℕ, suc, ◌<◌, ◌≤◌, ◌^◌}
+use Rattle.std.proofs.Common.{refl, ap, arith, ◌∙◌}
+use Rattle.proof_updates.specs.Beneath.slot_arena.specs.declared.refs.Ref.{Ref}
+use Rattle.proof_updates.specs.Beneath.machine_model.specs.declared.lines.Line.{Line}
+use Rattle.proof_updates.specs.Beneath.machine_model.specs.declared.lines.Line.TheVariants as line
+use Rattle.proof_updates.specs.Beneath.machine_model.specs.declared.lines.Purpose.{Purpose}
+use Rattle.proof_updates.specs.Beneath.machine_model.specs.declared.lines.Purpose.TheVariants as purpose
+use Rattle.proof_updates.specs.Beneath.machine_model.specs.declared.operations.Operation.{Operation}
+use Rattle.proof_updates.specs.Beneath.machine_model.specs.declared.reading.SwapLine.TheVariants as swap
+use Rattle.proof_updates.specs.Beneath.machine_model.specs.declared.reading.SwapLine.TheVariants.{Deciding}
+use Rattle.proof_updates.specs.Beneath.machine_model.specs.declared.steps.Limits.{Limits}
+use Rattle.proof_updates.specs.Beneath.machine_model.specs.declared.steps.Step.{Step}
+use Rattle.proof_updates.specs.Beneath.machine_model.specs.Calls.{key_of}
+use Rattle.proof_updates.specs.Beneath.machine_model.specs.States.{State, root_of}
+use Rattle.proof_updates.specs.Beneath.machine_model.specs.Grown.{node_under}
+use Rattle.proof_updates.specs.Beneath.machine_model.specs.Times.{IsRun}
+use Rattle.proof_updates.specs.Beneath.proof_commits.specs.Laws.{IsNoSwap}
+use Rattle.proof_updates.specs.Beneath.proof_contents.specs.Lines.Repairs.{IsRepaired, ReadsBelow}
+use Rattle.proof_updates.specs.Beneath.proof_generations.specs.Laws.Roots.{root_generation}
+use Rattle.proof_order.specs.Facts.{Runs}
+use Rattle.proof_shape.specs.Lines.Given.{GaveBelow}
+use Rattle.proof_shape.specs.Lines.Commits.{KnowsFresh, assigned_at}
+use Rattle.proof_shape.proofs.Lines.RepairMore.{repair_more}
+use Rattle.proof_updates.specs.Beneath.proof_generations.specs.Falling.{WasGiven}
+use Rattle.proof_updates.specs.Beneath.proof_generations.proofs.Falling.Final.{repairs_are_given}
+use Rattle.proof_order.proofs.Openings.RootOf.{roots_are_one}
+use Rattle.proof_shape.specs.Sites.Nodes.{depth_of_run}
+use Rattle.proof_shape.specs.Sites.At.{TakesSteps, StepsFit}
+use Rattle.proof_shape.proofs.Sites.At.{lines_have_sites, updates_have_sites}
+use Rattle.proof_updates.specs.Taken.{IsRepairing, RepairsAreKnown, SitesOfUpdates, RootsAreKept}
+
+-- ---- repairs
+
+below_no_swap : (l : Line) → ReadsBelow l → IsNoSwap l
+below_no_swap (line.Swap why s) b = absurd b
+below_no_swap (line.Root l) b = tt
+below_no_swap (line.Key l) b = tt
+below_no_swap (line.Build l) b = tt
+below_no_swap (line.Climb l) b = tt
+below_no_swap (line.Copy l) b = tt
+below_no_swap (line.Walk l) b = tt
+below_no_swap (line.End answer) b = tt
+below_no_swap (line.Renew l) b = tt
+below_no_swap (line.Clean l) b = tt
+below_no_swap line.Impossible b = tt
+
+module _ (limits : Limits) (states : ℕ → State) (last : ℕ) (run : IsRun limits states last) where
+  -- what a repair's READ gave was given
+  was_given : (t actor id start : ℕ) (i m : Ref) → t ≤ last → GaveBelow states last t actor id start i m → WasGiven states last start t i m
+  was_given t actor id start i m within g =
+      let given = repairs_are_given limits states last run g.at (omega (arith, g.past, within)) actor g.operation start i m (record {
+        outcome = g.outcome;
+        moves = g.moves;
+        runs = g.runs;
+        no_swap = below_no_swap g.operation.line g.below;
+        read = g.read;
+        reads = g.reads;
+        of = g.of;
+        gives = g.gives;
+      }) g.its g.below in
+      ((given.0.0, omega (arith, given.0.1, g.past), given.0.2), given.1)
+
+  pub repairs_are_known : RepairsAreKnown limits states last
+  repairs_are_known t s within own repairing = by own.why repairing own.knows
+    where
+      more : (i m : Ref) → GaveBelow states last t own.actor own.owner.id own.start i m → WasGiven states last own.start t i m
+      more i m g = was_given t own.actor own.owner.id own.start i m (omega (arith, within)) g
+
+      by : (why : Purpose) → IsRepairing why → KnowsFresh limits states last (assigned_at states last) t own.actor own.start own.owner own.replaced own.fresh why →
+          IsRepaired (node_under states last) (assigned_at states last own.start t) (WasGiven states last own.start t) own.start own.replaced own.fresh
+      by (purpose.Renew path) r k =
+          repair_more (node_under states last) (assigned_at states last own.start t) (GaveBelow states last t own.actor own.owner.id own.start) (WasGiven states last own.start t) more own.start
+          (line.Swap (purpose.Renew path) (record { indirection = own.indirection; replaced = own.replaced; fresh = own.fresh; line = swap.Check })) k
+      by purpose.Clean r k =
+          repair_more (node_under states last) (assigned_at states last own.start t) (GaveBelow states last t own.actor own.owner.id own.start) (WasGiven states last own.start t) more own.start
+          (line.Swap purpose.Clean (record { indirection = own.indirection; replaced = own.replaced; fresh = own.fresh; line = swap.Check })) k
+      by (purpose.Update path former) r k = absurd r
+      by (purpose.Climb c) r k = absurd r
+
+  -- ---- roots
+
+  pub roots_are_kept : RootsAreKept states last
+  roots_are_kept t handle root within e =
+      (roots_are_one limits states last run t handle (root_of root.word) (root_generation (states t) root) within (record { root = root; is_open = e; is = refl; its = refl })).0
+
+  -- ---- sites
+
+  module _ (steps : ℕ → Step) (takes : TakesSteps states steps last) (keys : StepsFit steps last) where
+    pub sites_of_updates : SitesOfUpdates limits states last (depth_of_run states steps last)
+    sites_of_updates t s within own path former why =
+        let site = updates_have_sites limits states steps last run takes keys t (omega (arith, within)) own.actor own.owner own.runs path former
+        (record { indirection = own.indirection; replaced = own.replaced; fresh = own.fresh; line = Deciding own.deciding })
+        (own.swaps ∙ ap (λ w. line.Swap w (record { indirection = own.indirection; replaced = own.replaced; fresh = own.fresh; line = Deciding own.deciding })) why) in
+        (site.1, omega (arith, site.1, site.2))
+
+    pub keys_of_operations : (t : ℕ) → t ≤ last → (k : ℕ) (operation : Operation) → Runs (states t) k operation → key_of operation.call < 2 ^ 64
+    keys_of_operations t within k operation runs = (lines_have_sites limits states steps last run takes keys t within (suc k) operation runs).2

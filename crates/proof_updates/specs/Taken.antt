@@ -1,0 +1,40 @@
+-- What is taken of the layers below beside the laws that they state: what a repair was given, at which depth a change is swapped
+-- in, and that a generation has one root.
+use Rattle.std.specs.Prelude.{◌≡◌, ℕ, ◌<◌, ◌≤◌, List, Option, Some}
+use Rattle.proof_updates.specs.Beneath.slot_arena.specs.declared.refs.Ref.{Ref}
+use Rattle.proof_updates.specs.Beneath.machine_model.specs.declared.lines.Purpose.{Purpose}
+use Rattle.proof_updates.specs.Beneath.machine_model.specs.declared.lines.Purpose.TheVariants as purpose
+use Rattle.proof_updates.specs.Beneath.machine_model.specs.declared.roots.Root.{Root}
+use Rattle.proof_updates.specs.Beneath.machine_model.specs.declared.steps.Limits.{Limits}
+use Rattle.proof_updates.specs.Beneath.machine_model.specs.declared.steps.Step.{Step}
+use Rattle.proof_updates.specs.Beneath.machine_model.specs.Paths.{depth_of}
+use Rattle.proof_updates.specs.Beneath.machine_model.specs.States.{State, root_at, root_of}
+use Rattle.proof_updates.specs.Beneath.machine_model.specs.Grown.{node_under}
+use Rattle.proof_updates.specs.Beneath.proof_contents.specs.Lines.Repairs.{IsRepaired}
+use Rattle.proof_updates.specs.Beneath.proof_contents.specs.Runs.{root_at as root_of_generation}
+use Rattle.proof_updates.specs.Beneath.proof_generations.specs.Laws.Roots.{root_generation}
+use Rattle.proof_shape.specs.Lines.Commits.{OwnCommit, assigned_at}
+use Rattle.proof_updates.specs.Beneath.proof_generations.specs.Falling.{WasGiven}
+
+-- it swaps in what RENEW or CLEAN made
+abbrev pub IsRepairing : Purpose → Type 0
+IsRepairing (purpose.Renew path) = Unit {0}
+IsRepairing purpose.Clean = Unit {0}
+IsRepairing why = ⊥
+
+-- the entries of a repair that is committed are those that it replaces, done by what READs of the repair gave
+abbrev pub RepairsAreKnown : Limits → (ℕ → State) → ℕ → Type 0
+RepairsAreKnown limits states last =
+    (t : ℕ) (s : Step) → t < last → (own : OwnCommit limits states last (assigned_at states last) t s) → IsRepairing own.why →
+    IsRepaired (node_under states last) (assigned_at states last own.start t) (WasGiven states last own.start t) own.start own.replaced own.fresh
+
+-- a change of a key is swapped in at the depth of its path's end
+abbrev pub SitesOfUpdates : Limits → (ℕ → State) → ℕ → (Ref → ℕ) → Type 0
+SitesOfUpdates limits states last depth =
+    (t : ℕ) (s : Step) → t < last → (own : OwnCommit limits states last (assigned_at states last) t s) → (path : List Ref) (former : Option ℕ) → own.why ≡ purpose.Update path former →
+    (depth own.indirection ≡ depth_of path) × (depth own.indirection ≤ 13)
+
+-- each handle's root is the one of its generation
+abbrev pub RootsAreKept : (ℕ → State) → ℕ → Type 0
+RootsAreKept states last =
+    (t handle : ℕ) (root : Root) → t ≤ last → root_at (states t) handle ≡ Some root → root_of_generation states last (root_generation (states t) root) ≡ root_of root.word

@@ -1,0 +1,83 @@
+-- What the steps of a run do to its trie, and what operations find in it.
+use Rattle.std.specs.Prelude.{◌≡◌, ◌≢◌, ℕ, suc, ◌<◌, ◌≤◌, false, List, [], Option, Some}
+use Rattle.proof_updates.specs.Beneath.ctrie_base.specs.Hashes.{hash_of}
+use Rattle.proof_updates.specs.Beneath.history.specs.declared.calls.Access.TheVariants.{Writable}
+use Rattle.proof_updates.specs.Beneath.history.specs.declared.replies.Reply.{Reply}
+use Rattle.proof_updates.specs.Beneath.history.specs.declared.replies.Reply.TheVariants as reply
+use Rattle.proof_updates.specs.Beneath.slot_arena.specs.declared.refs.Ref.{Ref}
+use Rattle.proof_updates.specs.Beneath.machine_model.specs.declared.actions.Action.TheVariants as act
+use Rattle.proof_updates.specs.Beneath.machine_model.specs.declared.finding.KeyLine.{KeyLine}
+use Rattle.proof_updates.specs.Beneath.machine_model.specs.declared.lines.Line.TheVariants as line
+use Rattle.proof_updates.specs.Beneath.machine_model.specs.declared.lines.Purpose.TheVariants as purpose
+use Rattle.proof_updates.specs.Beneath.machine_model.specs.declared.operations.Operation.{Operation}
+use Rattle.proof_updates.specs.Beneath.machine_model.specs.declared.steps.Limits.{Limits}
+use Rattle.proof_updates.specs.Beneath.machine_model.specs.declared.steps.Outcome.{Outcome}
+use Rattle.proof_updates.specs.Beneath.machine_model.specs.declared.steps.Step.{Step}
+use Rattle.proof_updates.specs.Beneath.machine_model.specs.declared.steps.Step.TheVariants as step
+use Rattle.proof_updates.specs.Beneath.machine_model.specs.Calls.{key_of, changed_reply}
+use Rattle.proof_updates.specs.Beneath.machine_model.specs.Operations.{action_of}
+use Rattle.proof_updates.specs.Beneath.machine_model.specs.Orders.{is_placed}
+use Rattle.proof_updates.specs.Beneath.machine_model.specs.Paths.{current}
+use Rattle.proof_updates.specs.Beneath.machine_model.specs.States.{State, operation_of}
+use Rattle.proof_updates.specs.Beneath.machine_model.specs.Moves.{Moves}
+use Rattle.proof_updates.specs.Beneath.proof_contents.specs.Tries.{Trie, content}
+use Rattle.proof_updates.specs.Beneath.proof_contents.specs.Steps.{Does, Updates, Looks}
+use Rattle.proof_updates.specs.Beneath.proof_contents.specs.Lines.Changes.{main_of_key}
+use Rattle.proof_order.specs.Facts.{act_in, entered_by_step, Update, Replied}
+use Rattle.proof_shape.specs.Lines.Commits.{OwnCommit, assigned_at}
+use Rattle.proof_updates.specs.Paths.{LiesOn, path_of}
+
+-- each step leaves the main nodes, repairs one, or updates a key in one
+abbrev pub StepsDo : Trie → Type 0
+StepsDo trie = (t : ℕ) → t < trie.last → Does trie t
+
+-- ---- paths
+
+-- the path of an operation on a writable handle lies on its key's path, in the generation of its root
+abbrev pub PathsLie : (ℕ → State) → ℕ → Trie → Type 0
+PathsLie states last trie =
+    (t actor g : ℕ) (operation : Operation) (p : List Ref) → t ≤ last → operation_of (states t) actor ≡ Some operation → operation.access ≡ Writable →
+    operation.generation ≡ Some g → path_of operation.line ≡ Some p → LiesOn trie t g (key_of operation.call) p
+
+-- where KEY was given a main node it was that of the path's end just behind the operation's moment
+abbrev pub KeysLook : (ℕ → State) → ℕ → Trie → Type 0
+KeysLook states last trie =
+    (t actor g : ℕ) (operation : Operation) (l : KeyLine) (main : Ref) → t ≤ last → operation_of (states t) actor ≡ Some operation → operation.access ≡ Writable →
+    operation.generation ≡ Some g → operation.line ≡ line.Key l → main_of_key l ≡ Some main →
+    (p : List Ref) × (path_of operation.line ≡ Some p) × (operation.moment < t) × Looks trie (suc operation.moment) g (key_of operation.call) (current p) main
+
+-- ---- own updates
+
+-- a step that commits an operation's change of its key is an own update of that key, in the generation of the operation's root
+abbrev pub UpdatesAt : Limits → (ℕ → State) → ℕ → Trie → Type 0
+UpdatesAt limits states last trie =
+    (t : ℕ) (s : Step) → t < last → (own : OwnCommit limits states last (assigned_at states last) t s) → (path : List Ref) (former : Option ℕ) → own.why ≡ purpose.Update path former →
+    Updates trie t own.start own.owner.call former
+
+-- so the call leads the content of that generation on, with the reply for the former value, and every other content stays
+abbrev pub UpdatesAct : Limits → (ℕ → State) → ℕ → Trie → Type 0
+UpdatesAct limits states last trie =
+    (t : ℕ) (s : Step) → t < last → (own : OwnCommit limits states last (assigned_at states last) t s) → (path : List Ref) (former : Option ℕ) → own.why ≡ purpose.Update path former →
+    (act_in (hash_of limits.hash) Writable own.owner.call (content trie own.start t) ≡ Some (changed_reply own.owner.call former, content trie own.start (suc t)))
+    × ((other : ℕ) → other ≢ own.start → content trie other (suc t) ≡ content trie other t)
+
+-- a step that commits no own update leaves all contents
+abbrev pub StepsKeep : (ℕ → State) → ℕ → Trie → Type 0
+StepsKeep states last trie =
+    (t : ℕ) (s : Step) (o : Outcome) → t < last → Moves (states t) s o (states (suc t)) → entered_by_step (states t) s ≡ [] →
+    (g : ℕ) → content trie g (suc t) ≡ content trie g t
+
+-- and one that commits an own update is such an update for the order
+abbrev pub UpdatesFollow : Limits → (ℕ → State) → ℕ → Trie → Type 0
+UpdatesFollow limits states last trie =
+    (t : ℕ) (s : Step) (o : Outcome) → t < last → Moves (states t) s o (states (suc t)) → entered_by_step (states t) s ≢ [] →
+    Update limits states last (content trie) t (entered_by_step (states t) s)
+
+-- ---- replies
+
+-- an operation that ends without a place, but for want of slots, was answered by the content just behind its moment
+abbrev pub RepliesRight : Limits → (ℕ → State) → ℕ → Trie → Type 0
+RepliesRight limits states last trie =
+    (t actor : ℕ) (operation : Operation) (answer : Reply) (o : Outcome) → t < last → Moves (states t) (step.Go actor) o (states (suc t)) →
+    operation_of (states t) actor ≡ Some operation → action_of (states t) operation ≡ act.End answer → answer ≢ reply.NoSlots →
+    is_placed (states t) operation.id ≡ false → Replied limits states last (content trie) operation answer

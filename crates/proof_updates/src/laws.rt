@@ -1,0 +1,4 @@
+//! The laws of contents.
+
+pub mod handles;
+pub mod tries;

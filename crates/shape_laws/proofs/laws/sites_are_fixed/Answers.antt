@@ -1,9 +1,0 @@
-use Rattle.shape_laws.proofs.Fixed.{sites_are_fixed as law}
-use Rattle.shape_laws.proofs.MainSites.{mains_share_sites as second}
-use Rattle.shape_laws.proofs.laws.sites_are_fixed.Goals as goal
-
-pub returns-clause-fixed : goal.returns-clause-fixed
-returns-clause-fixed c = law
-
-pub returns-clause-shared : goal.returns-clause-shared
-returns-clause-shared c = second

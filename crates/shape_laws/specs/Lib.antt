@@ -1,5 +1,0 @@
-pub mod Sites
-pub mod LineSites
-pub mod SitesAt
-pub mod Shaped
-pub mod Laws

@@ -1,8 +1,0 @@
-use Rattle.trie_laws.proofs.OfLists.{others_keep_contents, updates_lead_on}
-use Rattle.trie_laws.proofs.laws.contents_follow_updates.Goals as goal
-
-pub returns-clause-others : goal.returns-clause-others
-returns-clause-others c = others_keep_contents
-
-pub returns-clause-own : goal.returns-clause-own
-returns-clause-own c = updates_lead_on

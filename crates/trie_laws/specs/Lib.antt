@@ -1,4 +1,0 @@
-pub mod Below
-pub mod Paths
-pub mod Laws
-pub mod OfLists

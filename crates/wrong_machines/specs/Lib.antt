@@ -1,4 +1,0 @@
-pub mod Orders
-pub mod Machines
-pub mod Runs
-pub mod Laws
