@@ -45,7 +45,7 @@ fn reads_each_form(rt: HostRuntime) -> Result<(), Fail> {
         hash: HashKind::Block,
     };
     assert!(rt; script.limits == limits);
-    assert!(rt; script.commands.as_slice() == COMMANDS.as_slice());
+    assert!(rt; script.lines.as_slice() == COMMANDS.as_slice());
     Ok(())
 }
 

@@ -94,7 +94,7 @@ const CALLS: [Call; 10] = [
 fn machine_of(alloc: Global, text: &str) -> Result<Machine, Fail> {
     let script = read_script(alloc, text.as_bytes()).ok().ok_or("a fault")?;
     let mut machine = Machine::new(alloc, script.limits)?;
-    for command in &script.commands {
+    for command in &script.lines {
         carry_out(&mut machine, *command)?;
     }
     Ok(machine)
