@@ -17,6 +17,3 @@ pub use faults::Fault;
 pub use lock_runner::Between;
 pub use running::run_script;
 pub use threads::run_threads;
-
-#[cfg(test)]
-mod tests;

@@ -23,7 +23,7 @@ pub struct Case {
 }
 
 /// Nothing is done between two steps of a call.
-struct Nothing;
+pub(crate) struct Nothing;
 
 impl Between for Nothing {
     fn between(&self, _seat: u8, _taken: u64) {}
@@ -57,19 +57,23 @@ impl Case {
     pub fn is_as_wanted<R: AllocGlobal + Files + Threads + Wait + Sync>(
         &self,
         rt: &R,
+        folder: &str,
     ) -> io::Result<bool> {
         let ending = match self.kind {
             Kind::Script => "script",
             Kind::Threads => "threads",
             Kind::History => "history",
         };
-        let text = self.file(rt, ending)?;
+        let text = self.file(rt, folder, ending)?;
         let mut written = Vec::new(rt.alloc());
         match self.carried_out(rt, text.as_slice(), &mut written) {
-            Ok(()) => Ok(written == self.file(rt, self.wanted())?),
+            Ok(()) => Ok(written == self.file(rt, folder, self.wanted())?),
             Err(fault) => {
                 let told = format!(in rt.alloc(); "{fault}\n")?;
-                Ok(written.is_empty() && told.as_bytes() == self.file(rt, "fault")?.as_slice())
+                Ok(
+                    written.is_empty()
+                        && told.as_bytes() == self.file(rt, folder, "fault")?.as_slice(),
+                )
             }
         }
     }
@@ -83,8 +87,13 @@ impl Case {
     }
 
     /// The bytes of its file with this ending.
-    fn file<R: AllocGlobal + Files>(&self, rt: &R, ending: &str) -> io::Result<Vec<u8>> {
-        let name = format!(in rt.alloc(); "{}.{ending}", self.name)?;
+    fn file<R: AllocGlobal + Files>(
+        &self,
+        rt: &R,
+        folder: &str,
+        ending: &str,
+    ) -> io::Result<Vec<u8>> {
+        let name = format!(in rt.alloc(); "{folder}/{}.{ending}", self.name)?;
         fs::read(rt, name.as_str())
     }
 

@@ -1,4 +1,5 @@
-//! Carries out each case of the folder it runs in, and tells how many came out as wanted.
+//! Carries out each case of a folder, and tells how many came out as wanted. `test_cases FOLDER`; without a word
+//! the folder that it runs in.
 //!
 //! A case is a file: a script NAME.script, a script for threads NAME.threads, or a history NAME.history. What is
 //! wanted lies beside it: what is written, in NAME.report or NAME.verdict; or the fault that is told where
@@ -10,10 +11,10 @@ mod cases;
 use cases::{Case, Kind};
 use std::alloc::Global;
 use std::process::ExitCode;
-use std::rt::Files;
+use std::rt::{Env, Files};
 use std::sync::Wait;
 use std::thread::Threads;
-use std::{fs, io};
+use std::{env, fs, io};
 
 /// How many cases of each kind came out as wanted, and how many didn't.
 #[derive(Clone, Copy, PartialEq, Eq)]
@@ -37,12 +38,13 @@ impl Tally {
 }
 
 /// The cases of the folder, by their names.
-fn cases<R: AllocGlobal + Files + Clone + Drop>(
+fn all_cases<R: AllocGlobal + Files + Clone + Drop>(
     rt: &R,
     alloc: Global,
+    folder: &str,
 ) -> io::Result<Vec<Case>> {
     let mut cases = Vec::new(alloc);
-    for entry in fs::read_dir(rt, ".")? {
+    for entry in fs::read_dir(rt, folder)? {
         if let Some(case) = Case::of(alloc, entry?.file_name())? {
             cases.push(case)?;
         }
@@ -52,17 +54,19 @@ fn cases<R: AllocGlobal + Files + Clone + Drop>(
 }
 
 /// Carries out all cases, and names those that don't come out as wanted.
-fn run<R: AllocGlobal + Files + Print + Threads + Wait + Clone + Drop + Sync>(
+fn run<R: AllocGlobal + Env + Files + Print + Threads + Wait + Clone + Drop + Sync>(
     rt: &R,
 ) -> io::Result<Tally> {
+    let words = env::args(rt)?.collect::<Vec<String>>(rt.alloc())?;
+    let folder = words.get(1).map_or(".", |word| word.as_str());
     let mut tally = Tally {
         scripts: 0,
         threads: 0,
         histories: 0,
         others: 0,
     };
-    for case in cases(rt, rt.alloc())? {
-        let is_as_wanted = case.is_as_wanted(rt)?;
+    for case in all_cases(rt, rt.alloc(), folder)? {
+        let is_as_wanted = case.is_as_wanted(rt, folder)?;
         if !is_as_wanted {
             println!(rt; "not as wanted: {}", case.name())?;
         }
@@ -86,3 +90,6 @@ fn main(rt: HostRuntime) -> ExitCode {
     );
     ExitCode::from(if others == 0 && told.is_ok() { 0 } else { 1 })
 }
+
+#[cfg(test)]
+mod tests;

@@ -1,20 +1,14 @@
-//! Scripts for threads: their reports, their faults, and that their threads meet.
+//! Scripts for threads whose lines meet, and readers and writers that fail under threads.
 
 use super::Broken;
-use crate::{Between, Counted, Fault, check_history, run_threads};
+use crate::cases::Nothing;
+use ctrie_commands::{Between, Counted, Fault, check_history, run_threads};
 use std::alloc::Global;
 use std::sync::Wait;
 use std::sync::atomic::{AtomicBool, Ordering};
 use std::test::Fail;
 use std::thread;
 use std::thread::Threads;
-
-/// Nothing comes between two steps.
-struct Nothing;
-
-impl Between for Nothing {
-    fn between(&self, _seat: u8, _taken: u64) {}
-}
 
 /// How often a thread looks for another one.
 const TURNS: u32 = 1_000_000;
@@ -103,87 +97,6 @@ fn two_lines_meet(rt: HostRuntime) -> Result<(), Fail> {
     assert!(rt; !meeting.gave_up.load(Ordering::SeqCst));
     assert!(rt; meeting.first.load(Ordering::SeqCst) && meeting.second.load(Ordering::SeqCst));
     assert!(rt; is_legal(rt.alloc(), &report)?);
-    Ok(())
-}
-
-/// Scripts of which one actor's calls alone are answered, so that the report is settled.
-const SETTLED: [(&str, &str); 4] = [
-    (
-        "slots 64\nhash low\nactors 1\ndo 1 get 0 5\ndo 1 put 0 5 50\ndo 1 get 0 5\ndo 1 put 0 5 51\ndo 1 remove 0 5\ndo 1 remove 0 5\n",
-        "hash low\nbegin 0 1 get 0 5\nend 0 none\nbegin 1 1 put 0 5 50\nend 1 none\nbegin 2 1 get 0 5\nend 2 some 50\nbegin 3 1 put 0 5 51\nend 3 some 50\nbegin 4 1 remove 0 5\nend 4 some 51\nbegin 5 1 remove 0 5\nend 5 none\norder 0 1 2 3 4 5\nslots used 7 free 57 limbo 3\n",
-    ),
-    (
-        "# no call\n\nslots 16\nhash fold\nactors 63\n",
-        "hash fold\norder\nslots used 2 free 14 limbo 0\n",
-    ),
-    (
-        "slots 64\nhash low\nactors 3\ndo 2 get 1 5\ndo 2 put 0 5 50\ndo 2 count 0\n",
-        "hash low\nbegin 0 2 put 0 5 50\nend 0 none\ndenied 2 1 NoHandle\ndenied 2 3 NotReadOnly\norder 0\nslots used 4 free 60 limbo 1\n",
-    ),
-    (
-        "slots 64\nhash low\nactors 63\ndo 40 get 1 5\ndo 7 count 0\ndo 40 put 0 5 50\n",
-        "hash low\nbegin 0 40 put 0 5 50\nend 0 none\ndenied 7 3 NotReadOnly\ndenied 40 1 NoHandle\norder 0\nslots used 4 free 60 limbo 1\n",
-    ),
-];
-
-#[test]
-fn runs_settled_scripts(rt: HostRuntime) -> Result<(), Fail> {
-    for (script, wanted) in &SETTLED {
-        let report = told(&rt, rt.alloc(), script, &Nothing)?;
-        assert!(rt; report.as_str() == *wanted, "{report}");
-    }
-    Ok(())
-}
-
-/// Scripts with a fault. Of one line's faults BadLine is told first.
-const FAULTY: [(&str, &str); 12] = [
-    ("", "line 1: BadHeader"),
-    ("slots 64\nhash low\nactors 64\n", "line 3: BadHeader"),
-    (
-        "slots 64\nhash low\nactors 64\ndo 1 get 0 5\n",
-        "line 3: BadHeader",
-    ),
-    ("slots 64\nhash low\nactors 2\ngo 1 1\n", "line 4: BadLine"),
-    ("slots 64\nhash low\nactors 2\ngo 1 0\n", "line 4: BadLine"),
-    (
-        "slots 64\nhash low\nactors 2\nactor 1 get 0 5\n",
-        "line 4: BadLine",
-    ),
-    (
-        "slots 64\nhash low\nactors 2\n#\nfinish 1\n",
-        "line 5: BadLine",
-    ),
-    (
-        "slots 64\nhash low\nactors 2\ndo 3 get 0 5\n",
-        "line 4: BadNumber",
-    ),
-    (
-        "slots 64\nhash low\nactors 2\ndo 0 get 0 5\n",
-        "line 4: BadNumber",
-    ),
-    (
-        "slots 64\nhash low\nactors 2\ndo 3 get 0\n",
-        "line 4: BadLine",
-    ),
-    (
-        "slots 64\nhash low\nactors 2\nsweep 0\n",
-        "line 4: BadNumber",
-    ),
-    (
-        "slots 64\nhash low\nactors 2\ndo 1 get 0 5\nsweep\n",
-        "line 5: BadLine",
-    ),
-];
-
-#[test]
-fn tells_faults_of_threads(rt: HostRuntime) -> Result<(), Fail> {
-    for (script, wanted) in &FAULTY {
-        let Err(fault) = told(&rt, rt.alloc(), script, &Nothing) else {
-            panic!(rt; "{script} has a fault")
-        };
-        let found = format!(in rt.alloc(); "{fault}")?;
-        assert!(rt; found.as_str() == *wanted, "{script}{found}");
-    }
     Ok(())
 }
 

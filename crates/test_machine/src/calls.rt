@@ -1,14 +1,12 @@
 //! The public calls on small machines, with the answers that are known of them.
 
-mod alone;
-
-use crate::{Limits, Machine, Outcome, Step, run};
 use ctrie_base::{HashKind, Kind, Refusal};
 use history::Call;
 use std::alloc::{AllocError, AllocGlobal, Global};
 use std::fmt::Debug;
 use std::process::Abort;
 use std::test::Fail;
+use step_machine::{Limits, Machine, Outcome, Step, run};
 
 const LIMITS: Limits = Limits {
     slots: 64,

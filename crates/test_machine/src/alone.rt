@@ -2,10 +2,10 @@
 
 ghost use Rattle.std.specs.Prelude.{◌<◌};
 
-use crate::{Limits, Machine, Step};
 use ctrie_base::{HashKind, Kind, Refusal};
 use history::Call;
 use std::test::Fail;
+use step_machine::{Limits, Machine, Step};
 
 /// A hash of 64 bits, which is the key itself: so the keys' paths can be read off.
 const LIMITS: Limits = Limits {
