@@ -8,7 +8,7 @@ ghost use Rattle.ctrie_commands.specs.Written.{AppendsSuch, AppendsPartOf};
 ghost use Rattle.ctrie.specs.Outcomes.{Tells, HasFault, judged, exit_status_of};
 
 use crate::arguments::Request;
-use ctrie_commands::{Between, Counted, Fault, check_history, run_script, run_threads};
+use ctrie_commands::{Counted, Fault, Nothing, check_history, run_script, run_threads};
 use std::alloc::Global;
 use std::io::{Read, Write};
 use std::sync::Wait;
@@ -48,14 +48,8 @@ fn judged(legal: bool) -> Outcome
     }
 }
 
-/// Nothing is done between two steps of a call.
-struct Nothing;
-
-impl Between for Nothing {
-    fn between(&self, _seat: u8, _taken: u64) {}
-}
-
 /// Reads a text to its end, does with it what is asked for, and writes what tells of it.
+#[tactic(auto, using(crate::proofs::Telling::verdict_told, crate::proofs::Telling::verdict_part, crate::proofs::Telling::report_part, crate::proofs::Telling::thread_report_part))]
 pub fn carry_out<R: Threads + Wait + Sync, I: Read, W: Write>(
     rt: &R,
     alloc: Global,
@@ -68,7 +62,7 @@ pub fn carry_out<R: Threads + Wait + Sync, I: Read, W: Write>(
 
     // What was asked for came out so with what the reader had, and just what tells of it was written.
     ensures written { IfOk result (λ outcome. IfSome (I.remaining (inner_of input.old)) (λ text.
-        AppendsSuch (Tells request text outcome) (W.contents (inner_of output.old)) (W.contents (inner_of output.new)))) }
+        AppendsSuch (Tells request.entry text outcome) (W.contents (inner_of output.old)) (W.contents (inner_of output.new)))) }
     ensures all_read { OnOk result (IsAtEnd (I.remaining (inner_of input.new))) }
 
     // Whatever the reader had: of a script a text was written of which a check answers true.
@@ -76,7 +70,7 @@ pub fn carry_out<R: Threads + Wait + Sync, I: Read, W: Write>(
 
     // What each fault tells.
     ensures line { (number : ℕ) (refusal : _) → result ≡ Err (Fault.Line number refusal)
-        → IfSome (I.remaining (inner_of input.old)) (λ text. HasFault request text number refusal) }
+        → IfSome (I.remaining (inner_of input.old)) (λ text. HasFault request.entry text number refusal) }
     ensures read { result ≡ Err Fault.Read → failures input.old < failures input.new }
     ensures write { result ≡ Err Fault.Write → failures output.old < failures output.new }
     ensures never_usage { result ≢ Err Fault.Usage }
@@ -85,7 +79,7 @@ pub fn carry_out<R: Threads + Wait + Sync, I: Read, W: Write>(
     ensures silent { IfErr result (λ fault. fault ≢ Fault.Write →
         Keeps (W.contents (inner_of output.old)) (W.contents (inner_of output.new))) }
     ensures part { result ≡ Err Fault.Write → IfSome (I.remaining (inner_of input.old)) (λ text.
-        AppendsPartOf (λ bytes. (outcome : _) × Tells request text outcome bytes)
+        AppendsPartOf (λ bytes. (outcome : _) × Tells request.entry text outcome bytes)
         (W.contents (inner_of output.old)) (W.contents (inner_of output.new))) }
 {
     match request {

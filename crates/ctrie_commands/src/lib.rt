@@ -14,6 +14,6 @@ mod working;
 pub use checking::check_history;
 pub use counted_io::Counted;
 pub use faults::Fault;
-pub use lock_runner::Between;
+pub use lock_runner::{Between, Nothing};
 pub use running::run_script;
 pub use threads::run_threads;

@@ -16,7 +16,7 @@ mod seats;
 mod stepping;
 
 pub use accounts::{Answer, Running};
-pub use between::Between;
+pub use between::{Between, Nothing};
 pub use finishing::Unfinished;
 pub use laws::{
     answers_are_those_of_the_history, others_leave_the_account, own_steps_make_the_account,

@@ -1,6 +1,6 @@
 //! One case: its files, and what comes of it.
 
-use ctrie_commands::{Between, Counted, Fault, check_history, run_script, run_threads};
+use ctrie_commands::{Counted, Fault, Nothing, check_history, run_script, run_threads};
 use std::alloc::{AllocError, Global};
 use std::rt::Files;
 use std::sync::Wait;
@@ -20,13 +20,6 @@ pub enum Kind {
 pub struct Case {
     name: String,
     kind: Kind,
-}
-
-/// Nothing is done between two steps of a call.
-pub(crate) struct Nothing;
-
-impl Between for Nothing {
-    fn between(&self, _seat: u8, _taken: u64) {}
 }
 
 impl Case {

@@ -5,10 +5,10 @@ ghost use Rattle.std.specs.Prelude.{IfOk};
 ghost use Rattle.lock_runner.specs.Seats.{IsSeatOf};
 
 use crate::records::is_right;
-use crate::support::{Nothing, get, put, two_seats};
+use crate::support::{get, put, two_seats};
 use ctrie_base::Refusal;
 use history::Event;
-use lock_runner::{Record, Runner, Seat, Stop, Unfinished};
+use lock_runner::{Nothing, Record, Runner, Seat, Stop, Unfinished};
 use std::alloc::{AllocError, AllocGlobal, Global};
 use std::process::Abort;
 use std::sync::Wait;

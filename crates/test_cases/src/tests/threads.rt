@@ -1,8 +1,7 @@
 //! Scripts for threads whose lines meet, and readers and writers that fail under threads.
 
 use super::Broken;
-use crate::cases::Nothing;
-use ctrie_commands::{Between, Counted, Fault, check_history, run_threads};
+use ctrie_commands::{Between, Counted, Fault, Nothing, check_history, run_threads};
 use std::alloc::Global;
 use std::sync::Wait;
 use std::sync::atomic::{AtomicBool, Ordering};
