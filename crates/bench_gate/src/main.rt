@@ -8,7 +8,7 @@ ghost use Rattle.lock_runner.specs.Seats.{IsSeatOf};
 
 use ctrie_base::{HashKind, Refusal};
 use history::Call;
-use lock_runner::{Between, Machine, Runner, Seat, Step};
+use lock_runner::{Machine, Nothing, Runner, Seat, Step};
 use machine_model::Limits;
 use std::alloc::Global;
 use std::process::ExitCode;
@@ -22,12 +22,6 @@ const KEYS: u64 = 16;
 
 /// How many steps of the sweep follow each call.
 const SWEEPS: u32 = 6;
-
-struct Nothing;
-
-impl Between for Nothing {
-    fn between(&self, _seat: u8, _taken: u64) {}
-}
 
 /// What is done: so many calls in all, by so many threads.
 #[derive(Clone, Copy)]

@@ -1,3 +1,3 @@
 pub mod Counts
-pub mod Faults
+pub mod Failures
 pub mod Beginnings

@@ -4,10 +4,10 @@ ghost use Rattle.std.specs.Prelude.{◌≡◌, ◌<◌, ◌^◌, ℕ, List, IfOk
 ghost use Rattle.std.specs.IoError.{error_kind};
 ghost use Rattle.std.specs.Io.KnownBytes.{IsAtEnd};
 ghost use Rattle.counted_io.specs.Counts.{inner_of, failures};
-ghost use Rattle.counted_io.specs.Faults.{IsOfReading};
+ghost use Rattle.counted_io.specs.Failures.{IsOfReading};
 
 use crate::counting::Counted;
-use crate::faults::Fault;
+use crate::failures::Failure;
 use std::alloc::Global;
 use std::io;
 use std::io::{ErrorKind, Read};
@@ -23,11 +23,11 @@ pub fn is_interrupted(error: &io::Error) -> bool
 }
 
 /// All bytes that the reader has left. An interrupted call is made again.
-pub fn read_all<R: Read>(alloc: Global, input: &mut Counted<R>) -> Result<Vec<u8>, Fault>
+pub fn read_all<R: Read>(alloc: Global, input: &mut Counted<R>) -> Result<Vec<u8>, Failure>
     requires { failures input.old < 2 ^ 63 }
     ensures bytes { IfOk result (λ text. IfSome (R.remaining (inner_of input.old)) (λ bytes. text.items ≡ bytes)) }
     ensures end { OnOk result (IsAtEnd (R.remaining (inner_of input.new))) }
-    ensures faults { IfErr result (IsOfReading (failures input.old < failures input.new)) }
+    ensures failures { IfErr result (IsOfReading (failures input.old < failures input.new)) }
 {
     let mut text = Vec::new(alloc);
     let mut piece = [0; PIECE];
@@ -36,8 +36,8 @@ pub fn read_all<R: Read>(alloc: Global, input: &mut Counted<R>) -> Result<Vec<u8
             Ok(0) => return Ok(text),
             Ok(count) => text.extend_from_slice(&piece[..count])?,
             Err(error) if is_interrupted(&error) => {}
-            Err(_) => return Err(Fault::Read),
+            Err(_) => return Err(Failure::Read),
         }
     }
-    Err(Fault::Memory)
+    Err(Failure::Memory)
 }

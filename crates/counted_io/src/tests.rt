@@ -1,10 +1,9 @@
-//! Reading and writing all of a text, with readers and writers that fail, and the texts of faults.
+//! Reading and writing all of a text, with readers and writers that fail, and the texts of failures.
 
 mod fakes;
 
-use crate::{Counted, Fault, read_all, write_all};
-use ctrie_base::Refusal;
-use fakes::{Failure, NEVER, Sink, Source};
+use crate::{Counted, Failure, read_all, write_all};
+use fakes::{FailsAt, NEVER, Sink, Source};
 use std::alloc::AllocError;
 use std::io::{ErrorKind, Read, Write};
 use std::test::Fail;
@@ -21,7 +20,7 @@ fn reads_all(rt: HostRuntime) -> Result<(), Fail> {
         let first = Source::new(TEXT.as_bytes(), most, NEVER);
         let second = Source::new(LINE.as_bytes(), most, NEVER);
         let mut input = Counted::new(first.chain(second));
-        let text = read_all(rt.alloc(), &mut input).map_err(|_| "fault")?;
+        let text = read_all(rt.alloc(), &mut input).map_err(|_| "failure")?;
         assert!(rt; text.starts_with(TEXT.as_bytes()) && text.ends_with(LINE.as_bytes()));
         assert_eq!(rt; text.len(), 55);
         assert_eq!(rt; input.failed(), 0);
@@ -31,13 +30,13 @@ fn reads_all(rt: HostRuntime) -> Result<(), Fail> {
 
 /// The reader fails at each of its calls in turn, the last at the end; an interrupted call is made again.
 #[test]
-fn tells_read_faults(rt: HostRuntime) {
+fn tells_read_failures(rt: HostRuntime) {
     for (kind, length) in [
-        (ErrorKind::Other, Err(Fault::Read)),
+        (ErrorKind::Other, Err(Failure::Read)),
         (ErrorKind::Interrupted, Ok(49)),
     ] {
         for call in 1..=11 {
-            let source = Source::new(TEXT.as_bytes(), 5, Failure { call, kind });
+            let source = Source::new(TEXT.as_bytes(), 5, FailsAt { call, kind });
             let mut input = Counted::new(source);
             let found = read_all(rt.alloc(), &mut input);
             assert_eq!(rt; found.map(|text| text.len()), length, "call {call}");
@@ -62,17 +61,17 @@ fn writes_all(rt: HostRuntime) {
 
 /// The writer takes one byte a call, and fails or takes none at each call in turn, the last a flush.
 #[test]
-fn tells_write_faults(rt: HostRuntime) {
+fn tells_write_failures(rt: HostRuntime) {
     for is_silent in [false, true] {
         for call in 1..=7 {
-            let failure = Failure {
+            let fails_at = FailsAt {
                 call,
                 kind: ErrorKind::Other,
             };
-            let mut sink = Sink::new(Vec::new(rt.alloc()), 1, failure, is_silent);
+            let mut sink = Sink::new(Vec::new(rt.alloc()), 1, fails_at, is_silent);
             let mut output = Counted::new(&mut sink);
             let found = write_all(&mut output, LINE.as_bytes());
-            assert_eq!(rt; found, Err(Fault::Write), "call {call}");
+            assert_eq!(rt; found, Err(Failure::Write), "call {call}");
             assert_eq!(rt; output.failed(), 1);
             assert!(rt; sink.taken.len() as u64 == call - 1, "call {call}");
             assert!(rt;
@@ -86,45 +85,37 @@ fn tells_write_faults(rt: HostRuntime) {
 /// A call that fails counts, a write or a flush too, and a write that takes no byte.
 #[test]
 fn counts_failed_calls(rt: HostRuntime) -> Result<(), Fail> {
-    let failure = Failure {
+    let fails_at = FailsAt {
         call: 2,
         kind: ErrorKind::Other,
     };
-    let mut input = Counted::new(Source::new(TEXT.as_bytes(), 5, failure));
+    let mut input = Counted::new(Source::new(TEXT.as_bytes(), 5, fails_at));
     let mut piece = [0; 8];
     assert!(rt; input.read(&mut piece).is_ok() && input.failed() == 0);
     assert!(rt; input.read(&mut piece).is_err() && input.failed() == 1);
     assert!(rt; input.read(&mut piece).is_ok() && input.failed() == 1);
     for is_silent in [false, true] {
-        let sink = Sink::new(Vec::new(rt.alloc()), 5, failure, is_silent);
+        let sink = Sink::new(Vec::new(rt.alloc()), 5, fails_at, is_silent);
         let mut output = Counted::new(sink);
         assert!(rt; output.write(&piece).is_ok() && output.failed() == 0);
         assert!(rt; output.write(&piece).is_ok() == is_silent && output.failed() == 1);
         assert!(rt; output.flush().is_ok() && output.failed() == 1);
     }
-    let mut output = Counted::new(Sink::new(Vec::new(rt.alloc()), 5, failure, false));
+    let mut output = Counted::new(Sink::new(Vec::new(rt.alloc()), 5, fails_at, false));
     assert!(rt; output.flush().is_ok() && output.flush().is_err() && output.failed() == 1);
     Ok(())
 }
 
 #[test]
-fn shows_faults(rt: HostRuntime) -> Result<(), Fail> {
+fn shows_failures(rt: HostRuntime) -> Result<(), Fail> {
     let rows = [
-        (Fault::Line(3, Refusal::BadLine), "line 3: BadLine", 1),
-        (
-            Fault::Line(300001, Refusal::TooLong),
-            "line 300001: TooLong",
-            1,
-        ),
-        (Fault::Read, "ctrie: read", 2),
-        (Fault::Write, "ctrie: write", 2),
-        (Fault::Memory, "ctrie: memory", 2),
-        (Fault::Usage, "ctrie: usage", 1),
+        (Failure::Read, "a call of the reader failed"),
+        (Failure::Write, "a call of the writer failed"),
+        (Failure::Memory, "memory was refused"),
     ];
-    for (fault, text, status) in &rows {
-        assert!(rt; fault.to_string(rt.alloc())?.as_str() == *text, "{text}");
-        assert_eq!(rt; fault.status(), *status);
+    for (failure, text) in &rows {
+        assert!(rt; failure.to_string(rt.alloc())?.as_str() == *text, "{text}");
     }
-    assert!(rt; Fault::from(AllocError) == Fault::Memory);
+    assert!(rt; Failure::from(AllocError) == Failure::Memory);
     Ok(())
 }

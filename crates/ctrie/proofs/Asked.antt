@@ -18,7 +18,7 @@ use Rattle.clap.specs.declared.parser.matches.SubCommand.{SubCommand}
 use Rattle.clap.specs.declared.parser.matches.ArgMatches.TheViews.{out-SubCommand}
 use Rattle.ctrie.specs.declared.arguments.Request.{Request}
 use Rattle.ctrie.specs.declared.arguments.Request.TheVariants.{Check, Run, Threads}
-use Rattle.counted_io.specs.declared.faults.Fault.TheVariants.{Usage}
+use Rattle.ctrie_commands.specs.declared.faults.Fault.TheVariants.{Usage}
 use Rattle.ctrie.specs.Requests.{Answers, IsMatched, asked_file, fault_for, file_of, has_globals, met, program, takes, wants_file}
 
 -- the program's command is one whose parse is known

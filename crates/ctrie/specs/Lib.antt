@@ -1,2 +1,2 @@
 pub mod Requests
-pub mod Statuses
+pub mod Outcomes

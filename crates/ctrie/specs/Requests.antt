@@ -1,6 +1,7 @@
 -- What the program's words ask for.
 use Rattle.std.specs.Prelude.{◌≡◌, Bool, true, List, Option, Some, None, Result, Ok, Err, codes, if◌then◌else◌, option_and_then}
 use Rattle.std.specs.Str.{bytes_eq}
+use denote.Ref.{Bor}
 use Rattle.clap.specs.Simple.{on_top}
 use Rattle.clap.specs.Walk.{is_empty}
 use Rattle.clap.specs.Words.{App, Row, Rule, Text, fault_of, first_of, new_app, new_rule, subcommand_of, with_rule, with_subcommand}
@@ -11,13 +12,19 @@ use Rattle.clap.specs.declared.error.kind.ErrorKind.{ErrorKind}
 use Rattle.clap.specs.declared.error.kind.ErrorKind.TheVariants as kind
 use Rattle.ctrie.specs.declared.arguments.Request.{Request}
 use Rattle.ctrie.specs.declared.arguments.Request.TheVariants.{Check, Run, Threads}
-use Rattle.counted_io.specs.declared.faults.Fault.{Fault}
-use Rattle.counted_io.specs.declared.faults.Fault.TheVariants.{Memory, Usage}
+use Rattle.ctrie_commands.specs.declared.faults.Fault.{Fault}
+use Rattle.ctrie_commands.specs.declared.faults.Fault.TheVariants.{Memory, Usage}
 
 -- the fault that tells of such an error
 abbrev pub fault_for : ErrorKind → Fault
 fault_for kind.OutOfMemory = Memory
 fault_for other = Usage
+
+-- the file that is asked for
+abbrev pub path_of : Request → Bor Text
+path_of (Check path) = path
+path_of (Run path) = path
+path_of (Threads path) = path
 
 -- the one file that a subcommand wants
 abbrev pub file_rule : Rule

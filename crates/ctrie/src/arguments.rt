@@ -2,7 +2,7 @@
 
 ghost use Rattle.std.specs.Prelude.{◌≡◌, map, false, IfOk};
 ghost use Rattle.clap.specs.Words.{app_of, kind_of, subcommand_rows_of};
-ghost use Rattle.ctrie.specs.Requests.{Answers, IsMatched, wants_file, has_globals, fault_for};
+ghost use Rattle.ctrie.specs.Requests.{Answers, IsMatched, wants_file, has_globals, fault_for, path_of};
 
 use clap::error::ErrorKind;
 use clap::{Arg, ArgAction, ArgMatches};
@@ -19,6 +19,17 @@ pub enum Request<'a> {
     Run(&'a str),
     /// To run the script in this file by threads.
     Threads(&'a str),
+}
+
+impl<'a> Request<'a> {
+    /// The file that is asked for.
+    pub fn path(&self) -> &'a str
+        ensures { result ≡ path_of self.now }
+    {
+        match *self {
+            Request::Check(path) | Request::Run(path) | Request::Threads(path) => path,
+        }
+    }
 }
 
 /// Want of memory, or words that are no command or ask for help.

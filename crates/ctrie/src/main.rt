@@ -2,12 +2,18 @@
 #![tactic(auto)]
 
 mod arguments;
+mod outcomes;
 mod program;
 
 use std::process::ExitCode;
 
+/// The exit status is that of what came out. What stands in the way is told on standard error.
 fn main(rt: HostRuntime) -> ExitCode {
-    ExitCode::from(program::run(&rt))
+    let outcome = program::run(&rt);
+    if let Err(fault) = &outcome {
+        let _ = eprintln!(rt; "{fault}");
+    }
+    ExitCode::from(outcomes::exit_status(&outcome))
 }
 
 #[cfg(test)]

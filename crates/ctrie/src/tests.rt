@@ -1,7 +1,8 @@
 //! The program's words, its files and its exit statuses.
 
 use crate::arguments::{Request, request_of};
-use crate::program::{check_file, exit_status, run_file, run_file_by_threads};
+use crate::outcomes::{Outcome, exit_status};
+use crate::program::opened;
 use ctrie_base::Refusal;
 use ctrie_commands::Fault;
 use std::test::Fail;
@@ -44,19 +45,15 @@ fn reads_words(rt: HostRuntime) -> Result<(), Fail> {
 
 #[test]
 fn misses_a_file(rt: HostRuntime) {
-    assert_eq!(rt; check_file(&rt, "no-such.history"), Err(Fault::Read));
-    assert_eq!(rt; run_file(&rt, "no-such.script"), Err(Fault::Read));
-    assert_eq!(rt;
-        run_file_by_threads(&rt, "no-such.script"),
-        Err(Fault::Read)
-    );
+    assert!(rt; opened(&rt, "no-such.script").err() == Some(Fault::Read));
 }
 
 #[test]
 fn has_statuses(rt: HostRuntime) {
     let rows = [
-        (Ok(true), 0),
-        (Ok(false), 3),
+        (Ok(Outcome::Done), 0),
+        (Ok(Outcome::Legal), 0),
+        (Ok(Outcome::NotLegal), 3),
         (Err(Fault::Line(3, Refusal::BadLine)), 1),
         (Err(Fault::Read), 2),
         (Err(Fault::Write), 2),

@@ -4,9 +4,9 @@ use Rattle.std.proofs.lemmas.List.{take_more, map-append}
 use Rattle.std.proofs.lemmas.Grind.{flat_map-append}
 use Rattle.history.specs.declared.calls.Call.{Call}
 use Rattle.history.specs.declared.calls.Call.TheVariants.{Get}
-use Rattle.actor_history.specs.declared.accounts.Answer.{Answer}
-use Rattle.thread_script.specs.declared.lines.ThreadLine.{ThreadLine}
-use Rattle.thread_script.specs.declared.lines.ThreadLine.TheVariants.{Do, Sweep}
+use Rattle.lock_runner.specs.declared.accounts.Answer.{Answer}
+use Rattle.script_text.specs.declared.thread_lines.ThreadLine.{ThreadLine}
+use Rattle.script_text.specs.declared.thread_lines.ThreadLine.TheVariants.{Do, Sweep}
 use Rattle.ctrie_commands.specs.declared.working.Worker.{Worker}
 use Rattle.ctrie_commands.specs.Working.{calls_in, calls_of, Performed, None, Answered, Denied, answered_calls, HasPerformed, HasPerformedLine, HasPerformedAll}
 

@@ -7,7 +7,7 @@ use Rattle.std.specs.Global.{Vec}
 use Rattle.std.proofs.lemmas.List.{map-append, flat_map_more, length-map}
 use Rattle.std.proofs.lemmas.List.Elements.{All-nil, All-cons, All-head, All-tail}
 use Rattle.lock_runner.specs.Seats.{Seated}
-use Rattle.thread_script.specs.Reading.{Reading}
+use Rattle.script_text.specs.Threads.Reading.{Reading}
 use Rattle.ctrie_commands.specs.declared.working.Worker.{Worker}
 use Rattle.ctrie_commands.specs.Working.{HasWorked, HaveWorked, all_seats, GroupsHaveWorked, AreJoined}
 use Rattle.ctrie_commands.proofs.Ranks.{to_map}

@@ -76,14 +76,14 @@ unfolding first_state
 run_limits limits steps = limits_stay (first_state limits) steps
 
 -- the state after the lines of a script
-pub led_to : (script : Script) (before after : State) → before ≡ first_state script.limits → after ≡ run_from before (all_steps before script.commands) → after ≡ last_state script
-led_to script before after first last = last ∙ ap (λ s. run_from s (all_steps s script.commands)) first
+pub led_to : (script : Script) (before after : State) → before ≡ first_state script.limits → after ≡ run_from before (all_steps before script.lines) → after ≡ last_state script
+led_to script before after first last = last ∙ ap (λ s. run_from s (all_steps s script.lines)) first
 
 pub report_legal : (script : Script) (machine : Taken) (text : List ℕ) → state_of machine ≡ last_state script → All EventFits (state_of machine).events →
     IsLegalFor machine (order_of (state_of machine)) → text ≡ report script → IsLegalText text (told_in script.limits.hash (last_state script))
 report_legal script machine text is fit legal same =
     let sizes : machine.limits ≡ script.limits =
-    sym (run_limits machine.limits machine.steps) ∙ ap (λ (s : State). s.limits) is ∙ run_limits script.limits (all_steps (first_state script.limits) script.commands) in
+    sym (run_limits machine.limits machine.steps) ∙ ap (λ (s : State). s.limits) is ∙ run_limits script.limits (all_steps (first_state script.limits) script.lines) in
     let here : IsLegal (hash_of script.limits.hash) (state_of machine).events (order_of (state_of machine)) =
     subst (λ (limits : Limits). IsLegal (hash_of limits.hash) (state_of machine).events (order_of (state_of machine))) sizes legal in
     told_legal script.limits.hash (last_state script) text (report script) (subst (λ (s : State). All EventFits s.events) is fit)

@@ -11,7 +11,7 @@ use Rattle.machine_model.specs.declared.steps.Limits.{Limits}
 use Rattle.atomic_table.specs.Seated.{TableId}
 use Rattle.lock_runner.specs.Seats.{Room, Seated}
 use Rattle.lock_runner.specs.Opening.{fresh_seat, fresh_seats, IsMade}
-use Rattle.thread_script.specs.Reading.{Reading}
+use Rattle.script_text.specs.Threads.Reading.{Reading}
 use Rattle.ctrie_commands.specs.declared.working.Worker.{Worker}
 use Rattle.ctrie_commands.specs.Reports.{denied_lines}
 use Rattle.ctrie_commands.specs.Working.{IsUnused, HasPerformedAll, HasSweptAll, HasWorked, HaveWorked}

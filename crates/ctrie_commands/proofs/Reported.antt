@@ -7,7 +7,7 @@ use Rattle.ctrie_base.specs.declared.refusals.Refusal.{Refusal}
 use Rattle.ctrie_base.specs.declared.hashes.HashKind.{HashKind}
 use Rattle.history_text.specs.Grammar.{EventFits}
 use Rattle.machine_model.specs.declared.steps.Limits.{Limits}
-use Rattle.actor_history.specs.Answers.{AreAnswersOf}
+use Rattle.lock_runner.specs.ActorHistory.Answers.{AreAnswersOf}
 use Rattle.ctrie_commands.specs.Beneath.step_machine.specs.Machines.{Taken, state_of}
 use Rattle.ctrie_commands.specs.Beneath.step_machine.specs.Records.{IsRecordOf}
 use Rattle.ctrie_commands.specs.Beneath.step_machine.specs.declared.records.Record.{Record}
@@ -15,7 +15,7 @@ use Rattle.lock_runner.specs.Boards.{sweeps_in}
 use Rattle.lock_runner.specs.Seats.{Room, Seated, IsSeatOf, AreSeatsOf}
 use Rattle.lock_runner.specs.Opening.{IsMade}
 use Rattle.lock_runner.specs.Finishing.{IsHere, IsMissing, IsGathered, IsFinished, recorded}
-use Rattle.thread_script.specs.Reading.{Reading}
+use Rattle.script_text.specs.Threads.Reading.{Reading}
 use Rattle.ctrie_commands.specs.declared.working.Worker.{Worker}
 use Rattle.ctrie_commands.specs.Reports.{line, hash_text, event_lines, last_lines, record_report}
 use Rattle.ctrie_commands.specs.Working.{calls_of, sweep_lines, Performed, answered_calls}

@@ -6,22 +6,22 @@ use Rattle.std.proofs.lemmas.Bool.{cases_eq}
 use Rattle.std.proofs.lemmas.List.{length-map}
 use Rattle.std.proofs.lemmas.List.Concat.{flat_map-cons}
 use Rattle.std.proofs.lemmas.List.Sums.{sum_by-cons}
-use Rattle.counted_io.specs.declared.faults.Fault.{Fault}
+use Rattle.ctrie_commands.specs.declared.faults.Fault.{Fault}
 use Rattle.ctrie_base.specs.declared.hashes.HashKind.{HashKind}
 use Rattle.ctrie_base.specs.declared.refusals.Refusal.{Refusal}
 use Rattle.history.specs.declared.calls.Call.{Call}
 use Rattle.history_text.specs.Grammar.{IsShort}
 use Rattle.machine_model.specs.declared.steps.Limits.{Limits}
 use Rattle.ctrie_commands.specs.Beneath.step_machine.specs.Machines.{Taken, state_of}
-use Rattle.actor_history.specs.declared.accounts.Answer.{Answer}
-use Rattle.actor_history.specs.Answers.{AreAnswersOf}
-use Rattle.actor_history.proofs.Totals.{total, total_least, total_sum}
-use Rattle.actor_history.proofs.Counted.{answered, events_counted, answered_counted}
-use Rattle.thread_script.specs.declared.lines.ThreadLine.{ThreadLine}
-use Rattle.thread_script.specs.declared.lines.ThreadLine.TheVariants.{Do, Sweep}
-use Rattle.thread_script.specs.Reading.{Reading, thread_script_of}
-use Rattle.thread_script.proofs.Few.{few_lines}
-use Rattle.thread_script.proofs.Found.{script_found}
+use Rattle.lock_runner.specs.declared.accounts.Answer.{Answer}
+use Rattle.lock_runner.specs.ActorHistory.Answers.{AreAnswersOf}
+use Rattle.lock_runner.proofs.ActorHistory.Totals.{total, total_least, total_sum}
+use Rattle.lock_runner.proofs.ActorHistory.Counted.{answered, events_counted, answered_counted}
+use Rattle.script_text.specs.declared.thread_lines.ThreadLine.{ThreadLine}
+use Rattle.script_text.specs.declared.thread_lines.ThreadLine.TheVariants.{Do, Sweep}
+use Rattle.script_text.specs.Threads.Reading.{Reading, thread_dialect, thread_script_of}
+use Rattle.script_text.proofs.Few.{few_lines}
+use Rattle.script_text.proofs.Threads.Found.{script_found}
 use Rattle.ctrie_commands.specs.Working.{calls_in, calls_of, names_sweep, sweep_lines, Performed, None, Answered, Denied, answered_calls}
 use Rattle.ctrie_commands.specs.Threads.{IsPerformedBy, IsSweptBy, IsCarriedOut, thread_report, IsReportOf, IsThreadReport}
 use Rattle.ctrie_commands.specs.Legality.{told_in, AppendsJudged}
@@ -127,8 +127,9 @@ module _ (script : Reading) (board : Taken) (denials : List (List Refusal)) (don
 -- ---- what is written
 
 pub is_thread_report : (text : List ℕ) (script : Reading) (bytes : List ℕ) → thread_script_of text ≡ Ok script → IsReportOf script bytes → IsThreadReport text bytes
+unfolding thread_script_of
 is_thread_report text script bytes read is =
-    let short = short_report script is.board is.denials is.done script.limits.hash (script_found text script read).1.0 (few_lines text script read) in
+    let short = short_report script is.board is.denials is.done script.limits.hash (script_found text script read).1.0 (few_lines thread_dialect text script read) in
     (script, read, is, judged_legal bytes (told_in script.limits.hash (state_of is.board)) is.legal (subst IsShort (sym is.whole) short))
 
 pub each_report : {T : Type 0} (bytes_of : T → List ℕ) (text : List ℕ) (script : Reading) (result : Result T Fault) → thread_script_of text ≡ Ok script →

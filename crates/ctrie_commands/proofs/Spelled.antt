@@ -126,8 +126,8 @@ pub report_spelled : (script : Reading) → AllByRecursion EventFits (last_state
 unfolding report first_state
 report_spelled script fit numbers =
     let last = last_state script in
-    whole_spelled script.limits.hash last.events (order_of last) (all_told (first_state script.limits) script.commands ++ last_lines last)
-    (all_spelled script.commands (first_state script.limits) (last_lines last) (order_of last) fit (last_spelled last numbers))
+    whole_spelled script.limits.hash last.events (order_of last) (all_told (first_state script.limits) script.lines ++ last_lines last)
+    (all_spelled script.lines (first_state script.limits) (last_lines last) (order_of last) fit (last_spelled last numbers))
 
 -- ---- what threads made of a script
 

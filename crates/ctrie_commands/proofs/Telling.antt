@@ -56,8 +56,8 @@ fresh_state limits = refl
 
 -- the three parts of a report
 pub reported : (script : Reading) (before after : State) (first second third : List ℕ) → before ≡ first_state script.limits →
-    after ≡ run_from before (all_steps before script.commands) → first ≡ line (hash_text script.limits.hash) →
-    second ≡ first ++ all_told before script.commands → third ≡ second ++ last_lines after → third ≡ report script
+    after ≡ run_from before (all_steps before script.lines) → first ≡ line (hash_text script.limits.hash) →
+    second ≡ first ++ all_told before script.lines → third ≡ second ++ last_lines after → third ≡ report script
 unfolding report
 reported script before after first second third is_first is_last hash told_of last =
-    last ∙ rw (told_of, hash, is_last, is_first) (append_assoc (line (hash_text script.limits.hash)) (all_told (first_state script.limits) script.commands) (last_lines (last_state script)))
+    last ∙ rw (told_of, hash, is_last, is_first) (append_assoc (line (hash_text script.limits.hash)) (all_told (first_state script.limits) script.lines) (last_lines (last_state script)))

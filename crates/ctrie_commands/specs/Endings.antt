@@ -31,4 +31,4 @@ LineEnds before other = Unit {0}
 -- so has each line of the script, behind the lines before it
 abbrev pub EachLineEnds : Reading → Type 0
 EachLineEnds script =
-    (first rest : List Command) (line : Command) → script.commands ≡ first ++ line ∷ rest → LineEnds (last_state (record script { commands = first })) line
+    (first rest : List Command) (line : Command) → script.lines ≡ first ++ line ∷ rest → LineEnds (last_state (record script { lines = first })) line

@@ -1,4 +1,6 @@
 pub mod Beneath
+pub mod Faults
+pub mod Written
 pub mod Verdicts
 pub mod Legality
 pub mod Denials

@@ -75,11 +75,11 @@ last_lines state = end_lines (order_of state) (length (in_use state.heap)) (leng
 
 -- the state after the steps that all lines of the script name
 abbrev pub last_state : Reading → State
-last_state script = run script.limits (all_steps (first_state script.limits) script.commands)
+last_state script = run script.limits (all_steps (first_state script.limits) script.lines)
 
 -- the report
 unfoldable pub report : Reading → List ℕ
-report script = line (hash_text script.limits.hash) ++ (all_told (first_state script.limits) script.commands ++ last_lines (last_state script))
+report script = line (hash_text script.limits.hash) ++ (all_told (first_state script.limits) script.lines ++ last_lines (last_state script))
 
 -- a line for each denial of an actor
 abbrev pub denied_lines : ℕ → List Refusal → List ℕ

@@ -1,15 +1,13 @@
 -- What a run of a script answers and writes.
-use Rattle.std.specs.Prelude.{◌≡◌, ℕ, true, List, Option, Ok, Err}
-use Rattle.std.specs.Io.KnownBytes.{Appends}
+use Rattle.std.specs.Prelude.{◌≡◌, ℕ, true, List, Option, Ok}
 use Rattle.ctrie_base.specs.declared.refusals.Refusal.{Refusal}
 use Rattle.script_text.specs.Reading.{Reading, script_of}
 use Rattle.ctrie_commands.specs.Endings.{EachLineEnds}
 use Rattle.ctrie_commands.specs.Reports.{last_state, report}
 use Rattle.ctrie_commands.specs.Verdicts.{IsVerdict}
 use Rattle.ctrie_commands.specs.Legality.{told_in, IsLegalText}
-use Rattle.counted_io.specs.Beginnings.{AppendsBeginning}
-use Rattle.counted_io.specs.declared.faults.Fault.{Fault}
-use Rattle.counted_io.specs.declared.faults.Fault.TheVariants.{Line, Memory}
+use Rattle.ctrie_commands.specs.Faults.{IsFault}
+use Rattle.ctrie_commands.specs.Written.{AppendsSuch, AppendsPartOf}
 
 -- The text is a script without a fault, and these bytes are its report. They spell the history and the order of its run; the order is legal, and a check
 -- of the report answers true. Its lines have ended the operations that are sure to end.
@@ -23,18 +21,11 @@ pub record IsReport (text bytes : List ℕ) : Type 0 where
 
 -- the text's first line with a fault is this one, with this fault
 abbrev pub HasScriptFault : List ℕ → ℕ → Refusal → Type 0
-HasScriptFault text number refusal = script_of text ≡ Err (record { line = number; refusal = refusal })
+HasScriptFault text number refusal = IsFault (script_of text) number refusal
 
--- known bytes grow by the text's report
+-- known bytes grow by the text's report, and by a beginning of it
 abbrev pub AppendsReport : Option (List ℕ) → Option (List ℕ) → List ℕ → Type 0
-AppendsReport old new text = (bytes : List ℕ) × IsReport text bytes × Appends old new bytes
+AppendsReport old new text = AppendsSuch (IsReport text) old new
 
--- known bytes grow by a beginning of the text's report
 abbrev pub AppendsReportPart : Option (List ℕ) → Option (List ℕ) → List ℕ → Type 0
-AppendsReportPart old new text = (bytes : List ℕ) × IsReport text bytes × AppendsBeginning old new bytes
-
--- the fault is want of memory, or the text's own
-abbrev pub IsOfScript : List ℕ → Fault → Type 0
-IsOfScript text (Line number refusal) = HasScriptFault text number refusal
-IsOfScript text Memory = Unit {0}
-IsOfScript text fault = ⊥
+AppendsReportPart old new text = AppendsPartOf (IsReport text) old new

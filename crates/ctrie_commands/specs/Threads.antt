@@ -1,18 +1,16 @@
 -- What a script for threads comes to.
-use Rattle.std.specs.Prelude.{◌≡◌, ℕ, ◌+◌, ◌<◌, ◌≤◌, true, List, [], ◌∷◌, ◌++◌, length, Option, Some, Ok, Err, slice_get}
-use Rattle.std.specs.Io.KnownBytes.{Appends}
+use Rattle.std.specs.Prelude.{◌≡◌, ℕ, ◌+◌, ◌<◌, ◌≤◌, true, List, [], ◌∷◌, ◌++◌, length, Option, Some, Ok, slice_get}
 use Rattle.ctrie_base.specs.declared.refusals.Refusal.{Refusal}
 use Rattle.ctrie_base.specs.declared.hashes.HashKind.{HashKind}
-use Rattle.counted_io.specs.Beginnings.{AppendsBeginning}
-use Rattle.counted_io.specs.declared.faults.Fault.{Fault}
-use Rattle.counted_io.specs.declared.faults.Fault.TheVariants.{Line, Memory}
+use Rattle.ctrie_commands.specs.Faults.{IsFault}
+use Rattle.ctrie_commands.specs.Written.{AppendsSuch, AppendsPartOf}
 use Rattle.machine_model.specs.declared.steps.Limits.{Limits}
 use Rattle.machine_model.specs.States.{State}
 use Rattle.ctrie_commands.specs.Beneath.step_machine.specs.Machines.{Taken, state_of, AreTaken}
-use Rattle.actor_history.specs.declared.accounts.Answer.{Answer}
-use Rattle.actor_history.specs.Answers.{AreAnswersOf}
+use Rattle.lock_runner.specs.declared.accounts.Answer.{Answer}
+use Rattle.lock_runner.specs.ActorHistory.Answers.{AreAnswersOf}
 use Rattle.lock_runner.specs.Boards.{sweeps_in}
-use Rattle.thread_script.specs.Reading.{Reading, thread_script_of}
+use Rattle.script_text.specs.Threads.Reading.{Reading, thread_script_of}
 use Rattle.ctrie_commands.specs.Reports.{line, hash_text, event_lines, last_lines, denied_lines}
 use Rattle.ctrie_commands.specs.Verdicts.{IsVerdict}
 use Rattle.ctrie_commands.specs.Legality.{told_in, IsLegalText}
@@ -70,17 +68,11 @@ IsThreadReport text bytes = (script : Reading) × (thread_script_of text ≡ Ok 
 
 -- the text's first line with a fault is this one, with this fault
 abbrev pub HasThreadFault : List ℕ → ℕ → Refusal → Type 0
-HasThreadFault text number refusal = thread_script_of text ≡ Err (record { line = number; refusal = refusal })
+HasThreadFault text number refusal = IsFault (thread_script_of text) number refusal
 
 -- known bytes grow by such a report, and by a beginning of one
 abbrev pub AppendsThreadReport : Option (List ℕ) → Option (List ℕ) → List ℕ → Type 0
-AppendsThreadReport old new text = (bytes : List ℕ) × IsThreadReport text bytes × Appends old new bytes
+AppendsThreadReport old new text = AppendsSuch (IsThreadReport text) old new
 
 abbrev pub AppendsThreadReportPart : Option (List ℕ) → Option (List ℕ) → List ℕ → Type 0
-AppendsThreadReportPart old new text = (bytes : List ℕ) × IsThreadReport text bytes × AppendsBeginning old new bytes
-
--- the fault is want of memory, or the text's own
-abbrev pub IsOfThreadScript : List ℕ → Fault → Type 0
-IsOfThreadScript text (Line number refusal) = HasThreadFault text number refusal
-IsOfThreadScript text Memory = Unit {0}
-IsOfThreadScript text fault = ⊥
+AppendsThreadReportPart old new text = AppendsPartOf (IsThreadReport text) old new

@@ -1,12 +1,11 @@
 -- What a check of a history answers and writes.
-use Rattle.std.specs.Prelude.{◌≡◌, ◌↔◌, ℕ, Bool, true, false, List, [], ◌∷◌, ◌++◌, Option, Ok, Err, IsTrue, codes}
+use Rattle.std.specs.Prelude.{◌≡◌, ◌↔◌, ℕ, Bool, true, false, List, [], ◌∷◌, ◌++◌, Option, Ok, IsTrue, codes}
 use Rattle.ctrie_base.specs.Hashes.{hash_of}
 use Rattle.ctrie_base.specs.declared.refusals.Refusal.{Refusal}
 use Rattle.history.specs.Orders.{IsLegal}
 use Rattle.history_text.specs.Reading.{Reading, history_of}
-use Rattle.counted_io.specs.Beginnings.{AppendsBeginning}
-use Rattle.counted_io.specs.declared.faults.Fault.{Fault}
-use Rattle.counted_io.specs.declared.faults.Fault.TheVariants.{Line, Memory}
+use Rattle.ctrie_commands.specs.Faults.{IsFault}
+use Rattle.ctrie_commands.specs.Written.{AppendsPartOf}
 
 -- the line that tells whether an order is legal
 abbrev pub verdict_line : Bool → List ℕ
@@ -20,14 +19,12 @@ IsVerdict text legal =
 
 -- the text's first line with a fault is this one, with this fault
 abbrev pub HasLineFault : List ℕ → ℕ → Refusal → Type 0
-HasLineFault text number refusal = history_of text ≡ Err (record { line = number; refusal = refusal })
+HasLineFault text number refusal = IsFault (history_of text) number refusal
 
--- known bytes grow by a beginning of the line that tells the text's verdict
+-- these bytes are the line that tells the text's verdict
+abbrev pub TellsVerdict : List ℕ → List ℕ → Type 0
+TellsVerdict text bytes = (legal : Bool) × IsVerdict text legal × (bytes ≡ verdict_line legal)
+
+-- known bytes grow by a beginning of that line
 abbrev pub AppendsPart : Option (List ℕ) → Option (List ℕ) → List ℕ → Type 0
-AppendsPart old new text = (legal : Bool) × IsVerdict text legal × AppendsBeginning old new (verdict_line legal)
-
--- the fault is want of memory, or the text's own
-abbrev pub IsOfText : List ℕ → Fault → Type 0
-IsOfText text (Line number refusal) = HasLineFault text number refusal
-IsOfText text Memory = Unit {0}
-IsOfText text fault = ⊥
+AppendsPart old new text = AppendsPartOf (TellsVerdict text) old new

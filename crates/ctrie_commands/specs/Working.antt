@@ -5,11 +5,11 @@ use Rattle.std.specs.declared.alloc.AllocError.{AllocError}
 use Rattle.std.specs.Global.{Vec}
 use Rattle.ctrie_base.specs.declared.refusals.Refusal.{Refusal}
 use Rattle.history.specs.declared.calls.Call.{Call}
-use Rattle.actor_history.specs.declared.accounts.Answer.{Answer}
+use Rattle.lock_runner.specs.declared.accounts.Answer.{Answer}
 use Rattle.lock_runner.specs.Seats.{Seated}
-use Rattle.thread_script.specs.declared.lines.ThreadLine.{ThreadLine}
-use Rattle.thread_script.specs.declared.lines.ThreadLine.TheVariants.{Do, Sweep}
-use Rattle.thread_script.specs.Reading.{Reading}
+use Rattle.script_text.specs.declared.thread_lines.ThreadLine.{ThreadLine}
+use Rattle.script_text.specs.declared.thread_lines.ThreadLine.TheVariants.{Do, Sweep}
+use Rattle.script_text.specs.Threads.Reading.{Reading}
 use Rattle.ctrie_commands.specs.Reports.{denied_lines}
 use Rattle.ctrie_commands.specs.declared.working.Worker.{Worker}
 

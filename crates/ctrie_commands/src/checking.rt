@@ -3,24 +3,23 @@
 ghost use Rattle.std.specs.Prelude.{◌≡◌, ◌≢◌, ◌<◌, ◌^◌, ℕ, IfOk, OnOk, IfErr, IfSome};
 ghost use Rattle.std.specs.Io.KnownBytes.{Appends, Keeps, IsAtEnd};
 ghost use Rattle.counted_io.specs.Counts.{inner_of, failures};
-ghost use Rattle.ctrie_commands.specs.Verdicts.{IsVerdict, IsOfText, HasLineFault, AppendsPart, verdict_line};
+ghost use Rattle.history_text.specs.Reading.{history_of};
+ghost use Rattle.ctrie_commands.specs.Faults.{IsOf};
+ghost use Rattle.ctrie_commands.specs.Verdicts.{IsVerdict, HasLineFault, AppendsPart, verdict_line};
 
-use counted_io::{Counted, Fault, read_all, write_all};
+use crate::faults::Fault;
+use counted_io::{Counted, read_all, write_all};
 use history::is_order;
-use history_text::{Told, read_history};
+use history_text::read_history;
 use std::alloc::Global;
 use std::io::{Read, Write};
 
 /// Whether the order that the text gives is legal for its events.
 fn judge(alloc: Global, text: &[u8]) -> Result<bool, Fault>
     ensures verdict { IfOk result (IsVerdict text.now) }
-    ensures faults { IfErr result (IsOfText text.now) }
+    ensures faults { IfErr result (IsOf (history_of text.now)) }
 {
-    let given = match read_history(alloc, text) {
-        Ok(given) => given,
-        Err(Told::Line(number, refusal)) => return Err(Fault::Line(number, refusal)),
-        Err(Told::Memory) => return Err(Fault::Memory),
-    };
+    let given = read_history(alloc, text)?;
     let events = given.events.as_slice();
     let order = given.order.as_slice();
     match is_order(alloc, events, order, given.hash) {

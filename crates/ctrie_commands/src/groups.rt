@@ -2,16 +2,16 @@
 
 ghost use Rattle.std.specs.Prelude.{◌≡◌, All, IfOk};
 ghost use Rattle.lock_runner.specs.Seats.{IsSeatOf, AreSeatsOf};
-ghost use Rattle.thread_script.specs.Views.{read};
+ghost use Rattle.script_text.specs.Views.{read};
 ghost use Rattle.ctrie_commands.specs.Working.{IsUnused, HasWorked, HaveWorked, GroupsHaveWorked, all_seats, AreJoined};
 
 use crate::working::Worker;
 use lock_runner::{Between, Runner, Seat};
+use script_text::{Script, ThreadLine};
 use std::alloc::{AllocError, Global};
 use std::sync::Wait;
 use std::thread;
 use std::thread::Threads;
-use thread_script::{ThreadLine, ThreadScript};
 
 /// Each actor that has lines, and the one that takes the steps of the sweep, is a thread that carries them
 /// out. Where no thread can be made, the caller does.
@@ -19,7 +19,7 @@ pub(crate) fn work_all<R: Threads + Wait + Sync, B: Between + Sync>(
     rt: &R,
     alloc: Global,
     runner: &Runner,
-    script: &ThreadScript,
+    script: &Script<ThreadLine>,
     between: &B,
     seats: Vec<Seat>,
 ) -> Result<Vec<Worker>, AllocError>
@@ -37,7 +37,7 @@ fn work_groups<R: Threads + Wait + Sync, B: Between + Sync>(
     rt: &R,
     alloc: Global,
     runner: &Runner,
-    script: &ThreadScript,
+    script: &Script<ThreadLine>,
     between: &B,
     groups: Vec<Vec<Seat>>,
 ) -> Result<Vec<Result<Vec<Worker>, AllocError>>, AllocError>
@@ -56,7 +56,7 @@ fn work_groups<R: Threads + Wait + Sync, B: Between + Sync>(
 /// that have nothing.
 fn grouped(
     alloc: Global,
-    script: &ThreadScript,
+    script: &Script<ThreadLine>,
     seats: Vec<Seat>,
 ) -> Result<Vec<Vec<Seat>>, AllocError>
     ensures { IfOk result (λ groups. seats.items ≡ all_seats groups.items) }
@@ -78,7 +78,7 @@ fn grouped(
 }
 
 /// Whether the actor has lines, or takes the steps of the sweep.
-fn has_work(script: &ThreadScript, actor: u8) -> bool {
+fn has_work(script: &Script<ThreadLine>, actor: u8) -> bool {
     actor > script.limits.actors
         || script.lines.iter().any(
             |line| matches!(line, ThreadLine::Do { actor: owner, .. } if *owner == actor),
@@ -90,7 +90,7 @@ fn work_group<R: Wait, B: Between>(
     rt: &R,
     alloc: Global,
     runner: &Runner,
-    script: &ThreadScript,
+    script: &Script<ThreadLine>,
     between: &B,
     group: Vec<Seat>,
 ) -> Result<Vec<Worker>, AllocError>
@@ -110,7 +110,7 @@ fn work<R: Wait, B: Between>(
     rt: &R,
     alloc: Global,
     runner: &Runner,
-    script: &ThreadScript,
+    script: &Script<ThreadLine>,
     between: &B,
     seat: Seat,
 ) -> Result<Worker, AllocError>

@@ -3,6 +3,7 @@
 #![tactic(auto)]
 
 mod checking;
+mod faults;
 mod groups;
 mod reports;
 mod running;
@@ -11,10 +12,8 @@ mod threads;
 mod working;
 
 pub use checking::check_history;
-pub use counted_io::{Counted, Fault};
-pub use lock_runner::Between;
+pub use counted_io::Counted;
+pub use faults::Fault;
+pub use lock_runner::{Between, Nothing};
 pub use running::run_script;
 pub use threads::run_threads;
-
-#[cfg(test)]
-mod tests;

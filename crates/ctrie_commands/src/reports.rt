@@ -59,7 +59,7 @@ impl fmt::Display for SlotsText {
 
 /// The report of the script's run: which hash, what each line tells, the order, and the slots. Only
 /// memory is refused.
-pub fn report_of(alloc: Global, script: &Script) -> Result<String, AllocError>
+pub fn report_of(alloc: Global, script: &Script<Command>) -> Result<String, AllocError>
     ensures text { IfOk result (λ text. string_bytes text ≡ report (read script.now)) }
     ensures legal { IfOk result (λ text. IsLegalText (string_bytes text) (told_in script.now.limits.hash (last_state (read script.now)))) }
 {
@@ -69,7 +69,7 @@ pub fn report_of(alloc: Global, script: &Script) -> Result<String, AllocError>
     };
     let mut text = String::new(alloc);
     writeln!(text, "hash {}", script.limits.hash)?;
-    tell_all(&mut text, &mut machine, &script.commands)?;
+    tell_all(&mut text, &mut machine, &script.lines)?;
     tell_last(&mut text, &machine)?;
     history_is_legal(&machine);
     Ok(text)
@@ -109,7 +109,7 @@ fn tell(text: &mut String, machine: &mut Machine, command: Command) -> Result<()
             let actor = actor_of(command);
             writeln!(text, "{}", DeniedText { actor, refusal })
         }
-        None => tell_events(text, behind(machine.events(), before)),
+        None => tell_events(text, machine.events().get(before..).unwrap_or(&[])),
     }
 }
 
@@ -124,17 +124,6 @@ fn actor_of(command: Command) -> u8
         | Command::Finish { actor }
         | Command::Do { actor, .. } => actor,
         Command::Sweep { .. } => 0,
-    }
-}
-
-/// The events behind the first ones.
-fn behind(events: &[Event], count: usize) -> &[Event]
-    ensures { result.now ≡ drop count events.now }
-{
-    if count <= events.len() {
-        &events[count..]
-    } else {
-        &[]
     }
 }
 

@@ -4,12 +4,14 @@ ghost use Rattle.std.specs.Prelude.{◌≡◌, ◌≢◌, ◌<◌, ◌^◌, ℕ,
 ghost use Rattle.std.specs.Io.KnownBytes.{Keeps, IsAtEnd};
 ghost use Rattle.std.specs.String.{string_bytes};
 ghost use Rattle.counted_io.specs.Counts.{inner_of, failures};
+ghost use Rattle.script_text.specs.Reading.{script_of};
+ghost use Rattle.ctrie_commands.specs.Faults.{IsOf};
 ghost use Rattle.ctrie_commands.specs.Legality.{AppendsJudged};
-ghost use Rattle.ctrie_commands.specs.Scripts.{IsReport, IsOfScript, HasScriptFault, AppendsReport, AppendsReportPart};
+ghost use Rattle.ctrie_commands.specs.Scripts.{IsReport, HasScriptFault, AppendsReport, AppendsReportPart};
 
+use crate::faults::Fault;
 use crate::reports::report_of;
-use counted_io::{Counted, Fault, read_all, write_all};
-use history_text::Told;
+use counted_io::{Counted, read_all, write_all};
 use script_text::read_script;
 use std::alloc::Global;
 use std::io::{Read, Write};
@@ -17,14 +19,11 @@ use std::io::{Read, Write};
 /// The report of the script that the text is.
 fn carried_out(alloc: Global, text: &[u8]) -> Result<String, Fault>
     ensures report { IfOk result (λ report. IsReport text.now (string_bytes report)) }
-    ensures faults { IfErr result (IsOfScript text.now) }
+    ensures faults { IfErr result (IsOf (script_of text.now)) }
 {
     proof_obstruction_free::alone_it_ends();
-    match read_script(alloc, text) {
-        Ok(script) => Ok(report_of(alloc, &script)?),
-        Err(Told::Line(number, refusal)) => Err(Fault::Line(number, refusal)),
-        Err(Told::Memory) => Err(Fault::Memory),
-    }
+    let script = read_script(alloc, text)?;
+    Ok(report_of(alloc, &script)?)
 }
 
 /// Reads a script to its end, carries it out, and writes the report.

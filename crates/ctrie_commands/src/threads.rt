@@ -6,23 +6,25 @@ ghost use Rattle.std.specs.String.{string_bytes};
 ghost use Rattle.counted_io.specs.Counts.{inner_of, failures};
 ghost use Rattle.lock_runner.specs.Seats.{AreSeatsOf};
 ghost use Rattle.lock_runner.specs.Opening.{IsMade};
-ghost use Rattle.thread_script.specs.Views.{read};
+ghost use Rattle.script_text.specs.Views.{read};
+ghost use Rattle.script_text.specs.Threads.Reading.{thread_script_of};
+ghost use Rattle.ctrie_commands.specs.Faults.{IsOf};
 ghost use Rattle.ctrie_commands.specs.Legality.{AppendsJudged};
 ghost use Rattle.ctrie_commands.specs.Working.{AreGathered};
-ghost use Rattle.ctrie_commands.specs.Threads.{with_sweeper, IsReportOf, IsThreadReport, HasThreadFault, AppendsThreadReport, AppendsThreadReportPart, IsOfThreadScript};
+ghost use Rattle.ctrie_commands.specs.Threads.{with_sweeper, IsReportOf, IsThreadReport, HasThreadFault, AppendsThreadReport, AppendsThreadReportPart};
 
+use crate::faults::Fault;
 use crate::groups::work_all;
 use crate::reports::{report_of_record, tell_denied};
 use crate::working::Worker;
-use counted_io::{Counted, Fault, read_all, write_all};
-use history_text::Told;
+use counted_io::{Counted, read_all, write_all};
 use lock_runner::{Between, Runner, Seat, Unfinished};
 use machine_model::Limits;
+use script_text::{Script, ThreadLine, read_thread_script};
 use std::alloc::{AllocError, Global};
 use std::io::{Read, Write};
 use std::sync::Wait;
 use std::thread::Threads;
-use thread_script::{ThreadScript, read_thread_script};
 
 /// A runner with a seat for each of the actors, and one more for the sweep.
 fn runner_of(alloc: Global, limits: Limits) -> Result<(Runner, Vec<Seat>), Fault>
@@ -56,9 +58,10 @@ fn gathered(alloc: Global, workers: Vec<Worker>) -> Result<(Vec<Seat>, String), 
 fn reported<R: Threads + Wait + Sync, B: Between + Sync>(
     rt: &R,
     alloc: Global,
-    script: &ThreadScript,
+    script: &Script<ThreadLine>,
     between: &B,
 ) -> Result<String, Fault>
+    requires { script.now.limits.actors ≤ 63 }
     ensures report { IfOk result (λ text. IsReportOf (read script.now) (string_bytes text)) }
     ensures memory { IfErr result (λ fault. fault ≡ Fault.Memory) }
 {
@@ -81,13 +84,10 @@ fn carried_out<R: Threads + Wait + Sync, B: Between + Sync>(
     between: &B,
 ) -> Result<String, Fault>
     ensures report { IfOk result (λ report. IsThreadReport text.now (string_bytes report)) }
-    ensures faults { IfErr result (IsOfThreadScript text.now) }
+    ensures faults { IfErr result (IsOf (thread_script_of text.now)) }
 {
-    match read_thread_script(alloc, text) {
-        Ok(script) => reported(rt, alloc, &script, between),
-        Err(Told::Line(number, refusal)) => Err(Fault::Line(number, refusal)),
-        Err(Told::Memory) => Err(Fault::Memory),
-    }
+    let script = read_thread_script(alloc, text)?;
+    reported(rt, alloc, &script, between)
 }
 
 /// Reads a script for threads to its end, carries it out, and writes the report of what came of it.

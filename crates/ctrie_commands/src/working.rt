@@ -7,9 +7,9 @@ ghost use Rattle.ctrie_commands.specs.Working.{calls_in, IsUnused, IsSameSeat, H
 use ctrie_base::Refusal;
 use history::Call;
 use lock_runner::{Between, Runner, Seat, Stop};
+use script_text::ThreadLine;
 use std::alloc::AllocError;
 use std::sync::Wait;
-use thread_script::ThreadLine;
 
 /// One actor's seat, and what came of the lines that are the actor's.
 #[derive(Drop)]

@@ -1,5 +1,5 @@
 -- No line feed stands in the line of an event or of an order, so the lines of a text that is made of such are just these.
-use Rattle.std.proofs.Common.{◌≡◌, ℕ, zero, suc, ◌+◌, ◌<◌, ◌≤◌, ◌/◌, ◌%◌, List, [], ◌∷◌, ◌++◌, length, refl, ap, ◌∙◌, Bool, true, false, cond, eqb, ◌&&◌, Option, Some, None, arith}
+use Rattle.std.proofs.Common.{◌≡◌, ℕ, zero, suc, ◌+◌, ◌<◌, ◌≤◌, ◌/◌, ◌%◌, List, [], ◌∷◌, ◌++◌, length, refl, ap, ◌∙◌, Bool, true, false, cond, eqb, Option, Some, None, arith}
 use Rattle.std.specs.Prelude.{map, codes, not, filter, nat_lt}
 use Rattle.std.specs.List.{list_all, onto_first, AllByRecursion}
 use Rattle.std.specs.Fmt.{decimal, digits, digits_onto, digit_glyph}
@@ -13,6 +13,7 @@ use Rattle.history.specs.declared.events.Event.{Event}
 use Rattle.history.specs.declared.events.Event.TheVariants.{Begin, End}
 use Rattle.text_lines.specs.Words.{spaced, cut_at}
 use Rattle.text_lines.specs.Texts.{lines_of, without_empty_last, is_ignored, said_lines}
+use Rattle.text_lines.proofs.Again.{and_parts, not_parts}
 use Rattle.history_text.specs.Texts.{call_words, opens_words, reply_words, event_words, order_words, event_text, order_text, pair_text}
 
 -- no line feed stands in the text
@@ -55,14 +56,6 @@ none_said = refl
 pub no_feed_append : (a b : List ℕ) → HasNoFeed a → HasNoFeed b → HasNoFeed (a ++ b)
 no_feed_append [] b p q = q
 no_feed_append (x ∷ xs) b p q = (p.0, no_feed_append xs b p.1 q)
-
-and_parts : (a b : Bool) → (a && b) ≡ true → (a ≡ true) × (b ≡ true)
-and_parts true b e = (refl, e)
-and_parts false b e = absurd cc
-
-not_parts : (a : Bool) → not a ≡ true → a ≡ false
-not_parts true e = absurd cc
-not_parts false e = refl
 
 pub no_feed : (w : List ℕ) → list_all (λ b. not (eqb b 10)) w ≡ true → HasNoFeed w
 no_feed [] e = tt

@@ -7,19 +7,14 @@ use Rattle.std.proofs.lemmas.Option.{none-some, same_Some, slice_get_within, unw
 use mathlib.Core.Option.{some, some-injective}
 use lib.ListN.{get_elem?}
 use Rattle.atomic_table.specs.Table.{Me, Joins, Final, Seen}
-use Rattle.ctrie_base.specs.Hashes.{hash_of}
-use Rattle.history.specs.declared.events.Event.{Event}
-use Rattle.history.specs.Orders.{IsLegal}
-use Rattle.machine_model.specs.declared.steps.Limits.{Limits}
 use Rattle.step_machine.specs.Machines.{Taken, state_of, AreTaken}
 use Rattle.step_machine.specs.declared.records.Record.{Record}
 use Rattle.step_machine.specs.Records.{IsRecordOf}
-use Rattle.step_machine.specs.Legality.{IsLegalFor, IsLegalRecord}
-use Rattle.lock_runner.specs.declared.finishing.Unfinished.{Unfinished}
-use Rattle.lock_runner.specs.declared.finishing.Unfinished.TheVariants.{Missing, Memory}
-use Rattle.actor_history.specs.Answers.{AreAnswersOf}
-use Rattle.actor_history.proofs.Places.{get_push}
-use Rattle.actor_history.proofs.Told.{answers_are_those_of_the_history}
+use Rattle.step_machine.specs.Legality.{IsLegalRecord}
+use Rattle.lock_runner.specs.declared.finishing.Unfinished.TheVariants.{Memory}
+use Rattle.lock_runner.specs.ActorHistory.Answers.{AreAnswersOf}
+use Rattle.lock_runner.proofs.ActorHistory.Places.{get_push}
+use Rattle.lock_runner.proofs.ActorHistory.Told.{answers_are_those_of_the_history}
 use Rattle.lock_runner.specs.declared.gate.Terms.{Terms}
 use Rattle.lock_runner.specs.declared.gate.Entry.{Entry}
 use Rattle.lock_runner.specs.declared.gate.View.{View}
@@ -124,28 +119,17 @@ gathers runner terms id me seats yielded ws xs machine sizes number whole is tol
 
 -- ---- the record
 
--- its order is legal for its history, as that of the machine is
-pub still_legal : (machine : Taken) (limits : Limits) (events : List Event) (order : List ℕ) → limits ≡ machine.limits → events ≡ (state_of machine).events → IsLegalFor machine order →
-    IsLegal (hash_of limits.hash) events order
-still_legal machine limits events order sizes history legal =
-    subst (λ (l : Limits). IsLegal (hash_of l.hash) events order) (sym sizes) (subst (λ es. IsLegal (hash_of machine.limits.hash) es order) (sym history) legal)
-
 -- the machine that the record tells of is the one
 told_machine : (machine : Taken) (made : Record) → IsRecordOf machine made → machine ≡ recorded made
 told_machine machine made is =
     ap (λ l. record { limits = l; steps = machine.steps }) (sym is.sizes) ∙ ap (λ xs. record { limits = made.limits; steps = xs }) (sym is.path)
 
-same_machine : (a b : Taken) → Memory a ≡ Memory b → a ≡ b
-same_machine a b e = cc
-
-not_missing : {A : Type 0} (runner : Room) (seats : Vec _ _) (machine : Taken) → Missing runner seats ≡ Memory machine → A
-not_missing runner seats machine e = cc
-
-pub finished : (runner : Room) (seats : List Seated) (machine : Taken) (result : Result Record Unfinished) → AreHere runner.seats seats → IsGathered runner seats machine →
-    IfOk result (IsRecordOf machine) → OnOk result (AreTaken machine.limits machine.steps) → IfOk result IsLegalRecord → IfErr result (λ why. why ≡ Memory machine) →
-    IsFinished runner seats result
-finished runner seats machine (Ok made) here all is taken legal none =
+pub with_record : (runner : Room) (seats : List Seated) (machine : Taken) (made : Record) → AreHere runner.seats seats → IsGathered runner seats machine → IsRecordOf machine made →
+    AreTaken machine.limits machine.steps → IsLegalRecord made → IsFinished runner seats (Ok made)
+with_record runner seats machine made here all is taken legal =
     let same = told_machine machine made is in
     (here, subst (λ m. IsRecordOf m made) same is, subst (λ m. IsGathered runner seats m) same all, subst (λ (m : Taken). AreTaken m.limits m.steps) same taken, legal)
-finished runner seats machine (Err (Memory back)) here all is taken legal why = (here, subst (λ m. IsGathered runner seats m) (sym (same_machine back machine why)) all)
-finished runner seats machine (Err (Missing back handed)) here all is taken legal why = not_missing back handed machine why
+
+pub without_memory : (runner : Room) (seats : List Seated) (machine back : Taken) → AreHere runner.seats seats → IsGathered runner seats machine → back ≡ machine →
+    IsFinished runner seats (Err (Memory back))
+without_memory runner seats machine back here all same = (here, subst (λ m. IsGathered runner seats m) (sym same) all)

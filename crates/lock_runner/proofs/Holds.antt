@@ -7,8 +7,8 @@ use Rattle.machine_model.specs.declared.steps.Outcome.{Outcome}
 use Rattle.machine_model.specs.Machine.{next}
 use Rattle.atomic_table.specs.Table.{Me, rest}
 use Rattle.step_machine.specs.Machines.{Taken, state_of, with_step}
-use Rattle.actor_history.specs.Laws.{IsStepOf}
-use Rattle.actor_history.proofs.Steps.{others_leave_the_account}
+use Rattle.lock_runner.specs.ActorHistory.Laws.{IsStepOf}
+use Rattle.lock_runner.proofs.ActorHistory.Steps.{others_leave_the_account}
 use Rattle.lock_runner.specs.declared.gate.View.{View}
 use Rattle.lock_runner.specs.declared.seats.Stop.{Stop}
 use Rattle.lock_runner.specs.declared.seats.Stop.TheVariants.{Denied, Memory, Ahead}

@@ -11,9 +11,9 @@ use Rattle.machine_model.specs.States.{State, operation_of}
 use Rattle.machine_model.specs.Operations.{action_of}
 use Rattle.machine_model.specs.Machine.{next, go_unless, go_on, first_reason, is_actor, is_running, is_spent, settled_after, went}
 use Rattle.step_machine.specs.Machines.{Taken, state_of}
-use Rattle.actor_history.specs.declared.accounts.Running.{Running}
-use Rattle.actor_history.proofs.Turns.{shown}
-use Rattle.actor_history.proofs.Sound.{told, sound_along}
+use Rattle.lock_runner.specs.declared.accounts.Running.{Running}
+use Rattle.lock_runner.proofs.ActorHistory.Turns.{shown}
+use Rattle.lock_runner.proofs.ActorHistory.Sound.{told, sound_along}
 use Rattle.lock_runner.specs.Boards.{account_in}
 use Rattle.lock_runner.proofs.Growing.{run_limits}
 

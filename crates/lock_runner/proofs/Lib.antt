@@ -1,3 +1,4 @@
+pub mod ActorHistory
 pub mod Lists
 pub mod Boards
 pub mod Keeping

@@ -9,8 +9,8 @@ use Rattle.machine_model.specs.Machine.{run_from}
 use Rattle.atomic_table.specs.Table.{Me, Splits}
 use Rattle.atomic_table.specs.Seated.{TableId}
 use Rattle.step_machine.specs.Machines.{Taken, fresh}
-use Rattle.actor_history.specs.declared.accounts.Answer.{Answer}
-use Rattle.actor_history.specs.Accounts.{empty_account, account_from}
+use Rattle.lock_runner.specs.declared.accounts.Answer.{Answer}
+use Rattle.lock_runner.specs.ActorHistory.{empty_account, account_from}
 use Rattle.lock_runner.specs.declared.gate.Terms.{Terms}
 use Rattle.lock_runner.specs.declared.gate.View.{View}
 use Rattle.lock_runner.specs.Boards.{account_in}

@@ -8,10 +8,10 @@ use Rattle.machine_model.specs.Machine.{next}
 use Rattle.atomic_table.specs.Table.{Me}
 use Rattle.step_machine.specs.Machines.{Taken, state_of, with_step}
 use Rattle.step_machine.proofs.Sweeping.{nearer}
-use Rattle.actor_history.specs.declared.accounts.Answer.{Answer}
-use Rattle.actor_history.specs.declared.accounts.Running.{Running}
-use Rattle.actor_history.specs.Laws.{IsStepOf, IsMadeBy}
-use Rattle.actor_history.proofs.Steps.{others_leave_the_account, own_steps_make_the_account}
+use Rattle.lock_runner.specs.declared.accounts.Answer.{Answer}
+use Rattle.lock_runner.specs.declared.accounts.Running.{Running}
+use Rattle.lock_runner.specs.ActorHistory.Laws.{IsStepOf, IsMadeBy}
+use Rattle.lock_runner.proofs.ActorHistory.Steps.{others_leave_the_account, own_steps_make_the_account}
 use Rattle.lock_runner.specs.declared.gate.View.{View}
 use Rattle.lock_runner.specs.declared.seats.Stop.{Stop}
 use Rattle.lock_runner.specs.Boards.{account_in, sweeps_in, is_sweep}

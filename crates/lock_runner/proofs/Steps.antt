@@ -12,16 +12,16 @@ use Rattle.machine_model.specs.declared.steps.Outcome.TheVariants as outcome
 use Rattle.epochs.specs.declared.limbo.Swept.{Swept}
 use Rattle.machine_model.specs.States.{State}
 use Rattle.machine_model.proofs.Moves.{moved}
-use Rattle.actor_history.proofs.Turns.{Turns, Rests, turns}
-use Rattle.actor_history.proofs.Sound.{sound_along}
+use Rattle.lock_runner.proofs.ActorHistory.Turns.{Turns, Rests, turns}
+use Rattle.lock_runner.proofs.ActorHistory.Sound.{sound_along}
 use Rattle.machine_model.specs.Machine.{next, denial_of}
 use Rattle.atomic_table.specs.Table.{Me}
 use Rattle.atomic_table.specs.Seated.{TableId}
 use Rattle.step_machine.specs.Machines.{Taken, state_of}
-use Rattle.actor_history.specs.declared.accounts.Answer.{Answer}
-use Rattle.actor_history.specs.declared.accounts.Running.{Running}
-use Rattle.actor_history.specs.Accounts.{Account, begun_at, answered_at}
-use Rattle.actor_history.specs.Laws.{IsMadeBy}
+use Rattle.lock_runner.specs.declared.accounts.Answer.{Answer}
+use Rattle.lock_runner.specs.declared.accounts.Running.{Running}
+use Rattle.lock_runner.specs.ActorHistory.{Account, begun_at, answered_at}
+use Rattle.lock_runner.specs.ActorHistory.Laws.{IsMadeBy}
 use Rattle.lock_runner.specs.declared.gate.View.{View}
 use Rattle.lock_runner.specs.declared.seats.Stop.{Stop}
 use Rattle.lock_runner.specs.declared.seats.Stop.TheVariants.{Denied, Memory, Ahead}

@@ -4,9 +4,9 @@ use Rattle.std.proofs.Common.{refl, sym, ap, ◌∙◌, inl, inr, arith, length-
 use Rattle.std.proofs.lemmas.Option.{same_Some}
 use Rattle.history.specs.declared.calls.Call.{Call}
 use Rattle.history.specs.declared.replies.Reply.{Reply}
-use Rattle.actor_history.proofs.Places.{get_last}
-use Rattle.actor_history.specs.declared.accounts.Answer.{Answer}
-use Rattle.actor_history.specs.declared.accounts.Running.{Running}
+use Rattle.lock_runner.proofs.ActorHistory.Places.{get_last}
+use Rattle.lock_runner.specs.declared.accounts.Answer.{Answer}
+use Rattle.lock_runner.specs.declared.accounts.Running.{Running}
 use Rattle.lock_runner.specs.declared.seats.Stop.{Stop}
 use Rattle.lock_runner.specs.Seats.{Seated}
 use Rattle.lock_runner.specs.Stepping.{HasGoneOn, IsUntold, IsAnswered, Begins, Goes}

@@ -3,7 +3,7 @@ use Rattle.std.specs.Prelude.{◌≡◌, ℕ, Bool, true, false, List, ◌++◌,
 use Rattle.machine_model.specs.declared.steps.Step.{Step}
 use Rattle.machine_model.specs.declared.steps.Step.TheVariants as step
 use Rattle.step_machine.specs.Machines.{Taken, state_of}
-use Rattle.actor_history.specs.Accounts.{Account, account_of}
+use Rattle.lock_runner.specs.ActorHistory.{Account, account_of}
 
 -- what the board's history tells of an actor
 abbrev pub account_in : ℕ → Taken → Account

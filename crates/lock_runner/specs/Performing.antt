@@ -3,8 +3,8 @@ use Rattle.std.specs.Prelude.{◌≡◌, ◌≤◌, ◌⊎◌, [], ◌∷◌, �
 use denote.Ref.{Bor}
 use Rattle.history.specs.declared.calls.Call.{Call}
 use Rattle.history.specs.declared.replies.Reply.{Reply}
-use Rattle.actor_history.specs.declared.accounts.Answer.{Answer}
-use Rattle.actor_history.specs.declared.accounts.Running.{Running}
+use Rattle.lock_runner.specs.declared.accounts.Answer.{Answer}
+use Rattle.lock_runner.specs.declared.accounts.Running.{Running}
 use Rattle.lock_runner.specs.declared.seats.Stop.{Stop}
 use Rattle.lock_runner.specs.Seats.{Seated}
 use Rattle.lock_runner.specs.Stepping.{HasGoneOn, IsUntold, IsAnswered, Runs, IsNotBegun, IsNotTaken}

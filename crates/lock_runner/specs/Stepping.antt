@@ -9,8 +9,8 @@ use Rattle.epochs.specs.declared.limbo.Swept.{Swept}
 use Rattle.machine_model.specs.declared.steps.Outcome.TheVariants as outcome
 use Rattle.machine_model.specs.Machine.{next, denial_of}
 use Rattle.step_machine.specs.Machines.{Taken, state_of, with_step}
-use Rattle.actor_history.specs.declared.accounts.Answer.{Answer}
-use Rattle.actor_history.specs.declared.accounts.Running.{Running}
+use Rattle.lock_runner.specs.declared.accounts.Answer.{Answer}
+use Rattle.lock_runner.specs.declared.accounts.Running.{Running}
 use Rattle.lock_runner.specs.declared.seats.Stop.{Stop}
 use Rattle.lock_runner.specs.declared.seats.Stop.TheVariants.{Denied, Memory, Ahead}
 use Rattle.lock_runner.specs.Boards.{GoesOn}

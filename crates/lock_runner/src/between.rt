@@ -6,3 +6,10 @@ pub trait Between {
     /// call were taken.
     fn between(&self, seat: u8, taken: u64);
 }
+
+/// Nothing is done between two steps.
+pub struct Nothing;
+
+impl Between for Nothing {
+    fn between(&self, _seat: u8, _taken: u64) {}
+}

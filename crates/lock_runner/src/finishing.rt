@@ -1,8 +1,5 @@
 //! The end of a runner: one record of all steps.
-ghost use Rattle.std.specs.Prelude.{◌≡◌, ◌↔◌, [], false, IsTrue, IfOk, OnOk, IfErr};
-ghost use Rattle.step_machine.specs.Machines.{AreTaken};
-ghost use Rattle.step_machine.specs.Records.{IsRecordOf};
-ghost use Rattle.step_machine.specs.Legality.{IsLegalRecord};
+ghost use Rattle.std.specs.Prelude.{◌≡◌, ◌↔◌, [], false, IsTrue};
 ghost use Rattle.lock_runner.specs.Boards.{account_in};
 ghost use Rattle.lock_runner.specs.Plays.{outside};
 ghost use Rattle.lock_runner.specs.Seats.{AreSeatsOf};
@@ -32,8 +29,10 @@ impl Runner {
         if !self.has_all(seats.as_slice()) {
             return Err(Unfinished::Missing(self, seats));
         }
-        let machine = self.gather(seats);
-        record_of(machine)
+        match self.gather(seats).into_record() {
+            Ok(record) => Ok(record),
+            Err(machine) => Err(Unfinished::Memory(machine)),
+        }
     }
 
     /// Whether each of the runner's seats is there.
@@ -88,30 +87,4 @@ fn has_seat(seats: &[Seat], actor: u8) -> bool
         }
     }
     false
-}
-
-/// What the machine has done; or the machine, where the order found no memory.
-fn record_of(machine: Machine) -> Result<Record, Unfinished>
-    ensures record { IfOk result (IsRecordOf machine) }
-    ensures taken { OnOk result (AreTaken machine.limits machine.steps) }
-    ensures legal { IfOk result IsLegalRecord }
-    ensures memory { IfErr result (λ why. why ≡ Unfinished.Memory machine) }
-{
-    let Ok(order) = machine.order() else {
-        return Err(Unfinished::Memory(machine));
-    };
-    let limits = machine.limits();
-    let used = machine.used();
-    let free = machine.free_slots();
-    let limbo = machine.limbo_len();
-    let (steps, events) = machine.into_parts();
-    Ok(Record {
-        limits,
-        steps,
-        events,
-        order,
-        used,
-        free,
-        limbo,
-    })
 }

@@ -2,10 +2,12 @@
 //! all steps.
 #![tactic(auto)]
 
+mod accounts;
 mod between;
 mod finishing;
 mod gate;
 mod holding;
+mod laws;
 mod lending;
 mod opening;
 mod performing;
@@ -13,9 +15,13 @@ mod runner;
 mod seats;
 mod stepping;
 
-pub use actor_history::{Answer, Running};
-pub use between::Between;
+pub use accounts::{Answer, Running};
+pub use between::{Between, Nothing};
 pub use finishing::Unfinished;
+pub use laws::{
+    answers_are_those_of_the_history, others_leave_the_account, own_steps_make_the_account,
+    running_ids_differ,
+};
 pub use runner::Runner;
 pub use seats::{Seat, Stop};
 pub use step_machine::{GO_LIMIT, Limits, Machine, Outcome, Record, Step, run};

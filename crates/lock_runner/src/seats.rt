@@ -2,8 +2,8 @@
 ghost use Rattle.std.specs.Prelude.{◌≡◌, max};
 ghost use Rattle.lock_runner.specs.declared.seats.Stop.TheVariants.{Memory};
 
+use crate::accounts::{Answer, Running};
 use crate::gate::View;
-use actor_history::{Answer, Running};
 use ctrie_base::Refusal;
 use std::alloc::{AllocError, AllocFailed};
 use std::marker::Model;

@@ -3,9 +3,9 @@ ghost use Rattle.std.specs.Prelude.{◌≡◌};
 ghost use Rattle.lock_runner.specs.Seats.{IsSeatOf};
 ghost use Rattle.lock_runner.specs.Stepping.{Begins, Goes, Sweeps};
 
+use crate::accounts::{Answer, Running};
 use crate::runner::Runner;
 use crate::seats::{Seat, Stop};
-use actor_history::{Answer, Running};
 use epochs::Swept;
 use history::Call;
 use std::sync::Wait;

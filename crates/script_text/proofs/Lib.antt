@@ -3,3 +3,5 @@ pub mod Found
 pub mod AgainCommands
 pub mod Only
 pub mod SameKinds
+pub mod Threads
+pub mod Few

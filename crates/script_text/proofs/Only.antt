@@ -22,7 +22,8 @@ use Rattle.script_text.specs.declared.commands.Command.{Command}
 use Rattle.script_text.specs.declared.commands.Command.TheVariants.{Begin, Go, Until, Finish, Do, Sweep}
 use Rattle.script_text.specs.declared.reading.Script.{Script}
 use Rattle.script_text.specs.Headers.{header_value, header_number, slots_of, actors_of}
-use Rattle.script_text.specs.Reading.{Reading, Progress, Start, Sized, Hashed, InCommands, words_after, script_format, script_of}
+use Rattle.script_text.specs.Scripts.{Progress, Start, Sized, Hashed, InLines, words_after}
+use Rattle.script_text.specs.Reading.{Reading, command_dialect, script_format, script_of}
 use Rattle.script_text.specs.Views.{read}
 use Rattle.script_text.specs.Grammar.{command_words, script_lines, CommandFits, IsActor, IsTimes, IsOfOperation, LimitsFit, IsSpelling, IsShort}
 use Rattle.script_text.proofs.AgainCommands.{command_again}
@@ -58,14 +59,14 @@ command_line (Sweep n) f = words_again (codes "sweep") (decimal n ∷ []) (clean
 -- The commands.
 
 commands_only : (later : List Command) (limits : Limits) (so_far : List Command) → AllByRecursion CommandFits later
-    → Leads script_format (InCommands limits so_far) (map spaced (map command_words later)) (InCommands limits (so_far ++ later))
+    → Leads script_format (InLines limits so_far) (map spaced (map command_words later)) (InLines limits (so_far ++ later))
 unfolding words_after
-commands_only [] limits so_far f = ap (InCommands limits) (sym (append-nil so_far))
+commands_only [] limits so_far f = ap (InLines limits) (sym (append-nil so_far))
 commands_only (c ∷ more) limits so_far f =
-    let added : List Command → Progress = λ cs. InCommands limits cs in (
-      InCommands limits (so_far ++ c ∷ []),
-      ap (words_after (InCommands limits so_far)) (command_line c f.0) ∙ ap (made (λ command. InCommands limits (so_far ++ command ∷ []))) (command_again c f.0),
-      subst (λ (cs : List Command). Leads script_format (InCommands limits (so_far ++ c ∷ [])) (map spaced (map command_words more)) (added cs)) (append_assoc so_far (c ∷ []) more) (commands_only more limits (so_far ++ c ∷ []) f.1),
+    let added : List Command → Progress Command = λ cs. InLines limits cs in (
+      InLines limits (so_far ++ c ∷ []),
+      ap (words_after command_dialect (InLines limits so_far)) (command_line c f.0) ∙ ap (made (λ command. InLines limits (so_far ++ command ∷ []))) (command_again c f.0),
+      subst (λ (cs : List Command). Leads script_format (InLines limits (so_far ++ c ∷ [])) (map spaced (map command_words more)) (added cs)) (append_assoc so_far (c ∷ []) more) (commands_only more limits (so_far ++ c ∷ []) f.1),
     )
 
 -- The header.
@@ -84,8 +85,8 @@ hash_again : (k : HashKind) → header_of (words_of (spaced (codes "hash" ∷ ha
 hash_again k = ap header_of (words_again (codes "hash") (hashes.name_of k ∷ []) (clean (codes "hash") refl) (clean_hash k, tt)) ∙ header_again k
 
 -- a script's lines lead to it
-script_leads : (script : Reading) → LimitsFit script.limits → AllByRecursion CommandFits script.commands
-    → Leads script_format Start (script_lines script) (InCommands script.limits script.commands)
+script_leads : (script : Reading) → LimitsFit script.limits → AllByRecursion CommandFits script.lines
+    → Leads script_format Start (script_lines script) (InLines script.limits script.lines)
 unfolding words_after
 script_leads script f each =
     let l = script.limits in (
@@ -95,9 +96,9 @@ script_leads script f each =
         Hashed l.slots l.hash,
         ap (made (λ hash. Hashed l.slots hash)) (hash_again l.hash),
         (
-          InCommands l [],
-          ap (made (λ actors. InCommands (record { slots = l.slots; actors = actors; hash = l.hash }) [])) (actors_again l.actors f.2 f.3),
-          commands_only script.commands l [] each,
+          InLines l [],
+          ap (made (λ actors. InLines (record { slots = l.slots; actors = actors; hash = l.hash }) [])) (actors_again l.actors f.2 f.3),
+          commands_only script.lines l [] each,
         ),
       ),
     )
@@ -106,8 +107,8 @@ script_leads script f each =
 pub read_again : (text : List ℕ) (script : Reading) → IsSpelling text script → IsShort text → script_of text ≡ Ok script
 unfolding script_of
 read_again text script spelled short =
-    let whole = subst (λ (ls : List (List ℕ)). Leads script_format Start ls (InCommands script.limits script.commands)) (sym spelled.0) (script_leads script spelled.1 spelled.2) in
-    leads_read script_format text (InCommands script.limits script.commands) script short whole refl
+    let whole = subst (λ (ls : List (List ℕ)). Leads script_format Start ls (InLines script.limits script.lines)) (sym spelled.0) (script_leads script spelled.1 spelled.2) in
+    leads_read script_format text (InLines script.limits script.lines) script short whole refl
 
-pub only_so : (text : List ℕ) (r : Result Script Told) → Reads read r (script_of text) → (script : Reading) → IsSpelling text script → IsShort text → Reads read r (Ok script)
+pub only_so : (text : List ℕ) (r : Result (Script Command) Told) → Reads read r (script_of text) → (script : Reading) → IsSpelling text script → IsShort text → Reads read r (Ok script)
 only_so text r e script spelled short = subst (Reads read r) (read_again text script spelled short) e

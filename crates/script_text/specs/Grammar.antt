@@ -31,7 +31,7 @@ header_words limits =
 
 -- the lines of a script: the header, and a line for each command
 abbrev pub script_lines : Reading → List (List ℕ)
-script_lines script = map spaced (header_words script.limits ++ map command_words script.commands)
+script_lines script = map spaced (header_words script.limits ++ map command_words script.lines)
 
 -- Numbers in their ranges, and kinds of an operation's steps: each has a spelling.
 
@@ -62,7 +62,7 @@ LimitsFit limits = (2 ≤ limits.slots) × (limits.slots ≤ 65536) × (1 ≤ li
 
 -- the text's lines that aren't ignored are those of the script, all of it in range
 abbrev pub IsSpelling : List ℕ → Reading → Type 0
-IsSpelling text script = (said_lines text ≡ script_lines script) × LimitsFit script.limits × AllByRecursion CommandFits script.commands
+IsSpelling text script = (said_lines text ≡ script_lines script) × LimitsFit script.limits × AllByRecursion CommandFits script.lines
 
 abbrev pub IsShort : List ℕ → Type 0
 IsShort text = HasLines script_format.most_lines text

@@ -1,7 +1,9 @@
 pub mod Names
 pub mod Headers
 pub mod Commands
+pub mod Scripts
 pub mod Reading
 pub mod Views
 pub mod Grammar
 pub mod Steps
+pub mod Threads

@@ -1,4 +1,5 @@
-//! Scripts for the map's machine: read exactly, with the first fault told.
+//! Scripts for the map's machine, and those for threads: read exactly, by one reader, with the first fault
+//! told.
 #![tactic(auto)]
 
 mod command_words;
@@ -6,12 +7,14 @@ mod commands;
 mod headers;
 mod names;
 mod reading;
+mod thread_lines;
+mod thread_scripts;
 
-pub use command_words::command_of;
 pub use commands::Command;
-pub use headers::{actors_of, slots_of};
 pub use reading::{Script, read_script};
 pub use text_lines::Told;
+pub use thread_lines::ThreadLine;
+pub use thread_scripts::read_thread_script;
 
 #[cfg(test)]
 mod tests;

@@ -52,7 +52,7 @@ record_legal machine explained made is =
     subst (λ sizes. IsLegal (hash_of sizes.hash) made.events.items made.order.items) (sym is.sizes)
     (subst (λ events. IsLegal (hash_of machine.limits.hash) events made.order.items) (sym is.history) (legal machine explained made.order.items is.order))
 
-pub if_record_legal : (machine : Taken) → IsExplained machine.limits (state_of machine) → (result : Result Record Refusal) → IfOk result (IsRecordOf machine) → IfOk result IsLegalRecord
+pub if_record_legal : {E : Type 0} (machine : Taken) → IsExplained machine.limits (state_of machine) → (result : Result Record E) → IfOk result (IsRecordOf machine) → IfOk result IsLegalRecord
 if_record_legal machine explained (Ok made) is = record_legal machine explained made is
 if_record_legal machine explained (Err why) is = tt
 

@@ -1,5 +1,5 @@
 -- Runs that leave out what is denied, step by step.
-use Rattle.std.specs.Prelude.{◌≡◌, Bool, true, false, if◌then◌else◌, List, [], ◌∷◌, ◌++◌, Result, Ok, Err, IfOk}
+use Rattle.std.specs.Prelude.{◌≡◌, Bool, true, false, if◌then◌else◌, List, [], ◌∷◌, ◌++◌, Ok, Err}
 use Rattle.std.proofs.Common.{refl, sym, ap, subst, ◌∙◌}
 use Rattle.ctrie_base.specs.declared.refusals.Refusal.{Refusal}
 use Rattle.ctrie_base.specs.declared.refusals.Refusal.TheVariants as refuse
@@ -71,8 +71,3 @@ recorded limits steps machine made after r = record {
   free = r.free ∙ ap (λ state. length state.heap.free) (run_kept limits steps machine after);
   limbo = r.limbo ∙ ap (λ state. length state.limbo) (run_kept limits steps machine after);
 }
-
-pub if_recorded : (limits : Limits) (steps : List Step) (machine : Taken) (result : Result Record Refusal) → IsAfter limits steps machine →
-    IfOk result (IsRecordOf machine) → IfOk result (IsRecord limits steps)
-if_recorded limits steps machine (Ok made) after r = recorded limits steps machine made after r
-if_recorded limits steps machine (Err refusal) after r = r

@@ -10,6 +10,3 @@ pub use epochs::Swept;
 pub use machine::Machine;
 pub use machine_model::{Limits, Outcome, Step};
 pub use records::{Record, run};
-
-#[cfg(test)]
-mod tests;

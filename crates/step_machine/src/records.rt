@@ -1,8 +1,9 @@
 //! Runs of steps and their records.
 
-ghost use Rattle.std.specs.Prelude.{◌≡◌, IfOk, IfErr, OnOk, IsOkUnless};
+ghost use Rattle.std.specs.Prelude.{◌≡◌, IfOk, IfErr, OnOk};
 ghost use Rattle.machine_model.specs.Machine.{AreLimits};
 ghost use Rattle.machine_model.specs.Refusing.{RefusesLimits};
+ghost use Rattle.step_machine.specs.Machines.{AreTaken};
 ghost use Rattle.step_machine.specs.Records.{IsAfter, IsRecordOf, IsRecord};
 ghost use Rattle.step_machine.specs.Legality.{IsLegalRecord};
 
@@ -32,7 +33,6 @@ pub struct Record {
 
 /// The record of a machine that takes these steps, those left out that are denied. Its order is legal for
 /// its history. `BadLimits` exactly where a limit is out of range, and else only `Memory`.
-#[tactic(auto, using(crate::proofs::Recording::if_recorded))]
 pub fn run(alloc: Global, limits: Limits, steps: &[Step]) -> Result<Record, Refusal>
     ensures record { IfOk result (IsRecord limits steps.now) }
     ensures legal { IfOk result IsLegalRecord }
@@ -40,7 +40,10 @@ pub fn run(alloc: Global, limits: Limits, steps: &[Step]) -> Result<Record, Refu
     ensures refused { IfErr result (λ refusal. RefusesLimits limits refusal) }
 {
     let machine = machine_after(alloc, limits, steps)?;
-    record_of(machine)
+    match machine.into_record() {
+        Ok(record) => Ok(record),
+        Err(_) => Err(Refusal::Memory),
+    }
 }
 
 /// A machine that has taken these steps, but for those that are denied.
@@ -57,34 +60,41 @@ fn machine_after(alloc: Global, limits: Limits, steps: &[Step]) -> Result<Machin
     Ok(machine)
 }
 
-/// What a machine has done.
-fn record_of(machine: Machine) -> Result<Record, Refusal>
-    ensures record { IfOk result (IsRecordOf machine) }
-    ensures legal { IfOk result IsLegalRecord }
-    ensures only_memory { IsOkUnless result Refusal.Memory }
-{
-    machine.explained();
-    parts_of(machine)
-}
+impl Machine {
+    /// What the machine has done. Its order is legal for its history. Where the order finds no memory the machine
+    /// comes back as it was.
+    pub fn into_record(self) -> Result<Record, Machine>
+        ensures record { IfOk result (IsRecordOf self) }
+        ensures taken { OnOk result (AreTaken self.limits self.steps) }
+        ensures legal { IfOk result IsLegalRecord }
+        ensures same { IfErr result (λ machine. machine ≡ self) }
+    {
+        self.explained();
+        self.parts()
+    }
 
-/// Its record, part by part.
-fn parts_of(machine: Machine) -> Result<Record, Refusal>
-    ensures record { IfOk result (IsRecordOf machine) }
-    ensures only_memory { IsOkUnless result Refusal.Memory }
-{
-    let limits = machine.limits();
-    let order = machine.order()?;
-    let used = machine.used();
-    let free = machine.free_slots();
-    let limbo = machine.limbo_len();
-    let (steps, events) = machine.into_parts();
-    Ok(Record {
-        limits,
-        steps,
-        events,
-        order,
-        used,
-        free,
-        limbo,
-    })
+    /// Its record, part by part.
+    fn parts(self) -> Result<Record, Machine>
+        ensures record { IfOk result (IsRecordOf self) }
+        ensures taken { OnOk result (AreTaken self.limits self.steps) }
+        ensures same { IfErr result (λ machine. machine ≡ self) }
+    {
+        let Ok(order) = self.order() else {
+            return Err(self);
+        };
+        let limits = self.limits();
+        let used = self.used();
+        let free = self.free_slots();
+        let limbo = self.limbo_len();
+        let (steps, events) = self.into_parts();
+        Ok(Record {
+            limits,
+            steps,
+            events,
+            order,
+            used,
+            free,
+            limbo,
+        })
+    }
 }

@@ -8,19 +8,13 @@ ghost use Rattle.lock_runner.specs.Seats.{IsSeatOf};
 
 use ctrie_base::{HashKind, Refusal};
 use history::{Call, Event, is_order};
-use lock_runner::{Between, Record, Runner, Seat, run};
+use lock_runner::{Nothing, Record, Runner, Seat, run};
 use machine_model::Limits;
 use std::alloc::Global;
 use std::process::ExitCode;
 use std::sync::Wait;
 use std::thread::Threads;
 use std::{env, thread};
-
-struct Nothing;
-
-impl Between for Nothing {
-    fn between(&self, _seat: u8, _taken: u64) {}
-}
 
 /// What is done: so many calls by each of so many threads, over so many keys; one thread more sweeps.
 #[derive(Clone, Copy)]

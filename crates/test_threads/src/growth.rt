@@ -5,11 +5,11 @@ ghost use Rattle.std.specs.Prelude.{IfOk};
 ghost use Rattle.lock_runner.specs.Seats.{IsSeatOf};
 
 use crate::records::is_right;
-use crate::support::{Nothing, get, put, two_seats};
+use crate::support::{get, put, two_seats};
 use ctrie_base::Refusal;
 use history::Event;
-use lock_runner::{Machine, Record, Runner, Seat, Stop, Unfinished};
-use std::alloc::{AllocGlobal, Global};
+use lock_runner::{Nothing, Record, Runner, Seat, Stop, Unfinished};
+use std::alloc::{AllocError, AllocGlobal, Global};
 use std::process::Abort;
 use std::sync::Wait;
 
@@ -45,7 +45,7 @@ fn write<R: Wait>(rt: &R, runner: &Runner, seat: &mut Seat, calls: u64) -> Came
 }
 
 /// The record, though the order finds no memory the first time.
-fn finished(alloc: Global, runner: Runner, one: Seat, two: Seat) -> Result<Option<Record>, Refusal>
+fn finished(alloc: Global, runner: Runner, one: Seat, two: Seat) -> Result<Option<Record>, AllocError>
     requires one { IsSeatOf runner one }
     requires two { IsSeatOf runner two }
 {
@@ -55,27 +55,8 @@ fn finished(alloc: Global, runner: Runner, one: Seat, two: Seat) -> Result<Optio
     match runner.finish(seats) {
         Ok(record) => Ok(Some(record)),
         Err(Unfinished::Missing(_, _)) => Ok(None),
-        Err(Unfinished::Memory(machine)) => Ok(Some(record_of(machine)?)),
+        Err(Unfinished::Memory(machine)) => Ok(machine.into_record().ok()),
     }
-}
-
-/// The record of what the machine did, the order asked for once more.
-fn record_of(machine: Machine) -> Result<Record, Refusal> {
-    let limits = machine.limits();
-    let order = machine.order()?;
-    let used = machine.used();
-    let free = machine.free_slots();
-    let limbo = machine.limbo_len();
-    let (steps, events) = machine.into_parts();
-    Ok(Record {
-        limits,
-        steps,
-        events,
-        order,
-        used,
-        free,
-        limbo,
-    })
 }
 
 /// How many operations haven't ended.

@@ -5,18 +5,11 @@ ghost use Rattle.lock_runner.specs.Seats.{IsSeatOf};
 
 use ctrie_base::{HashKind, Refusal};
 use history::{Call, Reply};
-use lock_runner::{Between, Runner, Seat};
+use lock_runner::{Nothing, Runner, Seat};
 use machine_model::Limits;
 use std::alloc::Global;
 use std::process::Abort;
 use std::sync::Wait;
-
-/// Nothing comes between two steps.
-pub(crate) struct Nothing;
-
-impl Between for Nothing {
-    fn between(&self, _seat: u8, _taken: u64) {}
-}
 
 pub(crate) fn limits(slots: u32, actors: u8) -> Limits {
     Limits {

@@ -3,9 +3,9 @@
 ghost use Rattle.lock_runner.specs.Seats.{IsSeatOf};
 
 use crate::records::{are_ends, copies, is_right};
-use crate::support::{Nothing, get, limits, put, two_seats};
+use crate::support::{get, limits, put, two_seats};
 use history::Event;
-use lock_runner::{Answer, Between, Runner, Seat};
+use lock_runner::{Answer, Between, Nothing, Runner, Seat};
 use std::alloc::{AllocError, AllocGlobal, Global};
 use std::process::Abort;
 use std::sync::Wait;

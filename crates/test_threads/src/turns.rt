@@ -2,8 +2,8 @@
 
 ghost use Rattle.lock_runner.specs.Seats.{IsSeatOf};
 
-use crate::support::{Nothing, get, is_found, perform, put, two_seats};
-use lock_runner::{Answer, Runner, Seat, Stop};
+use crate::support::{get, is_found, perform, put, two_seats};
+use lock_runner::{Answer, Nothing, Runner, Seat, Stop};
 use std::process::Abort;
 use std::sync::Wait;
 use std::test::Fail;

@@ -22,11 +22,11 @@ pub clean_append : (a b : List ℕ) → IsClean a → IsClean b → IsClean (a +
 clean_append [] b p q = q
 clean_append (x ∷ xs) b p q = (p.0, clean_append xs b p.1 q)
 
-and_parts : (a b : Bool) → (a && b) ≡ true → (a ≡ true) × (b ≡ true)
+pub and_parts : (a b : Bool) → (a && b) ≡ true → (a ≡ true) × (b ≡ true)
 and_parts true b e = (refl, e)
 and_parts false b e = absurd cc
 
-not_parts : (a : Bool) → not a ≡ true → a ≡ false
+pub not_parts : (a : Bool) → not a ≡ true → a ≡ false
 not_parts true e = absurd cc
 not_parts false e = refl
 

@@ -5,13 +5,13 @@ use std::io::{ErrorKind, Read, Write};
 
 /// Which call fails, counted from 1, and how; 0 for none.
 #[derive(Clone, Copy)]
-pub struct Failure {
+pub struct FailsAt {
     pub call: u64,
     pub kind: ErrorKind,
 }
 
 /// No call fails.
-pub const NEVER: Failure = Failure {
+pub const NEVER: FailsAt = FailsAt {
     call: 0,
     kind: ErrorKind::Other,
 };
@@ -22,16 +22,16 @@ pub struct Source<'a> {
     rest: &'a [u8],
     most: usize,
     calls: u64,
-    failure: Failure,
+    fails_at: FailsAt,
 }
 
 impl<'a> Source<'a> {
-    pub fn new(text: &'a [u8], most: usize, failure: Failure) -> Source<'a> {
+    pub fn new(text: &'a [u8], most: usize, fails_at: FailsAt) -> Source<'a> {
         Source {
             rest: text,
             most,
             calls: 0,
-            failure,
+            fails_at,
         }
     }
 }
@@ -39,8 +39,8 @@ impl<'a> Source<'a> {
 impl Read for Source<'_> {
     fn read(&mut self, buf: &mut [u8]) -> io::Result<usize> {
         self.calls = self.calls.saturating_add(1);
-        if self.calls == self.failure.call {
-            return Err(io::Error::from(self.failure.kind));
+        if self.calls == self.fails_at.call {
+            return Err(io::Error::from(self.fails_at.kind));
         }
         let room = buf.len().min(self.most);
         let rest = &mut self.rest;
@@ -54,26 +54,26 @@ pub struct Sink {
     pub taken: Vec<u8>,
     most: usize,
     calls: u64,
-    failure: Failure,
+    fails_at: FailsAt,
     is_silent: bool,
 }
 
 impl Sink {
-    /// A silent sink takes no byte in place of its failure.
-    pub fn new(taken: Vec<u8>, most: usize, failure: Failure, is_silent: bool) -> Sink {
+    /// A silent sink takes no byte in place of its fails_at.
+    pub fn new(taken: Vec<u8>, most: usize, fails_at: FailsAt, is_silent: bool) -> Sink {
         Sink {
             taken,
             most,
             calls: 0,
-            failure,
+            fails_at,
             is_silent,
         }
     }
 
     fn call(&mut self) -> io::Result<()> {
         self.calls = self.calls.saturating_add(1);
-        if self.calls == self.failure.call {
-            return Err(io::Error::from(self.failure.kind));
+        if self.calls == self.fails_at.call {
+            return Err(io::Error::from(self.fails_at.kind));
         }
         Ok(())
     }

@@ -1,5 +1,5 @@
 use Rattle.std.proofs.Common.{rules, ◌≡◌, [], ◌∷◌, ◌++◌}
-use Rattle.actor_history.specs.Accounts.{answered_at}
+use Rattle.lock_runner.specs.ActorHistory.{answered_at}
 use Rattle.std.proofs.lemmas.Result.{err_from_is_err_and}
 use Rattle.lock_runner.proofs.Steps.{stopped, went, answered, ended_made, go_stops, go_goes, go_ends}
 use Rattle.lock_runner.proofs.runner.Runner.go.Goals as goal

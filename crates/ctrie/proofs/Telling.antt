@@ -1,0 +1,35 @@
+-- What tells of a request, from what the three calls say.
+use Rattle.std.proofs.Common.{◌≡◌, ℕ, List, Option, None, Some, Bool, true, false, IfSome, refl}
+use Rattle.std.specs.Io.KnownBytes.{Appends}
+use Rattle.ctrie_commands.specs.Written.{AppendsSuch, AppendsPartOf}
+use Rattle.ctrie_commands.specs.Verdicts.{IsVerdict, verdict_line, AppendsPart}
+use Rattle.ctrie_commands.specs.Scripts.{AppendsReportPart}
+use Rattle.ctrie_commands.specs.Threads.{AppendsThreadReportPart}
+use Rattle.ctrie.specs.declared.arguments.Request.TheVariants.{Check, Run, Threads}
+use Rattle.ctrie.specs.declared.outcomes.Outcome.{Outcome}
+use Rattle.ctrie.specs.declared.outcomes.Outcome.TheVariants.{Done}
+use Rattle.ctrie.specs.Outcomes.{Tells, judged}
+
+-- its verdict was written
+pub verdict_told : (known old new : Option (List ℕ)) (legal : Bool) (path : _) → IfSome known (λ text. IsVerdict text legal) → Appends old new (verdict_line legal) →
+    IfSome known (λ text. AppendsSuch (Tells (Check path) text (judged legal)) old new)
+verdict_told None old new legal path is written = tt
+verdict_told (Some text) old new true path is written = (verdict_line true, (is, refl), written)
+verdict_told (Some text) old new false path is written = (verdict_line false, (is, refl), written)
+
+-- a beginning was written
+pub verdict_part : (known old new : Option (List ℕ)) (path : _) → IfSome known (λ text. AppendsPart old new text) →
+    IfSome known (λ text. AppendsPartOf (λ bytes. (outcome : Outcome) × Tells (Check path) text outcome bytes) old new)
+verdict_part None old new path part = tt
+verdict_part (Some text) old new path (bytes, (true, is, line), part) = (bytes, (judged true, (is, line)), part)
+verdict_part (Some text) old new path (bytes, (false, is, line), part) = (bytes, (judged false, (is, line)), part)
+
+pub report_part : (known old new : Option (List ℕ)) (path : _) → IfSome known (λ text. AppendsReportPart old new text) →
+    IfSome known (λ text. AppendsPartOf (λ bytes. (outcome : Outcome) × Tells (Run path) text outcome bytes) old new)
+report_part None old new path part = tt
+report_part (Some text) old new path (bytes, is, part) = (bytes, (Done, is), part)
+
+pub thread_report_part : (known old new : Option (List ℕ)) (path : _) → IfSome known (λ text. AppendsThreadReportPart old new text) →
+    IfSome known (λ text. AppendsPartOf (λ bytes. (outcome : Outcome) × Tells (Threads path) text outcome bytes) old new)
+thread_report_part None old new path part = tt
+thread_report_part (Some text) old new path (bytes, is, part) = (bytes, (Done, is), part)

@@ -1,0 +1,38 @@
+-- What comes of a request, and the exit status that tells of it.
+use Rattle.std.specs.Prelude.{◌≡◌, ℕ, Bool, true, false, List, Result, Ok, Err}
+use Rattle.ctrie_base.specs.declared.refusals.Refusal.{Refusal}
+use Rattle.ctrie_commands.specs.declared.faults.Fault.{Fault}
+use Rattle.ctrie_commands.specs.Faults.{status_of}
+use Rattle.ctrie_commands.specs.Verdicts.{IsVerdict, verdict_line, HasLineFault}
+use Rattle.ctrie_commands.specs.Scripts.{IsReport, HasScriptFault}
+use Rattle.ctrie_commands.specs.Threads.{IsThreadReport, HasThreadFault}
+use Rattle.ctrie.specs.declared.arguments.Request.{Request}
+use Rattle.ctrie.specs.declared.arguments.Request.TheVariants.{Check, Run, Threads}
+use Rattle.ctrie.specs.declared.outcomes.Outcome.{Outcome}
+use Rattle.ctrie.specs.declared.outcomes.Outcome.TheVariants.{Done, Legal, NotLegal}
+
+-- the exit status: 0 for a script that was carried out and for a legal order, 3 for another order, else the fault's
+abbrev pub exit_status_of : Result Outcome Fault → ℕ
+exit_status_of (Ok Done) = 0
+exit_status_of (Ok Legal) = 0
+exit_status_of (Ok NotLegal) = 3
+exit_status_of (Err fault) = status_of fault
+
+-- how a check comes out
+abbrev pub judged : Bool → Outcome
+judged true = Legal
+judged false = NotLegal
+
+-- What is asked for comes out so with this text, and these bytes tell of it: of a check its verdict, of a script its report.
+abbrev pub Tells : Request → List ℕ → Outcome → List ℕ → Type 0
+Tells (Check path) text Legal bytes = IsVerdict text true × (bytes ≡ verdict_line true)
+Tells (Check path) text NotLegal bytes = IsVerdict text false × (bytes ≡ verdict_line false)
+Tells (Run path) text Done bytes = IsReport text bytes
+Tells (Threads path) text Done bytes = IsThreadReport text bytes
+Tells request text outcome bytes = ⊥
+
+-- the first line with a fault is this one, with this fault
+abbrev pub HasFault : Request → List ℕ → ℕ → Refusal → Type 0
+HasFault (Check path) text number refusal = HasLineFault text number refusal
+HasFault (Run path) text number refusal = HasScriptFault text number refusal
+HasFault (Threads path) text number refusal = HasThreadFault text number refusal

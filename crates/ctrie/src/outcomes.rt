@@ -1,0 +1,96 @@
+//! What comes of a request, and the exit status that tells of it.
+
+ghost use Rattle.std.specs.Prelude.{◌≡◌, ◌≢◌, ◌<◌, ◌^◌, ℕ, Ok, Err, IfOk, OnOk, IfErr, IfSome};
+ghost use Rattle.std.specs.Io.KnownBytes.{Keeps, IsAtEnd};
+ghost use Rattle.counted_io.specs.Counts.{inner_of, failures};
+ghost use Rattle.ctrie_commands.specs.Legality.{AppendsJudged};
+ghost use Rattle.ctrie_commands.specs.Written.{AppendsSuch, AppendsPartOf};
+ghost use Rattle.ctrie.specs.Outcomes.{Tells, HasFault, judged, exit_status_of};
+
+use crate::arguments::Request;
+use ctrie_commands::{Counted, Fault, Nothing, check_history, run_script, run_threads};
+use std::alloc::Global;
+use std::io::{Read, Write};
+use std::sync::Wait;
+use std::thread::Threads;
+
+/// How what was asked for came out.
+#[derive(Clone, Copy, Debug, PartialEq, Eq)]
+pub enum Outcome {
+    /// The script was carried out.
+    Done,
+    /// The order is legal for its history.
+    Legal,
+    /// It isn't.
+    NotLegal,
+}
+
+/// 0 for a script that was carried out and for a legal order, 3 for another order, else what the fault
+/// tells.
+pub fn exit_status(outcome: &Result<Outcome, Fault>) -> u8
+    ensures { result ≡ exit_status_of outcome.now }
+{
+    match outcome {
+        Ok(Outcome::Done | Outcome::Legal) => 0,
+        Ok(Outcome::NotLegal) => 3,
+        Err(fault) => fault.status(),
+    }
+}
+
+/// How a check comes out.
+fn judged(legal: bool) -> Outcome
+    ensures { result ≡ judged legal }
+{
+    if legal {
+        Outcome::Legal
+    } else {
+        Outcome::NotLegal
+    }
+}
+
+/// Reads a text to its end, does with it what is asked for, and writes what tells of it.
+#[tactic(auto, using(crate::proofs::Telling::verdict_told, crate::proofs::Telling::verdict_part, crate::proofs::Telling::report_part, crate::proofs::Telling::thread_report_part))]
+pub fn carry_out<R: Threads + Wait + Sync, I: Read, W: Write>(
+    rt: &R,
+    alloc: Global,
+    request: Request<'_>,
+    input: &mut Counted<I>,
+    output: &mut Counted<W>,
+) -> Result<Outcome, Fault>
+    requires input_count { failures input.old < 2 ^ 63 }
+    requires output_count { failures output.old < 2 ^ 63 }
+
+    // What was asked for came out so with what the reader had, and just what tells of it was written.
+    ensures written { IfOk result (λ outcome. IfSome (I.remaining (inner_of input.old)) (λ text.
+        AppendsSuch (Tells request.entry text outcome) (W.contents (inner_of output.old)) (W.contents (inner_of output.new)))) }
+    ensures all_read { OnOk result (IsAtEnd (I.remaining (inner_of input.new))) }
+
+    // Whatever the reader had: of a script a text was written of which a check answers true.
+    ensures legal { result ≡ Ok Outcome.Done → AppendsJudged (W.contents (inner_of output.old)) (W.contents (inner_of output.new)) }
+
+    // What each fault tells.
+    ensures line { (number : ℕ) (refusal : _) → result ≡ Err (Fault.Line number refusal)
+        → IfSome (I.remaining (inner_of input.old)) (λ text. HasFault request.entry text number refusal) }
+    ensures read { result ≡ Err Fault.Read → failures input.old < failures input.new }
+    ensures write { result ≡ Err Fault.Write → failures output.old < failures output.new }
+    ensures never_usage { result ≢ Err Fault.Usage }
+
+    // Nothing was written before a fault but one of writing, and before that a beginning.
+    ensures silent { IfErr result (λ fault. fault ≢ Fault.Write →
+        Keeps (W.contents (inner_of output.old)) (W.contents (inner_of output.new))) }
+    ensures part { result ≡ Err Fault.Write → IfSome (I.remaining (inner_of input.old)) (λ text.
+        AppendsPartOf (λ bytes. (outcome : _) × Tells request.entry text outcome bytes)
+        (W.contents (inner_of output.old)) (W.contents (inner_of output.new))) }
+{
+    match request {
+        Request::Check(_) => Ok(judged(check_history(alloc, input, output)?)),
+        Request::Run(_) => {
+            run_script(alloc, input, output)?;
+            Ok(Outcome::Done)
+        }
+        Request::Threads(_) => {
+            run_threads(rt, alloc, input, output, &Nothing)?;
+            Ok(Outcome::Done)
+        }
+    }
+}

@@ -1,0 +1,9 @@
+-- What a history tells of one actor: how its account follows from the machine's steps.
+pub mod Pushes
+pub mod Turns
+pub mod Sound
+pub mod Places
+pub mod Told
+pub mod Steps
+pub mod Totals
+pub mod Counted

@@ -1,0 +1,251 @@
+-- What the accounts say of running operations is what the machine runs, along every run.
+use Rattle.std.specs.Prelude.{replicate, ◌≡◌, ℕ, zero, suc, ◌+◌, ◌<◌, ◌⊎◌, List, [], ◌∷◌, ◌++◌, length, Option, Some, None, cond}
+use Rattle.std.proofs.Common.{refl, sym, ap, subst, ◌∙◌, inl, inr, arith, eq-eqb, ne_eqb}
+use Rattle.std.proofs.lemmas.Bool.{cases_eq}
+use Rattle.std.proofs.lemmas.List.{length-set, length-map, length-replicate}
+use Rattle.std.proofs.lemmas.List.Sums.{sum_by-append}
+use Rattle.std.proofs.lemmas.Option.{none-some, same_Some}
+use Rattle.history.specs.declared.calls.Call.{Call}
+use Rattle.history.specs.declared.replies.Reply.{Reply}
+use Rattle.history.specs.declared.events.Event.{Event}
+use Rattle.history.specs.declared.events.Event.TheVariants.{Begin, End}
+use Rattle.history.specs.Histories.{begun, is_begin}
+use Rattle.machine_model.specs.declared.operations.Operation.{Operation}
+use Rattle.machine_model.specs.declared.steps.Limits.{Limits}
+use Rattle.machine_model.specs.declared.steps.Step.{Step}
+use Rattle.machine_model.specs.declared.steps.Outcome.{Outcome}
+use Rattle.machine_model.specs.States.{State, first_state, operation_of}
+use Rattle.machine_model.specs.Machine.{run}
+use Rattle.machine_model.specs.Moves.{Begins, Goes, Ends, Sweeps}
+use Rattle.machine_model.specs.Moves.{Moves, begun_operation}
+use Rattle.machine_model.proofs.Actors.{after_marks, marks_by, gone_actors, begin_actors}
+use Rattle.machine_model.proofs.Frames.{limits_kept}
+use Rattle.machine_model.proofs.Along.{along}
+use Rattle.lock_runner.specs.declared.accounts.Running.{Running}
+use Rattle.lock_runner.specs.ActorHistory.{Account, account_of, account_after, account_ended, account_from, begun_at, answered_at}
+use Rattle.lock_runner.proofs.ActorHistory.Pushes.{account_push}
+use Rattle.lock_runner.proofs.ActorHistory.Turns.{Shown, shown, ran, Turns, Comes, Stays, Leaves, Rests, turns}
+
+abbrev pub told : Option Running → Option Shown
+told None = None
+told (Some operation) = Some (operation.id, operation.call)
+
+-- what the actor runs
+abbrev pub runs : State → ℕ → Option Shown
+runs state actor = shown (operation_of state actor)
+
+-- ---- lengths
+
+marks_length : (m : Option ℕ) (xs : List (Option Operation)) → length (after_marks m xs) ≡ length xs
+marks_length None xs = refl
+marks_length (Some id) xs = simp length-map
+
+actors_length : (state : State) (s : Step) (o : Outcome) (after : State) → Moves state s o after → length after.actors ≡ length state.actors
+actors_length state s o after (Begins {actor = actor} {call = call} d) =
+    ap (λ xs. length xs) (begin_actors state actor call (begun_operation state call)) ∙ length-set state.actors _ _
+actors_length state s o after (Goes {actor = actor} {operation = operation} d is a g) =
+    ap (λ xs. length xs) (gone_actors state actor operation) ∙ marks_length (marks_by state (Some operation)) _ ∙ length-set state.actors _ _
+actors_length state s o after (Ends d is a) = length-set state.actors _ _
+actors_length state s o after (Sweeps spent) = refl
+
+-- ---- how many have begun
+
+pub begun_begin : (history : List Event) (id owner : ℕ) (call : Call) (opens : Option ℕ) → begun (history ++ Begin id owner call opens ∷ []) ≡ begun history + 1
+begun_begin history id owner call opens = omega (arith, sum_by-append (λ e. cond (is_begin e) 1 0) history (Begin id owner call opens ∷ []))
+
+pub begun_end : (history : List Event) (id : ℕ) (answer : Reply) → begun (history ++ End id answer ∷ []) ≡ begun history
+begun_end history id answer = omega (arith, sum_by-append (λ e. cond (is_begin e) 1 0) history (End id answer ∷ []))
+
+-- ---- what one event makes of an account
+
+pub begin_other : (actor place : ℕ) (account : Account) (id owner : ℕ) (call : Call) (opens : Option ℕ) → (owner ≡ actor → ⊥) →
+    account_after actor place account (Begin id owner call opens) ≡ account
+begin_other actor place account id owner call opens other = rw (ne_eqb owner actor other) refl
+
+pub begin_own : (actor place : ℕ) (account : Account) (id : ℕ) (call : Call) (opens : Option ℕ) →
+    account_after actor place account (Begin id actor call opens) ≡ record account { running = Some (begun_at place id call) }
+begin_own actor place account id call opens = rw (eq-eqb actor actor refl) refl
+
+pub ended_other : (account : Account) (place id : ℕ) (answer : Reply) (running : Option Running) →
+    ((p : Shown) → told running ≡ Some p → p.0 ≡ id → ⊥) → account_ended account place id answer running ≡ account
+ended_other account place id answer None other = refl
+ended_other account place id answer (Some r) other = rw (ne_eqb r.id id (other (r.id, r.call) refl)) refl
+
+-- the end of the operation that the account has
+pub record IsAnswered (account : Account) (running : Option Running) (place id : ℕ) (answer : Reply) (after : Account) : Type 0 where
+  pub operation : Running
+  pub is : running ≡ Some operation
+  pub same : operation.id ≡ id
+  pub answered : after ≡ record { answers = account.answers ++ answered_at operation place answer ∷ []; running = None }
+
+pub ended_own : (account : Account) (place : ℕ) (p : Shown) (answer : Reply) (running : Option Running) → told running ≡ Some p →
+    IsAnswered account running place p.0 answer (account_ended account place p.0 answer running)
+ended_own account place p answer None is = absurd (none-some p is)
+ended_own account place p answer (Some r) is =
+    let same : r.id ≡ p.0 = ap (λ q. q.0) (same_Some _ _ is) in
+    record { operation = r; is = refl; same = same; answered = rw (eq-eqb r.id p.0 same) refl }
+
+-- ---- the invariant
+
+pub record Sound (state : State) : Type 0 where
+  pub fits : length state.actors ≡ state.limits.actors
+  pub below : (k : ℕ) (p : Shown) → ran state.actors k ≡ Some p → p.0 < begun state.events
+  pub apart : (i j : ℕ) (p q : Shown) → ran state.actors i ≡ Some p → ran state.actors j ≡ Some q → p.0 ≡ q.0 → i ≡ j
+  pub match : (actor : ℕ) → runs state actor ≡ told (account_of actor state.events).running
+
+-- ---- a begin
+
+module _ (before after : State) (sound : Sound before) (fits : length after.actors ≡ after.limits.actors) (k : ℕ) (call : Call) (opens : Option ℕ)
+    (here : ran after.actors k ≡ Some (begun before.events, call))
+    (others : (j : ℕ) → (j ≡ k → ⊥) → ran after.actors j ≡ ran before.actors j)
+    (events : after.events ≡ before.events ++ Begin (begun before.events) (suc k) call opens ∷ []) where
+  pub come_account : (actor : ℕ) → account_of actor after.events ≡
+      account_after actor (length before.events) (account_of actor before.events) (Begin (begun before.events) (suc k) call opens)
+  come_account actor = ap (λ es. account_of actor es) events ∙ account_push actor before.events _
+
+  come_begun : begun after.events ≡ begun before.events + 1
+  come_begun = ap begun events ∙ begun_begin before.events _ _ call opens
+
+  come_below_by : (j : ℕ) (p : Shown) → ran after.actors j ≡ Some p → (j ≡ k) ⊎ (j ≡ k → ⊥) → p.0 < begun after.events
+  come_below_by j p e (inl same) =
+      let is : p.0 ≡ begun before.events = ap (λ q. q.0) (same_Some _ _ (sym e ∙ ap (λ i. ran after.actors i) same ∙ here)) in
+      omega (arith, come_begun, is)
+  come_below_by j p e (inr other) = omega (arith, come_begun, sound.below j p (sym (others j other) ∙ e))
+
+  -- the new one has an id that no other has
+  come_new : (i j : ℕ) (p q : Shown) → ran after.actors i ≡ Some p → ran after.actors j ≡ Some q → p.0 ≡ q.0 → i ≡ k → (j ≡ k → ⊥) → ⊥
+  come_new i j p q e f same own other =
+      let is : p.0 ≡ begun before.events = ap (λ r. r.0) (same_Some _ _ (sym e ∙ ap (λ n. ran after.actors n) own ∙ here)) in
+      absurd (omega (arith, is, same, sound.below j q (sym (others j other) ∙ f)))
+
+  come_apart_by : (i j : ℕ) (p q : Shown) → ran after.actors i ≡ Some p → ran after.actors j ≡ Some q → p.0 ≡ q.0 →
+      (i ≡ k) ⊎ (i ≡ k → ⊥) → (j ≡ k) ⊎ (j ≡ k → ⊥) → i ≡ j
+  come_apart_by i j p q e f same (inl a) (inl b) = a ∙ sym b
+  come_apart_by i j p q e f same (inl a) (inr b) = absurd (come_new i j p q e f same a b)
+  come_apart_by i j p q e f same (inr a) (inl b) = absurd (come_new j i q p f e (sym same) b a)
+  come_apart_by i j p q e f same (inr a) (inr b) = sound.apart i j p q (sym (others i a) ∙ e) (sym (others j b) ∙ f) same
+
+  come_match_by : (j : ℕ) → (j ≡ k) ⊎ (j ≡ k → ⊥) → ran after.actors j ≡ told (account_of (suc j) after.events).running
+  come_match_by j (inl same) =
+      let own : account_of (suc j) after.events ≡ record (account_of (suc j) before.events) { running = Some (begun_at (length before.events) (begun before.events) call) } =
+      come_account (suc j) ∙ ap (λ n. account_after (suc j) (length before.events) (account_of (suc j) before.events) (Begin (begun before.events) (suc n) call opens)) (sym same)
+      ∙ begin_own (suc j) (length before.events) (account_of (suc j) before.events) (begun before.events) call opens in
+      ap (λ n. ran after.actors n) same ∙ here ∙ ap (λ a. told a.running) (sym own)
+  come_match_by j (inr other) =
+      others j other ∙ sound.match (suc j)
+      ∙ ap (λ a. told a.running) (sym (come_account (suc j) ∙ begin_other (suc j) _ _ _ (suc k) call opens (λ e. other (omega (arith, e)))))
+
+  come_match : (actor : ℕ) → runs after actor ≡ told (account_of actor after.events).running
+  come_match zero = sound.match zero ∙ ap (λ a. told a.running) (sym (come_account zero ∙ begin_other zero _ _ _ (suc k) call opens (λ e. absurd (omega (arith, e)))))
+  come_match (suc j) = come_match_by j (cases_eq j k)
+
+  come_sound : Sound after
+  come_sound = record {
+    fits = fits;
+    below = λ j p e. come_below_by j p e (cases_eq j k);
+    apart = λ i j p q e f same. come_apart_by i j p q e f same (cases_eq i k) (cases_eq j k);
+    match = come_match;
+  }
+
+-- ---- a step that tells nothing
+
+module _ (before after : State) (sound : Sound before) (fits : length after.actors ≡ after.limits.actors)
+    (same : (j : ℕ) → ran after.actors j ≡ ran before.actors j) (events : after.events ≡ before.events) where
+  stay_match : (actor : ℕ) → runs after actor ≡ told (account_of actor after.events).running
+  stay_match zero = sound.match zero ∙ ap (λ es. told (account_of zero es).running) (sym events)
+  stay_match (suc j) = same j ∙ sound.match (suc j) ∙ ap (λ es. told (account_of (suc j) es).running) (sym events)
+
+  stay_sound : Sound after
+  stay_sound = record {
+    fits = fits;
+    below = λ j p e. subst (λ es. p.0 < begun es) (sym events) (sound.below j p (sym (same j) ∙ e));
+    apart = λ i j p q e f. sound.apart i j p q (sym (same i) ∙ e) (sym (same j) ∙ f);
+    match = stay_match;
+  }
+
+-- ---- an end
+
+module _ (before after : State) (sound : Sound before) (fits : length after.actors ≡ after.limits.actors) (k : ℕ) (p : Shown) (answer : Reply)
+    (had : ran before.actors k ≡ Some p) (none : ran after.actors k ≡ None) (others : (j : ℕ) → (j ≡ k → ⊥) → ran after.actors j ≡ ran before.actors j)
+    (events : after.events ≡ before.events ++ End p.0 answer ∷ []) where
+  pub leave_account : (actor : ℕ) → account_of actor after.events ≡ account_after actor (length before.events) (account_of actor before.events) (End p.0 answer)
+  leave_account actor = ap (λ es. account_of actor es) events ∙ account_push actor before.events _
+
+  leave_begun : begun after.events ≡ begun before.events
+  leave_begun = ap begun events ∙ begun_end before.events _ answer
+
+  -- what still runs ran before, elsewhere
+  leave_before_by : (j : ℕ) (q : Shown) → ran after.actors j ≡ Some q → (j ≡ k) ⊎ (j ≡ k → ⊥) → ran before.actors j ≡ Some q
+  leave_before_by j q e (inl same) = absurd (none-some q (sym none ∙ ap (λ i. ran after.actors i) (sym same) ∙ e))
+  leave_before_by j q e (inr other) = sym (others j other) ∙ e
+
+  leave_before : (j : ℕ) (q : Shown) → ran after.actors j ≡ Some q → ran before.actors j ≡ Some q
+  leave_before j q e = leave_before_by j q e (cases_eq j k)
+
+  -- another actor's account has another operation
+  pub leave_other : (actor : ℕ) → ((j : ℕ) → actor ≡ suc j → j ≡ k → ⊥) → account_of actor after.events ≡ account_of actor before.events
+  leave_other zero other =
+      leave_account zero ∙ ended_other (account_of zero before.events) (length before.events) p.0 answer (account_of zero before.events).running
+      (λ q is e. absurd (none-some q (sound.match zero ∙ is)))
+  leave_other (suc j) other =
+      leave_account (suc j) ∙ ended_other (account_of (suc j) before.events) (length before.events) p.0 answer (account_of (suc j) before.events).running
+      (λ q is e. other j refl (sound.apart j k q p (sound.match (suc j) ∙ is) had e))
+
+  pub leave_own : IsAnswered (account_of (suc k) before.events) (account_of (suc k) before.events).running (length before.events) p.0 answer (account_of (suc k) after.events)
+  leave_own =
+      subst (λ a. IsAnswered (account_of (suc k) before.events) (account_of (suc k) before.events).running (length before.events) p.0 answer a) (sym (leave_account (suc k)))
+      (ended_own (account_of (suc k) before.events) (length before.events) p answer (account_of (suc k) before.events).running (sym (sound.match (suc k)) ∙ had))
+
+  leave_match_by : (j : ℕ) → (j ≡ k) ⊎ (j ≡ k → ⊥) → ran after.actors j ≡ told (account_of (suc j) after.events).running
+  leave_match_by j (inl same) =
+      ap (λ i. ran after.actors i) same ∙ none ∙ ap (λ a. told a.running) (sym leave_own.answered) ∙ ap (λ i. told (account_of (suc i) after.events).running) (sym same)
+  leave_match_by j (inr other) =
+      others j other ∙ sound.match (suc j)
+      ∙ ap (λ a. told a.running) (sym (leave_other (suc j) (λ i e f. other (omega (arith, e, f)))))
+
+  leave_match : (actor : ℕ) → runs after actor ≡ told (account_of actor after.events).running
+  leave_match zero = sound.match zero ∙ ap (λ a. told a.running) (sym (leave_other zero (λ i e f. absurd (omega (arith, e)))))
+  leave_match (suc j) = leave_match_by j (cases_eq j k)
+
+  leave_sound : Sound after
+  leave_sound = record {
+    fits = fits;
+    below = λ j q e. subst (λ n. q.0 < n) (sym leave_begun) (sound.below j q (leave_before j q e));
+    apart = λ i j q r e f. sound.apart i j q r (leave_before i q e) (leave_before j r f);
+    match = leave_match;
+  }
+
+-- ---- every run
+
+pub kept : (before after : State) (s : Step) (o : Outcome) → Sound before → length after.actors ≡ after.limits.actors → Turns before after s o → Sound after
+kept before after s o sound fits (Comes k call opens within idle here others events) = come_sound before after sound fits k call opens here others events
+kept before after s o sound fits (Stays k p kind had same events) = stay_sound before after sound fits same events
+kept before after s o sound fits (Leaves k p answer had none others events) = leave_sound before after sound fits k p answer had none others events
+kept before after s o sound fits (Rests swept same events) = stay_sound before after sound fits same events
+
+pub fits_after : (before after : State) (s : Step) (o : Outcome) → Moves before s o after → length before.actors ≡ before.limits.actors → length after.actors ≡ after.limits.actors
+fits_after before after s o m fits = actors_length before s o after m ∙ fits ∙ ap (λ l. l.actors) (sym (limits_kept before s o after m))
+
+-- at first none runs
+none_shown : (n k : ℕ) → ran (replicate n None) k ≡ None
+none_shown zero k = refl
+none_shown (suc n) zero = refl
+none_shown (suc n) (suc k) = none_shown n k
+
+first_runs : (limits : Limits) (actor : ℕ) → runs (first_state limits) actor ≡ None
+unfolding first_state
+first_runs limits zero = refl
+first_runs limits (suc k) = none_shown limits.actors k
+
+pub sound_at_first : (limits : Limits) → Sound (first_state limits)
+unfolding first_state account_from
+sound_at_first limits = record {
+  fits = length-replicate limits.actors None;
+  below = λ k p e. absurd (none-some p (sym (none_shown limits.actors k) ∙ e));
+  apart = λ i j p q e f same. absurd (none-some p (sym (none_shown limits.actors i) ∙ e));
+  match = λ actor. first_runs limits actor;
+}
+
+pub sound_along : (limits : Limits) (steps : List Step) → Sound (run limits steps)
+sound_along limits = along limits Sound (sound_at_first limits)
+    (λ steps s o after m sound. kept (run limits steps) after s o sound (fits_after (run limits steps) after s o m sound.fits) (turns (run limits steps) s o after sound.fits m))

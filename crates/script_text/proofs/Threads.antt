@@ -1,0 +1,3 @@
+-- Scripts for threads are scripts, and are read again.
+pub mod Found
+pub mod Again
