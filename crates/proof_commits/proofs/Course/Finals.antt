@@ -7,7 +7,8 @@ use Rattle.proof_commits.specs.Beneath.slot_arena.specs.declared.nodes.Prev.{Pre
 use Rattle.proof_commits.specs.Beneath.slot_arena.specs.declared.nodes.Prev.TheVariants as over
 use Rattle.proof_commits.specs.Protocol.{Words, Kept, CommitsNode, FailsNode, Protocol}
 use Rattle.proof_commits.proofs.Words.Stood.{Stood, stood_still, none≢pending, none≢failed, pending≢failed, same_pending, over_pending}
-use Rattle.proof_commits.proofs.Words.Effects.{Effect, Nothing, Made, SwappedIn, PutBack, Committed, Failed, link_later, none_later, failed_later, GoesOn, StaysPending, GetsCommitted, GetsFailed, goes_on}
+use Rattle.proof_commits.proofs.Words.Effects.{Effect, Nothing, Made, SwappedIn, PutBack, Committed, Failed, link_later, none_later, failed_later, GoesOn, StaysPending}
+use Rattle.proof_commits.proofs.Words.Effects.{GetsCommitted, GetsFailed, goes_on}
 use Rattle.proof_commits.proofs.Known.Owners.{IsSound}
 use Rattle.proof_commits.proofs.Known.Sounds.{sound_at, effect_at}
 

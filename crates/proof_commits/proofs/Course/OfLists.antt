@@ -56,7 +56,9 @@ use Rattle.proof_commits.proofs.Course.Moments.{moment_at}
 use Rattle.proof_commits.proofs.Words.InHeap.{grown_standing, states_are, step_leads, node_standing, prev_standing, logical_standing}
 use Rattle.proof_commits.proofs.Lines.Swap.{runs_deciding, runs_publishing, in_swap_fresh, reads_stage}
 use Rattle.proof_commits.specs.Runs.{steps_taken, state_before, HasIndirection}
-use Rattle.proof_commits.specs.Laws.{IsInSwap, Owner, PendingHasOwner, PrevChange, Stays, IsSwappedIn, IsCommitted as ChangeCommitted, HasFailed, PrevWordsChange, DecidedForGood, CommitsMain, MainsChangeByCommits, ReplacedForGood, IsGiven, MomentIsFirst, GivenForGood, CheckedIsDecided, ChangesLate, LateStoodBefore, LateOnce, IsTomb, TombsStay}
+use Rattle.proof_commits.specs.Laws.{IsInSwap, Owner, PendingHasOwner, PrevChange, Stays, IsSwappedIn, IsCommitted as ChangeCommitted, HasFailed, PrevWordsChange, DecidedForGood}
+use Rattle.proof_commits.specs.Laws.{CommitsMain, MainsChangeByCommits, ReplacedForGood, IsGiven, MomentIsFirst, GivenForGood, CheckedIsDecided, ChangesLate, LateStoodBefore}
+use Rattle.proof_commits.specs.Laws.{LateOnce, IsTomb, TombsStay}
 use Rattle.proof_memory.specs.Wants.{is_indirection, is_branch_or_list}
 use Rattle.proof_memory.specs.Laws.{IsInUse}
 
@@ -336,7 +338,8 @@ pub prev_words_change : MemoryOfRuns → PrevWordsChange
 prev_words_change memory limits steps ok =
     subst (λ (s : ℕ → State). (n : ℕ) → n < steps_taken limits steps → (main : Ref) → IsInUse (s n).heap main → IsInUse (s (n + 1)).heap main → PrevChange (s n) (s (n + 1)) main)
     (same_states limits steps)
-    (λ n h main. next_state (λ (a b : State). IsInUse a.heap main → IsInUse b.heap main → PrevChange a b main) (states_of limits steps) n (prev_changes limits ok steps (known_from memory limits steps ok) n h main))
+    (λ n h main. next_state (λ (a b : State). IsInUse a.heap main → IsInUse b.heap main → PrevChange a b main) (states_of limits steps) n
+    (prev_changes limits ok steps (known_from memory limits steps ok) n h main))
 
 pub decided_for_good : MemoryOfRuns → DecidedForGood
 decided_for_good memory limits steps ok =

@@ -8,11 +8,14 @@ use Rattle.proof_commits.specs.Beneath.machine_model.specs.declared.reading.Afte
 use Rattle.proof_commits.specs.Beneath.machine_model.specs.declared.reading.After.TheVariants.{Goes, Gives}
 use Rattle.proof_commits.specs.Beneath.machine_model.specs.declared.reading.ReadLine.{ReadLine}
 use Rattle.proof_commits.specs.Beneath.machine_model.specs.declared.reading.ReadLine.TheVariants as read
-use Rattle.proof_commits.specs.Protocol.{Words, main_at, Stage, Rests, Reads, Holds, Publishes, Decides, Checks, CommitsNode, ReadTurn, ReadsMain, FindsDecided, FindsFailed, FindsPending, DecidesAtOnce, Asks, FindsOffer, Aborts, Commits, Fails, Overtaken, Restores, FindsAnother, IsAtRest, after_read, after_deciding, MayHave, counts_at, Counts, IsSame, Moves, Idles, MakesNode, SwapsNode, ReadsOn, DecidesOn, Turn, Acts, Passes, Protocol}
+use Rattle.proof_commits.specs.Protocol.{Words, main_at, Stage, Rests, Reads, Holds, Publishes, Decides, Checks, CommitsNode, ReadTurn, ReadsMain, FindsDecided, FindsFailed}
+use Rattle.proof_commits.specs.Protocol.{FindsPending, DecidesAtOnce, Asks, FindsOffer, Aborts, Commits, Fails, Overtaken, Restores, FindsAnother, IsAtRest, after_read}
+use Rattle.proof_commits.specs.Protocol.{after_deciding, MayHave, counts_at, Counts, IsSame, Moves, Idles, MakesNode, SwapsNode, ReadsOn, DecidesOn, Turn, Acts, Passes, Protocol}
 use Rattle.proof_commits.proofs.Words.Stood.{Stood, AreSound, none≢pending, over_pending}
 use Rattle.proof_commits.proofs.Known.Owners.{OnLine, Staged, IsSound}
 use Rattle.proof_commits.proofs.Known.Sounds.{sound_at}
-use Rattle.proof_commits.proofs.Course.Finals.{from_time, none_final, failed_final, link_stays, pending_back, pending_stands, Fate, StillPending, HasFailed, HasCommitted, fate, committed_stays, commits_at}
+use Rattle.proof_commits.proofs.Course.Finals.{from_time, none_final, failed_final, link_stays, pending_back, pending_stands, Fate, StillPending, HasFailed, HasCommitted, fate}
+use Rattle.proof_commits.proofs.Course.Finals.{committed_stays, commits_at}
 use Rattle.proof_commits.proofs.Course.Mains.{main_when_none, main_when_pending, MainStep, MainStays, MainChanges, main_step}
 use Rattle.proof_commits.proofs.Course.Closings.{commits_early}
 use Rattle.proof_commits.specs.Moments.{later_of, IsMoment}

@@ -6,7 +6,8 @@ use Rattle.proof_commits.specs.Beneath.slot_arena.specs.declared.nodes.Prev.TheV
 use Rattle.proof_commits.specs.Beneath.machine_model.specs.declared.reading.After.{After}
 use Rattle.proof_commits.specs.Beneath.machine_model.specs.declared.reading.After.TheVariants.{Goes, Gives}
 use Rattle.proof_commits.specs.Beneath.machine_model.specs.declared.reading.ReadLine.{ReadLine}
-use Rattle.proof_commits.specs.Protocol.{Words, main_at, Stage, Rests, Reads, Holds, Publishes, Decides, Checks, CommitsNode, IsAtRest, MayHave, IsSame, Moves, Idles, MakesNode, SwapsNode, ReadsOn, DecidesOn, Turn, Acts, Passes, after_read, after_deciding, Protocol}
+use Rattle.proof_commits.specs.Protocol.{Words, main_at, Stage, Rests, Reads, Holds, Publishes, Decides, Checks, CommitsNode, IsAtRest, MayHave, IsSame, Moves, Idles, MakesNode}
+use Rattle.proof_commits.specs.Protocol.{SwapsNode, ReadsOn, DecidesOn, Turn, Acts, Passes, after_read, after_deciding, Protocol}
 use Rattle.proof_commits.proofs.Words.Stood.{none≢pending}
 use Rattle.proof_commits.proofs.Words.Effects.{Effect, GoesOn, StaysPending, GetsCommitted, GetsFailed, goes_on, failed_later}
 use Rattle.proof_commits.proofs.Known.Owners.{HasFresh, Owner, IsSound}

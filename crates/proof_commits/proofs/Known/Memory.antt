@@ -20,7 +20,8 @@ use Rattle.proof_commits.specs.Beneath.machine_model.specs.States.{State, operat
 use Rattle.proof_commits.specs.Beneath.machine_model.specs.Operations.{action_of}
 use Rattle.proof_commits.specs.Beneath.machine_model.specs.Times.{IsRun}
 use Rattle.proof_commits.specs.Beneath.machine_model.specs.Grown.{standing}
-use Rattle.proof_memory.specs.Wants.{Wanted, AnIndirection, AMain, ABranch, BranchOrList, line_wants, meets, Is, Holds, AllHold, action_wants, node_wants, prev_wants, place_wants, change_wants, flag_on, is_indirection, is_branch_or_list}
+use Rattle.proof_memory.specs.Wants.{Wanted, AnIndirection, AMain, ABranch, BranchOrList, line_wants, meets, Is, Holds, AllHold, action_wants, node_wants, prev_wants, place_wants}
+use Rattle.proof_memory.specs.Wants.{change_wants, flag_on, is_indirection, is_branch_or_list}
 use Rattle.proof_memory.specs.Laws.{IsInUse}
 use Rattle.proof_memory.proofs.Claims.Uses.{safe_of, meets_of, first_hold}
 use Rattle.proof_memory.proofs.Heap.Under.{node_under, taken_all}

@@ -7,7 +7,9 @@ use Rattle.proof_commits.specs.Beneath.machine_model.specs.declared.reading.Afte
 use Rattle.proof_commits.specs.Beneath.machine_model.specs.declared.reading.After.TheVariants.{Goes, Gives}
 use Rattle.proof_commits.specs.Beneath.machine_model.specs.declared.reading.ReadLine.{ReadLine}
 use Rattle.proof_commits.specs.Beneath.machine_model.specs.declared.reading.ReadLine.TheVariants as read
-use Rattle.proof_commits.specs.Protocol.{Words, Stage, Rests, Reads, Holds, Publishes, Decides, Checks, Makes, SwapsIn, CommitsNode, FailsNode, ReadTurn, ReadsMain, FindsDecided, FindsFailed, FindsPending, DecidesAtOnce, Asks, FindsOffer, Aborts, Commits, Fails, Overtaken, Restores, FindsAnother, Given, IsAtRest, after_read, after_deciding, MayName, MayHave, Moves, Idles, MakesNode, SwapsNode, ReadsOn, DecidesOn}
+use Rattle.proof_commits.specs.Protocol.{Words, Stage, Rests, Reads, Holds, Publishes, Decides, Checks, Makes, SwapsIn, CommitsNode, FailsNode, ReadTurn, ReadsMain, FindsDecided}
+use Rattle.proof_commits.specs.Protocol.{FindsFailed, FindsPending, DecidesAtOnce, Asks, FindsOffer, Aborts, Commits, Fails, Overtaken, Restores, FindsAnother, Given, IsAtRest}
+use Rattle.proof_commits.specs.Protocol.{after_read, after_deciding, MayName, MayHave, Moves, Idles, MakesNode, SwapsNode, ReadsOn, DecidesOn}
 use Rattle.proof_commits.proofs.Words.Stood.{Stood, Decided, Private, AreSound, stood_later, stands_now, none≢pending, over_failed, not_both}
 use Rattle.proof_commits.proofs.Words.Effects.{IsSettled, Effect, Nothing, Made, SwappedIn, PutBack, Committed, Failed, made_later, Brings, comes, stood_below, none_later, failed_later}
 

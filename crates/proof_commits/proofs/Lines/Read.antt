@@ -21,12 +21,14 @@ use Rattle.proof_commits.specs.Beneath.machine_model.specs.declared.roots.RootWo
 use Rattle.proof_commits.specs.Beneath.machine_model.specs.declared.steps.Limits.{Limits}
 use Rattle.proof_commits.specs.Beneath.machine_model.specs.declared.steps.Step.TheVariants as step
 use Rattle.proof_commits.specs.Beneath.machine_model.specs.States.{State}
-use Rattle.proof_commits.specs.Beneath.machine_model.specs.Reading.{Verdict, Commits, Fails, Overtaken, verdict, verdict_by, is_licensed, is_pending, read_action, read_after, after_prev, after_ask, after_decide, after_restore, committed_by, committed_so}
+use Rattle.proof_commits.specs.Beneath.machine_model.specs.Reading.{Verdict, Commits, Fails, Overtaken, verdict, verdict_by, is_licensed, is_pending, read_action, read_after}
+use Rattle.proof_commits.specs.Beneath.machine_model.specs.Reading.{after_prev, after_ask, after_decide, after_restore, committed_by, committed_so}
 use Rattle.proof_commits.specs.Beneath.machine_model.specs.Operations.{action_of}
 use Rattle.proof_commits.specs.Beneath.machine_model.specs.Acting.{commits_after}
 use Rattle.proof_commits.specs.Beneath.machine_model.proofs.Times.{steps_at}
 use Rattle.proof_commits.specs.Beneath.machine_model.specs.Grown.{grown, node_under, prev_word}
-use Rattle.proof_commits.specs.Protocol.{Words, Kept, Leaves, ReadTurn, ReadsMain, FindsDecided, FindsFailed, FindsPending, DecidesAtOnce, Asks, FindsOffer, Aborts, Commits as CommitsTurn, Fails as FailsTurn, Overtaken as OvertakenTurn, Restores, FindsAnother}
+use Rattle.proof_commits.specs.Protocol.{Words, Kept, Leaves, ReadTurn, ReadsMain, FindsDecided, FindsFailed, FindsPending, DecidesAtOnce, Asks, FindsOffer, Aborts}
+use Rattle.proof_commits.specs.Protocol.{Commits as CommitsTurn, Fails as FailsTurn, Overtaken as OvertakenTurn, Restores, FindsAnother}
 use Rattle.proof_commits.proofs.Course.Finals.{from_time}
 use Rattle.proof_commits.proofs.Known.Given.{GrownStays, GrownChanges, GrownSwaps, GrownTakes, FindsMain, FindsPrev, Either, Decided, Taken, ActsOn, Known}
 use Rattle.proof_commits.proofs.Words.OfRuns.{leaves_words, commits_words, fails_words, puts_back_words, slot_generation, slot_main_link, slot_prev_node, slot_solid, slot_kept}
@@ -92,7 +94,8 @@ main_link : (states : ℕ → State) (t : ℕ) (x i : Ref) → is_indirection (n
 main_link states t x i l e =
     (ap (λ o. is_indirection (node_of o)) e ∙ slot_main_link x (grown states t i) ∙ l, ap (λ o. generation_of (node_of o)) e ∙ slot_generation x (grown states t i))
 
-prev_link : (states : ℕ → State) (t : ℕ) (v : Prev) (i : Ref) → is_indirection (node_under states t i) ≡ true → grown states (suc t) i ≡ option_map (prev_changed v) (grown states t i) → KeepsLink states t i
+prev_link : (states : ℕ → State) (t : ℕ) (v : Prev) (i : Ref) → is_indirection (node_under states t i) ≡ true →
+    grown states (suc t) i ≡ option_map (prev_changed v) (grown states t i) → KeepsLink states t i
 prev_link states t v i l e = (
   ap (λ o. is_indirection (node_of o)) e ∙ ap is_indirection (slot_prev_node v (grown states t i)) ∙ l,
   ap (λ o. generation_of (node_of o)) e ∙ ap generation_of (slot_prev_node v (grown states t i)),
@@ -102,17 +105,20 @@ main_link_by : (states : ℕ → State) (t : ℕ) (x r i : Ref) → is_indirecti
 main_link_by states t x r i l e (inl is) = main_link states t x i l (subst (λ q. grown states (suc t) q ≡ option_map (main_changed x) (grown states t q)) (sym is) e.here)
 main_link_by states t x r i l e (inr apart) = same_link states t i l (e.elsewhere i apart)
 
-prev_link_by : (states : ℕ → State) (t : ℕ) (v : Prev) (r i : Ref) → is_indirection (node_under states t i) ≡ true → GrownChanges states t (prev_changed v) r → (i ≡ r) ⊎ (i ≡ r → ⊥) → KeepsLink states t i
+prev_link_by : (states : ℕ → State) (t : ℕ) (v : Prev) (r i : Ref) → is_indirection (node_under states t i) ≡ true → GrownChanges states t (prev_changed v) r →
+    (i ≡ r) ⊎ (i ≡ r → ⊥) → KeepsLink states t i
 prev_link_by states t v r i l e (inl is) = prev_link states t v i l (subst (λ q. grown states (suc t) q ≡ option_map (prev_changed v) (grown states t q)) (sym is) e.here)
 prev_link_by states t v r i l e (inr apart) = same_link states t i l (e.elsewhere i apart)
 
-swap_link_by : (states : ℕ → State) (t : ℕ) (r a f i : Ref) → is_indirection (node_under states t i) ≡ true → GrownSwaps states t r a f → (i ≡ r) ⊎ (i ≡ r → ⊥) → (i ≡ f) ⊎ (i ≡ f → ⊥) → KeepsLink states t i
+swap_link_by : (states : ℕ → State) (t : ℕ) (r a f i : Ref) → is_indirection (node_under states t i) ≡ true → GrownSwaps states t r a f → (i ≡ r) ⊎ (i ≡ r → ⊥) →
+    (i ≡ f) ⊎ (i ≡ f → ⊥) → KeepsLink states t i
 swap_link_by states t r a f i l e (inl is) other = main_link states t f i l (subst (λ q. grown states (suc t) q ≡ option_map (main_changed f) (grown states t q)) (sym is) e.main)
 swap_link_by states t r a f i l e (inr apart) (inl is) =
     prev_link states t (over.Pending a) i l (subst (λ q. grown states (suc t) q ≡ option_map (prev_changed (over.Pending a)) (grown states t q)) (sym is) e.prev)
 swap_link_by states t r a f i l e (inr apart) (inr other) = same_link states t i l (e.elsewhere i apart other)
 
-take_link_by : (states : ℕ → State) (t : ℕ) (n : Ref) (node : Node) (i : Ref) → is_indirection (node_under states t i) ≡ true → GrownTakes states t n node → (i ≡ n) ⊎ (i ≡ n → ⊥) → KeepsLink states t i
+take_link_by : (states : ℕ → State) (t : ℕ) (n : Ref) (node : Node) (i : Ref) → is_indirection (node_under states t i) ≡ true → GrownTakes states t n node →
+    (i ≡ n) ⊎ (i ≡ n → ⊥) → KeepsLink states t i
 take_link_by states t n node i l e (inl is) = absurd (true≢false (sym l ∙ ap (λ q. is_indirection (node_under states t q)) is ∙ ap (λ o. is_indirection (node_of o)) e.new))
 take_link_by states t n node i l e (inr apart) = same_link states t i l (e.elsewhere i apart)
 

@@ -29,7 +29,8 @@ use Rattle.proof_commits.specs.Beneath.machine_model.specs.declared.lines.Line.{
 use Rattle.proof_commits.specs.Beneath.machine_model.specs.declared.lines.Line.TheVariants as line
 use Rattle.proof_commits.specs.Beneath.machine_model.specs.Paths.{current, above}
 use Rattle.proof_commits.specs.Protocol.{Stage, Rests, Reads, Holds, Publishes, Decides, Checks}
-use Rattle.proof_commits.specs.Stages.{stage_of_complete, stage_of_root, stage_of_swap, stage_of_key, stage_of_build, stage_of_renew, stage_of_clean, stage_of_climb, stage_of_copy, stage_of_walk, stage_of, stage_of_actor, from_of_actor}
+use Rattle.proof_commits.specs.Stages.{stage_of_complete, stage_of_root, stage_of_swap, stage_of_key, stage_of_build, stage_of_renew, stage_of_clean, stage_of_climb, stage_of_copy}
+use Rattle.proof_commits.specs.Stages.{stage_of_walk, stage_of, stage_of_actor, from_of_actor}
 
 -- ---- what an operation is about
 

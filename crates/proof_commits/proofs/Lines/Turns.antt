@@ -56,7 +56,8 @@ use Rattle.proof_commits.specs.Beneath.machine_model.specs.Calls.{handle_of}
 use Rattle.proof_commits.specs.Beneath.machine_model.specs.States.{word_at, root_of}
 use Rattle.proof_commits.specs.Beneath.machine_model.specs.Reading.{read_action, read_after, at_indirection, committed_by, reading}
 use Rattle.proof_commits.specs.Beneath.machine_model.specs.Orders.{committed_in}
-use Rattle.proof_commits.specs.Beneath.machine_model.specs.Swapping.{after_deciding as swap_deciding, on_line, after_check, after_publish, after_reading, of_offer, after_completing, is_carried_out, is_plain}
+use Rattle.proof_commits.specs.Beneath.machine_model.specs.Swapping.{after_deciding as swap_deciding, on_line, after_check, after_publish, after_reading, of_offer}
+use Rattle.proof_commits.specs.Beneath.machine_model.specs.Swapping.{after_completing, is_carried_out, is_plain}
 use Rattle.proof_commits.specs.Beneath.machine_model.specs.Renewing.{renew_after_read}
 use Rattle.proof_commits.specs.Beneath.machine_model.specs.Finding.{key_after_read}
 use Rattle.proof_commits.specs.Beneath.machine_model.specs.Cleaning.{clean_after_read, after_child}
@@ -67,7 +68,8 @@ use Rattle.proof_commits.specs.Beneath.machine_model.specs.Operations.{line_acti
 use Rattle.proof_commits.specs.Beneath.machine_model.specs.Acting.{commits_after}
 use Rattle.proof_commits.specs.Beneath.machine_model.specs.Grown.{node_under}
 use Rattle.proof_commits.specs.Beneath.machine_model.specs.Moves.{GoesOn}
-use Rattle.proof_commits.specs.Protocol.{Words, HasMade, Stage, Rests, Reads, Holds, Publishes, Decides, Checks, IsFree, MayName, Given, ReadTurn, Moves, Idles, MakesNode, SwapsNode, ReadsOn, DecidesOn, after_read}
+use Rattle.proof_commits.specs.Protocol.{Words, HasMade, Stage, Rests, Reads, Holds, Publishes, Decides, Checks, IsFree, MayName, Given, ReadTurn, Moves, Idles, MakesNode}
+use Rattle.proof_commits.specs.Protocol.{SwapsNode, ReadsOn, DecidesOn, after_read}
 use Rattle.proof_commits.proofs.Lines.Stages.{ReadRemembers, Remembers}
 use Rattle.proof_commits.specs.Stages.{stage_of}
 use Rattle.proof_commits.proofs.Known.Given.{BuildsFrom, HasSolid, GrownStays, GrownSwaps, FindsMain, FindsPrev, Either, Taken, ActsOn, Known}

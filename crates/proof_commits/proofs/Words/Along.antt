@@ -31,7 +31,8 @@ use Rattle.proof_commits.proofs.Known.Given.{ActsOn, Known}
 use Rattle.proof_commits.proofs.Words.OfRuns.{leaves_words}
 use Rattle.proof_commits.specs.Words.{words_of}
 use Rattle.proof_commits.proofs.Lines.Read.{no_commit}
-use Rattle.proof_commits.proofs.Known.StepsAt.{StepAt, IsBegin, IsGo, IsEnd, IsSweep, step_at, gone_commits, begun_commits, after_mark, mark_stage, mark_from, go_others, go_own, end_others, end_own, begin_others, begin_own, actor_counts}
+use Rattle.proof_commits.proofs.Known.StepsAt.{StepAt, IsBegin, IsGo, IsEnd, IsSweep, step_at, gone_commits, begun_commits, after_mark, mark_stage, mark_from, go_others, go_own}
+use Rattle.proof_commits.proofs.Known.StepsAt.{end_others, end_own, begin_others, begin_own, actor_counts}
 use Rattle.proof_commits.proofs.Lines.Turns.{LineFacts, NextLine, line_turn, own_turn}
 use Rattle.proof_commits.proofs.Lines.Each.{OfActor, each_remembers}
 use Rattle.proof_commits.proofs.Lines.Reads.{CountsTo, line_counts, ends_at_end}

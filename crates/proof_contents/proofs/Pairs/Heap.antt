@@ -9,7 +9,8 @@ use Rattle.proof_contents.specs.Beneath.slot_arena.specs.declared.nodes.Node.The
 use Rattle.proof_contents.specs.Beneath.slot_arena.specs.declared.nodes.Prev.{Prev}
 use Rattle.proof_contents.specs.Beneath.slot_arena.specs.declared.nodes.Prev.TheVariants as prev
 use Rattle.proof_contents.specs.Beneath.slot_arena.specs.declared.nodes.Slot.{Slot}
-use Rattle.proof_contents.specs.Beneath.slot_arena.specs.Heaps.{Heap, stored, node_at, prev_at, node_of, prev_of, main_of, main_at, logical, logical_main, entries_of, refs_of_node, refs_of_prev, refs_of_slot}
+use Rattle.proof_contents.specs.Beneath.slot_arena.specs.Heaps.{Heap, stored, node_at, prev_at, node_of, prev_of, main_of, main_at, logical, logical_main, entries_of, refs_of_node}
+use Rattle.proof_contents.specs.Beneath.slot_arena.specs.Heaps.{refs_of_prev, refs_of_slot}
 use Rattle.machine_model.specs.declared.roots.Root.{Root}
 use Rattle.machine_model.specs.declared.roots.RootWord.{RootWord}
 use Rattle.machine_model.specs.declared.roots.RootWord.TheVariants.{Plain, Offer}
@@ -119,7 +120,8 @@ module _ (states : ℕ → State) (last : ℕ) (reaches : ReachesInUse (states l
   unfolding pairs_below pairs_from
   pairs_are zero r reached = refl
   pairs_are (suc levels) r reached =
-      by_node (λ q. pairs_are levels q) (node_at heap r) refl ∙ ap (pairs_of (pairs_from (node_under states last) (λ i. run.main_at states last last i) levels) (node_under states last) (λ i. run.main_at states last last i) r)
+      by_node (λ q. pairs_are levels q) (node_at heap r) refl
+      ∙ ap (pairs_of (pairs_from (node_under states last) (λ i. run.main_at states last last i) levels) (node_under states last) (λ i. run.main_at states last last i) r)
       (node_is r reached)
     where
       by_node : ((q : Ref) → Reached q → pairs_below levels heap q ≡ pairs_from (node_under states last) (λ i. run.main_at states last last i) levels q) → (n : Node) → node_at heap r ≡ n →

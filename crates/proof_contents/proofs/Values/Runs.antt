@@ -1,5 +1,6 @@
 -- The trie of a run: its main nodes are those of the states, whatever is made; each single's key is one of the keys.
-use Rattle.std.proofs.Common.{◌≡◌, ℕ, zero, suc, ◌-◌, ◌<◌, ◌==◌, Bool, true, false, cond, List, [], ◌∷◌, ◌++◌, slice_index_or, flat_map, Contains, Option, Some, None, is_some, refl, sym, ap, subst, ◌∙◌, arith}
+use Rattle.std.proofs.Common.{◌≡◌, ℕ, zero, suc, ◌-◌, ◌<◌, ◌==◌, Bool, true, false, cond, List, [], ◌∷◌, ◌++◌, slice_index_or, flat_map, Contains, Option, Some, None, is_some}
+use Rattle.std.proofs.Common.{refl, sym, ap, subst, ◌∙◌, arith}
 use Rattle.std.proofs.lemmas.List.Elements.{Contains-append_left, Contains-append_right}
 use Rattle.proof_contents.specs.Beneath.slot_arena.specs.Refs.{slot_of, birth_of}
 use Rattle.proof_contents.specs.Beneath.slot_arena.specs.declared.refs.Ref.{Ref}

@@ -146,7 +146,8 @@ module _ (limits : Limits) (states : ℕ → State) (last : ℕ) (run : IsRun li
     moment =
         subst (λ j. IsMoment (words states last) j m (read_at_after (states t) operation) (moment_after (states t) operation) t) g.of
         (moment_at limits states last (known limits states last run) t lt actor operation g.outcome g.moves g.runs
-        (gone_is (states t) actor g.outcome (states (suc t)) g.moves operation g.runs (reads_on limits states last run t lt actor operation g.runs g.read own_stage)) g.read.indirection g.read.line own_stage m
+        (gone_is (states t) actor g.outcome (states (suc t)) g.moves operation g.runs
+        (reads_on limits states last run t lt actor operation g.runs g.read own_stage)) g.read.indirection g.read.line own_stage m
         (given_read g.read.indirection (read_after (states t).heap operation.access (word_at (states t) (handle_of operation.call)) g.read.indirection g.read.line) m g.gives))
 
     -- the indirection is one from what the READ counts from on
@@ -167,7 +168,8 @@ module _ (limits : Limits) (states : ℕ → State) (last : ℕ) (run : IsRun li
     once : (moment_after (states t) operation ≤ t) × (main_at states last (suc (moment_after (states t) operation)) i ≡ m)
     once = (
       moment.past,
-      counts_in_trie (suc (moment_after (states t) operation)) (omega (arith, moment.past)) i m (link_from (suc (moment_after (states t) operation)) (omega arith) (omega (arith, moment.past))) moment.is,
+      counts_in_trie (suc (moment_after (states t) operation)) (omega (arith, moment.past)) i m
+          (link_from (suc (moment_after (states t) operation)) (omega arith) (omega (arith, moment.past))) moment.is,
     )
 
   pub given_for_ever : GivenForEver states last

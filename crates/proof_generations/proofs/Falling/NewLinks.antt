@@ -47,7 +47,8 @@ makes_inner state operation (line.End answer) n e = absurd (none-some n e)
 makes_inner state operation line.Impossible n e = absurd (none-some n e)
 makes_inner state operation l n e = tt
 
-pub reader_makes : (Ends Shut : Ref → Type 0) (Late : Read → Type 0) (state : State) (operation : Operation) (l : Line) (n : Node) → KnowsReader Ends Shut Late l → made_node state (line_action state operation l) ≡ Some n → ⊥
+pub reader_makes : (Ends Shut : Ref → Type 0) (Late : Read → Type 0) (state : State) (operation : Operation) (l : Line) (n : Node) → KnowsReader Ends Shut Late l →
+    made_node state (line_action state operation l) ≡ Some n → ⊥
 reader_makes Ends Shut Late state operation (line.Root l) n k e = root_makes state operation l n e
 reader_makes Ends Shut Late state operation (line.Key l) n k e = key_makes state operation l n e
 reader_makes Ends Shut Late state operation (line.Walk l) n k e = walk_makes state operation l n e
@@ -126,7 +127,8 @@ module _ (limits : Limits) (states : ℕ → State) (last : ℕ) (run : IsRun li
       let (h, word, is) = indirection_is m.node (ap is_indirection (sym m.its_node) ∙ l) in
       new_from n slot here m h word is k runs m.operation.access refl (know k m.operation runs)
 
-  link_by : (n : Ref) (before after : Option Slot) → grown states t n ≡ before → grown states (suc t) n ≡ after → is_indirection (node_of before) ≡ false → is_indirection (node_of after) ≡ true → NewLink n
+  link_by : (n : Ref) (before after : Option Slot) → grown states t n ≡ before → grown states (suc t) n ≡ after → is_indirection (node_of before) ≡ false →
+      is_indirection (node_of after) ≡ true → NewLink n
   link_by n before None at_t at_next was is = absurd (true≢false (sym is))
   link_by n None (Some slot) at_t at_next was is =
       made_by n slot at_next is (new_is_made (states t) (grown states t) (grown states (suc t)) (word_move limits states last run t lt) n slot at_t at_next)
@@ -142,7 +144,8 @@ module _ (limits : Limits) (states : ℕ → State) (last : ℕ) (run : IsRun li
   -- ---- a root that is made
 
   module _ (k : ℕ) (operation : Operation) (runs : Runs (states t) k operation) (g : ℕ) (begun : operation.generation ≡ Some g)
-      (known : Knows (IsOwn states last g) (FitsBelow states last t g) (FallsBelow states last t g) (LateBelow states last t operation g) operation.line) (main : Ref) (makes_it : action_of (states t) operation ≡ act.MakeRoot main) where
+      (known : Knows (IsOwn states last g) (FitsBelow states last t g) (FallsBelow states last t g) (LateBelow states last t operation g) operation.line)
+      (main : Ref) (makes_it : action_of (states t) operation ≡ act.MakeRoot main) where
     abbrev root_node : Node
     root_node = Indirection (states t).generations main
 
@@ -160,7 +163,8 @@ module _ (limits : Limits) (states : ℕ → State) (last : ℕ) (run : IsRun li
     made_root =
         root_below
         (link_made (states t) operation g begun (IsOwn states last g) (FitsBelow states last t g) (FallsBelow states last t g) (LateBelow states last t operation g) (IsInUse (states t).heap)
-        (own_fits states last t g) (single_fits limits states last run t lt t g) (entries_fit limits states last run t lt t g) operation.line root_node (states t).generations main refl (ap (made_node (states t)) makes_it)
+        (own_fits states last t g) (single_fits limits states last run t lt t g) (entries_fit limits states last run t lt t g) operation.line root_node
+        (states t).generations main refl (ap (made_node (states t)) makes_it)
         (node_made (states t) operation g begun (IsOwn states last g) (FitsBelow states last t g) (FallsBelow states last t g) (LateBelow states last t operation g) (IsInUse (states t).heap)
         (own_fits states last t g) (single_fits limits states last run t lt t g) (entries_fit limits states last run t lt t g) operation.line known
         (line_finds (states t) (safe_at limits states last run t (omega arith)) (suc k) operation runs) root_node (ap (made_node (states t)) makes_it)))

@@ -134,7 +134,8 @@ module _ (limits : Limits) (states : ℕ → State) (last : ℕ) (run : IsRun li
   falls_so i child b = (
     omega (arith, All-contains (NotNewer states last (gen_of states last i)) (entries_of (node_under states last b.main)) child (mains.older i b.main b.stood) b.among _ b.link, b.its),
     λ opened. by (subst (λ g. FitsBelow states last last g child) b.its
-        (All-contains (FitsBelow states last last (gen_of states last i)) (entries_of (node_under states last b.main)) child (mains.falls i b.main b.stood (subst (λ g. WasOpened states last g) (sym b.its) opened)) b.among) _ b.link),
+        (All-contains (FitsBelow states last last (gen_of states last i)) (entries_of (node_under states last b.main)) child
+        (mains.falls i b.main b.stood (subst (λ g. WasOpened states last g) (sym b.its) opened)) b.among) _ b.link),
   )
     where
       mains : MainsFall states last last
@@ -197,7 +198,8 @@ swaps_are_own limits steps ok =
         (operation.access ≡ Writable) × (operation.generation ≡ Some (generation_at (states_of limits steps (last_of limits steps)).heap s.indirection))
     at_end actor operation is why s at =
         let own = swaps_in_own_generation limits (states_of limits steps) (last_of limits steps) run (last_of limits steps) (omega arith) actor operation is why s at in
-        let wants = line_finds (states_of limits steps (last_of limits steps)) (safe_at limits (states_of limits steps) (last_of limits steps) run (last_of limits steps) (omega arith)) actor operation is in
+        let wants =
+        line_finds (states_of limits steps (last_of limits steps)) (safe_at limits (states_of limits steps) (last_of limits steps) run (last_of limits steps) (omega arith)) actor operation is in
         let used = subst (λ l. AllHold (IsInUse (states_of limits steps (last_of limits steps)).heap) (states_of limits steps (last_of limits steps)).heap
         (line_wants (states_of limits steps (last_of limits steps)).limits.hash operation.call operation.access l)) at wants in
         (own.0, own.1 ∙ ap (λ g. Some g) (used_generation limits (states_of limits steps) (last_of limits steps) run (last_of limits steps) (omega arith) s.indirection (safe_of used.0)))

@@ -60,10 +60,12 @@ module _ (limits : Limits) (steps : List Step) (ok : AreLimits limits) (n : ℕ)
 pub read_for_good : ReadForGood
 read_for_good limits steps ok n h i m given has closed k after within still =
     let gen = generation_so limits steps ok n h i has in
-    let same : gen_of (states_of limits steps) (last_of limits steps) given.read.indirection ≡ generation_at (state_before limits steps n).heap i = ap (gen_of (states_of limits steps) (last_of limits steps)) given.of ∙ gen in
+    let same : gen_of (states_of limits steps) (last_of limits steps) given.read.indirection ≡ generation_at (state_before limits steps n).heap i =
+    ap (gen_of (states_of limits steps) (last_of limits steps)) given.of ∙ gen in
     let (c, is, late) =
     late_of limits steps ok n h given.actor given.operation given.read (ap (λ (s : State). operation_of s given.actor) (states_are limits steps n) ∙ given.runs) given.no_swap given.reads
     (subst (ReadsClosed given.operation) (sym same) closed) in
     law_given_for_good layers_of_runs limits steps ok n h i m given c
-    (ap (λ (s : State). closed_at s (generation_at (state_before limits steps n).heap i)) (sym (run_ends limits steps)) ∙ ap (closed_at (states_of limits steps (last_of limits steps))) (sym same) ∙ is)
+    (ap (λ (s : State). closed_at s (generation_at (state_before limits steps n).heap i)) (sym (run_ends limits steps))
+    ∙ ap (closed_at (states_of limits steps (last_of limits steps))) (sym same) ∙ is)
     (subst (λ (s : State). c < read_at_after s given.operation) (states_are limits steps n) late) has k after within still

@@ -28,7 +28,8 @@ use Rattle.proof_generations.specs.Running.{Runs}
 begin_events : (state : State) (actor : ℕ) (call : Call) (operation : Operation) →
     (with_begin state actor call operation).events ≡ state.events ++ Begin operation.id actor call operation.opens ∷ []
 begin_events state actor call operation =
-    cond_both (is_close call) _ _ (λ (s : State). s.events ++ Begin operation.id actor call operation.opens ∷ [] ≡ state.events ++ Begin operation.id actor call operation.opens ∷ []) (λ e. refl) (λ e. refl)
+    cond_both (is_close call) _ _
+    (λ (s : State). s.events ++ Begin operation.id actor call operation.opens ∷ [] ≡ state.events ++ Begin operation.id actor call operation.opens ∷ []) (λ e. refl) (λ e. refl)
 
 -- never less
 pub begun_kept : (state : State) (s : Step) (o : Outcome) (after : State) → Moves state s o after → begun state.events ≤ begun after.events

@@ -19,7 +19,8 @@ use Rattle.proof_generations.specs.Beneath.machine_model.specs.Machine.{begin_de
 use Rattle.proof_generations.specs.Beneath.machine_model.specs.Moves.{Begins, Goes, Ends, Sweeps}
 use Rattle.proof_generations.specs.Beneath.machine_model.specs.Moves.{Moves, GoesOn, begun_operation}
 use Rattle.proof_generations.specs.Beneath.machine_model.proofs.Found.{found_within, found_elsewhere}
-use Rattle.proof_generations.specs.Beneath.machine_model.proofs.Actors.{mark_one, marks_by, marks_in, marks_of, after_marks, gone_actors, begin_actors, IsOf, is_of, of_others, of_itself, of_begin, of_end}
+use Rattle.proof_generations.specs.Beneath.machine_model.proofs.Actors.{mark_one, marks_by, marks_in, marks_of, after_marks, gone_actors, begin_actors, IsOf, is_of, of_others}
+use Rattle.proof_generations.specs.Beneath.machine_model.proofs.Actors.{of_itself, of_begin, of_end}
 use Rattle.proof_generations.specs.Beneath.proof_memory.proofs.Safety.Held.{begin_counts}
 use Rattle.proof_generations.specs.Running.{Runs}
 
@@ -83,12 +84,16 @@ follows state s o after (Goes {actor} {operation = own} d is a g) k operation at
       let one = one_at state k own operation (at_place state actor k own place is) at_k in
       let marks : marks_by state (Some own) ≡ marks_in state (step.Go actor) = ap (λ x. marks_by state x) (sym is) in
       steps (ap (λ x. step.Go x) place) (subst (λ x. GoesOn (action_of state x)) one (rw a g))
-      (rw gone_actors (subst (λ m. get_or (after_marks (marks_by state (Some own)) (set state.actors (actor - 1) (Some (operation_after state own)))) k None ≡ Some (mark_one m (operation_after state operation))) marks
-      (subst (λ x. get_or (after_marks (marks_by state (Some own)) (set state.actors (actor - 1) (Some (operation_after state own)))) k None ≡ Some (mark_one (marks_by state (Some own)) (operation_after state x))) one
+      (rw gone_actors
+      (subst (λ m. get_or (after_marks (marks_by state (Some own)) (set state.actors (actor - 1) (Some (operation_after state own)))) k None ≡ Some
+      (mark_one m (operation_after state operation))) marks
+      (subst (λ x. get_or (after_marks (marks_by state (Some own)) (set state.actors (actor - 1) (Some (operation_after state own)))) k None ≡ Some
+      (mark_one (marks_by state (Some own)) (operation_after state x))) one
       (marked_runs (marks_by state (Some own)) _ k (operation_after state own) here.1))))
   | inr there ↦
       let marks : marks_by state (Some own) ≡ marks_in state (step.Go actor) = ap (λ x. marks_by state x) (sym is) in
-      rests (not_place actor k there.0) (rw gone_actors (subst (λ m. get_or (after_marks (marks_by state (Some own)) (set state.actors (actor - 1) (Some (operation_after state own)))) k None ≡ Some (mark_one m operation)) marks
+      rests (not_place actor k there.0)
+      (rw gone_actors (subst (λ m. get_or (after_marks (marks_by state (Some own)) (set state.actors (actor - 1) (Some (operation_after state own)))) k None ≡ Some (mark_one m operation)) marks
       (marked_runs (marks_by state (Some own)) _ k operation there.1)))
 ]
 follows state s o after (Ends {actor} {operation = own} {answer} d is a) k operation at_k = elim (write_cases state.actors (actor - 1) k None operation at_k) [

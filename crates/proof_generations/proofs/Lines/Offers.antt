@@ -31,7 +31,8 @@ use Rattle.proof_generations.specs.Beneath.nodes.specs.Levels.{has_flag}
 use Rattle.proof_generations.specs.Beneath.ctrie_base.specs.Paths.{position_of}
 use Rattle.proof_generations.specs.Beneath.machine_model.specs.Paths.{current, above, is_below_root, flag_in, is_start}
 use Rattle.proof_generations.specs.Beneath.machine_model.specs.Lines.{impossible, new_try}
-use Rattle.proof_generations.specs.Beneath.machine_model.specs.Finding.{key_after_read, key_after_entry, after_listed, after_sibling, after_tomb, absent, key_after_main, found, found_so, absent_beside, absent_listed}
+use Rattle.proof_generations.specs.Beneath.machine_model.specs.Finding.{key_after_read, key_after_entry, after_listed, after_sibling, after_tomb, absent, key_after_main, found}
+use Rattle.proof_generations.specs.Beneath.machine_model.specs.Finding.{found_so, absent_beside, absent_listed}
 use Rattle.proof_generations.specs.Beneath.machine_model.specs.declared.building.BuildLine.{BuildLine}
 use Rattle.proof_generations.specs.Beneath.machine_model.specs.declared.repairs.RenewLine.{RenewLine}
 use Rattle.proof_generations.specs.Beneath.machine_model.specs.declared.repairs.CleanLine.{CleanLine}

@@ -90,7 +90,8 @@ own_from state operation (line.Copy (copy.Complete c)) d e = inl (by (complete_a
     ended true e = none-some d e
     ended false e = none-some d e
 
-    by : (a : After Complete Bool) → complete_after state.heap operation.access (word_at state (handle_of operation.call)) c ≡ a → own_offer (copy_after_complete operation a) ≡ Some d → Some c.offer ≡ Some d
+    by : (a : After Complete Bool) → complete_after state.heap operation.access (word_at state (handle_of operation.call)) c ≡ a →
+        own_offer (copy_after_complete operation a) ≡ Some d → Some c.offer ≡ Some d
     by (Continues next) is e = ap Some (sym (same_offer_after state operation c next is)) ∙ e
     by (Gives done) is e = absurd (ended (done || operation.is_marked) e)
 own_from state operation (line.Copy l) d e = absurd (made_none operation l (next_ref state.heap) d e)
@@ -202,7 +203,8 @@ pub record HasOffers (state : State) : Type 0 where
   pub known : AllKnown state
 
 module _ (state : State) (I : HasOffers state) (s : Step) (o : Outcome) (after : State) (m : Moves state s o after) where
-  own_line : (was : Operation) (c : Complete) → was.line ≡ line.Copy (copy.Offer c.offer) → completing_of (line_after state was was.line) ≡ Some c → own_offer (line_after state was was.line) ≡ Some c.offer
+  own_line : (was : Operation) (c : Complete) → was.line ≡ line.Copy (copy.Offer c.offer) → completing_of (line_after state was was.line) ≡ Some c →
+      own_offer (line_after state was was.line) ≡ Some c.offer
   own_line was c at_line e = by (is_plain (word_at state (handle_of was.call)) c.offer.root) refl
     where
       by : (b : Bool) → is_plain (word_at state (handle_of was.call)) c.offer.root ≡ b → own_offer (line_after state was was.line) ≡ Some c.offer
@@ -216,7 +218,8 @@ module _ (state : State) (I : HasOffers state) (s : Step) (o : Outcome) (after :
   completing_known k was found at_k now line_is c e (inr (inr offers)) =
       known_own after (ids_after state s o after m I.ids) (own_after state s o after m I.own) k found c.offer now (ap own_offer line_is ∙ own_line was c offers e)
 
-  went_known : (k : ℕ) (was found : Operation) → Runs state k was → Runs after k found → found.line ≡ line_after state was was.line → (offer : Descriptor) → Holds (line_after state was was.line) offer → IsKnown after offer
+  went_known : (k : ℕ) (was found : Operation) → Runs state k was → Runs after k found → found.line ≡ line_after state was was.line → (offer : Descriptor) →
+      Holds (line_after state was was.line) offer → IsKnown after offer
   went_known k was found at_k now line_is offer (inl abort) =
       known_kept state s o after m offer (known_standing state I.ids I.own I.offers (handle_of was.call) offer (abort_after state was was.line offer abort))
   went_known k was found at_k now line_is offer (inr (c, e, same)) = subst (λ d. IsKnown after d) same (completing_known k was found at_k now line_is c e (completes_after state was was.line c e))

@@ -128,7 +128,8 @@ module _ (state : State) (operation : Operation) where
   given_none (Clear h) root main r x e = none-some r e
   given_none call root main r x e = none-some r e
 
-  only_first : (root main made r : Ref) (x : Bool) → fresh_of x (record { operation = operation.id; attempt = operation.attempt + 1; root = root; expected = main; successor = made; second = None; opens = operation.opens }) ≡ Some r →
+  only_first : (root main made r : Ref) (x : Bool) →
+      fresh_of x (record { operation = operation.id; attempt = operation.attempt + 1; root = root; expected = main; successor = made; second = None; opens = operation.opens }) ≡ Some r →
       (x ≡ true) × (made ≡ r)
   only_first root main made r true e = (refl, same_Some _ _ e)
   only_first root main made r false e = absurd (none-some r e)
@@ -146,7 +147,8 @@ module _ (state : State) (operation : Operation) where
   made_fresh (copy.Cleared root main branch) made r x n e = let p = only_first root main made r x e in new branch refl (n ∙ ap Some p.1) p.0
   made_fresh l made r x n e = absurd (none-some r e)
 
-  if_made_fresh : (l : CopyLine) (made : Option Ref) (r : Ref) (x : Bool) → next_ref state.heap ≡ made → fresh_in x (copy_if_made operation l made) ≡ Some r → FreshFrom state operation (line.Copy l) x r
+  if_made_fresh : (l : CopyLine) (made : Option Ref) (r : Ref) (x : Bool) → next_ref state.heap ≡ made → fresh_in x (copy_if_made operation l made) ≡ Some r →
+      FreshFrom state operation (line.Copy l) x r
   if_made_fresh l None r x n e = absurd (none-some r e)
   if_made_fresh l (Some made) r x n e = made_fresh l made r x n e
 

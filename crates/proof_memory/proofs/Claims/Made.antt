@@ -1,5 +1,6 @@
 -- The nodes that lines make are formed, and what stands in them is as wanted.
-use Rattle.std.proofs.Common.{◌≡◌, ℕ, suc, ◌+◌, ◌^◌, ◌<◌, ◌≤◌, ◌==◌, ◌&&◌, Bool, true, false, nat_lt, nat_le, List, [], ◌∷◌, ◌++◌, Option, Some, None, All, length, get_or, set, take, drop, refl, sym, ap, ◌∙◌, subst, ltb-true, lt-ltb, leb-true, arith}
+use Rattle.std.proofs.Common.{◌≡◌, ℕ, suc, ◌+◌, ◌^◌, ◌<◌, ◌≤◌, ◌==◌, ◌&&◌, Bool, true, false, nat_lt, nat_le, List, [], ◌∷◌, ◌++◌, Option, Some, None, All, length, get_or, set}
+use Rattle.std.proofs.Common.{take, drop, refl, sym, ap, ◌∙◌, subst, ltb-true, lt-ltb, leb-true, arith}
 use Rattle.std.specs.Prelude.{bit_and, bit_or, bit_xor, count_ones, insert, remove}
 use Rattle.std.proofs.lemmas.Bool.{false≢true, and_parts, and_from, cond_both, le-leb}
 use Rattle.std.proofs.lemmas.Nat.{mod_below}
@@ -18,7 +19,8 @@ use Rattle.machine_model.specs.declared.actions.Action.TheVariants as act
 use Rattle.machine_model.specs.declared.building.Change.{Change}
 use Rattle.machine_model.specs.declared.building.Change.TheVariants as change
 use Rattle.machine_model.specs.Building.{changed}
-use Rattle.proof_memory.specs.Wants.{AnIndirection, ABranch, AList, BranchOrList, AnEntry, ASingle, ToSpare, meets, is_formed, Is, Holds, each, so, AllHold, node_wants, action_wants, change_wants, update_wants}
+use Rattle.proof_memory.specs.Wants.{AnIndirection, ABranch, AList, BranchOrList, AnEntry, ASingle, ToSpare, meets, is_formed, Is, Holds, each, so, AllHold, node_wants}
+use Rattle.proof_memory.specs.Wants.{action_wants, change_wants, update_wants}
 use Rattle.proof_memory.proofs.Heap.Ones.{ones_set, ones_cleared, ones_most, ones_flag, set_small, cleared_small, flag_small}
 use Rattle.proof_memory.proofs.Claims.Uses.{Meets, safe_of, meets_of, all_of}
 use Rattle.proof_memory.proofs.Claims.Nodes.{single_entry, indirection_entry}

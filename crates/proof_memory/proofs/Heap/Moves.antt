@@ -1,6 +1,7 @@
 -- What a step of a run does to the heap that only grows: one kind of move for each word or node that a step writes, tied to the action of the operation that takes it.
 -- The layers above cite `word_move`, and for two times `grown_stays`, `grown_in_use` and `not_yet_drawn`.
-use Rattle.std.proofs.Common.{◌≡◌, ℕ, zero, suc, ◌+◌, ◌<◌, ◌≤◌, ◌==◌, Bool, true, false, nat_le, List, [], ◌∷◌, map, length, Option, Some, None, get_or, refl, sym, ap, ◌∙◌, subst, ◌⊎◌, inl, inr, eqb-true, arith}
+use Rattle.std.proofs.Common.{◌≡◌, ℕ, zero, suc, ◌+◌, ◌<◌, ◌≤◌, ◌==◌, Bool, true, false, nat_le, List, [], ◌∷◌, map, length, Option, Some, None, get_or, refl, sym, ap, ◌∙◌, subst}
+use Rattle.std.proofs.Common.{◌⊎◌, inl, inr, eqb-true, arith}
 use Rattle.std.proofs.lemmas.Bool.{cases_eq, cond_both}
 use Rattle.std.proofs.lemmas.Option.{none-some, same_Some}
 use Rattle.proof_memory.specs.Beneath.epochs.specs.declared.limbo.Swept.{Swept}
@@ -121,7 +122,8 @@ module _ (state : State) (I : IsSafe state) (actor k : ℕ) (operation : Operati
       commits actor operation i main previous told was (running, a) e at_main (prev_here state.heap main prev.None was at_main) (prev_other state.heap main prev.None was at_main)
   decided_by i main previous told a h Fails e =
       let (was, at_main) = used_of state operation.epoch main (safe_of h.1.0) in
-      fails actor operation i main previous told was (running, a) e at_main (prev_here state.heap main (prev.Failed previous) was at_main) (prev_other state.heap main (prev.Failed previous) was at_main)
+      fails actor operation i main previous told was (running, a) e at_main (prev_here state.heap main (prev.Failed previous) was at_main)
+      (prev_other state.heap main (prev.Failed previous) was at_main)
   decided_by i main previous told a h (Overtaken licensed) e = same_heap state.heap refl
 
   -- by the action, in a state with this heap and as many generations
@@ -282,7 +284,8 @@ module _ (limits : Limits) (states : ℕ → State) (last : ℕ) (run : IsRun li
   lifted t h (inl (makes actor operation node made is a e none new others)) =
       makes actor operation node made is a e (not_yet_drawn t (omega arith) made e) (grown_new states t made _ new) (λ r other. grown_same states t r (others r other))
   lifted t h (inl (publishes actor operation i replaced fresh at_i at_fresh takes differ f_i m f_fresh g_i g_fresh others)) =
-      publishes actor operation i replaced fresh at_i at_fresh takes differ (grown_old states t i _ f_i) m (grown_old states t fresh _ f_fresh) (grown_new states t i _ g_i) (grown_new states t fresh _ g_fresh)
+      publishes actor operation i replaced fresh at_i at_fresh takes differ (grown_old states t i _ f_i) m (grown_old states t fresh _ f_fresh)
+      (grown_new states t i _ g_i) (grown_new states t fresh _ g_fresh)
       (λ r x y. grown_same states t r (others r x y))
   lifted t h (inl (restores actor operation i main previous at_i takes f_i m g_i others)) =
       restores actor operation i main previous at_i takes (grown_old states t i _ f_i) m (grown_new states t i _ g_i) (λ r x. grown_same states t r (others r x))

@@ -1,5 +1,6 @@
 -- What stands under each reference after a write, a taking and a freeing: only what is written, taken or freed changes.
-use Rattle.std.proofs.Common.{◌≡◌, ℕ, ◌+◌, ◌^◌, ◌<◌, ◌≤◌, ◌==◌, false, is_some, List, [], ◌∷◌, length, map, get_or, set, Option, Some, None, option_map, refl, sym, ap, ◌∙◌, subst, inl, inr, eqb-true, eq-eqb, ne_eqb, arith}
+use Rattle.std.proofs.Common.{◌≡◌, ℕ, ◌+◌, ◌^◌, ◌<◌, ◌≤◌, ◌==◌, false, is_some, List, [], ◌∷◌, length, map, get_or, set, Option, Some, None, option_map, refl, sym, ap, ◌∙◌, subst}
+use Rattle.std.proofs.Common.{inl, inr, eqb-true, eq-eqb, ne_eqb, arith}
 use Rattle.std.proofs.lemmas.Bool.{cases_eq, false≢true}
 use Rattle.std.proofs.lemmas.List.{get_or-set_same, get_or-set_other, get_or-map, length-map}
 use Rattle.std.proofs.lemmas.Option.{none-some, same_Some, cond_some}
@@ -9,7 +10,8 @@ use Rattle.proof_memory.specs.Beneath.slot_arena.specs.declared.nodes.Node.{Node
 use Rattle.proof_memory.specs.Beneath.slot_arena.specs.declared.nodes.Prev.{Prev}
 use Rattle.proof_memory.specs.Beneath.slot_arena.specs.declared.nodes.Prev.TheVariants as prev
 use Rattle.proof_memory.specs.Beneath.slot_arena.specs.declared.nodes.Slot.{Slot}
-use Rattle.proof_memory.specs.Beneath.slot_arena.specs.Heaps.{Heap, stored, node_at, node_of, prev_at, prev_of, written, with_main, with_prev, main_changed, prev_changed, taken, take_from, freed, next_ref, ref_in}
+use Rattle.proof_memory.specs.Beneath.slot_arena.specs.Heaps.{Heap, stored, node_at, node_of, prev_at, prev_of, written, with_main, with_prev, main_changed, prev_changed, taken}
+use Rattle.proof_memory.specs.Beneath.slot_arena.specs.Heaps.{take_from, freed, next_ref, ref_in}
 use Rattle.machine_model.proofs.Found.{found_within}
 use Rattle.machine_model.proofs.Rest.{first_free}
 use Rattle.machine_model.proofs.Slots.{AddsUp}
@@ -215,7 +217,8 @@ module _ (slots : ℕ) (heap : Heap) (sound : AddsUp slots heap) (small : slots 
   taken_by [] e is = absurd (none-some made is)
   taken_by (slot ∷ free) e is =
       let first = first_is_free slots heap sound small slot free e in
-      subst (λ q. (standing (take_from heap node (slot ∷ free)) q ≡ Some (fresh_slot heap node)) × (standing heap q ≡ None) × ((r : Ref) → (r ≡ q → ⊥) → standing (take_from heap node (slot ∷ free)) r ≡ standing heap r)
+      subst (λ q. (standing (take_from heap node (slot ∷ free)) q ≡ Some (fresh_slot heap node)) × (standing heap q ≡ None)
+      × ((r : Ref) → (r ≡ q → ⊥) → standing (take_from heap node (slot ∷ free)) r ≡ standing heap r)
       × (birth_of q ≡ heap.births + 1)) (same_Some _ _ is)
       (from_here heap node slot free first, none_before heap node slot free first, from_other heap node slot free first, sym (its_birth heap node slot free first))
 

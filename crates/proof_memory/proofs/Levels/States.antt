@@ -204,7 +204,8 @@ module _ (lv : Ref → ℕ) (state : State) (I : IsSafe state) (h : HasLevels lv
   words_after : (s : Step) (o : Outcome) (after : State) → Moves state s o after → AllWords (WordLevel lv) after
   words_after s o after (Begins {actor} {call} d) = begin_words (WordLevel lv) state call (begun_operation state call).id (h.words)
   words_after s o after (Goes {actor} {operation} d is a g) =
-      put_words (WordLevel lv) _ (handle_of operation.call) (action_of state operation) (h.words) (puts_level lv (made_level operation.line) (action_of state operation) (acts_level actor operation is))
+      put_words (WordLevel lv) _ (handle_of operation.call) (action_of state operation) (h.words)
+      (puts_level lv (made_level operation.line) (action_of state operation) (acts_level actor operation is))
   words_after s o after (Ends d is a) = h.words
   words_after s o after (Sweeps spent) = h.words
 
@@ -228,7 +229,8 @@ module _ (lv : Ref → ℕ) (state : State) (I : IsSafe state) (h : HasLevels lv
       ∙ (taken_all state.limits.slots state.heap (I.sound.heap) (I.small) other made e).0 in
       let same : other ≡ node = ap (λ (x : Slot). x.node) (same_Some _ _ (sym stood ∙ new)) in
       subst (NodeLevel lv made) same
-      (made_slot lv made (made_level operation.line) other (gives actor operation other made refl is a e) (made_of lv state (made_level operation.line) (action_of state operation) other a (acts_level actor operation is)))
+      (made_slot lv made (made_level operation.line) other (gives actor operation other made refl is a e)
+      (made_of lv state (made_level operation.line) (action_of state operation) other a (acts_level actor operation is)))
   gone_made actor operation k is found gives None a node made e none new =
       elim (stood_or_made _ _ _ _ _ _ (gone_effect state I actor k operation found) made (fresh_slot state.heap node) new) [
         | inl stood ↦ absurd (none-some stood.0 (sym none ∙ stood.1))
@@ -261,7 +263,8 @@ module _ (lv : Ref → ℕ) (state : State) (I : IsSafe state) (h : HasLevels lv
   marked_level : (m : Option ℕ) (operation : Operation) → LineLevel lv operation.line → LineLevel lv (mark_one m operation).line
   marked_level m operation l = subst (λ (x : Operation). LineLevel lv x.line) (sym (mark_only m operation)) l
 
-  lines_after : (s : Step) (o : Outcome) (after : State) → Moves state s o after → GivesLevel lv state s → (k : ℕ) → Dec (IsOf (suc k) s) → (found : Operation) → get_or after.actors k None ≡ Some found →
+  lines_after : (s : Step) (o : Outcome) (after : State) → Moves state s o after → GivesLevel lv state s → (k : ℕ) → Dec (IsOf (suc k) s) → (found : Operation) →
+      get_or after.actors k None ≡ Some found →
       LineLevel lv found.line
   lines_after s o after m gives k (no other) found at_k =
       let (was, at_was, same) = of_others state s o after m k other found at_k in
@@ -271,10 +274,12 @@ module _ (lv : Ref → ℕ) (state : State) (I : IsSafe state) (h : HasLevels lv
   lines_after s o after (Goes {actor} {operation} d is a g) gives k (yes own) found at_k =
       let at_was = at_place state actor k operation own is in
       let goes_on : GoesOn (action_of state operation) = rw a g in
-      let is_open : is_some (root_at state (handle_of operation.call)) ≡ true = elim (or_cases _ _ (I.handles k operation at_was)) [ inl ends ↦ absurd (goes_no_end state operation operation.line goes_on ends) | inr opened ↦ opened ] in
+      let is_open : is_some (root_at state (handle_of operation.call)) ≡ true =
+      elim (or_cases _ _ (I.handles k operation at_was)) [ inl ends ↦ absurd (goes_no_end state operation operation.line goes_on ends) | inr opened ↦ opened ] in
       subst (λ (x : Operation). LineLevel lv x.line) (sym (of_itself state actor operation k own found at_k))
       (marked_level (marks_by state (Some operation)) (operation_after state operation)
-      (line_level_next lv state operation (IsInUse state.heap) (heaped_in_use state I) level_under (word_by (root_at state (handle_of operation.call)) (handle_of operation.call) refl is_open) older operation.line
+      (line_level_next lv state operation (IsInUse state.heap) (heaped_in_use state I) level_under
+      (word_by (root_at state (handle_of operation.call)) (handle_of operation.call) refl is_open) older operation.line
       (line_finds state I actor operation is) (h.lines k operation at_was) (λ node made m e. gives actor operation node made refl is m e)))
   lines_after s o after (Ends {actor} d is a) gives k (yes own) found at_k = absurd (of_end state actor k own found at_k)
   lines_after s o after (Sweeps spent) gives k (yes own) found at_k = absurd own

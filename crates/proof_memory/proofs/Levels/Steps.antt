@@ -52,7 +52,8 @@ use Rattle.machine_model.specs.Operations.{after_swap as line_after_swap}
 use Rattle.proof_memory.specs.Wants.{AnIndirection, ABranch, ASingle, meets, Is, Holds, AllHold, node_wants, read_wants, complete_wants, offer_wants, root_wants}
 use Rattle.proof_memory.proofs.Claims.Uses.{safe_of, meets_of, last_hold}
 use Rattle.proof_memory.proofs.Lines.Shared.{above_long}
-use Rattle.proof_memory.specs.Levels.{EntryLevel, KindLevel, NodeLevel, PrevLevel, OfferLevel, WordLevel, PairLevel, ReadLevel, CompleteLevel, RootLevel, PathLevel, PlaceLevel, SwapLineLevel, PurposeLevel, SwapLevel, DoneLevel, LineLevel}
+use Rattle.proof_memory.specs.Levels.{EntryLevel, KindLevel, NodeLevel, PrevLevel, OfferLevel, WordLevel, PairLevel, ReadLevel, CompleteLevel, RootLevel, PathLevel, PlaceLevel}
+use Rattle.proof_memory.specs.Levels.{SwapLineLevel, PurposeLevel, SwapLevel, DoneLevel, LineLevel}
 use Rattle.proof_memory.proofs.Levels.Paths.{current_level, above_level, pushed_level}
 
 module _ (lv : Ref → ℕ) (state : State) (operation : Operation) (S : Ref → Type 0) (N : (r : Ref) → S r → NodeLevel lv r (node_at state.heap r) × PrevLevel lv r (prev_at state.heap r)) where
@@ -119,7 +120,8 @@ module _ (lv : Ref → ℕ) (state : State) (operation : Operation) (S : Ref →
   restore_next i previous false e = tt
 
   module _ (W : WordLevel lv (word_at state (handle_of operation.call))) where
-    pub read_next : (i : Ref) (l : ReadLine) → AllHold S state.heap (read_wants i l) → ReadLevel lv i l → AfterLevel i (read_after state.heap operation.access (word_at state (handle_of operation.call)) i l)
+    pub read_next : (i : Ref) (l : ReadLine) → AllHold S state.heap (read_wants i l) → ReadLevel lv i l →
+        AfterLevel i (read_after state.heap operation.access (word_at state (handle_of operation.call)) i l)
     read_next i read.Main h e = main_level i h.0
     read_next i (read.Prev main) h e = prev_next operation.access i main (prev_at state.heap main) ((N main (safe_of h.1.0)).1) e
     read_next i (read.AskRoot main previous) h e = ask_next i main previous (word_at state (handle_of operation.call)) W e
@@ -279,11 +281,13 @@ module _ (lv : Ref → ℕ) (state : State) (operation : Operation) (S : Ref →
   clean_entry_level path main done entry (Single k v) d h = clean_next_level path main (done ++ entry ∷ []) (more_done path main done entry d h)
   clean_entry_level path main done entry node d h = tt
 
-  pub child_level : (path : List Ref) (main : Ref) (done : List Ref) (i : Ref) (a : After ReadLine Ref) → DoneLevel lv path main done → AfterLevel i a → L (after_child path main done (at_indirection i a))
+  pub child_level : (path : List Ref) (main : Ref) (done : List Ref) (i : Ref) (a : After ReadLine Ref) → DoneLevel lv path main done → AfterLevel i a →
+      L (after_child path main done (at_indirection i a))
   child_level path main done i (Goes l) d h = (d, h)
   child_level path main done i (Gives child) d h = d
 
-  pub clean_tomb_level : (path : List Ref) (main : Ref) (done : List Ref) (node : Node) → AllHold S state.heap (node_wants node) → DoneLevel lv path main done → EntryLevel lv (depth_of path + 1) (next_entry state main done) →
+  pub clean_tomb_level : (path : List Ref) (main : Ref) (done : List Ref) (node : Node) → AllHold S state.heap (node_wants node) → DoneLevel lv path main done →
+      EntryLevel lv (depth_of path + 1) (next_entry state main done) →
       L (clean_after_tomb state path main done node)
   clean_tomb_level path main done (Tomb single) n d h = clean_next_level path main (done ++ single ∷ []) (more_done path main done single d (inl (single_level single n.0)))
   clean_tomb_level path main done node n d h = clean_next_level path main (done ++ next_entry state main done ∷ []) (more_done path main done (next_entry state main done) d h)

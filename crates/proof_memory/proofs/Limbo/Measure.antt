@@ -88,7 +88,8 @@ module _ (state : State) (I : IsSafe state) (lv : Ref → ℕ) (h : HasLevels lv
   node_inner q r (Tomb single) c n = n.1
   node_inner q r (Listed singles) c n = n.1
 
-  node_falls : (q r : Ref) (node : Node) → node_at state.heap q ≡ node → Contains (refs_of_node node) r → NodeLevel lv q node → AllHold (IsInUse state.heap) state.heap (node_wants node) → (lv r ≡ 0 → ⊥) →
+  node_falls : (q r : Ref) (node : Node) → node_at state.heap q ≡ node → Contains (refs_of_node node) r → NodeLevel lv q node →
+      AllHold (IsInUse state.heap) state.heap (node_wants node) → (lv r ≡ 0 → ⊥) →
       measure q < measure r
   node_falls q r (Indirection generation main) e c n w inner =
       let same = only_one main r c in

@@ -63,7 +63,8 @@ module _ (S : Ref → Type 0) (heap after : Heap) (used : (r : Ref) → S r → 
       let logical_same = ap (λ x. logical x (prev_at after x)) e ∙ ap (logical (main_at heap r)) (same_prev_at (main_at heap r) m) in
       ap (λ x. flat_map f (entries_of (node_at after x))) logical_same ∙ ap (λ n. flat_map f (entries_of n)) (same_node_at (logical_main heap r) here)
       ∙ flat_map_same f g (entries_of (node_at heap (logical_main heap r)))
-      (All-weaker (Meets S heap AnEntry) (λ q. f q ≡ g q) (λ q h. agree q h.0) (entries_of (node_at heap (logical_main heap r))) (all_in S heap (node_at heap (logical_main heap r)) (H.inside (logical_main heap r) here)))
+      (All-weaker (Meets S heap AnEntry) (λ q. f q ≡ g q) (λ q h. agree q h.0) (entries_of (node_at heap (logical_main heap r)))
+      (all_in S heap (node_at heap (logical_main heap r)) (H.inside (logical_main heap r) here)))
 
   pairs_by : (f g : Ref → List (ℕ × ℕ)) → ((r : Ref) → S r → f r ≡ g r) → (r : Ref) → (node : Node) → node_at heap r ≡ node → node_at after r ≡ node → AllHold S heap (node_wants node) →
       pairs_at f after r node ≡ pairs_at g heap r node

@@ -33,7 +33,8 @@ module _ (state : State) (I : IsSafe state) where
   pub line_finds : (actor : ℕ) (operation : Operation) → operation_of state actor ≡ Some operation →
       AllHold (IsInUse state.heap) state.heap (line_wants state.limits.hash operation.call operation.access operation.line)
   line_finds actor operation e =
-      let (k, h) = of_actor state (λ k operation. AllHold (Safe state operation.epoch) state.heap (line_wants state.limits.hash operation.call operation.access operation.line)) (I.lines) actor operation e in
+      let (k, h) =
+      of_actor state (λ k operation. AllHold (Safe state operation.epoch) state.heap (line_wants state.limits.hash operation.call operation.access operation.line)) (I.lines) actor operation e in
       all_carried (Safe state operation.epoch) state.heap (IsInUse state.heap) state.heap (used_carries operation.epoch) _ h
 
   pub action_finds : (actor : ℕ) (operation : Operation) → operation_of state actor ≡ Some operation →

@@ -164,7 +164,8 @@ first_stands_in P n small at_root at_branch r slot found = elim (cases_eq r (ref
 ]
   where
     one_other : (r : Ref) → (r ≡ ref_to 2 1 → ⊥) → standing (first_heap (suc (suc n))) r ≡ standing (one_taken n small) r
-    one_other = (taken_all (suc (suc n)) (one_taken n small) (taken_kept (suc (suc n)) (empty_heap (suc (suc n))) empty_branch (empty_adds_up (suc (suc n)))) small (Indirection 0 (ref_to 1 0)) (ref_to 2 1) (second_ref n small)).2
+    one_other = (taken_all (suc (suc n)) (one_taken n small) (taken_kept (suc (suc n)) (empty_heap (suc (suc n))) empty_branch (empty_adds_up (suc (suc n)))) small
+        (Indirection 0 (ref_to 1 0)) (ref_to 2 1) (second_ref n small)).2
 
     empty_other : (r : Ref) → (r ≡ ref_to 1 0 → ⊥) → standing (one_taken n small) r ≡ standing (empty_heap (suc (suc n))) r
     empty_other = (taken_all (suc (suc n)) (empty_heap (suc (suc n))) (empty_adds_up (suc (suc n))) small empty_branch (ref_to 1 0) refl).2
@@ -196,7 +197,8 @@ first_counted n small state heap root word holds r (slot, found) = elim (cases_e
 ]
   where
     one_other : (r : Ref) → (r ≡ ref_to 2 1 → ⊥) → standing (first_heap (suc (suc n))) r ≡ standing (one_taken n small) r
-    one_other = (taken_all (suc (suc n)) (one_taken n small) (taken_kept (suc (suc n)) (empty_heap (suc (suc n))) empty_branch (empty_adds_up (suc (suc n)))) small (Indirection 0 (ref_to 1 0)) (ref_to 2 1) (second_ref n small)).2
+    one_other = (taken_all (suc (suc n)) (one_taken n small) (taken_kept (suc (suc n)) (empty_heap (suc (suc n))) empty_branch (empty_adds_up (suc (suc n)))) small
+        (Indirection 0 (ref_to 1 0)) (ref_to 2 1) (second_ref n small)).2
 
     empty_other : (r : Ref) → (r ≡ ref_to 1 0 → ⊥) → standing (one_taken n small) r ≡ standing (empty_heap (suc (suc n))) r
     empty_other = (taken_all (suc (suc n)) (empty_heap (suc (suc n))) (empty_adds_up (suc (suc n))) small empty_branch (ref_to 1 0) refl).2

@@ -1,5 +1,6 @@
 -- Memory is safe: what is taken for a node of a kind is one, after every step. One invariant for nodes, root words, lines and private lists.
-use Rattle.std.proofs.Common.{◌≡◌, ℕ, ◌+◌, ◌^◌, ◌<◌, ◌≤◌, true, nat_le, is_some, List, [], ◌∷◌, ◌++◌, All, Contains, length, get_or, Option, Some, None, refl, sym, ap, ◌∙◌, subst, ◌⊎◌, inl, inr, leb-true, arith}
+use Rattle.std.proofs.Common.{◌≡◌, ℕ, ◌+◌, ◌^◌, ◌<◌, ◌≤◌, true, nat_le, is_some, List, [], ◌∷◌, ◌++◌, All, Contains, length, get_or, Option, Some, None, refl, sym, ap, ◌∙◌, subst}
+use Rattle.std.proofs.Common.{◌⊎◌, inl, inr, leb-true, arith}
 use Rattle.std.proofs.lemmas.Bool.{cases_eq, false≢true}
 use Rattle.std.proofs.lemmas.Option.{none-some, same_Some, cond_some}
 use Rattle.std.proofs.lemmas.List.Elements.{All-head, Contains-append_left, Contains-append_right, Contains-get_or}
@@ -72,7 +73,8 @@ module _ (S T : Ref → Type 0) (heap : Heap) where
       let seconds = refs_of_option offer.second in (
         safer S T heap _ tt (λ r c. f r (Contains-append_left (offer.root ∷ []) (offer.expected ∷ offer.successor ∷ seconds) r c)) h.0,
         (
-          safer S T heap _ tt (λ r c. f r (Contains-append_right (offer.root ∷ []) (offer.expected ∷ offer.successor ∷ seconds) r (Contains-append_left (offer.expected ∷ []) (offer.successor ∷ seconds) r c))) h.1.0,
+          safer S T heap _ tt
+              (λ r c. f r (Contains-append_right (offer.root ∷ []) (offer.expected ∷ offer.successor ∷ seconds) r (Contains-append_left (offer.expected ∷ []) (offer.successor ∷ seconds) r c))) h.1.0,
           (
             safer S T heap _ tt (λ r c. f r (Contains-append_right (offer.root ∷ offer.expected ∷ []) (offer.successor ∷ seconds) r (Contains-append_left (offer.successor ∷ []) seconds r c))) h.1.1.0,
             (safer S T heap _ tt (λ r c. f r (Contains-append_right (offer.root ∷ offer.expected ∷ offer.successor ∷ []) seconds r c)) h.1.1.1.0, tt),
@@ -120,7 +122,8 @@ module _ (state : State) (I : IsSafe state) (epoch : ℕ) where
 
   pub in_private : (k : ℕ) (operation : Operation) → get_or state.actors k None ≡ Some operation → All (Safe state epoch) operation.private
   in_private k operation e i d within =
-      safe_counted (get_or operation.private i d) (counted_in_private state k (get_or operation.private i d) operation e (Contains-get_or operation.private i d within)) (I.privates k operation e i d within)
+      safe_counted (get_or operation.private i d)
+      (counted_in_private state k (get_or operation.private i d) operation e (Contains-get_or operation.private i d within)) (I.privates k operation e i d within)
 
 -- ---- what a step carries over
 
@@ -165,7 +168,8 @@ module _ (state after : State) (epoch : ℕ) (low : epoch ≤ state.epoch) (high
       )
 
   -- what is made is safe
-  pub made_safe : (sound : IsSound state.limits.slots state) → state.limits.slots ≤ 2 ^ 16 → (made : Ref) (slot : Slot) → standing state.heap made ≡ None → standing after.heap made ≡ Some slot → Safe after epoch made
+  pub made_safe : (sound : IsSound state.limits.slots state) → state.limits.slots ≤ 2 ^ 16 → (made : Ref) (slot : Slot) → standing state.heap made ≡ None →
+      standing after.heap made ≡ Some slot → Safe after epoch made
   made_safe sound small made slot none found =
       record { used = (slot, found); guarded = guard_kept made (λ k d within same. absurd (none_stands (get_or state.limbo k d).at same (sound.limbo k d within))) }
     where

@@ -47,7 +47,9 @@ module _ (a : Lone) where
   pub has_says : (t k h : ℕ) (i m below : Ref) → Has a t i m → Leads a k m below → IsOf a below h → says trie t q k i ≡ Below below
   has_says t k h i m below has leads (w, is) =
       ap (λ x. look_in trie.node (flag_at a k) q (trie.node x)) (has_main t i m has) ∙ ap (look_in trie.node (flag_at a k) q) leads.branch
-      ∙ ap (λ b. cond b (look_at q (get_or leads.entries.items (position_of (flag_at a k) leads.bitmap) no_ref) (trie.node (get_or leads.entries.items (position_of (flag_at a k) leads.bitmap) no_ref))) Absent) leads.flagged
+      ∙ ap (λ b. cond b
+      (look_at q (get_or leads.entries.items (position_of (flag_at a k) leads.bitmap) no_ref)
+      (trie.node (get_or leads.entries.items (position_of (flag_at a k) leads.bitmap) no_ref))) Absent) leads.flagged
       ∙ ap (λ r. look_at q r (trie.node r)) leads.entry ∙ ap (look_at q below) is
 
   -- ---- a chain from the root

@@ -75,7 +75,8 @@ module _ (a : Lone) (weight : ℕ → ℕ) (c : ℕ) (heavy : IsWeight a weight)
       }
 
   -- down to an indirection of the root's generation
-  goes_on : (r : Ref) (g : ℕ) (path : List Ref) (main below : Ref) (t : ℕ) (x : Leads a (depth_of path) main below) → AtEntry r g path main below x t → IsOf a below g → t < a.last → IsDown a weight c r g path (suc t)
+  goes_on : (r : Ref) (g : ℕ) (path : List Ref) (main below : Ref) (t : ℕ) (x : Leads a (depth_of path) main below) → AtEntry r g path main below x t →
+      IsOf a below g → t < a.last → IsDown a weight c r g path (suc t)
   goes_on r g path main below t x e of more =
       let l = line.Key (key.Entry path main (position_of (flag_at a (depth_of path)) x.bitmap)) in
       let keeps = step_keeps t (Some g) l e.stands more tt tt in
@@ -99,7 +100,8 @@ module _ (a : Lone) (weight : ℕ → ℕ) (c : ℕ) (heavy : IsWeight a weight)
     pub read_main : (r : Ref) (g : ℕ) (path : List Ref) (t : ℕ) → Stands a t (Some g) (line.Key (key.Read path (reading (current path)))) → IsCurrent a t r (Some g) → Chain a t r g path →
         (Q : ℕ → Type 0) (n : ℕ) → ((u : ℕ) → (main : Ref) → t ≤ u → Keeps a t u → AtMain r g path main u → W Q n u) → W Q (c + n) t
     read_main r g path t s x chain Q n then =
-        bind a weight (IsRead a weight c t (Some g) (key_gives path) (current path)) Q c n t (machines.reads_first (key_read path) (key_gives path) (current path) (key_holds_read a.own path) t (Some g) s)
+        bind a weight (IsRead a weight c t (Some g) (key_gives path) (current path)) Q c n t
+        (machines.reads_first (key_read path) (key_gives path) (current path) (key_holds_read a.own path) t (Some g) s)
         (λ u after in_time read. then u read.main after read.keeps
         (record { stands = read.stands; current_root = current_later a t u r (Some g) read.word x; chain = chain_later a t u r g path read.keeps chain; has = read.has }))
 
@@ -119,7 +121,8 @@ module _ (a : Lone) (weight : ℕ → ℕ) (c : ℕ) (heavy : IsWeight a weight)
       pub branch : node a fresh ≡ renewed (bitmap_of (node a main)) done
       pub each : (k : ℕ) → 0 ≤ k → k < length done → IsRenewed a g (slice_index_or done k no_ref)
 
-    module _ (r : Ref) (g : ℕ) (path : List Ref) (main below : Ref) (x : Leads a (depth_of path) main below) (within_it : position_of (flag_at a (depth_of path)) x.bitmap < length (entries_of (node a main))) where
+    module _ (r : Ref) (g : ℕ) (path : List Ref) (main below : Ref) (x : Leads a (depth_of path) main below)
+        (within_it : position_of (flag_at a (depth_of path)) x.bitmap < length (entries_of (node a main))) where
       after_renewal : (fresh t : ℕ) → Renewed g main fresh → AtMain r g path fresh t → W (Goes r g path) 2 t
       after_renewal fresh t done m = by (leads_or_ends a (depth_of path) fresh)
         where
@@ -133,7 +136,8 @@ module _ (a : Lone) (weight : ℕ → ℕ) (c : ℕ) (heavy : IsWeight a weight)
       after_swap : (t u : ℕ) → AtRenewal r g path main t → IsRenewing a weight c t g path main 0 u → t ≤ u → W (Goes r g path) (5 + (c + 2)) u
       after_swap t u e ren after =
           bind a weight (HasSwapped a weight c u (Some g) (purpose.Renew path) (current path) ren.fresh) (Goes r g path) 5 (c + 2) u
-          (machines.swaps_current (purpose.Renew path) (current path) main ren.fresh r u (Some g) ren.stands (current_later a t u r (Some g) ren.word e.current_root) (ren.keeps (current path) main e.has))
+          (machines.swaps_current (purpose.Renew path) (current path) main ren.fresh r u (Some g) ren.stands
+          (current_later a t u r (Some g) ren.word e.current_root) (ren.keeps (current path) main e.has))
           (λ v later in_time sw.
           let now = current_later a u v r (Some g) sw.word (current_later a t u r (Some g) ren.word e.current_root) in
           let chain = chain_kept a u v r g path (way_apart a u (Some g) (line.Swap (purpose.Renew path) (swapping (current path) main ren.fresh)) ren.stands path refl) sw.keeps
@@ -146,7 +150,8 @@ module _ (a : Lone) (weight : ℕ → ℕ) (c : ℕ) (heavy : IsWeight a weight)
           after_renewal found w done m))
 
       -- RENEW, from its first entry
-      renewing_level : (t : ℕ) → AtRenewal r g path main t → Stands a t (Some g) (line.Renew (renew.Entry path main [])) → W (Goes r g path) ((length (entries_of (node a main)) * (c + 2) + 2) + (5 + (c + 2))) t
+      renewing_level : (t : ℕ) → AtRenewal r g path main t → Stands a t (Some g) (line.Renew (renew.Entry path main [])) →
+          W (Goes r g path) ((length (entries_of (node a main)) * (c + 2) + 2) + (5 + (c + 2))) t
       renewing_level t e s =
           bind a weight (IsRenewing a weight c t g path main 0) (Goes r g path) (length (entries_of (node a main)) * (c + 2) + 2) (5 + (c + 2)) t
           (renewing path main [] t g (length (entries_of (node a main))) s (omega arith)) (λ u after in_time ren. after_swap t u e ren after)

@@ -37,7 +37,8 @@ use Rattle.proof_obstruction_free.specs.Keys.{IsOnKey}
 use Rattle.proof_obstruction_free.specs.Machines.{Machines, IsRead, WasRead, IsRooted}
 use Rattle.proof_obstruction_free.specs.Stepping.{Stepping}
 use Rattle.proof_obstruction_free.proofs.Reader.Calls.{OfReader, reader_at, reader_lines}
-use Rattle.proof_obstruction_free.proofs.Reader.Lines.{AfterMain, ToEntry, ToListed, MainEnds, MainFails, AfterEntry, ToBelow, EntryEnds, EntryFails, AfterListed, ToNext, ListedEnds, ListedFails, after_main, after_entry, after_single}
+use Rattle.proof_obstruction_free.proofs.Reader.Lines.{AfterMain, ToEntry, ToListed, MainEnds, MainFails, AfterEntry, ToBelow, EntryEnds, EntryFails, AfterListed, ToNext}
+use Rattle.proof_obstruction_free.proofs.Reader.Lines.{ListedEnds, ListedFails, after_main, after_entry, after_single}
 use Rattle.proof_obstruction_free.proofs.Root.Machines.{flat_machines}
 use Rattle.proof_obstruction_free.proofs.Ends.StandsAt.{begins, stands_as, never}
 use Rattle.proof_obstruction_free.proofs.Step.Step.{stepping}
@@ -184,7 +185,8 @@ module _ (a : Lone) (read_only : a.own.access ≡ ReadOnly) (on_key : IsOnKey a.
   from_key_line t g (key.Read path r) o s =
       let few = short t g (line.Key (key.Read path r)) s in
       let some = ltb-true 0 (length path) (fact_of (steps.wants t g (line.Key (key.Read path r)) s).1.0) in
-      weaken a (flat a) (λ u. ⊥) (13 + (32 + 9 * left_of path + 2)) 164 t (omega (arith, few, some)) (read_on (32 + 9 * left_of path) t g path r.indirection r.line (omega arith) (path_on t path few) s)
+      weaken a (flat a) (λ u. ⊥) (13 + (32 + 9 * left_of path + 2)) 164 t (omega (arith, few, some))
+      (read_on (32 + 9 * left_of path) t g path r.indirection r.line (omega arith) (path_on t path few) s)
   from_key_line t g (key.Main path m) o s =
       let few = short t g (line.Key (key.Main path m)) s in
       weaken a (flat a) (λ u. ⊥) (32 + 9 * left_of path + 2) 164 t (omega (arith, few)) (main_on (32 + 9 * left_of path) t g path m (omega arith) (path_on t path few) s)
@@ -199,7 +201,8 @@ module _ (a : Lone) (read_only : a.own.access ≡ ReadOnly) (on_key : IsOnKey a.
   root_plain : (t : ℕ) (g : Option ℕ) → Stands a t g (line.Root root.Read) → (r : Ref) × IsPlain a t r
   root_plain t g s =
       let (found, is, access) = handle_open a t g (line.Root root.Read) s refl in
-      let plain = read_only_plain (a.states t) (safe_at a.limits a.states a.last a.run t s.until) (ordered_at a.limits a.states a.last a.run t s.until) (handle_of a.own.call) found is (access ∙ read_only) in
+      let plain = read_only_plain (a.states t) (safe_at a.limits a.states a.last a.run t s.until) (ordered_at a.limits a.states a.last a.run t s.until)
+      (handle_of a.own.call) found is (access ∙ read_only) in
       (root_of found.word, ap word_of is ∙ plain)
 
   never_completes : (t : ℕ) (g : Option ℕ) (c : Complete) → Stands a t g (line.Root (root.Completing c)) → ⊥

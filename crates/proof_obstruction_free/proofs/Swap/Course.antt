@@ -10,7 +10,9 @@ use Rattle.proof_obstruction_free.specs.Beneath.machine_model.specs.declared.rea
 use Rattle.proof_obstruction_free.specs.Beneath.machine_model.specs.declared.roots.Descriptor.{Descriptor}
 use Rattle.proof_obstruction_free.specs.Beneath.machine_model.specs.Grown.{main_word, prev_word}
 use Rattle.proof_obstruction_free.specs.Beneath.proof_contents.specs.Runs.{is_made}
-use Rattle.proof_obstruction_free.specs.Beneath.proof_commits.specs.Protocol.{ReadTurn, Leaves, Kept, Written, MakesNothing, CommitsNode, FailsNode, PutsBack, ReadsMain, FindsDecided, FindsFailed, FindsPending, DecidesAtOnce, Asks, FindsOffer, Aborts, Commits, Fails, Overtaken, Restores}
+use Rattle.proof_obstruction_free.specs.Beneath.proof_commits.specs.Protocol.{ReadTurn, Leaves, Kept, Written, MakesNothing, CommitsNode, FailsNode, PutsBack, ReadsMain}
+use Rattle.proof_obstruction_free.specs.Beneath.proof_commits.specs.Protocol.{FindsDecided, FindsFailed, FindsPending, DecidesAtOnce, Asks, FindsOffer, Aborts, Commits, Fails}
+use Rattle.proof_obstruction_free.specs.Beneath.proof_commits.specs.Protocol.{Overtaken, Restores}
 use Rattle.proof_obstruction_free.specs.Beneath.proof_commits.proofs.Words.Stood.{none≢pending}
 use Rattle.proof_obstruction_free.specs.Alone.{Lone, Has, KeepsBut, WordStays}
 use Rattle.proof_obstruction_free.proofs.Swap.Steps.{w, keeps_left}

@@ -104,7 +104,8 @@ gone_events state actor operation = (acted_framed _ _ (action_of state operation
 
 pub books_kept : (state : State) (s : Step) (o : Outcome) (after : State) → Moves state s o after → Books state → Books after
 books_kept state s o after (Begins {actor} {call} d) books =
-    begins_books state actor call _ _ (Begins d) d (begin_actors state actor call (begun_operation state call)) (limits_kept state _ _ _ (Begins d)) (begin_events state actor call (begun_operation state call)) books
+    begins_books state actor call _ _ (Begins d) d (begin_actors state actor call (begun_operation state call)) (limits_kept state _ _ _ (Begins d))
+    (begin_events state actor call (begun_operation state call)) books
 books_kept state s o after (Goes {actor} {operation} d is a g) books =
     quiet_books state (step.Go actor) _ _ (Goes d is a g)
     (ap length (gone_actors state actor operation) ∙ marks_length _ _ ∙ length-set state.actors (actor - 1) _)

@@ -90,7 +90,8 @@ complete_no_end c answer e = grind arith
 pub no_offer : (state : State) (operation : Operation) → IsDone operation → operation.is_marked ≡ true → (offer : Descriptor) → action_of state operation ≡ act.Offer offer → ⊥
 no_offer state operation done marked offer does = by (offer_line state operation operation.line offer does) (done marked)
   where
-    by : operation.line ≡ line.Copy (copy.Offer offer) → ((c : Complete) × (operation.line ≡ line.Copy (copy.Complete c))) ⊎ (operation.line ≡ line.End (copied_reply operation.call operation.opens)) → ⊥
+    by : operation.line ≡ line.Copy (copy.Offer offer) → ((c : Complete) × (operation.line ≡ line.Copy (copy.Complete c)))
+        ⊎ (operation.line ≡ line.End (copied_reply operation.call operation.opens)) → ⊥
     by at (inl (c, e)) = let wrong : line.Copy (copy.Offer offer) ≡ line.Copy (copy.Complete c) = sym at ∙ e in cc wrong
     by at (inr e) = let wrong : line.Copy (copy.Offer offer) ≡ line.End (copied_reply operation.call operation.opens) = sym at ∙ e in cc wrong
 
@@ -172,7 +173,8 @@ module _ (state : State) (s : Step) (o : Outcome) (after : State) (m : Moves sta
   now_by j found same (kept operation there is other) =
       let its : operation.id ≡ offer.operation = sym (ap (λ (q : Operation). q.id) (mark_only (marks_in state s) operation)) ∙ ap (λ (x : Operation). x.id) (sym is) ∙ same in
       let one = (one_by_id state phased.offers.books j k operation offerer there runs (its ∙ sym id)).1 in
-      subst (λ x. NowFits x) (sym is) (now_marked operation (marks_in state s) (carried_marks state s handle offer carries) its (ap (λ (x : Operation). x.call) one) (ap (λ (x : Operation). x.opens) one))
+      subst (λ x. NowFits x) (sym is) (now_marked operation (marks_in state s) (carried_marks state s handle offer carries) its (ap (λ (x : Operation). x.call) one)
+      (ap (λ (x : Operation). x.opens) one))
   now_by j found same (stepped operation there e goes is) =
       let next : Operation = operation_after state operation in
       let marks = marks_by state (Some operation) in

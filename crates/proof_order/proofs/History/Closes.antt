@@ -110,7 +110,8 @@ answers_kept state s o after (Ends {actor = a} {operation} {answer = told} d is 
             let same_id : operation.id ≡ id = cc event in
             let same_reply : told ≡ answer = cc event in
             let (k, own, runs) = place_of_actor state a operation is in
-            sym same_reply ∙ ended_closed state k operation told c runs b place actor handle opens (subst (λ i. slice_get state.events place ≡ Some (Begin i actor (Close handle) opens)) (sym same_id) old)
+            sym same_reply ∙ ended_closed state k operation told c runs b place actor handle opens
+            (subst (λ i. slice_get state.events place ≡ Some (Begin i actor (Close handle) opens)) (sym same_id) old)
       ]
       | inr new ↦ let event = new.1 in let wrong : ⊥ = cc event in absurd wrong
     ]

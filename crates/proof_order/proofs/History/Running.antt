@@ -97,7 +97,12 @@ runs_on state s o after (Goes {actor} {operation = own} d is a g) k operation at
   | inl here ↦
       let at_own = at_place state actor k own (actor_at actor k (go_counts state actor d) here.0) is in
       let (found, at_found, same) = marked_runs (marks_by state (Some own)) (set state.actors (actor - 1) (Some (operation_after state own))) k (operation_after state own) here.1 in
-      inr (found, rw gone_actors at_found, subst (λ (x : Operation). IsSame x found) (one_at state k own operation at_own at_k) (record { id = same.id; call = same.call; opens = same.opens; access = same.access }))
+      inr (
+        found,
+        rw gone_actors at_found,
+        subst (λ (x : Operation). IsSame x found) (one_at state k own operation at_own at_k)
+            (record { id = same.id; call = same.call; opens = same.opens; access = same.access }),
+      )
   | inr there ↦
       let (found, at_found, same) = marked_runs (marks_by state (Some own)) (set state.actors (actor - 1) (Some (operation_after state own))) k operation there.1 in
       inr (found, rw gone_actors at_found, same)

@@ -164,4 +164,5 @@ module _ (limits : Limits) (states : ℕ → State) (last : ℕ) (run : IsRun li
 
 pub swaps_bring : (limits : Limits) (states : ℕ → State) (last : ℕ) → IsRun limits states last → SwapsBring states last
 swaps_bring limits states last run t handle offer swap actor operation is id =
-    subst (λ (x : Operation). Brings states last t handle offer x.call) (offered_by limits states last run t handle offer swap actor operation is id) (brings_owner limits states last run t handle offer swap)
+    subst (λ (x : Operation). Brings states last t handle offer x.call) (offered_by limits states last run t handle offer swap actor operation is id)
+    (brings_owner limits states last run t handle offer swap)

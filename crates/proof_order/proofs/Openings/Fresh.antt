@@ -27,7 +27,8 @@ use Rattle.proof_generations.proofs.Roots.Along.{IsOrdered}
 use Rattle.proof_generations.proofs.Roots.Own.{first_none}
 
 -- what a step makes stands behind it
-pub stands_made : (state : State) (S : IsSafe state) (s : Step) (o : Outcome) (after : State) → Moves state s o after → (k : ℕ) (was : Operation) → s ≡ step.Go (suc k) → Runs state k was → (node : Node) (r : Ref) →
+pub stands_made : (state : State) (S : IsSafe state) (s : Step) (o : Outcome) (after : State) → Moves state s o after → (k : ℕ) (was : Operation) →
+    s ≡ step.Go (suc k) → Runs state k was → (node : Node) (r : Ref) →
     made_node state (action_of state was) ≡ Some node → next_ref state.heap ≡ Some r → IsInUse after.heap r × (node_at after.heap r ≡ node)
 stands_made state S s o after (Begins d) k was e at_k node r a n = let wrong : ⊥ = cc e in absurd wrong
 stands_made state S s o after (Goes {actor} {operation} d is action g) k was e at_k node r a n =
@@ -53,7 +54,8 @@ module _ (state : State) (S : IsSafe state) (I : IsOrdered state) (s : Step) (o 
   fresh_kept k was x r at_k e =
       safe_kept state S s o after m was.epoch (S.recent k was at_k).0 (S.recent k was at_k).1 r (fresh_safe (Safe state was.epoch) state was was.line (S.lines k was at_k) x r e)
 
-  from_line : (k : ℕ) (found : Operation) (x : Bool) (r : Ref) (ran : Ran state s k found) → s ≡ step.Go (suc k) → found.line ≡ line_after state ran.was ran.was.line → FreshFrom state ran.was ran.was.line x r →
+  from_line : (k : ℕ) (found : Operation) (x : Bool) (r : Ref) (ran : Ran state s k found) → s ≡ step.Go (suc k) →
+      found.line ≡ line_after state ran.was ran.was.line → FreshFrom state ran.was ran.was.line x r →
       FreshBehind k found x r
   from_line k found x r ran is goes (had e) = stays ran e (fresh_kept k ran.was x r ran.at_k e)
   from_line k found x r ran is goes (new main a n side) =

@@ -84,7 +84,8 @@ module _ (limits : Limits) (states : ℕ → State) (last : ℕ) (run : IsRun li
   module _ (t : ℕ) (within : t < last) (so_far : AllShow t) (s : Step) (o : Outcome) (m : Moves (states t) s o (states (suc t))) where
     -- ---- a root that is made
 
-    module _ (k : ℕ) (was : Operation) (main q : Ref) (at_k : Runs (states t) k was) (go : s ≡ step.Go (suc k)) (does : action_of (states t) was ≡ act.MakeRoot main) (n : next_ref (states t).heap ≡ Some q) where
+    module _ (k : ℕ) (was : Operation) (main q : Ref) (at_k : Runs (states t) k was) (go : s ≡ step.Go (suc k))
+        (does : action_of (states t) was ≡ act.MakeRoot main) (n : next_ref (states t).heap ≡ Some q) where
       -- the node over which it is made is made and decided
       abbrev Held : Type 0
       Held = (is_some (grown states t main) ≡ true) × (prev_word states t main ≡ over.None)

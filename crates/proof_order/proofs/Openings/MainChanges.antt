@@ -62,7 +62,8 @@ module _ (limits : Limits) (states : ℕ → State) (last : ℕ) (run : IsRun li
       let (k, place, at_k) = place_of_actor (states t) s.actor s.operation s.runs in
       let going : is_end s.operation.line ≡ false = ap is_end s.stands in
       not_rooted states t (handle_of s.operation.call) (generation_of (node_under states last i)) unused
-      (rooted_at limits states last run t (omega arith) k s.operation (generation_of (node_under states last i)) at_k (no_close_at limits states last run t (omega arith) k s.operation at_k going) writable
+      (rooted_at limits states last run t (omega arith) k s.operation (generation_of (node_under states last i)) at_k
+      (no_close_at limits states last run t (omega arith) k s.operation at_k going) writable
       (its ∙ ap (λ r. Some (generation_of (node_under states last r))) s.into))
 
   -- so its main nodes stay

@@ -105,7 +105,8 @@ module _ (state : State) (operation : Operation) (c : Complete) where
       by (Offer offer) e = starts (started offer e)
   root_comes (root.Completing d) e = by (complete_after state.heap operation.access (word_at state (handle_of operation.call)) d) refl e
     where
-      by : (a : After Complete Bool) → complete_after state.heap operation.access (word_at state (handle_of operation.call)) d ≡ a → completing_of (after_root operation (after_completing a)) ≡ Some c →
+      by : (a : After Complete Bool) → complete_after state.heap operation.access (word_at state (handle_of operation.call)) d ≡ a →
+          completing_of (after_root operation (after_completing a)) ≡ Some c →
           ComesFrom state operation (line.Root (root.Completing d)) c
       by (Goes next) is e = goes_on d refl (is ∙ ap Goes (same_Some next c e))
       by (Gives done) is e = absurd (none-some c e)

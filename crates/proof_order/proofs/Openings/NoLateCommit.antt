@@ -122,7 +122,8 @@ module _ (limits : Limits) (states : ℕ → State) (last : ℕ) (run : IsRun li
       let o = offered_then u from before in
       let I : IsOrdered (states u) = ordered_at limits states last run u (omega (arith, swap.taken)) in
       let gens : gen (states u) root ≡ gen (states u) o.root =
-      ap (λ x. generation_at (states u).heap (root_of x)) (sym (ap word_of is_open) ∙ plain) ∙ same ∙ sym (root_then u from before) ∙ ap (λ x. generation_at (states u).heap (root_of x)) (sym o.word) in
+      ap (λ x. generation_at (states u).heap (root_of x)) (sym (ap word_of is_open) ∙ plain) ∙ same ∙ sym (root_then u from before)
+      ∙ ap (λ x. generation_at (states u).heap (root_of x)) (sym o.word) in
       let one = I.roots.apart other handle root o.root is_open o.is_open writable o.writable gens in
       no_plain r (sym plain ∙ ap (word_at (states u)) one ∙ stands_then u from before)
 

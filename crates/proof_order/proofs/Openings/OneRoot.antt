@@ -87,7 +87,8 @@ started : (limits : Limits) (handle : ℕ) (root : Root) → root_at (first_stat
 unfolding first_state
 started limits handle root e = elim (cases_eq handle 0) [
   | inl same ↦
-      ap (λ (r : Root). r.word) (sym (same_Some _ _ (found_here {X = Root} (replicate handle_limit None) 0 first root (subst (λ h. get_or (set (replicate handle_limit None) 0 first) h None ≡ Some root) same e))))
+      ap (λ (r : Root). r.word)
+      (sym (same_Some _ _ (found_here {X = Root} (replicate handle_limit None) 0 first root (subst (λ h. get_or (set (replicate handle_limit None) 0 first) h None ≡ Some root) same e))))
   | inr other ↦ absurd (none_found {X = Root} handle_limit handle root (sym (found_elsewhere {X = Root} (replicate handle_limit None) 0 handle first other) ∙ e))
 ]
   where
@@ -149,7 +150,8 @@ module _ (limits : Limits) (states : ℕ → State) (last : ℕ) (run : IsRun li
       behind r g h = elim (split r g h) [
         | inl was ↦ inl was
         | inr (handle, now) ↦
-            as_behind r g (subst (λ x. Behind (states t) (safe t (omega arith)) (ordered t (omega arith)) s o (states (suc t)) m actor mover offer is c r x) (ap (generation_at (states (suc t)).heap) now.is ∙ now.its)
+            as_behind r g (subst (λ x. Behind (states t) (safe t (omega arith)) (ordered t (omega arith)) s o (states (suc t)) m actor mover offer is c r x)
+            (ap (generation_at (states (suc t)).heap) now.is ∙ now.its)
             (subst (λ x. Behind (states t) (safe t (omega arith)) (ordered t (omega arith)) s o (states (suc t)) m actor mover offer is c x (gen (states (suc t)) now.root)) now.is
             (behind_swap (states t) (safe t (omega arith)) (ordered t (omega arith)) s o (states (suc t)) m actor mover offer is c handle now.root (roots handle now.root now.is_open))))
       ]

@@ -1,5 +1,6 @@
 -- The root of a generation, as the trie of a run has it, is that of the handle whose root has the generation.
-use Rattle.std.proofs.Common.{◌≡◌, ℕ, zero, suc, ◌≤◌, ◌==◌, Bool, true, false, cond, ◌⊎◌, inl, inr, List, ◌∷◌, Option, Some, None, get_or, unwrap_or, refl, sym, ap, ◌∙◌, subst, arith, eqb-true, eq-eqb, []}
+use Rattle.std.proofs.Common.{◌≡◌, ℕ, zero, suc, ◌≤◌, ◌==◌, Bool, true, false, cond, ◌⊎◌, inl, inr, List, ◌∷◌, Option, Some, None, get_or, unwrap_or, refl, sym, ap, ◌∙◌, subst}
+use Rattle.std.proofs.Common.{arith, eqb-true, eq-eqb, []}
 use Rattle.std.proofs.lemmas.Bool.{cases_eq}
 use Rattle.std.proofs.lemmas.Option.{none-some, same_Some}
 use Rattle.proof_order.specs.Beneath.slot_arena.specs.declared.refs.Ref.{Ref}

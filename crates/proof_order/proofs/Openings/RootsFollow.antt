@@ -81,7 +81,8 @@ module _ (limits : Limits) (states : ℕ → State) (last : ℕ) (run : IsRun li
     link_then : is_indirection (node_at (states t).heap r) ≡ true
     link_then =
         let now = nodes_stay limits states last run t last within (omega arith) r used.0 (grown_in_use states t r used.0 used.1) in
-        ap is_indirection (Under.node_under (states t).heap r used.0 used.1) ∙ sym (kept now.2.0 used.0.node) ∙ ap is_indirection (sym now.2.1) ∙ sym (ap (λ o. is_indirection (node_of o)) now.1) ∙ link
+        ap is_indirection (Under.node_under (states t).heap r used.0 used.1) ∙ sym (kept now.2.0 used.0.node) ∙ ap is_indirection (sym now.2.1)
+        ∙ sym (ap (λ o. is_indirection (node_of o)) now.1) ∙ link
       where
         kept : (m : Ref) (n : Node) → is_indirection (with_main_word m n) ≡ is_indirection n
         kept m (Indirection g word) = refl

@@ -111,7 +111,10 @@ module _ (limits : Limits) (states : ℕ → State) (last : ℕ) (r : IsRun limi
         (omega (arith, moment.past), (k, was, at_k, sym same.id))
       where
         no_close : is_close operation.call ≡ false
-        no_close = elim (cases_Bool (is_close operation.call)) [ inr none ↦ none | inl close ↦ absurd (true≢false (sym (closes_placed limits states last r t within k operation runs close) ∙ unplaced)) ]
+        no_close = elim (cases_Bool (is_close operation.call)) [
+          | inr none ↦ none
+          | inl close ↦ absurd (true≢false (sym (closes_placed limits states last r t within k operation runs close) ∙ unplaced))
+        ]
 
     behind_by : (q : Place) → Enters (states t) s q → RunsBehind q.step q.id
     behind_by q (commits it) =

@@ -1,5 +1,6 @@
 -- A step that commits an own update: whose it is, that it enters the order alone and hadn't before, and what it answers.
-use Rattle.std.proofs.Common.{◌≡◌, ◌≢◌, ℕ, zero, suc, ◌<◌, ◌≤◌, Bool, true, false, cond, inl, inr, List, [], ◌∷◌, ◌++◌, flat_map, append-nil, get_or, Option, Some, None, refl, sym, ap, ◌∙◌, subst, arith}
+use Rattle.std.proofs.Common.{◌≡◌, ◌≢◌, ℕ, zero, suc, ◌<◌, ◌≤◌, Bool, true, false, cond, inl, inr, List, [], ◌∷◌, ◌++◌, flat_map, append-nil, get_or, Option, Some, None, refl, sym}
+use Rattle.std.proofs.Common.{ap, ◌∙◌, subst, arith}
 use Rattle.std.proofs.lemmas.Bool.{cases_Bool}
 use Rattle.proof_order.specs.Beneath.places.specs.declared.place.Place.{Place}
 use Rattle.proof_order.specs.Beneath.slot_arena.specs.declared.nodes.Prev.TheVariants as prev
@@ -75,8 +76,10 @@ module _ (limits : Limits) (states : ℕ → State) (last : ℕ) (r : IsRun limi
       by false e = refl
       by true e =
           let rival = swaps_so it.main other.line e in
-          let of_rival = subst (HasFresh ((run_words limits states last r).words.stage t (suc j))) rival.fresh (fresh_so limits states last r t j within other runs (purpose.Update rival.path rival.former) rival.its rival.at) in
-          let of_mine = subst (HasFresh ((run_words limits states last r).words.stage t (suc it.k))) mine.fresh (fresh_so limits states last r t it.k within it.owner it.runs (purpose.Update mine.path mine.former) mine.its mine.at) in
+          let of_rival = subst (HasFresh ((run_words limits states last r).words.stage t (suc j))) rival.fresh
+          (fresh_so limits states last r t j within other runs (purpose.Update rival.path rival.former) rival.its rival.at) in
+          let of_mine = subst (HasFresh ((run_words limits states last r).words.stage t (suc it.k))) mine.fresh
+          (fresh_so limits states last r t it.k within it.owner it.runs (purpose.Update mine.path mine.former) mine.its mine.at) in
           absurd (away (one_fresh limits states last r t j it.k within it.main of_rival of_mine))
 
   enters : entered_by_step (states t) s ≡ place_of (states t) it.owner t false ∷ []

@@ -38,7 +38,8 @@ use Rattle.proof_order.proofs.Phases.NewPlaces.{new_phase}
 abbrev AllPhased : (ℕ → State) → ℕ → Type 0
 AllPhased states t = (k : ℕ) (operation : Operation) → Runs (states t) k operation → is_placed (states t) operation.id ≡ true → Phase states t operation
 
-phased_after : (limits : Limits) (states : ℕ → State) (last : ℕ) → IsRun limits states last → (t : ℕ) → t < last → (s : Step) (o : Outcome) → Moves (states t) s o (states (suc t)) → AllPhased states t →
+phased_after : (limits : Limits) (states : ℕ → State) (last : ℕ) → IsRun limits states last → (t : ℕ) → t < last → (s : Step) (o : Outcome) →
+    Moves (states t) s o (states (suc t)) → AllPhased states t →
     AllPhased states (suc t)
 phased_after limits states last r t lt s o m before k found runs is =
     let its = from (states t) s o (states (suc t)) m k found runs in

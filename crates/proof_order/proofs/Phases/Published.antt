@@ -87,7 +87,8 @@ module _ (limits : Limits) (states : ℕ → State) (last : ℕ) (run : IsRun li
     -- and is seen so
     pub seen : t < last → s.line ≡ swap.Check → prev_at (states t).heap s.fresh ≡ prev_word states t s.fresh
     seen lt is =
-        let does : action_of (states t) operation ≡ act.ReadPrev s.fresh = ap (line_action (states t) operation) at ∙ ap (λ l. line_action (states t) operation (line.Swap why (record s { line = l }))) is in
+        let does : action_of (states t) operation ≡ act.ReadPrev s.fresh =
+        ap (line_action (states t) operation) at ∙ ap (λ l. line_action (states t) operation (line.Swap why (record s { line = l }))) is in
         let h : HasMain (states t) s.fresh = subst (Finds (states t)) does ((memory limits states last run).finds t lt (suc k) operation runs) in
         prev_found states t s.fresh (h.slot, h.stands)
 
@@ -106,7 +107,8 @@ module _ (limits : Limits) (states : ℕ → State) (last : ℕ) (run : IsRun li
     pub was : prev_word states t main ≡ prev.Pending previous
     pub is : prev_word states (suc t) main ≡ prev.None
 
-  pub committed_so : (t actor : ℕ) (operation : Operation) (o : Outcome) (main : Ref) → t < last → Moves (states t) (step.Go actor) o (states (suc t)) → operation_of (states t) actor ≡ Some operation →
+  pub committed_so : (t actor : ℕ) (operation : Operation) (o : Outcome) (main : Ref) → t < last → Moves (states t) (step.Go actor) o (states (suc t)) →
+      operation_of (states t) actor ≡ Some operation →
       committed_now (states t) operation ≡ Some main → Committed t main
   committed_so t actor operation o main lt m is now =
       let d = line_decides (states t) operation main operation.line now in

@@ -122,7 +122,8 @@ module _ (limits : Limits) (states : ℕ → State) (last : ℕ) (r : IsRun limi
           (reads_marked states at (suc t) (marks_in (states t) s) (operation_after (states t) was)
           (reads_stepped states at t early I (steps_at limits states last r t (omega arith)) (quiet_commits limits states last r t (omega arith)) s o m k was go at_k h))
 
-  since_by : (k : ℕ) (found : Operation) → Runs (states (suc t)) k found → ((was : Operation) → Runs (states t) k was → Since states t k was) → Comes (states t) s k found → Since states (suc t) k found
+  since_by : (k : ℕ) (found : Operation) → Runs (states (suc t)) k found → ((was : Operation) → Runs (states t) k was → Since states t k was) →
+      Comes (states t) s k found → Since states (suc t) k found
   since_by k found runs before (began call go d it) = record {
     at = t;
     past = omega arith;

@@ -34,7 +34,8 @@ root_read_acts state operation l r e = grind arith
 key_read_acts : (state : State) (operation : Operation) (l : KeyLine) (r : Read) → read_of (line.Key l) ≡ Some r → line_action state operation (line.Key l) ≡ read_action r.indirection r.line
 key_read_acts state operation l r e = grind arith
 
-swap_read_acts : (state : State) (operation : Operation) (why : Purpose) (s : Swap) (r : Read) → read_of (line.Swap why s) ≡ Some r → line_action state operation (line.Swap why s) ≡ read_action r.indirection r.line
+swap_read_acts : (state : State) (operation : Operation) (why : Purpose) (s : Swap) (r : Read) → read_of (line.Swap why s) ≡ Some r →
+    line_action state operation (line.Swap why s) ≡ read_action r.indirection r.line
 swap_read_acts state operation why s r e = grind arith
 
 renew_read_acts : (state : State) (operation : Operation) (l : RenewLine) (r : Read) → read_of (line.Renew l) ≡ Some r → line_action state operation (line.Renew l) ≡ read_action r.indirection r.line
@@ -79,7 +80,8 @@ so_by m x Commits e = (same_Some m x e, refl)
 so_by m x Fails e = absurd (none-some x e)
 so_by m x (Overtaken licensed) e = absurd (none-some x e)
 
-by_line : (state : State) (operation : Operation) (i : Ref) (l : ReadLine) (x : Ref) → action_of state operation ≡ read_action i l → committed_by state.heap i l ≡ Some x → DecidesNode state operation x
+by_line : (state : State) (operation : Operation) (i : Ref) (l : ReadLine) (x : Ref) → action_of state operation ≡ read_action i l →
+    committed_by state.heap i l ≡ Some x → DecidesNode state operation x
 by_line state operation i (read.Decide m previous told) x a e =
     let both = so_by m x (verdict state.heap i m previous told) e in
     record {

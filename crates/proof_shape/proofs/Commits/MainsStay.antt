@@ -45,7 +45,8 @@ module _ (limits : Limits) (states : ℕ → State) (last : ℕ) (run : IsRun li
       ap (λ m. logical m (prev_word states t m)) (no_main (node_under states t i) e) ∙ ap (λ o. logical no_ref (prev_of o)) (nothing_stands limits states last run t h)
 
   -- the main node of any reference, by that of indirections
-  pub mains_by : (t : ℕ) → t < last → (i : Ref) → (is_indirection (node_under states t i) ≡ true → main_before states (suc t) i ≡ main_before states t i) → main_at states last (suc t) i ≡ main_at states last t i
+  pub mains_by : (t : ℕ) → t < last → (i : Ref) → (is_indirection (node_under states t i) ≡ true → main_before states (suc t) i ≡ main_before states t i) →
+      main_at states last (suc t) i ≡ main_at states last t i
   mains_by t h i links = main_at-stays states last t i h (λ made. by_test made (is_indirection (node_under states t i)) refl)
     where
       by_test : is_made states t i ≡ true → (b : Bool) → is_indirection (node_under states t i) ≡ b → main_before states (suc t) i ≡ main_before states t i

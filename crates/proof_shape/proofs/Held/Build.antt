@@ -48,7 +48,8 @@ module _ (limits : Limits) (states : ℕ → State) (last : ℕ) (run : IsRun li
       held_by limits states last run t actor start j held (λ m before after names. true≢false (sym after ∙ quiet_step limits states last run t h actor operation go q m ∙ before))
 
   -- what the step makes is the only new node
-  pub only_new : (n : Node) → action_of (states t) operation ≡ act.Make n → (made : Ref) → next_ref (states t).heap ≡ Some made → (m : Ref) → is_made states t m ≡ false → is_made states (suc t) m ≡ true → m ≡ made
+  pub only_new : (n : Node) → action_of (states t) operation ≡ act.Make n → (made : Ref) → next_ref (states t).heap ≡ Some made → (m : Ref) →
+      is_made states t m ≡ false → is_made states (suc t) m ≡ true → m ≡ made
   only_new n a made next m before after = same_Some _ _ (sym (new_is limits states last run t h actor operation go n a m before after) ∙ next)
 
   pub made_now : (n : Node) → action_of (states t) operation ≡ act.Make n → (made : Ref) → next_ref (states t).heap ≡ Some made → (is_made states t made ≡ false) × (is_made states (suc t) made ≡ true)
@@ -74,7 +75,8 @@ module _ (limits : Limits) (states : ℕ → State) (last : ℕ) (run : IsRun li
       by_made m made_m names_m true e = absurd (held.unnamed m e names_m)
       by_made m made_m names_m false e = only_new n a made next m e made_m
 
-  pub named_or_held : (n : Node) → action_of (states t) operation ≡ act.Make n → (made : Ref) → next_ref (states t).heap ≡ Some made → (start : ℕ) (j : Ref) → IsHeld limits states last run t actor start j →
+  pub named_or_held : (n : Node) → action_of (states t) operation ≡ act.Make n → (made : Ref) → next_ref (states t).heap ≡ Some made → (start : ℕ) (j : Ref) →
+      IsHeld limits states last run t actor start j →
       NamedOrHeld limits states last run (suc t) actor start made j
   named_or_held n a made next start j held = by_cases (contains_or_not (entries_of (node_under states last made)) j)
     where

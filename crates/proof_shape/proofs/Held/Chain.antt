@@ -108,16 +108,19 @@ module _ (limits : Limits) (states : ℕ → State) (last : ℕ) (run : IsRun li
         by_leads (by_link link is both above alike) =
             let it = later _ depth link is in
             goes_on made link _ depth (ap node first_below ∙ is) (subst (λ n. IsNamed limits states last run (suc t) start link n) (sym first_below) it.0)
-            (subst (λ n. StandsIn limits states last run (suc t) n made) (sym first_below) (new_stands limits states last run t h actor operation go below a made next takes_it start begun (below_private path main position below depth e)))
+            (subst (λ n. StandsIn limits states last run (suc t) n made) (sym first_below)
+            (new_stands limits states last run t h actor operation go below a made next takes_it start begun (below_private path main position below depth e)))
             it.1
 
-    by_test : (b : Bool) → LineLevel (level limits states last run) (cond b (line.Build (build.Main path main (change.Update position made) None)) (line.Build (build.Rung path main position made (depth - 1)))) →
+    by_test : (b : Bool) →
+        LineLevel (level limits states last run) (cond b (line.Build (build.Main path main (change.Update position made) None)) (line.Build (build.Rung path main position made (depth - 1)))) →
         Next (cond b (line.Build (build.Main path main (change.Update position made) None)) (line.Build (build.Rung path main position made (depth - 1))))
     by_test true lv = λ none. (new_held limits states last run t h actor operation go below a made next takes_it start begun (omega (arith, lv.1)), chain)
     by_test false lv = (new_held limits states last run t h actor operation go below a made next takes_it start begun (omega (arith, lv.2)), chain)
 
   module _ (made : Ref) (next : next_ref heap ≡ Some made) where
-    made_next : (l : BuildLine) (e : operation.line ≡ line.Build l) → HeldBuild limits states last run t actor start l → LineLevel (level limits states last run) (build_if_made (states t) operation l (Some made)) →
+    made_next : (l : BuildLine) (e : operation.line ≡ line.Build l) → HeldBuild limits states last run t actor start l →
+        LineLevel (level limits states last run) (build_if_made (states t) operation l (Some made)) →
         Next (build_if_made (states t) operation l (Some made))
     made_next (build.Single path main site.Absent former) e x lv = tt
     made_next (build.Single path main (site.At position) former) e x lv =

@@ -1,5 +1,6 @@
 -- A step of CLIMB, or of a swap that leads to it, hands on what the line knows of the tomb that it climbs from.
-use Rattle.std.proofs.Common.{◌≡◌, ℕ, zero, suc, ◌<◌, ◌==◌, nat_lt, Bool, true, false, cond, List, ◌∷◌, length, slice_index_or, slice_set, Option, Some, None, refl, sym, ◌∙◌, ap, ap₂, subst, arith, eqb-true, ltb-true, ltb-false, []}
+use Rattle.std.proofs.Common.{◌≡◌, ℕ, zero, suc, ◌<◌, ◌==◌, nat_lt, Bool, true, false, cond, List, ◌∷◌, length, slice_index_or, slice_set, Option, Some, None, refl, sym, ◌∙◌, ap}
+use Rattle.std.proofs.Common.{ap₂, subst, arith, eqb-true, ltb-true, ltb-false, []}
 use Rattle.std.proofs.lemmas.Bool.{and_parts}
 use Rattle.std.proofs.lemmas.List.{get_or_past}
 use Rattle.proof_shape.specs.Beneath.ctrie_base.specs.Paths.{position_of}
@@ -26,7 +27,8 @@ use Rattle.proof_shape.specs.Beneath.machine_model.specs.States.{State, word_at}
 use Rattle.proof_shape.specs.Beneath.machine_model.specs.Paths.{current, above, is_below_root, flag_in, is_start}
 use Rattle.proof_shape.specs.Beneath.machine_model.specs.Reading.{read_step, reading}
 use Rattle.proof_shape.specs.Beneath.machine_model.specs.Swapping.{root_after}
-use Rattle.proof_shape.specs.Beneath.machine_model.specs.Climbing.{climbing, climbed, higher, place_in, climbed_node, holds_it, climb_after, climb_after_read, climb_after_main, climb_after_contracted, climb_after_root}
+use Rattle.proof_shape.specs.Beneath.machine_model.specs.Climbing.{climbing, climbed, higher, place_in, climbed_node, holds_it, climb_after, climb_after_read, climb_after_main}
+use Rattle.proof_shape.specs.Beneath.machine_model.specs.Climbing.{climb_after_contracted, climb_after_root}
 use Rattle.proof_shape.specs.Beneath.machine_model.specs.Operations.{line_action}
 use Rattle.proof_shape.specs.Beneath.machine_model.specs.Grown.{grown, node_under}
 use Rattle.proof_shape.specs.Beneath.machine_model.specs.Times.{IsRun}
@@ -106,7 +108,8 @@ module _ (limits : Limits) (states : ℕ → State) (last : ℕ) (run : IsRun li
             KnowsClimbing K W operation.call (cond b (line.Climb (climb.Contracted c main)) (climbed operation c.former))
         by_test false test = tt
         by_test true test =
-            let both = and_parts (has_flag bitmap (flag_in (states t) operation (above c.path))) (slice_index_or entries.items (place_in (states t) operation c main) no_ref == current c.path) test in (
+            let both = and_parts (has_flag bitmap (flag_in (states t) operation (above c.path)))
+            (slice_index_or entries.items (place_in (states t) operation c main) no_ref == current c.path) test in (
               tombed,
               record {
                 bitmap = bitmap;

@@ -18,7 +18,8 @@ use Rattle.proof_shape.specs.Beneath.machine_model.specs.Operations.{first_line,
 use Rattle.proof_shape.specs.Beneath.machine_model.specs.Times.{IsRun}
 use Rattle.proof_shape.specs.Lines.Knowing.{OfEachAt, IsPlaced, PlacesAt}
 use Rattle.proof_shape.proofs.Runs.EachAt.{each_at}
-use Rattle.proof_shape.proofs.Lines.Placed.{is_keyed, is_copy, is_below, is_down, is_copying, is_walking, key_down, build_down, swap_down, renew_down, clean_down, climb_down, copy_copying, walk_walking}
+use Rattle.proof_shape.proofs.Lines.Placed.{is_keyed, is_copy, is_below, is_down, is_copying, is_walking, key_down, build_down, swap_down, renew_down, clean_down, climb_down}
+use Rattle.proof_shape.proofs.Lines.Placed.{copy_copying, walk_walking}
 use Rattle.proof_shape.proofs.Lines.Swap.{SwapPlace, is_swap, no_place, line_places}
 
 -- ---- calls and lines

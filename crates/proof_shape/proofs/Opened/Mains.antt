@@ -143,7 +143,8 @@ module _ (limits : Limits) (states : ℕ → State) (last : ℕ) (run : IsRun li
   first_opens : (O : Ref → Type 0) (call : Call) → Opens O (first_line call)
   first_opens O call = grind arith
 
-  goes_opens : (t : ℕ) → t < last → (actor : ℕ) (operation : Operation) → GoesAt states t actor operation → Opens (IsOpen t) operation.line → Opens (IsOpen (suc t)) (operation_after (states t) operation).line
+  goes_opens : (t : ℕ) → t < last → (actor : ℕ) (operation : Operation) → GoesAt states t actor operation → Opens (IsOpen t) operation.line →
+      Opens (IsOpen (suc t)) (operation_after (states t) operation).line
   goes_opens t h actor operation go o =
       line_opens limits.hash (states t) operation (IsOpen (suc t)) (λ i m. Given w t actor i m)
       (λ i m given used position within. named actor i m (given_later given) (named_by m used position within))

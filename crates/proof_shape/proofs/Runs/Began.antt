@@ -157,7 +157,8 @@ module _ (limits : Limits) (states : ℕ → State) (last : ℕ) (run : IsRun li
       let moment : IsMoment w i m (read_at_after (states t) operation) (moment_after (states t) operation) t =
       moment_at limits states last known t h actor operation go.o go.moves go.runs go.after i x is m gives in
       let linked : is_indirection (node_under states (suc (moment_after (states t) operation)) i) ≡ true =
-      link_stays (protocol limits states last known) i (suc (read_at_after (states t) operation)) (suc (moment_after (states t) operation)) (omega (arith, moment.from)) (omega (arith, moment.past)) moment.link in
+      link_stays (protocol limits states last known) i (suc (read_at_after (states t) operation)) (suc (moment_after (states t) operation))
+      (omega (arith, moment.from)) (omega (arith, moment.past)) moment.link in
       record {
         began = r.began;
         first = r.first;

@@ -105,13 +105,16 @@ module _ (limits : Limits) (states : ℕ → State) (last : ℕ) (run : IsRun li
       let link = indirection_stays states last (nodes_stay limits states last run) (suc t) m _ g x h takes.here refl in
       absurd (no_entry r (subst (λ n. Contains (entries_of n) r) link.1 names))
   taken_names t h m r (Branch b es) takes names =
-      subst (λ n. Contains (entries_of n) r) (node_stays states last (nodes_stay limits states last run) (suc t) m _ h takes.here (λ g x bad. let wrong : Branch b es ≡ Indirection g x = bad in cc)) names
+      subst (λ n. Contains (entries_of n) r)
+      (node_stays states last (nodes_stay limits states last run) (suc t) m _ h takes.here (λ g x bad. let wrong : Branch b es ≡ Indirection g x = bad in cc)) names
   taken_names t h m r (Single k v) takes names =
-      subst (λ n. Contains (entries_of n) r) (node_stays states last (nodes_stay limits states last run) (suc t) m _ h takes.here (λ g x bad. let wrong : Single k v ≡ Indirection g x = bad in cc)) names
+      subst (λ n. Contains (entries_of n) r)
+      (node_stays states last (nodes_stay limits states last run) (suc t) m _ h takes.here (λ g x bad. let wrong : Single k v ≡ Indirection g x = bad in cc)) names
   taken_names t h m r (Tomb s) takes names =
       subst (λ n. Contains (entries_of n) r) (node_stays states last (nodes_stay limits states last run) (suc t) m _ h takes.here (λ g x bad. let wrong : Tomb s ≡ Indirection g x = bad in cc)) names
   taken_names t h m r (Listed ss) takes names =
-      subst (λ n. Contains (entries_of n) r) (node_stays states last (nodes_stay limits states last run) (suc t) m _ h takes.here (λ g x bad. let wrong : Listed ss ≡ Indirection g x = bad in cc)) names
+      subst (λ n. Contains (entries_of n) r)
+      (node_stays states last (nodes_stay limits states last run) (suc t) m _ h takes.here (λ g x bad. let wrong : Listed ss ≡ Indirection g x = bad in cc)) names
 
   module _ (t : ℕ) (h : t < last) (actor : ℕ) (operation : Operation) (go : GoesAt states t actor operation) where
     acts : (a : Action) → action_of (states t) operation ≡ a → ActsOn states t a
@@ -169,13 +172,21 @@ module _ (limits : Limits) (states : ℕ → State) (last : ℕ) (run : IsRun li
           let link = indirection_stays states last (nodes_stay limits states last run) zero m slot g x (omega arith) (grown_in_use states zero m slot e) is in
           absurd (no_entry r (subst (λ n. Contains (entries_of n) r) link.1 names))
       slot_names slot e (Branch b es) is =
-          subst (λ n. Contains (entries_of n) r) (node_stays states last (nodes_stay limits states last run) zero m slot (omega arith) (grown_in_use states zero m slot e) (λ g x bad. let wrong : Branch b es ≡ Indirection g x = sym is ∙ bad in cc) ∙ is) names
+          subst (λ n. Contains (entries_of n) r)
+          (node_stays states last (nodes_stay limits states last run) zero m slot (omega arith) (grown_in_use states zero m slot e)
+          (λ g x bad. let wrong : Branch b es ≡ Indirection g x = sym is ∙ bad in cc) ∙ is) names
       slot_names slot e (Single k v) is =
-          subst (λ n. Contains (entries_of n) r) (node_stays states last (nodes_stay limits states last run) zero m slot (omega arith) (grown_in_use states zero m slot e) (λ g x bad. let wrong : Single k v ≡ Indirection g x = sym is ∙ bad in cc) ∙ is) names
+          subst (λ n. Contains (entries_of n) r)
+          (node_stays states last (nodes_stay limits states last run) zero m slot (omega arith) (grown_in_use states zero m slot e)
+          (λ g x bad. let wrong : Single k v ≡ Indirection g x = sym is ∙ bad in cc) ∙ is) names
       slot_names slot e (Tomb s) is =
-          subst (λ n. Contains (entries_of n) r) (node_stays states last (nodes_stay limits states last run) zero m slot (omega arith) (grown_in_use states zero m slot e) (λ g x bad. let wrong : Tomb s ≡ Indirection g x = sym is ∙ bad in cc) ∙ is) names
+          subst (λ n. Contains (entries_of n) r)
+          (node_stays states last (nodes_stay limits states last run) zero m slot (omega arith) (grown_in_use states zero m slot e)
+          (λ g x bad. let wrong : Tomb s ≡ Indirection g x = sym is ∙ bad in cc) ∙ is) names
       slot_names slot e (Listed ss) is =
-          subst (λ n. Contains (entries_of n) r) (node_stays states last (nodes_stay limits states last run) zero m slot (omega arith) (grown_in_use states zero m slot e) (λ g x bad. let wrong : Listed ss ≡ Indirection g x = sym is ∙ bad in cc) ∙ is) names
+          subst (λ n. Contains (entries_of n) r)
+          (node_stays states last (nodes_stay limits states last run) zero m slot (omega arith) (grown_in_use states zero m slot e)
+          (λ g x bad. let wrong : Listed ss ≡ Indirection g x = sym is ∙ bad in cc) ∙ is) names
 
       by_slot : (o : Option Slot) → standing (states zero).heap m ≡ o → is_some o ≡ true → is_made states zero r ≡ true
       by_slot None e made = absurd (true≢false (sym made))
@@ -209,7 +220,8 @@ module _ (limits : Limits) (states : ℕ → State) (last : ℕ) (run : IsRun li
       from_time (λ v. (m r : Ref) → is_made states v m ≡ true → Contains (entries_of (node_under states last m)) r → is_made states v r ≡ true) zero last made_first
       (λ v low within so_far m r made names. by_made v within so_far m r made names (is_made states v m) refl) t (omega arith) h
     where
-      by_made : (v : ℕ) → v < last → ((m r : Ref) → is_made states v m ≡ true → Contains (entries_of (node_under states last m)) r → is_made states v r ≡ true) → (m r : Ref) → is_made states (suc v) m ≡ true →
+      by_made : (v : ℕ) → v < last → ((m r : Ref) → is_made states v m ≡ true → Contains (entries_of (node_under states last m)) r → is_made states v r ≡ true) →
+          (m r : Ref) → is_made states (suc v) m ≡ true →
           Contains (entries_of (node_under states last m)) r → (b : Bool) → is_made states v m ≡ b → is_made states (suc v) r ≡ true
       by_made v within so_far m r made names true e = made_next states v r (so_far m r e names)
       by_made v within so_far m r made names false e = made_next states v r (new_made v within m r e made names)

@@ -128,4 +128,5 @@ module _ (limits : Limits) (states : ℕ → State) (steps : ℕ → Step) (last
 
   pub nothing_deeper : (more : ℕ) → pairs_below (most_levels + more) (states last).heap r ≡ pairs_below most_levels (states last).heap r
   nothing_deeper more =
-      reached (most_levels + more) ∙ enough trie ok (most_levels + more) most_levels r (omega arith) (omega arith) (λ g w is. (omega arith, omega arith, omega (arith, depth_is))) ∙ sym (reached most_levels)
+      reached (most_levels + more) ∙ enough trie ok (most_levels + more) most_levels r (omega arith) (omega arith)
+      (λ g w is. (omega arith, omega arith, omega (arith, depth_is))) ∙ sym (reached most_levels)

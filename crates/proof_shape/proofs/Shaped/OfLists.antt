@@ -61,7 +61,8 @@ module _ (limits : Limits) (ok : AreLimits limits) (steps : List Step) (fit : Ke
   -- what stands in the end
   inside : (r : Ref) (slot : Slot) → standing heap r ≡ Some slot → InsideSite limits.hash s r slot.node
   inside r slot found =
-      ((sites_there limits (states_of limits steps) (steps_of limits steps) (last_of limits steps) (run_is limits steps ok) (takes_steps limits steps) keys (last_of limits steps) (omega arith)).nodes r slot
+      ((sites_there limits (states_of limits steps) (steps_of limits steps) (last_of limits steps) (run_is limits steps ok) (takes_steps limits steps) keys
+      (last_of limits steps) (omega arith)).nodes r slot
       (ap (λ (x : State). standing x.heap r) (run_ends limits steps) ∙ found)).0
 
   bares : (r : Ref) → IsInUse heap r → bare (s.node r) ≡ bare (node_at heap r)
@@ -106,7 +107,8 @@ module _ (limits : Limits) (ok : AreLimits limits) (steps : List Step) (fit : Ke
       full : IsFull s.node es.items
       full =
           subst (FullNode s (s.level r)) is
-          (full_grown limits (states_of limits steps) (steps_of limits steps) (last_of limits steps) (run_is limits steps ok) (takes_steps limits steps) keys (last_of limits steps) (omega arith) r slot
+          (full_grown limits (states_of limits steps) (steps_of limits steps) (last_of limits steps) (run_is limits steps ok) (takes_steps limits steps) keys
+          (last_of limits steps) (omega arith) r slot
           (grown_in_use (states_of limits steps) (last_of limits steps) r slot (ap (λ (x : State). standing x.heap r) (run_ends limits steps) ∙ found))) (omega (arith, deep))
 
       used_one : (one : Ref) → es.items ≡ one ∷ [] → IsInUse heap one
@@ -161,7 +163,8 @@ lists_crowds limits steps r slot singles ok fit found is = list_crowd limits ok 
 pub no_key_twice : NoKeyTwice
 no_key_twice limits steps handle root ok fit at =
     let at_last = ap (λ state. root_at state handle) (run_ends limits steps) ∙ at in
-    subst (λ state. T (is_sorted nat_cmp (content_at state handle)) × ((more : ℕ) → pairs_below (most_levels + more) state.heap (root_of root.word) ≡ pairs_below most_levels state.heap (root_of root.word)))
+    subst (λ state. T (is_sorted nat_cmp (content_at state handle))
+    × ((more : ℕ) → pairs_below (most_levels + more) state.heap (root_of root.word) ≡ pairs_below most_levels state.heap (root_of root.word)))
     (run_ends limits steps) (
       keys_rise limits (states_of limits steps) (steps_of limits steps) (last_of limits steps) (run_is limits steps ok) (takes_steps limits steps) (keys_fit limits steps fit) handle root at_last,
       nothing_deeper limits (states_of limits steps) (steps_of limits steps) (last_of limits steps) (run_is limits steps ok) (takes_steps limits steps) (keys_fit limits steps fit) handle root at_last,

@@ -1,5 +1,6 @@
 -- The trie of a run has its shape at each time.
-use Rattle.std.proofs.Common.{◌≡◌, ℕ, zero, suc, ◌+◌, ◌-◌, ◌*◌, ◌%◌, ◌^◌, ◌<◌, ◌≤◌, Bool, true, false, cond, List, ◌∷◌, Contains, Option, Some, None, is_some, unwrap_or, ◌⊎◌, inl, inr, refl, sym, ap, ap₂, subst, ◌∙◌, arith, []}
+use Rattle.std.proofs.Common.{◌≡◌, ℕ, zero, suc, ◌+◌, ◌-◌, ◌*◌, ◌%◌, ◌^◌, ◌<◌, ◌≤◌, Bool, true, false, cond, List, ◌∷◌, Contains, Option, Some, None, is_some, unwrap_or, ◌⊎◌, inl}
+use Rattle.std.proofs.Common.{inr, refl, sym, ap, ap₂, subst, ◌∙◌, arith, []}
 use Rattle.std.proofs.lemmas.Bool.{false≢true, cond_both}
 use Rattle.proof_shape.specs.Beneath.ctrie_base.specs.Hashes.{hash_of}
 use Rattle.proof_shape.specs.Beneath.slot_arena.specs.declared.refs.Ref.{Ref}
@@ -116,7 +117,8 @@ module _ (limits : Limits) (states : ℕ → State) (steps : ℕ → Step) (last
           older = old;
         }
 
-    with_generations : (n : Node) → ((g : ℕ) (child w : Ref) → Contains (entries_of (shown n)) child → trie.node child ≡ Indirection g w → generation trie child ≤ generation trie i) → IsShaped T i n → IsShaped trie i (shown n)
+    with_generations : (n : Node) →
+        ((g : ℕ) (child w : Ref) → Contains (entries_of (shown n)) child → trie.node child ≡ Indirection g w → generation trie child ≤ generation trie i) → IsShaped T i n → IsShaped trie i (shown n)
     with_generations n old (branch b es places is has shallow in_place led children) =
         branch b es places its has (subst (λ d. d < list_depth limits.hash) (sym (depth_is i link)) shallow)
         (λ x k v e at single. ap (λ d. index_in (hash_of limits.hash k) d) (depth_is i link) ∙ in_place x k v e at (bare_shown e (Single k v) single))
@@ -186,7 +188,9 @@ module _ (limits : Limits) (states : ℕ → State) (steps : ℕ → Step) (last
   other_shaped t i h none =
       let (u, le, is, still) = main_of_some t i h in
       let root : trie.depth i ≡ 0 = ap (λ b. cond b (depth_at (level_until states steps last i)) 0) none in
-      subst (IsShaped trie i) (sym (ap (λ m. shown (node_under states last m)) (is ∙ no_main_at u le i none) ∙ ap (λ o. shown (node_of o)) (nothing_stands limits states last run last (omega arith)) ∙ no_node)) (empty_shaped trie fits i (omega (arith, root, deep_low limits.hash)))
+      subst (IsShaped trie i)
+      (sym (ap (λ m. shown (node_under states last m)) (is ∙ no_main_at u le i none)
+      ∙ ap (λ o. shown (node_of o)) (nothing_stands limits states last run last (omega arith)) ∙ no_node)) (empty_shaped trie fits i (omega (arith, root, deep_low limits.hash)))
 
   shaped_at : (t : ℕ) (i : Ref) → t ≤ last → IsShaped trie i (node_in trie t i)
   shaped_at t i h = by_test (is_indirection (node_under states last i)) refl

@@ -85,7 +85,8 @@ module _ (a b : ℕ → State) (s u : ℕ → Step) where
   unfolding path_until
   path_same zero same r = refl
   path_same (suc t) same r =
-      ap₂ (λ state step_. cond (is_number r (made_now state step_)) (path_to (leads_now state (path_until a s t) step_) (depth_at (level_now state step_))) (path_until a s t r)) (same.0 t (omega arith)) (same.1 t (omega arith))
+      ap₂ (λ state step_. cond (is_number r (made_now state step_)) (path_to (leads_now state (path_until a s t) step_) (depth_at (level_now state step_)))
+      (path_until a s t r)) (same.0 t (omega arith)) (same.1 t (omega arith))
       ∙ ap₂ (λ p q. cond (is_number r (made_now (b t) (u t))) (path_to p (depth_at (level_now (b t) (u t)))) q)
       (leads_same (b t) (path_until a s t) (path_until b u t) (path_same t ((λ v h. same.0 v (omega (arith, h))), (λ v h. same.1 v (omega (arith, h))))) (u t))
       (path_same t ((λ v h. same.0 v (omega (arith, h))), (λ v h. same.1 v (omega (arith, h)))) r)
@@ -108,9 +109,11 @@ keys_fit limits steps fit t h = taken_fit (first_state limits) steps fit t step.
 
 pub sites_are_fixed : SitesAreFixed
 sites_are_fixed limits steps more r ok (slot, found) = (
-  level_stays limits (states_of limits all) (steps_of limits all) (last_of limits all) (run_is limits all ok) (takes_steps limits all) (last_of limits steps) (last_of limits all) longer (omega arith) r slot made
+  level_stays limits (states_of limits all) (steps_of limits all) (last_of limits all) (run_is limits all ok) (takes_steps limits all) (last_of limits steps)
+      (last_of limits all) longer (omega arith) r slot made
       ∙ level_same (states_of limits all) (states_of limits steps) (steps_of limits all) (steps_of limits steps) (last_of limits steps) alike r,
-  path_stays limits (states_of limits all) (steps_of limits all) (last_of limits all) (run_is limits all ok) (takes_steps limits all) (last_of limits steps) (last_of limits all) longer (omega arith) r slot made
+  path_stays limits (states_of limits all) (steps_of limits all) (last_of limits all) (run_is limits all ok) (takes_steps limits all) (last_of limits steps)
+      (last_of limits all) longer (omega arith) r slot made
       ∙ path_same (states_of limits all) (states_of limits steps) (steps_of limits all) (steps_of limits steps) (last_of limits steps) alike r,
 )
   where

@@ -141,7 +141,8 @@ module _ (limits : Limits) (states : ℕ → State) (steps : ℕ → Step) (last
       let (root, at_root) = safe_of ((safe_at_first limits run.limits_ok).words 0 _ refl).0 in
       let held = ((safe_at_first limits run.limits_ok).nodes (ref_to 2 1) root at_root).0 in
       let (slot, found) =
-      first_stands (λ r (slot : Slot). AllHold (IsInUse (first_state limits).heap) (first_state limits).heap (node_wants slot.node ++ prev_wants slot.prev) → r ≡ ref_to 2 1 → IsInUse (first_state limits).heap (ref_to 1 0)) limits.slots
+      first_stands (λ r (slot : Slot). AllHold (IsInUse (first_state limits).heap) (first_state limits).heap (node_wants slot.node ++ prev_wants slot.prev) →
+      r ≡ ref_to 2 1 → IsInUse (first_state limits).heap (ref_to 1 0)) limits.slots
       run.limits_ok.0 run.limits_ok.1 (λ birth h is. safe_of h.0) (λ birth h is. absurd (omega (arith, is))) (ref_to 2 1) root at_root held refl in
       old_level (ref_to 1 0) slot found
 

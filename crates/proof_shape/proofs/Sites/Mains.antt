@@ -40,7 +40,8 @@ module _ (limits : Limits) (states : ℕ → State) (steps : ℕ → Step) (last
   abbrev AtSite : Ref → Ref → Type 0
   AtSite r q = (s.level r ≡ s.level q) × (s.path r ≡ s.path q)
 
-  main_sites : (t : ℕ) → t ≤ last → (i : Ref) (slot : Slot) (g : ℕ) (w : Ref) → standing (states t).heap i ≡ Some slot → slot.node ≡ Indirection g w → AtSite w i × AtSite (logical_main (states t).heap i) i
+  main_sites : (t : ℕ) → t ≤ last → (i : Ref) (slot : Slot) (g : ℕ) (w : Ref) → standing (states t).heap i ≡ Some slot → slot.node ≡ Indirection g w →
+      AtSite w i × AtSite (logical_main (states t).heap i) i
   main_sites t h i slot g w found is = (word, subst (λ m. AtSite m i) (sym logical_is) (counted.level, counted.path))
     where
       site : AtSite (main_of slot.node) i
@@ -66,7 +67,8 @@ module _ (limits : Limits) (states : ℕ → State) (steps : ℕ → Step) (last
 
   root_sites : (t : ℕ) → t ≤ last → (handle : ℕ) (root : Root) → root_at (states t) handle ≡ Some root → (s.level (root_of root.word) ≡ 1) × (s.path (root_of root.word) ≡ 0)
   root_sites t h handle root at =
-      let level = word_root s.level root.word ((levels_there limits states steps last run takes t h).0.words handle root at) in (level, root_path s (paths_fit states steps last) (root_of root.word) level)
+      let level = word_root s.level root.word ((levels_there limits states steps last run takes t h).0.words handle root at) in
+      (level, root_path s (paths_fit states steps last) (root_of root.word) level)
 
 pub mains_share_sites : MainsShareSites
 mains_share_sites limits steps ok fit =
@@ -86,7 +88,8 @@ paths_are_short limits steps actor operation ok fit is =
     let last = last_of limits steps in
     let running = ap (λ x. operation_of x actor) (run_ends limits steps) ∙ is in (
       (ways_have_sites limits states (steps_of limits steps) last (run_is limits steps ok) (takes_steps limits steps) (keys_fit limits steps fit) last (omega arith) actor operation running).0,
-      λ d within. let both = way_stands limits states (steps_of limits steps) last (run_is limits steps ok) (takes_steps limits steps) (keys_fit limits steps fit) last (omega arith) actor operation running d within in
+      λ d within. let both = way_stands limits states (steps_of limits steps) last (run_is limits steps ok) (takes_steps limits steps)
+          (keys_fit limits steps fit) last (omega arith) actor operation running d within in
           let next : d + 1 ≡ suc d = omega arith in
           (both.0 ∙ next, both.1),
     )

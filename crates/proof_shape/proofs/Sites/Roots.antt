@@ -44,6 +44,7 @@ module _ (limits : Limits) (states : ℕ → State) (steps : ℕ → Step) (last
   level_of_root zero h g r e = root_stood zero h g r e
   level_of_root (suc t) h g r e = by_first (level_of_root t (omega arith) g r) (root_until states g t) refl e
     where
-      by_first : (root_until states g t ≡ Some r → s.level r ≡ 1) → (o : Option Ref) → root_until states g t ≡ o → or_before o (root_among (states (suc t)).heap g (states (suc t)).roots) ≡ Some r → s.level r ≡ 1
+      by_first : (root_until states g t ≡ Some r → s.level r ≡ 1) → (o : Option Ref) → root_until states g t ≡ o →
+          or_before o (root_among (states (suc t)).heap g (states (suc t)).roots) ≡ Some r → s.level r ≡ 1
       by_first rest None is e = root_stood (suc t) h g r e
       by_first rest (Some q) is e = rest (is ∙ e)

@@ -125,9 +125,11 @@ module _ (kind : HashKind) (s : Sites) where
 
 -- ---- each step
 
-module _ (s : Sites) (fits : (i : Ref) → s.path i < 2 ^ (5 * depth_at (s.level i))) (first : Ref → Ref) (state : State) (I : IsSafe state) (levels : HasLevels s.level state) (shapes : HasShapes s.level state)
+module _ (s : Sites) (fits : (i : Ref) → s.path i < 2 ^ (5 * depth_at (s.level i))) (first : Ref → Ref) (state : State) (I : IsSafe state)
+    (levels : HasLevels s.level state) (shapes : HasShapes s.level state)
     (h : HasSites state.limits.hash s state) (bares : AreBare s state)
-    (knows : (actor : ℕ) (operation : Operation) → operation_of state actor ≡ Some operation → KnowsLine (record { kind = state.limits.hash; node = s.node; first = first }) operation.call operation.line) where
+    (knows : (actor : ℕ) (operation : Operation) → operation_of state actor ≡ Some operation →
+    KnowsLine (record { kind = state.limits.hash; node = s.node; first = first }) operation.call operation.line) where
   abbrev kind : HashKind
   kind = state.limits.hash
 
@@ -145,19 +147,22 @@ module _ (s : Sites) (fits : (i : Ref) → s.path i < 2 ^ (5 * depth_at (s.level
   acts_site : (actor : ℕ) (operation : Operation) → operation_of state actor ≡ Some operation → ActionSite kind s (AtSite s state operation operation.line) (action_of state operation)
   acts_site actor operation e =
       let (k, found) = of_actor state (λ k operation. get_or state.actors k None ≡ Some operation) (λ k operation e. e) actor operation e in
-      line_acts s fits state operation S sees first (h.lines k operation found).1 operation.line (line_finds state I actor operation e) (levels.lines k operation found) (shapes.lines k operation found)
+      line_acts s fits state operation S sees first (h.lines k operation found).1 operation.line (line_finds state I actor operation e)
+      (levels.lines k operation found) (shapes.lines k operation found)
       (h.lines k operation found).0 (knows actor operation e)
 
   -- ---- what is made
 
-  module _ (actor : ℕ) (operation : Operation) (is : operation_of state actor ≡ Some operation) (gives_level : GivesLevel s.level state (step.Go actor)) (gives_path : GivesPath s state (step.Go actor)) where
+  module _ (actor : ℕ) (operation : Operation) (is : operation_of state actor ≡ Some operation) (gives_level : GivesLevel s.level state (step.Go actor))
+      (gives_path : GivesPath s state (step.Go actor)) where
     made_at : (node : Node) (made : Ref) → made_node state (action_of state operation) ≡ Some node → next_ref state.heap ≡ Some made → AtSite s state operation operation.line made
     made_at node made a e = (gives_level actor operation node made refl is a e, gives_path actor operation node made refl is a e)
 
     stood : (node : Node) (made : Ref) → made_node state (action_of state operation) ≡ Some node → next_ref state.heap ≡ Some made →
         standing (settled state (gone state actor operation)).heap made ≡ Some (fresh_slot state.heap node)
     stood node made a e =
-        ap (λ heap. standing heap made) (made_heap _ (handle_of operation.call) (action_of state operation) node made a e) ∙ (taken_all state.limits.slots state.heap (I.sound.heap) (I.small) node made e).0
+        ap (λ heap. standing heap made) (made_heap _ (handle_of operation.call) (action_of state operation) node made a e)
+        ∙ (taken_all state.limits.slots state.heap (I.sound.heap) (I.small) node made e).0
 
   fresh_after : (x : Step) (o : Outcome) (after : State) → Moves state x o after → GivesLevel s.level state x → GivesPath s state x → (node : Node) (made : Ref) → next_ref state.heap ≡ Some made →
       standing state.heap made ≡ None → standing after.heap made ≡ Some (fresh_slot state.heap node) → InsideSite kind s made node
@@ -195,7 +200,8 @@ module _ (s : Sites) (fits : (i : Ref) → s.path i < 2 ^ (5 * depth_at (s.level
   word_by None handle e is = absurd (false≢true is)
   word_by (Some root) handle e is = levels.words handle root e
 
-  lines_after : (x : Step) (o : Outcome) (after : State) → Moves state x o after → FitsKey x → GivesLevel s.level state x → GivesPath s state x → AreBare s after → (k : ℕ) → Dec (IsOf (suc k) x) → (found : Operation) →
+  lines_after : (x : Step) (o : Outcome) (after : State) → Moves state x o after → FitsKey x → GivesLevel s.level state x → GivesPath s state x → AreBare s after →
+      (k : ℕ) → Dec (IsOf (suc k) x) → (found : Operation) →
       get_or after.actors k None ≡ Some found → Stands found
   lines_after x o after m key gives paths bare_after k (no other) found at_k =
       let (was, at_was, same) = of_others state x o after m k other found at_k in
@@ -205,7 +211,8 @@ module _ (s : Sites) (fits : (i : Ref) → s.path i < 2 ^ (5 * depth_at (s.level
   lines_after x o after (Goes {actor} {operation} d is a g) key gives paths bare_after k (yes own) found at_k =
       let at_was = at_place state actor k operation own is in
       let goes_on : GoesOn (action_of state operation) = rw a g in
-      let is_open : is_some (root_at state (handle_of operation.call)) ≡ true = elim (or_cases _ _ (I.handles k operation at_was)) [ inl ends ↦ absurd (goes_no_end state operation operation.line goes_on ends) | inr opened ↦ opened ] in
+      let is_open : is_some (root_at state (handle_of operation.call)) ≡ true =
+      elim (or_cases _ _ (I.handles k operation at_was)) [ inl ends ↦ absurd (goes_no_end state operation operation.line goes_on ends) | inr opened ↦ opened ] in
       subst Stands (sym (of_itself state actor operation k own found at_k))
       (marked_site (marks_by state (Some operation)) (operation_after state operation) (
         line_next s fits state operation S (heaped_in_use state I) sees first (word_by (root_at state (handle_of operation.call)) (handle_of operation.call) refl is_open) operation.line
@@ -216,7 +223,8 @@ module _ (s : Sites) (fits : (i : Ref) → s.path i < 2 ^ (5 * depth_at (s.level
   lines_after x o after (Ends {actor} d is a) key gives paths bare_after k (yes own) found at_k = absurd (of_end state actor k own found at_k)
   lines_after x o after (Sweeps spent) key gives paths bare_after k (yes own) found at_k = absurd own
 
-  pub sites_after : (x : Step) (o : Outcome) (after : State) → Moves state x o after → FitsKey x → GivesLevel s.level state x → GivesPath s state x → AreBare s after → HasSites state.limits.hash s after
+  pub sites_after : (x : Step) (o : Outcome) (after : State) → Moves state x o after → FitsKey x → GivesLevel s.level state x → GivesPath s state x →
+      AreBare s after → HasSites state.limits.hash s after
   sites_after x o after m key gives paths bare_after = record {
     nodes = nodes_after x o after m gives paths;
     lines = λ k. lines_after x o after m key gives paths bare_after k (is_of (suc k) x);

@@ -95,7 +95,8 @@ module _ (limits : Limits) (states : ℕ → State) (last : ℕ) (run : IsRun li
       linked : (h : ℕ) × (w : Ref) × (node_under states last (root_of (word_at (states t) handle)) ≡ Indirection h w)
       linked = by_node (node_at (states t).heap (root_of on.root.word)) refl (meets_of used)
         where
-          by_node : (n : Node) → node_at (states t).heap (root_of on.root.word) ≡ n → meets AnIndirection n ≡ true → (h : ℕ) × (w : Ref) × (node_under states last (root_of (word_at (states t) handle)) ≡ Indirection h w)
+          by_node : (n : Node) → node_at (states t).heap (root_of on.root.word) ≡ n → meets AnIndirection n ≡ true →
+              (h : ℕ) × (w : Ref) × (node_under states last (root_of (word_at (states t) handle)) ≡ Indirection h w)
           by_node (Indirection h w) found m =
               let link = seen_link states last (nodes_stay limits states last run) t within (root_of on.root.word) (safe_of used) h w found in
               (h, link.0, ap (λ x. node_under states last (root_of x)) word_is ∙ link.1)

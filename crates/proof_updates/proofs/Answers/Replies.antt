@@ -108,7 +108,8 @@ module _ (limits : Limits) (states : ℕ → State) (last : ℕ) (depth path : R
 
       line_later : (l : Line) → operation.line ≡ l →
           Behind states t operation.id (RightAt states trie t operation.access operation.generation operation.moment operation.call) (WalksAt states trie t operation.access operation.call) l →
-          Behind states (suc t) operation.id (RightAt states trie (suc t) operation.access operation.generation operation.moment operation.call) (WalksAt states trie (suc t) operation.access operation.call) l
+          Behind states (suc t) operation.id (RightAt states trie (suc t) operation.access operation.generation operation.moment operation.call)
+          (WalksAt states trie (suc t) operation.access operation.call) l
       line_later (line.Swap (purpose.Update path former) x) e h = none_next limits states last run all t k lt operation runs s o m path former x e h
       line_later (line.Swap (purpose.Renew path) x) e h = tt
       line_later (line.Swap purpose.Clean x) e h = tt
@@ -156,13 +157,15 @@ module _ (limits : Limits) (states : ℕ → State) (last : ℕ) (depth path : R
     since : Since states t k operation
     since = run_since limits states last run t k operation within runs
 
-    replied : is_close operation.call ≡ false → RightAt states trie t operation.access operation.generation operation.moment operation.call answer → Replied limits states last (content trie) operation answer
+    replied : is_close operation.call ≡ false → RightAt states trie t operation.access operation.generation operation.moment operation.call answer →
+        Replied limits states last (content trie) operation answer
     replied no_close h = by_access operation.access refl h
       where
         moment : IsWithin states since.at t operation.moment
         moment = (since.reads no_close).moment (ap has_read e)
 
-        by_access : (a : Access) → operation.access ≡ a → RightAt states trie t a operation.generation operation.moment operation.call answer → Replied limits states last (content trie) operation answer
+        by_access : (a : Access) → operation.access ≡ a → RightAt states trie t a operation.generation operation.moment operation.call answer →
+            Replied limits states last (content trie) operation answer
         by_access Writable is (g, generation, right) =
             on_writable g is generation (rooted_at_moments limits states last run t k operation g within runs is generation (ap has_read e)) moment.closes_none right
         by_access ReadOnly is right =
@@ -180,10 +183,12 @@ module _ (limits : Limits) (states : ℕ → State) (last : ℕ) (depth path : R
     right_reply : answer ≢ reply.NoSlots → is_placed (states t) operation.id ≡ false → Replied limits states last (content trie) operation answer
     right_reply other unplaced =
         by_ending
-        (subst (λ l. Behind states t operation.id (RightAt states trie t operation.access operation.generation operation.moment operation.call) (WalksAt states trie t operation.access operation.call) l) e
+        (subst (λ l. Behind states t operation.id (RightAt states trie t operation.access operation.generation operation.moment operation.call)
+        (WalksAt states trie t operation.access operation.call) l) e
         ((answering_at t within k operation runs).behind (no_close_unplaced unplaced)))
       where
-        by_ending : EndsSo states t operation.id (RightAt states trie t operation.access operation.generation operation.moment operation.call) answer → Replied limits states last (content trie) operation answer
+        by_ending : EndsSo states t operation.id (RightAt states trie t operation.access operation.generation operation.moment operation.call) answer →
+            Replied limits states last (content trie) operation answer
         by_ending (refused is) = absurd (other is)
         by_ending (has_place is) = absurd (true≢false (sym is ∙ unplaced))
         by_ending (is_right h) = replied (no_close_unplaced unplaced) h

@@ -75,8 +75,10 @@ module _ (limits : Limits) (states : ℕ → State) (last : ℕ) (t : ℕ) (s : 
 
       same_actor : u.actor ≡ own.actor
       same_actor =
-          own.alone u.actor u.operation u.swap.indirection u.swap.replaced u.swap.line u.runs
-          (purpose.Update u.path former, u.swaps ∙ ap (λ f. line.Swap (purpose.Update u.path former) (record { indirection = u.swap.indirection; replaced = u.swap.replaced; fresh = f; line = u.swap.line })) same_fresh)
+          own.alone u.actor u.operation u.swap.indirection u.swap.replaced u.swap.line u.runs (
+            purpose.Update u.path former,
+            u.swaps ∙ ap (λ f. line.Swap (purpose.Update u.path former) (record { indirection = u.swap.indirection; replaced = u.swap.replaced; fresh = f; line = u.swap.line })) same_fresh,
+          )
 
       same_owner : own.owner ≡ u.operation
       same_owner = same_Some _ _ (sym own.runs ∙ ap (operation_of (states t)) (sym same_actor) ∙ u.runs)

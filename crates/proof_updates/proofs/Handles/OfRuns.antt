@@ -62,8 +62,10 @@ module _ (limits : Limits) (states : ℕ → State) (steps : ℕ → Step) (t : 
         is_open = stands.is_open;
         kind = stands.kind ∙ holds.kind;
         content = copies limits states steps t run takes keys s o m handle offer carries offer.successor
-            (copied_root limits states steps t run takes keys s o m handle offer carries (its_call limits states steps t run takes keys s o m handle offer carries) (brings limits states steps t run takes keys s o m handle offer carries)
-            (λ e. untouched (clears offer.opens (subst (λ c. CarriesOutCall (states t) s c offer.opens) e (carries_call limits states steps t run takes keys s o m handle offer carries offer.opens refl)))))
+            (copied_root limits states steps t run takes keys s o m handle offer carries (its_call limits states steps t run takes keys s o m handle offer carries)
+            (brings limits states steps t run takes keys s o m handle offer carries)
+            (λ e. untouched
+            (clears offer.opens (subst (λ c. CarriesOutCall (states t) s c offer.opens) e (carries_call limits states steps t run takes keys s o m handle offer carries offer.opens refl)))))
             handle stands.root stands.is_open stands.over ∙ holds.content;
       }
       by_root (is_closed actor e gone) = absurd (untouched (closes actor e))
@@ -114,7 +116,9 @@ module _ (limits : Limits) (states : ℕ → State) (steps : ℕ → Step) (t : 
   empties handle opens c = cleared limits states steps t run takes keys s o m c.handle c.offer c.carries (Clear handle) (brought (Clear handle) opens c) handle refl
 
   copy : OpenedCopy limits (states t) s (states (suc t))
-  copy handle root shut now = by_call (copied limits states steps t run takes keys s o m it.on it.offer it.carries (its_call limits states steps t run takes keys s o m it.on it.offer it.carries) (brings limits states steps t run takes keys s o m it.on it.offer it.carries) handle it.number it.now)
+  copy handle root shut now =
+      by_call (copied limits states steps t run takes keys s o m it.on it.offer it.carries
+      (its_call limits states steps t run takes keys s o m it.on it.offer it.carries) (brings limits states steps t run takes keys s o m it.on it.offer it.carries) handle it.number it.now)
     where
       it : IsOpened limits states (suc t) run t (omega arith) s o m handle
       it = opened_step limits states (suc t) run t (omega arith) s o m handle root shut now

@@ -164,5 +164,6 @@ module _ (limits : Limits) (states : ℕ → State) (steps : ℕ → Step) (last
     pub content_shown : content_at (states t) handle ≡ entries (map_of trie.keys (value_below trie t r))
     content_shown =
         ap (λ o. by_key (pairs_below most_levels heap (root_of (word_of o)))) at ∙ ap by_key (pairs_shown most_levels r root_used)
-        ∙ reached_entries now is_trie_now 0 (indirection_is (node_under states last r) root_link).0 (indirection_is (node_under states last r) root_link).1 (indirection_is (node_under states last r) root_link).2
+        ∙ reached_entries now is_trie_now 0 (indirection_is (node_under states last r) root_link).0 (indirection_is (node_under states last r) root_link).1
+        (indirection_is (node_under states last r) root_link).2
         ∙ ap entries content_now

@@ -144,7 +144,8 @@ module _ (limits : Limits) (states : ℕ → State) (steps : ℕ → Step) (t : 
     by_snapshot : call ≡ Snapshot on → Holds (states (suc t)) handle Writable (content_at (states t) on) → Copied handle call
     by_freeze : call ≡ Freeze on → Holds (states (suc t)) handle ReadOnly (content_at (states t) on) → Copied handle call
 
-  pub copied : (call : Call) → Brings states (suc t) t on offer call → (handle : ℕ) → offer.opens ≡ Some handle → root_at (states (suc t)) handle ≡ Some (opened_root offer offer.second) → Copied handle call
+  pub copied : (call : Call) → Brings states (suc t) t on offer call → (handle : ℕ) → offer.opens ≡ Some handle →
+      root_at (states (suc t)) handle ≡ Some (opened_root offer offer.second) → Copied handle call
   copied call (clears opens new empty) handle e now = absurd (none-some handle (sym opens ∙ e))
   copied call (snapshots n second opens is first main copy its) handle e now =
       let at = now ∙ ap (λ x. Some (opened_root offer x)) is in

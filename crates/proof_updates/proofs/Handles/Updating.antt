@@ -81,7 +81,9 @@ module _ (limits : Limits) (states : ℕ → State) (steps : ℕ → Step) (t : 
 
     own_acts : (own : Mine) → IsOwn limits states (suc t) t s own i call former →
         change_in (hash_of limits.hash) call (map_of T.keys (value_below T t r)) ≡ Some (changed_reply call former, map_of T.keys (value_below T (suc t) r))
-    own_acts own w = subst (λ c. change_in (hash_of limits.hash) c before ≡ Some (changed_reply c former, after)) w.call_is (sym (acts_changes (hash_of limits.hash) own.owner.call former u.now before u.asks) ∙ acted)
+    own_acts own w =
+        subst (λ c. change_in (hash_of limits.hash) c before ≡ Some (changed_reply c former, after)) w.call_is
+        (sym (acts_changes (hash_of limits.hash) own.owner.call former u.now before u.asks) ∙ acted)
       where
         before : KeyMap
         before = map_of T.keys (value_below T t r)

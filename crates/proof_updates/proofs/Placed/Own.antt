@@ -47,7 +47,8 @@ entered_placed limits states last run t lt s o m operation enters = by_changes (
     by_changes : Changes (states t) s (states (suc t)) → is_placed (states (suc t)) operation.id ≡ true
     by_changes (quiet places closings footing) =
         is_placed_so (states (suc t)) (place_of (states t) operation t false)
-        (subst (λ l. Among (place_of (states t) operation t false) l) (sym (places ∙ ap (λ l. (states t).places ++ l) enters)) (among_right (states t).places (place_of (states t) operation t false ∷ []) _ (inl refl)))
+        (subst (λ l. Among (place_of (states t) operation t false) l) (sym (places ∙ ap (λ l. (states t).places ++ l) enters))
+        (among_right (states t).places (place_of (states t) operation t false ∷ []) _ (inl refl)))
         operation.id (place_says (closing_for (states t) operation operation.access) t operation.id false).2
     by_changes (ends actor ending answer is runs does none places closings footing) = absurd (not_none none)
     by_changes (closes actor handle root is found none places closings gone footing) = absurd (not_none none)

@@ -57,7 +57,8 @@ module _ (limits : Limits) (states : ℕ → State) (last : ℕ) (run : IsRun li
   abbrev p : Protocol
   p = protocol limits states last (known_run limits states last run)
 
-  module _ (t k : ℕ) (lt : t < last) (operation : Operation) (runs : Runs (states t) k operation) (s : Step) (o : Outcome) (m : Moves (states t) s o (states (suc t))) (path : List Ref) (former : Option ℕ)
+  module _ (t k : ℕ) (lt : t < last) (operation : Operation) (runs : Runs (states t) k operation) (s : Step) (o : Outcome)
+      (m : Moves (states t) s o (states (suc t))) (path : List Ref) (former : Option ℕ)
       (x : Swap) (at : operation.line ≡ line.Swap (purpose.Update path former) x)
       (before : IsPublished x.line → prev_word states t x.fresh ≡ prev.None → is_placed (states t) operation.id ≡ true) where
     -- a node that is committed now
@@ -80,7 +81,8 @@ module _ (limits : Limits) (states : ℕ → State) (last : ℕ) (run : IsRun li
         by_line q pending (swap.Deciding l) e h = deciding_next l e q pending none
         by_line q pending swap.Check e h =
             absurd (checked p.words t (suc k) (sound_at p t (omega arith)) x.indirection x.replaced x.fresh
-            (ap stage_of_actor runs ∙ ap stage_of at ∙ ap (λ y. stage_of (line.Swap (purpose.Update path former) (record { indirection = x.indirection; replaced = x.replaced; fresh = x.fresh; line = y }))) e) q pending)
+            (ap stage_of_actor runs ∙ ap stage_of at
+            ∙ ap (λ y. stage_of (line.Swap (purpose.Update path former) (record { indirection = x.indirection; replaced = x.replaced; fresh = x.fresh; line = y }))) e) q pending)
 
         by_word : (v : Prev) → prev_word states t x.fresh ≡ v → is_placed (states (suc t)) operation.id ≡ true
         by_word prev.None e = still_placed (states t) s o (states (suc t)) m operation.id (before published e)
@@ -106,7 +108,8 @@ module _ (limits : Limits) (states : ℕ → State) (last : ℕ) (run : IsRun li
       publishes : x.line ≡ swap.Publish → (main_at (states t).heap x.indirection == x.replaced) ≡ true → prev_word states (suc t) x.fresh ≡ prev.Pending x.replaced
       publishes e there =
           let does : action_of (states t) operation ≡ act.Publish x.indirection x.replaced x.fresh =
-          ap (line_action (states t) operation) at ∙ ap (λ y. line_action (states t) operation (line.Swap (purpose.Update path former) (record { indirection = x.indirection; replaced = x.replaced; fresh = x.fresh; line = y }))) e in
+          ap (line_action (states t) operation) at
+          ∙ ap (λ y. line_action (states t) operation (line.Swap (purpose.Update path former) (record { indirection = x.indirection; replaced = x.replaced; fresh = x.fresh; line = y }))) e in
           let acts : ActsOn states t (act.Publish x.indirection x.replaced x.fresh) =
           subst (ActsOn states t) does (memory_acts limits states last (memory limits states last run) t lt (suc k) own.outcome own.moves operation own.runs) in
           let written : GrownSwaps states t x.indirection x.replaced x.fresh =
@@ -140,7 +143,8 @@ module _ (limits : Limits) (states : ℕ → State) (last : ℕ) (run : IsRun li
           by_line swap.Check e = checked_on e (prev_at (states t).heap x.fresh) refl
 
     -- of any other
-    other_on : (why : Purpose) (x : Swap) → Behind states t operation.id Right Walks (line.Swap why x) → ((path : List Ref) (former : Option ℕ) → why ≡ purpose.Update path former → ⊥) → (out : After Swap Bool) →
+    other_on : (why : Purpose) (x : Swap) → Behind states t operation.id Right Walks (line.Swap why x) →
+        ((path : List Ref) (former : Option ℕ) → why ≡ purpose.Update path former → ⊥) → (out : After Swap Bool) →
         On (after_swap (states t) operation why x out)
     other_on (purpose.Update path former) x h not out = absurd (not path former refl)
     other_on (purpose.Renew path) x h not (Goes y) = tt

@@ -143,7 +143,8 @@ module _ (limits : Limits) (states : ℕ → State) (last : ℕ) (depth path : R
         listed_on trie ok g state operation t (read_at_after state operation) (moment_after state operation) lt p main (at_next (line.Key (key.Listed p main position)) e refl p main h) position
         (node_at state.heap (entry_at state.heap main position))
     key_on (key.Sibling p main position former) e begun h =
-        sibling_on trie ok g state operation t (read_at_after state operation) (moment_after state operation) lt p main (at_next (line.Key (key.Sibling p main position former)) e refl p main h) position former
+        sibling_on trie ok g state operation t (read_at_after state operation) (moment_after state operation) lt p main
+        (at_next (line.Key (key.Sibling p main position former)) e refl p main h) position former
         (entry_at state.heap main (1 - position)) (node_at state.heap (entry_at state.heap main (1 - position)))
 
     -- ---- all lines
@@ -154,7 +155,9 @@ module _ (limits : Limits) (states : ℕ → State) (last : ℕ) (depth path : R
     line_on (line.Key l) e begun h = key_on l e begun (h begun)
     line_on (line.Build l) e begun h = build_on trie A g Q t _ _ state operation l (route_later trie A g Q t (suc t) _ (omega arith) (h begun))
     line_on (line.Swap why s) e begun h =
-        swap_on trie A g Q t (read_at_after state operation) (moment_after state operation) state operation why s (swap_after state.heap operation.access (word_at state (handle_of operation.call)) s) (swap_route trie A g Q t operation.read_at operation.moment (read_at_after state operation) (moment_after state operation) why s (h begun))
+        swap_on trie A g Q t (read_at_after state operation) (moment_after state operation) state operation why s
+        (swap_after state.heap operation.access (word_at state (handle_of operation.call)) s)
+        (swap_route trie A g Q t operation.read_at operation.moment (read_at_after state operation) (moment_after state operation) why s (h begun))
     line_on (line.Renew l) e begun h = renew_on trie A g Q t _ _ state operation l (route_later trie A g Q t (suc t) _ (omega arith) (h begun))
     line_on (line.Clean l) e begun h = clean_on trie A g Q t _ _ state operation l
     line_on (line.Climb l) e begun h = climb_on trie A g Q t _ _ state operation l

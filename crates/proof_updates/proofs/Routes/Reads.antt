@@ -146,7 +146,8 @@ module _ (limits : Limits) (states : ℕ → State) (last : ℕ) (depth path : R
     module _ (p : List Ref) (main : Ref) (position : ℕ) (e : operation.line ≡ line.Key (key.Entry p main position)) where
       main_used : Holds (IsInUse state.heap) state.heap (Is main ABranch)
       main_used =
-          let wants = subst (λ l. AllHold (IsInUse state.heap) state.heap (line_wants limits.hash operation.call operation.access l)) e (line_at limits states last run t within (suc k) operation own.runs) in
+          let wants = subst (λ l. AllHold (IsInUse state.heap) state.heap (line_wants limits.hash operation.call operation.access l)) e
+          (line_at limits states last run t within (suc k) operation own.runs) in
           wants.1.1.0
 
       main_is : trie.node main ≡ node_at state.heap main

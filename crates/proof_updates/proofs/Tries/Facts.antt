@@ -85,8 +85,10 @@ module _ (limits : Limits) (states : ℕ → State) (last : ℕ) (depth path : R
 
       same_actor : suc u.k ≡ own.actor
       same_actor =
-          own.alone (suc u.k) u.owner u.its.indirection u.its.replaced u.its.line u.runs
-          (purpose.Update u.path u.former, u.at ∙ ap (λ f. line.Swap (purpose.Update u.path u.former) (record { indirection = u.its.indirection; replaced = u.its.replaced; fresh = f; line = u.its.line })) same_fresh)
+          own.alone (suc u.k) u.owner u.its.indirection u.its.replaced u.its.line u.runs (
+            purpose.Update u.path u.former,
+            u.at ∙ ap (λ f. line.Swap (purpose.Update u.path u.former) (record { indirection = u.its.indirection; replaced = u.its.replaced; fresh = f; line = u.its.line })) same_fresh,
+          )
 
       same_owner : own.owner ≡ u.owner
       same_owner = same_Some _ _ (sym own.runs ∙ ap (operation_of (states t)) (sym same_actor) ∙ u.runs)
@@ -96,7 +98,8 @@ module _ (limits : Limits) (states : ℕ → State) (last : ℕ) (depth path : R
 
       same_why : own.why ≡ purpose.Update u.path u.former
       same_why =
-          let same : line.Swap own.why (record { indirection = own.indirection; replaced = own.replaced; fresh = own.fresh; line = swap.Deciding own.deciding }) ≡ line.Swap (purpose.Update u.path u.former) u.its =
+          let same : line.Swap own.why (record { indirection = own.indirection; replaced = own.replaced; fresh = own.fresh; line = swap.Deciding own.deciding })
+          ≡ line.Swap (purpose.Update u.path u.former) u.its =
           sym own.swaps ∙ ap (λ (x : Operation). x.line) same_owner ∙ u.at in
           cc
 
@@ -114,7 +117,8 @@ module _ (limits : Limits) (states : ℕ → State) (last : ℕ) (depth path : R
             enters = u.enters;
             unplaced = u.unplaced;
             answer = changed_reply u.owner.call u.former;
-            acts = subst₂ (λ (x : Operation) g. act_in (hash_of limits.hash) Writable x.call (content trie g t) ≡ Some (changed_reply x.call u.former, content trie g (suc t))) same_owner same_start act.0;
+            acts = subst₂
+                (λ (x : Operation) g. act_in (hash_of limits.hash) Writable x.call (content trie g t) ≡ Some (changed_reply x.call u.former, content trie g (suc t))) same_owner same_start act.0;
             agrees = u.agrees;
             still = λ other stood apart. act.1 other (λ same. apart (same ∙ same_start));
           }
