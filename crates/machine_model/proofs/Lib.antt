@@ -13,3 +13,5 @@ pub mod Rest
 pub mod InUse
 pub mod Slots
 pub mod Times
+pub mod Grown
+pub mod Numbered

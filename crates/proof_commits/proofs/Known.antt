@@ -2,5 +2,6 @@ pub mod Owners
 pub mod Sounds
 pub mod Given
 pub mod StepsAt
-pub mod Layers
-pub mod Memory
+pub mod Claims
+pub mod Acts
+pub mod MainsInUse

@@ -3,5 +3,3 @@ pub mod Effects
 pub mod OfRuns
 pub mod First
 pub mod Along
-pub mod InHeap
-pub mod FromHeap

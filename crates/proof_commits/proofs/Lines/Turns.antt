@@ -76,7 +76,6 @@ use Rattle.proof_commits.proofs.Known.Given.{BuildsFrom, HasSolid, GrownStays, G
 use Rattle.proof_commits.proofs.Words.OfRuns.{leaves_words, swaps_words, makes_words, takes_node}
 use Rattle.proof_commits.specs.Words.{words_of}
 use Rattle.proof_commits.proofs.Lines.Read.{no_commit, solid_stays, read_turn}
-use Rattle.proof_commits.proofs.Words.InHeap.{grown_standing, node_standing}
 use Rattle.std.specs.Prelude.{is_some}
 use Rattle.proof_commits.specs.Beneath.machine_model.specs.declared.building.Site.{Site}
 use Rattle.proof_commits.specs.Beneath.machine_model.specs.declared.building.Site.TheVariants as site
@@ -86,6 +85,7 @@ use Rattle.proof_commits.proofs.Lines.Resting.{AtRest}
 use Rattle.proof_memory.specs.Wants.{is_indirection, is_branch_or_list}
 use Rattle.proof_memory.proofs.Lines.Next.{pair_main, contracted_main, changed_main}
 use Rattle.proof_memory.proofs.Claims.Nodes.{main_plain}
+use Rattle.proof_commits.specs.Beneath.machine_model.proofs.Grown.{grown_in_use, node_grown}
 
 module _ (limits : Limits) (states : ℕ → State) (last : ℕ) (known : Known limits states last) (t : ℕ) (h : t < last) (k : ℕ) (operation : Operation) where
   abbrev w : Words
@@ -129,11 +129,11 @@ module _ (limits : Limits) (states : ℕ → State) (last : ℕ) (known : Known 
   -- what stands there as a branch or a list may be replaced
   solid_of : (m : Ref) → HasSolid (states t) m → w.solid m ≡ true
   solid_of m x =
-      let found = grown_standing states t m x.slot x.stands in
+      let found = grown_in_use states t m x.slot x.stands in
       solid_stays limits states last known t m (omega arith) (ap is_some found) ∙ ap (λ o. is_branch_or_list (node_of o)) found ∙ x.solid
 
   solid_at : (m : Ref) → HasSolid (states t) m → is_branch_or_list (node_at heap m) ≡ true
-  solid_at m x = ap is_branch_or_list (node_standing states t m x.slot x.stands ∙ ap node_of (grown_standing states t m x.slot x.stands)) ∙ x.solid
+  solid_at m x = ap is_branch_or_list (node_grown states t m x.slot x.stands ∙ ap node_of (grown_in_use states t m x.slot x.stands)) ∙ x.solid
 
   -- a turn that leads to this line
   abbrev pub NextLine : Stage → Line → Type 0

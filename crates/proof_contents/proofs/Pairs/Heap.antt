@@ -29,24 +29,9 @@ use Rattle.proof_contents.specs.Runs.{trie_of}
 use Rattle.proof_contents.specs.InUse.{ReachesInUse}
 use Rattle.proof_contents.proofs.Values.Runs.{main_at-last}
 use Rattle.proof_contents.proofs.Pairs.Shown.{reached_entries}
+use Rattle.machine_model.proofs.Grown.{node_grown, prev_grown, standing_parts}
 
 -- ---- what stands in use is what stood last
-
-stored-standing : (heap : Heap) (r : Ref) (slot : Slot) → standing heap r ≡ Some slot → stored heap r ≡ Some slot
-stored-standing heap r slot e = by_slot (stored heap r) refl e
-  where
-    by_birth : (s : Slot) (b : Bool) → cond b (Some s) None ≡ Some slot → Some s ≡ Some slot
-    by_birth s true e = e
-    by_birth s false e = absurd (let bad : None ≡ Some slot = e in cc)
-
-    by_slot : (o : Option Slot) → stored heap r ≡ o → of_birth (birth_of r) o ≡ Some slot → stored heap r ≡ Some slot
-    by_slot None at e = absurd (let bad : None ≡ Some slot = e in cc)
-    by_slot (Some s) at e = at ∙ by_birth s (s.birth == birth_of r) e
-
-grown-standing : (states : ℕ → State) (t : ℕ) (r : Ref) (slot : Slot) → standing (states t).heap r ≡ Some slot → grown states t r ≡ Some slot
-unfolding grown
-grown-standing states zero r slot e = e
-grown-standing states (suc t) r slot e = ap (λ o. or_before o (grown states t r)) e
 
 pub flat_map-same : (f g : Ref → List (ℕ × ℕ)) (rs : List Ref) → ((r : Ref) → Contains rs r → f r ≡ g r) → flat_map f rs ≡ flat_map g rs
 flat_map-same f g [] h = refl
@@ -72,20 +57,20 @@ module _ (states : ℕ → State) (last : ℕ) (reaches : ReachesInUse (states l
   unfolding node_at
   node_is r reached =
       let s = reaches r reached in
-      ap node_of (stored-standing heap r s.0 s.1) ∙ sym (ap node_of (grown-standing states last r s.0 s.1))
+      node_grown states last r s.0 s.1
 
   prev_is : (r : Ref) → Reached r → prev_at heap r ≡ prev_word states last r
   unfolding prev_at
   prev_is r reached =
       let s = reaches r reached in
-      ap prev_of (stored-standing heap r s.0 s.1) ∙ sym (ap prev_of (grown-standing states last r s.0 s.1))
+      prev_grown states last r s.0 s.1
 
   -- references in a slot that is reached are reached
   of_node : (r q : Ref) → Reached r → Contains (refs_of_node (node_at heap r)) q → Reached q
   unfolding node_at
   of_node r q reached c =
       let s = reaches r reached in
-      let at = stored-standing heap r s.0 s.1 in
+      let at = (standing_parts heap r s.0 s.1).0 in
       from_slot r q reached (subst (λ o. Contains (refs_of_slot o) q) (sym at)
       (Contains-append_left (refs_of_node s.0.node) (refs_of_prev s.0.prev) q (subst (λ o. Contains (refs_of_node (node_of o)) q) at c)))
 
@@ -93,7 +78,7 @@ module _ (states : ℕ → State) (last : ℕ) (reaches : ReachesInUse (states l
   unfolding prev_at
   of_prev r q reached c =
       let s = reaches r reached in
-      let at = stored-standing heap r s.0 s.1 in
+      let at = (standing_parts heap r s.0 s.1).0 in
       from_slot r q reached (subst (λ o. Contains (refs_of_slot o) q) (sym at)
       (Contains-append_right (refs_of_node s.0.node) (refs_of_prev s.0.prev) q (subst (λ o. Contains (refs_of_prev (prev_of o)) q) at c)))
 

@@ -36,7 +36,6 @@ use Rattle.proof_generations.specs.Beneath.machine_model.specs.Times.{turns}
 use Rattle.proof_generations.specs.Beneath.machine_model.specs.Times.{IsRun, Turn}
 use Rattle.proof_generations.specs.Beneath.machine_model.specs.Grown.{standing, grown, node_under}
 use Rattle.proof_generations.specs.Beneath.proof_memory.proofs.Claims.Uses.{entries_same}
-use Rattle.proof_generations.specs.Beneath.proof_memory.proofs.Heap.Under.{standing_parts}
 use Rattle.proof_commits.proofs.Known.Sounds.{sound_at}
 use Rattle.proof_commits.proofs.Words.Stood.{Stood}
 use Rattle.proof_generations.proofs.Counter.Drawn.{taken_list}
@@ -54,6 +53,7 @@ use Rattle.proof_generations.proofs.Lines.Knows.{IsInner}
 use Rattle.proof_generations.proofs.Falling.MainsNext.{mains_next}
 use Rattle.proof_generations.proofs.Falling.LinesNext.{lines_next}
 use Rattle.proof_generations.proofs.Falling.FreshRoots.{fresh_still, fresh_new}
+use Rattle.proof_generations.specs.Beneath.machine_model.proofs.Grown.{standing_parts}
 
 -- all that is known at a time
 pub record AllFalls (states : ℕ → State) (last t : ℕ) : Type 0 where

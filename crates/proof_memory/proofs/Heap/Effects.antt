@@ -21,7 +21,8 @@ use Rattle.machine_model.proofs.HeapMoves.{aborted_heap, offered_heap, completed
 use Rattle.proof_memory.specs.Wants.{AnIndirection, AMain, meets, is_formed, Claim, Is, So, Holds, so, AllHold, node_wants, prev_wants, action_wants}
 use Rattle.proof_memory.specs.Laws.{SameNode, IsInUse}
 use Rattle.proof_memory.proofs.Claims.Uses.{same_node, safe_of, meets_of}
-use Rattle.proof_memory.proofs.Heap.Under.{node_under, main_here, main_other, prev_here, prev_other, freed_here, freed_other, fresh_slot, taken_all, none_taken, births_taken}
+use Rattle.proof_memory.proofs.Heap.Under.{main_here, main_other, prev_here, prev_other, freed_here, freed_other, fresh_slot, taken_all, none_taken, births_taken}
+use Rattle.machine_model.proofs.Grown.{node_standing}
 
 -- the effects of a step: under which references what stands changes. What is written is claimed by C; b and c are how many births were drawn before and
 -- after; due is what may be freed.
@@ -65,7 +66,7 @@ module _ (S : Ref → Type 0) (heap : Heap) (due : Option Ref) (used : (r : Ref)
 
   -- where the main word is read
   pub main_is : (r : Ref) (slot : Slot) → standing heap r ≡ Some slot → main_of slot.node ≡ main_at heap r
-  main_is r slot e = ap main_of (sym (node_under heap r slot e))
+  main_is r slot e = ap main_of (sym (node_standing heap r slot e))
 
   births_main : (r m : Ref) → (with_main heap r m).births ≡ heap.births
   unfolding with_main

@@ -48,7 +48,7 @@ use Rattle.machine_model.specs.Grown.{standing}
 use Rattle.proof_memory.specs.Wants.{is_list, is_indirection, AllHold, line_wants}
 use Rattle.proof_memory.specs.Laws.{IsInUse}
 use Rattle.proof_memory.proofs.Claims.Uses.{safe_of, all_of, fact_of}
-use Rattle.proof_memory.proofs.Heap.Under.{node_under, fresh_slot, taken_all}
+use Rattle.proof_memory.proofs.Heap.Under.{fresh_slot, taken_all}
 use Rattle.proof_memory.proofs.Safety.EachStep.{each_after}
 use Rattle.proof_memory.specs.Making.{made_node}
 use Rattle.proof_memory.proofs.Safety.States.{IsSafe, stood_or_made, stands_in_use}
@@ -63,6 +63,7 @@ use Rattle.proof_memory.specs.Levels.{LineLevel, made_level}
 use Rattle.proof_memory.proofs.Levels.States.{HasLevels, GivesLevel, heaped_in_use, births_same, levels_after}
 use Rattle.proof_memory.proofs.Levels.Runs.{levels_of, levels_at, along_levels, levels_at_first, root_level, branch_level, old_level}
 use Rattle.proof_memory.proofs.Levels.Shapes.{ShapeAt, LineShape, ActionShape, line_shape_next, line_makes, deep_low}
+use Rattle.machine_model.proofs.Grown.{node_standing}
 
 pub record HasShapes (lv : Ref → ℕ) (state : State) : Type 0 where
   pub nodes : (r : Ref) (slot : Slot) → standing state.heap r ≡ Some slot → ShapeAt (list_depth state.limits.hash) (lv r) slot.node
@@ -112,7 +113,7 @@ module _ (lv : Ref → ℕ) (state : State) (I : IsSafe state) (h : HasLevels lv
   deep = list_depth state.limits.hash
 
   shape_under : (r : Ref) → IsInUse state.heap r → ShapeAt deep (lv r) (node_at state.heap r)
-  shape_under r u = subst (ShapeAt deep (lv r)) (sym (node_under state.heap r u.0 u.1)) (g.nodes r u.0 u.1)
+  shape_under r u = subst (ShapeAt deep (lv r)) (sym (node_standing state.heap r u.0 u.1)) (g.nodes r u.0 u.1)
 
   -- the node that a step makes is that of its action
   gone_makes : (actor : ℕ) (operation : Operation) (k : ℕ) → get_or state.actors k None ≡ Some operation → (o : Option Node) →

@@ -38,7 +38,7 @@ use Rattle.proof_memory.specs.Wants.{is_formed, AllHold, node_wants, prev_wants}
 use Rattle.proof_memory.specs.Laws.{IsInUse}
 use Rattle.proof_memory.proofs.Claims.Uses.{first_hold, last_hold}
 use Rattle.proof_memory.proofs.Claims.Nodes.{Heaped}
-use Rattle.proof_memory.proofs.Heap.Under.{node_under, prev_under, fresh_slot, taken_all}
+use Rattle.proof_memory.proofs.Heap.Under.{fresh_slot, taken_all}
 use Rattle.proof_memory.proofs.Safety.EachStep.{at_place}
 use Rattle.proof_memory.proofs.Safety.Base.{goes_no_end}
 use Rattle.proof_memory.specs.Making.{made_node}
@@ -50,6 +50,7 @@ use Rattle.proof_memory.proofs.Heap.Moves.{WordMove, keeps, makes, publishes, re
 use Rattle.proof_memory.specs.Levels.{InsideLevel, KindLevel, NodeLevel, PrevLevel, WordLevel, LineLevel, ActionLevel, made_level}
 use Rattle.proof_memory.proofs.Levels.Next.{line_level_acts, line_level_next}
 use Rattle.proof_memory.proofs.Heap.Effects.{births_prev}
+use Rattle.machine_model.proofs.Grown.{node_standing, prev_standing}
 
 pub record HasLevels (lv : Ref → ℕ) (state : State) : Type 0 where
   pub nodes : (r : Ref) (slot : Slot) → standing state.heap r ≡ Some slot → NodeLevel lv r slot.node × PrevLevel lv r slot.prev
@@ -172,17 +173,17 @@ births_same state handle action e = refl
 
 pub heaped_in_use : (state : State) → IsSafe state → Heaped (IsInUse state.heap) state.heap
 heaped_in_use state I = record {
-  inside = λ r u. subst (λ node. AllHold (IsInUse state.heap) state.heap (node_wants node)) (sym (node_under state.heap r u.0 u.1))
+  inside = λ r u. subst (λ node. AllHold (IsInUse state.heap) state.heap (node_wants node)) (sym (node_standing state.heap r u.0 u.1))
       (first_hold (IsInUse state.heap) state.heap (node_wants u.0.node) (prev_wants u.0.prev) ((I.nodes r u.0 u.1).0));
-  formed = λ r u. ap is_formed (node_under state.heap r u.0 u.1) ∙ (I.nodes r u.0 u.1).1;
-  before = λ r u. subst (λ p. AllHold (IsInUse state.heap) state.heap (prev_wants p)) (sym (prev_under state.heap r u.0 u.1))
+  formed = λ r u. ap is_formed (node_standing state.heap r u.0 u.1) ∙ (I.nodes r u.0 u.1).1;
+  before = λ r u. subst (λ p. AllHold (IsInUse state.heap) state.heap (prev_wants p)) (sym (prev_standing state.heap r u.0 u.1))
       (last_hold (IsInUse state.heap) state.heap (node_wants u.0.node) (prev_wants u.0.prev) ((I.nodes r u.0 u.1).0));
 }
 
 module _ (lv : Ref → ℕ) (state : State) (I : IsSafe state) (h : HasLevels lv state) where
   pub level_under : (r : Ref) → IsInUse state.heap r → NodeLevel lv r (node_at state.heap r) × PrevLevel lv r (prev_at state.heap r)
   level_under r u =
-      (subst (NodeLevel lv r) (sym (node_under state.heap r u.0 u.1)) ((h.nodes r u.0 u.1).0), subst (PrevLevel lv r) (sym (prev_under state.heap r u.0 u.1)) ((h.nodes r u.0 u.1).1))
+      (subst (NodeLevel lv r) (sym (node_standing state.heap r u.0 u.1)) ((h.nodes r u.0 u.1).0), subst (PrevLevel lv r) (sym (prev_standing state.heap r u.0 u.1)) ((h.nodes r u.0 u.1).1))
 
   acts_level : (actor : ℕ) (operation : Operation) → operation_of state actor ≡ Some operation → ActionLevel lv (made_level operation.line) (action_of state operation)
   acts_level actor operation e =

@@ -15,8 +15,8 @@ use Rattle.proof_memory.specs.Beneath.epochs.specs.Limbo.{is_zero, is_in, is_in_
 use Rattle.machine_model.specs.States.{State}
 use Rattle.machine_model.specs.Counting.{outside}
 use Rattle.proof_memory.specs.Laws.{IsInUse, IsZero}
-use Rattle.proof_memory.proofs.Heap.Under.{standing_parts}
 use Rattle.proof_memory.proofs.Safety.States.{IsSafe, stands_in_use}
+use Rattle.machine_model.proofs.Grown.{standing_parts}
 
 -- ---- membership by test
 

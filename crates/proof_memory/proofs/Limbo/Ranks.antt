@@ -19,10 +19,11 @@ use Rattle.machine_model.proofs.Rest.{one_if}
 use Rattle.machine_model.proofs.Found.{found_within}
 use Rattle.machine_model.specs.Grown.{standing}
 use Rattle.proof_memory.specs.Laws.{IsInUse}
-use Rattle.proof_memory.proofs.Heap.Under.{standing_parts, standing_from, slot_of-ref_to, birth_of-ref_to}
+use Rattle.proof_memory.proofs.Heap.Under.{standing_from, slot_of-ref_to, birth_of-ref_to}
 use Rattle.proof_memory.proofs.Safety.States.{IsSafe}
 use Rattle.proof_memory.proofs.Limbo.Exact.{HasZeros}
 use Rattle.proof_memory.proofs.Safety.Standing.{none_contained, in_root, in_any_slot}
+use Rattle.machine_model.proofs.Grown.{standing_parts}
 
 -- ---- what is counted stands somewhere
 

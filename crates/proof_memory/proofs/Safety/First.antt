@@ -27,11 +27,12 @@ use Rattle.proof_memory.specs.Wants.{AnIndirection, AMain, meets, Is, Holds, is,
 use Rattle.proof_memory.specs.Laws.{SameNode, IsInUse}
 use Rattle.proof_memory.proofs.Claims.Uses.{Carries, all_carried}
 use Rattle.proof_memory.proofs.Lines.Shared.{none_each}
-use Rattle.proof_memory.proofs.Heap.Under.{node_under, taken_all, fresh_slot}
+use Rattle.proof_memory.proofs.Heap.Under.{taken_all, fresh_slot}
 use Rattle.proof_memory.proofs.Heap.Effects.{Effect, takes, stays}
 use Rattle.proof_memory.proofs.Safety.Guards.{counted, counted_in_slot, counted_in_root}
 use Rattle.proof_memory.proofs.Limbo.Exact.{HasZeros}
 use Rattle.proof_memory.proofs.Safety.States.{IsSafe, SlotHolds, slots_after, births_after}
+use Rattle.machine_model.proofs.Grown.{node_standing}
 
 -- what is known of a heap
 record IsRight (slots : ℕ) (heap : Heap) : Type 0 where
@@ -49,8 +50,8 @@ module _ (slots : ℕ) (small : slots ≤ 2 ^ 16) (heap : Heap) (h : IsRight slo
       let (was, found) = u in
       let (now, found_now, same) = stays _ _ _ _ _ None effect r was found (none-some r) in (
         (now, found_now),
-        subst (λ n. SameNode n (node_at (taken heap node) r)) (sym (node_under heap r was found))
-            (subst (λ n. SameNode was.node n) (sym (node_under (taken heap node) r now found_now)) same.0),
+        subst (λ n. SameNode n (node_at (taken heap node) r)) (sym (node_standing heap r was found))
+            (subst (λ n. SameNode was.node n) (sym (node_standing (taken heap node) r now found_now)) same.0),
       )
 
   right_taken : IsRight slots (taken heap node)
@@ -95,7 +96,7 @@ module _ (n : ℕ) (small : suc (suc n) ≤ 2 ^ 16) where
   branch_stands = (taken_all slots (empty_heap slots) (empty_adds_up slots) small empty_branch (ref_to 1 0) refl).0
 
   root_wants : AllHold (IsInUse one_taken) one_taken (action_wants (act.Make (Indirection 0 (ref_to 1 0))))
-  root_wants = (so refl, (is (fresh_slot (empty_heap slots) empty_branch, branch_stands) (ap (meets AMain) (node_under one_taken (ref_to 1 0) _ branch_stands)), tt))
+  root_wants = (so refl, (is (fresh_slot (empty_heap slots) empty_branch, branch_stands) (ap (meets AMain) (node_standing one_taken (ref_to 1 0) _ branch_stands)), tt))
 
   right_two : IsRight slots (first_heap slots)
   right_two = right_taken slots small one_taken right_one (Indirection 0 (ref_to 1 0)) root_wants
@@ -108,7 +109,7 @@ module _ (n : ℕ) (small : suc (suc n) ≤ 2 ^ 16) where
   root_stands = (taken_all slots one_taken (taken_kept slots (empty_heap slots) empty_branch (empty_adds_up slots)) small (Indirection 0 (ref_to 1 0)) (ref_to 2 1) second_ref).0
 
   root_right : Holds (IsInUse (first_heap slots)) (first_heap slots) (Is (ref_to 2 1) AnIndirection)
-  root_right = is (fresh_slot one_taken (Indirection 0 (ref_to 1 0)), root_stands) (ap (meets AnIndirection) (node_under (first_heap slots) (ref_to 2 1) _ root_stands))
+  root_right = is (fresh_slot one_taken (Indirection 0 (ref_to 1 0)), root_stands) (ap (meets AnIndirection) (node_standing (first_heap slots) (ref_to 2 1) _ root_stands))
 
 abbrev FirstIsRight : ℕ → Type 0
 FirstIsRight slots = IsRight slots (first_heap slots) × Holds (IsInUse (first_heap slots)) (first_heap slots) (Is (ref_to 2 1) AnIndirection)

@@ -19,7 +19,7 @@ use Rattle.machine_model.proofs.Rest.{one_if}
 use Rattle.machine_model.proofs.InUse.{by_birth_all}
 use Rattle.machine_model.specs.Grown.{standing}
 use Rattle.proof_memory.specs.Laws.{IsInUse}
-use Rattle.proof_memory.proofs.Heap.Under.{standing_parts}
+use Rattle.machine_model.proofs.Grown.{standing_parts}
 
 abbrev pub Guarded : List Zeroed → ℕ → Ref → Type 0
 Guarded limbo epoch r = All (λ z. z.at ≡ r → epoch ≤ z.epoch) limbo

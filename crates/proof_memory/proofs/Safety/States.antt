@@ -29,11 +29,12 @@ use Rattle.proof_memory.specs.Wants.{AMain, is_formed, Claim, Is, So, Holds, All
 use Rattle.proof_memory.specs.Laws.{SameNode, IsInUse}
 use Rattle.proof_memory.proofs.Claims.Uses.{fact_of, safer, both_hold, first_hold, last_hold, Carries}
 use Rattle.proof_memory.proofs.Claims.Nodes.{Heaped}
-use Rattle.proof_memory.proofs.Heap.Under.{node_under, prev_under, standing_from, slot_of-ref_to, birth_of-ref_to}
+use Rattle.proof_memory.proofs.Heap.Under.{standing_from, slot_of-ref_to, birth_of-ref_to}
 use Rattle.proof_memory.proofs.Safety.Guards.{Guarded, Safe, AllZero, guarded_after, guarded_if_counted, counted_in_slot, counted_in_root, counted_in_private}
 use Rattle.proof_memory.proofs.Heap.Effects.{Effect, Keeps, Makes, Publishes, Restores, Decides, Frees, stays}
 use Rattle.proof_memory.proofs.Safety.Base.{IsRecent, HasHandle, Fits}
 use Rattle.proof_memory.proofs.Safety.Started.{KnowsRoot}
+use Rattle.machine_model.proofs.Grown.{node_standing, prev_standing}
 
 pub record IsSafe (state : State) : Type 0 where
   pub sound : IsSound state.limits.slots state
@@ -103,9 +104,9 @@ module _ (state : State) (I : IsSafe state) (epoch : ℕ) where
 
   pub heaped : Heaped (Safe state epoch) state.heap
   heaped = record {
-    inside = λ r s. subst (λ node. AllHold (Safe state epoch) state.heap (node_wants node)) (sym (node_under state.heap r s.used.0 s.used.1)) (node_in r s.used.0 s.used.1);
-    formed = λ r s. ap is_formed (node_under state.heap r s.used.0 s.used.1) ∙ (I.nodes r s.used.0 s.used.1).1;
-    before = λ r s. subst (λ p. AllHold (Safe state epoch) state.heap (prev_wants p)) (sym (prev_under state.heap r s.used.0 s.used.1)) (prev_in r s.used.0 s.used.1);
+    inside = λ r s. subst (λ node. AllHold (Safe state epoch) state.heap (node_wants node)) (sym (node_standing state.heap r s.used.0 s.used.1)) (node_in r s.used.0 s.used.1);
+    formed = λ r s. ap is_formed (node_standing state.heap r s.used.0 s.used.1) ∙ (I.nodes r s.used.0 s.used.1).1;
+    before = λ r s. subst (λ p. AllHold (Safe state epoch) state.heap (prev_wants p)) (sym (prev_standing state.heap r s.used.0 s.used.1)) (prev_in r s.used.0 s.used.1);
   }
 
   pub word_in : (handle : ℕ) (root : Root) → root_at state handle ≡ Some root → AllHold (Safe state epoch) state.heap (word_wants root.word)
@@ -163,8 +164,8 @@ module _ (state after : State) (epoch : ℕ) (low : epoch ≤ state.epoch) (high
       let (now, found_now, same) = stays C (standing state.heap) (standing after.heap) state.heap.births after.heap.births due effect r was found
       (λ is_due. ripe_old state.limbo state.epoch epoch r (is_ripe r is_due) (s.guarded) high) in (
         record { used = (now, found_now); guarded = guard_kept r (s.guarded) },
-        subst (λ n. SameNode n (node_at after.heap r)) (sym (node_under state.heap r was found))
-            (subst (λ n. SameNode was.node n) (sym (node_under after.heap r now found_now)) same.0),
+        subst (λ n. SameNode n (node_at after.heap r)) (sym (node_standing state.heap r was found))
+            (subst (λ n. SameNode was.node n) (sym (node_standing after.heap r now found_now)) same.0),
       )
 
   -- what is made is safe

@@ -38,7 +38,7 @@ use Rattle.machine_model.specs.Grown.{standing}
 use Rattle.proof_memory.specs.Wants.{is_formed, AllHold, node_wants, prev_wants, word_wants, action_wants, line_wants}
 use Rattle.proof_memory.specs.Laws.{IsInUse}
 use Rattle.proof_memory.proofs.Claims.Uses.{Carries, all_carried, both_hold}
-use Rattle.proof_memory.proofs.Heap.Under.{node_under, fresh_slot, taken_all}
+use Rattle.proof_memory.proofs.Heap.Under.{fresh_slot, taken_all}
 use Rattle.proof_memory.proofs.Safety.Guards.{Safe, zero_after, AllZero}
 use Rattle.proof_memory.proofs.Heap.Effects.{Effect, Does, same, same_as, frees, acted_effect}
 use Rattle.proof_memory.proofs.Safety.EachStep.{each_after}
@@ -49,6 +49,7 @@ use Rattle.proof_memory.proofs.Lines.Acts.{line_acts}
 use Rattle.proof_memory.proofs.Lines.Next.{line_next}
 use Rattle.proof_memory.specs.Making.{made_node}
 use Rattle.proof_memory.proofs.Safety.States.{IsSafe, heaped, word_in, open_word, in_private, node_in, prev_in, stands_in_use, carries, made_safe, used_of, slots_after, births_after}
+use Rattle.machine_model.proofs.Grown.{node_standing}
 
 -- ---- what a step does at its end
 
@@ -205,7 +206,7 @@ module _ (state : State) (I : IsSafe state) where
         let stood = ap (λ heap. standing heap made) (made_heap _ (handle_of operation.call) (action_of state operation) node made is e) ∙ here in (
           made_safe state next operation.epoch its_epoch.0 its_epoch.1 grows refl None (λ r e. absurd (none-some r e)) _ (gone_effect actor k operation found)
               (I.sound) (I.small) made (fresh_slot state.heap node) none stood,
-          node_under next.heap made (fresh_slot state.heap node) stood,
+          node_standing next.heap made (fresh_slot state.heap node) stood,
         )
 
     pub its_word : GoesOn (action_of state operation) → AllHold (Safe state operation.epoch) state.heap (word_wants (word_at state (handle_of operation.call)))

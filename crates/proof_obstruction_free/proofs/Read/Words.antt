@@ -17,9 +17,9 @@ use Rattle.proof_obstruction_free.specs.Beneath.proof_commits.proofs.Known.Given
 use Rattle.proof_obstruction_free.specs.Beneath.proof_memory.specs.Wants.{is_indirection}
 use Rattle.proof_obstruction_free.specs.Beneath.proof_commits.proofs.Words.Along.{protocol}
 use Rattle.proof_obstruction_free.specs.Beneath.proof_contents.specs.Runs.{is_made}
-use Rattle.proof_obstruction_free.specs.Beneath.proof_shape.proofs.Runs.Nodes.{known_run}
 use Rattle.proof_obstruction_free.specs.Alone.{Lone, Has, Keeps}
 use Rattle.proof_obstruction_free.specs.Weighing.{Sees}
+use Rattle.proof_obstruction_free.specs.Beneath.proof_commits.proofs.Known.Acts.{known_run}
 
 module _ (a : Lone) where
   abbrev pub p : Protocol

@@ -14,9 +14,7 @@ use Rattle.proof_order.specs.Beneath.proof_memory.specs.Wants.{AnIndirection, Al
 use Rattle.proof_order.specs.Beneath.proof_memory.proofs.Safety.AtEachTime.{safe_at}
 use Rattle.proof_order.specs.Beneath.proof_memory.proofs.Safety.AtTimes.{node_found}
 use Rattle.proof_order.specs.Beneath.proof_memory.proofs.Claims.Uses.{meets_of}
-use Rattle.proof_order.specs.Beneath.proof_memory.proofs.Heap.Moves.{grown_in_use}
 use Rattle.proof_order.specs.Beneath.proof_commits.proofs.Course.Finals.{link_stays}
-use Rattle.proof_order.specs.Beneath.proof_commits.proofs.Words.InHeap.{logical_standing}
 use Rattle.proof_order.specs.Beneath.proof_commits.proofs.Words.Along.{protocol}
 use Rattle.proof_generations.specs.Laws.Roots.{root_generation}
 use Rattle.proof_order.specs.Beneath.proof_contents.specs.Runs as trie
@@ -26,11 +24,13 @@ use Rattle.proof_order.specs.Beneath.proof_commits.proofs.Words.OfRuns.{link_kep
 use Rattle.proof_order.specs.Openings.{IsRootOf}
 use Rattle.proof_order.specs.Laws.Openings.{OneRootIn, ClosedRootsStayIn}
 use Rattle.proof_order.proofs.Openings.Closings.{ClosesSo, closing_swaps}
-use Rattle.proof_order.proofs.Openings.CompleteTimes.{known_run}
 use Rattle.proof_order.proofs.Openings.InUse.{nodes_stay}
 use Rattle.proof_order.proofs.Openings.NoLateCommit.{no_late_commit}
 use Rattle.proof_order.proofs.Openings.RootOf.{roots_are_one, root_in_use}
 use Rattle.proof_order.proofs.Openings.SwapState.{old_stands}
+use Rattle.proof_order.specs.Beneath.machine_model.proofs.Grown.{grown_in_use}
+use Rattle.proof_order.specs.Beneath.proof_commits.proofs.Known.MainsInUse.{logical_standing}
+use Rattle.proof_order.specs.Beneath.proof_commits.proofs.Known.Acts.{known_run}
 
 module _ (limits : Limits) (states : ℕ → State) (last : ℕ) (run : IsRun limits states last) where
   stands : (t handle : ℕ) (root : Root) → root_at (states t) handle ≡ Some root → IsRootOf states t handle (root_of root.word) (root_generation (states t) root)

@@ -41,8 +41,7 @@ use Rattle.proof_order.specs.Beneath.proof_commits.proofs.Known.Given.{Known}
 use Rattle.proof_order.specs.Beneath.proof_commits.specs.Words.{words_of}
 use Rattle.proof_order.specs.Beneath.proof_commits.proofs.Lines.Reads.{read_counts}
 use Rattle.proof_order.specs.Beneath.proof_commits.proofs.Course.Moments.{moment_at}
-use Rattle.proof_order.specs.Beneath.proof_commits.proofs.Known.Layers.{known_of_memory}
-use Rattle.proof_order.specs.Beneath.proof_commits.proofs.Known.Memory.{memory}
+use Rattle.proof_order.specs.Beneath.proof_commits.proofs.Known.Acts.{known_run}
 use Rattle.proof_generations.proofs.Handles.Running.{Comes, began, rested, went, comes}
 use Rattle.proof_generations.specs.Running.{Runs}
 use Rattle.proof_generations.proofs.Lines.Offers.{completing_of}
@@ -93,9 +92,6 @@ counts_from (read.Decide m p told) since t read_at le (inr h) = h
 counts_from l since t read_at le (inl e) = let wrong : ⊥ = cc e in absurd wrong
 
 module _ (limits : Limits) (states : ℕ → State) (last : ℕ) (run : IsRun limits states last) where
-  abbrev pub known_run : Known limits states last
-  known_run = known_of_memory limits states last (memory limits states last run)
-
   -- the words of the run, with no closing told
   abbrev pub w : Words
   w = words_of states last (λ g. None)
@@ -148,7 +144,7 @@ module _ (limits : Limits) (states : ℕ → State) (last : ℕ) (run : IsRun li
       goes_by offer l is since le h (Gives main) gives c e =
           let same : record { offer = offer; line = complete.Swap main } ≡ c = cc e in
           let moved = went_so (states t) s o (states (suc t)) m k was go at_k g in
-          let moment = moment_at limits states last known_run t within (suc k) was o moved.0 at_k moved.1 offer.root l
+          let moment = moment_at limits states last (known_run limits states last run) t within (suc k) was o moved.0 at_k moved.1 offer.root l
           (completing_stage was.line (record { offer = offer; line = complete.Reading l }) is) main gives in
           (ap (λ (y : Complete). y.offer) (sym same), subst (λ (y : Complete). CountsSince (suc t) since next y.offer y.line) same (read_by since le offer l is h, (t, omega arith, moment)))
 

@@ -22,7 +22,6 @@ use Rattle.proof_order.specs.Beneath.proof_memory.specs.Laws.{IsInUse}
 use Rattle.proof_order.specs.Beneath.proof_memory.proofs.Safety.AtEachTime.{safe_at}
 use Rattle.proof_order.specs.Beneath.proof_memory.proofs.Safety.AtTimes.{line_finds, generation_found}
 use Rattle.proof_order.specs.Beneath.proof_memory.proofs.Safety.States.{IsSafe}
-use Rattle.proof_order.specs.Beneath.proof_memory.proofs.Heap.Moves.{grown_in_use}
 use Rattle.proof_order.specs.Beneath.proof_commits.specs.Protocol.{Given}
 use Rattle.proof_order.specs.Beneath.proof_commits.proofs.Known.Owners.{IsSound, Staged}
 use Rattle.proof_order.specs.Beneath.proof_commits.proofs.Known.Sounds.{sound_at}
@@ -41,11 +40,13 @@ use Rattle.proof_order.specs.Beneath.proof_contents.specs.Runs.{main_at}
 use Rattle.proof_order.specs.Beneath.proof_contents.proofs.Values.Runs.{main_at-made, main_at-stays}
 use Rattle.proof_order.proofs.Openings.AlongMoves.{along_moves}
 use Rattle.proof_order.proofs.Openings.Fresh.{FreshBehind, stays, made, fresh_behind}
-use Rattle.proof_order.proofs.Openings.CompleteTimes.{w, known_run}
+use Rattle.proof_order.proofs.Openings.CompleteTimes.{w}
 use Rattle.proof_order.proofs.Openings.MainChanges.{unused_stays}
 use Rattle.proof_order.proofs.Openings.Copy.{copied, copied_kept, copied_made, MakesOver, over_found, over_branch, makes_over}
 use Rattle.proof_order.proofs.Openings.Branches.{IsCleared, empty_at}
 use Rattle.proof_order.specs.Beneath.proof_memory.specs.Wants.{is_indirection}
+use Rattle.proof_order.specs.Beneath.machine_model.proofs.Grown.{grown_in_use}
+use Rattle.proof_order.specs.Beneath.proof_commits.proofs.Known.Acts.{known_run}
 
 -- ---- along a run
 

@@ -11,11 +11,11 @@ use Rattle.proof_order.specs.Beneath.machine_model.specs.Times.{IsRun}
 use Rattle.proof_order.specs.Beneath.proof_memory.specs.Laws.{IsInUse}
 use Rattle.proof_order.specs.Beneath.proof_memory.proofs.Safety.AtEachTime.{safe_at}
 use Rattle.proof_order.specs.Beneath.proof_memory.proofs.Limbo.Ranks.{reached_in_use}
-use Rattle.proof_order.specs.Beneath.proof_memory.proofs.Heap.Under as Under
-use Rattle.proof_order.specs.Beneath.proof_memory.proofs.Heap.Moves.{grown_in_use, grown_stays}
+use Rattle.proof_order.specs.Beneath.proof_memory.proofs.Heap.Moves.{grown_stays}
 use Rattle.proof_order.specs.Beneath.proof_contents.specs.Grows.{NodesStay}
 use Rattle.proof_order.specs.Beneath.proof_contents.specs.InUse.{ReachesInUse}
 use Rattle.proof_order.specs.Beneath.proof_contents.proofs.Values.Started.{node_stays}
+use Rattle.proof_order.specs.Beneath.machine_model.proofs.Grown.{grown_in_use, node_standing}
 
 module _ (limits : Limits) (states : ℕ → State) (last : ℕ) (run : IsRun limits states last) where
   pub nodes_stay : NodesStay states last
@@ -28,5 +28,5 @@ module _ (limits : Limits) (states : ℕ → State) (last : ℕ) (run : IsRun li
   pub node_for_ever : (t : ℕ) (r : Ref) (node : Node) → t ≤ last → IsInUse (states t).heap r → node_at (states t).heap r ≡ node → ((g : ℕ) (w : Ref) → node ≡ Indirection g w → ⊥) →
       node_under states last r ≡ node
   node_for_ever t r node within used is apart =
-      let its = sym (Under.node_under (states t).heap r used.0 used.1) ∙ is in
+      let its = sym (node_standing (states t).heap r used.0 used.1) ∙ is in
       node_stays states last nodes_stay t r used.0 within (grown_in_use states t r used.0 used.1) (λ g w e. apart g w (sym its ∙ e)) ∙ its

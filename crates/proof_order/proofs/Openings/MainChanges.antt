@@ -23,9 +23,10 @@ use Rattle.proof_generations.proofs.Roots.Open.{no_close_at}
 use Rattle.proof_generations.proofs.Roots.Own.{IsUnused}
 use Rattle.proof_generations.proofs.Roots.Rooted.{rooted_at}
 use Rattle.proof_generations.proofs.Falling.OwnSwaps.{swaps_in_own_generation}
-use Rattle.proof_order.proofs.Openings.CompleteTimes.{w, known_run}
+use Rattle.proof_order.proofs.Openings.CompleteTimes.{w}
 use Rattle.proof_order.specs.Beneath.proof_memory.specs.Wants.{is_indirection}
 use Rattle.proof_generations.proofs.Falling.FreshRoots.{not_rooted}
+use Rattle.proof_order.specs.Beneath.proof_commits.proofs.Known.Acts.{known_run}
 
 -- an operation stands in a SWAP into this indirection
 pub record SwapsInto (state : State) (i : Ref) : Type 0 where

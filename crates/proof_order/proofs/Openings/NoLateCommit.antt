@@ -23,13 +23,12 @@ use Rattle.proof_order.specs.Beneath.machine_model.specs.Grown.{node_under, main
 use Rattle.proof_order.specs.Beneath.machine_model.specs.Times.{IsRun}
 use Rattle.proof_order.specs.Beneath.proof_memory.specs.Laws.{is_end}
 use Rattle.proof_order.specs.Beneath.proof_memory.proofs.Safety.AtEachTime.{safe_at}
-use Rattle.proof_order.specs.Beneath.proof_memory.proofs.Heap.Moves.{grown_in_use}
 use Rattle.proof_order.specs.Beneath.proof_commits.proofs.Course.Readings.{given_for_good}
 use Rattle.proof_order.specs.Beneath.proof_commits.specs.Moments.{IsMoment}
 use Rattle.proof_order.specs.Beneath.proof_commits.proofs.Known.Given.{Known}
 use Rattle.proof_order.specs.Beneath.proof_commits.specs.Words.{words_of}
-use Rattle.proof_order.specs.Beneath.proof_commits.proofs.Known.Layers.{RootsAreOpen, known_by}
-use Rattle.proof_order.specs.Beneath.proof_commits.proofs.Known.Memory.{memory}
+use Rattle.proof_order.specs.Beneath.proof_commits.proofs.Known.Acts.{known_by}
+use Rattle.proof_order.specs.Beneath.proof_commits.proofs.Known.Given.{RootsAreOpen}
 use Rattle.proof_order.specs.Beneath.proof_commits.proofs.Words.Along.{protocol}
 use Rattle.proof_generations.proofs.Handles.Running.{place_of_actor}
 use Rattle.proof_generations.proofs.Lines.Offers.{completing_of}
@@ -44,6 +43,7 @@ use Rattle.proof_order.proofs.Openings.RootOf.{roots_are_one, root_in_use}
 use Rattle.proof_order.proofs.Openings.CompleteTimes.{Since, since_at}
 use Rattle.proof_order.proofs.Openings.SwapState.{closed_for_ever, old_stands}
 use Rattle.proof_order.proofs.Openings.OfferStood.{stood_since, known_later, known_later_than_first}
+use Rattle.proof_order.specs.Beneath.machine_model.proofs.Grown.{grown_in_use}
 
 -- who carries an offer out stands on the last line of a COMPLETE of it
 completes_so : (state : State) (operation : Operation) (l : Line) (offer : Descriptor) (main : Ref) → line_action state operation l ≡ act.Complete offer main →
@@ -163,7 +163,7 @@ module _ (limits : Limits) (states : ℕ → State) (last : ℕ) (run : IsRun li
       by false apart e = absurd (none-some c e)
 
   abbrev known_so : Known limits states last
-  known_so = known_by limits states last (memory limits states last run) closing asked_before
+  known_so = known_by limits states last run closing asked_before
 
   -- the READ gave the expected node
   given : carried.main ≡ offer.expected

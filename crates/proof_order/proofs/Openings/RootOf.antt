@@ -17,11 +17,11 @@ use Rattle.proof_order.specs.Beneath.proof_memory.specs.Wants.{AllHold, word_wan
 use Rattle.proof_order.specs.Beneath.proof_memory.proofs.Claims.Uses.{safe_of}
 use Rattle.proof_order.specs.Beneath.proof_memory.proofs.Safety.AtEachTime.{safe_at}
 use Rattle.proof_order.specs.Beneath.proof_memory.proofs.Safety.AtTimes.{generation_found}
-use Rattle.proof_order.specs.Beneath.proof_memory.proofs.Heap.Moves.{grown_in_use}
 use Rattle.proof_generations.proofs.Counter.Drawn.{generation_stays}
 use Rattle.proof_order.specs.Beneath.proof_contents.specs.Runs.{or_before, root_if, root_among, root_until, root_at}
 use Rattle.proof_order.specs.Openings.{IsRootOf, RootsAreOne}
 use Rattle.proof_order.proofs.Openings.OneRoot.{one_at}
+use Rattle.proof_order.specs.Beneath.machine_model.proofs.Grown.{grown_in_use}
 
 -- ---- among the handles of a state
 

@@ -28,8 +28,8 @@ use Rattle.proof_order.specs.Beneath.proof_commits.proofs.Known.Sounds.{sound_at
 use Rattle.proof_order.specs.Beneath.proof_commits.specs.Stages.{stage_of, stage_of_actor, stage_of_swap}
 use Rattle.proof_order.specs.Beneath.proof_commits.proofs.Course.Finals.{none_final}
 use Rattle.proof_order.specs.Beneath.proof_commits.proofs.Known.Given.{Known, Decided, ActsOn}
-use Rattle.proof_order.specs.Beneath.proof_commits.proofs.Known.Layers.{HasMain, Finds, known_of_memory}
-use Rattle.proof_order.specs.Beneath.proof_commits.proofs.Known.Memory.{memory}
+use Rattle.proof_order.specs.Beneath.proof_commits.proofs.Known.Acts.{known_run}
+use Rattle.proof_order.specs.Beneath.proof_commits.proofs.Known.Claims.{HasMain, Finds, finds}
 use Rattle.proof_order.specs.Beneath.proof_commits.proofs.Words.Along.{protocol}
 use Rattle.proof_order.specs.Facts.{Runs}
 use Rattle.proof_order.specs.Phases.{IsPublished}
@@ -37,7 +37,7 @@ use Rattle.proof_order.proofs.Phases.Commits.{line_decides, was_pending, now_non
 
 module _ (limits : Limits) (states : ℕ → State) (last : ℕ) (run : IsRun limits states last) where
   abbrev known : Known limits states last
-  known = known_of_memory limits states last (memory limits states last run)
+  known = known_run limits states last run
 
   -- the words of the run
   abbrev pub run_words : Protocol
@@ -89,7 +89,7 @@ module _ (limits : Limits) (states : ℕ → State) (last : ℕ) (run : IsRun li
     seen lt is =
         let does : action_of (states t) operation ≡ act.ReadPrev s.fresh =
         ap (line_action (states t) operation) at ∙ ap (λ l. line_action (states t) operation (line.Swap why (record s { line = l }))) is in
-        let h : HasMain (states t) s.fresh = subst (Finds (states t)) does ((memory limits states last run).finds t lt (suc k) operation runs) in
+        let h : HasMain (states t) s.fresh = subst (Finds (states t)) does (finds limits states last run t lt (suc k) operation runs) in
         prev_found states t s.fresh (h.slot, h.stands)
 
   -- two actors have different nodes

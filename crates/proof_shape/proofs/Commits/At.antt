@@ -40,7 +40,6 @@ use Rattle.proof_shape.specs.Lines.Climbing.{KnowsClimbing}
 use Rattle.proof_shape.specs.Lines.Knowing.{known_with, first_main, IsPlaced}
 use Rattle.proof_shape.specs.Lines.Commits.{Firsts, made_with, KnowsFresh, OwnCommit, begins, goes, sweeps, MainStep, stays, changes, CommitsAt}
 use Rattle.proof_shape.proofs.Runs.EachAt.{GoesAt}
-use Rattle.proof_shape.proofs.Runs.Nodes.{known_run}
 use Rattle.proof_shape.proofs.Runs.RunOf.{run_of}
 use Rattle.proof_shape.proofs.Lines.Places.{places_at}
 use Rattle.proof_shape.proofs.Lines.Knows.{knows_at}
@@ -50,6 +49,7 @@ use Rattle.proof_shape.proofs.Commits.MainsStay.{quiet_stays}
 use Rattle.proof_shape.proofs.Commits.Deciders.{DecidesNode, decides_node}
 use Rattle.proof_shape.proofs.Commits.Owners.{over_another, owner_then, runs_then, alone_then, commits_then, main_before_then, main_after_then, others_then}
 use Rattle.proof_shape.proofs.Commits.Entered.{enters_owner}
+use Rattle.proof_shape.specs.Beneath.proof_commits.proofs.Known.Acts.{known_run}
 
 module _ (limits : Limits) (states : ℕ → State) (last : ℕ) (run : IsRun limits states last) where
   abbrev p : Protocol

@@ -25,8 +25,8 @@ use Rattle.proof_shape.specs.Beneath.proof_commits.proofs.Words.Along.{protocol}
 use Rattle.proof_shape.specs.Beneath.proof_contents.specs.Runs.{main_at}
 use Rattle.proof_shape.specs.Beneath.proof_contents.proofs.Values.Runs.{main_at-made}
 use Rattle.proof_shape.specs.Lines.Given.{Was}
-use Rattle.proof_shape.proofs.Runs.Nodes.{known_run}
 use Rattle.proof_shape.specs.Beneath.proof_memory.specs.Wants.{is_indirection}
+use Rattle.proof_shape.specs.Beneath.proof_commits.proofs.Known.Acts.{known_run}
 
 pub was_later : (states : ℕ → State) (last t : ℕ) (i m : Ref) → Was states last t i m → Was states last (suc t) i m
 was_later states last t i m (u, le, is) = (u, omega (arith, le), is)

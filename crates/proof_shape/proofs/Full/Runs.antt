@@ -28,12 +28,12 @@ use Rattle.proof_shape.specs.Beneath.proof_memory.specs.Laws.{IsInUse}
 use Rattle.proof_shape.specs.Beneath.proof_memory.proofs.Claims.Uses.{safe_of}
 use Rattle.proof_shape.specs.Beneath.proof_memory.proofs.Claims.Nodes.{branch_entries, at_position}
 use Rattle.proof_shape.specs.Beneath.proof_memory.specs.Making.{made_node}
-use Rattle.proof_shape.specs.Beneath.proof_memory.proofs.Heap.Under.{node_under, fresh_slot, taken_all}
+use Rattle.proof_shape.specs.Beneath.proof_memory.proofs.Heap.Under.{fresh_slot, taken_all}
 use Rattle.proof_shape.specs.Beneath.proof_memory.proofs.Safety.Steps.{made_heap}
 use Rattle.proof_shape.specs.Beneath.proof_memory.proofs.Safety.AtEachTime.{safe_at}
 use Rattle.proof_shape.specs.Beneath.proof_memory.proofs.Safety.AtTimes.{line_at, limits_at}
 use Rattle.proof_shape.specs.Beneath.proof_memory.proofs.Safety.First.{first_stands}
-use Rattle.proof_shape.specs.Beneath.proof_memory.proofs.Heap.Moves.{grown_in_use, grown_stays}
+use Rattle.proof_shape.specs.Beneath.proof_memory.proofs.Heap.Moves.{grown_stays}
 use Rattle.proof_shape.specs.Beneath.proof_memory.specs.Levels.{made_level}
 use Rattle.proof_shape.specs.Beneath.proof_memory.proofs.Levels.States.{heaped_in_use}
 use Rattle.proof_shape.specs.Beneath.proof_contents.specs.Lines.Changes.{KnowsLine}
@@ -51,6 +51,7 @@ use Rattle.proof_shape.proofs.Full.Lines.{FullLine, free_full, first_full, root_
 use Rattle.proof_shape.proofs.Full.Lines.{key_main_free, entry_full, listed_full, sibling_full, renew_entry_full, renew_read_full, link_full, branch_full}
 use Rattle.proof_shape.proofs.Full.Made.{FullNode, ActionFull}
 use Rattle.proof_shape.proofs.Full.Acts.{acts_full}
+use Rattle.proof_shape.specs.Beneath.machine_model.proofs.Grown.{node_standing, grown_in_use}
 
 module _ (limits : Limits) (states : ℕ → State) (steps : ℕ → Step) (last : ℕ) (run : IsRun limits states last) (takes : TakesSteps states steps last) where
   abbrev s : Sites
@@ -60,7 +61,7 @@ module _ (limits : Limits) (states : ℕ → State) (steps : ℕ → Step) (last
   S t = IsInUse (states t).heap
 
   same : (t : ℕ) → t ≤ last → (r : Ref) → S t r → bare (s.node r) ≡ bare (node_at (states t).heap r)
-  same t h r (slot, found) = are_bare limits states steps last run takes t h r slot found ∙ ap bare (sym (node_under (states t).heap r slot found))
+  same t h r (slot, found) = are_bare limits states steps last run takes t h r slot found ∙ ap bare (sym (node_standing (states t).heap r slot found))
 
   abbrev Wants : ℕ → Operation → Line → Type 0
   Wants t operation l = AllHold (S t) (states t).heap (line_wants limits.hash operation.call operation.access l)
@@ -132,7 +133,7 @@ module _ (limits : Limits) (states : ℕ → State) (steps : ℕ → Step) (last
         let hash : limits.hash ≡ (states t).limits.hash = ap (λ (l : Limits). l.hash) (sym (limits_at limits states last run t h)) in
         let site = lines_have_sites limits states steps last run takes keys t h actor operation is in
         acts_full s (states t) operation (S t) (same t h) (first_main states last)
-        (λ r u. subst (FullNode s (s.level r)) (sym (node_under (states t).heap r u.0 u.1)) (old r u.0 (grown_in_use states t r u.0 u.1))) operation.line
+        (λ r u. subst (FullNode s (s.level r)) (sym (node_standing (states t).heap r u.0 u.1)) (old r u.0 (grown_in_use states t r u.0 u.1))) operation.line
         (subst (λ k. AllHold (S t) (states t).heap (line_wants k operation.call operation.access operation.line)) hash (line_at limits states last run t h actor operation is)) site.0
         (subst (λ k. LineSite k s (hash_of k (key_of operation.call)) operation.line) hash site.1)
         (subst (λ k. KnowsLine (record { kind = k; node = s.node; first = first_main states last }) operation.call operation.line) hash (knows_at limits states last run t h actor operation is))

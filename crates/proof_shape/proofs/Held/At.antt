@@ -32,7 +32,6 @@ use Rattle.proof_shape.specs.Beneath.proof_commits.specs.Stages.{stage_of, stage
 use Rattle.proof_shape.specs.Beneath.proof_commits.proofs.Words.Along.{protocol}
 use Rattle.proof_shape.specs.Lines.Knowing.{OfEachAt}
 use Rattle.proof_shape.proofs.Runs.EachAt.{GoesAt}
-use Rattle.proof_shape.proofs.Runs.Nodes.{known_run}
 use Rattle.proof_shape.proofs.Lines.Placed.{is_below}
 use Rattle.proof_shape.proofs.Lines.Places.{settled_at}
 use Rattle.proof_shape.proofs.Runs.Takers.{taker, each_with}
@@ -48,6 +47,7 @@ use Rattle.proof_shape.proofs.Held.Clean.{clean_holds}
 use Rattle.proof_shape.proofs.Held.Entries.{renew_begins}
 use Rattle.proof_shape.proofs.Held.Free.{is_free, free_holds, first_free, root_free, key_read_free, key_main_free, key_single_free, key_listed_free, key_sibling_free, swapped_free}
 use Rattle.proof_shape.proofs.Held.Free.{climb_free, copy_free, walk_free}
+use Rattle.proof_shape.specs.Beneath.proof_commits.proofs.Known.Acts.{known_run}
 
 module _ (limits : Limits) (states : ℕ → State) (last : ℕ) (run : IsRun limits states last) where
   abbrev p : Protocol

@@ -24,7 +24,7 @@ use Rattle.proof_shape.specs.Beneath.proof_commits.proofs.Words.Along.{protocol}
 use Rattle.proof_shape.specs.Beneath.proof_contents.specs.Runs.{is_made}
 use Rattle.proof_shape.specs.Beneath.proof_contents.proofs.Values.Runs.{made_next}
 use Rattle.proof_shape.proofs.Runs.EachAt.{GoesAt}
-use Rattle.proof_shape.proofs.Runs.Nodes.{known_run, takes, made_link}
+use Rattle.proof_shape.proofs.Runs.Nodes.{takes, made_link}
 use Rattle.proof_shape.proofs.Runs.Levels.{level, levels_along}
 use Rattle.proof_shape.proofs.Runs.Began.{RunsAfter, runs_after}
 use Rattle.proof_shape.proofs.Runs.Takers.{taker}
@@ -33,6 +33,7 @@ use Rattle.proof_shape.proofs.Runs.MadeNodes.{is_making, quiet_step, new_is, new
 use Rattle.proof_shape.proofs.Held.Fresh.{IsHeld, IsNamed, StandsIn, held_by}
 use Rattle.proof_shape.proofs.Held.Lines.{NamedOrHeld}
 use Rattle.proof_shape.specs.Beneath.proof_memory.specs.Wants.{is_indirection}
+use Rattle.proof_shape.specs.Beneath.proof_commits.proofs.Known.Acts.{known_run}
 
 module _ (limits : Limits) (states : ℕ → State) (last : ℕ) (run : IsRun limits states last) (t : ℕ) (h : t < last) (actor : ℕ) (operation : Operation) (go : GoesAt states t actor operation) where
   abbrev heap : Heap

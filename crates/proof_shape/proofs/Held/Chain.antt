@@ -40,7 +40,7 @@ use Rattle.proof_shape.specs.Beneath.proof_memory.proofs.Claims.Nodes.{main_no_l
 use Rattle.proof_shape.specs.Beneath.proof_memory.proofs.Lines.Next.{pair_no_link, changed_main}
 use Rattle.proof_shape.specs.Lines.Knowing.{known_with, first_main}
 use Rattle.proof_shape.proofs.Runs.EachAt.{GoesAt}
-use Rattle.proof_shape.proofs.Runs.Nodes.{known_run, made_node, prev_still, first_is}
+use Rattle.proof_shape.proofs.Runs.Nodes.{made_node, prev_still, first_is}
 use Rattle.proof_shape.proofs.Runs.Levels.{level}
 use Rattle.proof_shape.proofs.Lines.Knows.{knows_at}
 use Rattle.proof_shape.proofs.Runs.Takers.{taker}
@@ -50,6 +50,7 @@ use Rattle.proof_shape.proofs.Runs.Entries.{one_entry, pair_not_rung}
 use Rattle.proof_shape.proofs.Held.Fresh.{IsNamed, StandsIn, IsChain, ends, goes_on, NotGiven, NewNames, held_closed, named_closed, named_still, chain_still}
 use Rattle.proof_shape.proofs.Held.Lines.{NamedOrHeld, HeldNode, HeldLink, HeldChange, HeldBuild, HeldIn}
 use Rattle.proof_shape.proofs.Held.Build.{made_named, named_or_held, new_held, new_stands, next_level}
+use Rattle.proof_shape.specs.Beneath.proof_commits.proofs.Known.Acts.{known_run}
 
 module _ (limits : Limits) (states : ℕ → State) (last : ℕ) (run : IsRun limits states last) (t : ℕ) (h : t < last) (actor : ℕ) (operation : Operation) (go : GoesAt states t actor operation)
     (takes_it : taker limits states last run t ≡ actor) (new : NewNames limits states last run t) (start : ℕ) (begun : operation.generation ≡ Some start) where

@@ -32,7 +32,6 @@ use Rattle.proof_shape.proofs.Runs.EachAt.{GoesAt}
 use Rattle.proof_shape.proofs.Runs.Nodes.{takes, made_node, made_link}
 use Rattle.proof_shape.proofs.Runs.Began.{RunsAfter, runs_after}
 use Rattle.proof_shape.specs.Beneath.proof_memory.proofs.Safety.AtTimes.{line_at}
-use Rattle.proof_shape.specs.Beneath.proof_memory.proofs.Heap.Moves.{grown_in_use}
 use Rattle.proof_shape.specs.Beneath.machine_model.specs.Acting.{operation_after}
 use Rattle.proof_shape.specs.Beneath.slot_arena.specs.declared.nodes.Slot.{Slot}
 use Rattle.std.proofs.lemmas.Option.{same_Some}
@@ -46,6 +45,7 @@ use Rattle.proof_shape.proofs.Held.Fresh.{IsHeld, NewNames}
 use Rattle.proof_shape.proofs.Held.Lines.{anew, AllCame, HeldRenew, HeldIn, all_still}
 use Rattle.proof_shape.proofs.Held.Build.{made_held, new_held, next_level}
 use Rattle.proof_shape.proofs.Held.Entries.{one_more, next_came, renew_next_holds, quiet_all, fresh_repair, repairs, branch_there}
+use Rattle.proof_shape.specs.Beneath.machine_model.proofs.Grown.{grown_in_use}
 
 module _ (limits : Limits) (states : ℕ → State) (last : ℕ) (run : IsRun limits states last) (t : ℕ) (h : t < last) (actor : ℕ) (operation : Operation) (go : GoesAt states t actor operation)
     (takes_it : taker limits states last run t ≡ actor) (new : NewNames limits states last run t) (start : ℕ) (begun : operation.generation ≡ Some start) where

@@ -43,10 +43,11 @@ use Rattle.proof_shape.specs.Beneath.proof_memory.proofs.Lines.Next.{pair_no_lin
 use Rattle.proof_shape.specs.Beneath.proof_memory.proofs.Heap.NoRef.{nothing_stands}
 use Rattle.proof_shape.specs.Lines.Knowing.{known_with, first_main}
 use Rattle.proof_shape.proofs.Runs.EachAt.{GoesAt}
-use Rattle.proof_shape.proofs.Runs.Nodes.{known_run, known_node, made_node, made_link, prev_still, first_is}
+use Rattle.proof_shape.proofs.Runs.Nodes.{known_node, made_node, made_link, prev_still, first_is}
 use Rattle.proof_shape.proofs.Runs.RunOf.{HasSites, sites_at, branch_shallow}
 use Rattle.proof_shape.proofs.Runs.Seen.{sees}
 use Rattle.proof_shape.proofs.Lines.Key.{same_known, claims}
+use Rattle.proof_shape.specs.Beneath.proof_commits.proofs.Known.Acts.{known_run}
 
 -- ---- nodes that are made
 

@@ -46,10 +46,11 @@ use Rattle.proof_shape.specs.Lines.Given.{Was}
 use Rattle.proof_shape.specs.Lines.Climbing.{WasTombed, HoldsIt, KnowsClimb, KnowsClimbing}
 use Rattle.proof_shape.specs.Lines.Knowing.{first_main}
 use Rattle.proof_shape.proofs.Runs.EachAt.{GoesAt}
-use Rattle.proof_shape.proofs.Runs.Nodes.{known_run, made_node}
+use Rattle.proof_shape.proofs.Runs.Nodes.{made_node}
 use Rattle.proof_shape.proofs.Runs.Seen.{main_seen}
 use Rattle.proof_shape.proofs.Lines.Key.{claims}
 use Rattle.proof_shape.proofs.Commits.Was.{was_given, given_link}
+use Rattle.proof_shape.specs.Beneath.proof_commits.proofs.Known.Acts.{known_run}
 
 -- ---- a climb goes on or is over
 

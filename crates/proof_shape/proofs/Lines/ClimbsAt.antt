@@ -44,13 +44,13 @@ use Rattle.proof_shape.specs.Lines.Given.{Was}
 use Rattle.proof_shape.specs.Lines.Climbing.{WasTombed, KnowsClimbing}
 use Rattle.proof_shape.specs.Lines.Knowing.{known_with, first_main, SwapsAt, IsPlaced, ClimbsAt}
 use Rattle.proof_shape.proofs.Runs.EachAt.{GoesAt, each_at}
-use Rattle.proof_shape.proofs.Runs.Nodes.{known_run}
 use Rattle.proof_shape.proofs.Lines.Places.{places_at}
 use Rattle.proof_shape.proofs.Runs.Seen.{main_seen}
 use Rattle.proof_shape.proofs.Lines.Key.{same_known, claims}
 use Rattle.proof_shape.proofs.Commits.Was.{link_in_end, was_committed}
 use Rattle.proof_shape.proofs.Lines.Climb.{climbing_knows, contracted_single, position_within, climb_knows}
 use Rattle.proof_shape.proofs.Lines.Grounded.{grounded_knows, first_grounded, root_grounded, key_grounded, build_grounded, renew_grounded, clean_grounded, copy_grounded, walk_grounded, climbing_later}
+use Rattle.proof_shape.specs.Beneath.proof_commits.proofs.Known.Acts.{known_run}
 
 -- ---- a SWAP
 

@@ -46,11 +46,12 @@ use Rattle.proof_shape.specs.Beneath.proof_commits.proofs.Course.OfLists.{given_
 use Rattle.proof_shape.specs.Lines.Given.{GaveBelow}
 use Rattle.proof_shape.specs.Lines.Knowing.{known_with, first_main}
 use Rattle.proof_shape.proofs.Runs.EachAt.{GoesAt}
-use Rattle.proof_shape.proofs.Runs.Nodes.{known_run, link_known, made_node, made_link, first_is}
+use Rattle.proof_shape.proofs.Runs.Nodes.{link_known, made_node, made_link, first_is}
 use Rattle.proof_shape.proofs.Runs.Began.{gave_now}
 use Rattle.proof_shape.proofs.Runs.Seen.{main_seen}
 use Rattle.proof_shape.proofs.Lines.Key.{claims, looks}
 use Rattle.proof_shape.proofs.Lines.RepairMore.{is_unrepairing, unrepairing_knows}
+use Rattle.proof_shape.specs.Beneath.proof_commits.proofs.Known.Acts.{known_run}
 
 -- ---- KEY's lines but one lead to no repair
 

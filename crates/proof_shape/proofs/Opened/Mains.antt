@@ -47,11 +47,12 @@ use Rattle.proof_shape.specs.Beneath.proof_contents.specs.Runs.{main_at}
 use Rattle.proof_shape.specs.Lines.Knowing.{OfEachAt}
 use Rattle.proof_shape.specs.Lines.Commits.{MainStep, stays, changes, made_with}
 use Rattle.proof_shape.proofs.Runs.EachAt.{GoesAt, each_at}
-use Rattle.proof_shape.proofs.Runs.Nodes.{known_run, node_known}
+use Rattle.proof_shape.proofs.Runs.Nodes.{node_known}
 use Rattle.proof_shape.proofs.Opened.Lines.{Opens}
 use Rattle.proof_shape.proofs.Opened.Later.{opens_more}
 use Rattle.proof_shape.proofs.Opened.Repair.{line_opens}
 use Rattle.proof_shape.proofs.Commits.At.{commits_at}
+use Rattle.proof_shape.specs.Beneath.proof_commits.proofs.Known.Acts.{known_run}
 
 -- ---- who reads an indirection may
 

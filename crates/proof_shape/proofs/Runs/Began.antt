@@ -33,8 +33,8 @@ use Rattle.proof_shape.specs.Beneath.proof_contents.proofs.Values.Runs.{main_at-
 use Rattle.proof_shape.specs.Lines.Given.{HasBegun, at_first, later, Reading, Gave}
 use Rattle.proof_shape.specs.Lines.Knowing.{OfEachAt}
 use Rattle.proof_shape.proofs.Runs.EachAt.{GoesAt, each_at}
-use Rattle.proof_shape.proofs.Runs.Nodes.{known_run}
 use Rattle.proof_shape.specs.Beneath.proof_memory.specs.Wants.{is_indirection}
+use Rattle.proof_shape.specs.Beneath.proof_commits.proofs.Known.Acts.{known_run}
 
 -- what an actor runs after a step of its operation: what the step makes of it, with a mark or none
 pub record RunsAfter (state : State) (actor : ℕ) (made : Operation) : Type 0 where

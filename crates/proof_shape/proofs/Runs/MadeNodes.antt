@@ -21,7 +21,6 @@ use Rattle.proof_shape.specs.Beneath.proof_memory.specs.Laws.{IsInUse}
 use Rattle.proof_shape.specs.Beneath.proof_memory.specs.Wants.{AnEntry, AllHold, node_wants, prev_wants, action_wants}
 use Rattle.proof_shape.specs.Beneath.proof_memory.proofs.Claims.Uses.{Meets, first_hold}
 use Rattle.proof_shape.specs.Beneath.proof_memory.proofs.Claims.Nodes.{all_in}
-use Rattle.proof_shape.specs.Beneath.proof_memory.proofs.Heap.Moves.{grown_in_use}
 use Rattle.proof_shape.specs.Beneath.proof_memory.proofs.Safety.AtEachTime.{safe_at}
 use Rattle.proof_shape.specs.Beneath.proof_memory.proofs.Safety.AtTimes.{action_at}
 use Rattle.proof_shape.specs.Beneath.proof_commits.proofs.Course.Finals.{from_time}
@@ -32,9 +31,11 @@ use Rattle.proof_shape.specs.Beneath.proof_contents.proofs.Values.Runs.{made_nex
 use Rattle.proof_shape.specs.Beneath.proof_contents.proofs.Values.Started.{node_stays, indirection_stays}
 use Rattle.proof_shape.specs.Beneath.proof_commits.proofs.Words.OfRuns.{slot_kept}
 use Rattle.proof_shape.proofs.Runs.EachAt.{GoesAt}
-use Rattle.proof_shape.proofs.Runs.Nodes.{known_run, nodes_stay}
+use Rattle.proof_shape.proofs.Runs.Nodes.{nodes_stay}
 use Rattle.proof_shape.proofs.Runs.Takers.{taker, taker_of, step_taken}
 use Rattle.proof_shape.proofs.Runs.Entries.{no_entry}
+use Rattle.proof_shape.specs.Beneath.machine_model.proofs.Grown.{grown_in_use}
+use Rattle.proof_shape.specs.Beneath.proof_commits.proofs.Known.Acts.{known_run}
 
 abbrev pub is_making : Action → Bool
 is_making (act.Make node) = true

@@ -52,7 +52,6 @@ use Rattle.proof_shape.specs.Beneath.proof_commits.specs.Words.{words_of}
 use Rattle.proof_shape.specs.Beneath.proof_contents.specs.Runs.{is_made}
 use Rattle.proof_shape.specs.Beneath.proof_memory.proofs.Claims.Nodes.{branch_main, both_main}
 use Rattle.proof_shape.proofs.Runs.EachAt.{GoesAt}
-use Rattle.proof_shape.proofs.Runs.Nodes.{known_run}
 use Rattle.proof_shape.proofs.Runs.Seen.{main_seen, single_seen}
 use Rattle.proof_shape.proofs.Lines.Key.{claims}
 use Rattle.proof_shape.proofs.Lines.Climb.{remembered, position_within}
@@ -61,6 +60,7 @@ use Rattle.proof_shape.proofs.Runs.Entries.{no_entry, one_entry, of_take, of_set
 use Rattle.proof_shape.proofs.Runs.MadeNodes.{is_making, quiet_step, new_names, root_names}
 use Rattle.proof_shape.proofs.Held.Fresh.{IsHeld}
 use Rattle.proof_shape.proofs.Held.Lines.{Came, same, single, anew, AllCame, HeldChange, HeldBuild, HeldRenew, HeldClean, HeldIn}
+use Rattle.proof_shape.specs.Beneath.proof_commits.proofs.Known.Acts.{known_run}
 
 -- ---- lines that make nothing
 

@@ -16,12 +16,10 @@ use Rattle.proof_shape.specs.Beneath.machine_model.specs.Operations.{action_of}
 use Rattle.proof_shape.specs.Beneath.machine_model.specs.Grown.{grown, node_under, main_word, prev_word}
 use Rattle.proof_shape.specs.Beneath.machine_model.specs.Times.{IsRun}
 use Rattle.proof_shape.specs.Beneath.proof_memory.specs.Laws.{IsInUse}
-use Rattle.proof_shape.specs.Beneath.proof_memory.proofs.Heap.Under as Under
-use Rattle.proof_shape.specs.Beneath.proof_memory.proofs.Heap.Moves.{grown_stays, grown_in_use}
+use Rattle.proof_shape.specs.Beneath.proof_memory.proofs.Heap.Moves.{grown_stays}
 use Rattle.proof_shape.specs.Beneath.proof_commits.proofs.Course.Finals.{from_time}
 use Rattle.proof_shape.specs.Beneath.proof_commits.proofs.Known.Given.{Known, ActsOn, Taken, GrownTakes}
-use Rattle.proof_shape.specs.Beneath.proof_commits.proofs.Known.Layers.{known_of_memory}
-use Rattle.proof_shape.specs.Beneath.proof_commits.proofs.Known.Memory.{memory}
+use Rattle.proof_shape.specs.Beneath.proof_commits.proofs.Known.Acts.{known_run}
 use Rattle.proof_shape.specs.Beneath.proof_contents.specs.Grows.{NodesStay}
 use Rattle.proof_shape.specs.Beneath.proof_contents.specs.Runs.{is_made, main_at}
 use Rattle.proof_shape.specs.Beneath.proof_contents.proofs.Values.Runs.{main_at-made, main_at-unmade}
@@ -29,10 +27,7 @@ use Rattle.proof_shape.specs.Beneath.proof_contents.proofs.Values.Started.{node_
 use Rattle.proof_shape.specs.Beneath.proof_memory.proofs.Claims.Nodes.{IsNoLink}
 use Rattle.proof_shape.specs.Lines.Knowing.{first_main}
 use Rattle.proof_shape.proofs.Runs.EachAt.{GoesAt}
-
--- of memory and words alone
-abbrev pub known_run : (limits : Limits) (states : ℕ → State) (last : ℕ) → IsRun limits states last → Known limits states last
-known_run limits states last run = known_of_memory limits states last (memory limits states last run)
+use Rattle.proof_shape.specs.Beneath.machine_model.proofs.Grown.{grown_in_use, node_standing}
 
 module _ (limits : Limits) (states : ℕ → State) (last : ℕ) (run : IsRun limits states last) where
   pub nodes_stay : NodesStay states last
@@ -42,7 +37,7 @@ module _ (limits : Limits) (states : ℕ → State) (last : ℕ) (run : IsRun li
 
   module _ (t : ℕ) (h : t ≤ last) (r : Ref) (used : IsInUse (states t).heap r) where
     here : node_at (states t).heap r ≡ used.0.node
-    here = Under.node_under (states t).heap r used.0 used.1
+    here = node_standing (states t).heap r used.0 used.1
 
     -- a node that is no indirection
     pub node_known : IsNoLink (node_at (states t).heap r) → node_under states last r ≡ node_at (states t).heap r

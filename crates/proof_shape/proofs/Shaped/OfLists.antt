@@ -28,7 +28,6 @@ use Rattle.proof_shape.specs.Beneath.machine_model.specs.Grown.{standing}
 use Rattle.proof_shape.specs.Beneath.proof_memory.specs.Wants.{AnEntry, is_indirection, ASingle, meets, AllHold, node_wants, is_formed}
 use Rattle.proof_shape.specs.Beneath.proof_memory.specs.Laws.{IsInUse}
 use Rattle.proof_shape.specs.Beneath.proof_memory.proofs.Claims.Uses.{Meets, all_of}
-use Rattle.proof_shape.specs.Beneath.proof_memory.proofs.Heap.Under.{node_under}
 use Rattle.proof_shape.specs.Beneath.proof_memory.proofs.Safety.AtEachTime.{safe_along}
 use Rattle.proof_shape.specs.Beneath.proof_memory.proofs.Levels.States.{heaped_in_use}
 use Rattle.proof_shape.specs.Beneath.proof_contents.proofs.Shapes.Nodes.{IsBranch, branch_shape, list_shape}
@@ -46,7 +45,7 @@ use Rattle.proof_shape.proofs.Sites.Fixed.{keys_fit}
 use Rattle.proof_shape.proofs.Full.Lists.{IsFull}
 use Rattle.proof_shape.proofs.Full.Made.{FullNode}
 use Rattle.proof_shape.proofs.Full.Runs.{full_grown}
-use Rattle.proof_shape.specs.Beneath.proof_memory.proofs.Heap.Moves.{grown_in_use}
+use Rattle.proof_shape.specs.Beneath.machine_model.proofs.Grown.{node_standing, grown_in_use}
 
 module _ (limits : Limits) (ok : AreLimits limits) (steps : List Step) (fit : KeysFit steps) where
   abbrev s : Sites
@@ -68,11 +67,11 @@ module _ (limits : Limits) (ok : AreLimits limits) (steps : List Step) (fit : Ke
   bares : (r : Ref) → IsInUse heap r → bare (s.node r) ≡ bare (node_at heap r)
   bares r (slot, found) =
       are_bare limits (states_of limits steps) (steps_of limits steps) (last_of limits steps) (run_is limits steps ok) (takes_steps limits steps) (last_of limits steps) (omega arith) r slot
-      (ap (λ (x : State). standing x.heap r) (run_ends limits steps) ∙ found) ∙ ap bare (sym (node_under heap r slot found))
+      (ap (λ (x : State). standing x.heap r) (run_ends limits steps) ∙ found) ∙ ap bare (sym (node_standing heap r slot found))
 
   entries_used : (r : Ref) (slot : Slot) → standing heap r ≡ Some slot → AllHold (IsInUse heap) heap (node_wants slot.node)
   entries_used r slot found =
-      subst (λ n. AllHold (IsInUse heap) heap (node_wants n)) (node_under heap r slot found) ((heaped_in_use (run limits steps) (safe_along limits ok steps)).inside r (slot, found))
+      subst (λ n. AllHold (IsInUse heap) heap (node_wants n)) (node_standing heap r slot found) ((heaped_in_use (run limits steps) (safe_along limits ok steps)).inside r (slot, found))
 
   -- ---- branches
 

@@ -19,10 +19,8 @@ use Rattle.proof_shape.specs.Beneath.machine_model.specs.Grown.{node_under}
 use Rattle.proof_shape.specs.Beneath.proof_memory.specs.Wants.{AnIndirection, is_indirection, AllHold, line_wants, swap_wants, purpose_wants}
 use Rattle.proof_shape.specs.Beneath.proof_memory.specs.Laws.{IsInUse}
 use Rattle.proof_shape.specs.Beneath.proof_memory.proofs.Claims.Uses.{Meets, fact_of, last_hold}
-use Rattle.proof_shape.specs.Beneath.proof_memory.proofs.Heap.Under.{node_under as heap_node_under}
 use Rattle.proof_shape.specs.Beneath.proof_memory.proofs.Safety.Steps.{of_actor}
 use Rattle.proof_shape.specs.Beneath.proof_memory.proofs.Safety.AtTimes.{limits_at, line_at}
-use Rattle.proof_shape.specs.Beneath.proof_memory.proofs.Heap.Moves.{grown_in_use}
 use Rattle.proof_shape.specs.Beneath.proof_memory.proofs.Levels.Shapes.{ShapeAt}
 use Rattle.proof_shape.specs.Beneath.proof_contents.proofs.Shapes.Nodes.{list_depth-le}
 use Rattle.proof_shape.specs.Sites.Nodes.{path_to, depth_at, level_until, path_until, depth_of_run, path_of_run}
@@ -32,6 +30,7 @@ use Rattle.proof_shape.proofs.Sites.LineWays.{way_level, way_site, way_links}
 use Rattle.proof_shape.proofs.Sites.Given.{levels_there}
 use Rattle.proof_shape.proofs.Sites.Runs.{sites_there}
 use Rattle.proof_shape.proofs.Sites.Grown.{link_same}
+use Rattle.proof_shape.specs.Beneath.machine_model.proofs.Grown.{node_standing as heap_node_under, grown_in_use}
 
 pub link_high : (deep level : ℕ) (n : Node) → is_indirection n ≡ true → ShapeAt deep level n → level ≤ deep + 1
 link_high deep level (Indirection g w) e h = h

@@ -31,7 +31,7 @@ use Rattle.proof_shape.specs.Beneath.proof_memory.specs.Wants.{AllHold, node_wan
 use Rattle.proof_shape.specs.Beneath.proof_memory.specs.Laws.{IsInUse}
 use Rattle.proof_shape.specs.Beneath.proof_memory.proofs.Claims.Uses.{safe_of}
 use Rattle.proof_shape.specs.Beneath.proof_memory.proofs.Safety.First.{first_words, first_stands, safe_at_first}
-use Rattle.proof_shape.specs.Beneath.proof_memory.proofs.Heap.Moves.{grown_in_use, grown_stays, not_yet_drawn}
+use Rattle.proof_shape.specs.Beneath.proof_memory.proofs.Heap.Moves.{grown_stays, not_yet_drawn}
 use Rattle.proof_shape.specs.Beneath.proof_memory.specs.Levels.{WordLevel, EntryLevel}
 use Rattle.proof_shape.specs.Beneath.proof_memory.proofs.Levels.States.{HasLevels, GivesLevel, SlotLevel, levels_after}
 use Rattle.proof_shape.specs.Beneath.proof_memory.proofs.Levels.Runs.{made_next, number_is}
@@ -40,6 +40,7 @@ use Rattle.proof_shape.specs.Beneath.proof_memory.proofs.Levels.Shapes.{ShapeAt,
 use Rattle.proof_shape.specs.Beneath.proof_memory.proofs.Levels.ShapeStates.{HasShapes, shapes_after}
 use Rattle.proof_shape.specs.Sites.Nodes.{path_to, depth_at, leads_now, level_until, path_until}
 use Rattle.proof_shape.specs.Sites.At.{TakesSteps}
+use Rattle.proof_shape.specs.Beneath.machine_model.proofs.Grown.{grown_in_use}
 
 -- ---- what is made is drawn, and stands
 

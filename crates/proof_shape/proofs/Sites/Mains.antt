@@ -14,10 +14,8 @@ use Rattle.proof_shape.specs.Beneath.machine_model.specs.Grown.{standing}
 use Rattle.proof_shape.specs.Beneath.proof_memory.specs.Wants.{is_indirection, AllHold, node_wants, AMain, Is, Holds}
 use Rattle.proof_shape.specs.Beneath.proof_memory.specs.Laws.{IsInUse}
 use Rattle.proof_shape.specs.Beneath.proof_memory.proofs.Claims.Uses.{safe_of}
-use Rattle.proof_shape.specs.Beneath.proof_memory.proofs.Heap.Under.{node_under, prev_under}
 use Rattle.proof_shape.specs.Beneath.proof_memory.proofs.Safety.AtEachTime.{safe_at}
 use Rattle.proof_shape.specs.Beneath.proof_memory.proofs.Safety.AtTimes.{kind_at}
-use Rattle.proof_shape.specs.Beneath.proof_memory.proofs.Heap.Moves.{grown_in_use}
 use Rattle.proof_shape.specs.Beneath.proof_memory.proofs.Levels.States.{heaped_in_use}
 use Rattle.proof_shape.specs.Sites.Nodes.{steps_of}
 use Rattle.proof_shape.specs.Sites.Lines.{Sites, sites_of}
@@ -31,6 +29,7 @@ use Rattle.proof_shape.proofs.Sites.Grown.{CountsFor, word_site, counts_by}
 use Rattle.proof_shape.proofs.Sites.At.{ways_have_sites, way_stands}
 use Rattle.proof_shape.proofs.Sites.Roots.{word_root}
 use Rattle.proof_shape.proofs.Sites.Fixed.{keys_fit}
+use Rattle.proof_shape.specs.Beneath.machine_model.proofs.Grown.{node_standing, prev_standing, grown_in_use}
 
 -- at a time of a run
 module _ (limits : Limits) (states : ℕ → State) (steps : ℕ → Step) (last : ℕ) (run : IsRun limits states last) (takes : TakesSteps states steps last) (keys : StepsFit steps last) where
@@ -51,7 +50,7 @@ module _ (limits : Limits) (states : ℕ → State) (steps : ℕ → Step) (last
       word = subst (λ n. AtSite (main_of n) i) is site
 
       node : node_at (states t).heap i ≡ Indirection g w
-      node = node_under (states t).heap i slot found ∙ is
+      node = node_standing (states t).heap i slot found ∙ is
 
       its : Holds (IsInUse (states t).heap) (states t).heap (Is w AMain)
       its = (subst (λ n. AllHold (IsInUse (states t).heap) (states t).heap (node_wants n)) node ((heaped_in_use (states t) (safe_at limits states last run t h)).inside i (slot, found))).0
@@ -60,7 +59,7 @@ module _ (limits : Limits) (states : ℕ → State) (steps : ℕ → Step) (last
       made = safe_of its
 
       logical_is : logical_main (states t).heap i ≡ logical w made.0.prev
-      logical_is = ap (λ m. logical m (prev_at (states t).heap m)) (ap main_of node) ∙ ap (logical w) (prev_under (states t).heap w made.0 made.1)
+      logical_is = ap (λ m. logical m (prev_at (states t).heap m)) (ap main_of node) ∙ ap (logical w) (prev_standing (states t).heap w made.0 made.1)
 
       counted : CountsFor limits states steps last run takes keys t i (logical w made.0.prev)
       counted = counts_by limits states steps last run takes keys t h i w made.0 word.1 word.0 (kind_at states t w AMain its) (grown_in_use states t w made.0 made.1)

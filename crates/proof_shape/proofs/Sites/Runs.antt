@@ -22,7 +22,7 @@ use Rattle.proof_shape.specs.Beneath.proof_memory.proofs.Claims.Nodes.{branch_en
 use Rattle.proof_shape.specs.Beneath.proof_memory.proofs.Safety.AtEachTime.{safe_at}
 use Rattle.proof_shape.specs.Beneath.proof_memory.proofs.Safety.AtTimes.{line_finds, limits_at}
 use Rattle.proof_shape.specs.Beneath.proof_memory.proofs.Safety.First.{first_stands}
-use Rattle.proof_shape.specs.Beneath.proof_memory.proofs.Heap.Moves.{grown_in_use, grown_stays}
+use Rattle.proof_shape.specs.Beneath.proof_memory.proofs.Heap.Moves.{grown_stays}
 use Rattle.proof_shape.specs.Beneath.proof_memory.specs.Levels.{made_level}
 use Rattle.proof_shape.specs.Beneath.proof_memory.proofs.Levels.States.{heaped_in_use}
 use Rattle.proof_shape.specs.Beneath.proof_memory.specs.Making.{made_by, made_now, level_now, level_by, if_made}
@@ -38,6 +38,7 @@ use Rattle.proof_shape.proofs.Sites.Ways.{path_fits}
 use Rattle.proof_shape.proofs.Sites.Given.{path_given, path_stays, gives_level, levels_there, root_old, branch_old}
 use Rattle.proof_shape.proofs.Sites.Acts.{roots_alike}
 use Rattle.proof_shape.proofs.Sites.States.{HasSites, AreBare, GivesPath, sites_after}
+use Rattle.proof_shape.specs.Beneath.machine_model.proofs.Grown.{grown_in_use}
 
 pub bare_main : (m : Ref) (n : Node) → bare (with_main_word m n) ≡ bare n
 bare_main m (Indirection g w) = refl

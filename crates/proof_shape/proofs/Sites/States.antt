@@ -29,7 +29,7 @@ use Rattle.proof_shape.specs.Beneath.machine_model.specs.Moves.{Moves, GoesOn, b
 use Rattle.proof_shape.specs.Beneath.machine_model.proofs.Actors.{IsOf, is_of, mark_one, mark_only, marks_in, marks_by, of_others, of_itself, of_begin, of_end}
 use Rattle.proof_shape.specs.Beneath.machine_model.specs.Grown.{standing}
 use Rattle.proof_shape.specs.Beneath.proof_memory.specs.Laws.{IsInUse}
-use Rattle.proof_shape.specs.Beneath.proof_memory.proofs.Heap.Under.{node_under, prev_under, fresh_slot, taken_all}
+use Rattle.proof_shape.specs.Beneath.proof_memory.proofs.Heap.Under.{fresh_slot, taken_all}
 use Rattle.proof_shape.specs.Beneath.proof_memory.proofs.Safety.EachStep.{at_place}
 use Rattle.proof_shape.specs.Beneath.proof_memory.proofs.Safety.Base.{goes_no_end}
 use Rattle.proof_shape.specs.Beneath.proof_memory.specs.Making.{made_node}
@@ -49,6 +49,7 @@ use Rattle.proof_shape.proofs.Sites.Made.{AtSite, ActionSite}
 use Rattle.proof_shape.proofs.Sites.Born.{IsBorn, born}
 use Rattle.proof_shape.proofs.Sites.Acts.{line_acts}
 use Rattle.proof_shape.proofs.Sites.Next.{line_next}
+use Rattle.proof_shape.specs.Beneath.machine_model.proofs.Grown.{node_standing, prev_standing}
 
 -- Nodes, and those of lines, stand at their sites; keys of calls have 64 bits.
 pub record HasSites (kind : HashKind) (s : Sites) (state : State) : Type 0 where
@@ -138,9 +139,9 @@ module _ (s : Sites) (fits : (i : Ref) → s.path i < 2 ^ (5 * depth_at (s.level
 
   pub sees : Sees s state S
   sees = record {
-    same = λ r u. bares r u.0 u.1 ∙ ap bare (sym (node_under state.heap r u.0 u.1));
-    inside = λ r u. subst (InsideSite kind s r) (sym (node_under state.heap r u.0 u.1)) ((h.nodes r u.0 u.1).0);
-    before = λ r u. subst (PrevSite kind s r) (sym (prev_under state.heap r u.0 u.1)) ((h.nodes r u.0 u.1).1);
+    same = λ r u. bares r u.0 u.1 ∙ ap bare (sym (node_standing state.heap r u.0 u.1));
+    inside = λ r u. subst (InsideSite kind s r) (sym (node_standing state.heap r u.0 u.1)) ((h.nodes r u.0 u.1).0);
+    before = λ r u. subst (PrevSite kind s r) (sym (prev_standing state.heap r u.0 u.1)) ((h.nodes r u.0 u.1).1);
     levels = level_under s.level state I levels;
   }
 

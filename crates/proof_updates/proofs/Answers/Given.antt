@@ -17,8 +17,7 @@ use Rattle.proof_updates.specs.Beneath.proof_commits.specs.Protocol.{Reads}
 use Rattle.proof_updates.specs.Beneath.proof_commits.proofs.Course.Finals.{link_stays}
 use Rattle.proof_updates.specs.Beneath.proof_commits.specs.Stages.{stage_of}
 use Rattle.proof_updates.specs.Beneath.proof_commits.proofs.Known.Given.{Known}
-use Rattle.proof_updates.specs.Beneath.proof_commits.proofs.Known.Layers.{known_of_memory}
-use Rattle.proof_updates.specs.Beneath.proof_commits.proofs.Known.Memory.{memory}
+use Rattle.proof_updates.specs.Beneath.proof_commits.proofs.Known.Acts.{known_run}
 use Rattle.proof_updates.specs.Beneath.proof_commits.proofs.Words.Along.{protocol}
 use Rattle.proof_updates.specs.Beneath.proof_commits.proofs.Course.Moments.{moment_at}
 use Rattle.proof_updates.specs.Beneath.proof_contents.specs.Runs.{main_at}
@@ -32,7 +31,7 @@ own_after states t k operation own = gone_is (states t) (suc k) own.outcome (sta
 
 module _ (limits : Limits) (states : ℕ → State) (last : ℕ) (run : IsRun limits states last) where
   abbrev known : Known limits states last
-  known = known_of_memory limits states last (memory limits states last run)
+  known = known_run limits states last run
 
   -- it counts from a step on which is no later than the moment, and the moment no later than now
   pub record GivenAt (t : ℕ) (operation : Operation) (i m : Ref) : Type 0 where

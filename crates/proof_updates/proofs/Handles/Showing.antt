@@ -20,8 +20,6 @@ use Rattle.proof_updates.specs.Beneath.proof_memory.proofs.Safety.AtEachTime.{sa
 use Rattle.proof_updates.specs.Beneath.proof_memory.proofs.Claims.Uses.{safe_of, meets_of}
 use Rattle.proof_updates.specs.Beneath.proof_memory.proofs.Safety.States.{IsSafe}
 use Rattle.proof_updates.specs.Beneath.proof_memory.proofs.Safety.Standing.{in_any_slot}
-use Rattle.proof_updates.specs.Beneath.proof_memory.proofs.Heap.Under as Under
-use Rattle.proof_updates.specs.Beneath.proof_memory.proofs.Heap.Moves.{grown_in_use}
 use Rattle.proof_updates.specs.Beneath.proof_contents.specs.Pairs.{pairs_of, pairs_from}
 use Rattle.proof_updates.specs.Beneath.proof_contents.specs.Runs.{main_at}
 use Rattle.proof_updates.specs.Beneath.proof_contents.specs.Steps.{IsTrie}
@@ -48,6 +46,7 @@ use Rattle.proof_shape.proofs.Sites.Acts.{root_path}
 use Rattle.proof_shape.proofs.Sites.Runs.{paths_fit, bare_main}
 use Rattle.proof_updates.proofs.Handles.Finding.{found_alike}
 use Rattle.proof_updates.proofs.Handles.Values.{value_below}
+use Rattle.proof_updates.specs.Beneath.machine_model.proofs.Grown.{grown_in_use, node_standing, standing_parts}
 
 -- ---- nodes whose generations and words don't count
 
@@ -74,7 +73,7 @@ module _ (limits : Limits) (states : ℕ → State) (steps : ℕ → Step) (last
   pub node_same : (r : Ref) → IsInUse heap r → bare (node_at heap r) ≡ bare (node_under states last r)
   node_same r used =
       let now = nodes_stay limits states last run t last within (omega arith) r used.0 (grown_in_use states t r used.0 used.1) in
-      ap bare (Under.node_under heap r used.0 used.1) ∙ sym (ap (λ o. bare (node_of o)) now.1 ∙ ap bare now.2.1 ∙ bare_main now.2.0 used.0.node)
+      ap bare (node_standing heap r used.0 used.1) ∙ sym (ap (λ o. bare (node_of o)) now.1 ∙ ap bare now.2.1 ∙ bare_main now.2.0 used.0.node)
 
   pub link_same : (r : Ref) → IsInUse heap r → is_indirection (node_at heap r) ≡ is_indirection (node_under states last r)
   link_same r used = sym (bare_link (node_at heap r)) ∙ ap is_indirection (node_same r used) ∙ bare_link (node_under states last r)
@@ -94,8 +93,8 @@ module _ (limits : Limits) (states : ℕ → State) (steps : ℕ → Step) (last
 
   pub entry_used : (m q : Ref) → IsInUse heap m → Contains (entries_of (node_at heap m)) q → IsInUse heap q
   entry_used m q (slot, found) c =
-      let stored_there = (Under.standing_parts heap m slot found).0 in
-      let inside : Contains (refs_of_node slot.node) q = entry_refs slot.node q (subst (λ n. Contains (entries_of n) q) (Under.node_under heap m slot found) c) in
+      let stored_there = (standing_parts heap m slot found).0 in
+      let inside : Contains (refs_of_node slot.node) q = entry_refs slot.node q (subst (λ n. Contains (entries_of n) q) (node_standing heap m slot found) c) in
       in_any_slot (states t) safe m q (subst (λ o. Contains (refs_of_slot o) q) (sym stored_there) (Contains-append_left (refs_of_node slot.node) (refs_of_prev slot.prev) q inside))
 
   -- ---- the pairs below

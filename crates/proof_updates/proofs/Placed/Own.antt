@@ -32,9 +32,9 @@ use Rattle.proof_order.proofs.Offers.Honest.{honest}
 use Rattle.proof_order.proofs.Offers.Standing.{offers_at}
 use Rattle.proof_order.proofs.Phases.Steps.{is_placed_so}
 use Rattle.proof_shape.specs.Lines.Commits.{MainStep, stays, changes as changes_main, CommitsAt, assigned_at, places_for}
-use Rattle.proof_shape.proofs.Runs.Nodes.{known_run}
 use Rattle.proof_shape.proofs.Commits.Was.{main_linked, commit_is}
 use Rattle.proof_updates.proofs.Tries.Facts.{own_enters}
+use Rattle.proof_updates.specs.Beneath.proof_commits.proofs.Known.Acts.{known_run}
 
 -- whom a step enters among others has a place behind it
 entered_placed : (limits : Limits) (states : ℕ → State) (last : ℕ) → IsRun limits states last → (t : ℕ) → t < last → (s : Step) (o : Outcome) → Moves (states t) s o (states (suc t)) →

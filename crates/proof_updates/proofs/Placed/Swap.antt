@@ -39,19 +39,18 @@ use Rattle.proof_updates.specs.Beneath.proof_commits.proofs.Known.Sounds.{sound_
 use Rattle.proof_updates.specs.Beneath.proof_commits.proofs.Course.Finals.{effect, failed_final}
 use Rattle.proof_updates.specs.Beneath.proof_commits.specs.Stages.{stage_of, stage_of_actor}
 use Rattle.proof_updates.specs.Beneath.proof_commits.proofs.Known.Given.{ActsOn, Either, GrownSwaps, GrownStays}
-use Rattle.proof_updates.specs.Beneath.proof_commits.proofs.Known.Layers.{memory_acts}
-use Rattle.proof_updates.specs.Beneath.proof_commits.proofs.Known.Memory.{memory}
+use Rattle.proof_updates.specs.Beneath.proof_commits.proofs.Known.Acts.{acts_at}
 use Rattle.proof_updates.specs.Beneath.proof_commits.proofs.Words.Along.{protocol}
 use Rattle.proof_updates.specs.Beneath.proof_commits.proofs.Words.OfRuns.{slot_prev}
 use Rattle.proof_order.specs.Facts.{Runs}
 use Rattle.proof_order.specs.Phases.{IsPublished}
 use Rattle.proof_order.proofs.Phases.Published.{seen}
 use Rattle.proof_shape.specs.Lines.Commits.{CommitsAt, assigned_at}
-use Rattle.proof_shape.proofs.Runs.Nodes.{known_run}
 use Rattle.proof_order.proofs.Phases.Closers.{still_placed}
 use Rattle.proof_updates.proofs.Placed.Behind.{Behind, climbing_behind, update_climbs, climbed_climbs}
 use Rattle.proof_updates.proofs.Tries.EachOperation.{OwnStep}
 use Rattle.proof_updates.proofs.Placed.Own.{commit_places}
+use Rattle.proof_updates.specs.Beneath.proof_commits.proofs.Known.Acts.{known_run}
 
 module _ (limits : Limits) (states : ℕ → State) (last : ℕ) (run : IsRun limits states last) (all : CommitsAt limits states last (assigned_at states last)) where
   abbrev p : Protocol
@@ -111,7 +110,7 @@ module _ (limits : Limits) (states : ℕ → State) (last : ℕ) (run : IsRun li
           ap (line_action (states t) operation) at
           ∙ ap (λ y. line_action (states t) operation (line.Swap (purpose.Update path former) (record { indirection = x.indirection; replaced = x.replaced; fresh = x.fresh; line = y }))) e in
           let acts : ActsOn states t (act.Publish x.indirection x.replaced x.fresh) =
-          subst (ActsOn states t) does (memory_acts limits states last (memory limits states last run) t lt (suc k) own.outcome own.moves operation own.runs) in
+          subst (ActsOn states t) does (acts_at limits states last run t lt (suc k) own.outcome own.moves operation own.runs) in
           let written : GrownSwaps states t x.indirection x.replaced x.fresh =
           subst (λ b. Either b (GrownSwaps states t x.indirection x.replaced x.fresh) (GrownStays states t)) there acts.2 in
           ap prev_of written.prev ∙ slot_prev (prev.Pending x.replaced) (grown states t x.fresh) acts.1.made
