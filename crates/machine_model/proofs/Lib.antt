@@ -15,3 +15,4 @@ pub mod Slots
 pub mod Times
 pub mod Grown
 pub mod Numbered
+pub mod Basics

@@ -37,7 +37,7 @@ pub record AddsUp (slots : ℕ) (heap : Heap) : Type 0 where
 -- ---- each effect keeps that
 
 -- a slot in use that changes is still in use
-change_kept : (change : Slot → Slot) (o : Option Slot) → is_some (option_map change o) ≡ is_some o
+pub change_kept : (change : Slot → Slot) (o : Option Slot) → is_some (option_map change o) ≡ is_some o
 change_kept change None = refl
 change_kept change (Some slot) = refl
 

@@ -10,7 +10,7 @@ use Rattle.proof_commits.specs.Beneath.slot_arena.specs.declared.nodes.Node.{Nod
 use Rattle.proof_commits.specs.Beneath.slot_arena.specs.declared.nodes.Prev.{Prev}
 use Rattle.proof_commits.specs.Beneath.slot_arena.specs.declared.nodes.Slot.{Slot}
 use Rattle.proof_commits.specs.Beneath.slot_arena.specs.declared.nodes.Prev.TheVariants as over
-use Rattle.proof_commits.specs.Beneath.slot_arena.specs.Heaps.{node_of, main_at, prev_at, generation_at, generation_of, main_changed, prev_changed, next_ref}
+use Rattle.proof_commits.specs.Beneath.slot_arena.specs.Heaps.{node_of, main_at, prev_at, generation_at, generation_of, main_changed, prev_changed, next_ref, Heap}
 use Rattle.proof_commits.specs.Beneath.machine_model.specs.declared.actions.Action.{Action}
 use Rattle.proof_commits.specs.Beneath.machine_model.specs.declared.actions.Action.TheVariants as act
 use Rattle.proof_commits.specs.Beneath.machine_model.specs.declared.reading.After.TheVariants.{Goes}
@@ -31,10 +31,11 @@ use Rattle.proof_commits.specs.Protocol.{Words, Kept, Leaves, ReadTurn, ReadsMai
 use Rattle.proof_commits.specs.Protocol.{Commits as CommitsTurn, Fails as FailsTurn, Overtaken as OvertakenTurn, Restores, FindsAnother}
 use Rattle.proof_commits.proofs.Course.Finals.{from_time}
 use Rattle.proof_commits.proofs.Known.Given.{GrownStays, GrownChanges, GrownSwaps, GrownTakes, FindsMain, FindsPrev, Either, Decided, Taken, ActsOn, Known}
-use Rattle.proof_commits.proofs.Words.OfRuns.{leaves_words, commits_words, fails_words, puts_back_words, slot_generation, slot_main_link, slot_prev_node, slot_solid, slot_kept}
+use Rattle.proof_commits.proofs.Words.OfRuns.{leaves_words, commits_words, fails_words, puts_back_words, slot_generation, slot_main_link, slot_prev_node, slot_solid}
 use Rattle.proof_commits.specs.Words.{words_of}
 use Rattle.proof_commits.proofs.Known.StepsAt.{StepAt, IsBegin, IsGo, IsEnd, IsSweep, step_at, commit_here, commit_elsewhere, commit_kept}
 use Rattle.proof_memory.specs.Wants.{is_indirection, is_branch_or_list}
+use Rattle.proof_commits.specs.Beneath.machine_model.proofs.Slots.{change_kept}
 
 -- ---- generations stay
 
@@ -146,7 +147,7 @@ KeepsSolid states t m = (is_some (grown states (suc t) m) ≡ true) × (is_branc
 solid_by : (states : ℕ → State) (t : ℕ) (m : Ref) (change : Slot → Slot) → ((o : Option Slot) → is_branch_or_list (node_of (option_map change o)) ≡ is_branch_or_list (node_of o)) →
     is_some (grown states t m) ≡ true → grown states (suc t) m ≡ option_map change (grown states t m) → KeepsSolid states t m
 solid_by states t m change same made e =
-    (ap is_some e ∙ slot_kept change (grown states t m) ∙ made, ap (λ o. is_branch_or_list (node_of o)) e ∙ same (grown states t m))
+    (ap is_some e ∙ change_kept change (grown states t m) ∙ made, ap (λ o. is_branch_or_list (node_of o)) e ∙ same (grown states t m))
 
 solid_same : (states : ℕ → State) (t : ℕ) (m : Ref) → is_some (grown states t m) ≡ true → grown states (suc t) m ≡ grown states t m → KeepsSolid states t m
 solid_same states t m made e = (ap is_some e ∙ made, ap (λ o. is_branch_or_list (node_of o)) e)
@@ -198,8 +199,18 @@ pending_so over.None p e = absurd (true≢false (sym e))
 pending_so (over.Failed q) p e = absurd (true≢false (sym e))
 pending_so (over.Pending q) p e = ap over.Pending (eqb-true q p e)
 
-not_pending_so : (v : Prev) (p : Ref) → is_pending v p ≡ false → v ≡ over.Pending p → ⊥
+pub not_pending_so : (v : Prev) (p : Ref) → is_pending v p ≡ false → v ≡ over.Pending p → ⊥
 not_pending_so v p e is = true≢false (sym (ap (λ x. is_pending x p) is ∙ eq-eqb p p refl) ∙ e)
+
+-- such a node is pending
+commits_pending : (b c : Bool) → verdict_by b c ≡ Commits → c ≡ true
+commits_pending b true e = refl
+commits_pending b false e = let wrong : ⊥ = cc in absurd wrong
+
+
+pub was_pending : (heap : Heap) (i x q : Ref) (told : Option ℕ) → verdict heap i x q told ≡ Commits → prev_at heap x ≡ over.Pending q
+was_pending heap i x q told e = pending_so (prev_at heap x) q (commits_pending (is_licensed heap i told) (is_pending (prev_at heap x) q) e)
+
 
 -- ---- READ
 

@@ -19,10 +19,10 @@ use Rattle.proof_commits.specs.Beneath.machine_model.specs.Moves as Machine
 use Rattle.proof_commits.specs.Beneath.machine_model.specs.declared.steps.Outcome.{Outcome}
 use Rattle.proof_commits.specs.Beneath.machine_model.specs.declared.reading.After.TheVariants.{Gives}
 use Rattle.proof_commits.specs.Beneath.machine_model.specs.Calls.{handle_of}
-use Rattle.proof_commits.specs.Beneath.machine_model.proofs.Actors.{marks_by}
+use Rattle.proof_commits.specs.Beneath.machine_model.proofs.Actors.{marks_by, begin_counts}
 use Rattle.proof_commits.specs.Beneath.machine_model.proofs.Times.{steps_at}
 use Rattle.proof_commits.specs.Beneath.machine_model.specs.Times.{IsRun}
-use Rattle.proof_memory.proofs.Safety.Held.{begin_counts, idle_before}
+use Rattle.proof_memory.proofs.Safety.Held.{idle_before}
 use Rattle.proof_commits.specs.Protocol.{Words, Stage, Rests, Reads, Leaves, Given, ReadTurn, Moves, Idles, Counts, IsSame, Turn, Acts, Passes, Protocol}
 use Rattle.proof_commits.proofs.Known.Owners.{given_later}
 use Rattle.proof_commits.proofs.Lines.Stages.{Remembers}

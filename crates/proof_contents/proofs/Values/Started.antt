@@ -18,6 +18,7 @@ use Rattle.proof_contents.specs.Grows.{NodesStay}
 use Rattle.proof_contents.specs.Runs.{main_at, or_before, root_among, root_until, root_at, trie_of}
 use Rattle.proof_contents.proofs.Values.Runs.{main_at-made}
 use Rattle.proof_contents.proofs.Changes.Openings.{empty_opens}
+use Rattle.machine_model.proofs.Basics.{two_or_more}
 
 -- a node that isn't an indirection has no main word
 no_word : (n : Node) (m : Ref) → ((g : ℕ) (w : Ref) → n ≢ Indirection g w) → with_main_word m n ≡ n
@@ -55,11 +56,6 @@ first_root = record { birth = 2; node = Indirection 0 (ref_to 1 0); prev = prev.
 first_branch : Slot
 first_branch = record { birth = 1; node = empty_branch; prev = prev.None }
 
-two_slots : (slots : ℕ) → 2 ≤ slots → (n : ℕ) × (slots ≡ suc (suc n))
-two_slots zero le = absurd (omega arith)
-two_slots (suc zero) le = absurd (omega arith)
-two_slots (suc (suc n)) le = (n, refl)
-
 root_standing : (n : ℕ) → standing (first_heap (suc (suc n))) (ref_to 2 1) ≡ Some first_root
 unfolding stored taken first_root
 root_standing n = refl
@@ -83,7 +79,7 @@ first_heap_is limits = refl
 
 module _ (limits : Limits) (states : ℕ → State) (last : ℕ) (r : IsRun limits states last) (stay : NodesStay states last) where
   slots_are : (n : ℕ) × (limits.slots ≡ suc (suc n))
-  slots_are = two_slots limits.slots r.limits_ok.0
+  slots_are = two_or_more limits.slots r.limits_ok.0
 
   first_standing : (q : Ref) → standing (states zero).heap q ≡ standing (first_heap (suc (suc slots_are.0))) q
   first_standing q = ap (λ (s : State). standing s.heap q) r.first ∙ ap (λ h. standing h q) (first_heap_is limits ∙ ap first_heap slots_are.1)

@@ -35,6 +35,7 @@ use Rattle.proof_generations.specs.Laws.Roots.{settles}
 use Rattle.proof_generations.proofs.Offers.Standing.{own_offer, own_numbers, completes_it}
 use Rattle.proof_generations.proofs.Offers.Same.{HasOffers, same_offer}
 use Rattle.proof_generations.proofs.Handles.Footings.{CarriesOut}
+use Rattle.proof_generations.specs.Beneath.machine_model.proofs.Basics.{or_first, or_second}
 
 -- ---- who is marked
 
@@ -156,14 +157,6 @@ is_completing l e state operation g = absurd (false≢true e)
 
 pub complete_mark : (mark : Bool) (c : Complete) → mark_after mark (complete_action c) ≡ mark
 complete_mark mark c = grind arith
-
-or_first : (a b : Bool) → a ≡ true → (a || b) ≡ true
-or_first true b e = refl
-or_first false b e = absurd (false≢true e)
-
-or_second : (a b : Bool) → b ≡ true → (a || b) ≡ true
-or_second true b e = refl
-or_second false b e = e
 
 module _ (state : State) (I : HasOffers state) (all : AllDone state) (s : Step) where
   done_by : (k : ℕ) (found : Operation) → Comes state s k found → found.is_marked ≡ true → is_done found.line ≡ true

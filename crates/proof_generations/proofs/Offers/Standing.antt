@@ -45,14 +45,12 @@ use Rattle.proof_generations.specs.Running.{Runs}
 use Rattle.proof_generations.specs.Laws.Roots.{settles}
 use Rattle.proof_generations.proofs.Handles.Ids.{HasIds, one_of_id}
 use Rattle.proof_generations.proofs.Lines.Copy.{IsOwn, HasOwn, AllOwn}
+use Rattle.proof_generations.specs.Beneath.machine_model.proofs.Basics.{not_offer}
 
 -- ---- which offers stand after an action
 
 abbrev word_in : List (Option Root) → ℕ → RootWord
 word_in roots handle = word_of (get_or roots handle None)
-
-not_offer : (r : Ref) (offer : Descriptor) → Plain r ≡ Offer offer → ⊥
-not_offer r offer e = cc e
 
 plain_put : (r : Ref) (o : Option Root) (offer : Descriptor) → word_of (rewritten (Plain r) o) ≡ Offer offer → ⊥
 plain_put r None offer e = cc e

@@ -31,6 +31,7 @@ use Rattle.proof_generations.proofs.Roots.Own.{HasRoots, IsUnused, gen, roots_af
 use Rattle.proof_generations.proofs.Roots.Kept.{fresh_of}
 use Rattle.proof_generations.specs.Beneath.slot_arena.specs.Heaps.{generation_at}
 use Rattle.proof_generations.specs.Beneath.slot_arena.specs.declared.refs.Ref.{Ref}
+use Rattle.proof_generations.specs.Beneath.machine_model.proofs.Basics.{both_kinds}
 
 -- all of generations that one state knows
 pub record IsOrdered (state : State) : Type 0 where
@@ -61,9 +62,6 @@ first_root handle root e = elim (cases_eq handle 0) [
       (none_found {X = Root} handle_limit handle root
       (sym (found_elsewhere {X = Root} (replicate handle_limit None) 0 handle (Some (record { access = Writable; word = Plain (ref_to 2 1) })) other) ∙ e))
 ]
-
-both_kinds : (access : Access) → access ≡ Writable → access ≡ ReadOnly → ⊥
-both_kinds access w r = let both : Writable ≡ ReadOnly = sym w ∙ r in cc both
 
 roots_at_first : (limits : Limits) → HasRoots (first_state limits)
 unfolding first_state

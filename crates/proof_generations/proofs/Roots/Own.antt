@@ -42,6 +42,7 @@ use Rattle.proof_generations.proofs.Handles.Operations.{HasHandles, Ran, ran_or_
 use Rattle.proof_generations.proofs.Counter.Below.{IsBelow, looked_up_below, closed_below}
 use Rattle.proof_generations.proofs.Roots.Kept.{root_kept, safe_kept, fresh_in, fresh_of, fresh_safe, fresh_from, FreshFrom, had, new, makes_first}
 use Rattle.proof_generations.proofs.Offers.Swaps.{StepKind, quiet, swaps, step_kind, Kept, closing_of, closed_in, closed_kept, closed_other, closed_last}
+use Rattle.proof_generations.specs.Beneath.machine_model.proofs.Basics.{both_kinds}
 
 -- the generation of a root
 abbrev pub gen : State → Root → ℕ
@@ -96,9 +97,6 @@ writable_call (Clear h) second e = (refl, refl)
 writable_call (Snapshot h) second e = (refl, refl)
 writable_call (Freeze h) second e = (refl, refl)
 writable_call call second e = absurd (false≢true e)
-
-both_kinds : (access : Access) → access ≡ Writable → access ≡ ReadOnly → ⊥
-both_kinds access w r = let both : Writable ≡ ReadOnly = sym w ∙ r in cc both
 
 module _ (state : State) (S : IsSafe state) (I : HasOffers state) (H : HasHandles state) (B : IsBelow state) (R : HasRoots state) (s : Step) (o : Outcome)
     (after : State) (m : Moves state s o after) where

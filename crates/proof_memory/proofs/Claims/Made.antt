@@ -59,6 +59,15 @@ small_of bitmap n e =
     let (small, ones) = and_parts (nat_lt bitmap (2 ^ 32)) (nat_le (count_ones bitmap) n) e in
     (ltb-true bitmap (2 ^ 32) small, leb-true (count_ones bitmap) n ones)
 
+-- two references, in either order
+pub pair_all : (P : Ref → Type 0) (x y : Ref) → P x → P y → All P (x ∷ y ∷ [])
+pair_all P x y h g = All-cons P x (y ∷ []) h (All-cons P y [] g (All-nil P))
+
+
+pub by_index_all : (P : Ref → Type 0) (a b : ℕ) (x y : Ref) → P x → P y → All P (by_index a b x y)
+by_index_all P a b x y h g = cond_both (nat_lt a b) _ _ (λ es. All P es) (λ e. pair_all P x y h g) (λ e. pair_all P y x g h)
+
+
 module _ (S : Ref → Type 0) (heap : Heap) where
   abbrev Wanting : Node → Type 0
   Wanting node = AllHold S heap (action_wants (act.Make node))
@@ -125,12 +134,6 @@ module _ (S : Ref → Type 0) (heap : Heap) where
     changed_made node c e b formed n w = absurd (false≢true b)
 
   -- ---- two singles, and the way down to them
-
-  pair_all : (P : Ref → Type 0) (x y : Ref) → P x → P y → All P (x ∷ y ∷ [])
-  pair_all P x y h g = All-cons P x (y ∷ []) h (All-cons P y [] g (All-nil P))
-
-  pub by_index_all : (P : Ref → Type 0) (a b : ℕ) (x y : Ref) → P x → P y → All P (by_index a b x y)
-  by_index_all P a b x y h g = cond_both (nat_lt a b) _ _ (λ es. All P es) (λ e. pair_all P x y h g) (λ e. pair_all P y x g h)
 
   by_index_two : (a b : ℕ) (x y : Ref) → length (by_index a b x y) ≡ 2
   by_index_two a b x y = cond_both (nat_lt a b) _ _ (λ (es : List Ref). length es ≡ 2) (λ e. refl) (λ e. refl)

@@ -146,7 +146,7 @@ module _ (lv : Ref → ℕ) (state : State) (operation : Operation) (S : Ref →
   pair_level kind depth a b x y e f =
       cond_both (depth == list_depth kind) _ _ (Node (depth + 1)) (λ t. (tt, omega arith))
       (λ t. branch_made (depth + 1) (bit_or (flag_of a depth) (flag_of b depth)) _ (omega arith)
-      (by_index_all S state.heap (EntryLevel lv (depth + 1)) (index_in a depth) (index_in b depth) x y (inl e) (inl f)))
+      (by_index_all (EntryLevel lv (depth + 1)) (index_in a depth) (index_in b depth) x y (inl e) (inl f)))
 
   build_made : (l : BuildLine) → Wants (line.Build l) → BuildLevel lv l → ActionLevel lv (build_level l) (build_action state operation l)
   build_made (build.Single path main s former) h e = (tt, refl)

@@ -54,7 +54,7 @@ use Rattle.proof_memory.proofs.Claims.Uses.{safe_of, meets_of, last_hold}
 use Rattle.proof_memory.proofs.Lines.Shared.{above_long}
 use Rattle.proof_memory.specs.Levels.{EntryLevel, KindLevel, NodeLevel, PrevLevel, OfferLevel, WordLevel, PairLevel, ReadLevel, CompleteLevel, RootLevel, PathLevel, PlaceLevel}
 use Rattle.proof_memory.specs.Levels.{SwapLineLevel, PurposeLevel, SwapLevel, DoneLevel, LineLevel}
-use Rattle.proof_memory.proofs.Levels.Paths.{current_level, above_level, pushed_level}
+use Rattle.proof_memory.proofs.Levels.Paths.{current_level, above_level, pushed_level, single_level_by}
 
 module _ (lv : Ref → ℕ) (state : State) (operation : Operation) (S : Ref → Type 0) (N : (r : Ref) → S r → NodeLevel lv r (node_at state.heap r) × PrevLevel lv r (prev_at state.heap r)) where
   abbrev pub L : Line → Type 0
@@ -69,13 +69,8 @@ module _ (lv : Ref → ℕ) (state : State) (operation : Operation) (S : Ref →
   pub main_level : (i : Ref) → Holds S state.heap (Is i AnIndirection) → lv (main_at state.heap i) ≡ lv i
   main_level i h = main_level_by i (node_at state.heap i) (meets_of h) ((N i (safe_of h)).0)
 
-  -- a single's level is 0
-  pub single_level_by : (r : Ref) (node : Node) → meets ASingle node ≡ true → NodeLevel lv r node → lv r ≡ 0
-  single_level_by r (Single k v) e n = n.1
-  single_level_by r node e n = absurd (false≢true e)
-
   pub single_level : (r : Ref) → Holds S state.heap (Is r ASingle) → lv r ≡ 0
-  single_level r h = single_level_by r (node_at state.heap r) (meets_of h) ((N r (safe_of h)).0)
+  single_level r h = single_level_by lv r (node_at state.heap r) (meets_of h) ((N r (safe_of h)).0)
 
   -- the entries of a branch
   pub branch_level_by : (main : Ref) (node : Node) → meets ABranch node ≡ true → NodeLevel lv main node → All (EntryLevel lv (lv main)) (entries_of node)

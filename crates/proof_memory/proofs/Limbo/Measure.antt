@@ -22,11 +22,8 @@ use Rattle.proof_memory.specs.Levels.{EntryLevel, NodeLevel, PrevLevel}
 use Rattle.proof_memory.proofs.Levels.States.{HasLevels}
 use Rattle.proof_memory.proofs.Limbo.Ranks.{IsMeasured, in_use_reached}
 use Rattle.machine_model.proofs.Grown.{node_standing}
-
--- the one reference of a list
-only_one : (x r : Ref) → Contains (x ∷ []) r → x ≡ r
-only_one x r (zero, within, e) = e
-only_one x r (suc k, within, e) = absurd (omega arith)
+use Rattle.machine_model.proofs.Basics.{only_one}
+use Rattle.proof_memory.proofs.Levels.Paths.{single_level_by}
 
 -- on one level an indirection comes first, and then its main nodes, the youngest first
 abbrev step_down : Bool → ℕ → ℕ
@@ -50,12 +47,8 @@ module _ (state : State) (I : IsSafe state) (lv : Ref → ℕ) (h : HasLevels lv
   level_at : (r : Ref) → IsInUse state.heap r → NodeLevel lv r (node_at state.heap r)
   level_at r (slot, found) = subst (NodeLevel lv r) (sym (node_standing state.heap r slot found)) ((h.nodes r slot found).0)
 
-  single_by : (r : Ref) (node : Node) → meets ASingle node ≡ true → NodeLevel lv r node → lv r ≡ 0
-  single_by r (Single k v) e n = n.1
-  single_by r node e n = absurd (false≢true e)
-
   single_zero : (r : Ref) → Holds (IsInUse state.heap) state.heap (Is r ASingle) → lv r ≡ 0
-  single_zero r c = single_by r (node_at state.heap r) (meets_of c) (level_at r (safe_of c))
+  single_zero r c = single_level_by lv r (node_at state.heap r) (meets_of c) (level_at r (safe_of c))
 
   main_by : (r : Ref) (node : Node) → is_main_node node ≡ true → NodeLevel lv r node → 1 ≤ lv r
   main_by r (Branch bitmap entries) e n = n.1

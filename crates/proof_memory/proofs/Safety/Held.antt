@@ -104,10 +104,6 @@ module _ (state : State) (I : IsSafe state) (actor k : ℕ) (operation : Operati
 pub idle_before : (state : State) (actor : ℕ) (call : Call) → begin_denial state actor call ≡ None → operation_of state actor ≡ None
 idle_before state actor call d = grind arith
 
--- and is one
-pub begin_counts : (state : State) (actor : ℕ) (call : Call) → begin_denial state actor call ≡ None → 0 < actor
-begin_counts state actor call d = grind arith
-
 not_running : (state : State) (actor : ℕ) (call : Call) (k : ℕ) → actor ≡ suc k → begin_denial state actor call ≡ None → get_or state.actors k None ≡ None
 not_running state actor call k own d = sym (ap (λ a. operation_of state a) own) ∙ idle_before state actor call d
 

@@ -16,7 +16,7 @@ use Rattle.proof_obstruction_free.specs.Beneath.machine_model.specs.Grown.{prev_
 use Rattle.proof_obstruction_free.specs.Beneath.proof_commits.proofs.Known.Given.{GrownStays, GrownChanges, Either}
 use Rattle.proof_obstruction_free.specs.Beneath.proof_commits.proofs.Words.Stood.{Stood}
 use Rattle.proof_obstruction_free.specs.Beneath.proof_commits.proofs.Words.OfRuns.{link_made}
-use Rattle.proof_obstruction_free.specs.Beneath.proof_commits.proofs.Lines.Read.{pending_so}
+use Rattle.proof_obstruction_free.specs.Beneath.proof_commits.proofs.Lines.Read.{pending_so, not_pending_so}
 use Rattle.proof_obstruction_free.specs.Alone.{Lone, Stands, IsPlain, IsQuiet, word}
 use Rattle.proof_obstruction_free.specs.Machines.{HoldsRead, IsRead, WasRead, ReadsOn, lead}
 use Rattle.proof_obstruction_free.specs.Weighing.{Weighing, Sees}
@@ -26,10 +26,6 @@ use Rattle.proof_obstruction_free.proofs.Read.Lines.{on_line, pending_there}
 use Rattle.proof_obstruction_free.proofs.Read.Step.{Counts, acting, off, same_word_at, light, on}
 use Rattle.proof_obstruction_free.proofs.Read.First.{main, decide, prev_pending}
 use Rattle.proof_obstruction_free.proofs.Swap.Steps.{read_acts}
-
--- what isn't found so isn't
-pub not_pending_so : (v : Prev) (q : Ref) → is_pending v q ≡ false → v ≡ prev.Pending q → ⊥
-not_pending_so v q e is = true≢false (sym (ap (λ x. is_pending x q) is ∙ eq-eqb q q refl) ∙ e)
 
 module _ (a : Lone) (weight : ℕ → ℕ) (x f : ℕ) (wt : Weighing a weight x f) (wrap : ReadLine → Line) (gives : Ref → Line) (i : Ref) (h : HoldsRead a.own wrap gives i) (c : ℕ)
     (g : Option ℕ) (two : 2 ≤ c) (three : 3 ≤ c + f) (seven : 7 ≤ c + x) where

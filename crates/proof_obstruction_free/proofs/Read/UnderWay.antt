@@ -12,7 +12,7 @@ use Rattle.proof_obstruction_free.specs.Beneath.machine_model.specs.declared.roo
 use Rattle.proof_obstruction_free.specs.Beneath.machine_model.specs.declared.roots.RootWord.TheVariants.{Plain, Offer}
 use Rattle.proof_obstruction_free.specs.Beneath.machine_model.specs.Reading.{verdict_by, is_licensed, is_pending, read_action, after_ask, after_decide}
 use Rattle.proof_obstruction_free.specs.Beneath.machine_model.specs.Grown.{prev_word}
-use Rattle.proof_obstruction_free.specs.Beneath.proof_commits.proofs.Lines.Read.{pending_so}
+use Rattle.proof_obstruction_free.specs.Beneath.proof_commits.proofs.Lines.Read.{pending_so, not_pending_so}
 use Rattle.proof_obstruction_free.specs.Alone.{Lone, Stands, IsPlain, IsQuiet, word, generation}
 use Rattle.proof_obstruction_free.specs.Machines.{HoldsRead, lead}
 use Rattle.proof_obstruction_free.specs.Weighing.{Weighing}
@@ -69,7 +69,7 @@ module _ (a : Lone) (weight : ℕ → ℕ) (x f : ℕ) (wt : Weighing a weight x
       on a wrap gives i h weight P counts b t g (read.Decide m q told) s (omega (arith, enough))
       (λ soon next.
       let found = read_acts a wrap gives i h t g (read.Decide m q told) s soon in
-      let less = wt.decided t i m q told (acting a wrap gives i h t g (read.Decide m q told) s soon) (λ is. On.not_pending_so _ q e (found.1.prev ∙ is)) in
+      let less = wt.decided t i m q told (acting a wrap gives i h t g (read.Decide m q told) s soon) (λ is. not_pending_so _ q e (found.1.prev ∙ is)) in
       overtaken (suc t) (b - 1) m r (is_licensed (a.states t).heap i told)
       (subst (λ y. Stands a (suc t) g (lead wrap gives (after_decide m (verdict_by (is_licensed (a.states t).heap i told) y)))) e next)
       (stays a wrap gives i h t g (read.Decide m q told) s soon r plain) writable

@@ -23,6 +23,7 @@ use Rattle.proof_obstruction_free.specs.Beneath.machine_model.specs.Finding.{is_
 use Rattle.proof_obstruction_free.specs.Beneath.machine_model.specs.Paths.{flag_in, is_start}
 use Rattle.proof_obstruction_free.specs.Beneath.machine_model.specs.States.{State}
 use Rattle.proof_obstruction_free.specs.Keys.{IsOnKey}
+use Rattle.proof_obstruction_free.specs.Beneath.machine_model.proofs.Readers.{reader_inserts}
 
 -- the operation reads a key on a read-only handle
 pub record IsReader (operation : Operation) : Type 0 where
@@ -49,9 +50,6 @@ pub data AfterListed (path : List Ref) (main : Ref) (position singles : ℕ) : L
   ListedEnds : (answer : Reply) → AfterListed path main position singles (line.End answer)
   ListedFails : AfterListed path main position singles line.Impossible
 
-no_insert : (call : Call) → needs_writable call ≡ false → inserts call ≡ false
-no_insert call e = grind arith
-
 -- its key is found: it answers
 finds_answer : (call : Call) → IsOnKey call → needs_writable call ≡ false → (v : ℕ) →
     (answer : Reply) × ((state : State) (path : List Ref) (main : Ref) (position : ℕ) → found_so state path main position v (when_found call v) ≡ line.End answer)
@@ -67,10 +65,10 @@ module _ (state : State) (operation : Operation) (reader : IsReader operation) (
   Answers l = (answer : Reply) × (l ≡ line.End answer)
 
   absent_so : Answers (absent operation path main)
-  absent_so = cond_both (inserts operation.call) _ _ Answers (λ e. absurd (true≢false (sym e ∙ no_insert operation.call reader.reads))) (λ e. (absent_reply operation.call, refl))
+  absent_so = cond_both (inserts operation.call) _ _ Answers (λ e. absurd (true≢false (sym e ∙ reader_inserts operation.call reader.reads))) (λ e. (absent_reply operation.call, refl))
 
   beside_so : (position : ℕ) → Answers (absent_beside operation path main position)
-  beside_so position = cond_both (inserts operation.call) _ _ Answers (λ e. absurd (true≢false (sym e ∙ no_insert operation.call reader.reads))) (λ e. (absent_reply operation.call, refl))
+  beside_so position = cond_both (inserts operation.call) _ _ Answers (λ e. absurd (true≢false (sym e ∙ reader_inserts operation.call reader.reads))) (λ e. (absent_reply operation.call, refl))
 
   listed_so : (singles : ℕ) → Answers (absent_listed operation path main singles)
   listed_so singles = cond_both (inserts operation.call && nat_le 32 singles) _ _ Answers (λ e. (reply.Crowded, refl)) (λ e. absent_so)

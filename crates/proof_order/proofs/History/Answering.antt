@@ -29,7 +29,7 @@ use Rattle.proof_generations.proofs.Offers.Marks.{marks_mark}
 use Rattle.proof_generations.proofs.Offers.Standing.{offer_line}
 use Rattle.proof_generations.proofs.Handles.Running.{place_of_actor, one_at, at_place}
 use Rattle.proof_order.specs.Facts.{Runs, IsReply, CarriesOut}
-use Rattle.proof_order.proofs.History.Books.{one_by_id, begin_events}
+use Rattle.proof_order.proofs.History.Books.{one_by_id}
 use Rattle.proof_order.proofs.History.AllBooks.{gone_events}
 use Rattle.proof_order.proofs.History.Growing.{IsKept, ended_before, events_grow, holds_later}
 use Rattle.proof_order.proofs.History.Recalling.{begun_more_or_same}
@@ -37,6 +37,7 @@ use Rattle.proof_order.proofs.Offers.Known.{Offers, running_below}
 use Rattle.proof_order.proofs.Offers.Standing.{offers_kept, first_offers, nobody}
 use Rattle.proof_order.proofs.History.OneStep.{From, began, kept, stepped, from}
 use Rattle.proof_order.proofs.History.Copies.{IsDone, done_by, stays_marked, mark_kept, own_marks}
+use Rattle.proof_order.specs.Beneath.machine_model.proofs.Frames.{begin_events}
 
 -- an end that a step tells is of an operation that takes it
 pub ended_now : (state : State) (s : Step) (o : Outcome) (after : State) → Moves state s o after → (id : ℕ) (answer : Reply) → HasEnded after.events id answer →

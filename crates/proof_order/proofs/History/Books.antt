@@ -111,10 +111,6 @@ quiet_books state s o after m size limits e no_begin no_end books = record {
 
 -- ---- a begin
 
-pub begin_events : (state : State) (actor : ℕ) (call : Call) (operation : Operation) →
-    (with_begin state actor call operation).events ≡ state.events ++ Begin operation.id actor call operation.opens ∷ []
-begin_events state actor call operation = grind arith
-
 opens_rightly : (call : Call) (n : ℕ) → OpensRightly call (cond (opens_handle call) (Some n) None)
 opens_rightly call n = grind arith
 

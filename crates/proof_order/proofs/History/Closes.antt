@@ -27,9 +27,10 @@ use Rattle.proof_order.specs.Beneath.machine_model.specs.Times.{IsRun}
 use Rattle.proof_order.specs.Beneath.machine_model.proofs.Actors.{IsOf, is_of, mark_one, mark_only, of_others, of_itself, of_begin, of_end}
 use Rattle.proof_generations.proofs.Handles.Running.{place_of_actor, at_place}
 use Rattle.proof_order.specs.Facts.{Runs}
-use Rattle.proof_order.proofs.History.Books.{Books, begin_events, ended_below}
+use Rattle.proof_order.proofs.History.Books.{Books, ended_below}
 use Rattle.proof_order.proofs.History.AllBooks.{books_kept, gone_events, first_books}
 use Rattle.proof_order.proofs.History.Growing.{IsKept}
+use Rattle.proof_order.specs.Beneath.machine_model.proofs.Frames.{begin_events}
 
 -- ---- a close that runs is about to end
 

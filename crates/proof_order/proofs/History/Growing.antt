@@ -36,7 +36,7 @@ use Rattle.proof_order.specs.Beneath.machine_model.specs.Times.{IsRun, Turn}
 use Rattle.proof_order.proofs.Places.Elements.{Among, among_left, among_right}
 use Rattle.proof_order.proofs.Views.Changes.{carries, acted_places, completed_is, carried_roots}
 use Rattle.proof_order.proofs.History.AllBooks.{gone_events}
-use Rattle.proof_order.proofs.History.Books.{begin_events}
+use Rattle.proof_order.specs.Beneath.machine_model.proofs.Frames.{begin_events}
 
 -- ---- what a step keeps holds later
 

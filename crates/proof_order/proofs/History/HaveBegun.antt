@@ -39,12 +39,13 @@ use Rattle.proof_generations.proofs.Handles.Running.{place_of_actor}
 use Rattle.proof_order.specs.Facts.{Runs}
 use Rattle.proof_order.proofs.Places.Elements.{Among, among_get, among_mapped, among_either, among_flat_map}
 use Rattle.proof_order.proofs.Places.Sorting.{among_rising}
-use Rattle.proof_order.proofs.History.Books.{Books, begin_events, id_below}
+use Rattle.proof_order.proofs.History.Books.{Books, id_below}
 use Rattle.proof_order.proofs.Views.Changes.{carries, acted_places, completed_is, carried_roots}
 use Rattle.proof_order.proofs.History.Growing.{Grows, get_grown, events_grow}
 use Rattle.proof_order.proofs.Places.Origins.{place_says}
 use Rattle.proof_order.proofs.Offers.Known.{Offers, stands}
 use Rattle.proof_order.proofs.Offers.Standing.{offers_kept, first_offers}
+use Rattle.proof_order.specs.Beneath.machine_model.proofs.Frames.{begin_events}
 
 -- who runs has begun
 runs_begun : (state : State) → Books state → (k : ℕ) (operation : Operation) → Runs state k operation → HasBegun state.events operation.id

@@ -40,6 +40,7 @@ use Rattle.proof_order.specs.Beneath.machine_model.specs.Copying.{copy_after_com
 use Rattle.proof_order.specs.Beneath.machine_model.specs.Swapping.{complete_after, completing, after_root_word, after_completing, is_plain}
 use Rattle.proof_order.specs.Beneath.machine_model.specs.Operations.{line_after, after_root}
 use Rattle.proof_generations.proofs.Lines.Offers.{completing_of, CompletesFrom, completes_after, from_root_none}
+use Rattle.proof_order.specs.Beneath.machine_model.proofs.Basics.{not_offer}
 
 pub data ComesFrom (state : State) (operation : Operation) (l : Line) (c : Complete) : Type 0 where
   -- it begins
@@ -54,12 +55,9 @@ pub data ComesFrom (state : State) (operation : Operation) (l : Line) (c : Compl
 abbrev unrooted : State → State
 unrooted state = record state { roots = [] }
 
-no_offer : (r : Ref) (offer : Descriptor) → Plain r ≡ Offer offer → ⊥
-no_offer r offer e = cc e
-
 none_there : (state : State) (operation : Operation) (l : Line) (c : Complete) → completing_of l ≡ None → (l ≡ line.Copy (copy.Offer c.offer) → ⊥) → CompletesFrom (unrooted state) operation l c → ⊥
 none_there state operation l c none other (inl (before, is, same)) = none-some before (sym none ∙ is)
-none_there state operation l c none other (inr (inl word)) = no_offer _ c.offer word
+none_there state operation l c none other (inr (inl word)) = not_offer _ c.offer word
 none_there state operation l c none other (inr (inr offers)) = other offers
 
 module _ (state : State) (operation : Operation) (c : Complete) where

@@ -30,10 +30,11 @@ use Rattle.proof_order.specs.Phases.{Phase, past, completes, answers, IsPastAt, 
 use Rattle.proof_order.proofs.Phases.Entering.{SwapsIn, Owns, owns, swaps_so}
 use Rattle.proof_order.proofs.Phases.NewPlaces.{line_so, commit_so, published, past_owner}
 use Rattle.proof_order.proofs.Phases.PastAnswers.{past_answers}
-use Rattle.proof_order.proofs.Phases.Placed.{placed_phase, end_line}
+use Rattle.proof_order.proofs.Phases.Placed.{placed_phase}
 use Rattle.proof_order.proofs.Phases.Published.{run_words, fresh_so, one_fresh}
 use Rattle.proof_order.proofs.Phases.Standing.{rooted_at}
 use Rattle.proof_order.proofs.Phases.Writers.{swaps_writable, swaps_rooted}
+use Rattle.proof_order.specs.Beneath.proof_commits.proofs.Lines.Reads.{only_end}
 
 -- ---- what one alone adds
 
@@ -129,7 +130,7 @@ module _ (limits : Limits) (states : ℕ → State) (last : ℕ) (r : IsRun limi
           let same = mark_only (marks_in (states t) s) (operation_after (states t) it.owner) in
           behind (mark_one (marks_in (states t) s) (operation_after (states t) it.owner)) runs (ap (λ (x : Operation). x.id) same) (ap (λ (x : Operation). x.call) same)
       by (ends answer go does) =
-          let wrong : line.Swap (purpose.Update mine.path mine.former) mine.its ≡ line.End answer = sym mine.at ∙ end_line (states t) it.owner it.owner.line answer does in
+          let wrong : line.Swap (purpose.Update mine.path mine.former) mine.its ≡ line.End answer = sym mine.at ∙ only_end (states t) it.owner it.owner.line answer does in
           absurd (cc wrong)
 
   pub own_update : OwnUpdate states last t s

@@ -33,7 +33,8 @@ use Rattle.proof_order.specs.Beneath.proof_commits.proofs.Known.Claims.{HasMain,
 use Rattle.proof_order.specs.Beneath.proof_commits.proofs.Words.Along.{protocol}
 use Rattle.proof_order.specs.Facts.{Runs}
 use Rattle.proof_order.specs.Phases.{IsPublished}
-use Rattle.proof_order.proofs.Phases.Commits.{line_decides, was_pending, now_none}
+use Rattle.proof_order.proofs.Phases.Commits.{line_decides, now_none}
+use Rattle.proof_order.specs.Beneath.proof_commits.proofs.Lines.Read.{was_pending}
 
 module _ (limits : Limits) (states : ℕ → State) (last : ℕ) (run : IsRun limits states last) where
   abbrev known : Known limits states last

@@ -103,11 +103,3 @@ decides_node state operation x e = by_read (read_of operation.line) refl e
     by_read : (o : Option Read) → read_of operation.line ≡ o → committed_in state o ≡ Some x → DecidesNode state operation x
     by_read None is e = absurd (none-some x e)
     by_read (Some r) is e = by_line state operation r.indirection r.line x (read_acts state operation operation.line r is) e
-
--- such a node is pending
-commits_pending : (b c : Bool) → verdict_by b c ≡ Commits → c ≡ true
-commits_pending b true e = refl
-commits_pending b false e = let wrong : ⊥ = cc in absurd wrong
-
-pub was_pending : (heap : Heap) (i x q : Ref) (told : Option ℕ) → verdict heap i x q told ≡ Commits → prev_at heap x ≡ over.Pending q
-was_pending heap i x q told e = pending_so (prev_at heap x) q (commits_pending (is_licensed heap i told) (is_pending (prev_at heap x) q) e)

@@ -24,6 +24,7 @@ use Rattle.proof_shape.specs.Beneath.proof_memory.proofs.Claims.Nodes.{no_main}
 use Rattle.proof_shape.specs.Beneath.proof_memory.proofs.Heap.NoRef.{nothing_stands}
 use Rattle.proof_shape.specs.Beneath.proof_commits.proofs.Words.OfRuns.{link_kept}
 use Rattle.proof_shape.specs.Beneath.proof_commits.proofs.Known.Acts.{known_run}
+use Rattle.proof_generations.proofs.Falling.NoRef.{no_main_before}
 
 module _ (limits : Limits) (states : ℕ → State) (last : ℕ) (run : IsRun limits states last) where
   abbrev p : Protocol
@@ -39,11 +40,6 @@ module _ (limits : Limits) (states : ℕ → State) (last : ℕ) (run : IsRun li
           let now = grown_stays limits states last run t (suc t) (omega arith) h i slot e in
           ap (λ o. is_indirection (node_of o)) now.1 ∙ ap is_indirection now.2.0.1 ∙ link_kept now.2.0.0 slot.node ∙ sym (ap (λ o. is_indirection (node_of o)) e)
 
-  -- a reference to something else has no main node
-  other_main : (t : ℕ) → t ≤ last → (i : Ref) → is_indirection (node_under states t i) ≡ false → main_before states t i ≡ no_ref
-  other_main t h i e =
-      ap (λ m. logical m (prev_word states t m)) (no_main (node_under states t i) e) ∙ ap (λ o. logical no_ref (prev_of o)) (nothing_stands limits states last run t h)
-
   -- the main node of any reference, by that of indirections
   pub mains_by : (t : ℕ) → t < last → (i : Ref) → (is_indirection (node_under states t i) ≡ true → main_before states (suc t) i ≡ main_before states t i) →
       main_at states last (suc t) i ≡ main_at states last t i
@@ -51,7 +47,7 @@ module _ (limits : Limits) (states : ℕ → State) (last : ℕ) (run : IsRun li
     where
       by_test : is_made states t i ≡ true → (b : Bool) → is_indirection (node_under states t i) ≡ b → main_before states (suc t) i ≡ main_before states t i
       by_test made true e = links e
-      by_test made false e = other_main (suc t) h i (link_next t h i made ∙ e) ∙ sym (other_main t (omega arith) i e)
+      by_test made false e = no_main_before limits states last run (suc t) h i (link_next t h i made ∙ e) ∙ sym (no_main_before limits states last run t (omega arith) i e)
 
   -- ---- a step that commits nothing
 

@@ -26,11 +26,12 @@ use Rattle.proof_shape.specs.Beneath.proof_commits.proofs.Lines.Swap.{RunsSwap, 
 use Rattle.proof_shape.specs.Beneath.proof_commits.proofs.Words.Along.{protocol}
 use Rattle.proof_shape.specs.Beneath.proof_contents.specs.Runs.{main_at}
 use Rattle.proof_shape.proofs.Runs.EachAt.{GoesAt}
-use Rattle.proof_shape.proofs.Commits.Deciders.{DecidesNode, was_pending}
+use Rattle.proof_shape.proofs.Commits.Deciders.{DecidesNode}
 use Rattle.proof_shape.proofs.Commits.Was.{main_linked, commit_is}
 use Rattle.proof_shape.proofs.Commits.MainsStay.{others_stay}
 use Rattle.proof_shape.specs.Beneath.proof_memory.specs.Wants.{is_indirection}
 use Rattle.proof_shape.specs.Beneath.proof_commits.proofs.Known.Acts.{known_run}
+use Rattle.proof_shape.specs.Beneath.proof_commits.proofs.Lines.Read.{was_pending}
 
 none_set : (o : Option Slot) → prev_of (option_map (prev_changed over.None) o) ≡ over.None
 none_set None = refl

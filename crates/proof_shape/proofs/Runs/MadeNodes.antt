@@ -29,13 +29,13 @@ use Rattle.proof_shape.specs.Beneath.proof_commits.proofs.Known.StepsAt.{StepAt,
 use Rattle.proof_shape.specs.Beneath.proof_contents.specs.Runs.{is_made}
 use Rattle.proof_shape.specs.Beneath.proof_contents.proofs.Values.Runs.{made_next}
 use Rattle.proof_shape.specs.Beneath.proof_contents.proofs.Values.Started.{node_stays, indirection_stays}
-use Rattle.proof_shape.specs.Beneath.proof_commits.proofs.Words.OfRuns.{slot_kept}
 use Rattle.proof_shape.proofs.Runs.EachAt.{GoesAt}
 use Rattle.proof_shape.proofs.Runs.Nodes.{nodes_stay}
 use Rattle.proof_shape.proofs.Runs.Takers.{taker, taker_of, step_taken}
 use Rattle.proof_shape.proofs.Runs.Entries.{no_entry}
 use Rattle.proof_shape.specs.Beneath.machine_model.proofs.Grown.{grown_in_use}
 use Rattle.proof_shape.specs.Beneath.proof_commits.proofs.Known.Acts.{known_run}
+use Rattle.proof_shape.specs.Beneath.machine_model.proofs.Slots.{change_kept}
 
 abbrev pub is_making : Action → Bool
 is_making (act.Make node) = true
@@ -55,15 +55,15 @@ module _ (states : ℕ → State) (t : ℕ) where
   changes_made change r c m = by_ref (cases_eq m r)
     where
       by_ref : (m ≡ r) ⊎ (m ≡ r → ⊥) → is_made states (suc t) m ≡ is_made states t m
-      by_ref (inl same) = ap (is_made states (suc t)) same ∙ ap is_some c.here ∙ slot_kept change (grown states t r) ∙ sym (ap (is_made states t) same)
+      by_ref (inl same) = ap (is_made states (suc t)) same ∙ ap is_some c.here ∙ change_kept change (grown states t r) ∙ sym (ap (is_made states t) same)
       by_ref (inr apart) = ap is_some (c.elsewhere m apart)
 
   swaps_made : (i a f : Ref) → GrownSwaps states t i a f → SameMade
   swaps_made i a f s m = by_ref (cases_eq m i) (cases_eq m f)
     where
       by_ref : (m ≡ i) ⊎ (m ≡ i → ⊥) → (m ≡ f) ⊎ (m ≡ f → ⊥) → is_made states (suc t) m ≡ is_made states t m
-      by_ref (inl same) other = ap (is_made states (suc t)) same ∙ ap is_some s.main ∙ slot_kept _ (grown states t i) ∙ sym (ap (is_made states t) same)
-      by_ref (inr apart) (inl same) = ap (is_made states (suc t)) same ∙ ap is_some s.prev ∙ slot_kept _ (grown states t f) ∙ sym (ap (is_made states t) same)
+      by_ref (inl same) other = ap (is_made states (suc t)) same ∙ ap is_some s.main ∙ change_kept _ (grown states t i) ∙ sym (ap (is_made states t) same)
+      by_ref (inr apart) (inl same) = ap (is_made states (suc t)) same ∙ ap is_some s.prev ∙ change_kept _ (grown states t f) ∙ sym (ap (is_made states t) same)
       by_ref (inr apart) (inr other) = ap is_some (s.elsewhere m apart other)
 
   either_made : (b : Bool) (A B : Type 0) → (A → SameMade) → (B → SameMade) → Either b A B → SameMade

@@ -14,9 +14,8 @@ use Rattle.proof_shape.specs.Beneath.machine_model.specs.Moves as Machine
 use Rattle.proof_shape.specs.Beneath.machine_model.specs.States.{State, operation_of}
 use Rattle.proof_shape.specs.Beneath.machine_model.specs.Counting.{settled}
 use Rattle.proof_shape.specs.Beneath.machine_model.specs.Machine.{begin_denial, with_begin}
-use Rattle.proof_shape.specs.Beneath.machine_model.proofs.Actors.{marks_by}
+use Rattle.proof_shape.specs.Beneath.machine_model.proofs.Actors.{marks_by, begin_counts}
 use Rattle.proof_shape.specs.Beneath.machine_model.specs.Times.{IsRun}
-use Rattle.proof_shape.specs.Beneath.proof_memory.proofs.Safety.Held.{begin_counts}
 use Rattle.proof_shape.specs.Beneath.proof_commits.proofs.Course.Finals.{from_time}
 use Rattle.proof_shape.specs.Beneath.proof_commits.proofs.Known.StepsAt.{StepAt, IsBegin, IsGo, IsEnd, IsSweep, step_at, after_mark, go_others, go_own, end_others, end_own}
 use Rattle.proof_shape.specs.Beneath.proof_commits.proofs.Known.StepsAt.{begin_others, begin_own, actor_counts}

@@ -36,7 +36,6 @@ use Rattle.proof_order.proofs.Places.Elements.{among_right}
 use Rattle.proof_updates.specs.Beneath.proof_generations.proofs.Handles.Running.{place_of_actor}
 use Rattle.proof_order.specs.Times.{Since, IsWithin, has_read}
 use Rattle.proof_order.proofs.Phases.Steps.{is_placed_so}
-use Rattle.proof_order.proofs.Phases.Placed.{end_line}
 use Rattle.proof_order.proofs.Phases.Since.{run_since}
 use Rattle.proof_order.proofs.Phases.Standing.{rooted_at_moments, read_only_stands}
 use Rattle.proof_shape.specs.Lines.Commits.{CommitsAt, assigned_at}
@@ -49,6 +48,7 @@ use Rattle.proof_updates.proofs.Placed.Behind.{EndsSo, refused, has_place, is_ri
 use Rattle.proof_updates.proofs.Tries.EachOperation.{each_operation}
 use Rattle.proof_updates.proofs.Answers.ReaderRoots.{stood_before}
 use Rattle.proof_updates.proofs.Placed.Swap.{none_next}
+use Rattle.proof_updates.specs.Beneath.proof_commits.proofs.Lines.Reads.{only_end}
 
 -- ---- a begin
 
@@ -196,4 +196,4 @@ module _ (limits : Limits) (states : ℕ → State) (last : ℕ) (depth path : R
   pub replies_right : RepliesRight limits states last (trie_of limits states last depth path)
   replies_right t actor operation answer o lt m is does other unplaced =
       let place = place_of_actor (states t) actor operation is in
-      right_reply t place.0 lt operation place.2 answer (end_line (states t) operation operation.line answer does) other unplaced
+      right_reply t place.0 lt operation place.2 answer (only_end (states t) operation operation.line answer does) other unplaced

@@ -30,7 +30,7 @@ module _ (limits : Limits) (states : ℕ → State) (last : ℕ) (t : ℕ) (s : 
       by_step x (goes actor operation runs nothing) = ap (committed_of (states t)) runs ∙ nothing
       by_step x sweeps = refl
 
-  own_committed : (own : Own) → committed_by_step (states t) s ≡ Some own.fresh
+  pub own_committed : (own : Own) → committed_by_step (states t) s ≡ Some own.fresh
   own_committed own = ap (committed_by_step (states t)) own.takes ∙ ap (committed_of (states t)) own.decides ∙ own.commits
 
   -- the owner's SWAP

@@ -32,7 +32,7 @@ use Rattle.proof_updates.specs.Beneath.machine_model.specs.Moves.{Moves}
 use Rattle.proof_updates.specs.Beneath.machine_model.specs.Times.{IsRun}
 use Rattle.proof_updates.specs.Beneath.machine_model.specs.Grown.{grown, prev_word}
 use Rattle.proof_updates.specs.Beneath.proof_commits.specs.Protocol.{Protocol}
-use Rattle.proof_updates.specs.Beneath.proof_commits.proofs.Words.Stood.{none≢pending, none≢failed}
+use Rattle.proof_updates.specs.Beneath.proof_commits.proofs.Words.Stood.{none≢pending}
 use Rattle.proof_updates.specs.Beneath.proof_commits.proofs.Words.Effects.{GoesOn, StaysPending, GetsCommitted, GetsFailed, goes_on}
 use Rattle.proof_updates.specs.Beneath.proof_commits.proofs.Course.Swaps.{checked}
 use Rattle.proof_updates.specs.Beneath.proof_commits.proofs.Known.Sounds.{sound_at}
@@ -51,6 +51,7 @@ use Rattle.proof_updates.proofs.Placed.Behind.{Behind, climbing_behind, update_c
 use Rattle.proof_updates.proofs.Tries.EachOperation.{OwnStep}
 use Rattle.proof_updates.proofs.Placed.Own.{commit_places}
 use Rattle.proof_updates.specs.Beneath.proof_commits.proofs.Known.Acts.{known_run}
+use Rattle.proof_updates.specs.Beneath.machine_model.proofs.Basics.{none≢failed}
 
 module _ (limits : Limits) (states : ℕ → State) (last : ℕ) (run : IsRun limits states last) (all : CommitsAt limits states last (assigned_at states last)) where
   abbrev p : Protocol

@@ -30,6 +30,7 @@ use Rattle.proof_updates.specs.Taken.{RepairsAreKnown, SitesOfUpdates, RootsAreK
 use Rattle.proof_updates.specs.Updates.{StepsKeep, UpdatesFollow}
 use Rattle.proof_updates.proofs.Tries.Does.{own_does}
 use Rattle.proof_updates.proofs.Tries.Updates.{trie_ok, updates_act}
+use Rattle.proof_updates.proofs.Handles.Committing.{own_committed}
 
 module _ (limits : Limits) (states : ℕ → State) (last : ℕ) (t : ℕ) (s : Step) where
   abbrev Own : Type 0
@@ -43,11 +44,8 @@ module _ (limits : Limits) (states : ℕ → State) (last : ℕ) (t : ℕ) (s : 
       by_step x (goes actor operation runs nothing) = ap (entered (states t)) (ap (committed_of (states t)) runs ∙ nothing)
       by_step x sweeps = refl
 
-  committed_is : (own : Own) → committed_by_step (states t) s ≡ Some own.fresh
-  committed_is own = ap (committed_by_step (states t)) own.takes ∙ ap (committed_of (states t)) own.decides ∙ own.commits
-
   pub own_enters : (own : Own) → entered_by_step (states t) s ≡ places_for (states t) own.owner t own.why
-  own_enters own = ap (entered (states t)) (committed_is own) ∙ own.enters
+  own_enters own = ap (entered (states t)) (own_committed limits states last t s own) ∙ own.enters
 
   nobody_enters : (own : Own) → entered_by_step (states t) s ≡ [] → (p : List Ref) (former : Option ℕ) → own.why ≡ purpose.Update p former → ⊥
   nobody_enters own none p former e = by_places (sym none ∙ own_enters own ∙ ap (places_for (states t) own.owner t) e)
@@ -81,7 +79,7 @@ module _ (limits : Limits) (states : ℕ → State) (last : ℕ) (depth path : R
       (fits : (t : ℕ) → t ≤ last → (k : ℕ) (operation : Operation) → Runs (states t) k operation → key_of operation.call < 2 ^ 64) where
     module _ (t : ℕ) (s : Step) (lt : t < last) (u : OwnUpdate states last t s) (own : OwnCommit limits states last (assigned_at states last) t s) where
       same_fresh : u.its.fresh ≡ own.fresh
-      same_fresh = same_Some _ _ (sym u.commits ∙ committed_is limits states last t s own)
+      same_fresh = same_Some _ _ (sym u.commits ∙ own_committed limits states last t s own)
 
       same_actor : suc u.k ≡ own.actor
       same_actor =
