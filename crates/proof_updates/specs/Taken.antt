@@ -11,7 +11,7 @@ use Rattle.proof_updates.specs.Beneath.machine_model.specs.Paths.{depth_of}
 use Rattle.proof_updates.specs.Beneath.machine_model.specs.States.{State, root_at, root_of}
 use Rattle.proof_updates.specs.Beneath.machine_model.specs.Grown.{node_under}
 use Rattle.proof_updates.specs.Beneath.proof_contents.specs.Lines.Repairs.{IsRepaired}
-use Rattle.proof_updates.specs.Beneath.proof_contents.specs.Runs.{root_at as root_of_generation}
+use Rattle.proof_updates.specs.Beneath.proof_contents.specs.Runs.{root_of_generation}
 use Rattle.proof_updates.specs.Beneath.proof_generations.specs.Laws.Roots.{root_generation}
 use Rattle.proof_shape.specs.Lines.Commits.{OwnCommit, assigned_at}
 use Rattle.proof_updates.specs.Beneath.proof_generations.specs.Falling.{WasGiven}

@@ -165,7 +165,7 @@ module _ (limits : Limits) (ok : AreLimits limits) (steps : List Step) (known : 
   link_in_use : (t : ℕ) (i : Ref) → HasIndirection (states t) i → is_indirection (node_under states t i) ≡ true
   link_in_use t i h = subst (λ x. is_indirection x ≡ true) (node_in_use t i h.0) h.1
 
-  main_in_use : (t : ℕ) → t ≤ last → (i : Ref) → HasIndirection (states t) i → logical_main (states t).heap i ≡ Protocol'.main_at w t i
+  main_in_use : (t : ℕ) → t ≤ last → (i : Ref) → HasIndirection (states t) i → logical_main (states t).heap i ≡ Protocol'.logical_at w t i
   main_in_use t h i has = logical_standing limits states last known t h i has.0.0 has.0.1 (link_in_use t i has)
 
   main_change_by : (n : ℕ) → n < last → (i : Ref) → HasIndirection (states n) i → HasIndirection (states (suc n)) i → MainStep w n i →

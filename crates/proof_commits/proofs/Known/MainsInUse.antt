@@ -7,14 +7,14 @@ use Rattle.proof_commits.specs.Beneath.machine_model.specs.declared.steps.Limits
 use Rattle.proof_commits.specs.Beneath.machine_model.specs.States.{State}
 use Rattle.proof_commits.specs.Beneath.machine_model.specs.Grown.{standing, node_under}
 use Rattle.proof_commits.specs.Beneath.machine_model.proofs.Grown.{grown_in_use, node_grown, prev_grown}
-use Rattle.proof_commits.specs.Protocol.{main_at}
+use Rattle.proof_commits.specs.Protocol.{logical_at}
 use Rattle.proof_commits.proofs.Known.Given.{Known}
 use Rattle.proof_commits.specs.Words.{words_of}
 use Rattle.proof_memory.specs.Wants.{is_indirection}
 
 -- the logical main node of an indirection in use
 pub logical_standing : (limits : Limits) (states : ℕ → State) (last : ℕ) (known : Known limits states last) (t : ℕ) → t ≤ last → (i : Ref) (slot : Slot) →
-    standing (states t).heap i ≡ Some slot → is_indirection (node_under states t i) ≡ true → logical_main (states t).heap i ≡ main_at (words_of states last known.closing) t i
+    standing (states t).heap i ≡ Some slot → is_indirection (node_under states t i) ≡ true → logical_main (states t).heap i ≡ logical_at (words_of states last known.closing) t i
 logical_standing limits states last known t h i slot e l =
     let node : node_under states t i ≡ slot.node = ap node_of (grown_in_use states t i slot e) in
     let main = known.mains_stand t h i slot e (subst (λ x. is_indirection x ≡ true) node l) in

@@ -207,7 +207,7 @@ read_stays state operation read r e = by_line (read_after state.heap operation.a
 -- ---- at the commit
 
 -- What is given stays so: the last main node of an indirection of another generation, and at some time that of any.
-pub record Stands (trie : Trie) (Gave : Ref → Ref → Type 0) (g t : ℕ) : Type 0 where
+pub record StaysGiven (trie : Trie) (Gave : Ref → Ref → Type 0) (g t : ℕ) : Type 0 where
   pub final : (entry child word : Ref) (h : ℕ) → trie.node entry ≡ Indirection h word → h ≢ g → Gave entry child → trie.main trie.last entry ≡ child
   pub once : (entry child : Ref) → Gave entry child → (u : ℕ) × (u ≤ t) × (trie.main u entry ≡ child)
 

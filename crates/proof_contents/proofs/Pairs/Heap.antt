@@ -27,7 +27,7 @@ use Rattle.proof_contents.specs.Pairs.{pairs_of, pairs_from}
 use Rattle.proof_contents.specs.Runs as run
 use Rattle.proof_contents.specs.Runs.{trie_of}
 use Rattle.proof_contents.specs.InUse.{ReachesInUse}
-use Rattle.proof_contents.proofs.Values.Runs.{main_at-last}
+use Rattle.proof_contents.proofs.Values.Runs.{counting_main-last}
 use Rattle.proof_contents.proofs.Pairs.Shown.{reached_entries}
 use Rattle.machine_model.proofs.Grown.{node_grown, prev_grown, standing_parts}
 
@@ -101,23 +101,23 @@ module _ (states : ℕ → State) (last : ℕ) (reaches : ReachesInUse (states l
       ap (λ w. logical (main_at heap r) w) (prev_is (main_at heap r) (subst Reached (sym (ap main_of is)) main_reached)) ∙ ap (λ w. logical w (prev_word states last w)) words
 
   -- the pairs below what is reached
-  pub pairs_are : (levels : ℕ) (r : Ref) → Reached r → pairs_below levels heap r ≡ pairs_from (node_under states last) (λ i. run.main_at states last last i) levels r
+  pub pairs_are : (levels : ℕ) (r : Ref) → Reached r → pairs_below levels heap r ≡ pairs_from (node_under states last) (λ i. run.counting_main states last last i) levels r
   unfolding pairs_below pairs_from
   pairs_are zero r reached = refl
   pairs_are (suc levels) r reached =
       by_node (λ q. pairs_are levels q) (node_at heap r) refl
-      ∙ ap (pairs_of (pairs_from (node_under states last) (λ i. run.main_at states last last i) levels) (node_under states last) (λ i. run.main_at states last last i) r)
+      ∙ ap (pairs_of (pairs_from (node_under states last) (λ i. run.counting_main states last last i) levels) (node_under states last) (λ i. run.counting_main states last last i) r)
       (node_is r reached)
     where
-      by_node : ((q : Ref) → Reached q → pairs_below levels heap q ≡ pairs_from (node_under states last) (λ i. run.main_at states last last i) levels q) → (n : Node) → node_at heap r ≡ n →
+      by_node : ((q : Ref) → Reached q → pairs_below levels heap q ≡ pairs_from (node_under states last) (λ i. run.counting_main states last last i) levels q) → (n : Node) → node_at heap r ≡ n →
           pairs_at (pairs_below levels heap) heap r n
-          ≡ pairs_of (pairs_from (node_under states last) (λ i. run.main_at states last last i) levels) (node_under states last) (λ i. run.main_at states last last i) r n
+          ≡ pairs_of (pairs_from (node_under states last) (λ i. run.counting_main states last last i) levels) (node_under states last) (λ i. run.counting_main states last last i) r n
       by_node rest (Indirection g m) is =
           let reached_main = logical_reached r g m reached is in
-          flat_map-same (pairs_below levels heap) (pairs_from (node_under states last) (λ i. run.main_at states last last i) levels) (entries_of (node_at heap (logical_main heap r)))
+          flat_map-same (pairs_below levels heap) (pairs_from (node_under states last) (λ i. run.counting_main states last last i) levels) (entries_of (node_at heap (logical_main heap r)))
           (λ q c. rest q (of_node (logical_main heap r) q reached_main (entry_refs (node_at heap (logical_main heap r)) q c)))
-          ∙ ap (λ n. flat_map (pairs_from (node_under states last) (λ i. run.main_at states last last i) levels) (entries_of n))
-          (node_is (logical_main heap r) reached_main ∙ ap (node_under states last) (logical_is r g m reached is ∙ sym (main_at-last states last r)))
+          ∙ ap (λ n. flat_map (pairs_from (node_under states last) (λ i. run.counting_main states last last i) levels) (entries_of n))
+          (node_is (logical_main heap r) reached_main ∙ ap (node_under states last) (logical_is r g m reached is ∙ sym (counting_main-last states last r)))
       by_node rest (Single k v) is = refl
       by_node rest (Branch bitmap es) is = refl
       by_node rest (Tomb s) is = refl
@@ -135,10 +135,10 @@ module _ (states : ℕ → State) (last : ℕ) (reaches : ReachesInUse (states l
 
   module _ (limits : Limits) (depth path : Ref → ℕ) (ok : IsTrie (trie_of limits states last depth path)) where
     -- the content of an open handle is that of its root's generation
-    pub content_is : (handle : ℕ) (root : Root) (g h : ℕ) (word : Ref) → state.root_at (states last) handle ≡ Some root → run.root_at states last g ≡ root_of root.word →
+    pub content_is : (handle : ℕ) (root : Root) (g h : ℕ) (word : Ref) → state.root_at (states last) handle ≡ Some root → run.root_of_generation states last g ≡ root_of root.word →
         node_under states last (root_of root.word) ≡ Indirection h word →
         content_at (states last) handle ≡ entries (content (trie_of limits states last depth path) g last)
     content_is handle root g h word e same is =
         ap by_key (ap (λ o. pairs_below most_levels heap (root_of (state.word_of o))) e ∙ pairs_are most_levels (root_of root.word) (root_reached handle root e)
-        ∙ ap (pairs_from (node_under states last) (λ i. run.main_at states last last i) most_levels) (sym same))
+        ∙ ap (pairs_from (node_under states last) (λ i. run.counting_main states last last i) most_levels) (sym same))
         ∙ reached_entries (trie_of limits states last depth path) ok g h word (ap (node_under states last) same ∙ is)

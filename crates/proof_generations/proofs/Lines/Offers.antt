@@ -91,8 +91,8 @@ copying_of (line.Copy l) = Some l
 copying_of l = None
 
 -- the line has the offer to settle
-abbrev pub Holds : Line → Descriptor → Type 0
-Holds l offer = (abort_of (read_of l) ≡ Some offer) ⊎ ((c : Complete) × (completing_of l ≡ Some c) × (c.offer ≡ offer))
+abbrev pub HoldsOffer : Line → Descriptor → Type 0
+HoldsOffer l offer = (abort_of (read_of l) ≡ Some offer) ⊎ ((c : Complete) × (completing_of l ≡ Some c) × (c.offer ≡ offer))
 
 -- ---- a READ has its offer from the root word
 
@@ -401,7 +401,7 @@ completes_after state operation line.Impossible c e = absurd (none-some c e)
 
 -- ---- what a step settles its line holds
 
-pub settles_held : (state : State) (operation : Operation) (l : Line) (offer : Descriptor) → settles (line_action state operation l) ≡ Some offer → Holds l offer
+pub settles_held : (state : State) (operation : Operation) (l : Line) (offer : Descriptor) → settles (line_action state operation l) ≡ Some offer → HoldsOffer l offer
 settles_held state operation (line.Root l) offer h = grind arith
 settles_held state operation (line.Key l) offer h = grind arith
 settles_held state operation (line.Build l) offer h = grind arith

@@ -13,7 +13,7 @@ use Rattle.proof_obstruction_free.specs.Beneath.machine_model.specs.Grown.{prev_
 use Rattle.proof_obstruction_free.specs.Beneath.proof_contents.specs.Nodes.Looking.{Absent, Below, look_at, look_in}
 use Rattle.proof_obstruction_free.specs.Beneath.proof_contents.specs.Tries.{Trie, On, at_root, at_below, generation, says}
 use Rattle.proof_obstruction_free.specs.Beneath.proof_contents.specs.Steps.{IsTrie}
-use Rattle.proof_obstruction_free.specs.Beneath.proof_contents.proofs.Values.Runs.{main_at-made}
+use Rattle.proof_obstruction_free.specs.Beneath.proof_contents.proofs.Values.Runs.{counting_main-made}
 use Rattle.proof_obstruction_free.specs.Beneath.proof_shape.specs.Shaped.{trie_of_run}
 use Rattle.proof_updates.specs.Paths.{LiesOn, path_of}
 use Rattle.proof_updates.proofs.Tries.Taken.{roots_are_kept}
@@ -38,7 +38,7 @@ module _ (a : Lone) where
   -- a decided main node counts
   pub has_main : (t : ℕ) (i m : Ref) → Has a t i m → trie.main t i ≡ m
   has_main t i m has =
-      main_at-made a.states a.last t i has.made ∙ ap (λ x. logical x (prev_word a.states t x)) has.main ∙ ap (logical m) has.decided
+      counting_main-made a.states a.last t i has.made ∙ ap (λ x. logical x (prev_word a.states t x)) has.main ∙ ap (logical m) has.decided
 
   pub of_generation : (i : Ref) (g : ℕ) → IsOf a i g → generation trie i ≡ g
   of_generation i g (m, is) = ap generation_of is

@@ -27,7 +27,7 @@ use Rattle.proof_obstruction_free.proofs.Root.Words.{plain_on, settles_on}
 use Rattle.proof_obstruction_free.proofs.Swap.Steps.{w, facts, reads, read_next, same_word}
 use Rattle.proof_obstruction_free.proofs.Swap.Lines.{swap_line, deciding, checking, swap_reads}
 use Rattle.proof_obstruction_free.proofs.Swap.Found.{replaced_decided, root_generation, swap_writable, generation_for_good}
-use Rattle.proof_obstruction_free.proofs.Swap.Course.{prev_leaves, main_leaves, ask_leaves, abort_leaves, decide_commits, decide_fails, restores, Holds, left, committed}
+use Rattle.proof_obstruction_free.proofs.Swap.Course.{prev_leaves, main_leaves, ask_leaves, abort_leaves, decide_commits, decide_fails, restores, FreshStands, left, committed}
 use Rattle.proof_obstruction_free.proofs.Swap.Course.{has_failed, Restored, put_back}
 use Rattle.proof_obstruction_free.proofs.Step.Within.{same_stays}
 
@@ -36,7 +36,7 @@ module _ (a : Lone) (steps : Stepping a) (why : Purpose) (i replaced fresh : Ref
   At x u = Stands a u g (swap_line a why i replaced fresh x)
 
   abbrev H : ℕ → Prev → Type 0
-  H = Holds a i replaced fresh t
+  H = FreshStands a i replaced fresh t
 
   -- what comes next, and what still holds
   pub record Next (u : ℕ) (x : SwapLine) (v : Prev) : Type 0 where

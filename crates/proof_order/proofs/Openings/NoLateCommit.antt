@@ -35,8 +35,8 @@ use Rattle.proof_generations.proofs.Lines.Offers.{completing_of}
 use Rattle.proof_generations.proofs.Roots.Open.{no_close_at, open_root}
 use Rattle.proof_generations.proofs.Roots.Own.{gen}
 use Rattle.proof_generations.proofs.Roots.Along.{IsOrdered, ordered_at}
-use Rattle.proof_order.specs.Beneath.proof_contents.specs.Runs.{main_at, is_made}
-use Rattle.proof_order.specs.Beneath.proof_contents.proofs.Values.Runs.{main_at-made, made_next}
+use Rattle.proof_order.specs.Beneath.proof_contents.specs.Runs.{counting_main, is_made}
+use Rattle.proof_order.specs.Beneath.proof_contents.proofs.Values.Runs.{counting_main-made, made_next}
 use Rattle.proof_order.specs.Openings.{IsSwap, IsRootOf, NoLateCommit}
 use Rattle.proof_order.proofs.Openings.Carried.{Carried, mover, word, IsOffered, offered_root}
 use Rattle.proof_order.proofs.Openings.RootOf.{roots_are_one, root_in_use}
@@ -179,14 +179,14 @@ module _ (limits : Limits) (states : ℕ → State) (last : ℕ) (run : IsRun li
       let same = (roots_are_one limits states last run t handle offer.root g (omega (arith, swap.taken)) (old_stands limits states last run t handle offer swap)).1 in
       ap (λ b. cond b (Some (since - 1)) None) (eq-eqb (generation_of (node_under states last offer.root)) g same)
 
-  pub stays_expected : (u : ℕ) → t ≤ u → u ≤ last → main_at states last u offer.root ≡ offer.expected
+  pub stays_expected : (u : ℕ) → t ≤ u → u ≤ last → counting_main states last u offer.root ≡ offer.expected
   stays_expected u after within =
       let counts = complete_since.counts in
       let final : main_before states u offer.root ≡ carried.main =
       given_for_good (protocol limits states last known_so) offer.root carried.main carried.mover.read_at carried.mover.moment counts.1.0 (since - 1)
       (omega (arith, counts.1.1, swap.taken)) moment its_closing (omega (arith, counts.0, began)) u (omega (arith, moment.past, counts.1.1)) within in
       let used = root_in_use limits states last run t handle offer.root g (omega (arith, swap.taken)) (old_stands limits states last run t handle offer swap) in
-      main_at-made states last u offer.root (made_later states t u offer.root after (ap is_some (grown_in_use states t offer.root used.0 used.1))) ∙ final ∙ given
+      counting_main-made states last u offer.root (made_later states t u offer.root after (ap is_some (grown_in_use states t offer.root used.0 used.1))) ∙ final ∙ given
 
 pub no_late_commit : (limits : Limits) (states : ℕ → State) (last : ℕ) → IsRun limits states last → NoLateCommit states last
 no_late_commit limits states last run t handle offer swap = stays_expected limits states last run t handle offer swap

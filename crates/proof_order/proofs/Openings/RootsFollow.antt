@@ -74,7 +74,7 @@ module _ (limits : Limits) (states : ℕ → State) (last : ℕ) (run : IsRun li
     link = ap (λ q. is_indirection (node_under states last q)) (sym stands.is) ∙ root_link limits states last run t handle stands.root within stands.is_open
 
     -- the main node of a handle's root is the trie's
-    root_main : logical_main (states t).heap r ≡ trie.main_at states last t r
+    root_main : logical_main (states t).heap r ≡ trie.counting_main states last t r
     root_main = main_there limits states last run t r within used link
 
     link_then : is_indirection (node_at (states t).heap r) ≡ true
@@ -88,7 +88,7 @@ module _ (limits : Limits) (states : ℕ → State) (last : ℕ) (run : IsRun li
         kept m n = refl
 
     -- what it is for ever it is now
-    empty_now : node_under states last (trie.main_at states last t r) ≡ empty_branch → node_at (states t).heap (logical_main (states t).heap r) ≡ empty_branch
+    empty_now : node_under states last (trie.counting_main states last t r) ≡ empty_branch → node_at (states t).heap (logical_main (states t).heap r) ≡ empty_branch
     empty_now e =
         let main = logical_main (states t).heap r in
         let there = logical_in_use (states t) (safe_at limits states last run t within) r used link_then in
@@ -98,7 +98,7 @@ module _ (limits : Limits) (states : ℕ → State) (last : ℕ) (run : IsRun li
 
   module _ (t handle : ℕ) (offer : Descriptor) (swap : IsSwap states last t handle offer) where
     -- a new root over the expected node is over the old root's
-    follows : (h : ℕ) (r : Ref) → IsRootOf states (suc t) h r (generation_at (states t).heap r) → trie.main_at states last (suc t) r ≡ offer.expected →
+    follows : (h : ℕ) (r : Ref) → IsRootOf states (suc t) h r (generation_at (states t).heap r) → trie.counting_main states last (suc t) r ≡ offer.expected →
         logical_main (states (suc t)).heap r ≡ logical_main (states t).heap offer.root
     follows h r stands is =
         let was = root_main t handle offer.root _ (omega (arith, swap.taken)) (old_stands limits states last run t handle offer swap) in

@@ -26,7 +26,7 @@ use Rattle.proof_shape.specs.Beneath.proof_commits.proofs.Course.Finals.{from_ti
 use Rattle.proof_shape.specs.Beneath.proof_contents.specs.Lines.Changes.{Known, flag_in, IsFlagged, Absence, no_flag, not_listed, Presence, in_branch, in_list, Neighbour, IsOther}
 use Rattle.proof_shape.specs.Beneath.proof_contents.specs.Lines.Changes.{of_branch, of_list, KnowsChange, KnowsSwap}
 use Rattle.proof_shape.specs.Beneath.proof_contents.specs.Lines.Repairs.{IsDone, keeps, renews, cleans, IsRepaired}
-use Rattle.proof_shape.specs.Beneath.proof_contents.specs.Runs.{main_at}
+use Rattle.proof_shape.specs.Beneath.proof_contents.specs.Runs.{counting_main}
 use Rattle.proof_shape.specs.Lines.Given.{GaveBelow, Was}
 use Rattle.proof_shape.specs.Lines.Climbing.{KnowsClimbing}
 use Rattle.proof_shape.specs.Lines.Knowing.{known_with, first_main}
@@ -110,14 +110,14 @@ module _ (limits : Limits) (states : ℕ → State) (last : ℕ) (run : IsRun li
 
   -- ---- what can't be read has its first main node
 
-  untouched : (t : ℕ) → t ≤ last → (j : Ref) → (IsOpen limits states last run t j → ⊥) → main_at states last t j ≡ first_main states last j
+  untouched : (t : ℕ) → t ≤ last → (j : Ref) → (IsOpen limits states last run t j → ⊥) → counting_main states last t j ≡ first_main states last j
   untouched t h j closed =
-      from_time (λ u. main_at states last u j ≡ first_main states last j) zero t refl
+      from_time (λ u. counting_main states last u j ≡ first_main states last j) zero t refl
       (λ u low below so_far. closed_keeps limits states last run u (omega arith) j (λ may. closed (open_still limits states last run u t (omega arith) j may)) ∙ so_far) t (omega arith) (omega arith)
 
-  assigned_own : (start t : ℕ) (j word : Ref) → node j ≡ Indirection start word → assigned_at states last start t j ≡ main_at states last t j
+  assigned_own : (start t : ℕ) (j word : Ref) → node j ≡ Indirection start word → assigned_at states last start t j ≡ counting_main states last t j
   assigned_own start t j word is =
-      ap (λ b. cond b (main_at states last t j) (main_at states last last j)) (eq-eqb (generation_of (node j)) start (ap generation_of is))
+      ap (λ b. cond b (counting_main states last t j) (counting_main states last last j)) (eq-eqb (generation_of (node j)) start (ap generation_of is))
 
   module _ (t : ℕ) (h : t < last) (start : ℕ) where
     -- at the commit, and just behind it

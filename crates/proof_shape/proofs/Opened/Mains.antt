@@ -43,7 +43,7 @@ use Rattle.proof_shape.specs.Beneath.proof_commits.specs.Stages.{stage_of, stage
 use Rattle.proof_shape.specs.Beneath.proof_commits.specs.Words.{words_of}
 use Rattle.proof_shape.specs.Beneath.proof_commits.proofs.Known.Owners.{given_later}
 use Rattle.proof_shape.specs.Beneath.proof_commits.proofs.Words.Along.{protocol, remembers_at}
-use Rattle.proof_shape.specs.Beneath.proof_contents.specs.Runs.{main_at}
+use Rattle.proof_shape.specs.Beneath.proof_contents.specs.Runs.{counting_main}
 use Rattle.proof_shape.specs.Lines.Knowing.{OfEachAt}
 use Rattle.proof_shape.specs.Lines.Commits.{MainStep, stays, changes, made_with}
 use Rattle.proof_shape.proofs.Runs.EachAt.{GoesAt, each_at}
@@ -188,19 +188,19 @@ module _ (limits : Limits) (states : ℕ → State) (last : ℕ) (run : IsRun li
 
   -- ---- so what may not be read keeps its main node
 
-  pub closed_keeps : (t : ℕ) → t < last → (j : Ref) → (IsOpen t j → ⊥) → main_at states last (suc t) j ≡ main_at states last t j
+  pub closed_keeps : (t : ℕ) → t < last → (j : Ref) → (IsOpen t j → ⊥) → counting_main states last (suc t) j ≡ counting_main states last t j
   closed_keeps t h j closed = by_turn (states (suc t)) (run.turn t h) refl
     where
-      by_step : (s : Step) → MainStep limits states last (made_with states last) t s → main_at states last (suc t) j ≡ main_at states last t j
+      by_step : (s : Step) → MainStep limits states last (made_with states last) t s → counting_main states last (suc t) j ≡ counting_main states last t j
       by_step s (stays none all) = all j
       by_step s (changes own) = by_place (cases_eq j own.indirection)
         where
-          by_place : (j ≡ own.indirection) ⊎ (j ≡ own.indirection → ⊥) → main_at states last (suc t) j ≡ main_at states last t j
+          by_place : (j ≡ own.indirection) ⊎ (j ≡ own.indirection → ⊥) → counting_main states last (suc t) j ≡ counting_main states last t j
           by_place (inl same) =
               let kept = subst (λ l. Remembers (λ i m. Given w t own.actor i m) (own.owner.access ≡ Writable) l) own.swaps
               (remembers_at limits states last (known_run limits states last run) t (omega arith) own.actor own.owner own.runs) in
               absurd (closed (subst (IsOpen t) (sym same) (given_is_open t (omega arith) own.actor own.indirection own.replaced kept.1)))
           by_place (inr apart) = own.others j apart
 
-      by_turn : (after : State) → Turn (states t) after → after ≡ states (suc t) → main_at states last (suc t) j ≡ main_at states last t j
+      by_turn : (after : State) → Turn (states t) after → after ≡ states (suc t) → counting_main states last (suc t) j ≡ counting_main states last t j
       by_turn after (turns s o m) e = by_step s (commits_at limits states last run t h s o (subst (λ x. Moves (states t) s o x) e m))

@@ -29,7 +29,7 @@ use Rattle.proof_shape.specs.Beneath.proof_commits.proofs.Lines.Reads.{CountsTo,
 use Rattle.proof_shape.specs.Beneath.proof_commits.proofs.Lines.Turns.{line_turn}
 use Rattle.proof_shape.specs.Beneath.proof_commits.proofs.Words.Along.{line_facts, remembers_at, protocol}
 use Rattle.proof_shape.specs.Beneath.proof_commits.proofs.Course.Moments.{moment_at}
-use Rattle.proof_shape.specs.Beneath.proof_contents.proofs.Values.Runs.{main_at-made}
+use Rattle.proof_shape.specs.Beneath.proof_contents.proofs.Values.Runs.{counting_main-made}
 use Rattle.proof_shape.specs.Lines.Given.{HasBegun, at_first, later, Reading, Gave}
 use Rattle.proof_shape.specs.Lines.Knowing.{OfEachAt}
 use Rattle.proof_shape.proofs.Runs.EachAt.{GoesAt, each_at}
@@ -171,7 +171,7 @@ module _ (limits : Limits) (states : ℕ → State) (last : ℕ) (run : IsRun li
         gave = record { operation = operation; runs = go.runs; same = refl; reads = is };
         gives = gives;
         is_moment = moment;
-        is = main_at-made states last (suc (moment_after (states t) operation)) i (link_made (grown states (suc (moment_after (states t) operation)) i) linked) ∙ moment.is;
+        is = counting_main-made states last (suc (moment_after (states t) operation)) i (link_made (grown states (suc (moment_after (states t) operation)) i) linked) ∙ moment.is;
       }
     where
       from_first : {began : ℕ} (y : ReadLine) → read_after (states t).heap operation.access (word_at (states t) (handle_of operation.call)) i y ≡ Gives m → began ≤ t →

@@ -21,8 +21,8 @@ use Rattle.proof_shape.specs.Beneath.proof_commits.proofs.Course.Finals.{from_ti
 use Rattle.proof_shape.specs.Beneath.proof_commits.proofs.Known.Given.{Known, ActsOn, Taken, GrownTakes}
 use Rattle.proof_shape.specs.Beneath.proof_commits.proofs.Known.Acts.{known_run}
 use Rattle.proof_shape.specs.Beneath.proof_contents.specs.Grows.{NodesStay}
-use Rattle.proof_shape.specs.Beneath.proof_contents.specs.Runs.{is_made, main_at}
-use Rattle.proof_shape.specs.Beneath.proof_contents.proofs.Values.Runs.{main_at-made, main_at-unmade}
+use Rattle.proof_shape.specs.Beneath.proof_contents.specs.Runs.{is_made, counting_main}
+use Rattle.proof_shape.specs.Beneath.proof_contents.proofs.Values.Runs.{counting_main-made, counting_main-unmade}
 use Rattle.proof_shape.specs.Beneath.proof_contents.proofs.Values.Started.{node_stays, indirection_stays}
 use Rattle.proof_shape.specs.Beneath.proof_memory.proofs.Claims.Nodes.{IsNoLink}
 use Rattle.proof_shape.specs.Lines.Knowing.{first_main}
@@ -67,10 +67,10 @@ module _ (limits : Limits) (states : ℕ → State) (last : ℕ) (run : IsRun li
       by_slot None e = refl
       by_slot (Some slot) e = let now = grown_stays limits states last run u t le within r slot e in absurd (none-some now.0 (sym none ∙ now.1))
 
-  first_until : (t : ℕ) (r : Ref) → t < last → grown states t r ≡ None → first_main states last r ≡ main_at states last (suc t) r
+  first_until : (t : ℕ) (r : Ref) → t < last → grown states t r ≡ None → first_main states last r ≡ counting_main states last (suc t) r
   first_until t r within none =
-      from_time (λ u. first_main states last r ≡ main_at states last u r) zero (suc t) refl
-      (λ u low below so_far. so_far ∙ sym (main_at-unmade states last u r (omega arith) (unmade_before t u r (omega arith) (omega arith) none))) (suc t) (omega arith) (omega arith)
+      from_time (λ u. first_main states last r ≡ counting_main states last u r) zero (suc t) refl
+      (λ u low below so_far. so_far ∙ sym (counting_main-unmade states last u r (omega arith) (unmade_before t u r (omega arith) (omega arith) none))) (suc t) (omega arith) (omega arith)
 
   -- ---- what is made
 
@@ -99,6 +99,6 @@ module _ (limits : Limits) (states : ℕ → State) (last : ℕ) (run : IsRun li
     first_is g below is none =
         let word : main_word states (suc t) made ≡ below = ap (λ o. main_of (node_of o)) takes.here ∙ ap main_of is in
         first_until t made h takes.new
-        ∙ main_at-made states last (suc t) made (ap is_some takes.here)
+        ∙ counting_main-made states last (suc t) made (ap is_some takes.here)
         ∙ ap (λ m. logical m (prev_word states (suc t) m)) word
         ∙ ap (logical below) none

@@ -22,7 +22,7 @@ use Rattle.proof_shape.specs.Beneath.machine_model.specs.Grown.{grown, node_unde
 use Rattle.proof_shape.specs.Beneath.proof_memory.specs.Wants.{is_indirection}
 use Rattle.proof_shape.specs.Beneath.proof_memory.proofs.Levels.Shapes.{deep_low}
 use Rattle.proof_shape.specs.Beneath.proof_contents.specs.Tries.{Trie, generation, IsChild, IsShaped, branch, list, tomb, node_in}
-use Rattle.proof_shape.specs.Beneath.proof_contents.specs.Runs.{is_made, main_within, main_at, root_until}
+use Rattle.proof_shape.specs.Beneath.proof_contents.specs.Runs.{is_made, main_within, counting_main, root_until}
 use Rattle.proof_shape.specs.Beneath.proof_contents.proofs.Values.Runs.{key_until}
 use Rattle.proof_shape.specs.Beneath.proof_contents.proofs.Shapes.Builders.{empty_shaped}
 use Rattle.proof_shape.specs.Beneath.proof_contents.proofs.Shapes.Lists.{shape_moves}
@@ -150,7 +150,7 @@ module _ (limits : Limits) (states : ℕ → State) (steps : ℕ → Step) (last
       by_test rest true made = (t, omega (arith, e), refl, λ x. made)
       by_test rest false made = rest
 
-  main_of_some : (t : ℕ) (i : Ref) → t ≤ last → (u : ℕ) × (u ≤ last) × (main_at states last t i ≡ main_before states u i) × (is_made states last i ≡ true → is_made states u i ≡ true)
+  main_of_some : (t : ℕ) (i : Ref) → t ≤ last → (u : ℕ) × (u ≤ last) × (counting_main states last t i ≡ main_before states u i) × (is_made states last i ≡ true → is_made states u i ≡ true)
   main_of_some t i h = some_main (last - t) t i (omega (arith, h))
 
   slot_of_made : (o : Option Slot) → is_some o ≡ true → (slot : Slot) × (o ≡ Some slot)
@@ -162,7 +162,7 @@ module _ (limits : Limits) (states : ℕ → State) (steps : ℕ → Step) (last
       let (u, le, is, still) = main_of_some t i h in
       let (slot, found) = slot_of_made (grown states u i) (still (link_made (grown states last i) link)) in
       let c = counts limits states steps last run takes keys u le i slot found (sym (link_same limits states steps last run takes keys u le i slot found) ∙ link) in
-      with_generations i link (node_under states last (main_at states last t i))
+      with_generations i link (node_under states last (counting_main states last t i))
       (λ k child x within its. newer t h i child k x within its)
       (subst (λ m. IsShaped T i (node_under states last m)) (sym is)
       (shape_moves T (main_before states u i) i (node_under states last (main_before states u i)) (stands limits.hash s (main_before states u i) i (sym c.level) (sym c.path))

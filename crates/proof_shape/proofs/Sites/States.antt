@@ -186,11 +186,11 @@ module _ (s : Sites) (fits : (i : Ref) → s.path i < 2 ^ (5 * depth_at (s.level
 
   -- ---- lines
 
-  abbrev Stands : Operation → Type 0
-  Stands operation = LineSite kind s (hash_of kind (key_of operation.call)) operation.line × (key_of operation.call < 2 ^ 64)
+  abbrev OperationSite : Operation → Type 0
+  OperationSite operation = LineSite kind s (hash_of kind (key_of operation.call)) operation.line × (key_of operation.call < 2 ^ 64)
 
-  marked_site : (m : Option ℕ) (operation : Operation) → Stands operation → Stands (mark_one m operation)
-  marked_site m operation l = subst Stands (sym (mark_only m operation)) l
+  marked_site : (m : Option ℕ) (operation : Operation) → OperationSite operation → OperationSite (mark_one m operation)
+  marked_site m operation l = subst OperationSite (sym (mark_only m operation)) l
 
   first_site : (call : Call) (hash : ℕ) → LineSite kind s hash (first_line call)
   first_site (Close x) hash = tt
@@ -203,18 +203,18 @@ module _ (s : Sites) (fits : (i : Ref) → s.path i < 2 ^ (5 * depth_at (s.level
 
   lines_after : (x : Step) (o : Outcome) (after : State) → Moves state x o after → FitsKey x → GivesLevel s.level state x → GivesPath s state x → AreBare s after →
       (k : ℕ) → Dec (IsOf (suc k) x) → (found : Operation) →
-      get_or after.actors k None ≡ Some found → Stands found
+      get_or after.actors k None ≡ Some found → OperationSite found
   lines_after x o after m key gives paths bare_after k (no other) found at_k =
       let (was, at_was, same) = of_others state x o after m k other found at_k in
-      subst Stands (sym same) (marked_site (marks_in state x) was (h.lines k was at_was))
+      subst OperationSite (sym same) (marked_site (marks_in state x) was (h.lines k was at_was))
   lines_after x o after (Begins {actor} {call} d) key gives paths bare_after k (yes own) found at_k =
-      subst Stands (sym (of_begin state actor call (begun_operation state call) k own found at_k)) (first_site call (hash_of kind (key_of call)), key)
+      subst OperationSite (sym (of_begin state actor call (begun_operation state call) k own found at_k)) (first_site call (hash_of kind (key_of call)), key)
   lines_after x o after (Goes {actor} {operation} d is a g) key gives paths bare_after k (yes own) found at_k =
       let at_was = at_place state actor k operation own is in
       let goes_on : GoesOn (action_of state operation) = rw a g in
       let is_open : is_some (root_at state (handle_of operation.call)) ≡ true =
       elim (or_cases _ _ (I.handles k operation at_was)) [ inl ends ↦ absurd (goes_no_end state operation operation.line goes_on ends) | inr opened ↦ opened ] in
-      subst Stands (sym (of_itself state actor operation k own found at_k))
+      subst OperationSite (sym (of_itself state actor operation k own found at_k))
       (marked_site (marks_by state (Some operation)) (operation_after state operation) (
         line_next s fits state operation S (heaped_in_use state I) sees first (word_by (root_at state (handle_of operation.call)) (handle_of operation.call) refl is_open) operation.line
             (line_finds state I actor operation is) (levels.lines k operation at_was) (h.lines k operation at_was).0 (knows actor operation is)

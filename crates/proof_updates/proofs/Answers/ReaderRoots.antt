@@ -24,7 +24,7 @@ use Rattle.proof_updates.specs.Beneath.proof_memory.proofs.Safety.AtEachTime.{sa
 use Rattle.proof_updates.specs.Beneath.proof_generations.proofs.Roots.Along.{ordered_at, read_only_plain}
 use Rattle.proof_order.specs.Facts.{Runs, standing, standing_of}
 use Rattle.proof_order.proofs.Phases.Standing.{read_only_stays}
-use Rattle.proof_updates.specs.Beneath.proof_contents.specs.Runs.{root_at as root_of_generation}
+use Rattle.proof_updates.specs.Beneath.proof_contents.specs.Runs.{root_of_generation}
 use Rattle.proof_shape.proofs.Runs.Nodes.{nodes_stay}
 use Rattle.proof_updates.specs.Taken.{RootsAreKept}
 use Rattle.proof_updates.proofs.Tries.Seen.{seen_link}

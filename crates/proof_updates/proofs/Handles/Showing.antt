@@ -21,7 +21,7 @@ use Rattle.proof_updates.specs.Beneath.proof_memory.proofs.Claims.Uses.{safe_of,
 use Rattle.proof_updates.specs.Beneath.proof_memory.proofs.Safety.States.{IsSafe}
 use Rattle.proof_updates.specs.Beneath.proof_memory.proofs.Safety.Standing.{in_any_slot}
 use Rattle.proof_updates.specs.Beneath.proof_contents.specs.Pairs.{pairs_of, pairs_from}
-use Rattle.proof_updates.specs.Beneath.proof_contents.specs.Runs.{main_at}
+use Rattle.proof_updates.specs.Beneath.proof_contents.specs.Runs.{counting_main}
 use Rattle.proof_updates.specs.Beneath.proof_contents.specs.Steps.{IsTrie}
 use Rattle.proof_updates.specs.Beneath.proof_contents.specs.Tries.{Trie, content, map_of, most_levels}
 use Rattle.proof_updates.specs.Beneath.proof_contents.proofs.Pairs.Heap.{flat_map-same, entry_refs}
@@ -78,7 +78,7 @@ module _ (limits : Limits) (states : ℕ → State) (steps : ℕ → Step) (last
   pub link_same : (r : Ref) → IsInUse heap r → is_indirection (node_at heap r) ≡ is_indirection (node_under states last r)
   link_same r used = sym (bare_link (node_at heap r)) ∙ ap is_indirection (node_same r used) ∙ bare_link (node_under states last r)
 
-  pub main_same : (r : Ref) → IsInUse heap r → is_indirection (node_under states last r) ≡ true → logical_main heap r ≡ main_at states last t r
+  pub main_same : (r : Ref) → IsInUse heap r → is_indirection (node_under states last r) ≡ true → logical_main heap r ≡ counting_main states last t r
   main_same r used link = main_there limits states last run t r within used link
 
   pub main_used : (r : Ref) → IsInUse heap r → is_indirection (node_under states last r) ≡ true → IsInUse heap (logical_main heap r)
@@ -86,7 +86,7 @@ module _ (limits : Limits) (states : ℕ → State) (steps : ℕ → Step) (last
 
   -- the entries of a main node
   pub entries_same : (r : Ref) → IsInUse heap r → is_indirection (node_under states last r) ≡ true →
-      entries_of (node_at heap (logical_main heap r)) ≡ entries_of (node_under states last (main_at states last t r))
+      entries_of (node_at heap (logical_main heap r)) ≡ entries_of (node_under states last (counting_main states last t r))
   entries_same r used link =
       sym (bare_entries (node_at heap (logical_main heap r))) ∙ ap entries_of (node_same (logical_main heap r) (main_used r used link))
       ∙ bare_entries (node_under states last (logical_main heap r)) ∙ ap (λ m. entries_of (node_under states last m)) (main_same r used link)
@@ -99,20 +99,20 @@ module _ (limits : Limits) (states : ℕ → State) (steps : ℕ → Step) (last
 
   -- ---- the pairs below
 
-  pairs_shown : (levels : ℕ) (r : Ref) → IsInUse heap r → pairs_below levels heap r ≡ pairs_from (node_under states last) (main_at states last t) levels r
+  pairs_shown : (levels : ℕ) (r : Ref) → IsInUse heap r → pairs_below levels heap r ≡ pairs_from (node_under states last) (counting_main states last t) levels r
   unfolding pairs_below pairs_from
   pairs_shown zero r used = refl
   pairs_shown (suc levels) r used =
       sym (bare_pairs_at (pairs_below levels heap) heap r (node_at heap r)) ∙ ap (pairs_at (pairs_below levels heap) heap r) (node_same r used)
       ∙ bare_pairs_at (pairs_below levels heap) heap r (node_under states last r) ∙ by_node (λ q. pairs_shown levels q) (node_under states last r) refl
     where
-      by_node : ((q : Ref) → IsInUse heap q → pairs_below levels heap q ≡ pairs_from (node_under states last) (main_at states last t) levels q) → (n : Node) → node_under states last r ≡ n →
-          pairs_at (pairs_below levels heap) heap r n ≡ pairs_of (pairs_from (node_under states last) (main_at states last t) levels) (node_under states last) (main_at states last t) r n
+      by_node : ((q : Ref) → IsInUse heap q → pairs_below levels heap q ≡ pairs_from (node_under states last) (counting_main states last t) levels q) → (n : Node) → node_under states last r ≡ n →
+          pairs_at (pairs_below levels heap) heap r n ≡ pairs_of (pairs_from (node_under states last) (counting_main states last t) levels) (node_under states last) (counting_main states last t) r n
       by_node rest (Indirection g w) is =
           let link : is_indirection (node_under states last r) ≡ true = ap is_indirection is in
-          flat_map-same (pairs_below levels heap) (pairs_from (node_under states last) (main_at states last t) levels) (entries_of (node_at heap (logical_main heap r)))
+          flat_map-same (pairs_below levels heap) (pairs_from (node_under states last) (counting_main states last t) levels) (entries_of (node_at heap (logical_main heap r)))
           (λ q c. rest q (entry_used (logical_main heap r) q (main_used r used link) c))
-          ∙ ap (flat_map (pairs_from (node_under states last) (main_at states last t) levels)) (entries_same r used link)
+          ∙ ap (flat_map (pairs_from (node_under states last) (counting_main states last t) levels)) (entries_same r used link)
       by_node rest (Single k v) is = refl
       by_node rest (Branch b es) is = refl
       by_node rest (Tomb s) is = refl
@@ -144,7 +144,7 @@ module _ (limits : Limits) (states : ℕ → State) (steps : ℕ → Step) (last
 
     -- the trie at this time, with this root alone
     abbrev pub now : Trie
-    now = record trie { last = 0; main = λ n. main_at states last t; root = λ g. r }
+    now = record trie { last = 0; main = λ n. counting_main states last t; root = λ g. r }
 
     pub is_trie_now : IsTrie now
     is_trie_now = record {
@@ -152,7 +152,7 @@ module _ (limits : Limits) (states : ℕ → State) (steps : ℕ → Step) (last
       root_depth = λ g. root_deep;
       root_path = λ g. root_led;
       path_fits = shape.path_fits;
-      shaped = λ n i le. same_shape trie 0 (λ n. main_at states last t) (λ g. r) i _ (shape.shaped t i within);
+      shaped = λ n i le. same_shape trie 0 (λ n. counting_main states last t) (λ g. r) i _ (shape.shaped t i within);
       does = λ n lt. absurd (omega (arith, lt));
     }
 

@@ -23,7 +23,7 @@ use Rattle.proof_updates.specs.Beneath.proof_commits.proofs.Course.Finals.{link_
 use Rattle.proof_updates.specs.Beneath.proof_commits.proofs.Course.Mains.{main_decided}
 use Rattle.proof_updates.specs.Beneath.proof_commits.specs.Stages.{stage_of, stage_of_actor}
 use Rattle.proof_updates.specs.Beneath.proof_commits.proofs.Words.Along.{protocol}
-use Rattle.proof_updates.specs.Beneath.proof_contents.specs.Runs.{main_at}
+use Rattle.proof_updates.specs.Beneath.proof_contents.specs.Runs.{counting_main}
 use Rattle.proof_order.specs.Facts.{Runs, entered_by_step}
 use Rattle.proof_order.proofs.Places.Elements.{Among, among_right}
 use Rattle.proof_order.proofs.Places.Origins.{place_says}
@@ -66,7 +66,7 @@ module _ (limits : Limits) (states : ℕ → State) (last : ℕ) (run : IsRun li
 
     module _ (q : Ref) (commit : CommitsNode p.words t f q) where
       -- the node becomes the main node of its indirection, which it wasn't before
-      becomes_main : main_at states last (suc t) i ≡ f
+      becomes_main : counting_main states last (suc t) i ≡ f
       becomes_main = commit_is limits states last run t lt (suc k) i a f l stage_is q commit
 
       link : p.words.link t i ≡ true
@@ -74,7 +74,7 @@ module _ (limits : Limits) (states : ℕ → State) (last : ℕ) (run : IsRun li
           let stood = (subst (λ x. Staged p.words t (suc k) x) stage_is ((sound_at p t (omega arith)).staged (suc k))).1 in
           link_stays p i stood.at t stood.past (omega arith) stood.link
 
-      was_no_main : main_at states last t i ≡ f → ⊥
+      was_no_main : counting_main states last t i ≡ f → ⊥
       was_no_main same =
           let decided = main_decided p.words t (sound_at p t (omega arith)).words i link in
           none≢pending decided.none (ap (p.words.prev t) (sym (main_linked limits states last run t i link) ∙ same) ∙ commit.was)
@@ -103,7 +103,7 @@ module _ (limits : Limits) (states : ℕ → State) (last : ℕ) (run : IsRun li
 
               by_test : (b : Bool) → (i == own.indirection) ≡ b → entered_by_step (states t) s ≡ place_of (states t) operation t false ∷ []
               by_test true e =
-                  let same : own.fresh ≡ f = sym own.after ∙ ap (main_at states last (suc t)) (sym (eqb-true i own.indirection e)) ∙ becomes_main in
+                  let same : own.fresh ≡ f = sym own.after ∙ ap (counting_main states last (suc t)) (sym (eqb-true i own.indirection e)) ∙ becomes_main in
                   own_enters limits states last t s own ∙ ap (λ w. places_for (states t) own.owner t w) (why same) ∙ ap (λ x. place_of (states t) x t false ∷ []) (owner same)
               by_test false e = absurd (was_no_main (sym (own.others i (differ i own.indirection e)) ∙ becomes_main))
 

@@ -24,11 +24,11 @@ use Rattle.proof_updates.specs.Beneath.machine_model.specs.Times.{turns}
 use Rattle.proof_updates.specs.Beneath.machine_model.specs.Times.{IsRun, Turn}
 use Rattle.proof_updates.specs.Beneath.proof_contents.specs.Tries.{Trie, generation, node_in, assigned}
 use Rattle.proof_updates.specs.Beneath.proof_contents.specs.Steps.{IsRepair, Does, nothing, a_repair, an_update}
-use Rattle.proof_updates.specs.Beneath.proof_contents.specs.Runs.{main_at, trie_of}
+use Rattle.proof_updates.specs.Beneath.proof_contents.specs.Runs.{counting_main, trie_of}
 use Rattle.proof_updates.specs.Beneath.proof_contents.specs.Lines.Changes.{Known, Absence, no_flag, not_listed, Presence, in_branch, in_list, IsOther, of_branch, of_list, KnowsChange, KnowsSwap}
 use Rattle.proof_updates.specs.Beneath.proof_contents.specs.Lines.Repairs.{IsRepaired}
 use Rattle.proof_updates.specs.Beneath.proof_contents.proofs.Lines.Updates.{MakesUpdate, makes_update, known_in}
-use Rattle.proof_updates.specs.Beneath.proof_contents.proofs.Lines.Repair.{Stands}
+use Rattle.proof_updates.specs.Beneath.proof_contents.proofs.Lines.Repair.{StaysGiven}
 use Rattle.proof_shape.specs.Lines.Given.{Was}
 use Rattle.proof_shape.specs.Lines.Knowing.{known_with, first_main}
 use Rattle.proof_shape.specs.Lines.Climbing.{IsClimbed}
@@ -100,26 +100,26 @@ module _ (limits : Limits) (states : ℕ → State) (last : ℕ) (depth path : R
 
     -- ---- tombs last
 
-    tomb_next : (t : ℕ) (i single : Ref) → t < last → node_in trie t i ≡ Tomb single → main_at states last (suc t) i ≡ main_at states last t i
+    tomb_next : (t : ℕ) (i single : Ref) → t < last → node_in trie t i ≡ Tomb single → counting_main states last (suc t) i ≡ counting_main states last t i
     tomb_next t i single lt tomb = by_step (step_at t lt).step (step_at t lt).does
       where
-        by_step : (s : Step) → MainStep limits states last (assigned_at states last) t s → main_at states last (suc t) i ≡ main_at states last t i
+        by_step : (s : Step) → MainStep limits states last (assigned_at states last) t s → counting_main states last (suc t) i ≡ counting_main states last t i
         by_step s (stays none same) = same i
         by_step s (changes own) = by_test (i == own.indirection) refl
           where
-            by_test : (b : Bool) → (i == own.indirection) ≡ b → main_at states last (suc t) i ≡ main_at states last t i
+            by_test : (b : Bool) → (i == own.indirection) ≡ b → counting_main states last (suc t) i ≡ counting_main states last t i
             by_test true e =
                 absurd (replaced_apart t s own single
-                (ap (node_under states last) (sym own.before ∙ ap (main_at states last t) (sym (eqb-true i own.indirection e))) ∙ tomb))
+                (ap (node_under states last) (sym own.before ∙ ap (counting_main states last t) (sym (eqb-true i own.indirection e))) ∙ tomb))
             by_test false e = own.others i (differ i own.indirection e)
 
     pub tombs_last : TombsLast trie
-    tombs_last t zero i single le within tomb = ap (λ n. main_at states last n i) (omega arith)
+    tombs_last t zero i single le within tomb = ap (λ n. counting_main states last n i) (omega arith)
     tombs_last t (suc u) i single le within tomb = by_time (tombs_last t u i single) (t == suc u) refl
       where
-        by_time : (t ≤ u → u ≤ last → node_in trie t i ≡ Tomb single → main_at states last u i ≡ main_at states last t i) → (b : Bool) → (t == suc u) ≡ b →
-            main_at states last (suc u) i ≡ main_at states last t i
-        by_time rest true same = ap (λ n. main_at states last n i) (sym (eqb-true t (suc u) same))
+        by_time : (t ≤ u → u ≤ last → node_in trie t i ≡ Tomb single → counting_main states last u i ≡ counting_main states last t i) → (b : Bool) → (t == suc u) ≡ b →
+            counting_main states last (suc u) i ≡ counting_main states last t i
+        by_time rest true same = ap (λ n. counting_main states last n i) (sym (eqb-true t (suc u) same))
         by_time rest false apart =
             let before = differ t (suc u) apart in
             let same = rest (omega arith) (omega arith) tomb in
@@ -148,15 +148,15 @@ module _ (limits : Limits) (states : ℕ → State) (last : ℕ) (depth path : R
             (subst₂ (λ old new. IsRepair trie own.start t old new) was is r)
 
         -- an indirection of the owner's generation has the main node that it has
-        own_main : (r word : Ref) → trie.node r ≡ Indirection own.start word → main_at states last t r ≡ assigned_at states last own.start t r
+        own_main : (r word : Ref) → trie.node r ≡ Indirection own.start word → counting_main states last t r ≡ assigned_at states last own.start t r
         own_main r word e =
-            ap (λ b. cond b (main_at states last t r) (main_at states last last r))
+            ap (λ b. cond b (counting_main states last t r) (counting_main states last last r))
             (sym (ap (λ n. generation_of n == own.start) e ∙ eq-eqb own.start own.start refl))
 
         final : (entry child word : Ref) (h : ℕ) → trie.node entry ≡ Indirection h word → h ≢ own.start → WasGiven states last own.start t entry child → trie.main last entry ≡ child
         final entry child word h e apart gave = gave.1 (λ same. apart (ap generation_of (sym e) ∙ same))
 
-        stands : Stands trie (WasGiven states last own.start t) own.start t
+        stands : StaysGiven trie (WasGiven states last own.start t) own.start t
         stands = record { final = final; once = λ entry child gave. gave.0 }
 
         done : IsRepairing own.why → Repaired
