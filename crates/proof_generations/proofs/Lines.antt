@@ -1,5 +1,6 @@
 pub mod Copy
 pub mod Offers
+pub mod Completes
 pub mod Knows
 pub mod Key
 pub mod Build

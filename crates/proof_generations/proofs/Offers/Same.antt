@@ -43,7 +43,8 @@ use Rattle.proof_generations.proofs.Handles.Ids.{HasIds, one_of_id, begun_kept, 
 use Rattle.proof_generations.proofs.Lines.Copy.{AllOwn, own_after, is_copy, no_copy_after, complete_tries, same_offer_after}
 use Rattle.proof_generations.specs.Laws.Roots.{settles}
 use Rattle.proof_generations.proofs.Offers.Standing.{own_offer, own_numbers, OffersStand, stands_as, offers_after, none_offered}
-use Rattle.proof_generations.proofs.Lines.Offers.{HoldsOffer, completing_of, abort_after, CompletesFrom, completes_after, settles_held}
+use Rattle.proof_generations.proofs.Lines.Offers.{HoldsOffer, completing_of, abort_after, settles_held}
+use Rattle.proof_generations.proofs.Lines.Completes.{CompletesFrom, completes_after}
 
 -- ---- where an operation has its own offer from
 

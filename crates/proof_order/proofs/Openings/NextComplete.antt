@@ -39,8 +39,9 @@ use Rattle.proof_order.specs.Beneath.machine_model.specs.Climbing.{climbed, clim
 use Rattle.proof_order.specs.Beneath.machine_model.specs.Copying.{copy_after_complete, copied_reply, after_offer}
 use Rattle.proof_order.specs.Beneath.machine_model.specs.Swapping.{complete_after, completing, after_root_word, after_completing, is_plain}
 use Rattle.proof_order.specs.Beneath.machine_model.specs.Operations.{line_after, after_root}
-use Rattle.proof_generations.proofs.Lines.Offers.{completing_of, CompletesFrom, completes_after, from_root_none}
+use Rattle.proof_generations.proofs.Lines.Offers.{completing_of}
 use Rattle.proof_order.specs.Beneath.machine_model.proofs.Basics.{not_offer}
+use Rattle.proof_generations.proofs.Lines.Completes.{CompletesFrom, completes_after, from_root_none}
 
 pub data ComesFrom (state : State) (operation : Operation) (l : Line) (c : Complete) : Type 0 where
   -- it begins
