@@ -1,3 +1,4 @@
+-- What is known of a run for that: what each action finds and does in the heap that only grows, and whose a fresh node is.
 pub mod Owners
 pub mod Sounds
 pub mod Given

@@ -1,3 +1,4 @@
+-- Words over time and the turns by which actors read and write them, apart from the machine; and that a run's words are such.
 pub mod Stood
 pub mod Effects
 pub mod OfRuns

@@ -1,3 +1,4 @@
+-- What the lines of each program know of generations, and hand on.
 pub mod Copy
 pub mod Offers
 pub mod Completes

@@ -1,3 +1,4 @@
+-- Each step repairs a main node or updates a key in it, and so leads contents on.
 pub mod Repairing
 pub mod Does
 pub mod EachOperation
