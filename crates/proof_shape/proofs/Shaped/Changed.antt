@@ -1,6 +1,7 @@
 -- A main node with a change of one key has its shape.
 use Rattle.std.proofs.Common.{◌≡◌, ℕ, zero, suc, ◌-◌, ◌*◌, ◌^◌, ◌<◌, List, [], ◌∷◌, length, slice_index_or, Option, Some, None, inl, inr, refl, sym, ap, subst, ◌∙◌, arith, mod-eq_of_lt}
-use Rattle.proof_shape.specs.Beneath.ctrie_base.specs.Hashes.{hash_of, low_hash-lt, fold_hash-lt, block_hash-lt}
+use Rattle.proof_shape.specs.Beneath.ctrie_base.specs.Hashes.{hash_of}
+use Rattle.proof_shape.specs.Beneath.ctrie_base.proofs.Fits.{low_hash-lt, fold_hash-lt, block_hash-lt}
 use Rattle.proof_shape.specs.Beneath.ctrie_base.specs.declared.hashes.HashKind.{HashKind}
 use Rattle.proof_shape.specs.Beneath.ctrie_base.specs.declared.hashes.HashKind.TheVariants.{Low, Fold, Wide, Block}
 use Rattle.proof_shape.specs.Beneath.history.specs.declared.calls.Call.{Call}
