@@ -5,6 +5,6 @@ pub mod EachOperation
 pub mod Seen
 pub mod Updates
 pub mod Facts
-pub mod Taken
-pub mod Whole
 pub mod OfLists
+pub mod OfRuns
+pub mod Commits

@@ -79,35 +79,29 @@ module _ (limits : Limits) (states : ℕ → State) (last : ℕ) (run : IsRun li
     generation_is : (g : ℕ) (w : Ref) → m.node ≡ Indirection g w → gen_of states last n ≡ g
     generation_is g w e = told_generation states last g n (link_stands limits states last run (suc t) lt n slot here g w (m.its_node ∙ e))
 
+    -- over this main node
+    link_over : (k : ℕ) → Runs (states t) k m.operation → m.operation.access ≡ Writable → (g : ℕ) → m.operation.generation ≡ Some g → (generation : ℕ) (below : Ref) →
+        m.node ≡ Indirection generation below → FallsBelow states last t g below → (gen_of states last n ≡ g) ⊎ (gen_of states last n ≡ (states t).generations) → NewLink n
+    link_over k runs w g begun generation below is falls kind = record {
+      k = k;
+      operation = m.operation;
+      runs = runs;
+      writable = w;
+      inner = makes_inner (states t) m.operation m.operation.line m.node m.makes_it;
+      g = g;
+      begun = begun;
+      takes = m.takes;
+      falls = subst (FallsBelow states last t g) (sym (ap (λ o. main_of (node_of o)) here ∙ ap main_of (m.its_node ∙ is))) falls;
+      kind = kind;
+    }
+
     -- by what the line makes
     new_by : (k : ℕ) → Runs (states t) k m.operation → m.operation.access ≡ Writable → (g : ℕ) → (begun : m.operation.generation ≡ Some g) →
         IsNewLink (states t) m.operation g begun (IsOwn states last g) (FitsBelow states last t g) (FallsBelow states last t g) (LateBelow states last t m.operation g) (IsInUse (states t).heap)
         (own_fits states last t g) (single_fits limits states last run t lt t g) (entries_fit limits states last run t lt t g) m.operation.line m.node →
         NewLink n
-    new_by k runs w g begun (inl (below, is_own, falls)) = record {
-      k = k;
-      operation = m.operation;
-      runs = runs;
-      writable = w;
-      inner = makes_inner (states t) m.operation m.operation.line m.node m.makes_it;
-      g = g;
-      begun = begun;
-      takes = m.takes;
-      falls = subst (FallsBelow states last t g) (sym (ap (λ o. main_of (node_of o)) here ∙ ap main_of (m.its_node ∙ is_own))) falls;
-      kind = inl (generation_is g below is_own);
-    }
-    new_by k runs w g begun (inr (action, (main, is_root, falls))) = record {
-      k = k;
-      operation = m.operation;
-      runs = runs;
-      writable = w;
-      inner = makes_inner (states t) m.operation m.operation.line m.node m.makes_it;
-      g = g;
-      begun = begun;
-      takes = m.takes;
-      falls = subst (FallsBelow states last t g) (sym (ap (λ o. main_of (node_of o)) here ∙ ap main_of (m.its_node ∙ is_root))) falls;
-      kind = inr (generation_is (states t).generations main is_root);
-    }
+    new_by k runs w g begun (inl (below, is_own, falls)) = link_over k runs w g begun _ below is_own falls (inl (generation_is g below is_own))
+    new_by k runs w g begun (inr (action, (main, is_root, falls))) = link_over k runs w g begun _ main is_root falls (inr (generation_is (states t).generations main is_root))
 
     new_from : (k : ℕ) → Runs (states t) k m.operation → (access : Access) → m.operation.access ≡ access → KnowsGenerations states last t m.operation → NewLink n
     new_from k runs Writable w knows =

@@ -16,11 +16,11 @@ use Rattle.proof_obstruction_free.specs.Beneath.proof_contents.specs.Steps.{IsTr
 use Rattle.proof_obstruction_free.specs.Beneath.proof_contents.proofs.Values.Runs.{counting_main-made}
 use Rattle.proof_obstruction_free.specs.Beneath.proof_shape.specs.Shaped.{trie_of_run}
 use Rattle.proof_updates.specs.Paths.{LiesOn, path_of}
-use Rattle.proof_updates.proofs.Tries.Taken.{roots_are_kept}
-use Rattle.proof_updates.proofs.Tries.Whole as whole
+use Rattle.proof_updates.proofs.Tries.OfRuns as whole
 use Rattle.proof_obstruction_free.specs.Alone.{Lone, Stands, Has, IsCurrent}
 use Rattle.proof_obstruction_free.specs.Keys.{Chain, IsOf, Leads, flag_at}
 use Rattle.proof_obstruction_free.proofs.Swap.Found.{handle_open, root_generation}
+use Rattle.proof_obstruction_free.specs.Beneath.proof_order.proofs.Openings.ClosedRoots.{root_is as root_of_run}
 
 module _ (a : Lone) where
   abbrev pub trie : Trie
@@ -74,7 +74,7 @@ module _ (a : Lone) where
         let plain : root.word ≡ Plain r = sym (ap word_of found) ∙ x.plain in
         let its : generation_at (a.states t).heap (root_of root.word) ≡ g =
         ap (λ w. generation_at (a.states t).heap (root_of w)) plain ∙ root_generation a t (Some g) (line.Key (key.Main path main)) s refl r x.plain ∙ (let same = x.own in cc same) in
-        ap trie.root (sym its) ∙ roots_are_kept a.limits a.states a.last a.run t (handle_of a.own.call) root s.until found ∙ ap root_of plain
+        ap trie.root (sym its) ∙ root_of_run a.limits a.states a.last a.run t (handle_of a.own.call) root s.until found ∙ ap root_of plain
 
     -- its path lies on that of the key
     pub lies : a.own.access ≡ Writable → LiesOn trie t g q path

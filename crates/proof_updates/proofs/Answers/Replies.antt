@@ -41,7 +41,6 @@ use Rattle.proof_order.proofs.Phases.Standing.{rooted_at_moments, read_only_stan
 use Rattle.proof_shape.specs.Lines.Commits.{CommitsAt, assigned_at}
 use Rattle.proof_updates.specs.Beneath.proof_generations.specs.Falling.{GivenForEver}
 use Rattle.proof_order.proofs.Phases.Closers.{still_placed}
-use Rattle.proof_updates.specs.Taken.{RootsAreKept}
 use Rattle.proof_updates.specs.Updates.{RepliesRight}
 use Rattle.proof_updates.proofs.Answers.Each.{RightAt, WalksAt, IsAnswering, answering_goes}
 use Rattle.proof_updates.proofs.Placed.Behind.{EndsSo, refused, has_place, is_right, Behind, later_behind}
@@ -49,6 +48,7 @@ use Rattle.proof_updates.proofs.Tries.EachOperation.{each_operation}
 use Rattle.proof_updates.proofs.Answers.ReaderRoots.{stood_before}
 use Rattle.proof_updates.proofs.Placed.Swap.{none_next}
 use Rattle.proof_updates.specs.Beneath.proof_commits.proofs.Lines.Reads.{only_end}
+use Rattle.proof_shape.proofs.Held.Commits.{fresh_commits_at}
 
 -- ---- a begin
 
@@ -68,7 +68,6 @@ close_places state actor (Close handle) e =
 close_places state actor call e = absurd (true≢false (sym e))
 
 module _ (limits : Limits) (states : ℕ → State) (last : ℕ) (depth path : Ref → ℕ) (run : IsRun limits states last) (ok : IsTrie (trie_of limits states last depth path))
-    (all : CommitsAt limits states last (assigned_at states last)) (final : GivenForEver states last) (roots : RootsAreKept states last)
     (fits : (t : ℕ) → t ≤ last → (k : ℕ) (operation : Operation) → Runs (states t) k operation → key_of operation.call < 2 ^ 64) where
   abbrev trie : Trie
   trie = trie_of limits states last depth path
@@ -110,7 +109,7 @@ module _ (limits : Limits) (states : ℕ → State) (last : ℕ) (depth path : R
           Behind states t operation.id (RightAt states trie t operation.access operation.generation operation.moment operation.call) (WalksAt states trie t operation.access operation.call) l →
           Behind states (suc t) operation.id (RightAt states trie (suc t) operation.access operation.generation operation.moment operation.call)
           (WalksAt states trie (suc t) operation.access operation.call) l
-      line_later (line.Swap (purpose.Update path former) x) e h = none_next limits states last run all t k lt operation runs s o m path former x e h
+      line_later (line.Swap (purpose.Update path former) x) e h = none_next limits states last run t k lt operation runs s o m path former x e h
       line_later (line.Swap (purpose.Renew path) x) e h = tt
       line_later (line.Swap purpose.Clean x) e h = tt
       line_later (line.Swap (purpose.Climb c) x) e h = keeps_place h
@@ -146,7 +145,7 @@ module _ (limits : Limits) (states : ℕ → State) (last : ℕ) (depth path : R
   answering_at =
       each_operation limits states last run (λ t k operation. IsAnswering states trie t k operation)
       (λ t k operation b h. record { closes = h.closes; behind = h.behind; its = h.its }) answering_begins rests
-      (λ t k lt operation own h. answering_goes limits states last depth path run ok all final roots fits t k lt operation own h)
+      (λ t k lt operation own h. answering_goes limits states last depth path run ok fits t k lt operation own h)
 
   -- ---- the end
 

@@ -29,7 +29,7 @@ use Rattle.proof_shape.specs.Lines.Commits.{MainStep, stays, changes, assigned_a
 use Rattle.proof_updates.specs.Beneath.proof_generations.proofs.Lines.ReaderKnows.{indirection_is}
 use Rattle.proof_shape.specs.Sites.At.{TakesSteps, StepsFit}
 use Rattle.proof_shape.proofs.Shaped.Trie.{bare_runs_have_shape}
-use Rattle.proof_updates.proofs.Tries.Whole as whole
+use Rattle.proof_updates.proofs.Tries.OfRuns as whole
 use Rattle.proof_updates.specs.Laws.Handles.{HandleHolds, Turns}
 use Rattle.proof_updates.specs.Touching.{Reaches, CommitsUpdate}
 use Rattle.proof_updates.proofs.Handles.Committing.{no_update, owned, IsOwn, carries_nothing}

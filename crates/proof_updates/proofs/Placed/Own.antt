@@ -35,6 +35,7 @@ use Rattle.proof_shape.specs.Lines.Commits.{MainStep, stays, changes as changes_
 use Rattle.proof_shape.proofs.Commits.Was.{main_linked, commit_is}
 use Rattle.proof_updates.proofs.Tries.Facts.{own_enters}
 use Rattle.proof_updates.specs.Beneath.proof_commits.proofs.Known.Acts.{known_run}
+use Rattle.proof_shape.proofs.Held.Commits.{fresh_commits_at}
 
 -- whom a step enters among others has a place behind it
 entered_placed : (limits : Limits) (states : ℕ → State) (last : ℕ) → IsRun limits states last → (t : ℕ) → t < last → (s : Step) (o : Outcome) → Moves (states t) s o (states (suc t)) →
@@ -54,7 +55,7 @@ entered_placed limits states last run t lt s o m operation enters = by_changes (
     by_changes (closes actor handle root is found none places closings gone footing) = absurd (not_none none)
     by_changes (swaps handle offer carries none places closings roots heap) = absurd (not_none none)
 
-module _ (limits : Limits) (states : ℕ → State) (last : ℕ) (run : IsRun limits states last) (all : CommitsAt limits states last (assigned_at states last)) where
+module _ (limits : Limits) (states : ℕ → State) (last : ℕ) (run : IsRun limits states last) where
   abbrev p : Protocol
   p = protocol limits states last (known_run limits states last run)
 
@@ -80,7 +81,7 @@ module _ (limits : Limits) (states : ℕ → State) (last : ℕ) (run : IsRun li
           none≢pending decided.none (ap (p.words.prev t) (sym (main_linked limits states last run t i link) ∙ same) ∙ commit.was)
 
       enters : entered_by_step (states t) s ≡ place_of (states t) operation t false ∷ []
-      enters = by_step (all t lt s o m)
+      enters = by_step (fresh_commits_at limits states last run t lt s o m)
         where
           by_step : MainStep limits states last (assigned_at states last) t s → entered_by_step (states t) s ≡ place_of (states t) operation t false ∷ []
           by_step (stays none same) = absurd (was_no_main (sym (same i) ∙ becomes_main))

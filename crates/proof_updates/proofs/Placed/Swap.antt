@@ -52,8 +52,9 @@ use Rattle.proof_updates.proofs.Tries.EachOperation.{OwnStep}
 use Rattle.proof_updates.proofs.Placed.Own.{commit_places}
 use Rattle.proof_updates.specs.Beneath.proof_commits.proofs.Known.Acts.{known_run}
 use Rattle.proof_updates.specs.Beneath.machine_model.proofs.Basics.{none≢failed}
+use Rattle.proof_shape.proofs.Held.Commits.{fresh_commits_at}
 
-module _ (limits : Limits) (states : ℕ → State) (last : ℕ) (run : IsRun limits states last) (all : CommitsAt limits states last (assigned_at states last)) where
+module _ (limits : Limits) (states : ℕ → State) (last : ℕ) (run : IsRun limits states last) where
   abbrev p : Protocol
   p = protocol limits states last (known_run limits states last run)
 
@@ -69,7 +70,7 @@ module _ (limits : Limits) (states : ℕ → State) (last : ℕ) (run : IsRun li
         by_fate : GoesOn p.words t x.fresh q → is_placed (states (suc t)) operation.id ≡ true
         by_fate (StaysPending still) = absurd (none≢pending none still)
         by_fate (GetsCommitted commit) =
-            commit_places limits states last run all t k lt s o m operation runs path former x.indirection x.replaced x.fresh l
+            commit_places limits states last run t k lt s o m operation runs path former x.indirection x.replaced x.fresh l
             (at ∙ ap (λ y. line.Swap (purpose.Update path former) (record { indirection = x.indirection; replaced = x.replaced; fresh = x.fresh; line = y })) e) q commit
         by_fate (GetsFailed fails) = absurd (none≢failed none fails.prev.here)
 

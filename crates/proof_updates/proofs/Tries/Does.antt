@@ -34,9 +34,12 @@ use Rattle.proof_shape.specs.Lines.Knowing.{known_with, first_main}
 use Rattle.proof_shape.specs.Lines.Climbing.{IsClimbed}
 use Rattle.proof_shape.specs.Lines.Commits.{OwnCommit, MainStep, stays, changes, CommitsAt, KnowsFresh, assigned_at}
 use Rattle.proof_updates.specs.Beneath.proof_generations.specs.Falling.{SwapsInOwnGeneration, WasGiven}
-use Rattle.proof_updates.specs.Taken.{IsRepairing, RepairsAreKnown, SitesOfUpdates}
+use Rattle.proof_updates.specs.Commits.{IsRepairing, SitesOfUpdates}
 use Rattle.proof_updates.specs.Updates.{StepsDo}
 use Rattle.proof_updates.proofs.Tries.Repairing.{TombsLast, repairs, climbs}
+use Rattle.proof_shape.proofs.Held.Commits.{fresh_commits_at}
+use Rattle.proof_updates.specs.Beneath.proof_generations.proofs.Falling.OwnSwaps.{swaps_in_own_generation}
+use Rattle.proof_updates.proofs.Tries.Commits.{repairs_are_known}
 
 -- ---- what is replaced is no tomb
 
@@ -85,7 +88,7 @@ module _ (limits : Limits) (states : ℕ → State) (last : ℕ) (depth path : R
       by_purpose purpose.Clean knows = repaired_apart _ _ knows
       by_purpose (purpose.Climb c) knows = let bad : Branch knows.parent.bitmap knows.parent.entries ≡ Tomb single = sym knows.parent.branch.is ∙ tomb in cc
 
-  module _ (run : IsRun limits states last) (all : CommitsAt limits states last (assigned_at states last)) where
+  module _ (run : IsRun limits states last) where
     pub record StepAt (t : ℕ) : Type 0 where
       pub step : Step
       pub outcome : Outcome
@@ -96,7 +99,7 @@ module _ (limits : Limits) (states : ℕ → State) (last : ℕ) (depth path : R
     step_at t lt = by_turn (run.turn t lt)
       where
         by_turn : Turn (states t) (states (suc t)) → StepAt t
-        by_turn (turns s o m) = record { step = s; outcome = o; moves = m; does = all t lt s o m }
+        by_turn (turns s o m) = record { step = s; outcome = o; moves = m; does = fresh_commits_at limits states last run t lt s o m }
 
     -- ---- tombs last
 
@@ -127,10 +130,10 @@ module _ (limits : Limits) (states : ℕ → State) (last : ℕ) (depth path : R
 
     -- ---- each step
 
-    module _ (swaps : SwapsInOwnGeneration states last) (given : RepairsAreKnown limits states last) (sites : SitesOfUpdates limits states last depth) where
+    module _ (sites : SitesOfUpdates limits states last depth) where
       module _ (t : ℕ) (s : Step) (lt : t < last) (own : Own t s) where
         pub start_is : own.start ≡ generation trie own.indirection
-        start_is = same_Some _ _ (sym own.generation ∙ (swaps t (omega arith) own.actor own.owner own.runs own.why _ own.swaps).1)
+        start_is = same_Some _ _ (sym own.generation ∙ (swaps_in_own_generation limits states last run t (omega arith) own.actor own.owner own.runs own.why _ own.swaps).1)
 
         was : trie.node own.replaced ≡ node_in trie t own.indirection
         was = ap trie.node (sym own.before)
@@ -162,7 +165,7 @@ module _ (limits : Limits) (states : ℕ → State) (last : ℕ) (depth path : R
         done : IsRepairing own.why → Repaired
         done why =
             repaired (repairs trie (tombs_last) own.start t (omega arith) (assigned_at states last own.start t) (WasGiven states last own.start t) stands own.replaced own.fresh
-            (given t s lt own why) (λ n h word word' e apart new. own_main _ word' new))
+            (repairs_are_known limits states last run t s lt own why) (λ n h word word' e apart new. own_main _ word' new))
 
         climbed : (c : Climb) → IsClimbed (known_with limits states last (first_main states last)) (Was states last t) own.owner.call c own.replaced own.fresh → Repaired
         climbed c k =

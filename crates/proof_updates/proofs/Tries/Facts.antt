@@ -26,11 +26,12 @@ use Rattle.proof_updates.specs.Beneath.proof_generations.specs.Falling.{SwapsInO
 use Rattle.proof_order.specs.Phases.{OwnUpdate}
 use Rattle.proof_order.proofs.Phases.OwnUpdates.{own_updates_enter}
 use Rattle.proof_shape.specs.Shaped.{HasShape}
-use Rattle.proof_updates.specs.Taken.{RepairsAreKnown, SitesOfUpdates, RootsAreKept}
+use Rattle.proof_updates.specs.Commits.{SitesOfUpdates}
 use Rattle.proof_updates.specs.Updates.{StepsKeep, UpdatesFollow}
 use Rattle.proof_updates.proofs.Tries.Does.{own_does}
 use Rattle.proof_updates.proofs.Tries.Updates.{trie_ok, updates_act}
 use Rattle.proof_updates.proofs.Handles.Committing.{own_committed}
+use Rattle.proof_shape.proofs.Held.Commits.{fresh_commits_at}
 
 module _ (limits : Limits) (states : ℕ → State) (last : ℕ) (t : ℕ) (s : Step) where
   abbrev Own : Type 0
@@ -53,30 +54,29 @@ module _ (limits : Limits) (states : ℕ → State) (last : ℕ) (t : ℕ) (s : 
       by_places : {place : Place} → [] ≡ place ∷ [] → ⊥
       by_places bad = cc
 
-module _ (limits : Limits) (states : ℕ → State) (last : ℕ) (depth path : Ref → ℕ) (run : IsRun limits states last) (all : CommitsAt limits states last (assigned_at states last))
-    (swaps : SwapsInOwnGeneration states last) (given : RepairsAreKnown limits states last) (sites : SitesOfUpdates limits states last depth)
+module _ (limits : Limits) (states : ℕ → State) (last : ℕ) (depth path : Ref → ℕ) (run : IsRun limits states last)
+    (sites : SitesOfUpdates limits states last depth)
     (shape : HasShape (trie_of limits states last depth path)) where
   abbrev trie : Trie
   trie = trie_of limits states last depth path
 
   ok : IsTrie (trie_of limits states last depth path)
-  ok = trie_ok limits states last depth path run all swaps given sites shape
+  ok = trie_ok limits states last depth path run sites shape
 
   -- a step that commits no own update
   pub steps_keep : StepsKeep states last (trie_of limits states last depth path)
-  steps_keep t s o lt m none g = by_step (all t lt s o m)
+  steps_keep t s o lt m none g = by_step (fresh_commits_at limits states last run t lt s o m)
     where
       by_step : MainStep limits states last (assigned_at states last) t s → content trie g (suc t) ≡ content trie g t
       by_step (stays nothing same) = nothing_still trie ok t g lt same
-      by_step (changes own) = by_kind (own_does limits states last depth path run all swaps given sites t s lt own)
+      by_step (changes own) = by_kind (own_does limits states last depth path run sites t s lt own)
         where
           by_kind : ((p : List Ref) × (former : Option ℕ) × (own.why ≡ purpose.Update p former))
               ⊎ IsRepair trie (generation trie own.indirection) t (node_in trie t own.indirection) (node_in trie (suc t) own.indirection) → content trie g (suc t) ≡ content trie g t
           by_kind (inl (p, former, e)) = absurd (nobody_enters limits states last t s own none p former e)
           by_kind (inr r) = repair_still trie ok t g own.indirection lt own.others r
 
-  module _ (final : GivenForEver states last) (roots : RootsAreKept states last)
-      (fits : (t : ℕ) → t ≤ last → (k : ℕ) (operation : Operation) → Runs (states t) k operation → key_of operation.call < 2 ^ 64) where
+  module _ (fits : (t : ℕ) → t ≤ last → (k : ℕ) (operation : Operation) → Runs (states t) k operation → key_of operation.call < 2 ^ 64) where
     module _ (t : ℕ) (s : Step) (lt : t < last) (u : OwnUpdate states last t s) (own : OwnCommit limits states last (assigned_at states last) t s) where
       same_fresh : u.its.fresh ≡ own.fresh
       same_fresh = same_Some _ _ (sym u.commits ∙ own_committed limits states last t s own)
@@ -103,7 +103,7 @@ module _ (limits : Limits) (states : ℕ → State) (last : ℕ) (depth path : R
 
       update_is : entered_by_step (states t) s ≢ [] → Update limits states last (content trie) t (entered_by_step (states t) s)
       update_is some =
-          let act = updates_act limits states last depth path run all swaps given sites shape final roots fits t s lt own u.path u.former same_why in
+          let act = updates_act limits states last depth path run sites shape fits t s lt own u.path u.former same_why in
           record {
             k = u.k;
             owner = u.owner;
@@ -123,7 +123,7 @@ module _ (limits : Limits) (states : ℕ → State) (last : ℕ) (depth path : R
 
     -- a step that commits one
     pub updates_follow : UpdatesFollow limits states last (trie_of limits states last depth path)
-    updates_follow t s o lt m some = by_step (all t lt s o m)
+    updates_follow t s o lt m some = by_step (fresh_commits_at limits states last run t lt s o m)
       where
         by_step : MainStep limits states last (assigned_at states last) t s → Update limits states last (content trie) t (entered_by_step (states t) s)
         by_step (stays nothing same) = absurd (some (none_enters limits states last t s nothing))
