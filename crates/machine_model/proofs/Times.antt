@@ -1,5 +1,5 @@
 -- A run as states over time: what many-step facts are stated on. State t is the state before step t.
-use Rattle.std.proofs.Common.{◌≡◌, ℕ, zero, suc, cond, ◌≤◌, ◌<◌, ◌+◌, List, [], ◌∷◌, length, Ok, Err, refl, ap, subst, sym, ◌∙◌, arith}
+use Rattle.std.proofs.Common.{◌≡◌, ℕ, zero, suc, cond, ◌≤◌, ◌<◌, List, [], ◌∷◌, length, Ok, Err, refl, ap, subst, sym, ◌∙◌, arith}
 use Rattle.machine_model.specs.declared.steps.Limits.{Limits}
 use Rattle.machine_model.specs.declared.steps.Outcome.{Outcome}
 use Rattle.machine_model.specs.declared.steps.Step.{Step}

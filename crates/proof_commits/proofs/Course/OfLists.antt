@@ -244,7 +244,7 @@ module _ (limits : Limits) (ok : AreLimits limits) (steps : List Step) (known : 
       let leads = step_leads limits steps n (step.Go g.actor) g.step in
       let stage = reads_stage g.operation.line g.read g.no_swap g.reads in
       let goes = λ (answer : Reply) (a : action_of (states n) g.operation ≡ act.End answer).
-          not_rests g.read.indirection g.read.line (sym stage ∙ ends_at_end (states n) g.operation g.operation.line answer a) in
+      not_rests g.read.indirection g.read.line (sym stage ∙ ends_at_end (states n) g.operation g.operation.line answer a) in
       let e = go_after (states n) g.actor leads.0 (states (suc n)) leads.1 g.operation g.runs goes in
       subst (λ j. IsMoment w j m (read_at_after (states n) g.operation) (moment_after (states n) g.operation) n) g.of
       (moment_at limits states last known n h g.actor g.operation leads.0 leads.1 g.runs e g.read.indirection g.read.line stage m

@@ -40,13 +40,11 @@ pub record HasLink (state : State) (i : Ref) : Type 0 where
   pub stands : standing state.heap i ≡ Some slot
   pub link : is_indirection slot.node ≡ true
 
-
 -- what stands there isn't one
 pub record HasMain (state : State) (m : Ref) : Type 0 where
   pub slot : Slot
   pub stands : standing state.heap m ≡ Some slot
   pub no_link : is_indirection slot.node ≡ false
-
 
 -- the words that an action reads or writes are there
 abbrev pub Finds : State → Action → Type 0
@@ -56,7 +54,6 @@ Finds state (act.Publish i a f) = HasLink state i × HasMain state f
 Finds state (act.Restore i m p) = HasLink state i
 Finds state (act.Decide i m p told) = HasLink state i × HasMain state m
 Finds state action = Unit {0}
-
 
 -- the reference that is drawn for a node was never drawn before, and what stands under any other stays
 pub record Draws (states : ℕ → State) (t : ℕ) (node : Node) (n : Ref) : Type 0 where

@@ -127,7 +127,6 @@ RootsAreOpen states last closing =
     read_of operation.line ≡ Some (record { indirection = i; line = read.AskRoot main previous }) → operation.access ≡ Writable → (r : Ref) →
     word_at (states t) (handle_of operation.call) ≡ Plain r → (c : ℕ) → closing (generation_at (states t).heap r) ≡ Some c → t ≤ c
 
-
 pub record Known (limits : Limits) (states : ℕ → State) (last : ℕ) : Type 0 where
   -- each list of steps is such a run
   pub run : IsRun limits states last

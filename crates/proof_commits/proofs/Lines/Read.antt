@@ -207,10 +207,8 @@ commits_pending : (b c : Bool) → verdict_by b c ≡ Commits → c ≡ true
 commits_pending b true e = refl
 commits_pending b false e = let wrong : ⊥ = cc in absurd wrong
 
-
 pub was_pending : (heap : Heap) (i x q : Ref) (told : Option ℕ) → verdict heap i x q told ≡ Commits → prev_at heap x ≡ over.Pending q
 was_pending heap i x q told e = pending_so (prev_at heap x) q (commits_pending (is_licensed heap i told) (is_pending (prev_at heap x) q) e)
-
 
 -- ---- READ
 

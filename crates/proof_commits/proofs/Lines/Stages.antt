@@ -38,7 +38,7 @@ use Rattle.proof_commits.specs.Beneath.machine_model.specs.Cleaning.{clean_after
 use Rattle.proof_commits.specs.Beneath.machine_model.specs.Climbing.{climb_after_read}
 use Rattle.proof_commits.specs.Beneath.machine_model.specs.Walking.{walk_after_read}
 use Rattle.proof_commits.specs.Beneath.machine_model.specs.Copying.{copy_after_read, copy_after_complete, after_given}
-use Rattle.proof_commits.specs.Beneath.machine_model.specs.Operations.{after_root}
+use Rattle.proof_commits.specs.Beneath.machine_model.specs.Operations.{after_root, first_line}
 use Rattle.proof_commits.specs.Beneath.machine_model.specs.Reading.{at_indirection}
 use Rattle.proof_commits.specs.Beneath.machine_model.specs.Swapping.{of_offer, after_completing, after_reading}
 use Rattle.proof_commits.specs.Beneath.machine_model.specs.declared.repairs.Climb.{Climb}
@@ -235,10 +235,16 @@ copy_stage operation at i (Gives m) = at_given operation.call
     at_given : (call : Call) → stage_of (after_given call at m) ≡ Rests
     at_given call = grind arith
 
-pub copy_completing_stage : (operation : Operation) (offer : Descriptor) (o : After ReadLine Ref) → stage_of (copy_after_complete operation (of_offer offer (after_reading o))) ≡ after_read offer.root o
+pub copy_completing_stage : (operation : Operation) (offer : Descriptor) (o : After ReadLine Ref) →
+    stage_of (copy_after_complete operation (of_offer offer (after_reading o))) ≡ after_read offer.root o
 copy_completing_stage operation offer (Goes l) = refl
 copy_completing_stage operation offer (Gives m) = refl
 
-pub root_completing_stage : (operation : Operation) (offer : Descriptor) (o : After ReadLine Ref) → stage_of (after_root operation (after_completing (of_offer offer (after_reading o)))) ≡ after_read offer.root o
+pub root_completing_stage : (operation : Operation) (offer : Descriptor) (o : After ReadLine Ref) →
+    stage_of (after_root operation (after_completing (of_offer offer (after_reading o)))) ≡ after_read offer.root o
 root_completing_stage operation offer (Goes l) = refl
 root_completing_stage operation offer (Gives m) = refl
+
+-- the first line
+pub first_rests : (call : Call) → stage_of (first_line call) ≡ Rests
+first_rests call = grind arith

@@ -70,7 +70,8 @@ use Rattle.proof_commits.specs.Beneath.machine_model.specs.Grown.{node_under}
 use Rattle.proof_commits.specs.Beneath.machine_model.specs.Moves.{GoesOn}
 use Rattle.proof_commits.specs.Protocol.{Words, HasMade, Stage, Rests, Reads, Holds, Publishes, Decides, Checks, IsFree, MayName, Given, ReadTurn, Moves, Idles, MakesNode}
 use Rattle.proof_commits.specs.Protocol.{SwapsNode, ReadsOn, DecidesOn, after_read}
-use Rattle.proof_commits.proofs.Lines.Stages.{ReadRemembers, Remembers, key_stage, renew_stage, clean_stage, child_stage, climb_stage, walk_stage, copy_stage, copy_completing_stage, root_completing_stage}
+use Rattle.proof_commits.proofs.Lines.Stages.{ReadRemembers, Remembers, key_stage, renew_stage, clean_stage, child_stage, climb_stage, walk_stage, copy_stage}
+use Rattle.proof_commits.proofs.Lines.Stages.{copy_completing_stage, root_completing_stage}
 use Rattle.proof_commits.specs.Stages.{stage_of}
 use Rattle.proof_commits.proofs.Known.Given.{BuildsFrom, HasSolid, GrownStays, GrownSwaps, FindsMain, FindsPrev, Either, Taken, ActsOn, Known}
 use Rattle.proof_commits.proofs.Words.OfRuns.{leaves_words, swaps_words, makes_words, takes_node}

@@ -17,6 +17,7 @@ use Rattle.proof_generations.specs.Beneath.proof_memory.proofs.Heap.Moves.{grown
 use Rattle.proof_generations.proofs.Counter.Drawn.{generation_kept}
 use Rattle.proof_generations.specs.Falling.{IsIndirectionOf}
 use Rattle.proof_generations.specs.Beneath.machine_model.proofs.Grown.{grown_in_use, node_standing}
+use Rattle.proof_contents.specs.Grows.{NodesStay}
 
 -- an indirection under another main word, both ways
 pub same_link : (was now : Node) → SameNode was now → (h : ℕ) (word : Ref) → now ≡ Indirection h word → (w : Ref) × (was ≡ Indirection h w)
@@ -34,6 +35,10 @@ stays_link was now (m, e) h word is = (m, e ∙ ap (with_main_word m) is)
 
 no_single : (node : Node) (h : ℕ) (word : Ref) → meets ASingle node ≡ true → node ≡ Indirection h word → ⊥
 no_single node h word e is = false≢true (sym (ap (meets ASingle) is) ∙ e)
+
+-- what stands under a reference stays, but for main words
+pub nodes_stay : (limits : Limits) (states : ℕ → State) (last : ℕ) → IsRun limits states last → NodesStay states last
+nodes_stay limits states last run t u le within r was e = let (now, found, same) = grown_stays limits states last run t u le within r was e in (now, found, same.0)
 
 module _ (limits : Limits) (states : ℕ → State) (last : ℕ) (run : IsRun limits states last) (t : ℕ) (within : t ≤ last) where
   -- what was made by then

@@ -41,6 +41,7 @@ use Rattle.proof_generations.specs.Beneath.proof_memory.proofs.Safety.States.{Is
 use Rattle.proof_generations.specs.Beneath.proof_memory.proofs.Safety.Steps.{step_carries}
 use Rattle.proof_generations.proofs.Lines.Copy.{is_copy, no_copy_after, same_offer_after}
 use Rattle.proof_generations.proofs.Counter.Drawn.{generation_kept}
+use Rattle.proof_generations.specs.Running.{Runs}
 
 -- ---- in root words
 
@@ -180,3 +181,9 @@ module _ (state : State) (operation : Operation) where
   fresh_from (line.Copy (copy.Complete c)) x r e = had (complete_fresh c (complete_after state.heap operation.access (word_at state (handle_of operation.call)) c) refl r x e)
   fresh_from (line.Copy l) x r e = if_made_fresh l (next_ref state.heap) r x refl e
   fresh_from l x r e = absurd (no_fresh (line_after state operation l) x r (no_copy_after state operation l refl refl) e)
+
+-- a fresh root keeps its generation over a step
+pub fresh_kept : (state : State) (S : IsSafe state) (s : Step) (o : Outcome) (after : State) → Moves state s o after → (k : ℕ) (was : Operation) (x : Bool) (r : Ref) →
+    Runs state k was → fresh_in x was.line ≡ Some r → generation_at after.heap r ≡ generation_at state.heap r
+fresh_kept state S s o after m k was x r at_k e =
+    safe_kept state S s o after m was.epoch (S.recent k was at_k).0 (S.recent k was at_k).1 r (fresh_safe (Safe state was.epoch) state was was.line (S.lines k was at_k) x r e)

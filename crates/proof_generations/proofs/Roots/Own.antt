@@ -40,7 +40,7 @@ use Rattle.proof_generations.proofs.Handles.Footings.{CarriesOut, RootFrom, stoo
 use Rattle.proof_generations.proofs.Offers.Marks.{carried_stands}
 use Rattle.proof_generations.proofs.Handles.Operations.{HasHandles, Ran, ran_or_began}
 use Rattle.proof_generations.proofs.Counter.Below.{IsBelow, looked_up_below, closed_below}
-use Rattle.proof_generations.proofs.Roots.Kept.{root_kept, safe_kept, fresh_in, fresh_of, fresh_safe, fresh_from, FreshFrom, had, new, makes_first}
+use Rattle.proof_generations.proofs.Roots.Kept.{root_kept, safe_kept, fresh_in, fresh_of, fresh_safe, fresh_from, FreshFrom, had, new, makes_first, fresh_kept}
 use Rattle.proof_generations.proofs.Offers.Swaps.{StepKind, quiet, swaps, step_kind, Kept, closing_of, closed_in, closed_kept, closed_other, closed_last}
 use Rattle.proof_generations.specs.Beneath.machine_model.proofs.Basics.{both_kinds}
 
@@ -119,10 +119,6 @@ module _ (state : State) (S : IsSafe state) (I : HasOffers state) (H : HasHandle
     | inr (call, is, d, it) ↦ absurd (first_none call x r (ap (λ (y : Operation). fresh_in x y.line) (sym it) ∙ e))
   ]
 
-  fresh_kept : (k : ℕ) (was : Operation) (x : Bool) (r : Ref) → Runs state k was → fresh_in x was.line ≡ Some r → generation_at after.heap r ≡ generation_at state.heap r
-  fresh_kept k was x r at_k e =
-      safe_kept state S s o after m was.epoch (S.recent k was at_k).0 (S.recent k was at_k).1 r (fresh_safe (Safe state was.epoch) state was was.line (S.lines k was at_k) x r e)
-
   gen_kept : (handle : ℕ) (root now : Root) → root_at state handle ≡ Some root → root_of now.word ≡ root_of root.word → gen after now ≡ gen state root
   gen_kept handle root now e word = ap (generation_at after.heap) word ∙ root_kept state S s o after m handle root e
 
@@ -134,7 +130,7 @@ module _ (state : State) (S : IsSafe state) (I : HasOffers state) (H : HasHandle
     stands = I.offers (handle_of mover.call) offer (carried_stands state I actor mover offer is c)
 
     new_kept : (x : Bool) (r : Ref) → fresh_of x offer ≡ Some r → generation_at after.heap r ≡ generation_at state.heap r
-    new_kept x r e = fresh_kept stands.k stands.owner x r stands.runs (its_fresh stands.owner.line offer x r stands.completes e)
+    new_kept x r e = fresh_kept state S s o after m stands.k stands.owner x r stands.runs (its_fresh stands.owner.line offer x r stands.completes e)
 
     new_unused : (x : Bool) (r : Ref) → fresh_of x offer ≡ Some r → IsUnused state (generation_at state.heap r)
     new_unused x r e = R.fresh stands.k stands.owner x r stands.runs stands.unmarked (its_fresh stands.owner.line offer x r stands.completes e)
@@ -269,11 +265,12 @@ module _ (state : State) (S : IsSafe state) (I : HasOffers state) (H : HasHandle
   fresh_apart_by : (k j : ℕ) (a b : Operation) (x y : Bool) (r q : Ref) → FreshHad k a x r → FreshHad j b y q → a.is_marked ≡ false → b.is_marked ≡ false →
       generation_at after.heap r ≡ generation_at after.heap q → (k ≡ j) × (x ≡ y)
   fresh_apart_by k j a b x y r q (old p e) (old t f) ua ub same =
-      R.fresh_apart k j p.was t.was x y r q p.at_k t.at_k (p.unmarked ua) (t.unmarked ub) e f (sym (fresh_kept k p.was x r p.at_k e) ∙ same ∙ fresh_kept j t.was y q t.at_k f)
+      R.fresh_apart k j p.was t.was x y r q p.at_k t.at_k (p.unmarked ua) (t.unmarked ub) e f
+      (sym (fresh_kept state S s o after m k p.was x r p.at_k e) ∙ same ∙ fresh_kept state S s o after m j t.was y q t.at_k f)
   fresh_apart_by k j a b x y r q (old p e) (made was at_j is drawn side) ua ub same =
-      absurd (omega (arith, looked_up_below state B r, fresh_kept k p.was x r p.at_k e, same, drawn))
+      absurd (omega (arith, looked_up_below state B r, fresh_kept state S s o after m k p.was x r p.at_k e, same, drawn))
   fresh_apart_by k j a b x y r q (made was at_k is drawn side) (old t f) ua ub same =
-      absurd (omega (arith, looked_up_below state B q, fresh_kept j t.was y q t.at_k f, same, drawn))
+      absurd (omega (arith, looked_up_below state B q, fresh_kept state S s o after m j t.was y q t.at_k f, same, drawn))
   fresh_apart_by k j a b x y r q (made was at_k is drawn side) (made was' at_j is' drawn' side') ua ub same =
       let both : step.Go (suc k) ≡ step.Go (suc j) = sym is ∙ is' in
       let sucs : suc k ≡ suc j = cc both in
@@ -297,7 +294,7 @@ module _ (state : State) (S : IsSafe state) (I : HasOffers state) (H : HasHandle
 
     fresh_quiet : (k : ℕ) (found : Operation) (x : Bool) (r : Ref) → found.is_marked ≡ false → FreshHad k found x r → IsUnused after (generation_at after.heap r)
     fresh_quiet k found x r unmarked (old ran e) =
-        subst (IsUnused after) (sym (fresh_kept k ran.was x r ran.at_k e)) (unused_kept _ (R.fresh k ran.was x r ran.at_k (ran.unmarked unmarked) e))
+        subst (IsUnused after) (sym (fresh_kept state S s o after m k ran.was x r ran.at_k e)) (unused_kept _ (R.fresh k ran.was x r ran.at_k (ran.unmarked unmarked) e))
     fresh_quiet k found x r unmarked (made was at_k is drawn side) = subst (IsUnused after) (sym drawn) (unused_kept _ drawn_unused)
 
     roots_quiet : HasRoots after
@@ -325,7 +322,7 @@ module _ (state : State) (S : IsSafe state) (I : HasOffers state) (H : HasHandle
       (roots : (handle : ℕ) (now : Root) → root_at after handle ≡ Some now → RootFrom state (handle_of mover.call) (action_of state mover) handle now) →
       (k : ℕ) (found : Operation) (x : Bool) (r : Ref) → found.is_marked ≡ false → FreshHad k found x r → IsUnused after (generation_at after.heap r)
   fresh_swapped actor mover offer go is c closings roots k found x r unmarked (old ran e) =
-      subst (IsUnused after) (sym (fresh_kept k ran.was x r ran.at_k e))
+      subst (IsUnused after) (sym (fresh_kept state S s o after m k ran.was x r ran.at_k e))
       (unused_swapped actor mover offer go is c closings roots _ (R.fresh k ran.was x r ran.at_k (ran.unmarked unmarked) e)
       (not_its actor mover offer go is c closings roots k found ran unmarked x r e))
   fresh_swapped actor mover offer go is c closings roots k found x r unmarked (made was at_k is' drawn side) =

@@ -63,10 +63,8 @@ small_of bitmap n e =
 pub pair_all : (P : Ref → Type 0) (x y : Ref) → P x → P y → All P (x ∷ y ∷ [])
 pair_all P x y h g = All-cons P x (y ∷ []) h (All-cons P y [] g (All-nil P))
 
-
 pub by_index_all : (P : Ref → Type 0) (a b : ℕ) (x y : Ref) → P x → P y → All P (by_index a b x y)
 by_index_all P a b x y h g = cond_both (nat_lt a b) _ _ (λ es. All P es) (λ e. pair_all P x y h g) (λ e. pair_all P y x g h)
-
 
 module _ (S : Ref → Type 0) (heap : Heap) where
   abbrev Wanting : Node → Type 0

@@ -242,3 +242,8 @@ births_taken heap node made e = by_free heap.free e
     by_free : (free : List ℕ) → ref_in heap.births free ≡ Some made → (take_from heap node free).births ≡ heap.births + 1
     by_free [] e = absurd (none-some made e)
     by_free (slot ∷ free) e = refl
+
+-- a write of a main word draws nothing
+pub main_births : (heap : Heap) (r m : Ref) → (with_main heap r m).births ≡ heap.births
+unfolding with_main
+main_births heap r m = refl

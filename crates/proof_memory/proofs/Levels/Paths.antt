@@ -32,4 +32,3 @@ module _ (lv : Ref → ℕ) where
 pub single_level_by : (lv : Ref → ℕ) (r : Ref) (node : Node) → meets ASingle node ≡ true → NodeLevel lv r node → lv r ≡ 0
 single_level_by lv r (Single k v) e n = n.1
 single_level_by lv r node e n = absurd (false≢true e)
-

@@ -38,7 +38,7 @@ use Rattle.proof_memory.specs.Wants.{is_formed, AllHold, node_wants, prev_wants}
 use Rattle.proof_memory.specs.Laws.{IsInUse}
 use Rattle.proof_memory.proofs.Claims.Uses.{first_hold, last_hold}
 use Rattle.proof_memory.proofs.Claims.Nodes.{Heaped}
-use Rattle.proof_memory.proofs.Heap.Under.{fresh_slot, taken_all}
+use Rattle.proof_memory.proofs.Heap.Under.{fresh_slot, taken_all, main_births}
 use Rattle.proof_memory.proofs.Safety.EachStep.{at_place}
 use Rattle.proof_memory.proofs.Safety.Base.{goes_no_end}
 use Rattle.proof_memory.specs.Making.{made_node}
@@ -145,10 +145,6 @@ module _ (lv : Ref → ℕ) where
 if_births : (b : Bool) (changed same : Heap) → changed.births ≡ same.births → (if_changed b changed same).births ≡ same.births
 if_births true changed same e = e
 if_births false changed same e = refl
-
-main_births : (heap : Heap) (r m : Ref) → (with_main heap r m).births ≡ heap.births
-unfolding with_main
-main_births heap r m = refl
 
 decided_births : (heap : Heap) (main previous : Ref) (v : Verdict) → (decided heap main previous v).births ≡ heap.births
 decided_births heap main previous Commits = births_prev heap main prev.None

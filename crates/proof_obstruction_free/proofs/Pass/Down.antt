@@ -50,10 +50,6 @@ module _ (a : Lone) (weight : ℕ → ℕ) (c : ℕ) (heavy : IsWeight a weight)
   ends_here r g path main t x ends =
       record { main = main; stands = x.stands; current_root = x.current_root; ended = record { chain = x.chain; has = x.has; ends = ends } }
 
-  -- a quiet step that leaves root words
-  pub step_keeps : (t : ℕ) (g : Option ℕ) (l : Line) (s : Stands a t g l) → t < a.last → IsNoEnd l → IsQuiet (line_action (a.states t) s.operation l) → Keeps a t (suc t)
-  step_keeps t g l s more no_end quiet = steps.keeps t g l s more no_end quiet
-
   pub step_stays : (t : ℕ) (g : Option ℕ) (l : Line) (s : Stands a t g l) → t < a.last → IsNoEnd l → LeavesWords (line_action (a.states t) s.operation l) → WordStays a t (suc t)
   step_stays t g l s more no_end leaves = same_stays a t (suc t) (steps.words t g l s more no_end leaves)
 
@@ -66,7 +62,7 @@ module _ (a : Lone) (weight : ℕ → ℕ) (c : ℕ) (heavy : IsWeight a weight)
 
   at_entry : (r : Ref) (g : ℕ) (path : List Ref) (main below : Ref) (t : ℕ) → AtMain r g path main t → (x : Leads a (depth_of path) main below) → t < a.last → AtEntry r g path main below x (suc t)
   at_entry r g path main below t m x more =
-      let keeps = step_keeps t (Some g) (line.Key (key.Main path main)) m.stands more tt tt in
+      let keeps = steps.keeps t (Some g) (line.Key (key.Main path main)) m.stands more tt tt in
       record {
         stands = to_entry a steps t (Some g) path main below m.stands more x;
         current_root = current_later a t (suc t) r (Some g) (step_stays t (Some g) (line.Key (key.Main path main)) m.stands more tt tt) m.current_root;
@@ -79,7 +75,7 @@ module _ (a : Lone) (weight : ℕ → ℕ) (c : ℕ) (heavy : IsWeight a weight)
       IsOf a below g → t < a.last → IsDown a weight c r g path (suc t)
   goes_on r g path main below t x e of more =
       let l = line.Key (key.Entry path main (position_of (flag_at a (depth_of path)) x.bitmap)) in
-      let keeps = step_keeps t (Some g) l e.stands more tt tt in
+      let keeps = steps.keeps t (Some g) l e.stands more tt tt in
       record {
         below = below;
         stands = goes_down a steps writes t g path main below g x e.stands more of refl;
@@ -164,7 +160,7 @@ module _ (a : Lone) (weight : ℕ → ℕ) (c : ℕ) (heavy : IsWeight a weight)
     from_entry r g path main below h t x e of other =
         weaken a weight (Goes r g path) (((length (entries_of (node a main)) * (c + 2) + 2) + (5 + (c + 2))) + 1) (33 * (c + 2) + 8) t (costs (length (entries_of (node a main))) entries)
         (one a weight heavy (Goes r g path) ((length (entries_of (node a main)) * (c + 2) + 2) + (5 + (c + 2))) t (Some g) l e.stands tt (λ more.
-        let keeps = step_keeps t (Some g) l e.stands more tt tt in
+        let keeps = steps.keeps t (Some g) l e.stands more tt tt in
         let next : AtRenewal r g path main (suc t) = record {
           current_root = current_later a t (suc t) r (Some g) (step_stays t (Some g) l e.stands more tt tt) e.current_root;
           chain = chain_later a t (suc t) r g path keeps e.chain;

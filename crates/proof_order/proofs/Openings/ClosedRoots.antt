@@ -24,13 +24,13 @@ use Rattle.proof_order.specs.Beneath.proof_commits.proofs.Words.OfRuns.{link_kep
 use Rattle.proof_order.specs.Openings.{IsRootOf}
 use Rattle.proof_order.specs.Laws.Openings.{OneRootIn, ClosedRootsStayIn}
 use Rattle.proof_order.proofs.Openings.Closings.{ClosesSo, closing_swaps}
-use Rattle.proof_order.proofs.Openings.InUse.{nodes_stay}
 use Rattle.proof_order.proofs.Openings.NoLateCommit.{no_late_commit}
 use Rattle.proof_order.proofs.Openings.RootOf.{roots_are_one, root_in_use}
 use Rattle.proof_order.proofs.Openings.SwapState.{old_stands}
 use Rattle.proof_order.specs.Beneath.machine_model.proofs.Grown.{grown_in_use}
 use Rattle.proof_order.specs.Beneath.proof_commits.proofs.Known.MainsInUse.{logical_standing}
 use Rattle.proof_order.specs.Beneath.proof_commits.proofs.Known.Acts.{known_run}
+use Rattle.proof_generations.proofs.Falling.Nodes.{nodes_stay}
 
 module _ (limits : Limits) (states : ℕ → State) (last : ℕ) (run : IsRun limits states last) where
   stands : (t handle : ℕ) (root : Root) → root_at (states t) handle ≡ Some root → IsRootOf states t handle (root_of root.word) (root_generation (states t) root)

@@ -129,7 +129,8 @@ module _ (limits : Limits) (states : ℕ → State) (last : ℕ) (run : IsRun li
 
       shows_by : MakesOver (states t) was was.line main → ShowsMain (is_clear was.call) (copied was.line).1 (counting_main states last (suc t) q)
       shows_by (over_found root clear (inl e)) = subst (λ b. ShowsMain b (copied was.line).1 (counting_main states last (suc t) q)) (sym clear) (over_main ∙ sym (ap (λ l. (copied l).1) e))
-      shows_by (over_found root clear (inr (successor, e))) = subst (λ b. ShowsMain b (copied was.line).1 (counting_main states last (suc t) q)) (sym clear) (over_main ∙ sym (ap (λ l. (copied l).1) e))
+      shows_by (over_found root clear (inr (successor, e))) =
+          subst (λ b. ShowsMain b (copied was.line).1 (counting_main states last (suc t) q)) (sym clear) (over_main ∙ sym (ap (λ l. (copied l).1) e))
       shows_by (over_branch root found clear e) =
           subst (λ b. ShowsMain b (copied was.line).1 (counting_main states last (suc t) q)) (sym clear)
           (ap (node_under states last) over_main ∙ empty_at limits states last run t (omega arith) k was main at_k (subst (λ l. IsCleared l main) (sym e) refl))

@@ -16,11 +16,9 @@ use Rattle.proof_order.specs.Beneath.proof_contents.specs.Grows.{NodesStay}
 use Rattle.proof_order.specs.Beneath.proof_contents.specs.InUse.{ReachesInUse}
 use Rattle.proof_order.specs.Beneath.proof_contents.proofs.Values.Started.{node_stays}
 use Rattle.proof_order.specs.Beneath.machine_model.proofs.Grown.{grown_in_use, node_standing}
+use Rattle.proof_generations.proofs.Falling.Nodes.{nodes_stay}
 
 module _ (limits : Limits) (states : ℕ → State) (last : ℕ) (run : IsRun limits states last) where
-  pub nodes_stay : NodesStay states last
-  nodes_stay t u le within r was e = let (now, found, same) = grown_stays limits states last run t u le within r was e in (now, found, same.0)
-
   pub reaches_in_use : (t : ℕ) → t ≤ last → ReachesInUse (states t)
   reaches_in_use t within r reached = reached_in_use (states t) (safe_at limits states last run t within) r reached
 
@@ -29,4 +27,4 @@ module _ (limits : Limits) (states : ℕ → State) (last : ℕ) (run : IsRun li
       node_under states last r ≡ node
   node_for_ever t r node within used is apart =
       let its = sym (node_standing (states t).heap r used.0 used.1) ∙ is in
-      node_stays states last nodes_stay t r used.0 within (grown_in_use states t r used.0 used.1) (λ g w e. apart g w (sym its ∙ e)) ∙ its
+      node_stays states last (nodes_stay limits states last run) t r used.0 within (grown_in_use states t r used.0 used.1) (λ g w e. apart g w (sym its ∙ e)) ∙ its

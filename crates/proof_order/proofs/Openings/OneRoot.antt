@@ -27,7 +27,7 @@ use Rattle.proof_generations.proofs.Offers.Standing.{StandsBy}
 use Rattle.proof_generations.proofs.Handles.Footings.{CarriesOut, RootFrom, stood, swapped, newly}
 use Rattle.proof_generations.proofs.Offers.Marks.{carried_stands}
 use Rattle.proof_generations.proofs.Roots.Own.{gen, its_fresh}
-use Rattle.proof_generations.proofs.Roots.Kept.{fresh_of, safe_kept, root_kept, fresh_safe}
+use Rattle.proof_generations.proofs.Roots.Kept.{fresh_of, safe_kept, root_kept, fresh_safe, fresh_kept}
 use Rattle.proof_generations.proofs.Roots.Along.{IsOrdered, ordered_at}
 use Rattle.proof_generations.proofs.Offers.Swaps.{StepKind, quiet, swaps, step_kind, Kept}
 use Rattle.proof_order.specs.Beneath.proof_memory.proofs.Safety.Guards.{Safe}
@@ -51,10 +51,7 @@ module _ (state : State) (S : IsSafe state) (I : IsOrdered state) (s : Step) (o 
 
   -- the roots that it brings keep their generations
   pub brought_kept : (x : Bool) (r : Ref) → fresh_of x offer ≡ Some r → generation_at after.heap r ≡ generation_at state.heap r
-  brought_kept x r e =
-      let b = stands in
-      safe_kept state S s o after m b.owner.epoch (S.recent b.k b.owner b.runs).0 (S.recent b.k b.owner b.runs).1 r
-      (fresh_safe (Safe state b.owner.epoch) state b.owner b.owner.line (S.lines b.k b.owner b.runs) x r (its_fresh b.owner.line offer x r b.completes e))
+  brought_kept x r e = fresh_kept state S s o after m stands.k stands.owner x r stands.runs (its_fresh stands.owner.line offer x r stands.completes e)
 
   -- a root behind the swap stood before, or is brought
   pub data Behind (r : Ref) (g : ℕ) : Type 0 where

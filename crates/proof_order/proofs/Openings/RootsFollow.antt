@@ -24,11 +24,11 @@ use Rattle.proof_order.specs.Openings as opening
 use Rattle.proof_order.specs.Laws.Openings.{RootsFollow, clears, snapshots, freezes, NewRootsFollowIn}
 use Rattle.proof_order.proofs.Openings.Brings.{swaps_bring}
 use Rattle.proof_order.proofs.Openings.ClosedRoots.{root_link, main_there}
-use Rattle.proof_order.proofs.Openings.InUse.{nodes_stay}
 use Rattle.proof_order.proofs.Openings.NoLateCommit.{no_late_commit}
 use Rattle.proof_order.proofs.Openings.RootOf.{root_in_use}
 use Rattle.proof_order.proofs.Openings.SwapState.{old_stands, successor_stands, second_stands}
 use Rattle.proof_order.specs.Beneath.machine_model.proofs.Grown.{grown_in_use, node_standing, prev_standing}
+use Rattle.proof_generations.proofs.Falling.Nodes.{nodes_stay}
 
 -- the logical main node of an indirection in use is in use
 pub logical_in_use : (state : State) → IsSafe state → (r : Ref) → IsInUse state.heap r → is_indirection (node_at state.heap r) ≡ true → IsInUse state.heap (logical_main state.heap r)

@@ -49,7 +49,7 @@ use Rattle.proof_shape.proofs.Runs.EachAt.{GoesAt}
 use Rattle.proof_shape.proofs.Runs.Nodes.{made_node}
 use Rattle.proof_shape.proofs.Runs.Seen.{main_seen}
 use Rattle.proof_shape.proofs.Lines.Key.{claims}
-use Rattle.proof_shape.proofs.Commits.Was.{was_given, given_link}
+use Rattle.proof_shape.proofs.Commits.Was.{was_given, given_link, was_later}
 use Rattle.proof_shape.specs.Beneath.proof_commits.proofs.Known.Acts.{known_run}
 
 -- ---- a climb goes on or is over
@@ -93,9 +93,6 @@ module _ (limits : Limits) (states : ℕ → State) (last : ℕ) (run : IsRun li
 
   abbrev W : Ref → Ref → Type 0
   W = Was states last (suc t)
-
-  later : (i m : Ref) → Was states last t i m → Was states last (suc t) i m
-  later i m (u, le, is) = (u, omega (arith, le), is)
 
   -- the indirection at the end of a path above
   module _ (c : Climb) (main : Ref) (l : Line) (e : operation.line ≡ l) where
@@ -160,7 +157,7 @@ module _ (limits : Limits) (states : ℕ → State) (last : ℕ) (run : IsRun li
   pub tombed_given : (i m single : Ref) → Given (words_of states last (known_run limits states last run).closing) t actor i m → node_under states last m ≡ Tomb single → WasTombed K W i single
   tombed_given i m single given is =
       let link = given_link limits states last run t (omega arith) actor i m given in
-      record { generation = link.0; word = link.1; link = link.2; tomb = m; was = later i m (was_given limits states last run t (omega arith) actor i m given); is = is }
+      record { generation = link.0; word = link.1; link = link.2; tomb = m; was = was_later states last t i m (was_given limits states last run t (omega arith) actor i m given); is = is }
 
   read_knows : (c : Climb) → WasTombed K W (current c.path) c.single → (out : After Read Ref) → KnowsClimbing K W operation.call (climb_after_read c out)
   read_knows c tombed (Goes r) = tombed
@@ -169,7 +166,7 @@ module _ (limits : Limits) (states : ℕ → State) (last : ℕ) (run : IsRun li
   -- ---- CLIMB
 
   tombed_later : (i single : Ref) → WasTombed K (Was states last t) i single → WasTombed K W i single
-  tombed_later i single x = record { generation = x.generation; word = x.word; link = x.link; tomb = x.tomb; was = later i x.tomb x.was; is = x.is }
+  tombed_later i single x = record { generation = x.generation; word = x.word; link = x.link; tomb = x.tomb; was = was_later states last t i x.tomb x.was; is = x.is }
 
   pub climb_knows : (l : ClimbLine) → operation.line ≡ line.Climb l → KnowsClimb K (Was states last t) operation.call l → KnowsClimbing K W operation.call (climb_after (states t) operation l)
   climb_knows (climb.Read c read) e tombed = read_knows c (tombed_later _ _ tombed) (read_step (states t) operation read)

@@ -35,6 +35,7 @@ use Rattle.proof_shape.specs.Lines.Knowing.{OfEachAt}
 use Rattle.proof_shape.proofs.Runs.EachAt.{GoesAt, each_at}
 use Rattle.proof_shape.specs.Beneath.proof_memory.specs.Wants.{is_indirection}
 use Rattle.proof_shape.specs.Beneath.proof_commits.proofs.Known.Acts.{known_run}
+use Rattle.proof_shape.specs.Beneath.proof_commits.proofs.Lines.Stages.{first_rests}
 
 -- what an actor runs after a step of its operation: what the step makes of it, with a mark or none
 pub record RunsAfter (state : State) (actor : ℕ) (made : Operation) : Type 0 where
@@ -83,9 +84,6 @@ reads_next w t k s after (DecidesOn {out = Gives m} turn) i x e = let wrong : �
 -- of what an operation runs
 abbrev IsReadingSince : (ℕ → State) → ℕ → ℕ → Operation → Type 0
 IsReadingSince states t actor operation = (i : Ref) (x : ReadLine) → stage_of operation.line ≡ Reads i x → Reading states t actor operation.id operation.read_at i x
-
-first_rests : (call : Call) → stage_of (first_line call) ≡ Rests
-first_rests call = grind arith
 
 -- what was read so far is so still where the READ counts from a later time
 counted : (began from t : ℕ) (before after : ReadLine) → began ≤ t → HasBegun began from before → HasBegun began (counts_at before t from) after

@@ -30,12 +30,12 @@ use Rattle.proof_shape.specs.Beneath.proof_contents.specs.Runs.{is_made}
 use Rattle.proof_shape.specs.Beneath.proof_contents.proofs.Values.Runs.{made_next}
 use Rattle.proof_shape.specs.Beneath.proof_contents.proofs.Values.Started.{node_stays, indirection_stays}
 use Rattle.proof_shape.proofs.Runs.EachAt.{GoesAt}
-use Rattle.proof_shape.proofs.Runs.Nodes.{nodes_stay}
 use Rattle.proof_shape.proofs.Runs.Takers.{taker, taker_of, step_taken}
 use Rattle.proof_shape.proofs.Runs.Entries.{no_entry}
 use Rattle.proof_shape.specs.Beneath.machine_model.proofs.Grown.{grown_in_use}
 use Rattle.proof_shape.specs.Beneath.proof_commits.proofs.Known.Acts.{known_run}
 use Rattle.proof_shape.specs.Beneath.machine_model.proofs.Slots.{change_kept}
+use Rattle.proof_generations.proofs.Falling.Nodes.{nodes_stay}
 
 abbrev pub is_making : Action → Bool
 is_making (act.Make node) = true

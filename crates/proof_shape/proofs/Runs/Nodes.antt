@@ -28,11 +28,9 @@ use Rattle.proof_shape.specs.Beneath.proof_memory.proofs.Claims.Nodes.{IsNoLink}
 use Rattle.proof_shape.specs.Lines.Knowing.{first_main}
 use Rattle.proof_shape.proofs.Runs.EachAt.{GoesAt}
 use Rattle.proof_shape.specs.Beneath.machine_model.proofs.Grown.{grown_in_use, node_standing}
+use Rattle.proof_generations.proofs.Falling.Nodes.{nodes_stay}
 
 module _ (limits : Limits) (states : ℕ → State) (last : ℕ) (run : IsRun limits states last) where
-  pub nodes_stay : NodesStay states last
-  nodes_stay t u le within r was e = let (now, found, same) = grown_stays limits states last run t u le within r was e in (now, found, same.0)
-
   -- ---- what is looked at
 
   module _ (t : ℕ) (h : t ≤ last) (r : Ref) (used : IsInUse (states t).heap r) where
@@ -42,10 +40,10 @@ module _ (limits : Limits) (states : ℕ → State) (last : ℕ) (run : IsRun li
     -- a node that is no indirection
     pub node_known : IsNoLink (node_at (states t).heap r) → node_under states last r ≡ node_at (states t).heap r
     node_known not =
-        node_stays states last nodes_stay t r used.0 h (grown_in_use states t r used.0 used.1) (λ g w e. not g w (here ∙ e)) ∙ sym here
+        node_stays states last (nodes_stay limits states last run) t r used.0 h (grown_in_use states t r used.0 used.1) (λ g w e. not g w (here ∙ e)) ∙ sym here
 
     pub link_known : (g : ℕ) (w : Ref) → node_at (states t).heap r ≡ Indirection g w → (m : Ref) × (node_under states last r ≡ Indirection g m)
-    link_known g w e = indirection_stays states last nodes_stay t r used.0 g w h (grown_in_use states t r used.0 used.1) (sym here ∙ e)
+    link_known g w e = indirection_stays states last (nodes_stay limits states last run) t r used.0 g w h (grown_in_use states t r used.0 used.1) (sym here ∙ e)
 
     -- what it is in the end it is now
     pub known_node : (n : Node) → node_under states last r ≡ n → IsNoLink n → node_at (states t).heap r ≡ n
@@ -82,10 +80,10 @@ module _ (limits : Limits) (states : ℕ → State) (last : ℕ) (run : IsRun li
         (subst (λ x. ActsOn states t x) a ((known_run limits states last run).acts t h actor go.o go.moves operation go.runs))
 
     pub made_node : IsNoLink node → node_under states last made ≡ node
-    made_node not = node_stays states last nodes_stay (suc t) made _ h takes.here not
+    made_node not = node_stays states last (nodes_stay limits states last run) (suc t) made _ h takes.here not
 
     pub made_link : (g : ℕ) (below : Ref) → node ≡ Indirection g below → (m : Ref) × (node_under states last made ≡ Indirection g m)
-    made_link g below is = indirection_stays states last nodes_stay (suc t) made _ g below h takes.here is
+    made_link g below is = indirection_stays states last (nodes_stay limits states last run) (suc t) made _ g below h takes.here is
 
     pub prev_still : (m : Ref) → prev_word states t m ≡ over.None → prev_word states (suc t) m ≡ over.None
     prev_still m none = by_ref (cases_eq m made)

@@ -25,9 +25,9 @@ use Rattle.proof_updates.specs.Beneath.proof_generations.proofs.Roots.Along.{ord
 use Rattle.proof_order.specs.Facts.{Runs, standing, standing_of}
 use Rattle.proof_order.proofs.Phases.Standing.{read_only_stays}
 use Rattle.proof_updates.specs.Beneath.proof_contents.specs.Runs.{root_of_generation}
-use Rattle.proof_shape.proofs.Runs.Nodes.{nodes_stay}
 use Rattle.proof_updates.proofs.Tries.Seen.{seen_link}
 use Rattle.proof_order.proofs.Openings.ClosedRoots.{root_is}
+use Rattle.proof_updates.specs.Beneath.proof_generations.proofs.Falling.Nodes.{nodes_stay}
 
 -- an open handle with this standing
 pub record StandsOn (state : State) (handle : ℕ) (access : Access) (g : ℕ) : Type 0 where

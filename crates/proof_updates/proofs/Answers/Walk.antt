@@ -38,7 +38,6 @@ use Rattle.proof_updates.specs.Beneath.proof_contents.proofs.Pairs.Walks.{walk_s
 use Rattle.proof_updates.specs.Beneath.proof_commits.proofs.Course.OfLists.{given_read}
 use Rattle.proof_order.specs.Facts.{standing}
 use Rattle.proof_shape.proofs.Runs.EachAt.{GoesAt}
-use Rattle.proof_shape.proofs.Runs.Nodes.{nodes_stay}
 use Rattle.proof_shape.proofs.Runs.Seen.{main_seen, single_seen}
 use Rattle.proof_shape.proofs.Lines.Key.{claims, looks}
 use Rattle.proof_updates.specs.Beneath.proof_generations.specs.Falling.{GivesAt, GivenForEver}
@@ -49,6 +48,7 @@ use Rattle.proof_updates.proofs.Answers.ReaderRoots.{IsRoot, root_stands}
 use Rattle.proof_updates.proofs.Tries.Seen.{seen_link}
 use Rattle.proof_updates.proofs.Answers.WalkSteps.{below, below_main, walked_right, KnowsWalk}
 use Rattle.proof_updates.specs.Beneath.proof_generations.proofs.Falling.Final.{given_for_ever}
+use Rattle.proof_updates.specs.Beneath.proof_generations.proofs.Falling.Nodes.{nodes_stay}
 
 -- a step of an operation that goes on, in the words of the lines
 pub goes_at : (states : ℕ → State) (t k : ℕ) (operation : Operation) → OwnStep states t k operation → GoesAt states t (suc k) operation

@@ -30,7 +30,6 @@ use Rattle.proof_updates.specs.Beneath.proof_contents.proofs.Values.Found.{assig
 use Rattle.proof_updates.specs.Beneath.proof_contents.proofs.Values.Contents.{map_of-same}
 use Rattle.proof_updates.specs.Beneath.proof_generations.proofs.Lines.ReaderKnows.{indirection_is}
 use Rattle.proof_order.proofs.Openings.ClosedRoots.{main_there}
-use Rattle.proof_order.proofs.Openings.InUse.{nodes_stay}
 use Rattle.proof_order.proofs.Openings.RootsFollow.{logical_in_use}
 use Rattle.proof_shape.specs.Sites.Lines.{bare, sites_of}
 use Rattle.proof_shape.specs.Shaped.{HasShape, trie_of_run}
@@ -47,6 +46,7 @@ use Rattle.proof_shape.proofs.Sites.Runs.{paths_fit, bare_main}
 use Rattle.proof_updates.proofs.Handles.Finding.{found_alike}
 use Rattle.proof_updates.proofs.Handles.Values.{value_below}
 use Rattle.proof_updates.specs.Beneath.machine_model.proofs.Grown.{grown_in_use, node_standing, standing_parts}
+use Rattle.proof_updates.specs.Beneath.proof_generations.proofs.Falling.Nodes.{nodes_stay}
 
 -- ---- nodes whose generations and words don't count
 

@@ -41,7 +41,6 @@ use Rattle.proof_updates.specs.Beneath.proof_contents.specs.Tries.{Trie, generat
 use Rattle.proof_updates.specs.Beneath.proof_contents.specs.Steps.{IsTrie}
 use Rattle.proof_updates.specs.Beneath.proof_contents.specs.Runs.{trie_of}
 use Rattle.proof_updates.specs.Beneath.proof_generations.proofs.Roots.Rooted.{root_given}
-use Rattle.proof_shape.proofs.Runs.Nodes.{nodes_stay}
 use Rattle.proof_updates.specs.Beneath.proof_generations.specs.Falling.{GivenForEver}
 use Rattle.proof_updates.proofs.Tries.EachOperation.{OwnStep, each_operation}
 use Rattle.proof_updates.proofs.Tries.Seen.{seen_link}
@@ -51,6 +50,7 @@ use Rattle.proof_updates.proofs.Routes.Lines.{clean_on, climb_on, copy_on, walk_
 use Rattle.proof_updates.proofs.Routes.Reads.{read_on, leads_there}
 use Rattle.proof_updates.proofs.Routes.Times.{later}
 use Rattle.proof_order.proofs.Openings.ClosedRoots.{root_is}
+use Rattle.proof_updates.specs.Beneath.proof_generations.proofs.Falling.Nodes.{nodes_stay}
 
 -- a SWAP's path is no matter of moments
 swap_route : (trie : Trie) (access : Access) (g q t b mu c nu : ℕ) (why : Purpose) (s : Swap) → LineRoute trie access g q t b mu (line.Swap why s) → LineRoute trie access g q t c nu (line.Swap why s)
@@ -91,7 +91,8 @@ module _ (limits : Limits) (states : ℕ → State) (last : ℕ) (depth path : R
 
       its_root : trie.root g ≡ r
       its_root =
-          ap trie.root (sym (ap (λ w. generation_at state.heap (root_of w)) plain ∙ its)) ∙ root_is limits states last run t (handle_of operation.call) open_root.0 within open_root.1 ∙ ap root_of plain
+          ap trie.root (sym (ap (λ w. generation_at state.heap (root_of w)) plain ∙ its)) ∙ root_is limits states last run t
+          (handle_of operation.call) open_root.0 within open_root.1 ∙ ap root_of plain
 
       root_used : Holds (IsInUse state.heap) state.heap (Is r AnIndirection)
       root_used =

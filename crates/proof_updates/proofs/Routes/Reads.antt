@@ -47,7 +47,6 @@ use Rattle.proof_updates.specs.Beneath.proof_memory.proofs.Claims.Nodes.{branch_
 use Rattle.proof_updates.specs.Beneath.proof_commits.proofs.Course.OfLists.{given_read}
 use Rattle.proof_shape.specs.Lines.Knowing.{known_with, first_main}
 use Rattle.proof_shape.proofs.Lines.Knows.{knows_at}
-use Rattle.proof_shape.proofs.Runs.Nodes.{nodes_stay}
 use Rattle.proof_updates.specs.Beneath.proof_generations.specs.Falling.{GivesAt, GivenForEver}
 use Rattle.proof_updates.proofs.Tries.EachOperation.{OwnStep}
 use Rattle.proof_updates.proofs.Answers.Given.{GivenAt, given_at}
@@ -55,6 +54,7 @@ use Rattle.proof_updates.proofs.Tries.Seen.{seen_link, seen_main}
 use Rattle.proof_updates.proofs.Routes.Times.{counts_since, since_next}
 use Rattle.proof_updates.proofs.Routes.Known.{IsGiven, IsOf, since, KeyRoute, LineRoute, route_later}
 use Rattle.proof_updates.specs.Beneath.proof_generations.proofs.Falling.Final.{given_for_ever}
+use Rattle.proof_updates.specs.Beneath.proof_generations.proofs.Falling.Nodes.{nodes_stay}
 
 -- ---- its own step
 
@@ -123,7 +123,8 @@ module _ (limits : Limits) (states : ℕ → State) (last : ℕ) (depth path : R
         where
           by_access : (a : Access) → operation.access ≡ a → IsGiven trie a mu r.indirection m
           by_access Writable is = (given m gives).is
-          by_access ReadOnly is = given_for_ever limits states last run t lt (suc k) operation r.indirection m (gives_at m gives) (inl is) last (let past = (given m gives).past in omega arith) (omega arith)
+          by_access ReadOnly is =
+              given_for_ever limits states last run t lt (suc k) operation r.indirection m (gives_at m gives) (inl is) last (let past = (given m gives).past in omega arith) (omega arith)
 
       pub read_on : (after : After Read Ref) → read_step state operation r ≡ after → On (key_after_read p after)
       read_on (Goes next) e' =
