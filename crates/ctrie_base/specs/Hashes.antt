@@ -1,7 +1,5 @@
 -- The four hashes of keys: each is a function of the key.
 use Rattle.std.specs.Prelude.{ℕ, ◌%◌, ◌/◌, ◌^◌, ◌<◌, bit_xor, List, codes}
-use Rattle.std.proofs.Common.{arith}
-use Rattle.std.proofs.lemmas.Nat.{xor_of_32}
 use Rattle.ctrie_base.specs.declared.hashes.HashKind.{HashKind}
 use Rattle.ctrie_base.specs.declared.hashes.HashKind.TheVariants.{Low, Fold, Wide, Block}
 
@@ -9,15 +7,9 @@ use Rattle.ctrie_base.specs.declared.hashes.HashKind.TheVariants.{Low, Fold, Wid
 abbrev pub low_hash : ℕ → ℕ
 low_hash key = key % 2 ^ 32
 
-pub low_hash-lt : (key : ℕ) → key < 2 ^ 64 → low_hash key < 2 ^ 32
-low_hash-lt key fits = omega arith
-
 -- the low half xor the high half
 abbrev pub fold_hash : ℕ → ℕ
 fold_hash key = bit_xor (key % 2 ^ 32) (key / 2 ^ 32)
-
-pub fold_hash-lt : (key : ℕ) → key < 2 ^ 64 → fold_hash key < 2 ^ 32
-fold_hash-lt key fits = xor_of_32 (key % 2 ^ 32) (key / 2 ^ 32) (omega arith) (omega arith)
 
 -- the key itself
 abbrev pub wide_hash : ℕ → ℕ
@@ -26,9 +18,6 @@ wide_hash key = key
 -- the same for each block of 64 keys
 abbrev pub block_hash : ℕ → ℕ
 block_hash key = key / 64
-
-pub block_hash-lt : (key : ℕ) → key < 2 ^ 64 → block_hash key < 2 ^ 64
-block_hash-lt key fits = omega arith
 
 -- the hash of a key, of that kind
 abbrev pub hash_of : HashKind → ℕ → ℕ

@@ -1,7 +1,9 @@
 //! The hashes of keys.
 
-ghost use Rattle.std.specs.Prelude.{◌≡◌, ℕ, ◌<◌, ◌^◌, Some};
-ghost use Rattle.ctrie_base.specs.Hashes.{low_hash, fold_hash, wide_hash, block_hash, hash_of, bits_of, name_of, HashesFit, low_hash-lt, fold_hash-lt, block_hash-lt};
+ghost use Rattle.std.specs.Prelude.{◌≡◌, ℕ, ◌%◌, ◌/◌, ◌<◌, ◌^◌, Some};
+ghost use Rattle.ctrie_base.specs.Hashes.{low_hash, fold_hash, wide_hash, block_hash, hash_of, bits_of, name_of, HashesFit};
+ghost use Rattle.std.proofs.Common.{arith};
+ghost use Rattle.std.proofs.lemmas.Nat.{xor_of_32};
 
 use std::fmt;
 
@@ -25,7 +27,7 @@ pub struct Low;
 impl KeyHash<32> for Low {
     ghost hash_of = { low_hash };
 
-    ghost fits = { low_hash-lt };
+    ghost fits = { λ key fits. Prim.omega arith };
 
     fn hash(key: u64) -> u64 {
         key % (1 << 32)
@@ -39,7 +41,7 @@ pub struct Fold;
 impl KeyHash<32> for Fold {
     ghost hash_of = { fold_hash };
 
-    ghost fits = { fold_hash-lt };
+    ghost fits = { λ key fits. xor_of_32 (key % 2 ^ 32) (key / 2 ^ 32) (Prim.omega arith) (Prim.omega arith) };
 
     fn hash(key: u64) -> u64 {
         (key % (1 << 32)) ^ (key >> 32)
@@ -67,7 +69,7 @@ pub struct Block;
 impl KeyHash<64> for Block {
     ghost hash_of = { block_hash };
 
-    ghost fits = { block_hash-lt };
+    ghost fits = { λ key fits. Prim.omega arith };
 
     fn hash(key: u64) -> u64 {
         key / 64

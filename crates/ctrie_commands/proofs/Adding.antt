@@ -17,12 +17,12 @@ use Rattle.machine_model.specs.Moves.{Moves, MovesIfTaken, begun_operation}
 use Rattle.machine_model.specs.Going.{go_limit}
 use Rattle.machine_model.proofs.Actors.{of_end}
 use Rattle.ctrie_commands.specs.Beneath.proof_generations.proofs.Handles.Running.{place_of_actor}
-use Rattle.ctrie_commands.specs.Beneath.proof_order.proofs.History.Books.{begin_events}
 use Rattle.ctrie_commands.specs.Beneath.proof_order.proofs.History.AllBooks.{gone_events}
 use Rattle.script_text.specs.declared.commands.Command.{Command}
 use Rattle.script_text.specs.declared.commands.Command.TheVariants.{Begin, Go, Until, Finish, Do, Sweep}
 use Rattle.script_text.specs.Steps.{stops, going, doing, steps_of, after_command}
 use Rattle.ctrie_commands.proofs.Carrying.{going_stops}
+use Rattle.machine_model.proofs.Frames.{begin_events}
 
 -- no more events than so many are added
 abbrev Adds : ℕ → State → State → Type 0

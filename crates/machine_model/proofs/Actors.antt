@@ -121,11 +121,11 @@ marks_in state (step.Go actor) = marks_by state (operation_of state actor)
 marks_in state step.Sweep = None
 
 -- an actor whose step is taken isn't 0
-begin_counts : (state : State) (actor : ℕ) (call : Call) → begin_denial state actor call ≡ None → 0 < actor
+pub begin_counts : (state : State) (actor : ℕ) (call : Call) → begin_denial state actor call ≡ None → 0 < actor
 begin_counts state actor call d = grind arith
 
 -- the same of a step that goes on
-go_counts : (state : State) (actor : ℕ) → go_denial state actor ≡ None → 0 < actor
+pub go_counts : (state : State) (actor : ℕ) → go_denial state actor ≡ None → 0 < actor
 go_counts state actor d = grind arith
 
 -- another actor has another place in the list

@@ -1,5 +1,5 @@
 -- Facts that hold along every run.
-use Rattle.std.proofs.Common.{◌≡◌, List, [], ◌∷◌, ◌++◌, Ok, Err, refl, sym, subst, append_assoc, append-nil}
+use Rattle.std.proofs.Common.{◌≡◌, List, [], ◌∷◌, ◌++◌, Ok, Err, refl, sym, subst, append_assoc, append-nil, ◌∙◌}
 use Rattle.machine_model.specs.declared.steps.Limits.{Limits}
 use Rattle.machine_model.specs.declared.steps.Outcome.{Outcome}
 use Rattle.machine_model.specs.declared.steps.Step.{Step}
@@ -7,6 +7,7 @@ use Rattle.machine_model.specs.States.{State, first_state}
 use Rattle.machine_model.specs.Machine.{Answer, next, next_state, state_after, run_from, run}
 use Rattle.machine_model.proofs.Moves.{moves}
 use Rattle.machine_model.specs.Moves.{Moves, MovesIfTaken}
+use Rattle.machine_model.proofs.Frames.{limits_kept}
 
 -- a run of two lists of steps is the run of the second one from where the first one leads
 pub run-append : (state : State) (xs ys : List Step) → run_from state (xs ++ ys) ≡ run_from (run_from state xs) ys
@@ -48,3 +49,8 @@ unfolding run_from
 along limits P first keeps steps =
     by_last (λ xs. P (run limits xs)) first
     (λ xs s h. subst P (sym (run_push (first_state limits) xs s)) (kept_by_moves P (run limits xs) s h (λ o after m. keeps xs s o after m h))) steps
+
+-- a machine keeps its limits
+pub limits_along : (limits : Limits) (steps : List Step) → (run limits steps).limits ≡ limits
+unfolding first_state
+limits_along limits = along limits (λ state. state.limits ≡ limits) refl (λ steps s o after m e. limits_kept (run limits steps) s o after m ∙ e)

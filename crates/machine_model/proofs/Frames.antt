@@ -1,8 +1,8 @@
 -- What no action touches.
-use Rattle.std.proofs.Common.{◌≡◌, ℕ, ◌+◌, refl, arith}
+use Rattle.std.proofs.Common.{◌≡◌, ℕ, ◌+◌, refl, arith, []}
 use Rattle.slot_arena.specs.declared.refs.Ref.{Ref}
 use Rattle.history.specs.declared.calls.Call.{Call}
-use Rattle.std.specs.Prelude.{Option}
+use Rattle.std.specs.Prelude.{Option, ◌++◌, ◌∷◌}
 use Rattle.machine_model.specs.declared.actions.Action.{Action}
 use Rattle.machine_model.specs.declared.actions.Action.TheVariants as act
 use Rattle.machine_model.specs.declared.operations.Operation.{Operation}
@@ -15,6 +15,7 @@ use Rattle.machine_model.specs.Acting.{acted, aborted, offered, completed, new_r
 use Rattle.machine_model.specs.Machine.{with_begin, swept}
 use Rattle.machine_model.specs.Moves.{Begins, Goes, Ends, Sweeps}
 use Rattle.machine_model.specs.Moves.{Moves, begun_operation}
+use Rattle.history.specs.declared.events.Event.TheVariants.{Begin}
 
 -- what stays the same, whatever the action does
 pub record IsFramed (before after : State) : Type 0 where
@@ -75,3 +76,8 @@ steps_counted state s o after (Begins d) = refl
 steps_counted state s o after (Goes d found a g) = refl
 steps_counted state s o after (Ends d found a) = refl
 steps_counted state s o after (Sweeps spent) = refl
+
+-- a begin is told
+pub begin_events : (state : State) (actor : ℕ) (call : Call) (operation : Operation) →
+    (with_begin state actor call operation).events ≡ state.events ++ Begin operation.id actor call operation.opens ∷ []
+begin_events state actor call operation = grind arith

@@ -1,8 +1,6 @@
 -- What a step that is taken does: one constructor for each kind of step.
 use Rattle.std.proofs.Common.{◌≡◌, ℕ, Bool, true, false, cond, Option, Some, None, Ok, Err, refl, sym, subst}
-use Rattle.std.specs.Prelude.{unwrap_or}
 use Rattle.std.proofs.lemmas.Option.{none-some}
-use Rattle.history.specs.declared.calls.Access.TheVariants.{Writable}
 use Rattle.ctrie_base.specs.declared.refusals.Refusal.{Refusal}
 use Rattle.ctrie_base.specs.declared.refusals.Refusal.TheVariants as refuse
 use Rattle.history.specs.declared.calls.Call.{Call}
@@ -14,13 +12,10 @@ use Rattle.machine_model.specs.declared.steps.Step.{Step}
 use Rattle.machine_model.specs.declared.steps.Step.TheVariants as step
 use Rattle.machine_model.specs.declared.steps.Outcome.{Outcome}
 use Rattle.machine_model.specs.declared.steps.Outcome.TheVariants as outcome
-use Rattle.machine_model.specs.Calls.{handle_of}
-use Rattle.machine_model.specs.States.{State, root_at, operation_of}
-use Rattle.machine_model.specs.Operations.{action_of, kind_of}
-use Rattle.machine_model.specs.Acting.{gone, ended}
-use Rattle.machine_model.specs.Counting.{settled}
-use Rattle.machine_model.specs.Machine.{Answer, next, begin_denial, begin_unless, new_operation, with_begin, access_of, go_denial, go_unless, go_on, step_by, is_spent, swept, settled_after}
-use Rattle.machine_model.specs.Moves.{GoesOn, begun_operation, Moves, Begins, Goes, Ends, Sweeps, MovesIfTaken, IsTaken}
+use Rattle.machine_model.specs.States.{State, operation_of}
+use Rattle.machine_model.specs.Operations.{action_of}
+use Rattle.machine_model.specs.Machine.{next, begin_denial, begin_unless, go_denial, go_unless, go_on, step_by, is_spent, swept, settled_after}
+use Rattle.machine_model.specs.Moves.{Moves, Begins, Goes, Ends, Sweeps, MovesIfTaken, IsTaken}
 
 -- a begin, by why it is denied
 begin_moves : (state : State) (actor : ℕ) (call : Call) (denial : Option Refusal) → begin_denial state actor call ≡ denial →

@@ -56,11 +56,11 @@ root_readers : (state : State) (operation : Operation) (l : RootLine) → needs_
 root_readers state operation l n = grind arith
 
 -- a reader inserts nothing
-reader_inserts : (call : Call) → needs_writable call ≡ false → inserts call ≡ false
+pub reader_inserts : (call : Call) → needs_writable call ≡ false → inserts call ≡ false
 reader_inserts call n = grind arith
 
 -- a reader that finds its key answers
-reader_answers : (call : Call) → needs_writable call ≡ false → (value : ℕ) → when_found call value ≡ Answers (reply.Found (Some value))
+pub reader_answers : (call : Call) → needs_writable call ≡ false → (value : ℕ) → when_found call value ≡ Answers (reply.Found (Some value))
 reader_answers call n value = grind arith
 
 -- One lemma for each line of KEY; inserting and what is done where the key is found are given, so that the call isn't split.

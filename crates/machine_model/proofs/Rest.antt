@@ -1,5 +1,6 @@
 -- The free slots are the rest: each slot is either flagged as used or stands in the free list, once.
-use Rattle.std.proofs.Common.{◌≡◌, ℕ, zero, suc, ◌+◌, ◌<◌, ◌≤◌, ◌==◌, Bool, true, false, cond, nat_lt, nat_le, ◌&&◌, List, ◌∷◌, length, get_or, set, replicate, count_by, refl, sym, ◌⊎◌, inl, inr, arith, leb-true, leb-false, ltb-true, ltb-false, lt-ltb, eqb-true, eq-eqb, ne_eqb, get_or-set_same, get_or-set_other, length-set}
+use Rattle.std.proofs.Common.{◌≡◌, ℕ, zero, suc, ◌+◌, ◌<◌, ◌≤◌, ◌==◌, Bool, true, false, cond, nat_lt, nat_le, ◌&&◌, List, ◌∷◌, length, get_or, set, replicate, count_by, refl, sym}
+use Rattle.std.proofs.Common.{◌⊎◌, inl, inr, arith, leb-true, leb-false, ltb-true, ltb-false, lt-ltb, eqb-true, eq-eqb, ne_eqb, get_or-set_same, get_or-set_other, length-set}
 use Rattle.std.proofs.lemmas.Bool.{cases_eq, eqb-false}
 use Rattle.std.proofs.lemmas.List.{get_or_past, length-replicate}
 use Rattle.std.proofs.lemmas.List.FromFn.{length-range_with_len}

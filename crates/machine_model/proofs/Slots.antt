@@ -1,5 +1,6 @@
 -- The slots in use and the free ones are all slots, after every run.
-use Rattle.std.proofs.Common.{◌≡◌, ℕ, zero, suc, ◌+◌, ◌≤◌, ◌^◌, Bool, true, false, cond, nat_le, is_some, List, [], ◌∷◌, length, map, replicate, All, Option, Some, None, option_map, refl, ap, ◌∙◌, subst, arith}
+use Rattle.std.proofs.Common.{◌≡◌, ℕ, zero, suc, ◌+◌, ◌≤◌, ◌^◌, Bool, true, false, cond, nat_le, is_some, List, [], ◌∷◌, length, map, replicate, All, Option, Some, None}
+use Rattle.std.proofs.Common.{option_map, refl, ap, ◌∙◌, subst, arith}
 use Rattle.std.proofs.Math.Seq.{map-set_same}
 use Rattle.std.proofs.lemmas.List.{map-set, length-set, length-map, length-replicate}
 use Rattle.std.proofs.lemmas.List.Elements.{All-nil, All-head}
@@ -36,7 +37,7 @@ pub record AddsUp (slots : ℕ) (heap : Heap) : Type 0 where
 -- ---- each effect keeps that
 
 -- a slot in use that changes is still in use
-change_kept : (change : Slot → Slot) (o : Option Slot) → is_some (option_map change o) ≡ is_some o
+pub change_kept : (change : Slot → Slot) (o : Option Slot) → is_some (option_map change o) ≡ is_some o
 change_kept change None = refl
 change_kept change (Some slot) = refl
 

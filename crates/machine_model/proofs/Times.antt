@@ -1,5 +1,5 @@
 -- A run as states over time: what many-step facts are stated on. State t is the state before step t.
-use Rattle.std.proofs.Common.{◌≡◌, ℕ, zero, suc, cond, ◌≤◌, ◌<◌, ◌+◌, List, [], ◌∷◌, length, Ok, Err, refl, ap, subst, sym, ◌∙◌, arith}
+use Rattle.std.proofs.Common.{◌≡◌, ℕ, zero, suc, cond, ◌≤◌, ◌<◌, List, [], ◌∷◌, length, Ok, Err, refl, ap, subst, sym, ◌∙◌, arith}
 use Rattle.machine_model.specs.declared.steps.Limits.{Limits}
 use Rattle.machine_model.specs.declared.steps.Outcome.{Outcome}
 use Rattle.machine_model.specs.declared.steps.Step.{Step}
@@ -42,7 +42,7 @@ steps_at limits states last r =
 abbrev TurnsFrom : State → List Step → Type 0
 TurnsFrom state steps = (t : ℕ) → t < length steps → Turn (states_from state steps t) (states_from state steps (suc t))
 
-states_from-zero : (state : State) (steps : List Step) → states_from state steps zero ≡ state
+pub states_from-zero : (state : State) (steps : List Step) → states_from state steps zero ≡ state
 unfolding states_from
 states_from-zero state [] = refl
 states_from-zero state (s ∷ steps) = refl

@@ -1,5 +1,5 @@
 -- Keys have 64 bits: so has each key of a call in the program, and the laws of the trie's shape need it.
-use Rattle.std.specs.Prelude.{ℕ, ◌<◌, ◌^◌, List, All}
+use Rattle.std.specs.Prelude.{◌<◌, ◌^◌, List, All}
 use Rattle.machine_model.specs.declared.steps.Step.{Step}
 use Rattle.machine_model.specs.declared.steps.Step.TheVariants.{Begin}
 use Rattle.machine_model.specs.Calls.{key_of}

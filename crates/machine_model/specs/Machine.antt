@@ -1,5 +1,6 @@
 -- The machine: one atomic step, and runs of steps.
-use Rattle.std.specs.Prelude.{ℕ, zero, suc, ◌+◌, ◌==◌, ◌≤◌, ◌||◌, ◌&&◌, Bool, true, false, not, nat_lt, nat_le, is_some, List, [], ◌∷◌, ◌++◌, map, Option, Some, None, option_map, unwrap_or, Result, Ok, Err, if◌then◌else◌}
+use Rattle.std.specs.Prelude.{ℕ, zero, suc, ◌+◌, ◌==◌, ◌≤◌, ◌||◌, ◌&&◌, Bool, true, false, not, nat_lt, nat_le, is_some, List, [], ◌∷◌, ◌++◌, map, Option, Some, None, option_map}
+use Rattle.std.specs.Prelude.{unwrap_or, Result, Ok, Err, if◌then◌else◌}
 use Rattle.std.specs.List.{list_any}
 use Rattle.ctrie_base.specs.declared.kinds.Kind.{Kind}
 use Rattle.ctrie_base.specs.declared.refusals.Refusal.{Refusal}
@@ -9,7 +10,6 @@ use Rattle.history.specs.declared.calls.Access.TheVariants.{Writable, ReadOnly}
 use Rattle.history.specs.declared.calls.Call.{Call}
 use Rattle.history.specs.declared.events.Event.TheVariants.{Begin}
 use Rattle.history.specs.Histories.{begun}
-use Rattle.slot_arena.specs.declared.refs.Ref.{Ref}
 use Rattle.machine_model.specs.declared.operations.Operation.{Operation}
 use Rattle.machine_model.specs.declared.actions.Action.{Action}
 use Rattle.machine_model.specs.declared.actions.Action.TheVariants as act

@@ -1,5 +1,10 @@
 //! The map's machine as a definition: `specs/` says what one atomic step does. The types here are what
 //! the definition speaks of.
+//!
+//! `specs/Machine` is a step and a run of steps, `specs/Operations` the next action of an operation and the line after it; each program has a
+//! file of its own (`Reading`, `Swapping`, `Finding`, `Building`, `Renewing`, `Cleaning`, `Climbing`, `Copying`, `Walking`). `specs/Moves` tells
+//! the kinds of steps apart, `specs/Times` sees a run as states over time, and `specs/Grown` keeps all nodes that it ever made. `proofs/` has what
+//! every proof crate cites of steps, runs and the heap.
 #![tactic(auto)]
 
 mod actions;

@@ -1,3 +1,4 @@
+-- The course of words: what is final, how logical main nodes change, what a READ gives and how a SWAP comes out.
 pub mod Finals
 pub mod Mains
 pub mod Closings

@@ -1,3 +1,4 @@
+-- Each line of each program is a turn of the protocol, and what it remembers.
 pub mod Stages
 pub mod Read
 pub mod Remembers

@@ -22,8 +22,9 @@ use Rattle.proof_commits.specs.Beneath.machine_model.specs.Reading.{read_step}
 use Rattle.proof_commits.specs.Beneath.machine_model.specs.Operations.{read_of}
 use Rattle.proof_commits.specs.Beneath.machine_model.specs.Acting.{operation_after}
 use Rattle.proof_commits.specs.Beneath.machine_model.specs.Machine.{AreLimits, run, taken_steps}
-use Rattle.proof_commits.specs.Runs.{steps_taken, state_before, HasIndirection}
+use Rattle.proof_commits.specs.Runs.{HasIndirection}
 use Rattle.proof_memory.specs.Laws.{IsInUse}
+use Rattle.proof_commits.specs.Beneath.machine_model.specs.Times.{states_of, last_of}
 
 -- ---- owners
 
@@ -71,17 +72,17 @@ pub data PrevChange (before after : State) (main : Ref) : Type 0 where
 -- a prev word goes from none to pending in the step that swaps the node in, and from pending to none or failed
 abbrev pub PrevWordsChange : Type 0
 PrevWordsChange =
-    (limits : Limits) (steps : List Step) → AreLimits limits → (n : ℕ) → n < steps_taken limits steps → (main : Ref) →
-    IsInUse (state_before limits steps n).heap main → IsInUse (state_before limits steps (n + 1)).heap main →
-    PrevChange (state_before limits steps n) (state_before limits steps (n + 1)) main
+    (limits : Limits) (steps : List Step) → AreLimits limits → (n : ℕ) → n < last_of limits steps → (main : Ref) →
+    IsInUse (states_of limits steps n).heap main → IsInUse (states_of limits steps (n + 1)).heap main →
+    PrevChange (states_of limits steps n) (states_of limits steps (n + 1)) main
 
 -- once it was pending and isn't any more, it stays as it is
 abbrev pub DecidedForGood : Type 0
 DecidedForGood =
-    (limits : Limits) (steps : List Step) → AreLimits limits → (n k l : ℕ) → n ≤ k → k ≤ l → l ≤ steps_taken limits steps → (main replaced : Ref) →
-    IsInUse (state_before limits steps n).heap main → IsInUse (state_before limits steps k).heap main → IsInUse (state_before limits steps l).heap main →
-    prev_at (state_before limits steps n).heap main ≡ prev.Pending replaced → ¬ (prev_at (state_before limits steps k).heap main ≡ prev.Pending replaced) →
-    prev_at (state_before limits steps l).heap main ≡ prev_at (state_before limits steps k).heap main
+    (limits : Limits) (steps : List Step) → AreLimits limits → (n k l : ℕ) → n ≤ k → k ≤ l → l ≤ last_of limits steps → (main replaced : Ref) →
+    IsInUse (states_of limits steps n).heap main → IsInUse (states_of limits steps k).heap main → IsInUse (states_of limits steps l).heap main →
+    prev_at (states_of limits steps n).heap main ≡ prev.Pending replaced → ¬ (prev_at (states_of limits steps k).heap main ≡ prev.Pending replaced) →
+    prev_at (states_of limits steps l).heap main ≡ prev_at (states_of limits steps k).heap main
 
 -- ---- logical main nodes
 
@@ -97,18 +98,18 @@ pub record CommitsMain (before after : State) (indirection : Ref) : Type 0 where
 -- a logical main node changes only in a commit, from the node that the new one was built from
 abbrev pub MainsChangeByCommits : Type 0
 MainsChangeByCommits =
-    (limits : Limits) (steps : List Step) → AreLimits limits → (n : ℕ) → n < steps_taken limits steps → (indirection : Ref) →
-    HasIndirection (state_before limits steps n) indirection → HasIndirection (state_before limits steps (n + 1)) indirection →
-    (logical_main (state_before limits steps (n + 1)).heap indirection ≡ logical_main (state_before limits steps n).heap indirection)
-    ⊎ CommitsMain (state_before limits steps n) (state_before limits steps (n + 1)) indirection
+    (limits : Limits) (steps : List Step) → AreLimits limits → (n : ℕ) → n < last_of limits steps → (indirection : Ref) →
+    HasIndirection (states_of limits steps n) indirection → HasIndirection (states_of limits steps (n + 1)) indirection →
+    (logical_main (states_of limits steps (n + 1)).heap indirection ≡ logical_main (states_of limits steps n).heap indirection)
+    ⊎ CommitsMain (states_of limits steps n) (states_of limits steps (n + 1)) indirection
 
 -- a node that was replaced never comes back
 abbrev pub ReplacedForGood : Type 0
 ReplacedForGood =
-    (limits : Limits) (steps : List Step) → AreLimits limits → (n k l : ℕ) → n ≤ k → k ≤ l → l ≤ steps_taken limits steps → (indirection : Ref) →
-    HasIndirection (state_before limits steps n) indirection → HasIndirection (state_before limits steps k) indirection → HasIndirection (state_before limits steps l) indirection →
-    ¬ (logical_main (state_before limits steps k).heap indirection ≡ logical_main (state_before limits steps n).heap indirection) →
-    ¬ (logical_main (state_before limits steps l).heap indirection ≡ logical_main (state_before limits steps n).heap indirection)
+    (limits : Limits) (steps : List Step) → AreLimits limits → (n k l : ℕ) → n ≤ k → k ≤ l → l ≤ last_of limits steps → (indirection : Ref) →
+    HasIndirection (states_of limits steps n) indirection → HasIndirection (states_of limits steps k) indirection → HasIndirection (states_of limits steps l) indirection →
+    ¬ (logical_main (states_of limits steps k).heap indirection ≡ logical_main (states_of limits steps n).heap indirection) →
+    ¬ (logical_main (states_of limits steps l).heap indirection ≡ logical_main (states_of limits steps n).heap indirection)
 
 -- a tomb that is the logical main node stays it
 abbrev pub IsTomb : Node → Type 0
@@ -117,10 +118,10 @@ IsTomb node = ⊥
 
 abbrev pub TombsStay : Type 0
 TombsStay =
-    (limits : Limits) (steps : List Step) → AreLimits limits → (n k : ℕ) → n ≤ k → k ≤ steps_taken limits steps → (indirection tomb : Ref) →
-    HasIndirection (state_before limits steps n) indirection → HasIndirection (state_before limits steps k) indirection →
-    logical_main (state_before limits steps n).heap indirection ≡ tomb → IsInUse (state_before limits steps n).heap tomb → IsTomb (node_at (state_before limits steps n).heap tomb) →
-    logical_main (state_before limits steps k).heap indirection ≡ tomb
+    (limits : Limits) (steps : List Step) → AreLimits limits → (n k : ℕ) → n ≤ k → k ≤ last_of limits steps → (indirection tomb : Ref) →
+    HasIndirection (states_of limits steps n) indirection → HasIndirection (states_of limits steps k) indirection →
+    logical_main (states_of limits steps n).heap indirection ≡ tomb → IsInUse (states_of limits steps n).heap tomb → IsTomb (node_at (states_of limits steps n).heap tomb) →
+    logical_main (states_of limits steps k).heap indirection ≡ tomb
 
 -- ---- what a READ gives
 
@@ -134,53 +135,53 @@ pub record IsGiven (limits : Limits) (steps : List Step) (n : ℕ) (indirection 
   pub actor : ℕ
   pub operation : Operation
   pub step : slice_get (taken_steps limits steps) n ≡ Some (Go actor)
-  pub runs : operation_of (state_before limits steps n) actor ≡ Some operation
+  pub runs : operation_of (states_of limits steps n) actor ≡ Some operation
   pub no_swap : IsNoSwap operation.line
   pub read : Read
   pub reads : read_of operation.line ≡ Some read
   pub of : read.indirection ≡ indirection
-  pub gives : read_step (state_before limits steps n) operation read ≡ Gives main
+  pub gives : read_step (states_of limits steps n) operation read ≡ Gives main
 
 -- the operation after that step
 abbrev pub after_given : {limits : Limits} {steps : List Step} {n : ℕ} {indirection main : Ref} → IsGiven limits steps n indirection main → Operation
-after_given {limits} {steps} {n} given = operation_after (state_before limits steps n) given.operation
+after_given {limits} {steps} {n} given = operation_after (states_of limits steps n) given.operation
 
 -- what it gives was the logical main node after its moment, and the moment is the first such step from its last read or swap of the main word on
 abbrev pub MomentIsFirst : Type 0
 MomentIsFirst =
-    (limits : Limits) (steps : List Step) → AreLimits limits → (n : ℕ) → n < steps_taken limits steps → (indirection main : Ref) (given : IsGiven limits steps n indirection main) →
+    (limits : Limits) (steps : List Step) → AreLimits limits → (n : ℕ) → n < last_of limits steps → (indirection main : Ref) (given : IsGiven limits steps n indirection main) →
     ((after_given given).read_at ≤ (after_given given).moment) × ((after_given given).moment ≤ n)
-    × (HasIndirection (state_before limits steps ((after_given given).moment + 1)) indirection → logical_main (state_before limits steps ((after_given given).moment + 1)).heap indirection ≡ main)
-    × ((k : ℕ) → (after_given given).read_at < k → k ≤ (after_given given).moment → HasIndirection (state_before limits steps k) indirection →
-    ¬ (logical_main (state_before limits steps k).heap indirection ≡ main))
+    × (HasIndirection (states_of limits steps ((after_given given).moment + 1)) indirection → logical_main (states_of limits steps ((after_given given).moment + 1)).heap indirection ≡ main)
+    × ((k : ℕ) → (after_given given).read_at < k → k ≤ (after_given given).moment → HasIndirection (states_of limits steps k) indirection →
+    ¬ (logical_main (states_of limits steps k).heap indirection ≡ main))
 
 -- what it gives of an indirection whose generation was closed before that read or swap stays its logical main node for ever
 abbrev pub GivenForGood : Type 0
 GivenForGood =
-    (limits : Limits) (steps : List Step) → AreLimits limits → (n : ℕ) → n < steps_taken limits steps → (indirection main : Ref) (given : IsGiven limits steps n indirection main) →
-    (closed : ℕ) → closed_at (run limits steps) (generation_at (state_before limits steps n).heap indirection) ≡ Some closed → closed < (after_given given).read_at →
-    HasIndirection (state_before limits steps n) indirection →
-    (k : ℕ) → (after_given given).moment < k → k ≤ steps_taken limits steps → HasIndirection (state_before limits steps k) indirection →
-    logical_main (state_before limits steps k).heap indirection ≡ main
+    (limits : Limits) (steps : List Step) → AreLimits limits → (n : ℕ) → n < last_of limits steps → (indirection main : Ref) (given : IsGiven limits steps n indirection main) →
+    (closed : ℕ) → closed_at (run limits steps) (generation_at (states_of limits steps n).heap indirection) ≡ Some closed → closed < (after_given given).read_at →
+    HasIndirection (states_of limits steps n) indirection →
+    (k : ℕ) → (after_given given).moment < k → k ≤ last_of limits steps → HasIndirection (states_of limits steps k) indirection →
+    logical_main (states_of limits steps k).heap indirection ≡ main
 
 -- ---- after a closing
 
 -- step n changes the logical main node of an indirection whose generation was closed before, at this step
 pub record ChangesLate (limits : Limits) (steps : List Step) (closed n : ℕ) (indirection : Ref) : Type 0 where
   pub late : closed ≤ n
-  pub taken : n < steps_taken limits steps
-  pub before : HasIndirection (state_before limits steps n) indirection
-  pub after : HasIndirection (state_before limits steps (n + 1)) indirection
-  pub closing : closed_at (run limits steps) (generation_at (state_before limits steps n).heap indirection) ≡ Some closed
-  pub changes : ¬ (logical_main (state_before limits steps (n + 1)).heap indirection ≡ logical_main (state_before limits steps n).heap indirection)
+  pub taken : n < last_of limits steps
+  pub before : HasIndirection (states_of limits steps n) indirection
+  pub after : HasIndirection (states_of limits steps (n + 1)) indirection
+  pub closing : closed_at (run limits steps) (generation_at (states_of limits steps n).heap indirection) ≡ Some closed
+  pub changes : ¬ (logical_main (states_of limits steps (n + 1)).heap indirection ≡ logical_main (states_of limits steps n).heap indirection)
 
 -- what commits late stood in the main word before the closing
 abbrev pub LateStoodBefore : Type 0
 LateStoodBefore =
     (limits : Limits) (steps : List Step) → AreLimits limits → (closed n : ℕ) (indirection : Ref) → ChangesLate limits steps closed n indirection →
     (k : ℕ) × (k ≤ closed)
-    × (HasIndirection (state_before limits steps k) indirection →
-    main_at (state_before limits steps k).heap indirection ≡ main_at (state_before limits steps n).heap indirection)
+    × (HasIndirection (states_of limits steps k) indirection →
+    main_at (states_of limits steps k).heap indirection ≡ main_at (states_of limits steps n).heap indirection)
 
 -- at most one node commits late
 abbrev pub LateOnce : Type 0

@@ -2,7 +2,7 @@
 use Rattle.std.specs.Prelude.{◌≡◌, ℕ, suc, ◌<◌, ◌≤◌, max, true, Option, Some, None}
 use Rattle.proof_commits.specs.Beneath.slot_arena.specs.declared.refs.Ref.{Ref}
 use Rattle.proof_commits.specs.Beneath.slot_arena.specs.declared.nodes.Prev.TheVariants as over
-use Rattle.proof_commits.specs.Protocol.{Words, main_at}
+use Rattle.proof_commits.specs.Protocol.{Words, logical_at}
 
 -- the greater of a step and that of the commit, if there was one
 abbrev pub later_of : ℕ → Option ℕ → ℕ
@@ -17,5 +17,5 @@ pub record IsMoment (w : Words) (i m : Ref) (r mu t : ℕ) : Type 0 where
   pub link : w.link (suc r) i ≡ true
   pub stood : w.main (suc r) i ≡ m
   pub none : w.prev (suc mu) m ≡ over.None
-  pub is : main_at w (suc mu) i ≡ m
-  pub first : (v : ℕ) → r < v → v ≤ mu → main_at w v i ≡ m → ⊥
+  pub is : logical_at w (suc mu) i ≡ m
+  pub first : (v : ℕ) → r < v → v ≤ mu → logical_at w v i ≡ m → ⊥

@@ -48,8 +48,8 @@ pub record Words : Type 0 where
   pub from : ℕ → ℕ → ℕ
 
 -- the logical main node of an indirection
-abbrev pub main_at : Words → ℕ → Ref → Ref
-main_at w t i = logical (w.main t i) (w.prev t (w.main t i))
+abbrev pub logical_at : Words → ℕ → Ref → Ref
+logical_at w t i = logical (w.main t i) (w.prev t (w.main t i))
 
 -- ---- writes
 

@@ -9,14 +9,6 @@ use Rattle.proof_commits.specs.Beneath.machine_model.specs.Machine.{run, taken_s
 use Rattle.proof_memory.specs.Laws.{IsInUse}
 use Rattle.proof_memory.specs.Wants.{is_indirection}
 
--- how many of these steps are taken: they have the numbers below it
-abbrev pub steps_taken : Limits → List Step → ℕ
-steps_taken limits steps = length (taken_steps limits steps)
-
--- the state before the step of this number, which is that after so many steps
-abbrev pub state_before : Limits → List Step → ℕ → State
-state_before limits steps n = run limits (take n (taken_steps limits steps))
-
 -- an indirection in use
 abbrev pub HasIndirection : State → Ref → Type 0
 HasIndirection state i = IsInUse state.heap i × (is_indirection (node_at state.heap i) ≡ true)

@@ -1,3 +1,4 @@
+-- What the lines of each program know of the nodes that they have seen and made, and so answer.
 pub mod Readers
 pub mod Updates
 pub mod Key

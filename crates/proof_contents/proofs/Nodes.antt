@@ -1,3 +1,4 @@
+-- Single nodes: what the builders make of a node's entries, as the finite map that is its content.
 pub mod Branches
 pub mod Changes
 pub mod Lists

@@ -1,3 +1,4 @@
+-- The pairs that a handle reaches are those of its content.
 pub mod Lists
 pub mod Spreads
 pub mod Shown

@@ -1,3 +1,4 @@
+-- How the value of a key is found in the trie of a run, that paths last, and what contents are.
 pub mod Maps
 pub mod Found
 pub mod Paths

@@ -15,7 +15,7 @@ use Rattle.proof_contents.specs.Beneath.slot_arena.specs.Heaps.{no_ref}
 use Rattle.proof_contents.specs.Beneath.nodes.specs.Levels.{index_in, flag_of, has_flag}
 use Rattle.proof_contents.specs.Beneath.nodes.specs.Builders.{inserted, updated, removed, renewed, contracted, list_inserted, list_updated, list_removed}
 use Rattle.proof_contents.specs.Nodes.Branches.{HasPlaces, at_place}
-use Rattle.proof_contents.specs.Nodes.Looking.{Absent, look_among, Holds}
+use Rattle.proof_contents.specs.Nodes.Looking.{Absent, look_among, HoldsMap}
 use Rattle.proof_contents.specs.Nodes.Lists.{AreSingles}
 use Rattle.proof_contents.specs.Nodes.Changing.{AreInPlace}
 use Rattle.proof_contents.specs.Nodes.Chains.{LeadsToPair}
@@ -29,7 +29,7 @@ pub record Place : Type 0 where
   pub levels : ℕ
 
 abbrev pub HoldsAt : Place → Node → FinMap nat_cmp ℕ → Type 0
-HoldsAt place n m = Holds place.node place.main (hash_of place.kind) place.levels place.depth n m
+HoldsAt place n m = HoldsMap place.node place.main (hash_of place.kind) place.levels place.depth n m
 
 -- the new node has the key with this value, and all else as before
 abbrev pub Puts : Place → Node → Node → ℕ → ℕ → Type 0

@@ -21,14 +21,14 @@ unfoldable pub main_within : (ℕ → State) → ℕ → ℕ → Ref → Ref
 main_within states t zero i = main_before states t i
 main_within states t (suc left) i = if is_made states t i then main_before states t i else main_within states (suc t) left i
 
-abbrev pub main_at : (ℕ → State) → ℕ → ℕ → Ref → Ref
-main_at states last t i = main_within states t (last - t) i
+abbrev pub counting_main : (ℕ → State) → ℕ → ℕ → Ref → Ref
+counting_main states last t i = main_within states t (last - t) i
 
 -- ---- roots of generations
 
-abbrev pub or_before : Option Ref → Option Ref → Option Ref
-or_before None other = other
-or_before (Some r) other = Some r
+abbrev pub or_other : Option Ref → Option Ref → Option Ref
+or_other None other = other
+or_other (Some r) other = Some r
 
 abbrev pub root_if : Heap → ℕ → Option Root → Option Ref
 root_if heap generation None = None
@@ -37,15 +37,15 @@ root_if heap generation (Some root) = if generation_at heap (root_of root.word) 
 -- the first handle's root of this generation
 abbrev pub root_among : Heap → ℕ → List (Option Root) → Option Ref
 root_among heap generation [] = None
-root_among heap generation (root ∷ roots) = or_before (root_if heap generation root) (root_among heap generation roots)
+root_among heap generation (root ∷ roots) = or_other (root_if heap generation root) (root_among heap generation roots)
 
 -- the first one up to the state before step t
 unfoldable pub root_until : (ℕ → State) → ℕ → ℕ → Option Ref
 root_until states generation zero = root_among (states zero).heap generation (states zero).roots
-root_until states generation (suc t) = or_before (root_until states generation t) (root_among (states (suc t)).heap generation (states (suc t)).roots)
+root_until states generation (suc t) = or_other (root_until states generation t) (root_among (states (suc t)).heap generation (states (suc t)).roots)
 
-abbrev pub root_at : (ℕ → State) → ℕ → ℕ → Ref
-root_at states last generation = unwrap_or (root_until states generation last) no_ref
+abbrev pub root_of_generation : (ℕ → State) → ℕ → ℕ → Ref
+root_of_generation states last generation = unwrap_or (root_until states generation last) no_ref
 
 -- ---- keys
 
@@ -70,8 +70,8 @@ trie_of limits states last depth path = record {
   kind = limits.hash;
   last = last;
   node = node_under states last;
-  main = main_at states last;
-  root = root_at states last;
+  main = counting_main states last;
+  root = root_of_generation states last;
   depth = depth;
   path = path;
   keys = keys_until states last;

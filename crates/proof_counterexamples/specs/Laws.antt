@@ -12,7 +12,8 @@ use Rattle.machine_model.specs.Machine.{run}
 use Rattle.machine_model.specs.Runs.{sized}
 use Rattle.proof_counterexamples.specs.Orders.{with_late_commits_at_the_end, with_late_reads_at_the_end, by_ends, with_refused}
 use Rattle.proof_counterexamples.specs.Machines.{run_of, by_the_new_root, without_the_root, without_comparing, without_the_single, with_refused_changes, with_refused_climbs}
-use Rattle.proof_counterexamples.specs.Runs.{late_put, late_get, refused_put, refused_change, last_removal, late_removal, overtaken_put, overtaken_snapshot, cleaning_get, after_two_keys, late_get_history}
+use Rattle.proof_counterexamples.specs.Runs.{late_put, late_get, refused_put, refused_change, last_removal, late_removal, overtaken_put, overtaken_snapshot, cleaning_get}
+use Rattle.proof_counterexamples.specs.Runs.{after_two_keys, late_get_history}
 
 -- the order that the rule gives of a run isn't legal for the run's history
 abbrev pub IsIllegal : (State → List ℕ) → State → Type 0

@@ -1,6 +1,7 @@
 //! Laws of wrong machines and wrong orders: each is refused.
 
-ghost use Rattle.proof_counterexamples.specs.Laws.{LateCommitAtTheEnd, LateReadAtTheEnd, OrderOfEnds, RefusedPutInTheOrder, RefusedPutInTheMap, RefusedAfterItsCommit, LateRemoveByTheNewRoot, CommitsWithoutTheRoot, SwapsWithoutComparing, CleansWithoutTheSingle};
+ghost use Rattle.proof_counterexamples.specs.Laws.{LateCommitAtTheEnd, LateReadAtTheEnd, OrderOfEnds, RefusedPutInTheOrder, RefusedPutInTheMap, RefusedAfterItsCommit};
+ghost use Rattle.proof_counterexamples.specs.Laws.{LateRemoveByTheNewRoot, CommitsWithoutTheRoot, SwapsWithoutComparing, CleansWithoutTheSingle};
 
 /// A law: a change that is committed late may not stand where it was committed.
 pub fn late_commit_at_the_end()

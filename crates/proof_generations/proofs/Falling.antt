@@ -1,3 +1,4 @@
+-- Generations along paths at each time of a run, and what follows for the trie, for swaps and for what is read.
 pub mod KnownRoots
 pub mod Nodes
 pub mod Opened

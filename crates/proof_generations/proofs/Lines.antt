@@ -1,5 +1,7 @@
+-- What the lines of each program know of generations, and hand on.
 pub mod Copy
 pub mod Offers
+pub mod Completes
 pub mod Knows
 pub mod Key
 pub mod Build

@@ -27,7 +27,7 @@ use Rattle.proof_generations.specs.Beneath.machine_model.specs.Grown.{node_under
 use Rattle.proof_commits.specs.Laws.{IsNoSwap}
 use Rattle.proof_generations.specs.Laws.Roots.{root_generation}
 use Rattle.proof_contents.specs.Tries.{generation, node_in}
-use Rattle.proof_contents.specs.Runs.{main_at, trie_of}
+use Rattle.proof_contents.specs.Runs.{counting_main, trie_of}
 use Rattle.proof_contents.specs.Lines.Repairs.{ReadsBelow}
 
 -- ---- what falls
@@ -106,13 +106,13 @@ pub record GivesAt (states : ℕ → State) (t actor : ℕ) (operation : Operati
 abbrev pub GivenForEver : (ℕ → State) → ℕ → Type 0
 GivenForEver states last =
     (t : ℕ) → t < last → (actor : ℕ) (operation : Operation) (i m : Ref) → GivesAt states t actor operation i m → ReadsClosed operation (generation_of (node_under states last i)) →
-    (u : ℕ) → moment_after (states t) operation < u → u ≤ last → main_at states last u i ≡ m
+    (u : ℕ) → moment_after (states t) operation < u → u ≤ last → counting_main states last u i ≡ m
 
 -- What an operation of generation g knows at step t of a main node that it was given for an indirection: that it counted at some time, and, where the
 -- indirection has another generation, that it counts for ever.
 abbrev pub WasGiven : (ℕ → State) → ℕ → ℕ → ℕ → Ref → Ref → Type 0
 WasGiven states last g t i m =
-    ((u : ℕ) × (u ≤ t) × (main_at states last u i ≡ m)) × ((generation_of (node_under states last i) ≡ g → ⊥) → main_at states last last i ≡ m)
+    ((u : ℕ) × (u ≤ t) × (counting_main states last u i ≡ m)) × ((generation_of (node_under states last i) ≡ g → ⊥) → counting_main states last last i ≡ m)
 
 -- where a repair's READ gives it
 abbrev pub RepairsAreGiven : (ℕ → State) → ℕ → Type 0

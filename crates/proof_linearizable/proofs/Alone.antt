@@ -135,8 +135,10 @@ module _ (limits : Limits) (steps more : List Step) (ok : AreLimits limits) (id 
           contains_among _ p (subst (λ (s : State). Among p s.places) (sym (run_ends limits (steps ++ more))) (subst (Among p) (sym grown.1) (among_right before.places grown.0 p a))) in
           let (k, operation, runs, same) = facts1.runs_behind p contained in
           let told = (books_at limits all (last_of limits (steps ++ more)) (run_is limits (steps ++ more) ok) (suc p.step) (omega (arith, low, within))).told k operation runs in
-          let begun : HasBegun (all (suc p.step)).events p.id = subst (HasBegun (all (suc p.step)).events) same (told.place, record { actor = suc k; call = operation.call; opens = operation.opens }, told.begins) in
-          let at_rest = holds_later limits all (last_of limits (steps ++ more)) (run_is limits (steps ++ more) ok) (λ s. HasBegun s.events p.id) (begun_kept p.id) (suc p.step) (last_of limits steps) (omega (arith, low)) (omega (arith, within)) begun in
+          let begun : HasBegun (all (suc p.step)).events p.id =
+          subst (HasBegun (all (suc p.step)).events) same (told.place, record { actor = suc k; call = operation.call; opens = operation.opens }, told.begins) in
+          let at_rest = holds_later limits all (last_of limits (steps ++ more)) (run_is limits (steps ++ more) ok) (λ s. HasBegun s.events p.id) (begun_kept p.id)
+          (suc p.step) (last_of limits steps) (omega (arith, low)) (omega (arith, within)) begun in
           new_begun p a (subst (λ (s : State). HasBegun s.events p.id) (states_of-append limits steps more (last_of limits steps) (omega arith) ∙ run_ends limits steps) at_rest)
 
   old_early : (p : Place) → Among p before.places → p.step < last_of limits steps

@@ -19,7 +19,8 @@ use Rattle.proof_linearizable.specs.Beneath.proof_order.proofs.Places.Elements.{
 abbrev Decided : List Event → ℕ → Type 0
 Decided history id = ((answer : Reply) × HasEnded history id answer) ⊎ ((answer : Reply) → ¬ HasEnded history id answer)
 
-decided_by : (event : Event) (history : List Event) (id : ℕ) → ((answer : Reply) × (event ≡ End id answer)) ⊎ ((answer : Reply) → ¬ (event ≡ End id answer)) → Decided history id → Decided (event ∷ history) id
+decided_by : (event : Event) (history : List Event) (id : ℕ) → ((answer : Reply) × (event ≡ End id answer)) ⊎ ((answer : Reply) → ¬ (event ≡ End id answer)) →
+    Decided history id → Decided (event ∷ history) id
 decided_by event history id (inl (answer, here)) rest = inl (answer, (0, ap Some here))
 decided_by event history id (inr other) (inl (answer, (place, at))) = inl (answer, (suc place, at))
 decided_by event history id (inr other) (inr none) = inr (λ answer ended. by answer ended.0 ended.1)

@@ -14,7 +14,7 @@ use Rattle.proof_linearizable.specs.Beneath.proof_order.proofs.Phases.Behind.{ru
 use Rattle.proof_linearizable.specs.Beneath.proof_shape.specs.Sites.Nodes.{depth_of_run, path_of_run}
 use Rattle.proof_linearizable.specs.Beneath.proof_shape.specs.Sites.At.{TakesSteps, StepsFit}
 use Rattle.proof_linearizable.specs.Beneath.proof_shape.specs.Shaped.{trie_of_run}
-use Rattle.proof_updates.proofs.Tries.Whole.{is_trie, steps_keep, updates_follow, replies_right}
+use Rattle.proof_updates.proofs.Tries.OfRuns.{is_trie, steps_keep, updates_follow, replies_right}
 
 module _ (limits : Limits) (states : ℕ → State) (last : ℕ) (run : IsRun limits states last) (steps : ℕ → Step) (takes : TakesSteps states steps last) (keys : StepsFit steps last) where
   pub facts : Facts limits states last (content (trie_of_run limits states steps last))

@@ -95,7 +95,8 @@ module _ (history : List Event) (id actor : ℕ) (call : Call) (opens : Option �
   -- who ended, ended before or is this one
   pub ended_back : (x : ℕ) (other : Reply) → HasEnded longer x other → HasEnded history x other ⊎ (x ≡ id)
   ended_back x other ended =
-      elim (ended_before (history ++ Begin id actor call opens ∷ []) (End id answer) x other (subst (λ h. HasEnded h x other) (sym (append_assoc history (Begin id actor call opens ∷ []) (End id answer ∷ []))) ended)) [
+      elim (ended_before (history ++ Begin id actor call opens ∷ []) (End id answer) x other
+      (subst (λ h. HasEnded h x other) (sym (append_assoc history (Begin id actor call opens ∷ []) (End id answer ∷ []))) ended)) [
         | inl before ↦ elim (ended_before history (Begin id actor call opens) x other before) [
           | inl old ↦ inl old
           | inr bad ↦ cc bad
@@ -150,7 +151,8 @@ module _ (history : List Event) (id actor : ℕ) (call : Call) (opens : Option �
       (each_on order old.replayed.0 (λ i x at. old.candidate.has_begun i x at) old.replayed.1) old.replayed.2 in
       let own = its_own l.one l.recalled in
       subst (λ w. Effect hash w call opens answer next) same
-      (subst (λ c. Effect hash l.between c opens answer next) own.0 (subst (λ h. Effect hash l.between l.one.call h answer next) own.1 (subst (λ a. Effect hash l.between l.one.call l.one.opens a next) own.2 l.acts)))
+      (subst (λ c. Effect hash l.between c opens answer next) own.0
+      (subst (λ h. Effect hash l.between l.one.call h answer next) own.1 (subst (λ a. Effect hash l.between l.one.call l.one.opens a next) own.2 l.acts)))
 
   -- where the order is the same, so is the world
   pub same_world : (hash : ℕ → ℕ) (order : List ℕ) (world next : HandleMap) → Explains hash history order world → Explains hash longer order next → next ≡ world

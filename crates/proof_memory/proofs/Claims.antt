@@ -1,3 +1,4 @@
+-- Claims on references: how one is used, what they give of nodes, and what is made of claimed references.
 pub mod Uses
 pub mod Nodes
 pub mod Made

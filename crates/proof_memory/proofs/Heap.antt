@@ -1,3 +1,4 @@
+-- What a step does to the heap, and to the heap that only grows.
 pub mod Ones
 pub mod Under
 pub mod Effects

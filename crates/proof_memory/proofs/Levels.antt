@@ -1,3 +1,4 @@
+-- Each reference has a level for life; which nodes stand at which levels; so no operation comes to the impossible line.
 pub mod Impossible
 pub mod Never
 pub mod Steps

@@ -1,23 +1,23 @@
 -- What to cite from above.
 --
--- One state: IsSafe (Safety) is the invariant; `safe_at` (AtEachTime) gives it at each time of an IsRun, `safe_along` after each list of steps. Its `heaped`
--- says what is read from what is safe, `open_word` what stands in an open handle's root word; `step_claims` (Invariant) what a step touches.
+-- One state: IsSafe (Safety.States) is the invariant; `safe_at` (Safety.AtEachTime) gives it at each time of an IsRun, `safe_along` after each list of steps.
+-- Its `heaped` says what is read from what is safe, `open_word` what stands in an open handle's root word; `step_claims` (Safety.Steps) what a step touches.
 --
--- What lines take their references for (specs/Wants): `line_at`, `action_at`, `kind_at` (AtTimes) at a time of a run, `line_finds`, `action_finds` in a safe
--- state. A claim is used by `safe_of`, `meets_of`, `all_of`, `fact_of`, `entry_of` (Claims); `node_found`, `main_found`, `prev_found` (AtTimes) lead from a
--- look-up in the machine's heap to the heap that only grows.
+-- What lines take their references for (specs/Wants): `line_at`, `action_at`, `kind_at` (Safety.AtTimes) at a time of a run, `line_finds`, `action_finds` in a
+-- safe state. A claim is used by `safe_of`, `meets_of`, `all_of`, `fact_of`, `entry_of` (Claims.Uses); `node_found`, `main_found`, `prev_found`
+-- (Safety.AtTimes) lead from a look-up in the machine's heap to the heap that only grows.
 --
--- The heap that only grows: `word_move` (WordMoves) says what the step at a time writes, tied to the action of the operation that takes it; `grown_stays` that
--- what was made stays, `grown_in_use` that what is in use agrees, `not_yet_drawn` that what is drawn was never made.
+-- The heap that only grows: `word_move` (Heap.Moves) says what the step at a time writes, tied to the action of the operation that takes it; `grown_stays`
+-- that what was made stays, `not_yet_drawn` that what is drawn was never made. What stands after a write, a taking or a freeing: Heap.Under.
 --
--- What a step leaves safe: `step_carries` (Invariant); of one operation's own step: `gone_carries`, `made_fresh`. An invariant of each operation over one step:
--- `each_after` (EachStep); over root words: `put_words`, `begin_words` (Words).
+-- What a step leaves safe: `step_carries` (Safety.Steps); of one operation's own step: `gone_carries`, `made_fresh`. An invariant of each operation over one
+-- step: `each_after` (Safety.EachStep); over root words: `put_words`, `begin_words` (Heap.RootWords).
 --
--- Levels: `has_levels` (LevelRuns) gives each reference of a run its level for life: 0 for a single, 1 for a root, one more for each indirection further
--- down. `has_shapes` (ShapeStates) says which nodes stand at which levels: tombs below the root's, lists below all levels of a hash, branches above them.
--- `shapes_at` has both at each time of a run, with one function of levels for all times; `along_levels` and `levels_at` carry more facts on levels along a run.
+-- Levels: `has_levels` (Levels.Runs) gives each reference of a run its level for life: 0 for a single, 1 for a root, one more for each indirection further
+-- down. `has_shapes` (Levels.ShapeStates) says which nodes stand at which levels: tombs below the root's, lists below all levels of a hash, branches above
+-- them. `shapes_at` has both at each time of a run, with one function of levels for all times; `along_levels` and `levels_at` carry more facts along a run.
 --
--- The impossible line: `none_impossible` (ShapeStates), by `impossible_strange` (Impossible), `never_after` (Never) and `none_strange`.
+-- The impossible line: `none_impossible` (Levels.ShapeStates), by `impossible_strange` (Levels.Impossible), `never_after` (Levels.Never) and `none_strange`.
 pub mod Heap
 pub mod Claims
 pub mod Lines

@@ -1,3 +1,4 @@
+-- Limbo and the sweep: exact, recent, and down to what is reached.
 pub mod Epochs
 pub mod Exact
 pub mod Zeros

@@ -1,3 +1,4 @@
+-- What the lines of each program want of the heap gives what their steps want, and the lines after them.
 pub mod Read
 pub mod Shared
 pub mod Key

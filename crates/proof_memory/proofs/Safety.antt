@@ -1,3 +1,4 @@
+-- The invariant, one state at a time: every reference that is held or stands is in use, and of the kind it is taken for.
 pub mod Guards
 pub mod EachStep
 pub mod Base

@@ -1,6 +1,7 @@
 //! Laws of memory, for every list of steps.
 
-ghost use Rattle.proof_memory.specs.Laws.{HeldInUse, StandingInUse, DrawnOnce, OneNodeForEver, LinesFind, NodesFind, RootsFind, NeverImpossible, LimboIsExact, LimboIsRecent, FreedLate, SweepLeaves, Reclaimed};
+ghost use Rattle.proof_memory.specs.Laws.{HeldInUse, StandingInUse, DrawnOnce, OneNodeForEver, LinesFind, NodesFind, RootsFind, NeverImpossible, LimboIsExact, LimboIsRecent};
+ghost use Rattle.proof_memory.specs.Laws.{FreedLate, SweepLeaves, Reclaimed};
 
 /// A law: each reference that a running operation has got since its begin (`held`), or that stands in a root
 /// word, a private list or a slot in use (`standing`), names a slot in use, under that very birth.

@@ -1,4 +1,9 @@
 //! What the machine's memory is like in every reachable state: laws of the definition in `machine_model`.
+//!
+//! `specs/Wants` says what each line of each program takes its references for, `specs/Levels` at which level a node stands. `proofs/` shows
+//! what a step does to the heap (`Heap`), what a claim on a reference gives (`Claims`), that what a line wants gives what its step and the line
+//! after it want (`Lines`), so that all references are safe in each state (`Safety`); then that limbo is exact (`Limbo`), and that each node has
+//! a level for life, by which no operation comes to the impossible line (`Levels`).
 #![tactic(auto)]
 
 mod laws;

@@ -1,2 +1,3 @@
+-- BUILD alone.
 pub mod Comes
 pub mod Steps

@@ -1,3 +1,4 @@
+-- CLEAN alone.
 pub mod Settled
 pub mod Lines
 pub mod Made

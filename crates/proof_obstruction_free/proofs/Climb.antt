@@ -1,3 +1,4 @@
+-- CLIMB alone.
 pub mod Ends
 pub mod Lines
 pub mod On

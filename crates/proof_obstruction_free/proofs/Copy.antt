@@ -1,3 +1,4 @@
+-- COPY, of a snapshot, a freeze or a clear, alone.
 pub mod Lines
 pub mod Fresh
 pub mod Made

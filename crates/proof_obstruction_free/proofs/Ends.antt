@@ -1,3 +1,4 @@
+-- The bounds put together: an operation ends.
 pub mod StandsAt
 pub mod Steps
 pub mod Actors

@@ -1,3 +1,4 @@
+-- The pass that was under way, and the first fresh one: each level is renewed once between them.
 pub mod Ons
 pub mod Lies
 pub mod Older

@@ -1,3 +1,4 @@
+-- A pass of KEY down the trie, level by level.
 pub mod Bottoms
 pub mod BottomsLines
 pub mod BottomsStale

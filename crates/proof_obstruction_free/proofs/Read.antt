@@ -1,3 +1,4 @@
+-- READ alone: over within nine steps, twelve from any line.
 pub mod Words
 pub mod Step
 pub mod Lines

@@ -1,3 +1,4 @@
+-- RENEW alone.
 pub mod Nodes
 pub mod Calm
 pub mod Lines

@@ -1,3 +1,4 @@
+-- ROOT and COMPLETE alone.
 pub mod Words
 pub mod Lines
 pub mod Plain

@@ -1,3 +1,4 @@
+-- What one step of an operation alone leaves.
 pub mod Within
 pub mod Next
 pub mod Keeps

@@ -1,3 +1,4 @@
+-- SWAP alone: over within ten steps, thirteen from any line.
 pub mod Steps
 pub mod Lines
 pub mod Found

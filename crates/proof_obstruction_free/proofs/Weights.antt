@@ -1,3 +1,4 @@
+-- What others left undecided, as a weight that falls: each of it is paid once.
 pub mod Offers
 pub mod NonePending
 pub mod Flat

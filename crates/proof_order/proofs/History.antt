@@ -1,3 +1,4 @@
+-- What the history says of the operations that run, began and ended, and of places.
 pub mod Running
 pub mod Books
 pub mod AllBooks

@@ -1,3 +1,4 @@
+-- What the history says of offers that stand.
 pub mod Words
 pub mod Known
 pub mod Standing

@@ -1,3 +1,4 @@
+-- What the swap of a root opens: which root it replaces, what the new ones are over, and what handles show.
 pub mod AlongMoves
 pub mod Carried
 pub mod Copy

@@ -1,3 +1,4 @@
+-- In which phase an operation has its place: own updates, readers, and operations past their commit.
 pub mod LineTimes
 pub mod Quiet
 pub mod ReadSteps

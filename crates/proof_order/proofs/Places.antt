@@ -1,3 +1,4 @@
+-- Where places come from, and how they are sorted.
 pub mod Elements
 pub mod Sorting
 pub mod Origins

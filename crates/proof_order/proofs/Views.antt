@@ -1,3 +1,4 @@
+-- The replay of the order, by what a world shows of one handle and key.
 pub mod Replay
 pub mod Acts
 pub mod Changes

@@ -17,7 +17,7 @@ use Rattle.proof_order.specs.Beneath.machine_model.specs.States.{State, root_of,
 use Rattle.proof_order.specs.Beneath.machine_model.specs.Grown.{node_under}
 use Rattle.proof_order.specs.Beneath.machine_model.specs.Moves.{Moves}
 use Rattle.proof_order.specs.Beneath.proof_contents.specs.Runs as trie
-use Rattle.proof_order.specs.Beneath.proof_contents.specs.Runs.{main_at, trie_of}
+use Rattle.proof_order.specs.Beneath.proof_contents.specs.Runs.{counting_main, trie_of}
 use Rattle.proof_order.specs.Beneath.proof_contents.specs.Tries.{content}
 use Rattle.proof_order.specs.Beneath.proof_contents.specs.Steps.{IsTrie}
 use Rattle.proof_order.specs.Facts.{CarriesOut, Opens}
@@ -35,7 +35,7 @@ pub record IsRootOf (states : ℕ → State) (t handle : ℕ) (r : Ref) (generat
 abbrev pub RootsAreOne : (ℕ → State) → ℕ → Type 0
 RootsAreOne states last =
     (t handle : ℕ) (r : Ref) (generation : ℕ) → t ≤ last → IsRootOf states t handle r generation →
-    (trie.root_at states last generation ≡ r) × (generation_of (node_under states last r) ≡ generation)
+    (trie.root_of_generation states last generation ≡ r) × (generation_of (node_under states last r) ≡ generation)
 
 -- ---- root swaps
 
@@ -50,22 +50,22 @@ pub record IsSwap (states : ℕ → State) (last t handle : ℕ) (offer : Descri
 -- at a root swap the expected node is the old root's main node, and it stays so for ever
 abbrev pub NoLateCommit : (ℕ → State) → ℕ → Type 0
 NoLateCommit states last =
-    (t handle : ℕ) (offer : Descriptor) → IsSwap states last t handle offer → (u : ℕ) → t ≤ u → u ≤ last → main_at states last u offer.root ≡ offer.expected
+    (t handle : ℕ) (offer : Descriptor) → IsSwap states last t handle offer → (u : ℕ) → t ≤ u → u ≤ last → counting_main states last u offer.root ≡ offer.expected
 
 -- a root that the swap brings: it is that of its generation, which is newer than the old root's
 pub record IsNewRoot (states : ℕ → State) (last t : ℕ) (offer : Descriptor) (r : Ref) : Type 0 where
   pub newer : generation_at (states t).heap offer.root < generation_at (states t).heap r
-  pub is_root : trie.root_at states last (generation_at (states t).heap r) ≡ r
+  pub is_root : trie.root_of_generation states last (generation_at (states t).heap r) ≡ r
   pub keeps : generation_of (node_under states last r) ≡ generation_at (states t).heap r
 
 -- What a call's offer brings: a clear a root over an empty branch, a snapshot and a freeze roots over the expected node.
 pub data Brings (states : ℕ → State) (last t handle : ℕ) (offer : Descriptor) : Call → Type 0 where
-  clears : offer.opens ≡ None → IsNewRoot states last t offer offer.successor → node_under states last (main_at states last (suc t) offer.successor) ≡ empty_branch →
+  clears : offer.opens ≡ None → IsNewRoot states last t offer offer.successor → node_under states last (counting_main states last (suc t) offer.successor) ≡ empty_branch →
       Brings states last t handle offer (Clear handle)
   snapshots : (n : ℕ) (second : Ref) → offer.opens ≡ Some n → offer.second ≡ Some second → IsNewRoot states last t offer offer.successor →
-      main_at states last (suc t) offer.successor ≡ offer.expected → IsNewRoot states last t offer second → main_at states last (suc t) second ≡ offer.expected →
+      counting_main states last (suc t) offer.successor ≡ offer.expected → IsNewRoot states last t offer second → counting_main states last (suc t) second ≡ offer.expected →
       Brings states last t handle offer (Snapshot handle)
-  freezes : (n : ℕ) → offer.opens ≡ Some n → offer.second ≡ None → IsNewRoot states last t offer offer.successor → main_at states last (suc t) offer.successor ≡ offer.expected →
+  freezes : (n : ℕ) → offer.opens ≡ Some n → offer.second ≡ None → IsNewRoot states last t offer offer.successor → counting_main states last (suc t) offer.successor ≡ offer.expected →
       Brings states last t handle offer (Freeze handle)
 
 -- what the offer of a running operation brings where it is carried out

@@ -1,3 +1,4 @@
+-- Who commits what, and which main nodes stay.
 pub mod Was
 pub mod MainsStay
 pub mod Deciders

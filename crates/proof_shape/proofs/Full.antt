@@ -1,3 +1,4 @@
+-- No branch below a root is left empty or with one single alone.
 pub mod Lines
 pub mod Lists
 pub mod Made

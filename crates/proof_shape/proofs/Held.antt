@@ -1,3 +1,4 @@
+-- What operations made and nobody else can come to read yet.
 pub mod Fresh
 pub mod Lines
 pub mod Build

@@ -1,3 +1,4 @@
+-- What the lines of each program know, at each time of a run; and where they lead.
 pub mod Placed
 pub mod Swap
 pub mod Places

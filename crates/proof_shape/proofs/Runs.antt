@@ -1,3 +1,4 @@
+-- Facts of any run: what is read and made, by whom, and since when.
 pub mod EachAt
 pub mod Nodes
 pub mod RunOf

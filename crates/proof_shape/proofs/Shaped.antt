@@ -1,3 +1,4 @@
+-- The shape of the trie, from sites and full branches.
 pub mod Places
 pub mod Changed
 pub mod Repaired

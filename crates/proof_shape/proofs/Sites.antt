@@ -1,3 +1,4 @@
+-- Each node stands at its site, its level and the part of a hash that leads to it, for life.
 pub mod Stepped
 pub mod Given
 pub mod Ways

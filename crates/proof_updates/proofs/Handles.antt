@@ -1,3 +1,4 @@
+-- The same as seen from handles: what each step does to the content that a handle shows.
 pub mod Finding
 pub mod Values
 pub mod Ways

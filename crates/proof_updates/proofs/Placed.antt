@@ -1,3 +1,4 @@
+-- When an operation has its place in the order.
 pub mod Placing
 pub mod Own
 pub mod Behind

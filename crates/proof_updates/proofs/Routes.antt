@@ -1,3 +1,4 @@
+-- The paths of operations keep to their keys' paths.
 pub mod Known
 pub mod Key
 pub mod Lines

@@ -1,9 +1,10 @@
+-- Each step repairs a main node or updates a key in it, and so leads contents on.
 pub mod Repairing
 pub mod Does
 pub mod EachOperation
 pub mod Seen
 pub mod Updates
 pub mod Facts
-pub mod Taken
-pub mod Whole
 pub mod OfLists
+pub mod OfRuns
+pub mod Commits

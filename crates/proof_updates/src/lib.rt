@@ -1,6 +1,6 @@
 //! What each step does to the contents of generations and of handles, and what replies say of them.
 //!
-//! `specs/` says it over a run (`Updates`, with `Paths` and `Taken`), and as laws for every list of steps (`Laws`). `proofs/`
+//! `specs/` says it over a run (`Updates`, with `Paths` and `Commits`), and as laws for every list of steps (`Laws`). `proofs/`
 //! shows in this order: each step repairs a main node or updates a key in it, and leads contents on by that (`Tries`); the paths of operations
 //! keep to their keys' paths (`Routes`); when an operation has its place (`Placed`); what its line says of the reply that it
 //! leads to, and so of each answer (`Answers`); and the same seen from handles (`Handles`).

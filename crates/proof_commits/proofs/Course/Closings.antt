@@ -7,7 +7,9 @@ use Rattle.proof_commits.specs.Beneath.machine_model.specs.declared.reading.Afte
 use Rattle.proof_commits.specs.Beneath.machine_model.specs.declared.reading.After.TheVariants.{Goes, Gives}
 use Rattle.proof_commits.specs.Beneath.machine_model.specs.declared.reading.ReadLine.{ReadLine}
 use Rattle.proof_commits.specs.Beneath.machine_model.specs.declared.reading.ReadLine.TheVariants as read
-use Rattle.proof_commits.specs.Protocol.{Words, Stage, Rests, Reads, Holds, Publishes, Decides, Checks, Leaves, SwapsIn, CommitsNode, ReadTurn, ReadsMain, FindsDecided, FindsFailed, FindsPending, DecidesAtOnce, Asks, FindsOffer, Aborts, Commits, Fails, Overtaken, Restores, FindsAnother, IsAtRest, after_read, after_deciding, MayHave, Moves, Idles, MakesNode, SwapsNode, ReadsOn, DecidesOn, Turn, Acts, Passes, Protocol}
+use Rattle.proof_commits.specs.Protocol.{Words, Stage, Rests, Reads, Holds, Publishes, Decides, Checks, Leaves, SwapsIn, CommitsNode, ReadTurn, ReadsMain, FindsDecided}
+use Rattle.proof_commits.specs.Protocol.{FindsFailed, FindsPending, DecidesAtOnce, Asks, FindsOffer, Aborts, Commits, Fails, Overtaken, Restores, FindsAnother, IsAtRest}
+use Rattle.proof_commits.specs.Protocol.{after_read, after_deciding, MayHave, Moves, Idles, MakesNode, SwapsNode, ReadsOn, DecidesOn, Turn, Acts, Passes, Protocol}
 use Rattle.proof_commits.proofs.Words.Stood.{Stood, none≢pending}
 use Rattle.proof_commits.proofs.Known.Owners.{OnLine, Staged, IsSound}
 use Rattle.proof_commits.proofs.Known.Sounds.{sound_at}

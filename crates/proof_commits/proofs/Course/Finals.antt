@@ -6,10 +6,12 @@ use Rattle.proof_commits.specs.Beneath.slot_arena.specs.declared.refs.Ref.{Ref}
 use Rattle.proof_commits.specs.Beneath.slot_arena.specs.declared.nodes.Prev.{Prev}
 use Rattle.proof_commits.specs.Beneath.slot_arena.specs.declared.nodes.Prev.TheVariants as over
 use Rattle.proof_commits.specs.Protocol.{Words, Kept, CommitsNode, FailsNode, Protocol}
-use Rattle.proof_commits.proofs.Words.Stood.{Stood, stood_still, none≢pending, none≢failed, pending≢failed, same_pending, over_pending}
-use Rattle.proof_commits.proofs.Words.Effects.{Effect, Nothing, Made, SwappedIn, PutBack, Committed, Failed, link_later, none_later, failed_later, GoesOn, StaysPending, GetsCommitted, GetsFailed, goes_on}
+use Rattle.proof_commits.proofs.Words.Stood.{Stood, stood_still, none≢pending, pending≢failed, same_pending, over_pending}
+use Rattle.proof_commits.proofs.Words.Effects.{Effect, Nothing, Made, SwappedIn, PutBack, Committed, Failed, link_later, none_later, failed_later, GoesOn, StaysPending}
+use Rattle.proof_commits.proofs.Words.Effects.{GetsCommitted, GetsFailed, goes_on}
 use Rattle.proof_commits.proofs.Known.Owners.{IsSound}
 use Rattle.proof_commits.proofs.Known.Sounds.{sound_at, effect_at}
+use Rattle.proof_commits.specs.Beneath.machine_model.proofs.Basics.{at_or_before, before_or_at, none≢failed}
 
 -- ---- induction over time, from some time on
 
@@ -17,16 +19,13 @@ reached_by : (P : ℕ → Type 0) (t u : ℕ) → P t → (t ≤ u → P (suc u)
 reached_by P t u first next (inl h) = next h
 reached_by P t u first next (inr e) = subst P e first
 
-within_or_here : (t u : ℕ) → t ≤ suc u → (t ≤ u) ⊎ (t ≡ suc u)
-within_or_here t u h = grind arith
-
 pub from_time : (P : ℕ → Type 0) (t last : ℕ) → P t → ((v : ℕ) → t ≤ v → v < last → P v → P (suc v)) → (u : ℕ) → t ≤ u → u ≤ last → P u
 from_time P t last first next zero h within = subst P (no_earlier t h) first
   where
     no_earlier : (t : ℕ) → t ≤ zero → t ≡ zero
     no_earlier t h = omega arith
 from_time P t last first next (suc u) h within =
-    reached_by P t u first (λ before. next u before within (from_time P t last first next u before (omega arith))) (within_or_here t u h)
+    reached_by P t u first (λ before. next u before within (from_time P t last first next u before (omega arith))) (at_or_before t u h)
 
 -- the effect of a step of a run
 pub effect : (p : Protocol) (t : ℕ) → t < p.last → Effect p.words t
@@ -157,9 +156,6 @@ all_here w t h m q e here x c r other when is (inl same) = none-some t (sym is �
 all_here w t h m q e here x c r other (inl before) is (inr apart) = h.all x c r before other (sym (e.commits_elsewhere x apart) ∙ is)
 all_here w t h m q e here x c r other (inr now) is (inr apart) = apart (same_commit w t m q x r e (subst (λ u. CommitsNode w u x r) now other) (cases_eq x m))
 
-before_or_now : (c t : ℕ) → c < suc t → (c < t) ⊎ (c ≡ t)
-before_or_now c t h = grind arith
-
 all_still : (w : Words) (t : ℕ) → AreCommits w t → Kept (w.commit t) (w.commit (suc t)) → ((m q : Ref) → CommitsNode w t m q → ⊥) → (x : Ref) (c : ℕ) (r : Ref) →
     CommitsNode w c x r → (c < t) ⊎ (c ≡ t) → w.commit (suc t) x ≡ None → ⊥
 all_still w t h keeps none x c r other (inl before) is = h.all x c r before other (sym (keeps x) ∙ is)
@@ -184,13 +180,13 @@ first_commit p t h commits m q e = first_commit_by p t h commits m q e (p.words.
 commits_by : (p : Protocol) (t : ℕ) → t ≤ p.last → AreCommits p.words t → CommitStep p.words t → AreCommits p.words (suc t)
 commits_by p t within h (NoCommit keeps none) = record {
   each = λ m c is. let was = h.each m c (sym (keeps m) ∙ is) in (omega (arith, was.0), was.1, was.2);
-  all = λ m c q before e is. all_still p.words t h keeps none m c q e (before_or_now c t before) is;
+  all = λ m c q before e is. all_still p.words t h keeps none m c q e (before_or_at c t before) is;
 }
 commits_by p t within h (OneCommit m q e) =
     let here = e.commit (first_commit p t within h m q e) in
     record {
       each = λ x c is. each_here p.words t h m q e here x c is (cases_eq x m);
-      all = λ x c r before other is. all_here p.words t h m q e here x c r other (before_or_now c t before) is (cases_eq x m);
+      all = λ x c r before other is. all_here p.words t h m q e here x c r other (before_or_at c t before) is (cases_eq x m);
     }
 
 pub commits_at : (p : Protocol) (t : ℕ) → t ≤ p.last → AreCommits p.words t

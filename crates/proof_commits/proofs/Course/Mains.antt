@@ -5,24 +5,24 @@ use Rattle.proof_commits.specs.Beneath.slot_arena.specs.declared.refs.Ref.{Ref}
 use Rattle.proof_commits.specs.Beneath.slot_arena.specs.declared.nodes.Prev.{Prev}
 use Rattle.proof_commits.specs.Beneath.slot_arena.specs.declared.nodes.Prev.TheVariants as over
 use Rattle.proof_commits.specs.Beneath.slot_arena.specs.Heaps.{logical}
-use Rattle.proof_commits.specs.Protocol.{Words, main_at, Makes, SwapsIn, PutsBack, CommitsNode, FailsNode, Protocol}
+use Rattle.proof_commits.specs.Protocol.{Words, logical_at, Makes, SwapsIn, PutsBack, CommitsNode, FailsNode, Protocol}
 use Rattle.proof_commits.proofs.Words.Stood.{Stood, Decided, AreSound, stands_now, stood_still, none≢pending, over_pending, over_failed, not_both}
 use Rattle.proof_commits.proofs.Words.Effects.{Effect, Nothing, Made, SwappedIn, PutBack, Committed, Failed, stood_below}
 use Rattle.proof_commits.proofs.Known.Sounds.{sound_at}
 use Rattle.proof_commits.proofs.Course.Finals.{effect, none_final, link_stays, from_time}
 
 -- the logical main node, by the prev word of the node that stands there
-pub main_when_none : (w : Words) (t : ℕ) (i m : Ref) → w.main t i ≡ m → w.prev t m ≡ over.None → main_at w t i ≡ m
+pub main_when_none : (w : Words) (t : ℕ) (i m : Ref) → w.main t i ≡ m → w.prev t m ≡ over.None → logical_at w t i ≡ m
 main_when_none w t i m is n = ap (λ x. logical x (w.prev t x)) is ∙ ap (logical m) n
 
-pub main_when_pending : (w : Words) (t : ℕ) (i m p : Ref) → w.main t i ≡ m → w.prev t m ≡ over.Pending p → main_at w t i ≡ p
+pub main_when_pending : (w : Words) (t : ℕ) (i m p : Ref) → w.main t i ≡ m → w.prev t m ≡ over.Pending p → logical_at w t i ≡ p
 main_when_pending w t i m p is e = ap (λ x. logical x (w.prev t x)) is ∙ ap (logical m) e
 
-pub main_when_failed : (w : Words) (t : ℕ) (i m p : Ref) → w.main t i ≡ m → w.prev t m ≡ over.Failed p → main_at w t i ≡ p
+pub main_when_failed : (w : Words) (t : ℕ) (i m p : Ref) → w.main t i ≡ m → w.prev t m ≡ over.Failed p → logical_at w t i ≡ p
 main_when_failed w t i m p is e = ap (λ x. logical x (w.prev t x)) is ∙ ap (logical m) e
 
 -- it is decided, and once stood in the word
-main_decided_by : (w : Words) (t : ℕ) → AreSound w t → (i : Ref) → w.link t i ≡ true → (v : Prev) → w.prev t (w.main t i) ≡ v → Decided w t i (main_at w t i)
+main_decided_by : (w : Words) (t : ℕ) → AreSound w t → (i : Ref) → w.link t i ≡ true → (v : Prev) → w.prev t (w.main t i) ≡ v → Decided w t i (logical_at w t i)
 main_decided_by w t h i l over.None e =
     subst (λ x. Decided w t i x) (sym (main_when_none w t i (w.main t i) refl e)) (record { stood = stands_now l refl; none = e })
 main_decided_by w t h i l (over.Pending p) e =
@@ -35,7 +35,7 @@ main_decided_by w t h i l (over.Failed p) e =
     subst (λ x. Decided w t i x) (sym (main_when_failed w t i (w.main t i) p refl e))
     (record { stood = stood_below w t h i (w.main t i) p e (stands_now l refl); none = below.none })
 
-pub main_decided : (w : Words) (t : ℕ) → AreSound w t → (i : Ref) → w.link t i ≡ true → Decided w t i (main_at w t i)
+pub main_decided : (w : Words) (t : ℕ) → AreSound w t → (i : Ref) → w.link t i ≡ true → Decided w t i (logical_at w t i)
 main_decided w t h i l = main_decided_by w t h i l (w.prev t (w.main t i)) refl
 
 -- ---- one step
@@ -46,11 +46,11 @@ pub record CommitsMain (w : Words) (t : ℕ) (i : Ref) : Type 0 where
   pub replaced : Ref
   pub commits : CommitsNode w t fresh replaced
   pub stands : w.main t i ≡ fresh
-  pub before : main_at w t i ≡ replaced
-  pub after : main_at w (suc t) i ≡ fresh
+  pub before : logical_at w t i ≡ replaced
+  pub after : logical_at w (suc t) i ≡ fresh
 
 pub data MainStep (w : Words) (t : ℕ) (i : Ref) : Type 0 where
-  MainStays : main_at w (suc t) i ≡ main_at w t i → MainStep w t i
+  MainStays : logical_at w (suc t) i ≡ logical_at w t i → MainStep w t i
   MainChanges : CommitsMain w t i → MainStep w t i
 
 -- where its words stay
@@ -108,7 +108,7 @@ main_step p t h i l = main_step_by p.words t (sound_at p t (omega arith)).words 
 -- ---- a node that was replaced never comes back
 
 -- a decided node that stood in the word and isn't the logical main node isn't one a step later
-not_next : (p : Protocol) (i m : Ref) (t : ℕ) → t < p.last → Decided p.words t i m → (main_at p.words t i ≡ m → ⊥) → MainStep p.words t i → main_at p.words (suc t) i ≡ m → ⊥
+not_next : (p : Protocol) (i m : Ref) (t : ℕ) → t < p.last → Decided p.words t i m → (logical_at p.words t i ≡ m → ⊥) → MainStep p.words t i → logical_at p.words (suc t) i ≡ m → ⊥
 not_next p i m t h d other (MainStays e) is = other (sym e ∙ is)
 not_next p i m t h d other (MainChanges c) is =
     let same : m ≡ c.fresh = sym is ∙ c.after in
@@ -117,16 +117,16 @@ not_next p i m t h d other (MainChanges c) is =
 decided_at : (p : Protocol) (i m : Ref) (t u : ℕ) → t ≤ u → u ≤ p.last → Decided p.words t i m → Decided p.words u i m
 decided_at p i m t u h within d = record { stood = stood_still h d.stood; none = none_final p i m t u h within d.stood d.none }
 
-pub never_back : (p : Protocol) (i m : Ref) (t : ℕ) → Decided p.words t i m → (main_at p.words t i ≡ m → ⊥) → p.words.link t i ≡ true → (u : ℕ) → t ≤ u → u ≤ p.last →
-    main_at p.words u i ≡ m → ⊥
+pub never_back : (p : Protocol) (i m : Ref) (t : ℕ) → Decided p.words t i m → (logical_at p.words t i ≡ m → ⊥) → p.words.link t i ≡ true → (u : ℕ) → t ≤ u → u ≤ p.last →
+    logical_at p.words u i ≡ m → ⊥
 never_back p i m t d other l =
-    from_time (λ v. main_at p.words v i ≡ m → ⊥) t p.last other
+    from_time (λ v. logical_at p.words v i ≡ m → ⊥) t p.last other
     (λ v before within so_far. not_next p i m v within (decided_at p i m t v before (omega arith) d) so_far
     (main_step p v within i (link_stays p i t v before (omega arith) l)))
 
 -- the same of what was the logical main node
-pub replaced_for_good : (p : Protocol) (i m : Ref) (t u v : ℕ) → t ≤ u → u ≤ v → v ≤ p.last → p.words.link t i ≡ true → main_at p.words t i ≡ m →
-    (main_at p.words u i ≡ m → ⊥) → main_at p.words v i ≡ m → ⊥
+pub replaced_for_good : (p : Protocol) (i m : Ref) (t u v : ℕ) → t ≤ u → u ≤ v → v ≤ p.last → p.words.link t i ≡ true → logical_at p.words t i ≡ m →
+    (logical_at p.words u i ≡ m → ⊥) → logical_at p.words v i ≡ m → ⊥
 replaced_for_good p i m t u v h k within l was other =
     let d : Decided p.words t i m = subst (λ x. Decided p.words t i x) was (main_decided p.words t (sound_at p t (omega arith)).words i l) in
     never_back p i m u (decided_at p i m t u h (omega arith) d) other (link_stays p i t u h (omega arith) l) v k within

@@ -22,7 +22,8 @@ use Rattle.proof_commits.specs.Beneath.machine_model.specs.Acting.{gone, commits
 use Rattle.proof_commits.specs.Beneath.machine_model.specs.Counting.{settled}
 use Rattle.proof_commits.specs.Beneath.machine_model.specs.Moves as Machine
 use Rattle.proof_commits.specs.Beneath.machine_model.proofs.Times.{steps_at}
-use Rattle.proof_commits.specs.Protocol.{Words, Reads, Given, CommitsNode, ReadTurn, ReadsMain, FindsDecided, FindsFailed, FindsPending, DecidesAtOnce, Asks, FindsOffer, Aborts, Commits as CommitsTurn, Fails as FailsTurn, Overtaken as OvertakenTurn, Restores, FindsAnother, counts_at, Protocol}
+use Rattle.proof_commits.specs.Protocol.{Words, Reads, Given, CommitsNode, ReadTurn, ReadsMain, FindsDecided, FindsFailed, FindsPending, DecidesAtOnce, Asks, FindsOffer, Aborts}
+use Rattle.proof_commits.specs.Protocol.{Commits as CommitsTurn, Fails as FailsTurn, Overtaken as OvertakenTurn, Restores, FindsAnother, counts_at, Protocol}
 use Rattle.proof_commits.proofs.Course.Finals.{first_commit, commits_at}
 use Rattle.proof_commits.proofs.Course.Readings.{gives_moment}
 use Rattle.proof_commits.specs.Moments.{later_of, IsMoment}

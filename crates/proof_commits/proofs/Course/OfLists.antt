@@ -29,7 +29,7 @@ use Rattle.proof_commits.specs.Beneath.machine_model.specs.Acting.{gone}
 use Rattle.proof_commits.specs.Beneath.machine_model.specs.Counting.{settled}
 use Rattle.proof_commits.specs.Beneath.machine_model.specs.Machine.{AreLimits, run}
 use Rattle.proof_commits.specs.Beneath.machine_model.specs.Moves as Machine
-use Rattle.proof_commits.specs.Beneath.machine_model.proofs.Times.{run_ends}
+use Rattle.proof_commits.specs.Beneath.machine_model.proofs.Times.{run_ends, run_is}
 use Rattle.proof_commits.specs.Beneath.machine_model.specs.Times.{states_of, last_of}
 use Rattle.proof_commits.specs.Beneath.machine_model.specs.Grown.{node_under}
 use Rattle.proof_commits.specs.Protocol.{Words, Rests, Reads, Protocol}
@@ -46,38 +46,37 @@ use Rattle.proof_commits.specs.Moments.{IsMoment}
 use Rattle.proof_commits.proofs.Course.Closings.{commits_early}
 use Rattle.proof_commits.proofs.Course.Swaps.{checked, tomb_stays}
 use Rattle.proof_commits.specs.Stages.{stage_of, stage_of_actor}
-use Rattle.proof_commits.proofs.Known.Given.{Known}
-use Rattle.proof_commits.proofs.Known.Layers.{Memory, OtherLayers, known_of_memory, known}
+use Rattle.proof_commits.proofs.Known.Given.{Known, RootsAreOpen}
+use Rattle.proof_commits.proofs.Known.Acts.{known_by, known_run}
 use Rattle.proof_commits.specs.Words.{words_of}
 use Rattle.proof_commits.proofs.Lines.Read.{generation_stays, solid_stays}
 use Rattle.proof_commits.proofs.Lines.Reads.{ends_at_end}
 use Rattle.proof_commits.proofs.Words.Along.{protocol}
 use Rattle.proof_commits.proofs.Course.Moments.{moment_at}
-use Rattle.proof_commits.proofs.Words.InHeap.{grown_standing, states_are, step_leads, node_standing, prev_standing, logical_standing}
 use Rattle.proof_commits.proofs.Lines.Swap.{runs_deciding, runs_publishing, in_swap_fresh, reads_stage}
-use Rattle.proof_commits.specs.Runs.{steps_taken, state_before, HasIndirection}
-use Rattle.proof_commits.specs.Laws.{IsInSwap, Owner, PendingHasOwner, PrevChange, Stays, IsSwappedIn, IsCommitted as ChangeCommitted, HasFailed, PrevWordsChange, DecidedForGood, CommitsMain, MainsChangeByCommits, ReplacedForGood, IsGiven, MomentIsFirst, GivenForGood, CheckedIsDecided, ChangesLate, LateStoodBefore, LateOnce, IsTomb, TombsStay}
+use Rattle.proof_commits.specs.Runs.{HasIndirection}
+use Rattle.proof_commits.specs.Laws.{IsInSwap, Owner, PendingHasOwner, PrevChange, Stays, IsSwappedIn, IsCommitted as ChangeCommitted, HasFailed, PrevWordsChange, DecidedForGood}
+use Rattle.proof_commits.specs.Laws.{CommitsMain, MainsChangeByCommits, ReplacedForGood, IsGiven, MomentIsFirst, GivenForGood, CheckedIsDecided, ChangesLate, LateStoodBefore}
+use Rattle.proof_commits.specs.Laws.{LateOnce, IsTomb, TombsStay}
 use Rattle.proof_memory.specs.Wants.{is_indirection, is_branch_or_list}
 use Rattle.proof_memory.specs.Laws.{IsInUse}
+use Rattle.proof_commits.specs.Beneath.machine_model.proofs.Grown.{grown_in_use, node_grown, prev_grown}
+use Rattle.proof_commits.specs.Beneath.machine_model.proofs.Numbered.{step_leads}
+use Rattle.proof_commits.proofs.Known.MainsInUse.{logical_standing}
 
--- what other layers give of every run
-abbrev pub LayersOfRuns : Type 0
-LayersOfRuns = (limits : Limits) (steps : List Step) → AreLimits limits → OtherLayers limits (states_of limits steps) (last_of limits steps)
+-- what is known of the words of every run
+abbrev known_from : (limits : Limits) (steps : List Step) → AreLimits limits → Known limits (states_of limits steps) (last_of limits steps)
+known_from limits steps ok = known_run limits (states_of limits steps) (last_of limits steps) (run_is limits steps ok)
 
--- what memory gives of every run
-abbrev pub MemoryOfRuns : Type 0
-MemoryOfRuns = (limits : Limits) (steps : List Step) → AreLimits limits → Memory limits (states_of limits steps) (last_of limits steps)
+-- roots are open where they are asked for: the layer of roots shows it
+abbrev pub RootsOfRuns : Type 0
+RootsOfRuns =
+    (limits : Limits) (steps : List Step) → AreLimits limits →
+    RootsAreOpen (states_of limits steps) (last_of limits steps) (λ g. closed_at (states_of limits steps (last_of limits steps)) g)
 
--- what is known of its words then
-abbrev known_from : MemoryOfRuns → (limits : Limits) (steps : List Step) → AreLimits limits → Known limits (states_of limits steps) (last_of limits steps)
-known_from memory limits steps ok = known_of_memory limits (states_of limits steps) (last_of limits steps) (memory limits steps ok)
-
-abbrev known_of : LayersOfRuns → (limits : Limits) (steps : List Step) → AreLimits limits → Known limits (states_of limits steps) (last_of limits steps)
-known_of layers limits steps ok = known limits (states_of limits steps) (last_of limits steps) (layers limits steps ok)
-
--- the states of a run, told as a list of steps
-pub same_states : (limits : Limits) (steps : List Step) → states_of limits steps ≡ state_before limits steps
-same_states limits steps = λ i n. states_are limits steps n i
+abbrev known_of : RootsOfRuns → (limits : Limits) (steps : List Step) → AreLimits limits → Known limits (states_of limits steps) (last_of limits steps)
+known_of roots limits steps ok =
+    known_by limits (states_of limits steps) (last_of limits steps) (run_is limits steps ok) (λ g. closed_at (states_of limits steps (last_of limits steps)) g) (roots limits steps ok)
 
 -- ---- owners
 
@@ -106,7 +105,7 @@ module _ (limits : Limits) (ok : AreLimits limits) (steps : List Step) (known : 
   w = words_of states last known.closing
 
   prev_in_use : (t : ℕ) (m : Ref) → IsInUse (states t).heap m → prev_at (states t).heap m ≡ w.prev t m
-  prev_in_use t m h = prev_standing states t m h.0 h.1
+  prev_in_use t m h = prev_grown states t m h.0 h.1
 
   -- the owner in the protocol is one in the machine
   machine_owner : (t : ℕ) (m q : Ref) (o : Owned.Owner w t m q) → Owner (states t) o.link q m
@@ -161,12 +160,12 @@ module _ (limits : Limits) (ok : AreLimits limits) (steps : List Step) (known : 
   -- ---- logical main nodes
 
   node_in_use : (t : ℕ) (i : Ref) → IsInUse (states t).heap i → node_at (states t).heap i ≡ node_under states t i
-  node_in_use t i h = node_standing states t i h.0 h.1
+  node_in_use t i h = node_grown states t i h.0 h.1
 
   link_in_use : (t : ℕ) (i : Ref) → HasIndirection (states t) i → is_indirection (node_under states t i) ≡ true
   link_in_use t i h = subst (λ x. is_indirection x ≡ true) (node_in_use t i h.0) h.1
 
-  main_in_use : (t : ℕ) → t ≤ last → (i : Ref) → HasIndirection (states t) i → logical_main (states t).heap i ≡ Protocol'.main_at w t i
+  main_in_use : (t : ℕ) → t ≤ last → (i : Ref) → HasIndirection (states t) i → logical_main (states t).heap i ≡ Protocol'.logical_at w t i
   main_in_use t h i has = logical_standing limits states last known t h i has.0.0 has.0.1 (link_in_use t i has)
 
   main_change_by : (n : ℕ) → n < last → (i : Ref) → HasIndirection (states n) i → HasIndirection (states (suc n)) i → MainStep w n i →
@@ -205,7 +204,7 @@ module _ (limits : Limits) (ok : AreLimits limits) (steps : List Step) (known : 
       IsInUse (states n).heap a → IsTomb (node_at (states n).heap a) → logical_main (states k).heap i ≡ a
   tomb_at n k nk h i a at_n at_k is used tomb =
       let solid : w.solid a ≡ false =
-      solid_stays limits states last known n a (omega arith) (ap is_some (grown_standing states n a used.0 used.1)) ∙ ap is_branch_or_list (sym (node_in_use n a used))
+      solid_stays limits states last known n a (omega arith) (ap is_some (grown_in_use states n a used.0 used.1)) ∙ ap is_branch_or_list (sym (node_in_use n a used))
       ∙ not_solid (node_at (states n).heap a) tomb in
       main_in_use k h i at_k ∙ tomb_stays p i a n k nk h (link_in_use n i at_n) solid (sym (main_in_use n (omega arith) i at_n) ∙ is)
 
@@ -239,26 +238,17 @@ module _ (limits : Limits) (ok : AreLimits limits) (steps : List Step) (known : 
   not_rests : (i : Ref) (x : ReadLine) → Reads i x ≡ Rests → ⊥
   not_rests i x e = cc
 
-  moment_of_given : (n : ℕ) → n < last → (i m : Ref) (g : IsGiven limits steps n i m) → (operation_of (states n) g.actor ≡ Some g.operation) →
-      read_step (states n) g.operation g.read ≡ Gives m → IsMoment w i m (read_at_after (states n) g.operation) (moment_after (states n) g.operation) n
-  moment_of_given n h i m g runs gives =
+  moment_of_given : (n : ℕ) → n < last → (i m : Ref) (g : IsGiven limits steps n i m) →
+      IsMoment w i m (read_at_after (states n) g.operation) (moment_after (states n) g.operation) n
+  moment_of_given n h i m g =
       let leads = step_leads limits steps n (step.Go g.actor) g.step in
       let stage = reads_stage g.operation.line g.read g.no_swap g.reads in
       let goes = λ (answer : Reply) (a : action_of (states n) g.operation ≡ act.End answer).
       not_rests g.read.indirection g.read.line (sym stage ∙ ends_at_end (states n) g.operation g.operation.line answer a) in
-      let e = go_after (states n) g.actor leads.0 (states (suc n)) leads.1 g.operation runs goes in
+      let e = go_after (states n) g.actor leads.0 (states (suc n)) leads.1 g.operation g.runs goes in
       subst (λ j. IsMoment w j m (read_at_after (states n) g.operation) (moment_after (states n) g.operation) n) g.of
-      (moment_at limits states last known n h g.actor g.operation leads.0 leads.1 runs e g.read.indirection g.read.line stage m
-      (given_read g.read.indirection (read_after (states n).heap g.operation.access (word_at (states n) (handle_of g.operation.call)) g.read.indirection g.read.line) m gives))
-
-  -- of what is given
-  given_moment : (n : ℕ) → n < last → (i m : Ref) (g : IsGiven limits steps n i m) →
-      IsMoment w i m (read_at_after (state_before limits steps n) g.operation) (moment_after (state_before limits steps n) g.operation) n
-  given_moment n h i m g =
-      let e = states_are limits steps n in
-      subst (λ (s : State). IsMoment w i m (read_at_after s g.operation) (moment_after s g.operation) n) e
-      (moment_of_given n h i m g (subst (λ (s : State). operation_of s g.actor ≡ Some g.operation) (sym e) g.runs)
-      (subst (λ (s : State). read_step s g.operation g.read ≡ Gives m) (sym e) g.gives))
+      (moment_at limits states last known n h g.actor g.operation leads.0 leads.1 g.runs e g.read.indirection g.read.line stage m
+      (given_read g.read.indirection (read_after (states n).heap g.operation.access (word_at (states n) (handle_of g.operation.call)) g.read.indirection g.read.line) m g.gives))
 
   -- ---- what is final
 
@@ -321,9 +311,9 @@ module _ (limits : Limits) (ok : AreLimits limits) (steps : List Step) (known : 
 
 -- ---- the laws
 
-pub pending_has_owner : MemoryOfRuns → PendingHasOwner
-pending_has_owner memory limits steps ok =
-    subst (λ s. OwnedIn s) (run_ends limits steps) (owned_at limits ok steps (known_from memory limits steps ok) (last_of limits steps) (omega arith))
+pub pending_has_owner : PendingHasOwner
+pending_has_owner limits steps ok =
+    subst (λ s. OwnedIn s) (run_ends limits steps) (owned_at limits ok steps (known_from limits steps ok) (last_of limits steps) (omega arith))
 
 -- a step leads from its number to the next one
 abbrev Next : (State → State → Type 0) → (ℕ → State) → ℕ → Type 0
@@ -332,95 +322,70 @@ Next P states n = P (states n) (states (n + 1))
 next_state : (P : State → State → Type 0) (states : ℕ → State) (n : ℕ) → P (states n) (states (suc n)) → Next P states n
 next_state P states n h = subst (λ k. P (states n) (states k)) (sym (add-one n)) h
 
-pub prev_words_change : MemoryOfRuns → PrevWordsChange
-prev_words_change memory limits steps ok =
-    subst (λ (s : ℕ → State). (n : ℕ) → n < steps_taken limits steps → (main : Ref) → IsInUse (s n).heap main → IsInUse (s (n + 1)).heap main → PrevChange (s n) (s (n + 1)) main)
-    (same_states limits steps)
-    (λ n h main. next_state (λ (a b : State). IsInUse a.heap main → IsInUse b.heap main → PrevChange a b main) (states_of limits steps) n (prev_changes limits ok steps (known_from memory limits steps ok) n h main))
+pub prev_words_change : PrevWordsChange
+prev_words_change limits steps ok n h main =
+    next_state (λ (a b : State). IsInUse a.heap main → IsInUse b.heap main → PrevChange a b main) (states_of limits steps) n
+    (prev_changes limits ok steps (known_from limits steps ok) n h main)
 
-pub decided_for_good : MemoryOfRuns → DecidedForGood
-decided_for_good memory limits steps ok =
-    subst (λ (s : ℕ → State). (n k l : ℕ) → n ≤ k → k ≤ l → l ≤ steps_taken limits steps → (main replaced : Ref) → IsInUse (s n).heap main → IsInUse (s k).heap main → IsInUse (s l).heap main →
-    prev_at (s n).heap main ≡ over.Pending replaced → (prev_at (s k).heap main ≡ over.Pending replaced → ⊥) → prev_at (s l).heap main ≡ prev_at (s k).heap main)
-    (same_states limits steps) (decided_for_good_at limits ok steps (known_from memory limits steps ok))
+pub decided_for_good : DecidedForGood
+decided_for_good limits steps ok = decided_for_good_at limits ok steps (known_from limits steps ok)
 
-pub mains_change_by_commits : MemoryOfRuns → MainsChangeByCommits
-mains_change_by_commits memory limits steps ok =
-    subst (λ (s : ℕ → State). (n : ℕ) → n < steps_taken limits steps → (i : Ref) → HasIndirection (s n) i → HasIndirection (s (n + 1)) i →
-    (logical_main (s (n + 1)).heap i ≡ logical_main (s n).heap i) ⊎ CommitsMain (s n) (s (n + 1)) i)
-    (same_states limits steps)
-    (λ n h i. next_state (λ a b. HasIndirection a i → HasIndirection b i → (logical_main b.heap i ≡ logical_main a.heap i) ⊎ CommitsMain a b i) (states_of limits steps) n
-    (main_changes limits ok steps (known_from memory limits steps ok) n h i))
+pub mains_change_by_commits : MainsChangeByCommits
+mains_change_by_commits limits steps ok n h i =
+    next_state (λ a b. HasIndirection a i → HasIndirection b i → (logical_main b.heap i ≡ logical_main a.heap i) ⊎ CommitsMain a b i) (states_of limits steps) n
+    (main_changes limits ok steps (known_from limits steps ok) n h i)
 
-pub law_replaced_for_good : MemoryOfRuns → ReplacedForGood
-law_replaced_for_good memory limits steps ok =
-    subst (λ (s : ℕ → State). (n k l : ℕ) → n ≤ k → k ≤ l → l ≤ steps_taken limits steps → (i : Ref) → HasIndirection (s n) i → HasIndirection (s k) i → HasIndirection (s l) i →
-    (logical_main (s k).heap i ≡ logical_main (s n).heap i → ⊥) → logical_main (s l).heap i ≡ logical_main (s n).heap i → ⊥)
-    (same_states limits steps) (replaced_at limits ok steps (known_from memory limits steps ok))
+pub law_replaced_for_good : ReplacedForGood
+law_replaced_for_good limits steps ok = replaced_at limits ok steps (known_from limits steps ok)
 
-pub moment_is_first : MemoryOfRuns → MomentIsFirst
-moment_is_first memory limits steps ok n h i m g =
-    let k = known_from memory limits steps ok in
-    subst (λ (s : ℕ → State). MomentOver limits ok steps k s n i m (read_at_after (state_before limits steps n) g.operation) (moment_after (state_before limits steps n) g.operation))
-    (same_states limits steps) (moment_over limits ok steps k n h i m _ _ (given_moment limits ok steps k n h i m g))
+pub moment_is_first : MomentIsFirst
+moment_is_first limits steps ok n h i m g =
+    let k = known_from limits steps ok in
+    moment_over limits ok steps k n h i m _ _ (moment_of_given limits ok steps k n h i m g)
 
-pub law_given_for_good : LayersOfRuns → GivenForGood
-law_given_for_good layers limits steps ok n h i m g closed is before has k after within still =
-    let kn = known_of layers limits steps ok in
-    let e = states_are limits steps in
-    let was : closed_at (states_of limits steps (last_of limits steps)) (generation_at (states_of limits steps n).heap i) ≡ Some closed =
-    ap (λ (s : State). closed_at s (generation_at (states_of limits steps n).heap i)) (run_ends limits steps)
-    ∙ ap (λ (s : State). closed_at (run limits steps) (generation_at s.heap i)) (e n) ∙ is in
-    ap (λ (s : State). logical_main s.heap i) (sym (e k))
-    ∙ for_good_at limits ok steps kn (λ g. refl) n h i m _ _ (given_moment limits ok steps kn n h i m g) closed (subst (λ (s : State). HasIndirection s i) (sym (e n)) has) was before k after within
-    (subst (λ (s : State). HasIndirection s i) (sym (e k)) still)
+-- what is closed at the end of the steps
+closed_last : (limits : Limits) (steps : List Step) (n c : ℕ) (i : Ref) → closed_at (run limits steps) (generation_at (states_of limits steps n).heap i) ≡ Some c →
+    closed_at (states_of limits steps (last_of limits steps)) (generation_at (states_of limits steps n).heap i) ≡ Some c
+closed_last limits steps n c i is = ap (λ (s : State). closed_at s (generation_at (states_of limits steps n).heap i)) (run_ends limits steps) ∙ is
 
--- the same of the states of the run as a list
-late_states : (limits : Limits) (steps : List Step) (closed n : ℕ) (i : Ref) → ChangesLate limits steps closed n i →
-    HasIndirection (states_of limits steps n) i × HasIndirection (states_of limits steps (suc n)) i
-    × (closed_at (states_of limits steps (last_of limits steps)) (generation_at (states_of limits steps n).heap i) ≡ Some closed)
-    × (logical_main (states_of limits steps (suc n)).heap i ≡ logical_main (states_of limits steps n).heap i → ⊥)
-late_states limits steps closed n i x =
-    let now = states_are limits steps n in
-    let next : states_of limits steps (suc n) ≡ state_before limits steps (n + 1) = ap (states_of limits steps) (sym (add-one n)) ∙ states_are limits steps (n + 1) in (
-      subst (λ (s : State). HasIndirection s i) (sym now) x.before,
-      subst (λ (s : State). HasIndirection s i) (sym next) x.after,
-      ap (λ (s : State). closed_at s (generation_at (states_of limits steps n).heap i)) (run_ends limits steps)
-          ∙ ap (λ (s : State). closed_at (run limits steps) (generation_at s.heap i)) now ∙ x.closing,
-      λ same. x.changes (ap (λ (s : State). logical_main s.heap i) (sym next) ∙ same ∙ ap (λ (s : State). logical_main s.heap i) now),
-    )
+pub law_given_for_good : RootsOfRuns → GivenForGood
+law_given_for_good roots limits steps ok n h i m g closed is before has k after within still =
+    let kn = known_of roots limits steps ok in
+    for_good_at limits ok steps kn (λ g. refl) n h i m _ _ (moment_of_given limits ok steps kn n h i m g) closed has (closed_last limits steps n closed i is) before k after within still
 
-pub late_stood_before : LayersOfRuns → LateStoodBefore
-late_stood_before layers limits steps ok closed n i x =
-    let s = late_states limits steps closed n i x in
-    subst (λ (states : ℕ → State). (k : ℕ) × (k ≤ closed) × (HasIndirection (states k) i → main_at (states k).heap i ≡ main_at (states n).heap i)) (same_states limits steps)
-    (late_stood_at limits ok steps (known_of layers limits steps ok) (λ g. refl) closed n x.late x.taken i s.0 s.1 s.2 s.3)
+-- the state after a late change
+late_after : (limits : Limits) (steps : List Step) (closed n : ℕ) (i : Ref) → ChangesLate limits steps closed n i →
+    HasIndirection (states_of limits steps (suc n)) i × (logical_main (states_of limits steps (suc n)).heap i ≡ logical_main (states_of limits steps n).heap i → ⊥)
+late_after limits steps closed n i x =
+    subst (λ k. HasIndirection (states_of limits steps k) i × (logical_main (states_of limits steps k).heap i ≡ logical_main (states_of limits steps n).heap i → ⊥)) (add-one n)
+    (x.after, x.changes)
+
+pub late_stood_before : RootsOfRuns → LateStoodBefore
+late_stood_before roots limits steps ok closed n i x =
+    let after = late_after limits steps closed n i x in
+    late_stood_at limits ok steps (known_of roots limits steps ok) (λ g. refl) closed n x.late x.taken i x.before after.0 (closed_last limits steps n closed i x.closing) after.1
 
 -- by which is first
 once_by : (limits : Limits) (steps : List Step) (ok : AreLimits limits) (kn : Known limits (states_of limits steps) (last_of limits steps)) → Told limits ok steps kn →
-    (closed n k : ℕ) (i : Ref) →
-    ChangesLate limits steps closed n i → ChangesLate limits steps closed k i → n < k → ⊥
+    (closed n k : ℕ) (i : Ref) → ChangesLate limits steps closed n i → ChangesLate limits steps closed k i → n < k → ⊥
 once_by limits steps ok kn told closed n k i x y before =
-    let s = late_states limits steps closed n i x in
-    let r = late_states limits steps closed k i y in
-    late_once_at limits ok steps kn told closed n k x.late before y.taken i s.0 s.1 s.2 s.3 r.0 r.1 r.3
+    let s = late_after limits steps closed n i x in
+    let r = late_after limits steps closed k i y in
+    late_once_at limits ok steps kn told closed n k x.late before y.taken i x.before s.0 (closed_last limits steps n closed i x.closing) s.1 y.before r.0 r.1
 
 in_order : (n k : ℕ) → (n < k → ⊥) → (k < n → ⊥) → n ≡ k
 in_order n k a b = omega arith
 
-pub late_once : LayersOfRuns → LateOnce
-late_once layers limits steps ok closed n k i x y =
-    let kn = known_of layers limits steps ok in
+pub late_once : RootsOfRuns → LateOnce
+late_once roots limits steps ok closed n k i x y =
+    let kn = known_of roots limits steps ok in
     in_order n k (once_by limits steps ok kn (λ g. refl) closed n k i x y) (once_by limits steps ok kn (λ g. refl) closed k n i y x)
 
-pub checked_is_decided : MemoryOfRuns → CheckedIsDecided
-checked_is_decided memory limits steps ok =
+pub checked_is_decided : CheckedIsDecided
+checked_is_decided limits steps ok =
     subst (λ (s : State). (actor : ℕ) (operation : Operation) (i a f q : Ref) → operation_of s actor ≡ Some operation → IsInSwap operation i a f swap.Check → IsInUse s.heap f →
     prev_at s.heap f ≡ over.Pending q → ⊥) (run_ends limits steps)
-    (checked_at limits ok steps (known_from memory limits steps ok) (last_of limits steps) (omega arith))
+    (checked_at limits ok steps (known_from limits steps ok) (last_of limits steps) (omega arith))
 
-pub tombs_stay : MemoryOfRuns → TombsStay
-tombs_stay memory limits steps ok =
-    subst (λ (s : ℕ → State). (n k : ℕ) → n ≤ k → k ≤ steps_taken limits steps → (i a : Ref) → HasIndirection (s n) i → HasIndirection (s k) i → logical_main (s n).heap i ≡ a →
-    IsInUse (s n).heap a → IsTomb (node_at (s n).heap a) → logical_main (s k).heap i ≡ a)
-    (same_states limits steps) (tomb_at limits ok steps (known_from memory limits steps ok))
+pub tombs_stay : TombsStay
+tombs_stay limits steps ok = tomb_at limits ok steps (known_from limits steps ok)

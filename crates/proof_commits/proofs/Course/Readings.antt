@@ -8,11 +8,14 @@ use Rattle.proof_commits.specs.Beneath.machine_model.specs.declared.reading.Afte
 use Rattle.proof_commits.specs.Beneath.machine_model.specs.declared.reading.After.TheVariants.{Goes, Gives}
 use Rattle.proof_commits.specs.Beneath.machine_model.specs.declared.reading.ReadLine.{ReadLine}
 use Rattle.proof_commits.specs.Beneath.machine_model.specs.declared.reading.ReadLine.TheVariants as read
-use Rattle.proof_commits.specs.Protocol.{Words, main_at, Stage, Rests, Reads, Holds, Publishes, Decides, Checks, CommitsNode, ReadTurn, ReadsMain, FindsDecided, FindsFailed, FindsPending, DecidesAtOnce, Asks, FindsOffer, Aborts, Commits, Fails, Overtaken, Restores, FindsAnother, IsAtRest, after_read, after_deciding, MayHave, counts_at, Counts, IsSame, Moves, Idles, MakesNode, SwapsNode, ReadsOn, DecidesOn, Turn, Acts, Passes, Protocol}
+use Rattle.proof_commits.specs.Protocol.{Words, logical_at, Stage, Rests, Reads, Holds, Publishes, Decides, Checks, CommitsNode, ReadTurn, ReadsMain, FindsDecided, FindsFailed}
+use Rattle.proof_commits.specs.Protocol.{FindsPending, DecidesAtOnce, Asks, FindsOffer, Aborts, Commits, Fails, Overtaken, Restores, FindsAnother, IsAtRest, after_read}
+use Rattle.proof_commits.specs.Protocol.{after_deciding, MayHave, counts_at, Counts, IsSame, Moves, Idles, MakesNode, SwapsNode, ReadsOn, DecidesOn, Turn, Acts, Passes, Protocol}
 use Rattle.proof_commits.proofs.Words.Stood.{Stood, AreSound, none≢pending, over_pending}
 use Rattle.proof_commits.proofs.Known.Owners.{OnLine, Staged, IsSound}
 use Rattle.proof_commits.proofs.Known.Sounds.{sound_at}
-use Rattle.proof_commits.proofs.Course.Finals.{from_time, none_final, failed_final, link_stays, pending_back, pending_stands, Fate, StillPending, HasFailed, HasCommitted, fate, committed_stays, commits_at}
+use Rattle.proof_commits.proofs.Course.Finals.{from_time, none_final, failed_final, link_stays, pending_back, pending_stands, Fate, StillPending, HasFailed, HasCommitted, fate}
+use Rattle.proof_commits.proofs.Course.Finals.{committed_stays, commits_at}
 use Rattle.proof_commits.proofs.Course.Mains.{main_when_none, main_when_pending, MainStep, MainStays, MainChanges, main_step}
 use Rattle.proof_commits.proofs.Course.Closings.{commits_early}
 use Rattle.proof_commits.specs.Moments.{later_of, IsMoment}
@@ -166,7 +169,7 @@ decided_then p i m r t mu h e l is n = subst (λ x. IsMoment p.words i m r x t) 
 
 -- while it was pending another was the logical main node
 pending_before : (p : Protocol) (i m q : Ref) (r c v : ℕ) → c < p.last → CommitsNode p.words c m q → p.words.link (suc r) i ≡ true → p.words.main (suc r) i ≡ m → r < v → v ≤ c →
-    main_at p.words v i ≡ m → ⊥
+    logical_at p.words v i ≡ m → ⊥
 pending_before p i m q r c v within e l is after before same =
     let s : Stood p.words v i m = record { at = suc r; past = omega arith; link = l; is = is } in
     let pend = pending_back p i m q v c before (omega arith) s e.was in
@@ -244,16 +247,16 @@ no_change p i m r mu t c u moment closed before after within f q commits stands 
     none≢pending still (ap (p.words.prev u) (sym is_read) ∙ commits.was)
 
 final_step : (p : Protocol) (i m : Ref) (r mu t c u : ℕ) → IsMoment p.words i m r mu t → p.words.closing (p.words.generation i) ≡ Some c → c < r → mu < u → u < p.last →
-    main_at p.words u i ≡ m → MainStep p.words u i → main_at p.words (suc u) i ≡ m
+    logical_at p.words u i ≡ m → MainStep p.words u i → logical_at p.words (suc u) i ≡ m
 final_step p i m r mu t c u moment closed before after within is (MainStays e) = e ∙ is
 final_step p i m r mu t c u moment closed before after within is (MainChanges x) =
     absurd (no_change p i m r mu t c u moment closed before after within x.fresh x.replaced x.commits x.stands)
 
 -- what a READ gives of an indirection whose generation was closed before is its logical main node for ever
 pub given_for_good : (p : Protocol) (i m : Ref) (r mu t c : ℕ) → t < p.last → IsMoment p.words i m r mu t → p.words.closing (p.words.generation i) ≡ Some c → c < r →
-    (u : ℕ) → mu < u → u ≤ p.last → main_at p.words u i ≡ m
+    (u : ℕ) → mu < u → u ≤ p.last → logical_at p.words u i ≡ m
 given_for_good p i m r mu t c h moment closed before u after within =
-    from_time (λ v. main_at p.words v i ≡ m) (suc mu) p.last moment.is
+    from_time (λ v. logical_at p.words v i ≡ m) (suc mu) p.last moment.is
     (λ v later inside is. final_step p i m r mu t c v moment closed before later inside is
     (main_step p v inside i (link_stays p i (suc r) v (omega (arith, moment.from)) (omega arith) moment.link))) u after within
 

@@ -6,7 +6,8 @@ use Rattle.proof_commits.specs.Beneath.slot_arena.specs.declared.nodes.Prev.TheV
 use Rattle.proof_commits.specs.Beneath.machine_model.specs.declared.reading.After.{After}
 use Rattle.proof_commits.specs.Beneath.machine_model.specs.declared.reading.After.TheVariants.{Goes, Gives}
 use Rattle.proof_commits.specs.Beneath.machine_model.specs.declared.reading.ReadLine.{ReadLine}
-use Rattle.proof_commits.specs.Protocol.{Words, main_at, Stage, Rests, Reads, Holds, Publishes, Decides, Checks, CommitsNode, IsAtRest, MayHave, IsSame, Moves, Idles, MakesNode, SwapsNode, ReadsOn, DecidesOn, Turn, Acts, Passes, after_read, after_deciding, Protocol}
+use Rattle.proof_commits.specs.Protocol.{Words, logical_at, Stage, Rests, Reads, Holds, Publishes, Decides, Checks, CommitsNode, IsAtRest, MayHave, IsSame, Moves, Idles, MakesNode}
+use Rattle.proof_commits.specs.Protocol.{SwapsNode, ReadsOn, DecidesOn, Turn, Acts, Passes, after_read, after_deciding, Protocol}
 use Rattle.proof_commits.proofs.Words.Stood.{none≢pending}
 use Rattle.proof_commits.proofs.Words.Effects.{Effect, GoesOn, StaysPending, GetsCommitted, GetsFailed, goes_on, failed_later}
 use Rattle.proof_commits.proofs.Known.Owners.{HasFresh, Owner, IsSound}
@@ -179,13 +180,13 @@ commit_replaces p t h m q c =
     subst (λ s. Replaces p.words s) o.stage (replaces_at p t (omega arith) o.actor)
 
 -- and a tomb is never replaced
-tomb_step : (p : Protocol) (i a : Ref) (t : ℕ) → t < p.last → p.words.solid a ≡ false → main_at p.words t i ≡ a → MainStep p.words t i → main_at p.words (suc t) i ≡ a
+tomb_step : (p : Protocol) (i a : Ref) (t : ℕ) → t < p.last → p.words.solid a ≡ false → logical_at p.words t i ≡ a → MainStep p.words t i → logical_at p.words (suc t) i ≡ a
 tomb_step p i a t h tomb is (MainStays e) = e ∙ is
 tomb_step p i a t h tomb is (MainChanges c) =
     let same : c.replaced ≡ a = sym c.before ∙ is in
     absurd (true≢false (sym (commit_replaces p t h c.fresh c.replaced c.commits) ∙ ap p.words.solid same ∙ tomb))
 
-pub tomb_stays : (p : Protocol) (i a : Ref) (t u : ℕ) → t ≤ u → u ≤ p.last → p.words.link t i ≡ true → p.words.solid a ≡ false → main_at p.words t i ≡ a → main_at p.words u i ≡ a
+pub tomb_stays : (p : Protocol) (i a : Ref) (t u : ℕ) → t ≤ u → u ≤ p.last → p.words.link t i ≡ true → p.words.solid a ≡ false → logical_at p.words t i ≡ a → logical_at p.words u i ≡ a
 tomb_stays p i a t u h within l tomb is =
-    from_time (λ v. main_at p.words v i ≡ a) t p.last is
+    from_time (λ v. logical_at p.words v i ≡ a) t p.last is
     (λ v b inside so_far. tomb_step p i a v inside tomb so_far (main_step p v inside i (link_stays p i t v b (omega arith) l))) u h within

@@ -1,4 +1,4 @@
--- What other layers give.
+-- What the protocol takes of a run: what memory gives, and what roots do.
 use Rattle.std.proofs.Common.{◌≡◌, ℕ, suc, ◌<◌, ◌≤◌, Bool, true, false, ◌==◌, Option, Some, None, option_map}
 use Rattle.std.specs.Prelude.{is_some}
 use Rattle.proof_commits.specs.Beneath.history.specs.declared.calls.Access.TheVariants.{Writable}
@@ -120,6 +120,13 @@ pub record HasSolid (state : State) (m : Ref) : Type 0 where
 
 -- ---- the whole
 
+-- roots: where a READ on a writable handle asks for the root, and finds it with no offer, the root's generation wasn't closed before
+abbrev pub RootsAreOpen : (ℕ → State) → ℕ → (ℕ → Option ℕ) → Type 0
+RootsAreOpen states last closing =
+    (t : ℕ) → t < last → (actor : ℕ) (operation : Operation) → operation_of (states t) actor ≡ Some operation → (i main previous : Ref) →
+    read_of operation.line ≡ Some (record { indirection = i; line = read.AskRoot main previous }) → operation.access ≡ Writable → (r : Ref) →
+    word_at (states t) (handle_of operation.call) ≡ Plain r → (c : ℕ) → closing (generation_at (states t).heap r) ≡ Some c → t ≤ c
+
 pub record Known (limits : Limits) (states : ℕ → State) (last : ℕ) : Type 0 where
   -- each list of steps is such a run
   pub run : IsRun limits states last
@@ -136,7 +143,5 @@ pub record Known (limits : Limits) (states : ℕ → State) (last : ℕ) : Type 
   -- memory: the main word of an indirection in use names what is in use
   pub mains_stand : (t : ℕ) → t ≤ last → (i : Ref) (slot : Slot) → standing (states t).heap i ≡ Some slot → is_indirection slot.node ≡ true →
       (main : Slot) × (standing (states t).heap (main_of slot.node) ≡ Some main)
-  -- roots: where a READ on a writable handle asks for the root, and finds it with no offer, the root's generation wasn't closed before
-  pub open_root : (t : ℕ) → t < last → (actor : ℕ) (operation : Operation) → operation_of (states t) actor ≡ Some operation → (i main previous : Ref) →
-      read_of operation.line ≡ Some (record { indirection = i; line = read.AskRoot main previous }) → operation.access ≡ Writable → (r : Ref) →
-      word_at (states t) (handle_of operation.call) ≡ Plain r → (c : ℕ) → closing (generation_at (states t).heap r) ≡ Some c → t ≤ c
+  -- roots: they are open where they are asked for
+  pub open_root : RootsAreOpen states last closing

@@ -7,9 +7,12 @@ use Rattle.proof_commits.specs.Beneath.machine_model.specs.declared.reading.Afte
 use Rattle.proof_commits.specs.Beneath.machine_model.specs.declared.reading.After.TheVariants.{Goes, Gives}
 use Rattle.proof_commits.specs.Beneath.machine_model.specs.declared.reading.ReadLine.{ReadLine}
 use Rattle.proof_commits.specs.Beneath.machine_model.specs.declared.reading.ReadLine.TheVariants as read
-use Rattle.proof_commits.specs.Protocol.{Words, Stage, Rests, Reads, Holds, Publishes, Decides, Checks, Makes, SwapsIn, CommitsNode, FailsNode, ReadTurn, ReadsMain, FindsDecided, FindsFailed, FindsPending, DecidesAtOnce, Asks, FindsOffer, Aborts, Commits, Fails, Overtaken, Restores, FindsAnother, Given, IsAtRest, after_read, after_deciding, MayName, MayHave, Moves, Idles, MakesNode, SwapsNode, ReadsOn, DecidesOn}
+use Rattle.proof_commits.specs.Protocol.{Words, Stage, Rests, Reads, Holds, Publishes, Decides, Checks, Makes, SwapsIn, CommitsNode, FailsNode, ReadTurn, ReadsMain, FindsDecided}
+use Rattle.proof_commits.specs.Protocol.{FindsFailed, FindsPending, DecidesAtOnce, Asks, FindsOffer, Aborts, Commits, Fails, Overtaken, Restores, FindsAnother, Given, IsAtRest}
+use Rattle.proof_commits.specs.Protocol.{after_read, after_deciding, MayName, MayHave, Moves, Idles, MakesNode, SwapsNode, ReadsOn, DecidesOn}
 use Rattle.proof_commits.proofs.Words.Stood.{Stood, Decided, Private, AreSound, stood_later, stands_now, none≢pending, over_failed, not_both}
 use Rattle.proof_commits.proofs.Words.Effects.{IsSettled, Effect, Nothing, Made, SwappedIn, PutBack, Committed, Failed, made_later, Brings, comes, stood_below, none_later, failed_later}
+use Rattle.proof_commits.specs.Beneath.machine_model.proofs.Basics.{before_or_at}
 
 -- ---- what is known of a stage
 
@@ -136,9 +139,6 @@ given_by w t h e k i m g (inr now) =
     let stage = subst (λ u. w.stage u k ≡ Reads i g.line) now g.stage in
     let turn = subst (λ u. ReadTurn w u i g.line (Gives m)) now g.gives in
     read_on w t h.words i g.line (Gives m) (subst (λ s. Staged w t k s) stage (h.staged k)) turn
-
-before_or_at : (a t : ℕ) → a < suc t → (a < t) ⊎ (a ≡ t)
-before_or_at a t h = grind arith
 
 pub given_decided : (w : Words) (t : ℕ) → IsSound w t → Effect w t → (k : ℕ) (i m : Ref) → Given w (suc t) k i m → Decided w (suc t) i m
 given_decided w t h e k i m g = given_by w t h e k i m g (before_or_at g.at t g.past)

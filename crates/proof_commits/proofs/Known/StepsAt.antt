@@ -1,5 +1,6 @@
 -- The step of a run at a time, by what it is, and what it does to the steps of commits and to actors.
-use Rattle.std.proofs.Common.{◌≡◌, ℕ, zero, suc, ◌-◌, ◌<◌, ◌⊎◌, Bool, true, false, cond, ◌==◌, List, ◌∷◌, ◌++◌, set, get_or, Option, Some, None, option_map, find, inl, inr, refl, sym, ◌∙◌, ap, subst, ne_eqb, arith, []}
+use Rattle.std.proofs.Common.{◌≡◌, ℕ, zero, suc, ◌-◌, ◌<◌, ◌⊎◌, Bool, true, false, cond, ◌==◌, List, ◌∷◌, ◌++◌, set, get_or, Option, Some, None, option_map, find, inl, inr, refl}
+use Rattle.std.proofs.Common.{sym, ◌∙◌, ap, subst, ne_eqb, arith, []}
 use Rattle.std.proofs.Math.ListN.{get_or-map}
 use Rattle.std.specs.Option.{option_or}
 use Rattle.std.proofs.lemmas.Bool.{eq-eqb, true≢false}

@@ -17,11 +17,10 @@ use Rattle.proof_commits.specs.Beneath.machine_model.specs.Reading.{read_after}
 use Rattle.proof_commits.specs.Beneath.machine_model.specs.Operations.{first_line}
 use Rattle.proof_commits.specs.Beneath.machine_model.specs.Acting.{gone, marked, operation_after}
 use Rattle.proof_commits.specs.Beneath.machine_model.specs.Counting.{settled}
-use Rattle.proof_commits.specs.Beneath.machine_model.proofs.Actors.{marks_by}
+use Rattle.proof_commits.specs.Beneath.machine_model.proofs.Actors.{marks_by, begin_counts}
 use Rattle.proof_commits.specs.Beneath.machine_model.specs.Moves as Machine
 use Rattle.proof_commits.specs.Beneath.machine_model.specs.Moves.{begun_operation}
 use Rattle.proof_commits.specs.Beneath.machine_model.specs.Times.{IsRun}
-use Rattle.proof_memory.proofs.Safety.Held.{begin_counts}
 use Rattle.proof_commits.specs.Protocol.{Reads}
 use Rattle.proof_commits.proofs.Course.Finals.{from_time}
 use Rattle.proof_commits.proofs.Lines.Stages.{Remembers, remembers_still}

@@ -49,7 +49,8 @@ use Rattle.proof_commits.specs.Beneath.machine_model.specs.declared.roots.Comple
 use Rattle.proof_commits.specs.Beneath.machine_model.specs.Calls.{handle_of}
 use Rattle.proof_commits.specs.Beneath.machine_model.specs.States.{word_at}
 use Rattle.proof_commits.specs.Beneath.machine_model.specs.Reading.{read_after, at_indirection}
-use Rattle.proof_commits.specs.Beneath.machine_model.specs.Swapping.{after_deciding as swap_deciding, on_line, after_check, after_publish, after_reading, of_offer, after_completing, is_carried_out, is_plain}
+use Rattle.proof_commits.specs.Beneath.machine_model.specs.Swapping.{after_deciding as swap_deciding, on_line, after_check, after_publish, after_reading, of_offer}
+use Rattle.proof_commits.specs.Beneath.machine_model.specs.Swapping.{after_completing, is_carried_out, is_plain}
 use Rattle.proof_commits.specs.Beneath.machine_model.specs.Renewing.{renew_after_read}
 use Rattle.proof_commits.specs.Beneath.machine_model.specs.Finding.{key_after_read}
 use Rattle.proof_commits.specs.Beneath.machine_model.specs.Cleaning.{clean_after_read, after_child}

@@ -10,7 +10,7 @@ use Rattle.proof_commits.specs.Beneath.slot_arena.specs.declared.nodes.Node.{Nod
 use Rattle.proof_commits.specs.Beneath.slot_arena.specs.declared.nodes.Prev.{Prev}
 use Rattle.proof_commits.specs.Beneath.slot_arena.specs.declared.nodes.Slot.{Slot}
 use Rattle.proof_commits.specs.Beneath.slot_arena.specs.declared.nodes.Prev.TheVariants as over
-use Rattle.proof_commits.specs.Beneath.slot_arena.specs.Heaps.{node_of, main_at, prev_at, generation_at, generation_of, main_changed, prev_changed, next_ref}
+use Rattle.proof_commits.specs.Beneath.slot_arena.specs.Heaps.{node_of, main_at, prev_at, generation_at, generation_of, main_changed, prev_changed, next_ref, Heap}
 use Rattle.proof_commits.specs.Beneath.machine_model.specs.declared.actions.Action.{Action}
 use Rattle.proof_commits.specs.Beneath.machine_model.specs.declared.actions.Action.TheVariants as act
 use Rattle.proof_commits.specs.Beneath.machine_model.specs.declared.reading.After.TheVariants.{Goes}
@@ -21,18 +21,21 @@ use Rattle.proof_commits.specs.Beneath.machine_model.specs.declared.roots.RootWo
 use Rattle.proof_commits.specs.Beneath.machine_model.specs.declared.steps.Limits.{Limits}
 use Rattle.proof_commits.specs.Beneath.machine_model.specs.declared.steps.Step.TheVariants as step
 use Rattle.proof_commits.specs.Beneath.machine_model.specs.States.{State}
-use Rattle.proof_commits.specs.Beneath.machine_model.specs.Reading.{Verdict, Commits, Fails, Overtaken, verdict, verdict_by, is_licensed, is_pending, read_action, read_after, after_prev, after_ask, after_decide, after_restore, committed_by, committed_so}
+use Rattle.proof_commits.specs.Beneath.machine_model.specs.Reading.{Verdict, Commits, Fails, Overtaken, verdict, verdict_by, is_licensed, is_pending, read_action, read_after}
+use Rattle.proof_commits.specs.Beneath.machine_model.specs.Reading.{after_prev, after_ask, after_decide, after_restore, committed_by, committed_so}
 use Rattle.proof_commits.specs.Beneath.machine_model.specs.Operations.{action_of}
 use Rattle.proof_commits.specs.Beneath.machine_model.specs.Acting.{commits_after}
 use Rattle.proof_commits.specs.Beneath.machine_model.proofs.Times.{steps_at}
 use Rattle.proof_commits.specs.Beneath.machine_model.specs.Grown.{grown, node_under, prev_word}
-use Rattle.proof_commits.specs.Protocol.{Words, Kept, Leaves, ReadTurn, ReadsMain, FindsDecided, FindsFailed, FindsPending, DecidesAtOnce, Asks, FindsOffer, Aborts, Commits as CommitsTurn, Fails as FailsTurn, Overtaken as OvertakenTurn, Restores, FindsAnother}
+use Rattle.proof_commits.specs.Protocol.{Words, Kept, Leaves, ReadTurn, ReadsMain, FindsDecided, FindsFailed, FindsPending, DecidesAtOnce, Asks, FindsOffer, Aborts}
+use Rattle.proof_commits.specs.Protocol.{Commits as CommitsTurn, Fails as FailsTurn, Overtaken as OvertakenTurn, Restores, FindsAnother}
 use Rattle.proof_commits.proofs.Course.Finals.{from_time}
 use Rattle.proof_commits.proofs.Known.Given.{GrownStays, GrownChanges, GrownSwaps, GrownTakes, FindsMain, FindsPrev, Either, Decided, Taken, ActsOn, Known}
-use Rattle.proof_commits.proofs.Words.OfRuns.{leaves_words, commits_words, fails_words, puts_back_words, slot_generation, slot_main_link, slot_prev_node, slot_solid, slot_kept}
+use Rattle.proof_commits.proofs.Words.OfRuns.{leaves_words, commits_words, fails_words, puts_back_words, slot_generation, slot_main_link, slot_prev_node, slot_solid}
 use Rattle.proof_commits.specs.Words.{words_of}
 use Rattle.proof_commits.proofs.Known.StepsAt.{StepAt, IsBegin, IsGo, IsEnd, IsSweep, step_at, commit_here, commit_elsewhere, commit_kept}
 use Rattle.proof_memory.specs.Wants.{is_indirection, is_branch_or_list}
+use Rattle.proof_commits.specs.Beneath.machine_model.proofs.Slots.{change_kept}
 
 -- ---- generations stay
 
@@ -92,7 +95,8 @@ main_link : (states : ℕ → State) (t : ℕ) (x i : Ref) → is_indirection (n
 main_link states t x i l e =
     (ap (λ o. is_indirection (node_of o)) e ∙ slot_main_link x (grown states t i) ∙ l, ap (λ o. generation_of (node_of o)) e ∙ slot_generation x (grown states t i))
 
-prev_link : (states : ℕ → State) (t : ℕ) (v : Prev) (i : Ref) → is_indirection (node_under states t i) ≡ true → grown states (suc t) i ≡ option_map (prev_changed v) (grown states t i) → KeepsLink states t i
+prev_link : (states : ℕ → State) (t : ℕ) (v : Prev) (i : Ref) → is_indirection (node_under states t i) ≡ true →
+    grown states (suc t) i ≡ option_map (prev_changed v) (grown states t i) → KeepsLink states t i
 prev_link states t v i l e = (
   ap (λ o. is_indirection (node_of o)) e ∙ ap is_indirection (slot_prev_node v (grown states t i)) ∙ l,
   ap (λ o. generation_of (node_of o)) e ∙ ap generation_of (slot_prev_node v (grown states t i)),
@@ -102,17 +106,20 @@ main_link_by : (states : ℕ → State) (t : ℕ) (x r i : Ref) → is_indirecti
 main_link_by states t x r i l e (inl is) = main_link states t x i l (subst (λ q. grown states (suc t) q ≡ option_map (main_changed x) (grown states t q)) (sym is) e.here)
 main_link_by states t x r i l e (inr apart) = same_link states t i l (e.elsewhere i apart)
 
-prev_link_by : (states : ℕ → State) (t : ℕ) (v : Prev) (r i : Ref) → is_indirection (node_under states t i) ≡ true → GrownChanges states t (prev_changed v) r → (i ≡ r) ⊎ (i ≡ r → ⊥) → KeepsLink states t i
+prev_link_by : (states : ℕ → State) (t : ℕ) (v : Prev) (r i : Ref) → is_indirection (node_under states t i) ≡ true → GrownChanges states t (prev_changed v) r →
+    (i ≡ r) ⊎ (i ≡ r → ⊥) → KeepsLink states t i
 prev_link_by states t v r i l e (inl is) = prev_link states t v i l (subst (λ q. grown states (suc t) q ≡ option_map (prev_changed v) (grown states t q)) (sym is) e.here)
 prev_link_by states t v r i l e (inr apart) = same_link states t i l (e.elsewhere i apart)
 
-swap_link_by : (states : ℕ → State) (t : ℕ) (r a f i : Ref) → is_indirection (node_under states t i) ≡ true → GrownSwaps states t r a f → (i ≡ r) ⊎ (i ≡ r → ⊥) → (i ≡ f) ⊎ (i ≡ f → ⊥) → KeepsLink states t i
+swap_link_by : (states : ℕ → State) (t : ℕ) (r a f i : Ref) → is_indirection (node_under states t i) ≡ true → GrownSwaps states t r a f → (i ≡ r) ⊎ (i ≡ r → ⊥) →
+    (i ≡ f) ⊎ (i ≡ f → ⊥) → KeepsLink states t i
 swap_link_by states t r a f i l e (inl is) other = main_link states t f i l (subst (λ q. grown states (suc t) q ≡ option_map (main_changed f) (grown states t q)) (sym is) e.main)
 swap_link_by states t r a f i l e (inr apart) (inl is) =
     prev_link states t (over.Pending a) i l (subst (λ q. grown states (suc t) q ≡ option_map (prev_changed (over.Pending a)) (grown states t q)) (sym is) e.prev)
 swap_link_by states t r a f i l e (inr apart) (inr other) = same_link states t i l (e.elsewhere i apart other)
 
-take_link_by : (states : ℕ → State) (t : ℕ) (n : Ref) (node : Node) (i : Ref) → is_indirection (node_under states t i) ≡ true → GrownTakes states t n node → (i ≡ n) ⊎ (i ≡ n → ⊥) → KeepsLink states t i
+take_link_by : (states : ℕ → State) (t : ℕ) (n : Ref) (node : Node) (i : Ref) → is_indirection (node_under states t i) ≡ true → GrownTakes states t n node →
+    (i ≡ n) ⊎ (i ≡ n → ⊥) → KeepsLink states t i
 take_link_by states t n node i l e (inl is) = absurd (true≢false (sym l ∙ ap (λ q. is_indirection (node_under states t q)) is ∙ ap (λ o. is_indirection (node_of o)) e.new))
 take_link_by states t n node i l e (inr apart) = same_link states t i l (e.elsewhere i apart)
 
@@ -140,7 +147,7 @@ KeepsSolid states t m = (is_some (grown states (suc t) m) ≡ true) × (is_branc
 solid_by : (states : ℕ → State) (t : ℕ) (m : Ref) (change : Slot → Slot) → ((o : Option Slot) → is_branch_or_list (node_of (option_map change o)) ≡ is_branch_or_list (node_of o)) →
     is_some (grown states t m) ≡ true → grown states (suc t) m ≡ option_map change (grown states t m) → KeepsSolid states t m
 solid_by states t m change same made e =
-    (ap is_some e ∙ slot_kept change (grown states t m) ∙ made, ap (λ o. is_branch_or_list (node_of o)) e ∙ same (grown states t m))
+    (ap is_some e ∙ change_kept change (grown states t m) ∙ made, ap (λ o. is_branch_or_list (node_of o)) e ∙ same (grown states t m))
 
 solid_same : (states : ℕ → State) (t : ℕ) (m : Ref) → is_some (grown states t m) ≡ true → grown states (suc t) m ≡ grown states t m → KeepsSolid states t m
 solid_same states t m made e = (ap is_some e ∙ made, ap (λ o. is_branch_or_list (node_of o)) e)
@@ -192,8 +199,16 @@ pending_so over.None p e = absurd (true≢false (sym e))
 pending_so (over.Failed q) p e = absurd (true≢false (sym e))
 pending_so (over.Pending q) p e = ap over.Pending (eqb-true q p e)
 
-not_pending_so : (v : Prev) (p : Ref) → is_pending v p ≡ false → v ≡ over.Pending p → ⊥
+pub not_pending_so : (v : Prev) (p : Ref) → is_pending v p ≡ false → v ≡ over.Pending p → ⊥
 not_pending_so v p e is = true≢false (sym (ap (λ x. is_pending x p) is ∙ eq-eqb p p refl) ∙ e)
+
+-- such a node is pending
+commits_pending : (b c : Bool) → verdict_by b c ≡ Commits → c ≡ true
+commits_pending b true e = refl
+commits_pending b false e = let wrong : ⊥ = cc in absurd wrong
+
+pub was_pending : (heap : Heap) (i x q : Ref) (told : Option ℕ) → verdict heap i x q told ≡ Commits → prev_at heap x ≡ over.Pending q
+was_pending heap i x q told e = pending_so (prev_at heap x) q (commits_pending (is_licensed heap i told) (is_pending (prev_at heap x) q) e)
 
 -- ---- READ
 

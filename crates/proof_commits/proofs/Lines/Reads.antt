@@ -163,52 +163,8 @@ line_counts state operation l t before = counts_by state operation l t before (s
 -- ---- which line ends
 
 module _ (state : State) (operation : Operation) where
-  -- any other step goes on
-  abbrev Goes : Line → Type 0
-  Goes l = (answer : Reply) → line_action state operation l ≡ act.End answer → ⊥
-
-  read_goes : (i : Ref) (l : ReadLine) (answer : Reply) → read_action i l ≡ act.End answer → ⊥
-  read_goes i l answer e = grind arith
-
-  key_goes : (l : KeyLine) → Goes (line.Key l)
-  key_goes l answer e = grind (arith, read_goes)
-
-  build_goes : (l : BuildLine) → Goes (line.Build l)
-  build_goes l answer e = grind arith
-
-  swap_goes : (i a f : Ref) (x : SwapLine) (answer : Reply) → action_at i a f x ≡ act.End answer → ⊥
-  swap_goes i a f x answer e = grind (arith, read_goes)
-
-  renew_goes : (l : RenewLine) → Goes (line.Renew l)
-  renew_goes l answer e = grind (arith, read_goes)
-
-  clean_goes : (l : CleanLine) → Goes (line.Clean l)
-  clean_goes l answer e = grind (arith, read_goes)
-
-  climb_goes : (l : ClimbLine) → Goes (line.Climb l)
-  climb_goes l answer e = grind (arith, read_goes)
-
-  copy_goes : (l : CopyLine) → Goes (line.Copy l)
-  copy_goes l answer e = grind (arith, read_goes)
-
-  walk_goes : (l : WalkLine) → Goes (line.Walk l)
-  walk_goes l answer e = grind (arith, read_goes)
-
-  root_goes : (l : RootLine) → Goes (line.Root l)
-  root_goes l answer e = grind (arith, read_goes)
-
   pub only_end : (l : Line) (answer : Reply) → line_action state operation l ≡ act.End answer → l ≡ line.End answer
-  only_end (line.End x) answer e = let same : x ≡ answer = cc e in ap (λ y. line.End y) same
-  only_end line.Impossible answer e = let wrong : ⊥ = cc e in absurd wrong
-  only_end (line.Root l) answer e = absurd (root_goes l answer e)
-  only_end (line.Key l) answer e = absurd (key_goes l answer e)
-  only_end (line.Build l) answer e = absurd (build_goes l answer e)
-  only_end (line.Swap why s) answer e = absurd (swap_goes s.indirection s.replaced s.fresh s.line answer e)
-  only_end (line.Renew l) answer e = absurd (renew_goes l answer e)
-  only_end (line.Clean l) answer e = absurd (clean_goes l answer e)
-  only_end (line.Climb l) answer e = absurd (climb_goes l answer e)
-  only_end (line.Copy l) answer e = absurd (copy_goes l answer e)
-  only_end (line.Walk l) answer e = absurd (walk_goes l answer e)
+  only_end l answer e = grind arith
 
   pub ends_at_end : (l : Line) (answer : Reply) → line_action state operation l ≡ act.End answer → stage_of l ≡ Rests
   ends_at_end l answer e = ap stage_of (only_end l answer e)

@@ -1,5 +1,5 @@
 -- What an operation on a line is about with main words, and what the line remembers.
-use Rattle.std.proofs.Common.{◌≡◌, ℕ, Option, Some, None}
+use Rattle.std.proofs.Common.{◌≡◌, ℕ, Option, Some, None, List, arith, refl}
 use Rattle.proof_commits.specs.Beneath.slot_arena.specs.declared.refs.Ref.{Ref}
 use Rattle.proof_commits.specs.Beneath.machine_model.specs.declared.operations.Operation.{Operation}
 use Rattle.proof_commits.specs.Beneath.machine_model.specs.declared.reading.ReadLine.{ReadLine}
@@ -28,8 +28,22 @@ use Rattle.proof_commits.specs.Beneath.machine_model.specs.declared.walking.Walk
 use Rattle.proof_commits.specs.Beneath.machine_model.specs.declared.lines.Line.{Line}
 use Rattle.proof_commits.specs.Beneath.machine_model.specs.declared.lines.Line.TheVariants as line
 use Rattle.proof_commits.specs.Beneath.machine_model.specs.Paths.{current, above}
-use Rattle.proof_commits.specs.Protocol.{Stage, Rests, Reads, Holds, Publishes, Decides, Checks}
-use Rattle.proof_commits.specs.Stages.{stage_of_complete, stage_of_root, stage_of_swap, stage_of_key, stage_of_build, stage_of_renew, stage_of_clean, stage_of_climb, stage_of_copy, stage_of_walk, stage_of, stage_of_actor, from_of_actor}
+use Rattle.proof_commits.specs.Protocol.{Stage, Rests, Reads, Holds, Publishes, Decides, Checks, after_read}
+use Rattle.proof_commits.specs.Stages.{stage_of_complete, stage_of_root, stage_of_swap, stage_of_key, stage_of_build, stage_of_renew, stage_of_clean, stage_of_climb, stage_of_copy}
+use Rattle.proof_commits.specs.Stages.{stage_of_walk, stage_of, stage_of_actor, from_of_actor}
+use Rattle.proof_commits.specs.Beneath.machine_model.specs.declared.reading.After.{After}
+use Rattle.proof_commits.specs.Beneath.machine_model.specs.Finding.{key_after_read}
+use Rattle.proof_commits.specs.Beneath.machine_model.specs.Renewing.{renew_after_read}
+use Rattle.proof_commits.specs.Beneath.machine_model.specs.Cleaning.{clean_after_read, after_child}
+use Rattle.proof_commits.specs.Beneath.machine_model.specs.Climbing.{climb_after_read}
+use Rattle.proof_commits.specs.Beneath.machine_model.specs.Walking.{walk_after_read}
+use Rattle.proof_commits.specs.Beneath.machine_model.specs.Copying.{copy_after_read, copy_after_complete, after_given}
+use Rattle.proof_commits.specs.Beneath.machine_model.specs.Operations.{after_root, first_line}
+use Rattle.proof_commits.specs.Beneath.machine_model.specs.Reading.{at_indirection}
+use Rattle.proof_commits.specs.Beneath.machine_model.specs.Swapping.{of_offer, after_completing, after_reading}
+use Rattle.proof_commits.specs.Beneath.machine_model.specs.declared.repairs.Climb.{Climb}
+use Rattle.proof_commits.specs.Beneath.machine_model.specs.declared.reading.After.TheVariants.{Goes, Gives}
+use Rattle.proof_commits.specs.Beneath.history.specs.declared.calls.Call.{Call}
 
 -- ---- what an operation is about
 
@@ -187,3 +201,50 @@ module _ (G H : Ref → Ref → Type 0) (W : Type 0) (more : (i m : Ref) → G i
   remembers_still (line.Walk l) r = walk_still l r
   remembers_still (line.End answer) r = r
   remembers_still line.Impossible r = r
+
+-- ---- after a READ
+
+pub key_stage : (path : List Ref) (i : Ref) (o : After ReadLine Ref) → stage_of (key_after_read path (at_indirection i o)) ≡ after_read i o
+key_stage path i (Goes l) = refl
+key_stage path i (Gives m) = refl
+
+pub renew_stage : (path : List Ref) (main : Ref) (done : List Ref) (i : Ref) (o : After ReadLine Ref) → stage_of (renew_after_read path main done (at_indirection i o)) ≡ after_read i o
+renew_stage path main done i (Goes l) = refl
+renew_stage path main done i (Gives m) = refl
+
+pub clean_stage : (path : List Ref) (i : Ref) (o : After ReadLine Ref) → stage_of (clean_after_read path (at_indirection i o)) ≡ after_read i o
+clean_stage path i (Goes l) = refl
+clean_stage path i (Gives m) = refl
+
+pub child_stage : (path : List Ref) (main : Ref) (done : List Ref) (i : Ref) (o : After ReadLine Ref) → stage_of (after_child path main done (at_indirection i o)) ≡ after_read i o
+child_stage path main done i (Goes l) = refl
+child_stage path main done i (Gives m) = refl
+
+pub climb_stage : (c : Climb) (i : Ref) (o : After ReadLine Ref) → stage_of (climb_after_read c (at_indirection i o)) ≡ after_read i o
+climb_stage c i (Goes l) = refl
+climb_stage c i (Gives m) = refl
+
+pub walk_stage : (todo : List Ref) (pairs : List (ℕ × ℕ)) (i : Ref) (o : After ReadLine Ref) → stage_of (walk_after_read todo pairs (at_indirection i o)) ≡ after_read i o
+walk_stage todo pairs i (Goes l) = refl
+walk_stage todo pairs i (Gives m) = refl
+
+pub copy_stage : (operation : Operation) (at i : Ref) (o : After ReadLine Ref) → stage_of (copy_after_read operation at (at_indirection i o)) ≡ after_read i o
+copy_stage operation at i (Goes l) = refl
+copy_stage operation at i (Gives m) = at_given operation.call
+  where
+    at_given : (call : Call) → stage_of (after_given call at m) ≡ Rests
+    at_given call = grind arith
+
+pub copy_completing_stage : (operation : Operation) (offer : Descriptor) (o : After ReadLine Ref) →
+    stage_of (copy_after_complete operation (of_offer offer (after_reading o))) ≡ after_read offer.root o
+copy_completing_stage operation offer (Goes l) = refl
+copy_completing_stage operation offer (Gives m) = refl
+
+pub root_completing_stage : (operation : Operation) (offer : Descriptor) (o : After ReadLine Ref) →
+    stage_of (after_root operation (after_completing (of_offer offer (after_reading o)))) ≡ after_read offer.root o
+root_completing_stage operation offer (Goes l) = refl
+root_completing_stage operation offer (Gives m) = refl
+
+-- the first line
+pub first_rests : (call : Call) → stage_of (first_line call) ≡ Rests
+first_rests call = grind arith

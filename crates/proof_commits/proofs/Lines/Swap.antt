@@ -1,5 +1,5 @@
 -- From what an actor is about back to its line.
-use Rattle.std.proofs.Common.{◌≡◌, Option, Some, None, refl, sym, ◌∙◌, ap, subst, arith}
+use Rattle.std.proofs.Common.{◌≡◌, Option, Some, None, refl, sym, ◌∙◌, ap, subst, arith, ◌⊎◌, inl, inr}
 use Rattle.std.proofs.lemmas.Option.{none-some}
 use Rattle.proof_commits.specs.Beneath.slot_arena.specs.declared.refs.Ref.{Ref}
 use Rattle.proof_commits.specs.Beneath.machine_model.specs.declared.operations.Operation.{Operation}
@@ -32,30 +32,6 @@ IsOutside (Decides i a f l) = ⊥
 IsOutside (Checks i a f) = ⊥
 IsOutside s = Unit {0}
 
-root_outside : (l : RootLine) → IsOutside (stage_of (line.Root l))
-root_outside l = grind arith
-
-key_outside : (l : KeyLine) → IsOutside (stage_of (line.Key l))
-key_outside l = grind arith
-
-build_outside : (l : BuildLine) → IsOutside (stage_of (line.Build l))
-build_outside l = grind arith
-
-renew_outside : (l : RenewLine) → IsOutside (stage_of (line.Renew l))
-renew_outside l = grind arith
-
-clean_outside : (l : CleanLine) → IsOutside (stage_of (line.Clean l))
-clean_outside l = grind arith
-
-climb_outside : (l : ClimbLine) → IsOutside (stage_of (line.Climb l))
-climb_outside l = grind arith
-
-copy_outside : (l : CopyLine) → IsOutside (stage_of (line.Copy l))
-copy_outside l = grind arith
-
-walk_outside : (l : WalkLine) → IsOutside (stage_of (line.Walk l))
-walk_outside l = grind arith
-
 -- a line of a SWAP, by its stage
 abbrev swap_of : Ref → Ref → Ref → SwapLine → Swap
 swap_of i r f x = record { indirection = i; replaced = r; fresh = f; line = x }
@@ -86,31 +62,31 @@ publishes_swap i r f swap.Check j a g e = let wrong : ⊥ = cc in absurd wrong
 abbrev LineOf : Line → Ref → Ref → Ref → SwapLine → Type 0
 LineOf l i a f x = (why : Purpose) × (l ≡ line.Swap why (swap_of i a f x))
 
+-- a line is one of a SWAP, or on another stage
+swap_or_outside : (l : Line) → ((why : Purpose) × (s : Swap) × (l ≡ line.Swap why s)) ⊎ IsOutside (stage_of l)
+swap_or_outside (line.Swap why s) = inl (why, s, refl)
+swap_or_outside (line.Root l) = inr (grind arith)
+swap_or_outside (line.Key l) = inr (grind arith)
+swap_or_outside (line.Build l) = inr (grind arith)
+swap_or_outside (line.Renew l) = inr (grind arith)
+swap_or_outside (line.Clean l) = inr (grind arith)
+swap_or_outside (line.Climb l) = inr (grind arith)
+swap_or_outside (line.Copy l) = inr (grind arith)
+swap_or_outside (line.Walk l) = inr (grind arith)
+swap_or_outside (line.End answer) = inr tt
+swap_or_outside line.Impossible = inr tt
+
 line_decides : (l : Line) (i a f : Ref) (x : ReadLine) → stage_of l ≡ Decides i a f x → LineOf l i a f (swap.Deciding x)
-line_decides (line.Swap why s) i a f x e = (why, ap (line.Swap why) (decides_swap s.indirection s.replaced s.fresh s.line i a f x e))
-line_decides (line.Root l) i a f x e = absurd (subst IsOutside e (root_outside l))
-line_decides (line.Key l) i a f x e = absurd (subst IsOutside e (key_outside l))
-line_decides (line.Build l) i a f x e = absurd (subst IsOutside e (build_outside l))
-line_decides (line.Renew l) i a f x e = absurd (subst IsOutside e (renew_outside l))
-line_decides (line.Clean l) i a f x e = absurd (subst IsOutside e (clean_outside l))
-line_decides (line.Climb l) i a f x e = absurd (subst IsOutside e (climb_outside l))
-line_decides (line.Copy l) i a f x e = absurd (subst IsOutside e (copy_outside l))
-line_decides (line.Walk l) i a f x e = absurd (subst IsOutside e (walk_outside l))
-line_decides (line.End answer) i a f x e = absurd (subst IsOutside e tt)
-line_decides line.Impossible i a f x e = absurd (subst IsOutside e tt)
+line_decides l i a f x e = elim (swap_or_outside l) [
+  | inl (why, s, is) ↦ (why, is ∙ ap (line.Swap why) (decides_swap s.indirection s.replaced s.fresh s.line i a f x (ap stage_of (sym is) ∙ e)))
+  | inr other ↦ absurd (subst IsOutside e other)
+]
 
 line_publishes : (l : Line) (i a f : Ref) → stage_of l ≡ Publishes i a f → LineOf l i a f swap.Publish
-line_publishes (line.Swap why s) i a f e = (why, ap (line.Swap why) (publishes_swap s.indirection s.replaced s.fresh s.line i a f e))
-line_publishes (line.Root l) i a f e = absurd (subst IsOutside e (root_outside l))
-line_publishes (line.Key l) i a f e = absurd (subst IsOutside e (key_outside l))
-line_publishes (line.Build l) i a f e = absurd (subst IsOutside e (build_outside l))
-line_publishes (line.Renew l) i a f e = absurd (subst IsOutside e (renew_outside l))
-line_publishes (line.Clean l) i a f e = absurd (subst IsOutside e (clean_outside l))
-line_publishes (line.Climb l) i a f e = absurd (subst IsOutside e (climb_outside l))
-line_publishes (line.Copy l) i a f e = absurd (subst IsOutside e (copy_outside l))
-line_publishes (line.Walk l) i a f e = absurd (subst IsOutside e (walk_outside l))
-line_publishes (line.End answer) i a f e = absurd (subst IsOutside e tt)
-line_publishes line.Impossible i a f e = absurd (subst IsOutside e tt)
+line_publishes l i a f e = elim (swap_or_outside l) [
+  | inl (why, s, is) ↦ (why, is ∙ ap (line.Swap why) (publishes_swap s.indirection s.replaced s.fresh s.line i a f (ap stage_of (sym is) ∙ e)))
+  | inr other ↦ absurd (subst IsOutside e other)
+]
 
 -- ---- of an actor
 
@@ -139,36 +115,15 @@ in_swap_fresh operation i a f l is = subst (λ x. HasFresh (stage_of x) f) (sym 
 
 -- ---- an operation's READ
 
-reads_root : (l : RootLine) (r : Read) → read_of (line.Root l) ≡ Some r → stage_of (line.Root l) ≡ Reads r.indirection r.line
-reads_root l r e = grind arith
-
-reads_key : (l : KeyLine) (r : Read) → read_of (line.Key l) ≡ Some r → stage_of (line.Key l) ≡ Reads r.indirection r.line
-reads_key l r e = grind arith
-
-reads_renew : (l : RenewLine) (r : Read) → read_of (line.Renew l) ≡ Some r → stage_of (line.Renew l) ≡ Reads r.indirection r.line
-reads_renew l r e = grind arith
-
-reads_clean : (l : CleanLine) (r : Read) → read_of (line.Clean l) ≡ Some r → stage_of (line.Clean l) ≡ Reads r.indirection r.line
-reads_clean l r e = grind arith
-
-reads_climb : (l : ClimbLine) (r : Read) → read_of (line.Climb l) ≡ Some r → stage_of (line.Climb l) ≡ Reads r.indirection r.line
-reads_climb l r e = grind arith
-
-reads_copy : (l : CopyLine) (r : Read) → read_of (line.Copy l) ≡ Some r → stage_of (line.Copy l) ≡ Reads r.indirection r.line
-reads_copy l r e = grind arith
-
-reads_walk : (l : WalkLine) (r : Read) → read_of (line.Walk l) ≡ Some r → stage_of (line.Walk l) ≡ Reads r.indirection r.line
-reads_walk l r e = grind arith
-
 pub reads_stage : (l : Line) (r : Read) → IsNoSwap l → read_of l ≡ Some r → stage_of l ≡ Reads r.indirection r.line
-reads_stage (line.Root l) r n e = reads_root l r e
-reads_stage (line.Key l) r n e = reads_key l r e
+reads_stage (line.Root l) r n e = grind arith
+reads_stage (line.Key l) r n e = grind arith
 reads_stage (line.Build l) r n e = absurd (none-some r e)
 reads_stage (line.Swap why s) r n e = absurd n
-reads_stage (line.Renew l) r n e = reads_renew l r e
-reads_stage (line.Clean l) r n e = reads_clean l r e
-reads_stage (line.Climb l) r n e = reads_climb l r e
-reads_stage (line.Copy l) r n e = reads_copy l r e
-reads_stage (line.Walk l) r n e = reads_walk l r e
+reads_stage (line.Renew l) r n e = grind arith
+reads_stage (line.Clean l) r n e = grind arith
+reads_stage (line.Climb l) r n e = grind arith
+reads_stage (line.Copy l) r n e = grind arith
+reads_stage (line.Walk l) r n e = grind arith
 reads_stage (line.End answer) r n e = absurd (none-some r e)
 reads_stage line.Impossible r n e = absurd (none-some r e)

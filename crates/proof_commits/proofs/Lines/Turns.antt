@@ -56,7 +56,8 @@ use Rattle.proof_commits.specs.Beneath.machine_model.specs.Calls.{handle_of}
 use Rattle.proof_commits.specs.Beneath.machine_model.specs.States.{word_at, root_of}
 use Rattle.proof_commits.specs.Beneath.machine_model.specs.Reading.{read_action, read_after, at_indirection, committed_by, reading}
 use Rattle.proof_commits.specs.Beneath.machine_model.specs.Orders.{committed_in}
-use Rattle.proof_commits.specs.Beneath.machine_model.specs.Swapping.{after_deciding as swap_deciding, on_line, after_check, after_publish, after_reading, of_offer, after_completing, is_carried_out, is_plain}
+use Rattle.proof_commits.specs.Beneath.machine_model.specs.Swapping.{after_deciding as swap_deciding, on_line, after_check, after_publish, after_reading, of_offer}
+use Rattle.proof_commits.specs.Beneath.machine_model.specs.Swapping.{after_completing, is_carried_out, is_plain}
 use Rattle.proof_commits.specs.Beneath.machine_model.specs.Renewing.{renew_after_read}
 use Rattle.proof_commits.specs.Beneath.machine_model.specs.Finding.{key_after_read}
 use Rattle.proof_commits.specs.Beneath.machine_model.specs.Cleaning.{clean_after_read, after_child}
@@ -67,14 +68,15 @@ use Rattle.proof_commits.specs.Beneath.machine_model.specs.Operations.{line_acti
 use Rattle.proof_commits.specs.Beneath.machine_model.specs.Acting.{commits_after}
 use Rattle.proof_commits.specs.Beneath.machine_model.specs.Grown.{node_under}
 use Rattle.proof_commits.specs.Beneath.machine_model.specs.Moves.{GoesOn}
-use Rattle.proof_commits.specs.Protocol.{Words, HasMade, Stage, Rests, Reads, Holds, Publishes, Decides, Checks, IsFree, MayName, Given, ReadTurn, Moves, Idles, MakesNode, SwapsNode, ReadsOn, DecidesOn, after_read}
-use Rattle.proof_commits.proofs.Lines.Stages.{ReadRemembers, Remembers}
+use Rattle.proof_commits.specs.Protocol.{Words, HasMade, Stage, Rests, Reads, Holds, Publishes, Decides, Checks, IsFree, MayName, Given, ReadTurn, Moves, Idles, MakesNode}
+use Rattle.proof_commits.specs.Protocol.{SwapsNode, ReadsOn, DecidesOn, after_read}
+use Rattle.proof_commits.proofs.Lines.Stages.{ReadRemembers, Remembers, key_stage, renew_stage, clean_stage, child_stage, climb_stage, walk_stage, copy_stage}
+use Rattle.proof_commits.proofs.Lines.Stages.{copy_completing_stage, root_completing_stage}
 use Rattle.proof_commits.specs.Stages.{stage_of}
 use Rattle.proof_commits.proofs.Known.Given.{BuildsFrom, HasSolid, GrownStays, GrownSwaps, FindsMain, FindsPrev, Either, Taken, ActsOn, Known}
 use Rattle.proof_commits.proofs.Words.OfRuns.{leaves_words, swaps_words, makes_words, takes_node}
 use Rattle.proof_commits.specs.Words.{words_of}
 use Rattle.proof_commits.proofs.Lines.Read.{no_commit, solid_stays, read_turn}
-use Rattle.proof_commits.proofs.Words.InHeap.{grown_standing, node_standing}
 use Rattle.std.specs.Prelude.{is_some}
 use Rattle.proof_commits.specs.Beneath.machine_model.specs.declared.building.Site.{Site}
 use Rattle.proof_commits.specs.Beneath.machine_model.specs.declared.building.Site.TheVariants as site
@@ -84,6 +86,7 @@ use Rattle.proof_commits.proofs.Lines.Resting.{AtRest}
 use Rattle.proof_memory.specs.Wants.{is_indirection, is_branch_or_list}
 use Rattle.proof_memory.proofs.Lines.Next.{pair_main, contracted_main, changed_main}
 use Rattle.proof_memory.proofs.Claims.Nodes.{main_plain}
+use Rattle.proof_commits.specs.Beneath.machine_model.proofs.Grown.{grown_in_use, node_grown}
 
 module _ (limits : Limits) (states : ℕ → State) (last : ℕ) (known : Known limits states last) (t : ℕ) (h : t < last) (k : ℕ) (operation : Operation) where
   abbrev w : Words
@@ -127,11 +130,11 @@ module _ (limits : Limits) (states : ℕ → State) (last : ℕ) (known : Known 
   -- what stands there as a branch or a list may be replaced
   solid_of : (m : Ref) → HasSolid (states t) m → w.solid m ≡ true
   solid_of m x =
-      let found = grown_standing states t m x.slot x.stands in
+      let found = grown_in_use states t m x.slot x.stands in
       solid_stays limits states last known t m (omega arith) (ap is_some found) ∙ ap (λ o. is_branch_or_list (node_of o)) found ∙ x.solid
 
   solid_at : (m : Ref) → HasSolid (states t) m → is_branch_or_list (node_at heap m) ≡ true
-  solid_at m x = ap is_branch_or_list (node_standing states t m x.slot x.stands ∙ ap node_of (grown_standing states t m x.slot x.stands)) ∙ x.solid
+  solid_at m x = ap is_branch_or_list (node_grown states t m x.slot x.stands ∙ ap node_of (grown_in_use states t m x.slot x.stands)) ∙ x.solid
 
   -- a turn that leads to this line
   abbrev pub NextLine : Stage → Line → Type 0
@@ -171,10 +174,6 @@ module _ (limits : Limits) (states : ℕ → State) (last : ℕ) (known : Known 
   asks_of l i x is asks m p e = asks i m p (is ∙ ap (λ y. Some (record { indirection = i; line = y })) e)
 
   -- ---- KEY
-
-  key_stage : (path : List Ref) (i : Ref) (o : After ReadLine Ref) → stage_of (key_after_read path (at_indirection i o)) ≡ after_read i o
-  key_stage path i (Goes l) = refl
-  key_stage path i (Gives m) = refl
 
   key_turn : (l : KeyLine) → LineStep (line.Key l) → NextLine (stage_of (line.Key l)) (line_after (states t) operation (line.Key l))
   key_turn (key.Read path r) s =
@@ -252,10 +251,6 @@ module _ (limits : Limits) (states : ℕ → State) (last : ℕ) (known : Known 
 
   -- ---- RENEW
 
-  renew_stage : (path : List Ref) (main : Ref) (done : List Ref) (i : Ref) (o : After ReadLine Ref) → stage_of (renew_after_read path main done (at_indirection i o)) ≡ after_read i o
-  renew_stage path main done i (Goes l) = refl
-  renew_stage path main done i (Gives m) = refl
-
   renew_link_has : (path : List Ref) (main : Ref) (done : List Ref) (n : Ref) → HasMade GS n (stage_of (renew_after_link (states t) path main done (Some n)))
   renew_link_has path main done n = grind arith
 
@@ -273,14 +268,6 @@ module _ (limits : Limits) (states : ℕ → State) (last : ℕ) (known : Known 
       make_turn Rests tt _ (renew_after_branch path main) s.commits (tt, tt) (λ n. (refl, (s.remembers, solid_of main (s.built main refl)))) (λ l. absurd (true≢false (sym l))) (next_ref heap) s.acts
 
   -- ---- CLEAN
-
-  clean_stage : (path : List Ref) (i : Ref) (o : After ReadLine Ref) → stage_of (clean_after_read path (at_indirection i o)) ≡ after_read i o
-  clean_stage path i (Goes l) = refl
-  clean_stage path i (Gives m) = refl
-
-  child_stage : (path : List Ref) (main : Ref) (done : List Ref) (i : Ref) (o : After ReadLine Ref) → stage_of (after_child path main done (at_indirection i o)) ≡ after_read i o
-  child_stage path main done i (Goes l) = refl
-  child_stage path main done i (Gives m) = refl
 
   clean_turn : (l : CleanLine) → LineStep (line.Clean l) → NextLine (stage_of (line.Clean l)) (line_after (states t) operation (line.Clean l))
   clean_turn (clean.Read path r) s =
@@ -301,15 +288,11 @@ module _ (limits : Limits) (states : ℕ → State) (last : ℕ) (known : Known 
 
   -- ---- ROOT
 
-  root_completing_stage : (offer : Descriptor) (o : After ReadLine Ref) → stage_of (after_root operation (after_completing (of_offer offer (after_reading o)))) ≡ after_read offer.root o
-  root_completing_stage offer (Goes l) = refl
-  root_completing_stage offer (Gives m) = refl
-
   root_completing : (offer : Descriptor) (x : CompleteLine) → let l = line.Root (root.Completing (record { offer = offer; line = x })) in LineStep l →
       NextLine (stage_of l) (line_after (states t) operation l)
   root_completing offer (complete.Reading x) s =
       reads_on offer.root x (λ o. after_root operation (after_completing (of_offer offer (after_reading o)))) s.acts s.commits s.remembers
-      (asks_of (line.Root (root.Completing (record { offer = offer; line = complete.Reading x }))) offer.root x refl s.asks) (root_completing_stage offer)
+      (asks_of (line.Root (root.Completing (record { offer = offer; line = complete.Reading x }))) offer.root x refl s.asks) (root_completing_stage operation offer)
   root_completing offer (complete.Swap main) s = rest_turn Rests (line.Root root.Read) tt s.acts s.commits (tt, tt)
 
   root_turn : (l : RootLine) → LineStep (line.Root l) → NextLine (stage_of (line.Root l)) (line_after (states t) operation (line.Root l))
@@ -330,10 +313,6 @@ module _ (limits : Limits) (states : ℕ → State) (last : ℕ) (known : Known 
       (asks_of (line.Climb (climb.Root c (root.Completing (record { offer = offer; line = complete.Reading x })))) offer.root x refl s.asks) (climb_completing_stage c offer)
   climb_completing c offer (complete.Swap main) s = rest_turn Rests (line.Climb (climb.Root c root.Read)) tt s.acts s.commits (tt, tt)
 
-  climb_stage : (c : Climb) (i : Ref) (o : After ReadLine Ref) → stage_of (climb_after_read c (at_indirection i o)) ≡ after_read i o
-  climb_stage c i (Goes l) = refl
-  climb_stage c i (Gives m) = refl
-
   climb_turn : (l : ClimbLine) → LineStep (line.Climb l) → NextLine (stage_of (line.Climb l)) (line_after (states t) operation (line.Climb l))
   climb_turn (climb.Read c r) s =
       reads_on r.indirection r.line (λ o. climb_after_read c (at_indirection r.indirection o)) s.acts s.commits s.remembers.0
@@ -347,22 +326,11 @@ module _ (limits : Limits) (states : ℕ → State) (last : ℕ) (known : Known 
 
   -- ---- COPY
 
-  copy_stage : (at i : Ref) (o : After ReadLine Ref) → stage_of (copy_after_read operation at (at_indirection i o)) ≡ after_read i o
-  copy_stage at i (Goes l) = refl
-  copy_stage at i (Gives m) = at_given operation.call
-    where
-      at_given : (call : Call) → stage_of (after_given call at m) ≡ Rests
-      at_given call = grind arith
-
-  copy_completing_stage : (offer : Descriptor) (o : After ReadLine Ref) → stage_of (copy_after_complete operation (of_offer offer (after_reading o))) ≡ after_read offer.root o
-  copy_completing_stage offer (Goes l) = refl
-  copy_completing_stage offer (Gives m) = refl
-
   copy_completing : (offer : Descriptor) (x : CompleteLine) → let l = line.Copy (copy.Complete (record { offer = offer; line = x })) in LineStep l →
       NextLine (stage_of l) (line_after (states t) operation l)
   copy_completing offer (complete.Reading x) s =
       reads_on offer.root x (λ o. copy_after_complete operation (of_offer offer (after_reading o))) s.acts s.commits s.remembers
-      (asks_of (line.Copy (copy.Complete (record { offer = offer; line = complete.Reading x }))) offer.root x refl s.asks) (copy_completing_stage offer)
+      (asks_of (line.Copy (copy.Complete (record { offer = offer; line = complete.Reading x }))) offer.root x refl s.asks) (copy_completing_stage operation offer)
   copy_completing offer (complete.Swap main) s = rest_turn Rests _ tt s.acts s.commits (Resting.copy_done_rest G W operation (is_carried_out word offer main))
 
   successor_has : (at main n : Ref) → HasMade GS n (stage_of (copy_if_made operation (copy.Successor at main) (Some n)))
@@ -371,7 +339,7 @@ module _ (limits : Limits) (states : ℕ → State) (last : ℕ) (known : Known 
   copy_turn : (l : CopyLine) → LineStep (line.Copy l) → NextLine (stage_of (line.Copy l)) (line_after (states t) operation (line.Copy l))
   copy_turn (copy.Read at r) s =
       reads_on r.indirection r.line (λ o. copy_after_read operation at (at_indirection r.indirection o)) s.acts s.commits s.remembers.0
-      (asks_of (line.Copy (copy.Read at r)) r.indirection r.line refl s.asks) (copy_stage at r.indirection)
+      (asks_of (line.Copy (copy.Read at r)) r.indirection r.line refl s.asks) (copy_stage operation at r.indirection)
   copy_turn (copy.Successor at main) s =
       make_turn Rests tt _ (copy_if_made operation (copy.Successor at main)) s.commits (tt, tt) (successor_has at main)
       (λ l. inl (at, s.remembers)) (next_ref heap) s.acts
@@ -385,10 +353,6 @@ module _ (limits : Limits) (states : ℕ → State) (last : ℕ) (known : Known 
   copy_turn (copy.Complete c) s = copy_completing c.offer c.line s
 
   -- ---- WALK
-
-  walk_stage : (todo : List Ref) (pairs : List (ℕ × ℕ)) (i : Ref) (o : After ReadLine Ref) → stage_of (walk_after_read todo pairs (at_indirection i o)) ≡ after_read i o
-  walk_stage todo pairs i (Goes l) = refl
-  walk_stage todo pairs i (Gives m) = refl
 
   walk_turn : (l : WalkLine) → LineStep (line.Walk l) → NextLine (stage_of (line.Walk l)) (line_after (states t) operation (line.Walk l))
   walk_turn walk.Root s = rest_turn Rests (line.Walk (walk.Read (reading (root_of word)) [] [])) tt s.acts s.commits (tt, tt)

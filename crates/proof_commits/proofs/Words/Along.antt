@@ -19,19 +19,20 @@ use Rattle.proof_commits.specs.Beneath.machine_model.specs.Moves as Machine
 use Rattle.proof_commits.specs.Beneath.machine_model.specs.declared.steps.Outcome.{Outcome}
 use Rattle.proof_commits.specs.Beneath.machine_model.specs.declared.reading.After.TheVariants.{Gives}
 use Rattle.proof_commits.specs.Beneath.machine_model.specs.Calls.{handle_of}
-use Rattle.proof_commits.specs.Beneath.machine_model.proofs.Actors.{marks_by}
+use Rattle.proof_commits.specs.Beneath.machine_model.proofs.Actors.{marks_by, begin_counts}
 use Rattle.proof_commits.specs.Beneath.machine_model.proofs.Times.{steps_at}
 use Rattle.proof_commits.specs.Beneath.machine_model.specs.Times.{IsRun}
-use Rattle.proof_memory.proofs.Safety.Held.{begin_counts, idle_before}
+use Rattle.proof_memory.proofs.Safety.Held.{idle_before}
 use Rattle.proof_commits.specs.Protocol.{Words, Stage, Rests, Reads, Leaves, Given, ReadTurn, Moves, Idles, Counts, IsSame, Turn, Acts, Passes, Protocol}
 use Rattle.proof_commits.proofs.Known.Owners.{given_later}
-use Rattle.proof_commits.proofs.Lines.Stages.{Remembers}
+use Rattle.proof_commits.proofs.Lines.Stages.{Remembers, first_rests}
 use Rattle.proof_commits.specs.Stages.{stage_of, stage_of_actor, from_of_actor}
 use Rattle.proof_commits.proofs.Known.Given.{ActsOn, Known}
 use Rattle.proof_commits.proofs.Words.OfRuns.{leaves_words}
 use Rattle.proof_commits.specs.Words.{words_of}
 use Rattle.proof_commits.proofs.Lines.Read.{no_commit}
-use Rattle.proof_commits.proofs.Known.StepsAt.{StepAt, IsBegin, IsGo, IsEnd, IsSweep, step_at, gone_commits, begun_commits, after_mark, mark_stage, mark_from, go_others, go_own, end_others, end_own, begin_others, begin_own, actor_counts}
+use Rattle.proof_commits.proofs.Known.StepsAt.{StepAt, IsBegin, IsGo, IsEnd, IsSweep, step_at, gone_commits, begun_commits, after_mark, mark_stage, mark_from, go_others, go_own}
+use Rattle.proof_commits.proofs.Known.StepsAt.{end_others, end_own, begin_others, begin_own, actor_counts}
 use Rattle.proof_commits.proofs.Lines.Turns.{LineFacts, NextLine, line_turn, own_turn}
 use Rattle.proof_commits.proofs.Lines.Each.{OfActor, each_remembers}
 use Rattle.proof_commits.proofs.Lines.Reads.{CountsTo, line_counts, ends_at_end}
@@ -131,9 +132,6 @@ module _ (limits : Limits) (states : ℕ → State) (last : ℕ) (known : Known 
   idle_turn actor leaves before after others =
       Acts actor (subst (λ s. Moves w t actor s (w.stage (suc t) actor)) (sym before) (subst (λ s. Moves w t actor Rests s) (sym after) (Idles leaves tt tt)))
       (subst (λ s. Counts w t actor s) (sym before) tt) (λ j apart. same_actor None j (others j apart))
-
-  first_rests : (call : Call) → stage_of (first_line call) ≡ Rests
-  first_rests call = grind arith
 
   begun_stage : (call : Call) (x : Option Operation) → (x ≡ None) ⊎ (x ≡ Some (begun_operation (states t) call)) → stage_of_actor x ≡ Rests
   begun_stage call x (inl e) = ap stage_of_actor e

@@ -4,8 +4,10 @@ use Rattle.std.proofs.lemmas.Bool.{cases_eq}
 use Rattle.proof_commits.specs.Beneath.slot_arena.specs.declared.refs.Ref.{Ref}
 use Rattle.proof_commits.specs.Beneath.slot_arena.specs.declared.nodes.Prev.TheVariants as over
 use Rattle.proof_commits.specs.Protocol.{Words, Leaves, Makes, SwapsIn, PutsBack, CommitsNode, FailsNode}
-use Rattle.proof_commits.proofs.Words.Stood.{Stood, Decided, Private, IsOver, StandsOver, AreSound, stood_later, stands_now, stood_cases, none≢pending, none≢failed, pending≢failed, same_pending, over_pending, over_failed, over_none, not_both}
+use Rattle.proof_commits.proofs.Words.Stood.{Stood, Decided, Private, IsOver, StandsOver, AreSound, stood_later, stands_now, stood_cases, none≢pending, pending≢failed}
+use Rattle.proof_commits.proofs.Words.Stood.{same_pending, over_pending, over_failed, over_none, not_both}
 use Rattle.proof_memory.specs.Wants.{is_indirection}
+use Rattle.proof_commits.specs.Beneath.machine_model.proofs.Basics.{none≢failed}
 
 -- a node that a new indirection may name
 pub record IsSettled (w : Words) (t : ℕ) (m : Ref) : Type 0 where

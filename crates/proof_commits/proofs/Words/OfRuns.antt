@@ -17,6 +17,7 @@ use Rattle.proof_commits.specs.Stages.{stage_of_actor, from_of_actor}
 use Rattle.proof_commits.proofs.Known.Given.{GrownStays, GrownChanges, GrownSwaps, GrownTakes}
 use Rattle.proof_memory.specs.Wants.{is_indirection, is_branch_or_list}
 use Rattle.proof_commits.specs.Words.{commit_of, words_of}
+use Rattle.proof_commits.specs.Beneath.machine_model.proofs.Slots.{change_kept}
 
 -- ---- a slot with another main word, or another prev word
 
@@ -72,10 +73,6 @@ pub slot_solid : (x : Ref) (o : Option Slot) → is_branch_or_list (node_of (opt
 slot_solid x None = refl
 slot_solid x (Some slot) = solid_kept x slot.node
 
-pub slot_kept : (change : Slot → Slot) (o : Option Slot) → is_some (option_map change o) ≡ is_some o
-slot_kept change None = refl
-slot_kept change (Some slot) = refl
-
 -- ---- what the steps do to words
 
 module _ (states : ℕ → State) (last : ℕ) (closing : ℕ → Option ℕ) (t : ℕ) where
@@ -103,7 +100,7 @@ module _ (states : ℕ → State) (last : ℕ) (closing : ℕ → Option ℕ) (t
 
   prev_makes : (v : Prev) (m : Ref) → GrownChanges states t (prev_changed v) m → MakesNothing w t
   prev_makes v m e = record {
-    made = changes_kept (prev_changed v) m e is_some (slot_kept (prev_changed v));
+    made = changes_kept (prev_changed v) m e is_some (change_kept (prev_changed v));
     link = changes_kept (prev_changed v) m e (λ o. is_indirection (node_of o)) (λ o. ap is_indirection (slot_prev_node v o));
   }
 
@@ -141,7 +138,7 @@ module _ (states : ℕ → State) (last : ℕ) (closing : ℕ → Option ℕ) (t
     main = record { here = ap (λ o. main_of (node_of o)) e.here ∙ slot_main p (grown states t i) l; elsewhere = λ q apart. ap (λ o. main_of (node_of o)) (e.elsewhere q apart) };
     prev = changes_kept (main_changed p) i e prev_of (slot_main_prev p);
     makes = record {
-      made = changes_kept (main_changed p) i e is_some (slot_kept (main_changed p));
+      made = changes_kept (main_changed p) i e is_some (change_kept (main_changed p));
       link = changes_kept (main_changed p) i e (λ o. is_indirection (node_of o)) (slot_main_link p);
     };
     commit = c;
@@ -180,7 +177,7 @@ module _ (states : ℕ → State) (last : ℕ) (closing : ℕ → Option ℕ) (t
     main = record { here = ap (λ o. main_of (node_of o)) e.main ∙ slot_main f (grown states t i) l; elsewhere = λ q apart. swaps_main_by i a f e q apart (cases_eq q f) };
     prev = record { here = ap prev_of e.prev ∙ slot_prev (over.Pending a) (grown states t f) is; elsewhere = λ q other. swaps_prev_by i a f e q other (cases_eq q i) };
     makes = record {
-      made = swaps_kept i a f e is_some (slot_kept (main_changed f)) (slot_kept (prev_changed (over.Pending a)));
+      made = swaps_kept i a f e is_some (change_kept (main_changed f)) (change_kept (prev_changed (over.Pending a)));
       link = swaps_kept i a f e (λ o. is_indirection (node_of o)) (slot_main_link f) (λ o. ap is_indirection (slot_prev_node (over.Pending a) o));
     };
     commit = c;

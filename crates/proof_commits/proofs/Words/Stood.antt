@@ -5,6 +5,7 @@ use Rattle.proof_commits.specs.Beneath.slot_arena.specs.declared.refs.Ref.{Ref}
 use Rattle.proof_commits.specs.Beneath.slot_arena.specs.declared.nodes.Prev.{Prev}
 use Rattle.proof_commits.specs.Beneath.slot_arena.specs.declared.nodes.Prev.TheVariants as over
 use Rattle.proof_commits.specs.Protocol.{Words}
+use Rattle.proof_commits.specs.Beneath.machine_model.proofs.Basics.{at_or_before}
 
 -- the node stood in this indirection's word, now or before
 pub record Stood (w : Words) (t : ℕ) (i m : Ref) : Type 0 where
@@ -61,9 +62,6 @@ stood_by : (w : Words) (t : ℕ) (i m : Ref) (s : Stood w (suc t) i m) → (s.at
 stood_by w t i m s (inl h) = inl (record { at = s.at; past = h; link = s.link; is = s.is })
 stood_by w t i m s (inr e) = inr (subst (λ u. w.link u i ≡ true) e s.link, subst (λ u. w.main u i ≡ m) e s.is)
 
-at_or_before : (a t : ℕ) → a ≤ suc t → (a ≤ t) ⊎ (a ≡ suc t)
-at_or_before a t h = grind arith
-
 pub stood_cases : (w : Words) (t : ℕ) (i m : Ref) → Stood w (suc t) i m →
     Stood w t i m ⊎ ((w.link (suc t) i ≡ true) × (w.main (suc t) i ≡ m))
 stood_cases w t i m s = stood_by w t i m s (at_or_before s.at t s.past)
@@ -72,9 +70,6 @@ stood_cases w t i m s = stood_by w t i m s (at_or_before s.at t s.past)
 
 pub none≢pending : {v : Prev} {p : Ref} → v ≡ over.None → v ≡ over.Pending p → ⊥
 none≢pending e h = let wrong = sym e ∙ h in cc
-
-pub none≢failed : {v : Prev} {p : Ref} → v ≡ over.None → v ≡ over.Failed p → ⊥
-none≢failed e h = let wrong = sym e ∙ h in cc
 
 pub pending≢failed : {v : Prev} {p q : Ref} → v ≡ over.Pending p → v ≡ over.Failed q → ⊥
 pending≢failed e h = let wrong = sym e ∙ h in cc

@@ -1,5 +1,6 @@
 -- A repair leaves the value of every key alone, in every generation.
-use Rattle.std.proofs.Common.{◌≡◌, ◌≢◌, ℕ, zero, suc, ◌+◌, ◌*◌, ◌/◌, ◌%◌, ◌^◌, ◌<◌, ◌≤◌, ◌==◌, Bool, true, false, cond, [], ◌∷◌, length, slice_index_or, Some, refl, sym, ap, subst, ◌∙◌, arith, eqb-true, pow_pos}
+use Rattle.std.proofs.Common.{◌≡◌, ◌≢◌, ℕ, zero, suc, ◌+◌, ◌*◌, ◌/◌, ◌%◌, ◌^◌, ◌<◌, ◌≤◌, ◌==◌, Bool, true, false, cond, [], ◌∷◌, length, slice_index_or, Some, refl, sym, ap, subst}
+use Rattle.std.proofs.Common.{◌∙◌, arith, eqb-true, pow_pos}
 use Rattle.std.proofs.lemmas.Nat.{mod-pow-add}
 use Rattle.std.proofs.Math.Nat.{mul-div_cancel}
 use Rattle.proof_contents.specs.Beneath.ctrie_base.specs.Hashes.{hash_of}
@@ -33,7 +34,8 @@ module _ (trie : Trie) (ok : IsTrie trie) where
       by_test false = ok.shaped trie.last i (omega arith)
 
   -- what is found by a main node that says the same is the same, if what is below is
-  pub same_node : (A B : Ref → Ref) (q levels : ℕ) (i : Ref) (n m : Node) → IsShaped trie i m → look trie.node (hash_of trie.kind) (trie.depth i) q n ≡ look trie.node (hash_of trie.kind) (trie.depth i) q m →
+  pub same_node : (A B : Ref → Ref) (q levels : ℕ) (i : Ref) (n m : Node) → IsShaped trie i m →
+      look trie.node (hash_of trie.kind) (trie.depth i) q n ≡ look trie.node (hash_of trie.kind) (trie.depth i) q m →
       ((j : Ref) → trie.depth j ≡ suc (trie.depth i) → Agrees trie A B q levels (suc (trie.depth i)) j) →
       value_in trie.node A (hash_of trie.kind) q levels (trie.depth i) n ≡ value_in trie.node B (hash_of trie.kind) q levels (trie.depth i) m
   same_node A B q levels i n m shape same below =
@@ -229,8 +231,10 @@ module _ (trie : Trie) (ok : IsTrie trie) where
             value_in trie.node A (hash_of trie.kind) q levels (trie.depth j) (trie.node (A j)) ≡ value_in trie.node B (hash_of trie.kind) q levels (trie.depth j) (trie.node (B j))
         by_test true same =
             let at = eqb-true j i same in
-            subst (λ k. value_in trie.node A (hash_of trie.kind) q levels (trie.depth k) (trie.node (A k)) ≡ value_in trie.node B (hash_of trie.kind) q levels (trie.depth k) (trie.node (B k))) (sym at)
+            subst (λ k. value_in trie.node A (hash_of trie.kind) q levels (trie.depth k) (trie.node (A k)) ≡ value_in trie.node B (hash_of trie.kind) q levels
+            (trie.depth k) (trie.node (B k))) (sym at)
             (ap (λ m. value_in trie.node A (hash_of trie.kind) q levels (trie.depth i) (trie.node m)) (assigned-own trie g (suc t) i refl)
-            ∙ repaired_gives levels (omega (arith, ap trie.depth at)) r (λ k deeper. subst (λ d. Agrees trie A B q levels (suc d) k) (ap trie.depth at) (below k (deeper ∙ ap (λ n. suc (trie.depth n)) (sym at))))
+            ∙ repaired_gives levels (omega (arith, ap trie.depth at)) r
+            (λ k deeper. subst (λ d. Agrees trie A B q levels (suc d) k) (ap trie.depth at) (below k (deeper ∙ ap (λ n. suc (trie.depth n)) (sym at))))
             ∙ sym (ap (λ m. value_in trie.node B (hash_of trie.kind) q levels (trie.depth i) (trie.node m)) (assigned-own trie g t i refl)))
         by_test false other = same_assigned A B q levels j (shaped_assigned g t j (omega arith)) (assigned-still trie g (suc t) t j (others j (differ j i other))) below

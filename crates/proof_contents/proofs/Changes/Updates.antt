@@ -106,7 +106,8 @@ module _ (trie : Trie) (ok : IsTrie trie) where
             value_in trie.node A (hash_of trie.kind) q levels (trie.depth j) (trie.node (A j)) ≡ value_in trie.node B (hash_of trie.kind) q levels (trie.depth j) (trie.node (B j))
         by_test true same =
             let at = eqb-true j i same in
-            subst (λ k. value_in trie.node A (hash_of trie.kind) q levels (trie.depth k) (trie.node (A k)) ≡ value_in trie.node B (hash_of trie.kind) q levels (trie.depth k) (trie.node (B k))) (sym at)
+            subst (λ k. value_in trie.node A (hash_of trie.kind) q levels (trie.depth k) (trie.node (A k)) ≡ value_in trie.node B (hash_of trie.kind) q levels
+            (trie.depth k) (trie.node (B k))) (sym at)
             (ap (λ m. value_in trie.node A (hash_of trie.kind) q levels (trie.depth i) (trie.node m)) (assigned-own trie g (suc t) i refl)
             ∙ other_gives q levels (omega (arith, ap trie.depth at)) apart u
             (λ k deeper. subst (λ d. Agrees trie A B q levels (suc d) k) (ap trie.depth at) (below k (deeper ∙ ap (λ n. suc (trie.depth n)) (sym at))))

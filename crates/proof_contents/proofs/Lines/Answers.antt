@@ -22,7 +22,8 @@ use Rattle.proof_contents.proofs.Lines.Readers.{absent_reply_right, found_reply_
 use Rattle.proof_contents.proofs.Changes.Updating.{found_of}
 use Rattle.proof_contents.proofs.Lines.KeyEnds.{Answering}
 
-module _ (trie : Trie) (ok : IsTrie trie) (state : State) (operation : Operation) (first : Ref → Ref) (same_hash : state.limits.hash ≡ trie.kind) (depth : ℕ) (i main : Ref) (at : depth ≡ trie.depth i) where
+module _ (trie : Trie) (ok : IsTrie trie) (state : State) (operation : Operation) (first : Ref → Ref) (same_hash : state.limits.hash ≡ trie.kind) (depth : ℕ)
+    (i main : Ref) (at : depth ≡ trie.depth i) where
   -- what the main node says, in the trie's words
   said : (found : Found) → look trie.node (hash_of state.limits.hash) depth (key_of operation.call) (trie.node main) ≡ found →
       look trie.node (hash_of trie.kind) (trie.depth i) (key_of operation.call) (trie.node main) ≡ found
@@ -44,7 +45,8 @@ module _ (trie : Trie) (ok : IsTrie trie) (state : State) (operation : Operation
       Answering state operation trie.node first (λ answer. act_in (hash_of trie.kind) ReadOnly operation.call (content trie g trie.last) ≡ Some (answer, content trie g trie.last)) depth main
   read_only_answers g get reached final = by_call operation.call refl get
     where
-      in_end : (found : Found) → look trie.node (hash_of state.limits.hash) depth (key_of operation.call) (trie.node main) ≡ found → says trie trie.last (key_of operation.call) (trie.depth i) i ≡ found
+      in_end : (found : Found) → look trie.node (hash_of state.limits.hash) depth (key_of operation.call) (trie.node main) ≡ found →
+          says trie trie.last (key_of operation.call) (trie.depth i) i ≡ found
       in_end found e = ap (λ m. look trie.node (hash_of trie.kind) (trie.depth i) (key_of operation.call) (trie.node m)) final ∙ said found e
 
       by_call : (call : Call) → operation.call ≡ call → IsGet call →

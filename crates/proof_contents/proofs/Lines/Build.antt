@@ -1,5 +1,6 @@
 -- Each line of BUILD hands on what it knows, with the node that it made.
-use Rattle.std.proofs.Common.{◌≡◌, ◌≢◌, ℕ, suc, ◌+◌, ◌-◌, ◌<◌, ◌≤◌, ◌==◌, Bool, true, false, cond, List, [], ◌∷◌, bit_or, slice_index_or, Option, None, ◌⊎◌, inl, inr, refl, sym, ap, ap₂, subst, ◌∙◌, arith, eqb-true}
+use Rattle.std.proofs.Common.{◌≡◌, ◌≢◌, ℕ, suc, ◌+◌, ◌-◌, ◌<◌, ◌≤◌, ◌==◌, Bool, true, false, cond, List, [], ◌∷◌, bit_or, slice_index_or, Option, None, ◌⊎◌, inl, inr, refl, sym}
+use Rattle.std.proofs.Common.{ap, ap₂, subst, ◌∙◌, arith, eqb-true}
 use Rattle.arrayvec.specs.ArrayVec.{ArrayVec}
 use Rattle.proof_contents.specs.Beneath.ctrie_base.specs.Hashes.{hash_of}
 use Rattle.proof_contents.specs.Beneath.ctrie_base.specs.declared.hashes.HashKind.{HashKind}
@@ -25,7 +26,8 @@ use Rattle.machine_model.specs.States.{State}
 use Rattle.machine_model.specs.Paths as path
 use Rattle.machine_model.specs.Paths.{depth_of, hash_in, start_of}
 use Rattle.machine_model.specs.Building.{changed, key_in, old_hash, after_single, after_link, build_after_made}
-use Rattle.proof_contents.specs.Lines.Changes.{Known, Absence, no_flag, not_listed, Presence, in_branch, in_list, Neighbour, IsOther, of_branch, of_list, LeadsToBoth, LeadsBelow, by_pair, by_link, KnowsChange, KnowsBuild, KnowsLine, main_of_build, build_path}
+use Rattle.proof_contents.specs.Lines.Changes.{Known, Absence, no_flag, not_listed, Presence, in_branch, in_list, Neighbour, IsOther, of_branch, of_list, LeadsToBoth, LeadsBelow}
+use Rattle.proof_contents.specs.Lines.Changes.{by_pair, by_link, KnowsChange, KnowsBuild, KnowsLine, main_of_build, build_path}
 use Rattle.proof_contents.proofs.Shapes.Nodes.{list_depth-le}
 use Rattle.proof_contents.proofs.Lines.Key.{known, Sees}
 
@@ -62,7 +64,8 @@ module _ (state : State) (operation : Operation) (node : Ref → Node) (first : 
     single_knows : (site : Site) (former : Option ℕ) → KnowsBuild K operation.call (build.Single p main site former) →
         ((position k v : ℕ) → node (entry_at state.heap main position) ≡ Single k v → node_at state.heap (entry_at state.heap main position) ≡ Single k v) →
         IsMade (Single Key' (value_of operation.call)) → KnowsLine K operation.call (after_single state operation p main former site made)
-    single_knows site.Absent former (ins, absence) back is = (ins, absence, made_is (Single Key' (value_of operation.call)) (λ g m e. let bad : Single Key' (value_of operation.call) ≡ Indirection g m = e in cc) is)
+    single_knows site.Absent former (ins, absence) back is =
+        (ins, absence, made_is (Single Key' (value_of operation.call)) (λ g m e. let bad : Single Key' (value_of operation.call) ≡ Indirection g m = e in cc) is)
     single_knows (site.At position) former (value, had, sets, presence) back is =
         inl (value, had, sets, presence, made_is (Single Key' (value_of operation.call)) (λ g m e. let bad : Single Key' (value_of operation.call) ≡ Indirection g m = e in cc) is)
     single_knows (site.Beside position) former (ins, beside) back is = (
@@ -92,7 +95,8 @@ module _ (state : State) (operation : Operation) (node : Ref → Node) (first : 
         single,
         new,
         by_pair
-            (made_is _ (pair_main state.limits.hash depth (old_hash state main position) (hash_in state operation) (entry_at state.heap main position) single) is ∙ ap₂ (λ a e. pair state.limits.hash depth a (hash_of state.limits.hash Key') e single) old_is at)
+            (made_is _ (pair_main state.limits.hash depth (old_hash state main position) (hash_in state operation) (entry_at state.heap main position) single) is
+            ∙ ap₂ (λ a e. pair state.limits.hash depth a (hash_of state.limits.hash Key') e single) old_is at)
             (subst (λ d. Parts state.limits.hash beside.other Key' d) (sym depth_is) (pair_parts state.limits.hash beside.other Key' (depth_of p) shallow))
             (omega (arith, parts.from, depth_is)) (omega (arith, parts.within, depth_is, list_depth-le state.limits.hash))
             (λ d le lt. parts.alike d (omega arith) (omega (arith, depth_is))),
@@ -110,7 +114,8 @@ module _ (state : State) (operation : Operation) (node : Ref → Node) (first : 
         parts = parting_is (list_depth state.limits.hash - (depth_of p + 1)) (hash_of state.limits.hash beside.other) (hash_of state.limits.hash Key') (depth_of p + 1)
 
     -- an indirection over what was made for this depth
-    link_leads : (position : ℕ) (below : Ref) (depth g : ℕ) (beside : Neighbour K (depth_of p) Key' main position) (single : Ref) → LeadsBelow K operation.call (depth_of p) main position beside single depth below →
+    link_leads : (position : ℕ) (below : Ref) (depth g : ℕ) (beside : Neighbour K (depth_of p) Key' main position) (single : Ref) →
+        LeadsBelow K operation.call (depth_of p) main position beside single depth below →
         IsMade (Indirection g below) → LeadsToBoth K operation.call (depth_of p) main position beside single depth made
     link_leads position below depth g beside single (by_pair is parts above deep alike) made_ =
         let l = link_is g below made_ in
@@ -129,7 +134,8 @@ module _ (state : State) (operation : Operation) (node : Ref → Node) (first : 
         )
 
     -- how far the keys are alike above it
-    alike_above : (position : ℕ) (below : Ref) (depth : ℕ) (beside : Neighbour K (depth_of p) Key' main position) (single : Ref) → LeadsBelow K operation.call (depth_of p) main position beside single depth below →
+    alike_above : (position : ℕ) (below : Ref) (depth : ℕ) (beside : Neighbour K (depth_of p) Key' main position) (single : Ref) →
+        LeadsBelow K operation.call (depth_of p) main position beside single depth below →
         (depth_of p < depth) × (depth ≤ 13) × ((d : ℕ) → suc (depth_of p) ≤ d → d < depth → index_in (hash_of state.limits.hash beside.other) d ≡ index_in (hash_of state.limits.hash Key') d)
     alike_above position below depth beside single (by_pair is parts above deep alike) = (above, deep, alike)
     alike_above position below depth beside single (by_link link is both above alike) = (above, alike.0, λ d le lt. alike.1 d le (omega arith))
@@ -180,7 +186,8 @@ module _ (state : State) (operation : Operation) (node : Ref → Node) (first : 
     )
 
     -- the new main node
-    changed_main : (flag : ℕ) (n : Node) (c : Change) → ((b : ℕ) × (es : ArrayVec Ref) × (n ≡ Branch b es)) ⊎ ((ss : ArrayVec Ref) × (n ≡ Listed ss)) → (g : ℕ) (m : Ref) → changed flag n c ≢ Indirection g m
+    changed_main : (flag : ℕ) (n : Node) (c : Change) → ((b : ℕ) × (es : ArrayVec Ref) × (n ≡ Branch b es)) ⊎ ((ss : ArrayVec Ref) × (n ≡ Listed ss)) →
+        (g : ℕ) (m : Ref) → changed flag n c ≢ Indirection g m
     changed_main flag n c (inl (b, es, is)) g m e = of_change c (sym (ap (λ n. changed flag n c) is) ∙ e)
       where
         of_change : (c : Change) → changed flag (Branch b es) c ≢ Indirection g m
@@ -208,7 +215,8 @@ module _ (state : State) (operation : Operation) (node : Ref → Node) (first : 
     other_main other v (of_branch b position own w es f single two is left) = inl (b, es, f.is)
     other_main other v (of_list position ss is lt single two there) = inr (ss, is)
 
-    known_main : (c : Change) (former : Option ℕ) → KnowsChange K operation.call (depth_of p) main former c → ((b : ℕ) × (es : ArrayVec Ref) × (node main ≡ Branch b es)) ⊎ ((ss : ArrayVec Ref) × (node main ≡ Listed ss))
+    known_main : (c : Change) (former : Option ℕ) → KnowsChange K operation.call (depth_of p) main former c →
+        ((b : ℕ) × (es : ArrayVec Ref) × (node main ≡ Branch b es)) ⊎ ((ss : ArrayVec Ref) × (node main ≡ Listed ss))
     known_main (change.Insert s) former (ins, absence, new) = absence_main absence
     known_main (change.Update position s) former (inl (v, had, sets, presence, new)) = presence_main position v presence
     known_main (change.Update position s) former (inr (ins, (beside, single, new, both))) = inl (beside.bitmap, beside.entries, beside.branch.is)
@@ -221,7 +229,8 @@ module _ (state : State) (operation : Operation) (node : Ref → Node) (first : 
       c,
       knows,
       made_is (changed (path.flag_in state operation p) (node_at state.heap main) c)
-          (subst (λ n. (g : ℕ) (m : Ref) → changed (path.flag_in state operation p) n c ≢ Indirection g m) (sym sees.main_is) (changed_main (path.flag_in state operation p) (node main) c (known_main c former knows)))
+          (subst (λ n. (g : ℕ) (m : Ref) → changed (path.flag_in state operation p) n c ≢ Indirection g m) (sym sees.main_is)
+          (changed_main (path.flag_in state operation p) (node main) c (known_main c former knows)))
           made_ ∙ ap (λ n. changed (path.flag_in state operation p) n c) sees.main_is,
     )
 

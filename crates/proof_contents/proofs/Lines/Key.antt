@@ -1,5 +1,6 @@
 -- Each line of KEY hands on what it knows.
-use Rattle.std.proofs.Common.{◌≡◌, ◌≢◌, ℕ, ◌+◌, ◌-◌, ◌<◌, ◌==◌, ◌&&◌, nat_lt, nat_le, Bool, true, false, cond, List, [], ◌∷◌, length, take, slice_index_or, Option, Some, None, inl, inr, refl, sym, ap, ap₂, subst, ◌∙◌, eqb-true, take_all, ltb-true, ltb-false, leb-false}
+use Rattle.std.proofs.Common.{◌≡◌, ◌≢◌, ℕ, ◌+◌, ◌-◌, ◌<◌, ◌==◌, ◌&&◌, nat_lt, nat_le, Bool, true, false, cond, List, [], ◌∷◌, length, take, slice_index_or, Option, Some, None, inl}
+use Rattle.std.proofs.Common.{inr, refl, sym, ap, ap₂, subst, ◌∙◌, eqb-true, take_all, ltb-true, ltb-false, leb-false}
 use Rattle.std.proofs.lemmas.Grind.{take_at_read}
 use Rattle.arrayvec.specs.ArrayVec.{ArrayVec}
 use Rattle.proof_contents.specs.Beneath.ctrie_base.specs.Paths.{position_of}
@@ -33,12 +34,14 @@ use Rattle.machine_model.specs.Paths as path
 use Rattle.machine_model.specs.Paths.{depth_of, is_below_root, above, current}
 use Rattle.machine_model.specs.Reading.{read_step, reading}
 use Rattle.machine_model.specs.Renewing.{renew_next}
-use Rattle.machine_model.specs.Finding.{going_down, absent, absent_beside, absent_listed, removing, found_so, found, key_after_read, after_tomb, key_after_main, is_passable, key_after_entry, after_listed, after_sibling, key_after}
+use Rattle.machine_model.specs.Finding.{going_down, absent, absent_beside, absent_listed, removing, found_so, found, key_after_read, after_tomb, key_after_main, is_passable}
+use Rattle.machine_model.specs.Finding.{key_after_entry, after_listed, after_sibling, key_after}
 use Rattle.proof_contents.specs.Nodes.Looking.{Absent, look_among, or_else}
 use Rattle.proof_contents.proofs.Nodes.Branches.{differ}
 use Rattle.proof_contents.proofs.Nodes.Changes.{look-other}
 use Rattle.proof_contents.proofs.Nodes.Lists.{look_among-append}
-use Rattle.proof_contents.specs.Lines.Changes.{Known, IsFlagged, Absence, no_flag, not_listed, Presence, in_branch, in_list, Neighbour, GoesThrough, IsOther, of_branch, of_list, KnowsKey, KnowsLine, IsGet, main_of_key}
+use Rattle.proof_contents.specs.Lines.Changes.{Known, IsFlagged, Absence, no_flag, not_listed, Presence, in_branch, in_list, Neighbour, GoesThrough, IsOther, of_branch, of_list}
+use Rattle.proof_contents.specs.Lines.Changes.{KnowsKey, KnowsLine, IsGet, main_of_key}
 
 second_true : (a b : Bool) → (a && b) ≡ true → b ≡ true
 second_true true b e = e
@@ -128,7 +131,8 @@ module _ (state : State) (operation : Operation) (node : Ref → Node) (first : 
             of_list position ss' is' lt single (ap (λ (l : ArrayVec Ref). length l.items) (sym ss_is) ∙ two) (entry_is (Listed ss') (1 - position) is')
 
         by_test : (t : Bool) → (length ss.items == 2) ≡ t →
-            KnowsLine known Call' (cond t (line.Build (build.Main p main (change.Entomb (entry_at state.heap main (1 - position))) (Some v))) (line.Build (build.Main p main (change.Remove position) (Some v))))
+            KnowsLine known Call'
+            (cond t (line.Build (build.Main p main (change.Entomb (entry_at state.heap main (1 - position))) (Some v))) (line.Build (build.Main p main (change.Remove position) (Some v))))
         by_test true e = (v, refl, removes, by_presence (eqb-true (length ss.items) 2 e) presence)
         by_test false e = (v, refl, removes, presence)
     removing_knows position v presence removes (Indirection g w) is = tt
@@ -165,7 +169,8 @@ module _ (state : State) (operation : Operation) (node : Ref → Node) (first : 
     main_knows gets (Indirection g w) is = tt
     main_knows gets (Single k v) is = tt
 
-    entry_knows : (position b : ℕ) (es : ArrayVec Ref) → SeesSingle main position → IsFlagged known (depth_of p) Key' main position b es → (n : Node) → node_at state.heap (entry_at state.heap main position) ≡ n →
+    entry_knows : (position b : ℕ) (es : ArrayVec Ref) → SeesSingle main position → IsFlagged known (depth_of p) Key' main position b es → (n : Node) →
+        node_at state.heap (entry_at state.heap main position) ≡ n →
         KnowsLine known Call' (key_after_entry state operation p main position n)
     entry_knows position b es seen f (Indirection g w) e = by_test (is_passable operation g)
       where
@@ -227,7 +232,8 @@ module _ (state : State) (operation : Operation) (node : Ref → Node) (first : 
         by_more apart false past = by_room apart past (inserts operation.call && nat_le 32 (length ss.items)) refl
 
         by_test : (t : Bool) → (k == Key') ≡ t → KnowsLine known Call' (cond t (found state operation p main position v)
-            (cond (nat_lt (position + 1) (length (entries_of (node_at state.heap main)))) (line.Key (key.Listed p main (position + 1))) (absent_listed operation p main (length (entries_of (node_at state.heap main))))))
+            (cond (nat_lt (position + 1) (length (entries_of (node_at state.heap main)))) (line.Key (key.Listed p main (position + 1)))
+            (absent_listed operation p main (length (entries_of (node_at state.heap main))))))
         by_test true same = found_knows position v (in_list ss go.is go.within (known_single ∙ ap (λ n. Single n v) (eqb-true k Key' same)))
         by_test false apart =
             subst (λ c. KnowsLine known Call' (cond (nat_lt (position + 1) c) (line.Key (key.Listed p main (position + 1))) (absent_listed operation p main c))) (sym count)
@@ -252,12 +258,14 @@ module _ (state : State) (operation : Operation) (node : Ref → Node) (first : 
         by_case Sets e = absurd (answers.0 e)
         by_case Removes e = absurd (answers.1 e)
 
-        by_absent : (b : Bool) → b ≡ false → KnowsLine known Call' (cond (b && nat_le 32 1) (line.End reply.Crowded) (cond b (line.Build (build.Single p main site.Absent None)) (line.End (absent_reply operation.call))))
+        by_absent : (b : Bool) → b ≡ false →
+            KnowsLine known Call' (cond (b && nat_le 32 1) (line.End reply.Crowded) (cond b (line.Build (build.Single p main site.Absent None)) (line.End (absent_reply operation.call))))
         by_absent true e = absurd (let bad : true ≡ false = e in cc)
         by_absent false e = tt
 
         by_test : (t : Bool) → KnowsLine known Call' (cond t (found state operation p main position v)
-            (cond (nat_lt (position + 1) (length (entries_of (node_at state.heap main)))) (line.Key (key.Listed p main (position + 1))) (absent_listed operation p main (length (entries_of (node_at state.heap main))))))
+            (cond (nat_lt (position + 1) (length (entries_of (node_at state.heap main)))) (line.Key (key.Listed p main (position + 1)))
+            (absent_listed operation p main (length (entries_of (node_at state.heap main))))))
         by_test true = by_case (when_found operation.call v) refl
         by_test false =
             subst (λ c. KnowsLine known Call' (cond (nat_lt (position + 1) c) (line.Key (key.Listed p main (position + 1))) (absent_listed operation p main c))) (sym count)
@@ -269,7 +277,8 @@ module _ (state : State) (operation : Operation) (node : Ref → Node) (first : 
     tomb_knows position s is at_first get (Listed ss) = tt
 
     -- the other one of two entries
-    sibling_knows : (position former b : ℕ) (es : ArrayVec Ref) → SeesSingle main (1 - position) → IsFlagged known (depth_of p) Key' main position b es → node (slice_index_or es.items position no_ref) ≡ Single Key' former →
+    sibling_knows : (position former b : ℕ) (es : ArrayVec Ref) → SeesSingle main (1 - position) → IsFlagged known (depth_of p) Key' main position b es →
+        node (slice_index_or es.items position no_ref) ≡ Single Key' former →
         length es.items ≡ 2 → when_found operation.call former ≡ Removes → (n : Node) → node_at state.heap (entry_at state.heap main (1 - position)) ≡ n →
         KnowsLine known Call' (after_sibling p main position former (entry_at state.heap main (1 - position)) n)
     sibling_knows position former b es seen f single two removes (Single k v) e =
@@ -297,8 +306,10 @@ module _ (state : State) (operation : Operation) (node : Ref → Node) (first : 
       by_read (Goes r) = tt
       by_read (Gives main) = tt
   key_knows (key.Main p main) gets sees single knows = main_knows main (sees main refl) p gets (node_at state.heap main) (sym (sees main refl).main_is)
-  key_knows (key.Entry p main position) gets sees single (b, es, f) = entry_knows main (sees main refl) p position b es (single main position refl) f (node_at state.heap (entry_at state.heap main position)) refl
-  key_knows (key.Listed p main position) gets sees single (inl (ss, go)) = listed_knows main (sees main refl) p position ss (single main position refl) go (node_at state.heap (entry_at state.heap main position)) refl
+  key_knows (key.Entry p main position) gets sees single (b, es, f) =
+      entry_knows main (sees main refl) p position b es (single main position refl) f (node_at state.heap (entry_at state.heap main position)) refl
+  key_knows (key.Listed p main position) gets sees single (inl (ss, go)) =
+      listed_knows main (sees main refl) p position ss (single main position refl) go (node_at state.heap (entry_at state.heap main position)) refl
   key_knows (key.Listed p main position) gets sees single (inr (s, is, at_first, get)) =
       tomb_knows main (sees main refl) p position s is at_first get (node_at state.heap (entry_at state.heap main position))
   key_knows (key.Sibling p main position former) gets sees seen (b, es, f, single, two, removes) =

@@ -1,5 +1,6 @@
 -- Where KEY ends without a change it answers what the main node says of its key.
-use Rattle.std.proofs.Common.{◌≡◌, ◌≢◌, ℕ, ◌+◌, ◌-◌, ◌≤◌, ◌==◌, ◌&&◌, nat_lt, nat_le, Bool, true, false, cond, List, [], ◌∷◌, length, take, drop, slice_index_or, Some, None, refl, sym, ap, ap₂, subst, ◌∙◌, eqb-true, take_all, ltb-false, leb-true, take-append-drop}
+use Rattle.std.proofs.Common.{◌≡◌, ◌≢◌, ℕ, ◌+◌, ◌-◌, ◌≤◌, ◌==◌, ◌&&◌, nat_lt, nat_le, Bool, true, false, cond, List, [], ◌∷◌, length, take, drop, slice_index_or, Some, None, refl}
+use Rattle.std.proofs.Common.{sym, ap, ap₂, subst, ◌∙◌, eqb-true, take_all, ltb-false, leb-true, take-append-drop}
 use Rattle.std.proofs.lemmas.Grind.{take_at_read}
 use Rattle.arrayvec.specs.ArrayVec.{ArrayVec}
 use Rattle.proof_contents.specs.Beneath.ctrie_base.specs.Paths.{position_of}
@@ -55,7 +56,8 @@ module _ (state : State) (operation : Operation) (node : Ref → Node) (first : 
   pub record Answering (depth : ℕ) (main : Ref) : Type 0 where
     pub where_absent : look node (hash_of state.limits.hash) depth Key' (node main) ≡ Absent → inserts operation.call ≡ false → Right (absent_reply operation.call)
     pub where_found : (v : ℕ) (answer : Reply) → look node (hash_of state.limits.hash) depth Key' (node main) ≡ Has v → when_found operation.call v ≡ Answers answer → Right answer
-    pub where_crowded : (singles : ArrayVec Ref) → node main ≡ Listed singles → 32 ≤ length singles.items → look_among node Key' singles.items ≡ Absent → inserts operation.call ≡ true → Right reply.Crowded
+    pub where_crowded : (singles : ArrayVec Ref) → node main ≡ Listed singles → 32 ≤ length singles.items → look_among node Key' singles.items ≡ Absent →
+        inserts operation.call ≡ true → Right reply.Crowded
 
   module _ (main : Ref) (sees : Sees state operation node first main) (p : List Ref) (a : Answering (depth_of p) main) where
     abbrev says : Found
@@ -86,7 +88,8 @@ module _ (state : State) (operation : Operation) (node : Ref → Node) (first : 
         by_test false = tt
     removing_ends position v (Listed ss) = by_test (length ss.items == 2)
       where
-        by_test : (t : Bool) → EndsRight (cond t (line.Build (build.Main p main (change.Entomb (entry_at state.heap main (1 - position))) (Some v))) (line.Build (build.Main p main (change.Remove position) (Some v))))
+        by_test : (t : Bool) →
+            EndsRight (cond t (line.Build (build.Main p main (change.Entomb (entry_at state.heap main (1 - position))) (Some v))) (line.Build (build.Main p main (change.Remove position) (Some v))))
         by_test true = tt
         by_test false = tt
     removing_ends position v (Indirection g w) = tt
@@ -205,7 +208,8 @@ module _ (state : State) (operation : Operation) (node : Ref → Node) (first : 
         by_more apart false past = by_room apart past (inserts operation.call && nat_le 32 (length ss.items)) refl
 
         by_test : (t : Bool) → (k == Key') ≡ t → EndsRight (cond t (found state operation p main position v)
-            (cond (nat_lt (position + 1) (length (entries_of (node_at state.heap main)))) (line.Key (key.Listed p main (position + 1))) (absent_listed operation p main (length (entries_of (node_at state.heap main))))))
+            (cond (nat_lt (position + 1) (length (entries_of (node_at state.heap main)))) (line.Key (key.Listed p main (position + 1)))
+            (absent_listed operation p main (length (entries_of (node_at state.heap main))))))
         by_test true same = found_ends position v (has (eqb-true k Key' same))
         by_test false apart =
             subst (λ c. EndsRight (cond (nat_lt (position + 1) c) (line.Key (key.Listed p main (position + 1))) (absent_listed operation p main c))) (sym count)
@@ -232,12 +236,14 @@ module _ (state : State) (operation : Operation) (node : Ref → Node) (first : 
         says_is : says ≡ look_at Key' s (node s)
         says_is = ap (look node (hash_of state.limits.hash) (depth_of p) Key') is
 
-        by_absent : k ≢ Key' → (b : Bool) → inserts operation.call ≡ b → EndsRight (cond (b && nat_le 32 1) (line.End reply.Crowded) (cond b (line.Build (build.Single p main site.Absent None)) (line.End (absent_reply operation.call))))
+        by_absent : k ≢ Key' → (b : Bool) → inserts operation.call ≡ b →
+            EndsRight (cond (b && nat_le 32 1) (line.End reply.Crowded) (cond b (line.Build (build.Single p main site.Absent None)) (line.End (absent_reply operation.call))))
         by_absent apart true e = absurd (let bad : true ≡ false = sym e ∙ answers.2 in cc)
         by_absent apart false e = a.where_absent (says_is ∙ look-other node Key' k v s single (λ same. apart (sym same))) e
 
         by_test : (t : Bool) → (k == Key') ≡ t → EndsRight (cond t (found state operation p main position v)
-            (cond (nat_lt (position + 1) (length (entries_of (node_at state.heap main)))) (line.Key (key.Listed p main (position + 1))) (absent_listed operation p main (length (entries_of (node_at state.heap main))))))
+            (cond (nat_lt (position + 1) (length (entries_of (node_at state.heap main)))) (line.Key (key.Listed p main (position + 1)))
+            (absent_listed operation p main (length (entries_of (node_at state.heap main))))))
         by_test true same = found_ends position v (says_is ∙ look-same node Key' v s (single ∙ ap (λ n. Single n v) (eqb-true k Key' same)))
         by_test false apart =
             subst (λ c. EndsRight (cond (nat_lt (position + 1) c) (line.Key (key.Listed p main (position + 1))) (absent_listed operation p main c))) (sym count)

@@ -1,5 +1,6 @@
 -- Each line of RENEW and CLEAN hands on what it knows of the entries that are done.
-use Rattle.std.proofs.Common.{◌≡◌, ◌≢◌, ℕ, ◌<◌, ◌≤◌, ◌&&◌, nat_lt, nat_eq, Bool, true, false, cond, List, ◌∷◌, ◌++◌, length, slice_index_or, Some, refl, sym, ap, subst, subst₂, ◌∙◌, arith, eq-eqb, ltb-true, ltb-false, length-append, []}
+use Rattle.std.proofs.Common.{◌≡◌, ◌≢◌, ℕ, ◌<◌, ◌≤◌, ◌&&◌, nat_lt, nat_eq, Bool, true, false, cond, List, ◌∷◌, ◌++◌, length, slice_index_or, Some, refl, sym, ap, subst, subst₂}
+use Rattle.std.proofs.Common.{◌∙◌, arith, eq-eqb, ltb-true, ltb-false, length-append, []}
 use Rattle.std.specs.Option.{option_eq}
 use Rattle.std.proofs.lemmas.List.{get_or_append_left}
 use Rattle.std.proofs.Math.Seq.{get_or-append_seam}
@@ -63,7 +64,8 @@ module _ (state : State) (operation : Operation) (node : Ref → Node) (first : 
       renew_goes : Knows (renew_next state p main done)
       renew_goes = by_test (nat_lt (length done) (length (entries_of (node_at state.heap main)))) refl
         where
-          by_test : (b : Bool) → nat_lt (length done) (length (entries_of (node_at state.heap main))) ≡ b → Knows (cond b (line.Renew (renew.Entry p main done)) (line.Renew (renew.Branch p main done)))
+          by_test : (b : Bool) → nat_lt (length done) (length (entries_of (node_at state.heap main))) ≡ b →
+              Knows (cond b (line.Renew (renew.Entry p main done)) (line.Renew (renew.Branch p main done)))
           by_test true e = some_left e
           by_test false e = none_left e
 
@@ -98,7 +100,8 @@ module _ (state : State) (operation : Operation) (node : Ref → Node) (first : 
       next_is bitmap entries is = ap (λ n. slice_index_or (entries_of n) (length done) no_ref) (main_is ∙ is)
 
       -- the entry is kept
-      keeps_next : (bitmap : ℕ) (entries : ArrayVec Ref) → AreDone node first Gave start main bitmap entries done → AreDone node first Gave start main bitmap entries (done ++ next_entry state main done ∷ [])
+      keeps_next : (bitmap : ℕ) (entries : ArrayVec Ref) → AreDone node first Gave start main bitmap entries done →
+          AreDone node first Gave start main bitmap entries (done ++ next_entry state main done ∷ [])
       keeps_next bitmap entries are = one_done main bitmap entries done (next_entry state main done) are (keeps (sym (next_is bitmap entries are.is)))
 
       more : (entries : ArrayVec Ref) (other : Ref) → length done < length entries.items → length (done ++ other ∷ []) ≤ length entries.items
@@ -112,7 +115,8 @@ module _ (state : State) (operation : Operation) (node : Ref → Node) (first : 
       renew_entry_knows (bitmap, entries, are, lt, u) begun link (Indirection h word) e = by_test (is_start operation h) refl
         where
           by_test : (b : Bool) → is_start operation h ≡ b →
-              KnowsRepair node first Gave start (cond b (renew_next state p main (done ++ next_entry state main done ∷ [])) (line.Renew (renew.Read p main done (reading (next_entry state main done)))))
+              KnowsRepair node first Gave start
+              (cond b (renew_next state p main (done ++ next_entry state main done ∷ [])) (line.Renew (renew.Read p main done (reading (next_entry state main done)))))
           by_test true same = renew_goes bitmap entries (done ++ next_entry state main done ∷ []) (keeps_next bitmap entries are) (more entries (next_entry state main done) lt)
           by_test false other =
               let found = link h word e in
@@ -195,13 +199,15 @@ pub read_stays : (state : State) (operation : Operation) (read r : Read) → rea
 read_stays state operation read r e = by_line (read_after state.heap operation.access (word_at state (handle_of operation.call)) read.indirection read.line) e
   where
     by_line : (after : After ReadLine Ref) → at_indirection read.indirection after ≡ Goes r → r.indirection ≡ read.indirection
-    by_line (Goes l) e = let same : Goes (record { indirection = read.indirection; line = l }) ≡ Goes r = e in let r_is : record { indirection = read.indirection; line = l } ≡ r = cc in ap (λ (q : Read). q.indirection) (sym r_is)
+    by_line (Goes l) e =
+        let same : Goes (record { indirection = read.indirection; line = l }) ≡ Goes r = e in let r_is : record { indirection = read.indirection; line = l }
+        ≡ r = cc in ap (λ (q : Read). q.indirection) (sym r_is)
     by_line (Gives m) e = absurd (let bad : Gives m ≡ Goes r = e in cc)
 
 -- ---- at the commit
 
 -- What is given stays so: the last main node of an indirection of another generation, and at some time that of any.
-pub record Stands (trie : Trie) (Gave : Ref → Ref → Type 0) (g t : ℕ) : Type 0 where
+pub record StaysGiven (trie : Trie) (Gave : Ref → Ref → Type 0) (g t : ℕ) : Type 0 where
   pub final : (entry child word : Ref) (h : ℕ) → trie.node entry ≡ Indirection h word → h ≢ g → Gave entry child → trie.main trie.last entry ≡ child
   pub once : (entry child : Ref) → Gave entry child → (u : ℕ) × (u ≤ t) × (trie.main u entry ≡ child)
 

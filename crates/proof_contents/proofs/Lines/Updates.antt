@@ -15,7 +15,8 @@ use Rattle.machine_model.specs.declared.building.Change.TheVariants as change
 use Rattle.machine_model.specs.Calls.{key_of, value_of}
 use Rattle.machine_model.specs.Building.{changed}
 use Rattle.proof_contents.specs.Tries.{Trie, assigned}
-use Rattle.proof_contents.specs.Steps.{IsOwnUpdate, branch_inserts, branch_updates, branch_removes, branch_entombs, goes_beside, list_inserts, list_updates, list_removes, list_entombs, Asks, to_insert, to_set, to_remove}
+use Rattle.proof_contents.specs.Steps.{IsOwnUpdate, branch_inserts, branch_updates, branch_removes, branch_entombs, goes_beside, list_inserts, list_updates, list_removes}
+use Rattle.proof_contents.specs.Steps.{list_entombs, Asks, to_insert, to_set, to_remove}
 use Rattle.proof_contents.specs.Lines.Changes.{Known, Absence, no_flag, not_listed, Presence, in_branch, in_list, Neighbour, IsOther, of_branch, of_list, KnowsChange, KnowsSwap, LeadsToBoth}
 
 -- the trie, as a line knows it, where indirections were made with these main nodes
@@ -46,7 +47,8 @@ module _ (trie : Trie) (g t : ℕ) (i : Ref) (first : Ref → Ref) where
       built c n is e = e ∙ ap (λ m. changed flag m c) is
 
       absent : (single : Ref) → former ≡ None → Asks call None (Some (value_of call)) → Absence (known_in trie first) (trie.depth i) (key_of call) replaced →
-          trie.node single ≡ Single (key_of call) (value_of call) → trie.node fresh ≡ changed flag (trie.node replaced) (change.Insert single) → MakesUpdate call former (trie.node replaced) (trie.node fresh)
+          trie.node single ≡ Single (key_of call) (value_of call) → trie.node fresh ≡ changed flag (trie.node replaced) (change.Insert single) →
+          MakesUpdate call former (trie.node replaced) (trie.node fresh)
       absent single none asks (no_flag bitmap entries is lacks) new e =
           subst (λ f. MakesUpdate call f (trie.node replaced) (trie.node fresh)) (sym none)
           (record { now = Some (value_of call); asks = asks; updates = branch_inserts bitmap (value_of call) entries single is lacks new (built (change.Insert single) (Branch bitmap entries) is e) })
@@ -54,7 +56,8 @@ module _ (trie : Trie) (g t : ℕ) (i : Ref) (first : Ref → Ref) where
           subst (λ f. MakesUpdate call f (trie.node replaced) (trie.node fresh)) (sym none)
           (record { now = Some (value_of call); asks = asks; updates = list_inserts (value_of call) singles single is room lacks new (built (change.Insert single) (Listed singles) is e) })
 
-      present : (position value : ℕ) (entry : Ref) → former ≡ Some value → Asks call (Some value) (Some (value_of call)) → Presence (known_in trie first) (trie.depth i) (key_of call) replaced position value →
+      present : (position value : ℕ) (entry : Ref) → former ≡ Some value → Asks call (Some value) (Some (value_of call)) →
+          Presence (known_in trie first) (trie.depth i) (key_of call) replaced position value →
           trie.node entry ≡ Single (key_of call) (value_of call) → trie.node fresh ≡ changed flag (trie.node replaced) (change.Update position entry) →
           MakesUpdate call former (trie.node replaced) (trie.node fresh)
       present position value entry had asks (in_branch bitmap entries f single) new e =
@@ -104,7 +107,8 @@ module _ (trie : Trie) (g t : ℕ) (i : Ref) (first : Ref → Ref) where
             updates = list_entombs position value singles is two lt single (built (change.Entomb other) (Listed singles) is e ∙ ap Tomb there);
           })
 
-      besides : (position : ℕ) (link : Ref) → c ≡ change.Update position link → former ≡ None → Asks call None (Some (value_of call)) → (beside : Neighbour (known_in trie first) (trie.depth i) (key_of call) replaced position) →
+      besides : (position : ℕ) (link : Ref) → c ≡ change.Update position link → former ≡ None → Asks call None (Some (value_of call)) →
+          (beside : Neighbour (known_in trie first) (trie.depth i) (key_of call) replaced position) →
           (single : Ref) → trie.node single ≡ Single (key_of call) (value_of call) → LeadsToBoth (known_in trie first) call (trie.depth i) replaced position beside single (suc (trie.depth i)) link →
           trie.node fresh ≡ changed flag (trie.node replaced) (change.Update position link) → MakesUpdate call former (trie.node replaced) (trie.node fresh)
       besides position link is_change none asks beside single new (ind, chain) e =
@@ -113,8 +117,10 @@ module _ (trie : Trie) (g t : ℕ) (i : Ref) (first : Ref → Ref) where
             asks = asks;
             updates = goes_beside beside.bitmap beside.other (value_of call) beside.own (15 - suc (trie.depth i)) ind.0 beside.entries single link ind.1 beside.branch.is beside.branch.flagged
                 (ap (λ p. trie.node (slice_index_or beside.entries.items p no_ref)) (sym beside.branch.at) ∙ beside.is) beside.apart new ind.2 (omega arith)
-                (subst (λ p. LeadsToPair trie.node (assigned trie g (suc t)) trie.kind beside.other (key_of call) (slice_index_or beside.entries.items p no_ref) single (15 - suc (trie.depth i)) (suc (trie.depth i)) link)
-                beside.branch.at (chains position link is_change none beside.other (key_of call) (slice_index_or beside.entries.items position no_ref) single (15 - suc (trie.depth i)) (suc (trie.depth i)) chain))
+                (subst (λ p. LeadsToPair trie.node (assigned trie g (suc t)) trie.kind beside.other (key_of call)
+                (slice_index_or beside.entries.items p no_ref) single (15 - suc (trie.depth i)) (suc (trie.depth i)) link)
+                beside.branch.at (chains position link is_change none beside.other (key_of call) (slice_index_or beside.entries.items position no_ref) single
+                (15 - suc (trie.depth i)) (suc (trie.depth i)) chain))
                 (built (change.Update position link) (Branch beside.bitmap beside.entries) beside.branch.is e ∙ ap (λ p. updated beside.bitmap beside.entries.items p link) beside.branch.at);
           })
 

@@ -17,7 +17,8 @@ use Rattle.machine_model.specs.declared.lines.Line.TheVariants as line
 use Rattle.machine_model.specs.Walking.{walked_reply, walk_next, walk_after_read, walk_after_entry}
 use Rattle.proof_contents.proofs.Pairs.Lists.{Pairs}
 
-module _ (operation : Operation) (node : Ref → Node) (below : Ref → Pairs) (all : Pairs) (Right : Reply → Type 0) (right : (taken : Pairs) → taken ≡ all → Right (walked_reply operation.call taken)) where
+module _ (operation : Operation) (node : Ref → Node) (below : Ref → Pairs) (all : Pairs) (Right : Reply → Type 0)
+    (right : (taken : Pairs) → taken ≡ all → Right (walked_reply operation.call taken)) where
   -- what a line knows
   abbrev pub KnowsWalk : WalkLine → Type 0
   KnowsWalk walk.Root = Unit {0}

@@ -1,5 +1,7 @@
 -- The places of a branch: what its bitmap and its entries say of one, and what the builders do to them.
-use Rattle.std.proofs.Common.{◌≡◌, ◌≢◌, ℕ, zero, suc, ◌+◌, ◌*◌, ◌/◌, ◌%◌, ◌^◌, ◌<◌, ◌≤◌, max, Bool, true, false, cond, not, ◌==◌, List, [], ◌∷◌, map, length, take, get_or, set, slice_index_or, slice_set, insert, remove, Option, Some, None, is_some, count_by, count_ones, bit_or, bit_xor, refl, sym, ap, ap₂, ◌∙◌, arith, eq-eqb, pow_pos, pow-suc, one-mul, zero-mul, eqb-true, mod-lt, mod-eq_of_lt, ne_eqb, length-set, take_all}
+use Rattle.std.proofs.Common.{◌≡◌, ◌≢◌, ℕ, zero, suc, ◌+◌, ◌*◌, ◌/◌, ◌%◌, ◌^◌, ◌<◌, ◌≤◌, max, Bool, true, false, cond, not, ◌==◌, List, [], ◌∷◌, map, length, take, get_or, set}
+use Rattle.std.proofs.Common.{slice_index_or, slice_set, insert, remove, Option, Some, None, is_some, count_by, count_ones, bit_or, bit_xor, refl, sym, ap, ap₂, ◌∙◌, arith, eq-eqb}
+use Rattle.std.proofs.Common.{pow_pos, pow-suc, one-mul, zero-mul, eqb-true, mod-lt, mod-eq_of_lt, ne_eqb, length-set, take_all}
 use Rattle.std.specs.Int.{bit_at}
 use Rattle.std.proofs.lemmas.Nat.{and_mask}
 use Rattle.std.proofs.lemmas.Nat.Bits.{and_pow, same_from_bits, bit_at_or, bit_at_xor, bit_at-pow_same, bit_at-pow_other}

@@ -11,7 +11,8 @@ use Rattle.proof_contents.specs.Beneath.nodes.specs.Builders.{updated, renewed}
 use Rattle.proof_contents.specs.Nodes.Branches.{standing, at_place}
 use Rattle.proof_contents.specs.Nodes.Looking.{Found, Absent, Has, Below, look_at, or_else, value_by, find_at, value_in}
 use Rattle.proof_contents.specs.Nodes.Changing.{Changes, look}
-use Rattle.proof_contents.specs.Laws.{Place, Puts, Removes, BranchInserts, BranchUpdates, BranchRemoves, BranchEntombs, PairsPut, ListInserts, ListUpdates, ListRemoves, ListEntombs, Replaces, kept, renews, cleans, RenewedKeeps, ContractedKeeps, entry_there, position_there}
+use Rattle.proof_contents.specs.Laws.{Place, Puts, Removes, BranchInserts, BranchUpdates, BranchRemoves, BranchEntombs, PairsPut, ListInserts, ListUpdates, ListRemoves}
+use Rattle.proof_contents.specs.Laws.{ListEntombs, Replaces, kept, renews, cleans, RenewedKeeps, ContractedKeeps, entry_there, position_there}
 use Rattle.proof_contents.proofs.Nodes.Branches.{before, standing_at, flagged, unflagged, differ}
 use Rattle.proof_contents.proofs.Nodes.Changes.{look_place, look_branch, look-same, look-other, inserted_changes, updated_changes, removed_changes}
 use Rattle.proof_contents.proofs.Nodes.Lists.{or_else-absent, list_inserted_changes, list_updated_changes, list_removed_changes, list_entombed_changes}

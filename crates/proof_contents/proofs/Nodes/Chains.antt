@@ -1,5 +1,6 @@
 -- What is found through the chain to a pair of singles: their values alone.
-use Rattle.std.proofs.Common.{◌≡◌, ◌≢◌, ℕ, zero, suc, ◌^◌, ◌<◌, Bool, true, false, cond, ◌==◌, nat_lt, List, [], ◌∷◌, length, take, set, replicate, insert, Option, Some, None, bit_or, ⊎_elim, refl, sym, ap, ap₂, subst, subst₂, ◌∙◌, arith, eqb-true, lt-ltb, le-ltb, length-set}
+use Rattle.std.proofs.Common.{◌≡◌, ◌≢◌, ℕ, zero, suc, ◌^◌, ◌<◌, Bool, true, false, cond, ◌==◌, nat_lt, List, [], ◌∷◌, length, take, set, replicate, insert, Option, Some, None}
+use Rattle.std.proofs.Common.{bit_or, ⊎_elim, refl, sym, ap, ap₂, subst, subst₂, ◌∙◌, arith, eqb-true, lt-ltb, le-ltb, length-set}
 use Rattle.std.proofs.lemmas.List.{get_or-set_same, get_or-set_other, length-replicate}
 use Rattle.std.specs.Int.Bits.{or_zero_l}
 use Rattle.std.proofs.lemmas.Bool.Decides.{nat_tests}
@@ -125,8 +126,10 @@ module _ (node : Ref → Node) (kind : HashKind) (former key : ℕ) (old single 
 
           at_former : z ≢ y → (b : Bool) → (z == x) ≡ b → look_place node q (at_place first z) ≡ both q
           at_former other true e =
-              ap (λ n. look_place node q (at_place first n)) (eqb-true z x e) ∙ ap (look_place node q) (get_or-set_same (empty_places 32) x (Some old) None (omega (arith, one_length 32, index-lt (hash former) depth)))
-              ∙ sym (or_else-absent (look_at q old (node old))) ∙ ap (or_else (look_at q old (node old))) (sym (look-other node q key v single is_new (λ same. other (ap (λ k. index_in (hash k) depth) same))))
+              ap (λ n. look_place node q (at_place first n)) (eqb-true z x e)
+              ∙ ap (look_place node q) (get_or-set_same (empty_places 32) x (Some old) None (omega (arith, one_length 32, index-lt (hash former) depth)))
+              ∙ sym (or_else-absent (look_at q old (node old))) ∙ ap (or_else (look_at q old (node old)))
+              (sym (look-other node q key v single is_new (λ same. other (ap (λ k. index_in (hash k) depth) same))))
           at_former other false e =
               ap (look_place node q) (get_or-set_other (empty_places 32) x z (Some old) None (differ z x e) ∙ none_at 32 z)
               ∙ sym (neither q (λ same. differ z x e (ap (λ k. index_in (hash k) depth) same)) (λ same. other (ap (λ k. index_in (hash k) depth) same)))

@@ -1,5 +1,6 @@
 -- Own updates of a key in a branch.
-use Rattle.std.proofs.Common.{◌≡◌, ◌≢◌, ℕ, ◌^◌, ◌<◌, Bool, true, false, cond, ◌==◌, List, length, set, slice_index_or, Option, Some, None, is_some, refl, sym, ap, ap₂, ◌∙◌, arith, eq-eqb, eqb-true, ne_eqb, mod-lt}
+use Rattle.std.proofs.Common.{◌≡◌, ◌≢◌, ℕ, ◌^◌, ◌<◌, Bool, true, false, cond, ◌==◌, List, length, set, slice_index_or, Option, Some, None, is_some, refl, sym, ap, ap₂, ◌∙◌, arith}
+use Rattle.std.proofs.Common.{eq-eqb, eqb-true, ne_eqb, mod-lt}
 use Rattle.std.proofs.lemmas.List.{get_or-set_same, get_or-set_other}
 use Rattle.arrayvec.specs.ArrayVec.{ArrayVec}
 use Rattle.proof_contents.specs.Beneath.ctrie_base.specs.Paths.{position_of}
@@ -30,7 +31,10 @@ module _ (node : Ref → Node) where
   look_branch key bitmap x entries places h = by_place (at_place places x) refl
     where
       by_place : (o : Option Ref) → at_place places x ≡ o → look_in node (2 ^ x) key (Branch bitmap entries) ≡ look_place node key o
-      by_place None e = ap (λ b. cond b (look_at key (slice_index_or entries.items (position_of (2 ^ x) bitmap) no_ref) (node (slice_index_or entries.items (position_of (2 ^ x) bitmap) no_ref))) Absent) (has_flag-place bitmap entries.items places h x ∙ ap is_some e)
+      by_place None e =
+          ap (λ b. cond b
+          (look_at key (slice_index_or entries.items (position_of (2 ^ x) bitmap) no_ref) (node (slice_index_or entries.items (position_of (2 ^ x) bitmap) no_ref))) Absent)
+          (has_flag-place bitmap entries.items places h x ∙ ap is_some e)
       by_place (Some entry) e =
           ap₂ (λ b r. cond b (look_at key r (node r)) Absent) (has_flag-place bitmap entries.items places h x ∙ ap is_some e)
           (entry-place bitmap entries.items places h x entry no_ref e)

@@ -1,15 +1,14 @@
 -- The content of a handle in the last state is that of its root's generation.
-use Rattle.std.proofs.Common.{◌≡◌, ℕ, zero, suc, ◌==◌, Bool, true, false, cond, List, [], ◌∷◌, ◌++◌, flat_map, Contains, Option, Some, None, refl, sym, ap, ap₂, subst, ◌∙◌, arith}
+use Rattle.std.proofs.Common.{◌≡◌, ℕ, zero, suc, List, [], ◌∷◌, ◌++◌, flat_map, Contains, Some, refl, sym, ap, ap₂, subst, ◌∙◌, arith}
 use Rattle.std.proofs.lemmas.List.Elements.{Contains-append_left, Contains-append_right}
 use Rattle.std.specs.FinMap.{entries}
-use Rattle.proof_contents.specs.Beneath.slot_arena.specs.Refs.{birth_of}
 use Rattle.proof_contents.specs.Beneath.slot_arena.specs.declared.refs.Ref.{Ref}
 use Rattle.proof_contents.specs.Beneath.slot_arena.specs.declared.nodes.Node.{Node}
 use Rattle.proof_contents.specs.Beneath.slot_arena.specs.declared.nodes.Node.TheVariants.{Indirection, Branch, Single, Tomb, List as Listed}
 use Rattle.proof_contents.specs.Beneath.slot_arena.specs.declared.nodes.Prev.{Prev}
 use Rattle.proof_contents.specs.Beneath.slot_arena.specs.declared.nodes.Prev.TheVariants as prev
-use Rattle.proof_contents.specs.Beneath.slot_arena.specs.declared.nodes.Slot.{Slot}
-use Rattle.proof_contents.specs.Beneath.slot_arena.specs.Heaps.{Heap, stored, node_at, prev_at, node_of, prev_of, main_of, main_at, logical, logical_main, entries_of, refs_of_node, refs_of_prev, refs_of_slot}
+use Rattle.proof_contents.specs.Beneath.slot_arena.specs.Heaps.{Heap, node_at, prev_at, node_of, prev_of, main_of, main_at, logical, logical_main, entries_of, refs_of_node}
+use Rattle.proof_contents.specs.Beneath.slot_arena.specs.Heaps.{refs_of_prev, refs_of_slot}
 use Rattle.machine_model.specs.declared.roots.Root.{Root}
 use Rattle.machine_model.specs.declared.roots.RootWord.{RootWord}
 use Rattle.machine_model.specs.declared.roots.RootWord.TheVariants.{Plain, Offer}
@@ -19,33 +18,18 @@ use Rattle.machine_model.specs.States.{State, root_of, word_at}
 use Rattle.machine_model.specs.Counting.{refs_of_word, refs_of_root}
 use Rattle.machine_model.specs.Contents.{pairs_at, pairs_below, most_levels, content_at, IsReached, from_root, from_slot}
 use Rattle.machine_model.specs.Pairs.{by_key}
-use Rattle.machine_model.specs.Grown.{standing, of_birth, or_before, grown, node_under, prev_word, main_word, main_before}
+use Rattle.machine_model.specs.Grown.{node_under, prev_word, main_word, main_before}
 use Rattle.proof_contents.specs.Tries.{content}
 use Rattle.proof_contents.specs.Steps.{IsTrie}
 use Rattle.proof_contents.specs.Pairs.{pairs_of, pairs_from}
 use Rattle.proof_contents.specs.Runs as run
 use Rattle.proof_contents.specs.Runs.{trie_of}
 use Rattle.proof_contents.specs.InUse.{ReachesInUse}
-use Rattle.proof_contents.proofs.Values.Runs.{main_at-last}
+use Rattle.proof_contents.proofs.Values.Runs.{counting_main-last}
 use Rattle.proof_contents.proofs.Pairs.Shown.{reached_entries}
+use Rattle.machine_model.proofs.Grown.{node_grown, prev_grown, standing_parts}
 
 -- ---- what stands in use is what stood last
-
-stored-standing : (heap : Heap) (r : Ref) (slot : Slot) → standing heap r ≡ Some slot → stored heap r ≡ Some slot
-stored-standing heap r slot e = by_slot (stored heap r) refl e
-  where
-    by_birth : (s : Slot) (b : Bool) → cond b (Some s) None ≡ Some slot → Some s ≡ Some slot
-    by_birth s true e = e
-    by_birth s false e = absurd (let bad : None ≡ Some slot = e in cc)
-
-    by_slot : (o : Option Slot) → stored heap r ≡ o → of_birth (birth_of r) o ≡ Some slot → stored heap r ≡ Some slot
-    by_slot None at e = absurd (let bad : None ≡ Some slot = e in cc)
-    by_slot (Some s) at e = at ∙ by_birth s (s.birth == birth_of r) e
-
-grown-standing : (states : ℕ → State) (t : ℕ) (r : Ref) (slot : Slot) → standing (states t).heap r ≡ Some slot → grown states t r ≡ Some slot
-unfolding grown
-grown-standing states zero r slot e = e
-grown-standing states (suc t) r slot e = ap (λ o. or_before o (grown states t r)) e
 
 pub flat_map-same : (f g : Ref → List (ℕ × ℕ)) (rs : List Ref) → ((r : Ref) → Contains rs r → f r ≡ g r) → flat_map f rs ≡ flat_map g rs
 flat_map-same f g [] h = refl
@@ -71,20 +55,20 @@ module _ (states : ℕ → State) (last : ℕ) (reaches : ReachesInUse (states l
   unfolding node_at
   node_is r reached =
       let s = reaches r reached in
-      ap node_of (stored-standing heap r s.0 s.1) ∙ sym (ap node_of (grown-standing states last r s.0 s.1))
+      node_grown states last r s.0 s.1
 
   prev_is : (r : Ref) → Reached r → prev_at heap r ≡ prev_word states last r
   unfolding prev_at
   prev_is r reached =
       let s = reaches r reached in
-      ap prev_of (stored-standing heap r s.0 s.1) ∙ sym (ap prev_of (grown-standing states last r s.0 s.1))
+      prev_grown states last r s.0 s.1
 
   -- references in a slot that is reached are reached
   of_node : (r q : Ref) → Reached r → Contains (refs_of_node (node_at heap r)) q → Reached q
   unfolding node_at
   of_node r q reached c =
       let s = reaches r reached in
-      let at = stored-standing heap r s.0 s.1 in
+      let at = (standing_parts heap r s.0 s.1).0 in
       from_slot r q reached (subst (λ o. Contains (refs_of_slot o) q) (sym at)
       (Contains-append_left (refs_of_node s.0.node) (refs_of_prev s.0.prev) q (subst (λ o. Contains (refs_of_node (node_of o)) q) at c)))
 
@@ -92,7 +76,7 @@ module _ (states : ℕ → State) (last : ℕ) (reaches : ReachesInUse (states l
   unfolding prev_at
   of_prev r q reached c =
       let s = reaches r reached in
-      let at = stored-standing heap r s.0 s.1 in
+      let at = (standing_parts heap r s.0 s.1).0 in
       from_slot r q reached (subst (λ o. Contains (refs_of_slot o) q) (sym at)
       (Contains-append_right (refs_of_node s.0.node) (refs_of_prev s.0.prev) q (subst (λ o. Contains (refs_of_prev (prev_of o)) q) at c)))
 
@@ -115,22 +99,23 @@ module _ (states : ℕ → State) (last : ℕ) (reaches : ReachesInUse (states l
       ap (λ w. logical (main_at heap r) w) (prev_is (main_at heap r) (subst Reached (sym (ap main_of is)) main_reached)) ∙ ap (λ w. logical w (prev_word states last w)) words
 
   -- the pairs below what is reached
-  pub pairs_are : (levels : ℕ) (r : Ref) → Reached r → pairs_below levels heap r ≡ pairs_from (node_under states last) (λ i. run.main_at states last last i) levels r
+  pub pairs_are : (levels : ℕ) (r : Ref) → Reached r → pairs_below levels heap r ≡ pairs_from (node_under states last) (λ i. run.counting_main states last last i) levels r
   unfolding pairs_below pairs_from
   pairs_are zero r reached = refl
   pairs_are (suc levels) r reached =
-      by_node (λ q. pairs_are levels q) (node_at heap r) refl ∙ ap (pairs_of (pairs_from (node_under states last) (λ i. run.main_at states last last i) levels) (node_under states last) (λ i. run.main_at states last last i) r)
+      by_node (λ q. pairs_are levels q) (node_at heap r) refl
+      ∙ ap (pairs_of (pairs_from (node_under states last) (λ i. run.counting_main states last last i) levels) (node_under states last) (λ i. run.counting_main states last last i) r)
       (node_is r reached)
     where
-      by_node : ((q : Ref) → Reached q → pairs_below levels heap q ≡ pairs_from (node_under states last) (λ i. run.main_at states last last i) levels q) → (n : Node) → node_at heap r ≡ n →
+      by_node : ((q : Ref) → Reached q → pairs_below levels heap q ≡ pairs_from (node_under states last) (λ i. run.counting_main states last last i) levels q) → (n : Node) → node_at heap r ≡ n →
           pairs_at (pairs_below levels heap) heap r n
-          ≡ pairs_of (pairs_from (node_under states last) (λ i. run.main_at states last last i) levels) (node_under states last) (λ i. run.main_at states last last i) r n
+          ≡ pairs_of (pairs_from (node_under states last) (λ i. run.counting_main states last last i) levels) (node_under states last) (λ i. run.counting_main states last last i) r n
       by_node rest (Indirection g m) is =
           let reached_main = logical_reached r g m reached is in
-          flat_map-same (pairs_below levels heap) (pairs_from (node_under states last) (λ i. run.main_at states last last i) levels) (entries_of (node_at heap (logical_main heap r)))
+          flat_map-same (pairs_below levels heap) (pairs_from (node_under states last) (λ i. run.counting_main states last last i) levels) (entries_of (node_at heap (logical_main heap r)))
           (λ q c. rest q (of_node (logical_main heap r) q reached_main (entry_refs (node_at heap (logical_main heap r)) q c)))
-          ∙ ap (λ n. flat_map (pairs_from (node_under states last) (λ i. run.main_at states last last i) levels) (entries_of n))
-          (node_is (logical_main heap r) reached_main ∙ ap (node_under states last) (logical_is r g m reached is ∙ sym (main_at-last states last r)))
+          ∙ ap (λ n. flat_map (pairs_from (node_under states last) (λ i. run.counting_main states last last i) levels) (entries_of n))
+          (node_is (logical_main heap r) reached_main ∙ ap (node_under states last) (logical_is r g m reached is ∙ sym (counting_main-last states last r)))
       by_node rest (Single k v) is = refl
       by_node rest (Branch bitmap es) is = refl
       by_node rest (Tomb s) is = refl
@@ -148,10 +133,10 @@ module _ (states : ℕ → State) (last : ℕ) (reaches : ReachesInUse (states l
 
   module _ (limits : Limits) (depth path : Ref → ℕ) (ok : IsTrie (trie_of limits states last depth path)) where
     -- the content of an open handle is that of its root's generation
-    pub content_is : (handle : ℕ) (root : Root) (g h : ℕ) (word : Ref) → state.root_at (states last) handle ≡ Some root → run.root_at states last g ≡ root_of root.word →
+    pub content_is : (handle : ℕ) (root : Root) (g h : ℕ) (word : Ref) → state.root_at (states last) handle ≡ Some root → run.root_of_generation states last g ≡ root_of root.word →
         node_under states last (root_of root.word) ≡ Indirection h word →
         content_at (states last) handle ≡ entries (content (trie_of limits states last depth path) g last)
     content_is handle root g h word e same is =
         ap by_key (ap (λ o. pairs_below most_levels heap (root_of (state.word_of o))) e ∙ pairs_are most_levels (root_of root.word) (root_reached handle root e)
-        ∙ ap (pairs_from (node_under states last) (λ i. run.main_at states last last i) most_levels) (sym same))
+        ∙ ap (pairs_from (node_under states last) (λ i. run.counting_main states last last i) most_levels) (sym same))
         ∙ reached_entries (trie_of limits states last depth path) ok g h word (ap (node_under states last) same ∙ is)

@@ -1,5 +1,6 @@
 -- The pairs that are reached from a root in the end are the entries of its generation's content.
-use Rattle.std.proofs.Common.{◌≡◌, ◌≢◌, ℕ, zero, suc, ◌+◌, ◌*◌, ◌%◌, ◌^◌, ◌≤◌, ◌==◌, Bool, true, false, List, [], ◌∷◌, ◌++◌, length, flat_map, Option, Some, None, refl, sym, ap, subst, ◌∙◌, arith, eqb-true, mod-eq_of_lt}
+use Rattle.std.proofs.Common.{◌≡◌, ◌≢◌, ℕ, zero, suc, ◌+◌, ◌*◌, ◌%◌, ◌^◌, ◌≤◌, ◌==◌, Bool, true, false, List, [], ◌∷◌, ◌++◌, length, flat_map, Option, Some, None, refl, sym, ap}
+use Rattle.std.proofs.Common.{subst, ◌∙◌, arith, eqb-true, mod-eq_of_lt}
 use Rattle.std.specs.FinMap.{get, entries, len}
 use Rattle.proof_contents.specs.Beneath.ctrie_base.specs.Hashes.{hash_of}
 use Rattle.proof_contents.specs.Beneath.slot_arena.specs.declared.refs.Ref.{Ref}
@@ -77,9 +78,11 @@ module _ (trie : Trie) (ok : IsTrie trie) where
       by_key_ false e = found-later q k v [] (differ q k e) ∙ sym (ap (value_by f) (look-other trie.node q k v r is (differ q k e)))
 
   -- a list's singles
-  listed_found : (levels q : ℕ) (f : Ref → Option ℕ) (singles : List Ref) → AreSingles trie.node singles → found_in q (flat_map (reach (suc levels)) singles) ≡ value_by f (look_among trie.node q singles)
+  listed_found : (levels q : ℕ) (f : Ref → Option ℕ) (singles : List Ref) → AreSingles trie.node singles →
+      found_in q (flat_map (reach (suc levels)) singles) ≡ value_by f (look_among trie.node q singles)
   listed_found levels q f [] are = refl
-  listed_found levels q f (s ∷ singles) are = ap (λ ps. found_in q (ps ++ rest)) (reach-single levels are.0.key are.0.value s are.0.is) ∙ by_test (listed_found levels q f singles are.1) (q == are.0.key) refl
+  listed_found levels q f (s ∷ singles) are =
+      ap (λ ps. found_in q (ps ++ rest)) (reach-single levels are.0.key are.0.value s are.0.is) ∙ by_test (listed_found levels q f singles are.1) (q == are.0.key) refl
     where
       rest : Pairs
       rest = flat_map (reach (suc levels)) singles
@@ -98,7 +101,8 @@ module _ (trie : Trie) (ok : IsTrie trie) where
   later_apart : (s : Ref) (singles : List Ref) (k v : ℕ) → (new : IsNew trie.node s singles) → look_among trie.node k singles ≡ Has v → k ≢ new.key
   later_apart s singles k v new e same = let bad : Has v ≡ Absent = sym e ∙ ap (λ n. look_among trie.node n singles) same ∙ new.none in cc
 
-  listed_each : (levels : ℕ) (P : ℕ → Type 0) (singles : List Ref) → AreSingles trie.node singles → ((k v : ℕ) → look_among trie.node k singles ≡ Has v → P k) → EachKey P (flat_map (reach (suc levels)) singles)
+  listed_each : (levels : ℕ) (P : ℕ → Type 0) (singles : List Ref) → AreSingles trie.node singles → ((k v : ℕ) → look_among trie.node k singles ≡ Has v → P k) →
+      EachKey P (flat_map (reach (suc levels)) singles)
   listed_each levels P [] are h = tt
   listed_each levels P (s ∷ singles) are h =
       each-append P (reach (suc levels) s) (flat_map (reach (suc levels)) singles)
@@ -129,7 +133,8 @@ module _ (trie : Trie) (ok : IsTrie trie) where
       index q = index_in (hash_of trie.kind q) d
 
       -- in terms of the main node's entries
-      of_entries : (es : List Ref) → entries_of n ≡ es → ((q : ℕ) → found_in q (flat_map (reach (suc levels)) es) ≡ value_by (below_of q (suc levels) (suc d)) (look trie.node (hash_of trie.kind) d q n)) →
+      of_entries : (es : List Ref) → entries_of n ≡ es →
+          ((q : ℕ) → found_in q (flat_map (reach (suc levels)) es) ≡ value_by (below_of q (suc levels) (suc d)) (look trie.node (hash_of trie.kind) d q n)) →
           AreApart (flat_map (reach (suc levels)) es) → EachKey (λ k. hash_of trie.kind k % 2 ^ (5 * d) ≡ trie.path i) (flat_map (reach (suc levels)) es) →
           Shows (suc (suc levels)) i (reach (suc (suc levels)) i)
       of_entries es at found apart led =
@@ -166,7 +171,8 @@ module _ (trie : Trie) (ok : IsTrie trie) where
                   record {
                     found = λ q. ap (found_in q) ps ∙ single_shows levels k v q e (below_of q (suc levels) (suc d)) is_m;
                     apart = subst (λ l. AreApart l) (sym ps) (tt, tt);
-                    led = subst (λ l. EachKey (λ k. (index_in (hash_of trie.kind k) d ≡ x) × (hash_of trie.kind k % 2 ^ (5 * d) ≡ trie.path i)) l) (sym ps) ((in_place x k v e at is_m, leads_to x k v e at is_m), tt);
+                    led = subst (λ l. EachKey (λ k. (index_in (hash_of trie.kind k) d ≡ x) × (hash_of trie.kind k % 2 ^ (5 * d) ≡ trie.path i)) l) (sym ps)
+                        ((in_place x k v e at is_m, leads_to x k v e at is_m), tt);
                   }
               by_node (Indirection h w) is_m =
                   let c = children x h e w at is_m in
@@ -174,7 +180,8 @@ module _ (trie : Trie) (ok : IsTrie trie) where
                   record {
                     found = λ q. s.found q ∙ ap (λ n. below_of q (suc levels) n e) c.deeper ∙ sym (ap (value_by (below_of q (suc levels) (suc d))) (ap (look_at q e) is_m));
                     apart = s.apart;
-                    led = each-weaker (λ k. hash_of trie.kind k % 2 ^ (5 * trie.depth e) ≡ trie.path e) (λ k. (index_in (hash_of trie.kind k) d ≡ x) × (hash_of trie.kind k % 2 ^ (5 * d) ≡ trie.path i))
+                    led = each-weaker (λ k. hash_of trie.kind k % 2 ^ (5 * trie.depth e) ≡ trie.path e)
+                        (λ k. (index_in (hash_of trie.kind k) d ≡ x) × (hash_of trie.kind k % 2 ^ (5 * d) ≡ trie.path i))
                         (λ k led. parted trie ok.path_fits i e x k c led) (reach (suc levels) e) s.led;
                   }
               by_node (Branch bitmap es) is_m = other (Branch bitmap es) is_m (λ k v bad. cc) (λ h w bad. cc) (λ q. refl)

@@ -1,5 +1,6 @@
 -- The builders keep the shape of main nodes.
-use Rattle.std.proofs.Common.{◌≤◌, ◌≡◌, ◌≢◌, ℕ, ◌*◌, ◌^◌, ◌<◌, ◌==◌, Bool, true, false, cond, List, [], ◌∷◌, length, set, slice_index_or, Option, Some, None, bit_or, ⊎_elim, refl, sym, ap, ap₂, subst, ◌∙◌, arith, eqb-true, length-set}
+use Rattle.std.proofs.Common.{◌≤◌, ◌≡◌, ◌≢◌, ℕ, ◌*◌, ◌^◌, ◌<◌, ◌==◌, Bool, true, false, cond, List, [], ◌∷◌, length, set, slice_index_or, Option, Some, None, bit_or, ⊎_elim, refl}
+use Rattle.std.proofs.Common.{sym, ap, ap₂, subst, ◌∙◌, arith, eqb-true, length-set}
 use Rattle.std.proofs.lemmas.List.{get_or-set_same, get_or-set_other}
 use Rattle.arrayvec.specs.ArrayVec.{ArrayVec}
 use Rattle.proof_contents.specs.Beneath.ctrie_base.specs.Hashes.{hash_of}
@@ -146,7 +147,8 @@ module _ (trie : Trie) (fits : (i : Ref) → trie.path i < 2 ^ (5 * trie.depth i
   -- entries that fit one by one
   pub refilled_shaped : (bitmap : ℕ) (entries : ArrayVec Ref) (others : List Ref) → IsShaped trie i (Branch bitmap entries) → length others ≡ length entries.items →
       ((n : ℕ) → n < length entries.items → Fits trie i (slice_index_or entries.items n no_ref) (slice_index_or others n no_ref)) → IsShaped trie i (renewed bitmap others)
-  refilled_shaped bitmap entries others shape count fit = branch_of bitmap (entries_from others) (refilled s.places others) (refilled-places bitmap entries.items others s.places s.has count) s.shallow may
+  refilled_shaped bitmap entries others shape count fit =
+      branch_of bitmap (entries_from others) (refilled s.places others) (refilled-places bitmap entries.items others s.places s.has count) s.shallow may
     where
       s : IsBranch trie i bitmap entries
       s = branch_shape trie i (Branch bitmap entries) bitmap entries shape refl
@@ -184,7 +186,8 @@ module _ (trie : Trie) (fits : (i : Ref) → trie.path i < 2 ^ (5 * trie.depth i
   -- ---- chains
 
   -- the branch of one entry on the way down
-  pub rung_shaped : (key g : ℕ) (below word : Ref) → trie.depth i < list_depth trie.kind → trie.node below ≡ Indirection g word → IsChild trie i (index_in (hash_of trie.kind key) (trie.depth i)) below →
+  pub rung_shaped : (key g : ℕ) (below word : Ref) → trie.depth i < list_depth trie.kind → trie.node below ≡ Indirection g word →
+      IsChild trie i (index_in (hash_of trie.kind key) (trie.depth i)) below →
       IsShaped trie i (rung (hash_of trie.kind key) (trie.depth i) below)
   rung_shaped key g below word shallow is child =
       let x = index_in (hash_of trie.kind key) (trie.depth i) in

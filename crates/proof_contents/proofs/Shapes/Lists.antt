@@ -1,5 +1,6 @@
 -- The builders keep the shape of lists; and a main node keeps its shape for an indirection that stands for another.
-use Rattle.std.proofs.Common.{◌≡◌, ◌≢◌, ℕ, zero, suc, ◌+◌, ◌*◌, ◌%◌, ◌^◌, ◌<◌, ◌==◌, Bool, true, false, List, [], ◌∷◌, ◌++◌, length, take, get_or, set, remove, slice_index_or, refl, sym, ap, ap₂, subst, ◌∙◌, arith, eqb-true, mod-eq_of_lt, take_all, length-append, length-set}
+use Rattle.std.proofs.Common.{◌≡◌, ◌≢◌, ℕ, zero, suc, ◌+◌, ◌*◌, ◌%◌, ◌^◌, ◌<◌, ◌==◌, Bool, true, false, List, [], ◌∷◌, ◌++◌, length, take, get_or, set, remove, slice_index_or}
+use Rattle.std.proofs.Common.{refl, sym, ap, ap₂, subst, ◌∙◌, arith, eqb-true, mod-eq_of_lt, take_all, length-append, length-set}
 use Rattle.std.proofs.lemmas.List.Edits.{length-remove}
 use Rattle.arrayvec.specs.ArrayVec.{ArrayVec}
 use Rattle.proof_contents.specs.Beneath.ctrie_base.specs.Hashes.{hash_of}

@@ -1,11 +1,13 @@
 -- The keys of a list's singles, and how many other keys a key's hash has where its path ends.
-use Rattle.std.proofs.Common.{◌≡◌, ◌≢◌, ℕ, suc, ◌*◌, ◌-◌, ◌%◌, ◌^◌, ◌<◌, ◌≤◌, ◌==◌, ◌||◌, Bool, true, false, cond, List, [], ◌∷◌, map, length, slice_index_or, Option, Some, None, is_some, nat_cmp, refl, sym, ap, ap₂, subst, ◌∙◌, arith, eqb-true, mod-eq_of_lt}
+use Rattle.std.proofs.Common.{◌≡◌, ◌≢◌, ℕ, suc, ◌*◌, ◌-◌, ◌%◌, ◌^◌, ◌<◌, ◌≤◌, ◌==◌, ◌||◌, Bool, true, false, cond, List, [], ◌∷◌, map, length, slice_index_or, Option, Some, None}
+use Rattle.std.proofs.Common.{is_some, nat_cmp, refl, sym, ap, ap₂, subst, ◌∙◌, arith, eqb-true, mod-eq_of_lt}
 use Rattle.std.specs.Cmp.{unsigned_tied}
 use Rattle.std.specs.Ordering.{eq_by_cmp}
 use Rattle.std.specs.List.{IsDistinct, AllByRecursion}
 use Rattle.std.specs.FinMap.{get}
 use Rattle.arrayvec.specs.ArrayVec.{ArrayVec}
-use Rattle.proof_contents.specs.Beneath.ctrie_base.specs.Hashes.{hash_of, low_hash-lt, fold_hash-lt, block_hash-lt}
+use Rattle.proof_contents.specs.Beneath.ctrie_base.specs.Hashes.{hash_of}
+use Rattle.proof_contents.specs.Beneath.ctrie_base.proofs.Fits.{low_hash-lt, fold_hash-lt, block_hash-lt}
 use Rattle.proof_contents.specs.Beneath.ctrie_base.specs.declared.hashes.HashKind.{HashKind}
 use Rattle.proof_contents.specs.Beneath.ctrie_base.specs.declared.hashes.HashKind.TheVariants.{Low, Fold, Wide, Block}
 use Rattle.proof_contents.specs.Beneath.history.specs.Effects.{others}
@@ -197,7 +199,8 @@ module _ (trie : Trie) (ok : IsTrie trie) (t g key : ℕ) (i : Ref) (lt : t ≤ 
   has_room new former now fits no_value (list_inserts value singles single o room none is n) = omega (arith, others-list singles o fits none)
   has_room new former now fits no_value (goes_beside bitmap other value own levels h entries single link word o flag entry apart is link_is sum chain n) =
       let bound : others (hash_of trie.kind) (content trie g t) key ≤ 1 =
-      others_at (other ∷ []) (λ q same away found. by_key q (q == other) refl (λ absent. found (at_flag bitmap entries o q same ∙ ap (λ b. cond b (entry_look bitmap entries q) Absent) flag ∙ absent))) in
+      others_at (other ∷ [])
+      (λ q same away found. by_key q (q == other) refl (λ absent. found (at_flag bitmap entries o q same ∙ ap (λ b. cond b (entry_look bitmap entries q) Absent) flag ∙ absent))) in
       omega (arith, bound)
     where
       by_key : (q : ℕ) (b : Bool) → (q == other) ≡ b → entry_look bitmap entries q ≢ Absent → is_among (other ∷ []) q ≡ true

@@ -1,5 +1,6 @@
 -- Paths last: what was once reached through a generation alone is so until its main node is a tomb, and a tomb stays.
-use Rattle.std.proofs.Common.{◌≡◌, ◌≢◌, ℕ, zero, suc, ◌+◌, ◌*◌, ◌/◌, ◌%◌, ◌^◌, ◌<◌, ◌≤◌, ◌==◌, Bool, true, false, List, ◌∷◌, length, slice_index_or, Option, Some, None, ◌⊎◌, inl, inr, ⊎_elim, refl, sym, ap, ap₂, subst, ◌∙◌, arith, eqb-true, add_comm, []}
+use Rattle.std.proofs.Common.{◌≡◌, ◌≢◌, ℕ, zero, suc, ◌+◌, ◌*◌, ◌/◌, ◌%◌, ◌^◌, ◌<◌, ◌≤◌, ◌==◌, Bool, true, false, List, ◌∷◌, length, slice_index_or, Option, Some, None, ◌⊎◌, inl}
+use Rattle.std.proofs.Common.{inr, ⊎_elim, refl, sym, ap, ap₂, subst, ◌∙◌, arith, eqb-true, add_comm, []}
 use Rattle.std.proofs.Math.Nat.{mod-one}
 use Rattle.std.proofs.lemmas.Nat.{mod-pow-add}
 use Rattle.arrayvec.specs.ArrayVec.{ArrayVec}
@@ -18,7 +19,8 @@ use Rattle.proof_contents.proofs.Nodes.Changes.{look_place, look_branch}
 use Rattle.proof_contents.proofs.Nodes.Tombs.{before-lt}
 use Rattle.proof_contents.proofs.Nodes.Refilling.{refilled, refilled-places, refilled-none, refilled-some}
 use Rattle.proof_contents.specs.Tries.{Trie, generation, node_in, says, assigned, On, at_root, at_below, IsTombed, IsShaped}
-use Rattle.proof_contents.specs.Steps.{Stays, kept, renewed_by, untombed, IsRepair, refills, entombs, IsOwnUpdate, branch_inserts, branch_updates, branch_removes, branch_entombs, goes_beside, list_inserts, list_updates, list_removes, list_entombs, Does, nothing, a_repair, an_update, LeavesOthers, IsTrie}
+use Rattle.proof_contents.specs.Steps.{Stays, kept, renewed_by, untombed, IsRepair, refills, entombs, IsOwnUpdate, branch_inserts, branch_updates, branch_removes, branch_entombs}
+use Rattle.proof_contents.specs.Steps.{goes_beside, list_inserts, list_updates, list_removes, list_entombs, Does, nothing, a_repair, an_update, LeavesOthers, IsTrie}
 use Rattle.proof_contents.proofs.Values.Found.{assigned-own}
 use Rattle.proof_contents.proofs.Shapes.Nodes.{IsBranch, branch_shape, tomb_shape, LeadsBelow, leads_below, below_is, single_ends, leads}
 use Rattle.proof_contents.proofs.Changes.Updating.{HasUpdated, changes, beside, IsBeside, has_updated, found_of}

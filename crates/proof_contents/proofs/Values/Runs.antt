@@ -1,5 +1,6 @@
 -- The trie of a run: its main nodes are those of the states, whatever is made; each single's key is one of the keys.
-use Rattle.std.proofs.Common.{◌≡◌, ℕ, zero, suc, ◌-◌, ◌<◌, ◌==◌, Bool, true, false, cond, List, [], ◌∷◌, ◌++◌, slice_index_or, flat_map, Contains, Option, Some, None, is_some, refl, sym, ap, subst, ◌∙◌, arith}
+use Rattle.std.proofs.Common.{◌≡◌, ℕ, zero, suc, ◌-◌, ◌<◌, ◌==◌, Bool, true, false, cond, List, [], ◌∷◌, ◌++◌, slice_index_or, flat_map, Contains, Option, Some, None, is_some}
+use Rattle.std.proofs.Common.{refl, sym, ap, subst, ◌∙◌, arith}
 use Rattle.std.proofs.lemmas.List.Elements.{Contains-append_left, Contains-append_right}
 use Rattle.proof_contents.specs.Beneath.slot_arena.specs.Refs.{slot_of, birth_of}
 use Rattle.proof_contents.specs.Beneath.slot_arena.specs.declared.refs.Ref.{Ref}
@@ -8,7 +9,7 @@ use Rattle.proof_contents.specs.Beneath.slot_arena.specs.declared.nodes.Slot.{Sl
 use Rattle.proof_contents.specs.Beneath.slot_arena.specs.Heaps.{Heap, stored, node_of, empty_branch}
 use Rattle.machine_model.specs.States.{State}
 use Rattle.machine_model.specs.Grown.{standing, of_birth, or_before, grown, node_under, main_before}
-use Rattle.proof_contents.specs.Runs.{is_made, main_within, main_at, keys_of_node, keys_of_slot, keys_until}
+use Rattle.proof_contents.specs.Runs.{is_made, main_within, counting_main, keys_of_node, keys_of_slot, keys_until}
 
 -- ---- keys
 
@@ -49,18 +50,18 @@ module _ (states : ℕ → State) where
 
   module _ (last : ℕ) where
     -- those of what is made are those of the states
-    pub main_at-made : (t : ℕ) (i : Ref) → is_made states t i ≡ true → main_at states last t i ≡ main_before states t i
+    pub counting_main-made : (t : ℕ) (i : Ref) → is_made states t i ≡ true → counting_main states last t i ≡ main_before states t i
     unfolding main_within
-    main_at-made t i e = by_left (last - t)
+    counting_main-made t i e = by_left (last - t)
       where
         by_left : (left : ℕ) → main_within states t left i ≡ main_before states t i
         by_left zero = refl
         by_left (suc left) = ap (λ b. cond b (main_before states t i) (main_within states (suc t) left i)) e
 
     -- those of what isn't made yet are those of the next state
-    pub main_at-unmade : (t : ℕ) (i : Ref) → t < last → is_made states t i ≡ false → main_at states last (suc t) i ≡ main_at states last t i
+    pub counting_main-unmade : (t : ℕ) (i : Ref) → t < last → is_made states t i ≡ false → counting_main states last (suc t) i ≡ counting_main states last t i
     unfolding main_within
-    main_at-unmade t i lt e = ap (λ left. main_within states (suc t) left i) (omega arith) ∙ sym (ap (λ left. main_within states t left i) before ∙ once)
+    counting_main-unmade t i lt e = ap (λ left. main_within states (suc t) left i) (omega arith) ∙ sym (ap (λ left. main_within states t left i) before ∙ once)
       where
         before : last - t ≡ suc (last - suc t)
         before = omega arith
@@ -69,18 +70,18 @@ module _ (states : ℕ → State) where
         once = ap (λ b. cond b (main_before states t i) (main_within states (suc t) (last - suc t) i)) e
 
     -- a step that leaves an indirection that is made leaves it, made or not
-    pub main_at-stays : (t : ℕ) (i : Ref) → t < last → (is_made states t i ≡ true → main_before states (suc t) i ≡ main_before states t i) →
-        main_at states last (suc t) i ≡ main_at states last t i
-    main_at-stays t i lt stays = by_test (is_made states t i) refl
+    pub counting_main-stays : (t : ℕ) (i : Ref) → t < last → (is_made states t i ≡ true → main_before states (suc t) i ≡ main_before states t i) →
+        counting_main states last (suc t) i ≡ counting_main states last t i
+    counting_main-stays t i lt stays = by_test (is_made states t i) refl
       where
-        by_test : (b : Bool) → is_made states t i ≡ b → main_at states last (suc t) i ≡ main_at states last t i
-        by_test true e = main_at-made (suc t) i (made_next t i e) ∙ stays e ∙ sym (main_at-made t i e)
-        by_test false e = main_at-unmade t i lt e
+        by_test : (b : Bool) → is_made states t i ≡ b → counting_main states last (suc t) i ≡ counting_main states last t i
+        by_test true e = counting_main-made (suc t) i (made_next t i e) ∙ stays e ∙ sym (counting_main-made t i e)
+        by_test false e = counting_main-unmade t i lt e
 
     -- in the end they are those of the last state
-    pub main_at-last : (i : Ref) → main_at states last last i ≡ main_before states last i
+    pub counting_main-last : (i : Ref) → counting_main states last last i ≡ main_before states last i
     unfolding main_within
-    main_at-last i =
+    counting_main-last i =
         let none_left : last - last ≡ zero = omega arith in
         ap (λ left. main_within states last left i) none_left
 

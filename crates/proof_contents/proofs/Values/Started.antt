@@ -15,9 +15,10 @@ use Rattle.machine_model.specs.Times.{IsRun}
 use Rattle.proof_contents.specs.Tries.{content}
 use Rattle.proof_contents.specs.Steps.{IsTrie}
 use Rattle.proof_contents.specs.Grows.{NodesStay}
-use Rattle.proof_contents.specs.Runs.{main_at, or_before, root_among, root_until, root_at, trie_of}
-use Rattle.proof_contents.proofs.Values.Runs.{main_at-made}
+use Rattle.proof_contents.specs.Runs.{counting_main, or_other, root_among, root_until, root_of_generation, trie_of}
+use Rattle.proof_contents.proofs.Values.Runs.{counting_main-made}
 use Rattle.proof_contents.proofs.Changes.Openings.{empty_opens}
+use Rattle.machine_model.proofs.Basics.{two_or_more}
 
 -- a node that isn't an indirection has no main word
 no_word : (n : Node) (m : Ref) → ((g : ℕ) (w : Ref) → n ≢ Indirection g w) → with_main_word m n ≡ n
@@ -45,7 +46,7 @@ module _ (states : ℕ → State) (last : ℕ) (stay : NodesStay states last) wh
 root_stays : (states : ℕ → State) (g t : ℕ) (r : Ref) → root_until states g zero ≡ Some r → root_until states g t ≡ Some r
 unfolding root_until
 root_stays states g zero r e = e
-root_stays states g (suc t) r e = ap (λ o. or_before o (root_among (states (suc t)).heap g (states (suc t)).roots)) (root_stays states g t r e)
+root_stays states g (suc t) r e = ap (λ o. or_other o (root_among (states (suc t)).heap g (states (suc t)).roots)) (root_stays states g t r e)
 
 -- ---- the first state
 
@@ -54,11 +55,6 @@ first_root = record { birth = 2; node = Indirection 0 (ref_to 1 0); prev = prev.
 
 first_branch : Slot
 first_branch = record { birth = 1; node = empty_branch; prev = prev.None }
-
-two_slots : (slots : ℕ) → 2 ≤ slots → (n : ℕ) × (slots ≡ suc (suc n))
-two_slots zero le = absurd (omega arith)
-two_slots (suc zero) le = absurd (omega arith)
-two_slots (suc (suc n)) le = (n, refl)
 
 root_standing : (n : ℕ) → standing (first_heap (suc (suc n))) (ref_to 2 1) ≡ Some first_root
 unfolding stored taken first_root
@@ -75,7 +71,7 @@ first_generation n = refl
 first_among : (limits : Limits) (n : ℕ) → limits.slots ≡ suc (suc n) → root_among (first_state limits).heap 0 (first_state limits).roots ≡ Some (ref_to 2 1)
 unfolding first_state
 first_among limits n e =
-    ap (λ g. or_before (cond (g == 0) (Some (ref_to 2 1)) None) None) (ap (λ k. generation_at (first_heap k) (ref_to 2 1)) e ∙ first_generation n)
+    ap (λ g. or_other (cond (g == 0) (Some (ref_to 2 1)) None) None) (ap (λ k. generation_at (first_heap k) (ref_to 2 1)) e ∙ first_generation n)
 
 pub first_heap_is : (limits : Limits) → (first_state limits).heap ≡ first_heap limits.slots
 unfolding first_state
@@ -83,7 +79,7 @@ first_heap_is limits = refl
 
 module _ (limits : Limits) (states : ℕ → State) (last : ℕ) (r : IsRun limits states last) (stay : NodesStay states last) where
   slots_are : (n : ℕ) × (limits.slots ≡ suc (suc n))
-  slots_are = two_slots limits.slots r.limits_ok.0
+  slots_are = two_or_more limits.slots r.limits_ok.0
 
   first_standing : (q : Ref) → standing (states zero).heap q ≡ standing (first_heap (suc (suc slots_are.0))) q
   first_standing q = ap (λ (s : State). standing s.heap q) r.first ∙ ap (λ h. standing h q) (first_heap_is limits ∙ ap first_heap slots_are.1)
@@ -101,17 +97,17 @@ module _ (limits : Limits) (states : ℕ → State) (last : ℕ) (r : IsRun limi
   root_until_first = ap (λ (s : State). root_among s.heap 0 s.roots) r.first ∙ first_among limits slots_are.0 slots_are.1
 
   -- the first root is that of generation 0
-  pub root_is : root_at states last 0 ≡ ref_to 2 1
+  pub root_is : root_of_generation states last 0 ≡ ref_to 2 1
   root_is = ap (λ o. unwrap_or o 0) (root_stays states 0 last (ref_to 2 1) root_until_first)
 
   root_generation : generation_of (node_under states last (ref_to 2 1)) ≡ 0
   unfolding first_root
   root_generation = ap generation_of (indirection_stays states last stay zero (ref_to 2 1) first_root 0 (ref_to 1 0) (omega arith) root_at_first refl).1
 
-  root_main : main_at states last zero (ref_to 2 1) ≡ ref_to 1 0
+  root_main : counting_main states last zero (ref_to 2 1) ≡ ref_to 1 0
   unfolding first_root first_branch
   root_main =
-      main_at-made states last zero (ref_to 2 1) (ap is_some root_at_first)
+      counting_main-made states last zero (ref_to 2 1) (ap is_some root_at_first)
       ∙ ap (λ o. logical (main_of (node_of o)) (prev_word states zero (main_of (node_of o)))) root_at_first
       ∙ ap (λ o. logical (ref_to 1 0) (prev_of o)) branch_at_first
 
@@ -123,4 +119,4 @@ module _ (limits : Limits) (states : ℕ → State) (last : ℕ) (r : IsRun limi
   pub starts_empty : (depth path : Ref → ℕ) → IsTrie (trie_of limits states last depth path) → content (trie_of limits states last depth path) 0 0 ≡ map.empty
   starts_empty depth path ok =
       empty_opens (trie_of limits states last depth path) ok 0 0 (ap (λ q. generation_of (node_under states last q)) root_is ∙ root_generation)
-      (ap (λ q. node_under states last (main_at states last zero q)) root_is ∙ ap (node_under states last) root_main ∙ branch_is)
+      (ap (λ q. node_under states last (counting_main states last zero q)) root_is ∙ ap (node_under states last) root_main ∙ branch_is)

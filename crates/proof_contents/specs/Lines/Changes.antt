@@ -137,7 +137,8 @@ IsAlike known call depth main position beside end =
     (end ≤ 13) × ((d : ℕ) → suc depth ≤ d → d ≤ end → index_in (hash_of known.kind beside.other) d ≡ index_in (hash_of known.kind (key_of call)) d)
 
 -- A main node for this depth leads to both: it is the pair, or a rung over an indirection that does.
-pub data LeadsBelow (known : Known) (call : Call) (depth : ℕ) (main : Ref) (position : ℕ) (beside : Neighbour known depth (key_of call) main position) (single : Ref) (end : ℕ) (below : Ref) : Type 0 where
+pub data LeadsBelow (known : Known) (call : Call) (depth : ℕ) (main : Ref) (position : ℕ) (beside : Neighbour known depth (key_of call) main position)
+    (single : Ref) (end : ℕ) (below : Ref) : Type 0 where
   by_pair : known.node below ≡ pair known.kind end (hash_of known.kind beside.other) (hash_of known.kind (key_of call)) (slice_index_or beside.entries.items position no_ref) single →
       Parts known.kind beside.other (key_of call) end → depth < end → end ≤ 13 →
       ((d : ℕ) → suc depth ≤ d → d < end → index_in (hash_of known.kind beside.other) d ≡ index_in (hash_of known.kind (key_of call)) d) →
@@ -150,7 +151,8 @@ abbrev pub KnowsChange : Known → Call → ℕ → Ref → Option ℕ → Chang
 KnowsChange known call depth main former (change.Insert single) = Inserts call former × Absence known depth (key_of call) main × IsNewSingle known call single
 KnowsChange known call depth main former (change.Update position entry) =
     ((value : ℕ) × (former ≡ Some value) × (when_found call value ≡ Sets) × Presence known depth (key_of call) main position value × IsNewSingle known call entry)
-    ⊎ (Inserts call former × ((beside : Neighbour known depth (key_of call) main position) × (single : Ref) × IsNewSingle known call single × LeadsToBoth known call depth main position beside single (suc depth) entry))
+    ⊎ (Inserts call former
+    × ((beside : Neighbour known depth (key_of call) main position) × (single : Ref) × IsNewSingle known call single × LeadsToBoth known call depth main position beside single (suc depth) entry))
 KnowsChange known call depth main former (change.Remove position) =
     (value : ℕ) × (former ≡ Some value) × (when_found call value ≡ Removes) × Presence known depth (key_of call) main position value
 KnowsChange known call depth main former (change.Entomb other) =

@@ -57,5 +57,5 @@ abbrev pub value_in : (Ref → Node) → (Ref → Ref) → (ℕ → ℕ) → ℕ
 value_in node main hash key levels depth main_node = value_by (find_at node main hash key levels (suc depth)) (look_in node (flag_of (hash key) depth) key main_node)
 
 -- the content of a main node is this map
-abbrev pub Holds : (Ref → Node) → (Ref → Ref) → (ℕ → ℕ) → ℕ → ℕ → Node → FinMap nat_cmp ℕ → Type 0
-Holds node main hash levels depth main_node m = (key : ℕ) → value_in node main hash key levels depth main_node ≡ map.get m key
+abbrev pub HoldsMap : (Ref → Node) → (Ref → Ref) → (ℕ → ℕ) → ℕ → ℕ → Node → FinMap nat_cmp ℕ → Type 0
+HoldsMap node main hash levels depth main_node m = (key : ℕ) → value_in node main hash key levels depth main_node ≡ map.get m key

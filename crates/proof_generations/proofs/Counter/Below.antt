@@ -1,5 +1,6 @@
 -- Along a run: all generations are below the counter.
-use Rattle.std.proofs.Common.{◌≡◌, ℕ, suc, ◌+◌, ◌<◌, ◌≤◌, ◌==◌, Bool, true, false, cond, inl, inr, List, ◌∷◌, ◌++◌, map, find, length, nat_le, set, get_or, Option, Some, None, option_map, unwrap_or, refl, sym, ap, ◌∙◌, subst, eqb-true, arith, []}
+use Rattle.std.proofs.Common.{◌≡◌, ℕ, suc, ◌+◌, ◌<◌, ◌≤◌, ◌==◌, Bool, true, false, cond, inl, inr, List, ◌∷◌, ◌++◌, map, find, length, nat_le, set, get_or, Option, Some, None}
+use Rattle.std.proofs.Common.{option_map, unwrap_or, refl, sym, ap, ◌∙◌, subst, eqb-true, arith, []}
 use Rattle.std.proofs.lemmas.Bool.{cases_eq, cond_both}
 use Rattle.std.proofs.lemmas.Option.{none-some, same_Some}
 use Rattle.proof_generations.specs.Beneath.history.specs.declared.calls.Call.{Call}
@@ -12,7 +13,8 @@ use Rattle.proof_generations.specs.Beneath.slot_arena.specs.declared.nodes.Node.
 use Rattle.proof_generations.specs.Beneath.slot_arena.specs.declared.nodes.Prev.{Prev}
 use Rattle.proof_generations.specs.Beneath.slot_arena.specs.declared.nodes.Prev.TheVariants as prev
 use Rattle.proof_generations.specs.Beneath.slot_arena.specs.declared.nodes.Slot.{Slot}
-use Rattle.proof_generations.specs.Beneath.slot_arena.specs.Heaps.{Heap, stored, node_at, taken, generation_of, generation_at, node_of, with_main, with_prev, written, main_changed, prev_changed, freed, next_ref}
+use Rattle.proof_generations.specs.Beneath.slot_arena.specs.Heaps.{Heap, stored, node_at, taken, generation_of, generation_at, node_of, with_main, with_prev, written, main_changed}
+use Rattle.proof_generations.specs.Beneath.slot_arena.specs.Heaps.{prev_changed, freed, next_ref}
 use Rattle.proof_generations.specs.Beneath.machine_model.specs.declared.actions.Action.{Action}
 use Rattle.proof_generations.specs.Beneath.machine_model.specs.declared.actions.Action.TheVariants as act
 use Rattle.proof_generations.specs.Beneath.machine_model.specs.declared.operations.Operation.{Operation}
@@ -59,7 +61,8 @@ abbrev pub NodesBelow : ℕ → Heap → Type 0
 NodesBelow n heap = (k : ℕ) (slot : Slot) → get_or heap.slots k None ≡ Some slot → generation_of slot.node < n
 
 -- a change of a slot that keeps the generation
-changed_below : (n : ℕ) (change : Slot → Slot) (heap : Heap) (r : Ref) → ((slot : Slot) → generation_of (change slot).node ≡ generation_of slot.node) → NodesBelow n heap → NodesBelow n (written change heap r)
+changed_below : (n : ℕ) (change : Slot → Slot) (heap : Heap) (r : Ref) → ((slot : Slot) → generation_of (change slot).node ≡ generation_of slot.node) →
+    NodesBelow n heap → NodesBelow n (written change heap r)
 unfolding stored
 changed_below n change heap r keeps h k slot e = elim (cases_eq k (slot_of r)) [
   | inl same ↦ by (get_or heap.slots (slot_of r) None) refl (found_here heap.slots (slot_of r) _ slot (subst (λ i. get_or (written change heap r).slots i None ≡ Some slot) same e))
@@ -130,12 +133,14 @@ make_no_root : (node : Node) (main : Ref) → act.Make node ≡ act.MakeRoot mai
 make_no_root node main e = cc e
 
 -- what is made is below the counter, where the start generation is
-made_below : (state : State) (operation : Operation) (node : Node) → 0 < state.generations → start_of operation < state.generations → MadeOf state operation (act.Make node) node → generation_of node < state.generations
+made_below : (state : State) (operation : Operation) (node : Node) → 0 < state.generations → start_of operation < state.generations →
+    MadeOf state operation (act.Make node) node → generation_of node < state.generations
 made_below state operation node pos start (plain e) = omega arith
 made_below state operation node pos start (started e) = omega arith
 made_below state operation node pos start (drawn main a e) = absurd (make_no_root node main a)
 
-begin_heap_same : (state : State) (actor : ℕ) (call : Call) (operation : Operation) → ((with_begin state actor call operation).heap ≡ state.heap) × ((with_begin state actor call operation).generations ≡ state.generations)
+begin_heap_same : (state : State) (actor : ℕ) (call : Call) (operation : Operation) → ((with_begin state actor call operation).heap ≡ state.heap)
+    × ((with_begin state actor call operation).generations ≡ state.generations)
 begin_heap_same state actor call operation = (grind arith, grind arith)
 
 sweep_below : (n : ℕ) (pins : List (Option ℕ)) (r : Reclaimer) (due : Option Ref) → NodesBelow n r.heap → NodesBelow n (sweep_by pins r due).1.heap
@@ -179,7 +184,8 @@ start_after : (state : State) (operation : Operation) (l : Line) → 0 < state.g
 start_after state operation (line.Root l) pos h e = given_below state (root_after state.heap operation.access (word_at state (handle_of operation.call)) l) operation.generation pos h e
 start_after state operation l pos h e = e
 
-starts_by : (state : State) (s : Step) (n : ℕ) → 0 < state.generations → state.generations ≤ n → NodesBelow state.generations state.heap → StartsBelow state → (k : ℕ) (found : Operation) → Comes state s k found →
+starts_by : (state : State) (s : Step) (n : ℕ) → 0 < state.generations → state.generations ≤ n → NodesBelow state.generations state.heap → StartsBelow state →
+    (k : ℕ) (found : Operation) → Comes state s k found →
     start_of found < n
 starts_by state s n pos more h all k found (began call is d it) = omega (arith, ap start_of it)
 starts_by state s n pos more h all k found (rested was at_k it) = omega (arith, ap start_of (it ∙ mark_only (marks_in state s) was), all k was at_k)
@@ -213,7 +219,8 @@ pub opened_closings : (st : State) (offer : Descriptor) (n : Option ℕ) → (op
 opened_closings st offer None = refl
 opened_closings st offer (Some n) = refl
 
-carried_closings : (st : State) (at : ℕ) (offer : Descriptor) → ClosingsBelow st.generations st.closings → generation_at st.heap offer.root < st.generations → ClosingsBelow st.generations (carried_out st at offer).closings
+carried_closings : (st : State) (at : ℕ) (offer : Descriptor) → ClosingsBelow st.generations st.closings → generation_at st.heap offer.root < st.generations →
+    ClosingsBelow st.generations (carried_out st at offer).closings
 carried_closings st at offer h root =
     closings_push st.generations _ (record { generation = generation_at st.heap offer.root; step = st.steps })
     (subst (λ l. ClosingsBelow st.generations l) (sym (opened_closings (with_word st at (Plain offer.successor)) offer offer.opens)) h) root
@@ -231,7 +238,8 @@ pub root_closings : (st : State) (main : Ref) (made : Option Ref) → (new_root_
 root_closings st main None = refl
 root_closings st main (Some made) = refl
 
-acted_closings : (st : State) (at : ℕ) (action : Action) → ((r : Ref) → generation_at st.heap r < st.generations) → ClosingsBelow st.generations st.closings → ClosingsBelow st.generations (acted st at action).closings
+acted_closings : (st : State) (at : ℕ) (action : Action) → ((r : Ref) → generation_at st.heap r < st.generations) → ClosingsBelow st.generations st.closings →
+    ClosingsBelow st.generations (acted st at action).closings
 acted_closings st at (act.Abort offer) root h = test_closings st.generations _ (with_word st at (Plain offer.root)) st h h
 acted_closings st at (act.Offer offer) root h = test_closings st.generations _ (with_word st at (Offer offer)) st h h
 acted_closings st at (act.Complete offer main) root h = test_closings st.generations _ _ st (completed_closings st at offer (main == offer.expected) h (root offer.root)) h
@@ -241,7 +249,8 @@ acted_closings st at action root h = h
 pub begin_closings : (state : State) (actor : ℕ) (call : Call) (operation : Operation) → (with_begin state actor call operation).closings ≡ state.closings
 begin_closings state actor call operation = grind arith
 
-closings_after : (state : State) (s : Step) (o : Outcome) (after : State) → Moves state s o after → ((r : Ref) → generation_at state.heap r < state.generations) → ClosingsBelow state.generations state.closings →
+closings_after : (state : State) (s : Step) (o : Outcome) (after : State) → Moves state s o after → ((r : Ref) → generation_at state.heap r < state.generations) →
+    ClosingsBelow state.generations state.closings →
     ClosingsBelow state.generations after.closings
 closings_after state s o after (Begins {actor} {call} d) root h = subst (λ l. ClosingsBelow state.generations l) (sym (begin_closings state actor call (begun_operation state call))) h
 closings_after state s o after (Goes {actor} {operation} d is a g) root h = acted_closings _ (handle_of operation.call) (action_of state operation) root h

@@ -95,7 +95,15 @@ pub record Made (state : State) (r : Ref) (slot : Slot) : Type 0 where
 pub new_is_made : (state : State) (f g : Ref → Option Slot) → WordMove state f g → (r : Ref) (slot : Slot) → f r ≡ None → g r ≡ Some slot → Made state r slot
 new_is_made state f g (keeps k) r slot none e = absurd (none-some slot (sym none ∙ sym (k r) ∙ e))
 new_is_made state f g (makes actor operation node made is a n before new others) r slot none e = elim (cases_eq r made) [
-  | inl s ↦ record { actor = actor; operation = operation; node = node; runs = is; makes_it = a; takes = n ∙ ap Some (sym s); its_node = ap (λ (x : Slot). x.node) (same_Some _ _ (sym e ∙ ap g s ∙ new)) }
+  | inl s ↦ record {
+    actor = actor;
+    operation = operation;
+    node = node;
+    runs = is;
+    makes_it = a;
+    takes = n ∙ ap Some (sym s);
+    its_node = ap (λ (x : Slot). x.node) (same_Some _ _ (sym e ∙ ap g s ∙ new));
+  }
   | inr other ↦ absurd (none-some slot (sym none ∙ sym (others r other) ∙ e))
 ]
 new_is_made state f g (publishes actor operation i replaced fresh at_i at_fresh takes differ f_i m f_fresh g_i g_fresh others) r slot none e = elim (cases_eq r i) [
@@ -117,7 +125,8 @@ new_is_made state f g (fails actor operation i main previous told at_main takes 
 
 -- ---- at first all are of generation 0
 
-pub taken_list : (heap : Heap) (node : Node) (free : List ℕ) (k : ℕ) (slot : Slot) → get_or (take_from heap node free).slots k None ≡ Some slot → (slot.node ≡ node) ⊎ (get_or heap.slots k None ≡ Some slot)
+pub taken_list : (heap : Heap) (node : Node) (free : List ℕ) (k : ℕ) (slot : Slot) → get_or (take_from heap node free).slots k None ≡ Some slot →
+    (slot.node ≡ node) ⊎ (get_or heap.slots k None ≡ Some slot)
 taken_list heap node [] k slot e = inr e
 taken_list heap node (n ∷ free) k slot e =
     let put : Option Slot = Some (record { birth = heap.births + 1; node = node; prev = prev.None }) in

@@ -137,7 +137,8 @@ module _ (state : State) (operation : Operation) (S : Ref → Type 0) where
   copy_made (copy.Offer offer) made e = absurd (none-some made e)
   copy_made (copy.Complete c) made e = absurd (complete_makes state c made e)
 
-  pub made_of : (l : Line) → AllHold S state.heap (line_wants state.limits.hash operation.call operation.access l) → (made : Node) → made_node state (line_action state operation l) ≡ Some made → Of l made
+  pub made_of : (l : Line) → AllHold S state.heap (line_wants state.limits.hash operation.call operation.access l) → (made : Node) →
+      made_node state (line_action state operation l) ≡ Some made → Of l made
   made_of (line.Root l) h made e = absurd (root_makes state operation l made e)
   made_of (line.Key l) h made e = absurd (key_makes state operation l made e)
   made_of (line.Build l) h made e = build_made l h made e

@@ -36,7 +36,6 @@ use Rattle.proof_generations.specs.Beneath.machine_model.specs.Times.{turns}
 use Rattle.proof_generations.specs.Beneath.machine_model.specs.Times.{IsRun, Turn}
 use Rattle.proof_generations.specs.Beneath.machine_model.specs.Grown.{standing, grown, node_under}
 use Rattle.proof_generations.specs.Beneath.proof_memory.proofs.Claims.Uses.{entries_same}
-use Rattle.proof_generations.specs.Beneath.proof_memory.proofs.Heap.Under.{standing_parts}
 use Rattle.proof_commits.proofs.Known.Sounds.{sound_at}
 use Rattle.proof_commits.proofs.Words.Stood.{Stood}
 use Rattle.proof_generations.proofs.Counter.Drawn.{taken_list}
@@ -54,6 +53,7 @@ use Rattle.proof_generations.proofs.Lines.Knows.{IsInner}
 use Rattle.proof_generations.proofs.Falling.MainsNext.{mains_next}
 use Rattle.proof_generations.proofs.Falling.LinesNext.{lines_next}
 use Rattle.proof_generations.proofs.Falling.FreshRoots.{fresh_still, fresh_new}
+use Rattle.proof_generations.specs.Beneath.machine_model.proofs.Grown.{standing_parts}
 
 -- all that is known at a time
 pub record AllFalls (states : ℕ → State) (last t : ℕ) : Type 0 where
@@ -98,7 +98,10 @@ module _ (limits : Limits) (states : ℕ → State) (last : ℕ) (run : IsRun li
 
   all_at_first : AllFalls states last zero
   all_at_first = record {
-    mains = record { older = λ i m stood. nothing_below (NotNewer states last (gen_of states last i)) i m stood; falls = λ i m stood was. nothing_below (FitsBelow states last zero (gen_of states last i)) i m stood };
+    mains = record {
+      older = λ i m stood. nothing_below (NotNewer states last (gen_of states last i)) i m stood;
+      falls = λ i m stood was. nothing_below (FitsBelow states last zero (gen_of states last i)) i m stood;
+    };
     lines = λ k operation runs. absurd (none_runs k operation runs);
     fresh = λ k operation x r runs. absurd (none_runs k operation runs);
   }
@@ -120,7 +123,8 @@ module _ (limits : Limits) (states : ℕ → State) (last : ℕ) (run : IsRun li
         ]
 
     -- below the root that a line makes falls what stands below the operation's
-    root_falls : (k : ℕ) (was : Operation) (x : Bool) (r main : Ref) (runs : Runs (states t) k was) → GoesOn (action_of (states t) was) → (go : s ≡ step.Go (suc k)) → action_of (states t) was ≡ act.MakeRoot main → next_ref (states t).heap ≡ Some r →
+    root_falls : (k : ℕ) (was : Operation) (x : Bool) (r main : Ref) (runs : Runs (states t) k was) → GoesOn (action_of (states t) was) →
+        (go : s ≡ step.Go (suc k)) → action_of (states t) was ≡ act.MakeRoot main → next_ref (states t).heap ≡ Some r →
         (access : Access) → was.access ≡ access → (found : Operation) → found.generation ≡ generation_from (states t) was was.line → FreshFalls states last (suc t) found r
     root_falls k was x r main runs g go makes_it takes Writable w found same =
         let made = ap (made_node (states t)) makes_it in
@@ -136,7 +140,8 @@ module _ (limits : Limits) (states : ℕ → State) (last : ℕ) (run : IsRun li
     went_falls : (k : ℕ) (was found : Operation) (x : Bool) (r : Ref) → (runs : Runs (states t) k was) → GoesOn (action_of (states t) was) → s ≡ step.Go (suc k) → was.is_marked ≡ false →
         found.generation ≡ generation_from (states t) was was.line → FreshFrom (states t) was was.line x r → FreshFalls states last (suc t) found r
     went_falls k was found x r runs g go unmarked same (had e) =
-        fresh_still limits states last run t lt all.lines k was x r runs unmarked e (all.fresh k was x r runs unmarked e) found (same ∙ inner_generation (states t) was was.line (fresh_inner was.line x r e))
+        fresh_still limits states last run t lt all.lines k was x r runs unmarked e (all.fresh k was x r runs unmarked e) found
+        (same ∙ inner_generation (states t) was was.line (fresh_inner was.line x r e))
     went_falls k was found x r runs g go unmarked same (new main makes_it takes side) = root_falls k was x r main runs g go makes_it takes was.access refl found same
 
     fresh_by : (k : ℕ) (found : Operation) (x : Bool) (r : Ref) → Comes (states t) s k found → found.is_marked ≡ false → fresh_in x found.line ≡ Some r → FreshFalls states last (suc t) found r

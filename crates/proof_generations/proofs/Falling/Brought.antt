@@ -11,7 +11,8 @@ pub data Brought (w : Words) (t : ℕ) (i m : Ref) : Type 0 where
   makes : w.link t i ≡ false → w.link (suc t) i ≡ true → w.main (suc t) i ≡ m → Brought w t i m
   swaps : (k : ℕ) (a : Ref) → w.stage t k ≡ Publishes i a m → Brought w t i m
 
-brought_by : (w : Words) (t k : ℕ) (h : IsSound w t) (s after : Stage) → w.stage t k ≡ s → (st : Staged w t k s) (m : Moves w t k s after) (i x : Ref) → Brings w t (effect_of w t k h s after st m) i x → Brought w t i x
+brought_by : (w : Words) (t k : ℕ) (h : IsSound w t) (s after : Stage) → w.stage t k ≡ s → (st : Staged w t k s) (m : Moves w t k s after) (i x : Ref) →
+    Brings w t (effect_of w t k h s after st m) i x → Brought w t i x
 brought_by w t k h s after is st (Idles e f r) i x b = absurd b
 brought_by w t k h s after is st (MakesNode n e f name have) i x b =
     makes (subst (λ q. w.link t q ≡ false) b.0 e.was_no_link) (subst (λ q. w.link (suc t) q ≡ true) b.0 b.1) (ap (w.main (suc t)) (sym b.0) ∙ b.2)

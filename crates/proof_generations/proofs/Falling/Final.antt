@@ -32,8 +32,8 @@ use Rattle.proof_commits.specs.Moments.{IsMoment}
 use Rattle.proof_commits.specs.Stages.{stage_of}
 use Rattle.proof_commits.proofs.Lines.Swap.{reads_stage}
 use Rattle.proof_commits.specs.Protocol.{Reads}
-use Rattle.proof_contents.proofs.Values.Runs.{main_at-made}
-use Rattle.proof_contents.specs.Runs.{main_at}
+use Rattle.proof_contents.proofs.Values.Runs.{counting_main-made}
+use Rattle.proof_contents.specs.Runs.{counting_main}
 use Rattle.proof_generations.specs.Falling.{ClosedBeforeRead, ReadsClosed, IsLate, GivesAt, GivenForEver, RepairsAreGiven}
 use Rattle.proof_generations.proofs.Falling.KnownRoots.{words, known, protocol_of}
 use Rattle.proof_generations.proofs.Falling.Opened.{closed_until}
@@ -135,8 +135,8 @@ module _ (limits : Limits) (states : ℕ → State) (last : ℕ) (run : IsRun li
   -- ---- what is given
 
   -- the main node that counts in the words is that of the trie
-  counts_in_trie : (t : ℕ) → t ≤ last → (i m : Ref) → (words states last).link t i ≡ true → main_before states t i ≡ m → main_at states last t i ≡ m
-  counts_in_trie t within i m link is = main_at-made states last t i (link_made (grown states t i) link) ∙ is
+  counts_in_trie : (t : ℕ) → t ≤ last → (i m : Ref) → (words states last).link t i ≡ true → main_before states t i ≡ m → counting_main states last t i ≡ m
+  counts_in_trie t within i m link is = counting_main-made states last t i (link_made (grown states t i) link) ∙ is
 
   module _ (t : ℕ) (lt : t < last) (actor : ℕ) (operation : Operation) (i m : Ref) (g : GivesAt states t actor operation i m) where
     own_stage : stage_of operation.line ≡ Reads g.read.indirection g.read.line
@@ -146,7 +146,8 @@ module _ (limits : Limits) (states : ℕ → State) (last : ℕ) (run : IsRun li
     moment =
         subst (λ j. IsMoment (words states last) j m (read_at_after (states t) operation) (moment_after (states t) operation) t) g.of
         (moment_at limits states last (known limits states last run) t lt actor operation g.outcome g.moves g.runs
-        (gone_is (states t) actor g.outcome (states (suc t)) g.moves operation g.runs (reads_on limits states last run t lt actor operation g.runs g.read own_stage)) g.read.indirection g.read.line own_stage m
+        (gone_is (states t) actor g.outcome (states (suc t)) g.moves operation g.runs
+        (reads_on limits states last run t lt actor operation g.runs g.read own_stage)) g.read.indirection g.read.line own_stage m
         (given_read g.read.indirection (read_after (states t).heap operation.access (word_at (states t) (handle_of operation.call)) g.read.indirection g.read.line) m g.gives))
 
     -- the indirection is one from what the READ counts from on
@@ -155,7 +156,7 @@ module _ (limits : Limits) (states : ℕ → State) (last : ℕ) (run : IsRun li
         link_stays (protocol_of limits states last run) i (suc (read_at_after (states t) operation)) u (omega (arith, moment.from, after)) within moment.link
 
     -- what was closed before the READ is final
-    final : ReadsClosed operation (gen_of states last i) → (u : ℕ) → moment_after (states t) operation < u → u ≤ last → main_at states last u i ≡ m
+    final : ReadsClosed operation (gen_of states last i) → (u : ℕ) → moment_after (states t) operation < u → u ≤ last → counting_main states last u i ≡ m
     final closed u after within =
         let late = closed_before_read t (omega arith) actor operation g.read g.runs g.reads (subst (λ j. ReadsClosed operation (gen_of states last j)) (sym g.of) closed) in
         let (c, before, is, since) = subst (λ j. IsLate states t operation g.read (gen_of states last j)) g.of late in
@@ -164,10 +165,11 @@ module _ (limits : Limits) (states : ℕ → State) (last : ℕ) (run : IsRun li
         (closed_until limits states last run t last (omega arith) (omega arith) (gen_of states last i) c is)
         (late_after limits states last run t lt actor operation g.runs g.read own_stage c before since) u after within)
 
-    once : (moment_after (states t) operation ≤ t) × (main_at states last (suc (moment_after (states t) operation)) i ≡ m)
+    once : (moment_after (states t) operation ≤ t) × (counting_main states last (suc (moment_after (states t) operation)) i ≡ m)
     once = (
       moment.past,
-      counts_in_trie (suc (moment_after (states t) operation)) (omega (arith, moment.past)) i m (link_from (suc (moment_after (states t) operation)) (omega arith) (omega (arith, moment.past))) moment.is,
+      counts_in_trie (suc (moment_after (states t) operation)) (omega (arith, moment.past)) i m
+          (link_from (suc (moment_after (states t) operation)) (omega arith) (omega (arith, moment.past))) moment.is,
     )
 
   pub given_for_ever : GivenForEver states last

@@ -71,7 +71,8 @@ module _ (S : Ref → Type 0) (heap : Heap) where
   complete_link offer (complete.Reading l) h = offer_link offer (h.0, (h.1.0, (h.1.1.0, (h.1.1.1.0, tt))))
   complete_link offer (complete.Swap main) h = offer_link offer (h.0, (h.1.0, (h.1.1.0, (h.1.1.1.0, tt))))
 
-  fresh_link : (state : State) (operation : Operation) (l : Line) → AllHold S heap (line_wants state.limits.hash operation.call operation.access l) → (x : Bool) (r : Ref) → fresh_in x l ≡ Some r → Holds S heap (Is r AnIndirection)
+  fresh_link : (state : State) (operation : Operation) (l : Line) → AllHold S heap (line_wants state.limits.hash operation.call operation.access l) →
+      (x : Bool) (r : Ref) → fresh_in x l ≡ Some r → Holds S heap (Is r AnIndirection)
   fresh_link state operation (line.Copy (copy.Second root main successor)) h true r e = subst (λ q. Holds S heap (Is q AnIndirection)) (same_Some _ _ e) h.1.1.0
   fresh_link state operation (line.Copy (copy.Second root main successor)) h false r e = absurd (none-some r e)
   fresh_link state operation (line.Copy (copy.Offer offer)) h x r e = offer_link offer h x r e
@@ -86,11 +87,13 @@ not_rooted states t handle g u (inr (c, before, closed, on)) = none-some c (sym 
 module _ (limits : Limits) (states : ℕ → State) (last : ℕ) (run : IsRun limits states last) where
   pub fresh_stands : (t : ℕ) → t ≤ last → (k : ℕ) (operation : Operation) (x : Bool) (r : Ref) → Runs (states t) k operation → fresh_in x operation.line ≡ Some r → (words states last).link t r ≡ true
   fresh_stands t within k operation x r runs e =
-      let claim = fresh_link (IsInUse (states t).heap) (states t).heap (states t) operation operation.line (line_finds (states t) (safe_at limits states last run t within) (suc k) operation runs) x r e in
+      let claim = fresh_link (IsInUse (states t).heap) (states t).heap (states t) operation operation.line
+      (line_finds (states t) (safe_at limits states last run t within) (suc k) operation runs) x r e in
       let (h, word, is) = indirection_is (node_at (states t).heap r) (meets_of claim) in
       ap is_indirection (sym (node_found states t r (safe_of claim)) ∙ is)
 
-  module _ (t : ℕ) (lt : t < last) (know : AllKnow states last t) (k : ℕ) (was : Operation) (x : Bool) (r : Ref) (runs : Runs (states t) k was) (unmarked : was.is_marked ≡ false) (has : fresh_in x was.line ≡ Some r)
+  module _ (t : ℕ) (lt : t < last) (know : AllKnow states last t) (k : ℕ) (was : Operation) (x : Bool) (r : Ref) (runs : Runs (states t) k was)
+      (unmarked : was.is_marked ≡ false) (has : fresh_in x was.line ≡ Some r)
       (falls : FreshFalls states last t was r) where
     at_end : gen_of states last r ≡ generation_at (states t).heap r
     at_end = used_generation limits states last run t (omega arith) r (fresh_used limits states last run t (omega arith) k was x r runs has)
@@ -131,7 +134,8 @@ module _ (limits : Limits) (states : ℕ → State) (last : ℕ) (run : IsRun li
 
   -- ---- a root that is made now
 
-  module _ (t : ℕ) (lt : t < last) (know : AllKnow states last t) (k : ℕ) (was : Operation) (r main : Ref) (runs : Runs (states t) k was) (o : Outcome) (moves : Moves (states t) (step.Go (suc k)) o (states (suc t)))
+  module _ (t : ℕ) (lt : t < last) (know : AllKnow states last t) (k : ℕ) (was : Operation) (r main : Ref) (runs : Runs (states t) k was) (o : Outcome)
+      (moves : Moves (states t) (step.Go (suc k)) o (states (suc t)))
       (goes : GoesOn (action_of (states t) was)) (mains : MainsFall states last (suc t)) (makes_it : action_of (states t) was ≡ act.MakeRoot main) (takes : next_ref (states t).heap ≡ Some r) where
     new_used_root : IsInUse (states (suc t)).heap r × (node_at (states (suc t)).heap r ≡ Indirection (states t).generations main)
     new_used_root = new_used limits states last run t lt mains k was runs o moves goes (Indirection (states t).generations main) r (ap (made_node (states t)) makes_it) takes

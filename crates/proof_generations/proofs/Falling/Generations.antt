@@ -26,7 +26,8 @@ module _ (limits : Limits) (states : ℕ → State) (last : ℕ) (run : IsRun li
 
   -- ---- in the trie
 
-  older_by : (t : ℕ) → t ≤ last → (i : Ref) (b : Bool) → is_indirection (node_under states t i) ≡ b → All (NotNewer states last (gen_of states last i)) (entries_of (node_under states last (main_before states t i)))
+  older_by : (t : ℕ) → t ≤ last → (i : Ref) (b : Bool) → is_indirection (node_under states t i) ≡ b →
+      All (NotNewer states last (gen_of states last i)) (entries_of (node_under states last (main_before states t i)))
   older_by t within i true e = (all_falls limits states last run t within).mains.older i (main_before states t i) (main_stood t within i e)
   older_by t within i false e =
       subst (All (NotNewer states last (gen_of states last i))) (sym (ap (λ m. entries_of (node_under states last m)) (no_main_before limits states last run t within i e)

@@ -13,13 +13,11 @@ use Rattle.proof_generations.specs.Beneath.machine_model.specs.Times.{IsRun, sta
 use Rattle.proof_generations.specs.Beneath.proof_memory.specs.Laws.{is_end}
 use Rattle.proof_generations.proofs.Roots.Open.{open_root}
 use Rattle.proof_commits.specs.Protocol.{Words, Protocol}
-use Rattle.proof_commits.proofs.Known.Given.{Known}
-use Rattle.proof_commits.proofs.Known.Layers.{RootsAreOpen, OtherLayers}
-use Rattle.proof_commits.proofs.Known.Layers as Layers
-use Rattle.proof_commits.proofs.Known.Memory.{memory}
+use Rattle.proof_commits.proofs.Known.Given.{RootsAreOpen, Known}
+use Rattle.proof_commits.proofs.Known.Acts.{known_by}
 use Rattle.proof_commits.specs.Words.{words_of}
 use Rattle.proof_commits.proofs.Words.Along.{protocol}
-use Rattle.proof_commits.proofs.Course.OfLists.{LayersOfRuns}
+use Rattle.proof_commits.proofs.Course.OfLists.{RootsOfRuns}
 
 -- who is in a READ isn't at the end
 pub reads_on : (l : Line) (r : Read) → read_of l ≡ Some r → is_end l ≡ false
@@ -30,16 +28,12 @@ pub roots_are_open : (limits : Limits) (states : ℕ → State) (last : ℕ) →
 roots_are_open limits states last run t h actor operation is i main previous reads writable q word c closed =
     open_root limits states last run t (omega arith) actor operation is (reads_on operation.line _ reads) writable q word c closed
 
--- what other layers give of a run
-pub layers : (limits : Limits) (states : ℕ → State) (last : ℕ) → IsRun limits states last → OtherLayers limits states last
-layers limits states last run = record { memory = memory limits states last run; roots = roots_are_open limits states last run }
-
-pub layers_of_runs : LayersOfRuns
-layers_of_runs limits steps ok = layers limits (states_of limits steps) (last_of limits steps) (run_is limits steps ok)
+pub roots_of_runs : RootsOfRuns
+roots_of_runs limits steps ok = roots_are_open limits (states_of limits steps) (last_of limits steps) (run_is limits steps ok)
 
 -- the words of a run with the closings, and their protocol
 abbrev pub known : (limits : Limits) (states : ℕ → State) (last : ℕ) → IsRun limits states last → Known limits states last
-known limits states last run = Layers.known limits states last (layers limits states last run)
+known limits states last run = known_by limits states last run (λ g. closed_at (states last) g) (roots_are_open limits states last run)
 
 abbrev pub words : (ℕ → State) → ℕ → Words
 words states last = words_of states last (λ g. closed_at (states last) g)

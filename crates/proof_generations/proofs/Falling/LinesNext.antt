@@ -85,7 +85,8 @@ first_reader Ends Shut Late call = tt
 -- ---- ROOT
 
 module _ (limits : Limits) (states : ℕ → State) (last : ℕ) (run : IsRun limits states last) (t : ℕ) (lt : t < last) (know : AllKnow states last t) (mains : MainsFall states last (suc t)) where
-  module _ (k : ℕ) (operation : Operation) (runs : Runs (states t) k operation) (o : Outcome) (moves : Moves (states t) (step.Go (suc k)) o (states (suc t))) (goes : GoesOn (action_of (states t) operation)) where
+  module _ (k : ℕ) (operation : Operation) (runs : Runs (states t) k operation) (o : Outcome) (moves : Moves (states t) (step.Go (suc k)) o (states (suc t)))
+      (goes : GoesOn (action_of (states t) operation)) where
     abbrev now : Operation
     now = operation_after (states t) operation
 
@@ -93,7 +94,8 @@ module _ (limits : Limits) (states : ℕ → State) (last : ℕ) (run : IsRun li
     root_found : (r : Ref) → word_at (states t) (handle_of operation.call) ≡ Plain r → IsInUse (states t).heap r
     root_found r plain =
         let (root, found, access) =
-        (ordered_at limits states last run t (omega arith)).handles.on_open k operation runs (no_close_at limits states last run t (omega arith) k operation runs (going_on (states t) operation operation.line goes)) in
+        (ordered_at limits states last run t (omega arith)).handles.on_open k operation runs
+        (no_close_at limits states last run t (omega arith) k operation runs (going_on (states t) operation operation.line goes)) in
         let claim = root_claim (states t) root.word ((safe_at limits states last run t (omega arith)).words (handle_of operation.call) root found) in
         subst (λ w. IsInUse (states t).heap (root_of w)) (sym (ap word_of found) ∙ plain) (safe_of claim)
 
@@ -141,7 +143,8 @@ module _ (limits : Limits) (states : ℕ → State) (last : ℕ) (run : IsRun li
     )
 
   begins_knows : (call : Call) → KnowsGenerations states last (suc t) (begun_operation (states t) call)
-  begins_knows call = (λ w i. absurd (first_not_inner call i), λ r. first_reader (Ends states last (suc t)) (Shut states last (suc t)) (LateEnd states last (suc t) (begun_operation (states t) call)) call)
+  begins_knows call =
+      (λ w i. absurd (first_not_inner call i), λ r. first_reader (Ends states last (suc t)) (Shut states last (suc t)) (LateEnd states last (suc t) (begun_operation (states t) call)) call)
 
   module _ (s : Step) (o : Outcome) (m : Moves (states t) s o (states (suc t))) where
     comes_knows : (k : ℕ) (found : Operation) → Comes (states t) s k found → KnowsGenerations states last (suc t) found

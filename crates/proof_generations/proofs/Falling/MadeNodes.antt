@@ -14,22 +14,16 @@ use Rattle.proof_generations.specs.Beneath.machine_model.specs.declared.building
 use Rattle.proof_generations.specs.Beneath.machine_model.specs.declared.building.Change.TheVariants as change
 use Rattle.proof_generations.specs.Beneath.machine_model.specs.Building.{changed}
 use Rattle.proof_generations.specs.Beneath.proof_memory.specs.Wants.{BranchOrList, meets}
-use Rattle.proof_generations.specs.Beneath.proof_memory.proofs.Claims.Made.{All-inserted, All-removed}
+use Rattle.proof_generations.specs.Beneath.proof_memory.proofs.Claims.Made.{All-inserted, All-removed, by_index_all, pair_all}
 use Rattle.proof_generations.proofs.Lines.Knows.{one_of}
 
 -- ---- the entries of what is made
 
 module _ (Fits : Ref → Type 0) where
-  two_entries : (x y : Ref) → Fits x → Fits y → All Fits (x ∷ y ∷ [])
-  two_entries x y f g = All-cons Fits x (y ∷ []) f (one_of Fits y g)
-
-  by_index_entries : (a b : ℕ) (x y : Ref) → Fits x → Fits y → All Fits (by_index a b x y)
-  by_index_entries a b x y f g = cond_both (nat_lt a b) _ _ (All Fits) (λ e. two_entries x y f g) (λ e. two_entries y x g f)
-
   pub pair_entries : (kind : HashKind) (depth a b : ℕ) (x y : Ref) → Fits x → Fits y → All Fits (entries_of (pair kind depth a b x y))
   pair_entries kind depth a b x y f g =
-      cond_both (depth == list_depth kind) _ _ (λ n. All Fits (entries_of n)) (λ e. All-take Fits 32 (x ∷ y ∷ []) (All-cons Fits x (y ∷ []) f (one_of Fits y g)))
-      (λ e. All-take Fits 32 (by_index (index_in a depth) (index_in b depth) x y) (by_index_entries (index_in a depth) (index_in b depth) x y f g))
+      cond_both (depth == list_depth kind) _ _ (λ n. All Fits (entries_of n)) (λ e. All-take Fits 32 (x ∷ y ∷ []) (pair_all Fits x y f g))
+      (λ e. All-take Fits 32 (by_index (index_in a depth) (index_in b depth) x y) (by_index_all Fits (index_in a depth) (index_in b depth) x y f g))
 
   pub contracted_entries : (may : Bool) (bitmap : ℕ) (es : List Ref) → All Fits es → All Fits (entries_of (contracted may bitmap es))
   contracted_entries true bitmap (single ∷ []) all = all

@@ -43,7 +43,8 @@ use Rattle.proof_generations.proofs.Falling.Nodes.{used_generation}
 use Rattle.proof_generations.proofs.Falling.Opened.{Opening, before, opens, opening}
 use Rattle.proof_generations.proofs.Lines.Knows.{Knows, IsInner}
 use Rattle.proof_generations.proofs.Lines.Reader.{KnowsReader}
-use Rattle.proof_generations.proofs.Falling.Runs.{gen_of, IsOwn, FitsBelow, FallsBelow, NotNewer, LateBelow, Ends, Shut, LateEnd, MainsFall, AllKnow, KnowsGenerations, FreshFall, falls_older, falls_next, falls_below}
+use Rattle.proof_generations.proofs.Falling.Runs.{gen_of, IsOwn, FitsBelow, FallsBelow, NotNewer, LateBelow, Ends, Shut, LateEnd, MainsFall, AllKnow, KnowsGenerations, FreshFall}
+use Rattle.proof_generations.proofs.Falling.Runs.{falls_older, falls_next, falls_below}
 use Rattle.proof_generations.proofs.Falling.NewLinks.{NewLink, new_link}
 use Rattle.proof_generations.proofs.Falling.Counted.{drawn_unopened, start_below}
 use Rattle.proof_generations.proofs.Falling.Brought.{Brought, makes, swaps, comes_in}
@@ -75,7 +76,8 @@ module _ (limits : Limits) (states : ℕ → State) (last : ℕ) (run : IsRun li
       pub own : gen_of states last i ≡ g
       pub falls : FallsBelow states last t g m
 
-    swaps_by : (k : ℕ) (operation : Operation) → Runs (states t) k operation → (i a m : Ref) → IsInSwap operation i a m swap.Publish → (access : Access) → operation.access ≡ access → KnowsGenerations states last t operation →
+    swaps_by : (k : ℕ) (operation : Operation) → Runs (states t) k operation → (i a m : Ref) → IsInSwap operation i a m swap.Publish → (access : Access) →
+        operation.access ≡ access → KnowsGenerations states last t operation →
         SwapsIn i m
     swaps_by k operation runs i a m (why, is) Writable w knows =
         let inner : IsInner operation.line = subst IsInner (sym is) tt in
@@ -114,7 +116,8 @@ module _ (limits : Limits) (states : ℕ → State) (last : ℕ) (run : IsRun li
 
       -- ---- what falls
 
-      new_falls : (i m : Ref) → NewLink limits states last run t lt know i → main_word states (suc t) i ≡ m → WasOpened states (suc t) (gen_of states last i) → FallsBelow states last (suc t) (gen_of states last i) m
+      new_falls : (i m : Ref) → NewLink limits states last run t lt know i → main_word states (suc t) i ≡ m → WasOpened states (suc t) (gen_of states last i) →
+          FallsBelow states last (suc t) (gen_of states last i) m
       new_falls i m n is was = elim n.kind [
         | inl own ↦ subst (λ g. FallsBelow states last (suc t) g m) (sym own) (falls_next limits states last run t lt n.g m (subst (FallsBelow states last t n.g) is n.falls))
         | inr drawn ↦ absurd (drawn_unopened limits states last run t lt (subst (λ g. WasOpened states (suc t) g) drawn was))
@@ -163,7 +166,8 @@ module _ (limits : Limits) (states : ℕ → State) (last : ℕ) (run : IsRun li
           falls_below states last (suc t) (gen_of states last i) g m
           (inr (omega (arith, falls.newer g begun, its), subst (λ h. WasClosed states (suc t) h) (offered_root handle offer stands ∙ root) closed)) (falls_next limits states last run t lt g m below)
 
-      falls_by : (i m : Ref) → WasOpened states (suc t) (gen_of states last i) → Stood (words states last) t i m ⊎ Brought (words states last) t i m → FallsBelow states last (suc t) (gen_of states last i) m
+      falls_by : (i m : Ref) → WasOpened states (suc t) (gen_of states last i) → Stood (words states last) t i m ⊎ Brought (words states last) t i m →
+          FallsBelow states last (suc t) (gen_of states last i) m
       falls_by i m was (inl stood) = opened_falls i m stood (opening limits states last run t lt (gen_of states last i) was)
       falls_by i m was (inr (makes none is main)) = new_falls i m (new_link limits states last run t lt know i none is) main was
       falls_by i m was (inr (swaps k a stage)) =

@@ -47,7 +47,8 @@ makes_inner state operation (line.End answer) n e = absurd (none-some n e)
 makes_inner state operation line.Impossible n e = absurd (none-some n e)
 makes_inner state operation l n e = tt
 
-pub reader_makes : (Ends Shut : Ref → Type 0) (Late : Read → Type 0) (state : State) (operation : Operation) (l : Line) (n : Node) → KnowsReader Ends Shut Late l → made_node state (line_action state operation l) ≡ Some n → ⊥
+pub reader_makes : (Ends Shut : Ref → Type 0) (Late : Read → Type 0) (state : State) (operation : Operation) (l : Line) (n : Node) → KnowsReader Ends Shut Late l →
+    made_node state (line_action state operation l) ≡ Some n → ⊥
 reader_makes Ends Shut Late state operation (line.Root l) n k e = root_makes state operation l n e
 reader_makes Ends Shut Late state operation (line.Key l) n k e = key_makes state operation l n e
 reader_makes Ends Shut Late state operation (line.Walk l) n k e = walk_makes state operation l n e
@@ -78,35 +79,29 @@ module _ (limits : Limits) (states : ℕ → State) (last : ℕ) (run : IsRun li
     generation_is : (g : ℕ) (w : Ref) → m.node ≡ Indirection g w → gen_of states last n ≡ g
     generation_is g w e = told_generation states last g n (link_stands limits states last run (suc t) lt n slot here g w (m.its_node ∙ e))
 
+    -- over this main node
+    link_over : (k : ℕ) → Runs (states t) k m.operation → m.operation.access ≡ Writable → (g : ℕ) → m.operation.generation ≡ Some g → (generation : ℕ) (below : Ref) →
+        m.node ≡ Indirection generation below → FallsBelow states last t g below → (gen_of states last n ≡ g) ⊎ (gen_of states last n ≡ (states t).generations) → NewLink n
+    link_over k runs w g begun generation below is falls kind = record {
+      k = k;
+      operation = m.operation;
+      runs = runs;
+      writable = w;
+      inner = makes_inner (states t) m.operation m.operation.line m.node m.makes_it;
+      g = g;
+      begun = begun;
+      takes = m.takes;
+      falls = subst (FallsBelow states last t g) (sym (ap (λ o. main_of (node_of o)) here ∙ ap main_of (m.its_node ∙ is))) falls;
+      kind = kind;
+    }
+
     -- by what the line makes
     new_by : (k : ℕ) → Runs (states t) k m.operation → m.operation.access ≡ Writable → (g : ℕ) → (begun : m.operation.generation ≡ Some g) →
         IsNewLink (states t) m.operation g begun (IsOwn states last g) (FitsBelow states last t g) (FallsBelow states last t g) (LateBelow states last t m.operation g) (IsInUse (states t).heap)
         (own_fits states last t g) (single_fits limits states last run t lt t g) (entries_fit limits states last run t lt t g) m.operation.line m.node →
         NewLink n
-    new_by k runs w g begun (inl (below, is_own, falls)) = record {
-      k = k;
-      operation = m.operation;
-      runs = runs;
-      writable = w;
-      inner = makes_inner (states t) m.operation m.operation.line m.node m.makes_it;
-      g = g;
-      begun = begun;
-      takes = m.takes;
-      falls = subst (FallsBelow states last t g) (sym (ap (λ o. main_of (node_of o)) here ∙ ap main_of (m.its_node ∙ is_own))) falls;
-      kind = inl (generation_is g below is_own);
-    }
-    new_by k runs w g begun (inr (action, (main, is_root, falls))) = record {
-      k = k;
-      operation = m.operation;
-      runs = runs;
-      writable = w;
-      inner = makes_inner (states t) m.operation m.operation.line m.node m.makes_it;
-      g = g;
-      begun = begun;
-      takes = m.takes;
-      falls = subst (FallsBelow states last t g) (sym (ap (λ o. main_of (node_of o)) here ∙ ap main_of (m.its_node ∙ is_root))) falls;
-      kind = inr (generation_is (states t).generations main is_root);
-    }
+    new_by k runs w g begun (inl (below, is_own, falls)) = link_over k runs w g begun _ below is_own falls (inl (generation_is g below is_own))
+    new_by k runs w g begun (inr (action, (main, is_root, falls))) = link_over k runs w g begun _ main is_root falls (inr (generation_is (states t).generations main is_root))
 
     new_from : (k : ℕ) → Runs (states t) k m.operation → (access : Access) → m.operation.access ≡ access → KnowsGenerations states last t m.operation → NewLink n
     new_from k runs Writable w knows =
@@ -126,7 +121,8 @@ module _ (limits : Limits) (states : ℕ → State) (last : ℕ) (run : IsRun li
       let (h, word, is) = indirection_is m.node (ap is_indirection (sym m.its_node) ∙ l) in
       new_from n slot here m h word is k runs m.operation.access refl (know k m.operation runs)
 
-  link_by : (n : Ref) (before after : Option Slot) → grown states t n ≡ before → grown states (suc t) n ≡ after → is_indirection (node_of before) ≡ false → is_indirection (node_of after) ≡ true → NewLink n
+  link_by : (n : Ref) (before after : Option Slot) → grown states t n ≡ before → grown states (suc t) n ≡ after → is_indirection (node_of before) ≡ false →
+      is_indirection (node_of after) ≡ true → NewLink n
   link_by n before None at_t at_next was is = absurd (true≢false (sym is))
   link_by n None (Some slot) at_t at_next was is =
       made_by n slot at_next is (new_is_made (states t) (grown states t) (grown states (suc t)) (word_move limits states last run t lt) n slot at_t at_next)
@@ -142,7 +138,8 @@ module _ (limits : Limits) (states : ℕ → State) (last : ℕ) (run : IsRun li
   -- ---- a root that is made
 
   module _ (k : ℕ) (operation : Operation) (runs : Runs (states t) k operation) (g : ℕ) (begun : operation.generation ≡ Some g)
-      (known : Knows (IsOwn states last g) (FitsBelow states last t g) (FallsBelow states last t g) (LateBelow states last t operation g) operation.line) (main : Ref) (makes_it : action_of (states t) operation ≡ act.MakeRoot main) where
+      (known : Knows (IsOwn states last g) (FitsBelow states last t g) (FallsBelow states last t g) (LateBelow states last t operation g) operation.line)
+      (main : Ref) (makes_it : action_of (states t) operation ≡ act.MakeRoot main) where
     abbrev root_node : Node
     root_node = Indirection (states t).generations main
 
@@ -160,7 +157,8 @@ module _ (limits : Limits) (states : ℕ → State) (last : ℕ) (run : IsRun li
     made_root =
         root_below
         (link_made (states t) operation g begun (IsOwn states last g) (FitsBelow states last t g) (FallsBelow states last t g) (LateBelow states last t operation g) (IsInUse (states t).heap)
-        (own_fits states last t g) (single_fits limits states last run t lt t g) (entries_fit limits states last run t lt t g) operation.line root_node (states t).generations main refl (ap (made_node (states t)) makes_it)
+        (own_fits states last t g) (single_fits limits states last run t lt t g) (entries_fit limits states last run t lt t g) operation.line root_node
+        (states t).generations main refl (ap (made_node (states t)) makes_it)
         (node_made (states t) operation g begun (IsOwn states last g) (FitsBelow states last t g) (FallsBelow states last t g) (LateBelow states last t operation g) (IsInUse (states t).heap)
         (own_fits states last t g) (single_fits limits states last run t lt t g) (entries_fit limits states last run t lt t g) operation.line known
         (line_finds (states t) (safe_at limits states last run t (omega arith)) (suc k) operation runs) root_node (ap (made_node (states t)) makes_it)))

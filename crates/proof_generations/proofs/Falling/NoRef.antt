@@ -6,7 +6,7 @@ use Rattle.proof_generations.specs.Beneath.machine_model.specs.declared.steps.Li
 use Rattle.proof_generations.specs.Beneath.machine_model.specs.States.{State}
 use Rattle.proof_generations.specs.Beneath.machine_model.specs.Times.{IsRun}
 use Rattle.proof_generations.specs.Beneath.machine_model.specs.Grown.{node_under, main_word, prev_word, main_before}
-use Rattle.proof_contents.specs.Runs.{is_made, main_within, main_at}
+use Rattle.proof_contents.specs.Runs.{is_made, main_within, counting_main}
 use Rattle.proof_generations.specs.Beneath.proof_memory.specs.Wants.{is_indirection}
 use Rattle.proof_generations.specs.Beneath.proof_memory.proofs.Claims.Nodes.{no_main}
 use Rattle.proof_generations.specs.Beneath.proof_memory.proofs.Heap.NoRef.{nothing_stands}
@@ -27,7 +27,7 @@ module _ (limits : Limits) (states : ℕ → State) (last : ℕ) (run : IsRun li
     pub at : ℕ
     pub from : t ≤ at
     pub within : at ≤ last
-    pub is : main_at states last t i ≡ main_before states at i
+    pub is : counting_main states last t i ≡ main_before states at i
 
   counts_within : (t left : ℕ) (i : Ref) → t + left ≤ last → (u : ℕ) × (t ≤ u) × (u ≤ last) × (main_within states t left i ≡ main_before states u i)
   unfolding main_within

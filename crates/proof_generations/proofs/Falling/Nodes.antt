@@ -13,10 +13,11 @@ use Rattle.proof_generations.specs.Beneath.machine_model.specs.Grown.{grown, nod
 use Rattle.proof_generations.specs.Beneath.proof_memory.specs.Wants.{ASingle, meets}
 use Rattle.proof_generations.specs.Beneath.proof_memory.specs.Laws.{IsInUse, SameNode}
 use Rattle.proof_generations.specs.Beneath.proof_memory.proofs.Claims.Uses.{entries_same}
-use Rattle.proof_generations.specs.Beneath.proof_memory.proofs.Heap.Under as Under
-use Rattle.proof_generations.specs.Beneath.proof_memory.proofs.Heap.Moves.{grown_in_use, grown_stays}
+use Rattle.proof_generations.specs.Beneath.proof_memory.proofs.Heap.Moves.{grown_stays}
 use Rattle.proof_generations.proofs.Counter.Drawn.{generation_kept}
 use Rattle.proof_generations.specs.Falling.{IsIndirectionOf}
+use Rattle.proof_generations.specs.Beneath.machine_model.proofs.Grown.{grown_in_use, node_standing}
+use Rattle.proof_contents.specs.Grows.{NodesStay}
 
 -- an indirection under another main word, both ways
 pub same_link : (was now : Node) → SameNode was now → (h : ℕ) (word : Ref) → now ≡ Indirection h word → (w : Ref) × (was ≡ Indirection h w)
@@ -35,6 +36,10 @@ stays_link was now (m, e) h word is = (m, e ∙ ap (with_main_word m) is)
 no_single : (node : Node) (h : ℕ) (word : Ref) → meets ASingle node ≡ true → node ≡ Indirection h word → ⊥
 no_single node h word e is = false≢true (sym (ap (meets ASingle) is) ∙ e)
 
+-- what stands under a reference stays, but for main words
+pub nodes_stay : (limits : Limits) (states : ℕ → State) (last : ℕ) → IsRun limits states last → NodesStay states last
+nodes_stay limits states last run t u le within r was e = let (now, found, same) = grown_stays limits states last run t u le within r was e in (now, found, same.0)
+
 module _ (limits : Limits) (states : ℕ → State) (last : ℕ) (run : IsRun limits states last) (t : ℕ) (within : t ≤ last) where
   -- what was made by then
   pub made_same : (r : Ref) (slot : Slot) → grown states t r ≡ Some slot → SameNode slot.node (node_under states last r)
@@ -45,7 +50,7 @@ module _ (limits : Limits) (states : ℕ → State) (last : ℕ) (run : IsRun li
   -- what is in use then
   pub used_same : (r : Ref) → IsInUse (states t).heap r → SameNode (node_at (states t).heap r) (node_under states last r)
   used_same r (slot, found) =
-      subst (λ n. SameNode n (node_under states last r)) (sym (Under.node_under (states t).heap r slot found)) (made_same r slot (grown_in_use states t r slot found))
+      subst (λ n. SameNode n (node_under states last r)) (sym (node_standing (states t).heap r slot found)) (made_same r slot (grown_in_use states t r slot found))
 
   pub used_entries : (r : Ref) → IsInUse (states t).heap r → entries_of (node_under states last r) ≡ entries_of (node_at (states t).heap r)
   used_entries r used = entries_same (node_at (states t).heap r) (node_under states last r) (used_same r used)

@@ -11,8 +11,6 @@ use Rattle.proof_generations.specs.Beneath.machine_model.specs.States.{root_at, 
 use Rattle.proof_generations.specs.Beneath.proof_memory.specs.Wants.{AnEntry, ASingle, line_wants, is_indirection}
 use Rattle.proof_generations.specs.Beneath.proof_memory.proofs.Safety.AtTimes.{line_finds, node_found, main_found}
 use Rattle.proof_generations.specs.Beneath.proof_memory.proofs.Claims.Uses.{Meets}
-use Rattle.proof_generations.specs.Beneath.proof_memory.proofs.Heap.Under.{prev_under}
-use Rattle.proof_commits.proofs.Words.InHeap.{logical_standing}
 use Rattle.proof_commits.proofs.Words.Stood.{Stood, stands_now}
 use Rattle.proof_generations.specs.Laws.Roots.{root_generation}
 use Rattle.proof_generations.specs.Falling.{WasOpened, MayStandBelow, IsIndirectionOf}
@@ -43,11 +41,11 @@ use Rattle.proof_generations.specs.Beneath.proof_memory.specs.Wants.{AllHold, no
 use Rattle.proof_generations.specs.Beneath.proof_memory.proofs.Safety.AtEachTime.{safe_at}
 use Rattle.proof_generations.specs.Beneath.proof_memory.proofs.Claims.Uses.{safe_of, all_of, first_hold, last_hold}
 use Rattle.proof_generations.specs.Beneath.proof_memory.proofs.Safety.States.{IsSafe}
-use Rattle.proof_generations.specs.Beneath.proof_memory.proofs.Heap.Under as Under
-use Rattle.proof_commits.proofs.Words.InHeap.{states_are}
 use Rattle.proof_generations.specs.Laws.Falling.{FallBelow, IsBelow, IsOpened, HasMain}
 use Rattle.proof_generations.proofs.Falling.KnownRoots.{words}
 use Rattle.proof_generations.proofs.Lines.ReaderKnows.{indirection_is}
+use Rattle.proof_generations.specs.Beneath.machine_model.proofs.Grown.{prev_standing, node_standing}
+use Rattle.proof_commits.proofs.Known.MainsInUse.{logical_standing}
 
 -- ---- what is in use
 
@@ -65,11 +63,11 @@ module _ (state : State) (I : IsSafe state) where
 
   node_claims : (r : Ref) → S r → AllHold S state.heap (node_wants (node_at state.heap r))
   node_claims r (slot, found) =
-      subst (λ n. AllHold S state.heap (node_wants n)) (sym (Under.node_under state.heap r slot found)) (first_hold S state.heap (node_wants slot.node) (prev_wants slot.prev) (I.nodes r slot found).0)
+      subst (λ n. AllHold S state.heap (node_wants n)) (sym (node_standing state.heap r slot found)) (first_hold S state.heap (node_wants slot.node) (prev_wants slot.prev) (I.nodes r slot found).0)
 
   prev_claims : (r : Ref) → S r → AllHold S state.heap (prev_wants (prev_at state.heap r))
   prev_claims r (slot, found) =
-      subst (λ v. AllHold S state.heap (prev_wants v)) (sym (prev_under state.heap r slot found)) (last_hold S state.heap (node_wants slot.node) (prev_wants slot.prev) (I.nodes r slot found).0)
+      subst (λ v. AllHold S state.heap (prev_wants v)) (sym (prev_standing state.heap r slot found)) (last_hold S state.heap (node_wants slot.node) (prev_wants slot.prev) (I.nodes r slot found).0)
 
   main_used : (i : Ref) → S i → is_indirection (node_at state.heap i) ≡ true → S (main_at state.heap i)
   main_used i used l =
@@ -134,7 +132,8 @@ module _ (limits : Limits) (states : ℕ → State) (last : ℕ) (run : IsRun li
   falls_so i child b = (
     omega (arith, All-contains (NotNewer states last (gen_of states last i)) (entries_of (node_under states last b.main)) child (mains.older i b.main b.stood) b.among _ b.link, b.its),
     λ opened. by (subst (λ g. FitsBelow states last last g child) b.its
-        (All-contains (FitsBelow states last last (gen_of states last i)) (entries_of (node_under states last b.main)) child (mains.falls i b.main b.stood (subst (λ g. WasOpened states last g) (sym b.its) opened)) b.among) _ b.link),
+        (All-contains (FitsBelow states last last (gen_of states last i)) (entries_of (node_under states last b.main)) child
+        (mains.falls i b.main b.stood (subst (λ g. WasOpened states last g) (sym b.its) opened)) b.among) _ b.link),
   )
     where
       mains : MainsFall states last last
@@ -158,8 +157,7 @@ module _ (limits : Limits) (steps : List Step) (ok : AreLimits limits) where
   is_run = run_is limits steps ok
 
   opened_so : (g : ℕ) → IsOpened limits steps g → WasOpened states last g
-  opened_so g (n, le, (handle, root, is, its)) =
-      (n, le, (handle, root, ap (λ (s : State). root_at s handle) (states_are limits steps n) ∙ is, ap (λ (s : State). root_generation s root) (states_are limits steps n) ∙ its))
+  opened_so g opened = opened
 
   FallsIn : State → Type 0
   FallsIn state =
@@ -197,7 +195,8 @@ swaps_are_own limits steps ok =
         (operation.access ≡ Writable) × (operation.generation ≡ Some (generation_at (states_of limits steps (last_of limits steps)).heap s.indirection))
     at_end actor operation is why s at =
         let own = swaps_in_own_generation limits (states_of limits steps) (last_of limits steps) run (last_of limits steps) (omega arith) actor operation is why s at in
-        let wants = line_finds (states_of limits steps (last_of limits steps)) (safe_at limits (states_of limits steps) (last_of limits steps) run (last_of limits steps) (omega arith)) actor operation is in
+        let wants =
+        line_finds (states_of limits steps (last_of limits steps)) (safe_at limits (states_of limits steps) (last_of limits steps) run (last_of limits steps) (omega arith)) actor operation is in
         let used = subst (λ l. AllHold (IsInUse (states_of limits steps (last_of limits steps)).heap) (states_of limits steps (last_of limits steps)).heap
         (line_wants (states_of limits steps (last_of limits steps)).limits.hash operation.call operation.access l)) at wants in
         (own.0, own.1 ∙ ap (λ g. Some g) (used_generation limits (states_of limits steps) (last_of limits steps) run (last_of limits steps) (omega arith) s.indirection (safe_of used.0)))

@@ -148,8 +148,17 @@ module _ (limits : Limits) (states : ℕ → State) (last : ℕ) (run : IsRun li
     I = ordered_at limits states last run t (omega arith)
 
     kept_root : (handle : ℕ) (root now : Root) → root_at (states t) handle ≡ Some root → root_of now.word ≡ root_of root.word → gen (states (suc t)) now ≡ g → WasOpened states t g
-    kept_root handle root now e word its =
-        (t, omega arith, (handle, root, e, sym (root_kept (states t) (safe_at limits states last run t (omega arith)) s o (states (suc t)) m handle root e) ∙ sym (ap (generation_at (states (suc t)).heap) word) ∙ its))
+    kept_root handle root now e word its = (
+      t,
+      omega arith,
+      (
+        handle,
+        root,
+        e,
+        sym (root_kept (states t) (safe_at limits states last run t (omega arith)) s o (states (suc t)) m handle root e)
+            ∙ sym (ap (generation_at (states (suc t)).heap) word) ∙ its,
+      ),
+    )
 
     -- the old root is closed by the step
     old_closed : (actor : ℕ) (mover : Operation) (offer : Descriptor) → operation_of (states t) actor ≡ Some mover → CarriesOut (states t) (handle_of mover.call) (action_of (states t) mover) offer →
@@ -160,7 +169,8 @@ module _ (limits : Limits) (states : ℕ → State) (last : ℕ) (run : IsRun li
         by None none = (
           (states t).steps,
           omega (arith, steps_at limits states last run t (omega arith)),
-          ap (λ l. closed_in l (generation_at (states t).heap offer.root)) closings ∙ closed_last (states t).closings (closing_of (states t) offer) (generation_at (states t).heap offer.root) none refl,
+          ap (λ l. closed_in l (generation_at (states t).heap offer.root)) closings ∙ closed_last (states t).closings (closing_of (states t) offer)
+              (generation_at (states t).heap offer.root) none refl,
         )
         by (Some d) e = (d, omega (arith, (closed_so t (omega arith) (generation_at (states t).heap offer.root) d e).0), closed_next t h (generation_at (states t).heap offer.root) d e)
 

@@ -27,7 +27,8 @@ module _ (limits : Limits) (states : ℕ → State) (last : ℕ) (run : IsRun li
       (operation.access ≡ Writable) × (operation.generation ≡ Some (gen_of states last s.indirection))
   swaps_by t operation why s at knows Writable w =
       let (g, begun, known) = knows.0 w (subst IsInner (sym at) tt) in
-      let own : gen_of states last s.indirection ≡ g = (subst (Knows (IsOwn states last g) (FitsBelow states last t g) (FallsBelow states last t g) (LateBelow states last t operation g)) at known).0 in
+      let own : gen_of states last s.indirection ≡ g =
+      (subst (Knows (IsOwn states last g) (FitsBelow states last t g) (FallsBelow states last t g) (LateBelow states last t operation g)) at known).0 in
       (w, begun ∙ ap (λ x. Some x) (sym own))
   swaps_by t operation why s at knows ReadOnly w = absurd (subst (KnowsReader (Ends states last t) (Shut states last t) (LateEnd states last t operation)) at (knows.1 w))
 

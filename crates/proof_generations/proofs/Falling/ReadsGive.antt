@@ -70,7 +70,8 @@ module _ (limits : Limits) (states : ℕ → State) (last : ℕ) (run : IsRun li
   -- the time from which it counts
   pub counted_at : read_at_after (states t) operation ≡ counts_at r.line t operation.read_at
   counted_at =
-      ap (λ a. counted_from a (states t).steps operation.read_at) reads_action ∙ ap (λ n. counted_from (read_action r.indirection r.line) n operation.read_at) (steps_at limits states last run t (omega arith))
+      ap (λ a. counted_from a (states t).steps operation.read_at) reads_action ∙ ap (λ n. counted_from (read_action r.indirection r.line) n operation.read_at)
+      (steps_at limits states last run t (omega arith))
       ∙ read_counts r.indirection r.line t operation.read_at
 
   pub late_after : (c : ℕ) → c < t → (r.line ≡ read.Main) ⊎ (c < operation.read_at) → c < read_at_after (states t) operation
@@ -79,7 +80,8 @@ module _ (limits : Limits) (states : ℕ → State) (last : ℕ) (run : IsRun li
   -- what it gives stood in the word
   pub given_stands : (o : Outcome) → Moves (states t) (step.Go actor) o (states (suc t)) → (m : Ref) → read_step (states t) operation r ≡ Gives m → Stood (words states last) (suc t) r.indirection m
   given_stands o moves m gives =
-      let turn = reading_turn limits states last (known limits states last run) t lt actor operation o moves is (gone_is (states t) actor o (states (suc t)) moves operation is reads_on) r.indirection r.line stage in
+      let turn = reading_turn limits states last (known limits states last run) t lt actor operation o moves is
+      (gone_is (states t) actor o (states (suc t)) moves operation is reads_on) r.indirection r.line stage in
       let out = given_read r.indirection (read_after (states t).heap operation.access (word_at (states t) (handle_of operation.call)) r.indirection r.line) m gives in
       let given : Given (words states last) (suc t) actor r.indirection m =
       record { at = t; past = omega arith; line = r.line; stage = ap stage_of_actor is ∙ stage; gives = subst (λ x. ReadTurn (words states last) t r.indirection r.line x) out turn } in

@@ -13,14 +13,13 @@ use Rattle.proof_generations.specs.Beneath.machine_model.specs.Machine.{AreLimit
 use Rattle.proof_generations.specs.Beneath.machine_model.proofs.Times.{run_is, run_ends}
 use Rattle.proof_generations.specs.Beneath.machine_model.specs.Times.{IsRun, states_of, last_of}
 use Rattle.proof_commits.specs.Laws.{IsNoSwap}
-use Rattle.proof_commits.specs.Runs.{state_before, HasIndirection}
+use Rattle.proof_commits.specs.Runs.{HasIndirection}
 use Rattle.proof_generations.specs.Beneath.proof_memory.specs.Laws.{IsInUse}
-use Rattle.proof_commits.proofs.Words.InHeap.{states_are}
 use Rattle.proof_commits.proofs.Course.OfLists.{law_given_for_good}
 use Rattle.proof_commits.proofs.Lines.Swap.{reads_stage}
 use Rattle.proof_generations.specs.Falling.{ReadsClosed}
 use Rattle.proof_generations.specs.Laws.Falling.{ReadForGood}
-use Rattle.proof_generations.proofs.Falling.KnownRoots.{layers_of_runs}
+use Rattle.proof_generations.proofs.Falling.KnownRoots.{roots_of_runs}
 use Rattle.proof_generations.proofs.Falling.Nodes.{used_generation}
 use Rattle.proof_generations.proofs.Falling.Opened.{closed_until}
 use Rattle.proof_generations.proofs.Falling.ReadsGive.{late_after}
@@ -49,21 +48,18 @@ module _ (limits : Limits) (steps : List Step) (ok : AreLimits limits) (n : ℕ)
         late_after limits states last is_run n within actor operation runs r (reads_stage operation.line r no_swap reads) c before since,
       )
 
-  used_in : (r : Ref) → IsInUse (state_before limits steps n).heap r → IsInUse (states n).heap r
-  used_in r used = subst (λ (s : State). IsInUse s.heap r) (sym (states_are limits steps n)) used
-
-  generation_so : (i : Ref) → HasIndirection (state_before limits steps n) i → gen_of states last i ≡ generation_at (state_before limits steps n).heap i
-  generation_so i has =
-      let used = used_in i has.0 in
-      used_generation limits states last is_run n (omega arith) i used ∙ ap (λ (s : State). generation_at s.heap i) (states_are limits steps n)
+  generation_so : (i : Ref) → HasIndirection (states_of limits steps n) i → gen_of states last i ≡ generation_at (states_of limits steps n).heap i
+  generation_so i has = used_generation limits states last is_run n (omega arith) i has.0
 
 pub read_for_good : ReadForGood
 read_for_good limits steps ok n h i m given has closed k after within still =
     let gen = generation_so limits steps ok n h i has in
-    let same : gen_of (states_of limits steps) (last_of limits steps) given.read.indirection ≡ generation_at (state_before limits steps n).heap i = ap (gen_of (states_of limits steps) (last_of limits steps)) given.of ∙ gen in
+    let same : gen_of (states_of limits steps) (last_of limits steps) given.read.indirection ≡ generation_at (states_of limits steps n).heap i =
+    ap (gen_of (states_of limits steps) (last_of limits steps)) given.of ∙ gen in
     let (c, is, late) =
-    late_of limits steps ok n h given.actor given.operation given.read (ap (λ (s : State). operation_of s given.actor) (states_are limits steps n) ∙ given.runs) given.no_swap given.reads
+    late_of limits steps ok n h given.actor given.operation given.read given.runs given.no_swap given.reads
     (subst (ReadsClosed given.operation) (sym same) closed) in
-    law_given_for_good layers_of_runs limits steps ok n h i m given c
-    (ap (λ (s : State). closed_at s (generation_at (state_before limits steps n).heap i)) (sym (run_ends limits steps)) ∙ ap (closed_at (states_of limits steps (last_of limits steps))) (sym same) ∙ is)
-    (subst (λ (s : State). c < read_at_after s given.operation) (states_are limits steps n) late) has k after within still
+    law_given_for_good roots_of_runs limits steps ok n h i m given c
+    (ap (λ (s : State). closed_at s (generation_at (states_of limits steps n).heap i)) (sym (run_ends limits steps))
+    ∙ ap (closed_at (states_of limits steps (last_of limits steps))) (sym same) ∙ is)
+    late has k after within still

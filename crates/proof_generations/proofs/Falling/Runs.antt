@@ -150,10 +150,12 @@ module _ (limits : Limits) (states : ℕ → State) (last : ℕ) (run : IsRun li
     λ w inner. let (g, is, k) = writable w inner in (
       g,
       is,
-      knows_still (IsOwn states last g) (FitsBelow states last t g) (FallsBelow states last t g) (LateBelow states last t operation g) (FitsBelow states last (suc t) g) (FallsBelow states last (suc t) g)
+      knows_still (IsOwn states last g) (FitsBelow states last t g) (FallsBelow states last t g) (LateBelow states last t operation g)
+          (FitsBelow states last (suc t) g) (FallsBelow states last (suc t) g)
           (LateBelow states last (suc t) operation g) (fits_next g) (falls_next g) (below_late_next operation g) operation.line k,
     ),
-    λ r. reader_still (Ends states last t) (Shut states last t) (LateEnd states last t operation) (Ends states last (suc t)) (Shut states last (suc t)) (LateEnd states last (suc t) operation) ends_next shut_next
+    λ r. reader_still (Ends states last t) (Shut states last t) (LateEnd states last t operation) (Ends states last (suc t)) (Shut states last (suc t))
+        (LateEnd states last (suc t) operation) ends_next shut_next
         (end_late_next operation) operation.line (read_only r),
   )
 

@@ -88,7 +88,8 @@ module _ (st : State) (at handle : ℕ) (now : Root) where
     | inr new ↦ let (root, was, is) = reworded (Plain own.successor) (root_at st at) now new.1 in swapped root own c new.0 was is
   ]
 
-  carried_opens : (action : Action) (own : Descriptor) → CarriesOut st at action own → (n : Option ℕ) → own.opens ≡ n → root_at (opened (with_word st at (Plain own.successor)) own n) handle ≡ Some now →
+  carried_opens : (action : Action) (own : Descriptor) → CarriesOut st at action own → (n : Option ℕ) → own.opens ≡ n →
+      root_at (opened (with_word st at (Plain own.successor)) own n) handle ≡ Some now →
       RootFrom st at action handle now
   carried_opens action own c None is e = carried_word action own c e
   carried_opens action own c (Some n) is e = elim (written (with_word st at (Plain own.successor)).roots n handle (Some (opened_root own own.second)) now e) [
@@ -144,7 +145,8 @@ module _ (st : State) (at handle : ℕ) (root : Root) (is_open : root_at st hand
       let (now, found, access) = word_open st at handle (Plain own.successor) root is_open in
       (now, found_elsewhere (with_word st at (Plain own.successor)).roots n handle (Some (opened_root own own.second)) (λ s. free (ap Some (sym s))) ∙ found, access)
 
-  complete_open : (own : Descriptor) (main : Ref) (b e : Bool) → stands_in (word_at st at) own ≡ b → (main == own.expected) ≡ e → (CarriesOut st at (act.Complete own main) own → own.opens ≡ Some handle → ⊥) →
+  complete_open : (own : Descriptor) (main : Ref) (b e : Bool) → stands_in (word_at st at) own ≡ b → (main == own.expected) ≡ e →
+      (CarriesOut st at (act.Complete own main) own → own.opens ≡ Some handle → ⊥) →
       StaysOpen (if_changed b (cond e (carried_out st at own) (with_word st at (Plain own.root))) st) handle root
   complete_open own main true true stands expected free =
       let carries : CarriesOut st at (act.Complete own main) own = record { main = main; is_it = refl; carried = and_from _ _ stands expected } in

@@ -18,17 +18,12 @@ use Rattle.proof_generations.specs.Beneath.machine_model.specs.Machine.{with_beg
 use Rattle.proof_generations.specs.Beneath.machine_model.specs.Moves.{Begins, Goes, Ends, Sweeps}
 use Rattle.proof_generations.specs.Beneath.machine_model.specs.Moves.{Moves, begun_operation}
 use Rattle.proof_generations.specs.Beneath.machine_model.proofs.Found.{none_found}
-use Rattle.proof_generations.specs.Beneath.machine_model.proofs.Frames.{acted_framed}
+use Rattle.proof_generations.specs.Beneath.machine_model.proofs.Frames.{acted_framed, begin_events}
 use Rattle.proof_generations.specs.Beneath.machine_model.proofs.Actors.{mark_one, mark_only}
 use Rattle.proof_generations.proofs.Handles.Running.{Comes, began, rested, went, comes, one_at}
 use Rattle.proof_generations.specs.Running.{Runs}
 
 -- ---- how many have begun
-
-begin_events : (state : State) (actor : ℕ) (call : Call) (operation : Operation) →
-    (with_begin state actor call operation).events ≡ state.events ++ Begin operation.id actor call operation.opens ∷ []
-begin_events state actor call operation =
-    cond_both (is_close call) _ _ (λ (s : State). s.events ++ Begin operation.id actor call operation.opens ∷ [] ≡ state.events ++ Begin operation.id actor call operation.opens ∷ []) (λ e. refl) (λ e. refl)
 
 -- never less
 pub begun_kept : (state : State) (s : Step) (o : Outcome) (after : State) → Moves state s o after → begun state.events ≤ begun after.events

@@ -1,5 +1,6 @@
 -- Handles: that of a running operation is open and of its kind, and the number that an operation is to open is its own and names no open handle until it is marked.
-use Rattle.std.proofs.Common.{◌≡◌, ℕ, zero, suc, ◌+◌, ◌≤◌, Bool, true, false, cond, nat_le, is_some, inl, inr, ◌⊎◌, List, ◌∷◌, set, get_or, Option, Some, None, unwrap_or, refl, sym, ap, ◌∙◌, subst, eq-eqb, add-one, arith, []}
+use Rattle.std.proofs.Common.{◌≡◌, ℕ, zero, suc, ◌+◌, ◌≤◌, Bool, true, false, cond, nat_le, is_some, inl, inr, ◌⊎◌, List, ◌∷◌, set, get_or, Option, Some, None, unwrap_or, refl}
+use Rattle.std.proofs.Common.{sym, ap, ◌∙◌, subst, eq-eqb, add-one, arith, []}
 use Rattle.std.specs.List.{list_any}
 use Rattle.std.proofs.lemmas.Bool.{true≢false, false≢true, cond_both, or_parts}
 use Rattle.std.proofs.lemmas.Option.{none-some, same_Some}
@@ -17,7 +18,8 @@ use Rattle.proof_generations.specs.Beneath.machine_model.specs.Calls.{handle_of,
 use Rattle.proof_generations.specs.Beneath.machine_model.specs.States.{State, first_state, root_at, word_of, word_at, operation_of, handle_limit}
 use Rattle.proof_generations.specs.Beneath.machine_model.specs.Operations.{action_of, line_action, line_after}
 use Rattle.proof_generations.specs.Beneath.machine_model.specs.Acting.{operation_after, gone, mark_after}
-use Rattle.proof_generations.specs.Beneath.machine_model.specs.Machine.{begin_denial, handle_closed, access_of, runs_on, is_taken, is_number, reserved_by, taken_below, handles_taken, least_from, least_free}
+use Rattle.proof_generations.specs.Beneath.machine_model.specs.Machine.{begin_denial, handle_closed, access_of, runs_on, is_taken, is_number, reserved_by, taken_below}
+use Rattle.proof_generations.specs.Beneath.machine_model.specs.Machine.{handles_taken, least_from, least_free}
 use Rattle.proof_generations.specs.Beneath.machine_model.specs.Moves.{Begins, Goes, Ends, Sweeps}
 use Rattle.proof_generations.specs.Beneath.machine_model.specs.Moves.{Moves, GoesOn, begun_operation}
 use Rattle.proof_generations.specs.Beneath.machine_model.proofs.Actors.{mark_one, mark_only, marks_in, marks_by, marks_of}
@@ -140,7 +142,8 @@ pub record Ran (state : State) (s : Step) (k : ℕ) (found : Operation) : Type 0
 
 module _ (state : State) (I : HasOffers state) (H : HasHandles state) where
   ran_so : (s : Step) (k : ℕ) (was next found : Operation) → Runs state k was → next.id ≡ was.id → next.call ≡ was.call → next.access ≡ was.access → next.opens ≡ was.opens →
-      ((next.line ≡ was.line) ⊎ ((s ≡ step.Go (suc k)) × (next.line ≡ line_after state was was.line))) → (next.is_marked ≡ false → was.is_marked ≡ false) → found ≡ mark_one (marks_in state s) next → Ran state s k found
+      ((next.line ≡ was.line) ⊎ ((s ≡ step.Go (suc k)) × (next.line ≡ line_after state was was.line))) → (next.is_marked ≡ false → was.is_marked ≡ false) →
+      found ≡ mark_one (marks_in state s) next → Ran state s k found
   ran_so s k was next found at_k id call access opening from unmarked it =
       let same = it ∙ mark_only (marks_in state s) next in
       record {
@@ -236,10 +239,12 @@ module _ (state : State) (I : HasOffers state) (H : HasHandles state) where
         by None e given = absurd (false≢true given)
         by (Some root) e given =
             let (now, found_now, same) = stays s o after m (handle_of call) root e
-            (λ actor other is_other d' closes at. true≢false (sym closes ∙ ap is_close (same_call s actor (suc k) other call is_other is) ∙ ap (λ (x : Operation). is_close x.call) (sym it) ∙ no_close)) in
+            (λ actor other is_other d' closes at. true≢false
+            (sym closes ∙ ap is_close (same_call s actor (suc k) other call is_other is) ∙ ap (λ (x : Operation). is_close x.call) (sym it) ∙ no_close)) in
             (now, ap (λ (x : Operation). root_at after (handle_of x.call)) it ∙ found_now, same ∙ sym (ap (λ (x : Operation). x.access) it ∙ ap (λ r. unwrap_or (access_of r) Writable) e))
 
-    unopened_by : (k n : ℕ) (found : Operation) → Ran state s k found ⊎ ((call : Call) × (s ≡ step.Begin (suc k) call) × (begin_denial state (suc k) call ≡ None) × (found ≡ begun_operation state call)) →
+    unopened_by : (k n : ℕ) (found : Operation) →
+        Ran state s k found ⊎ ((call : Call) × (s ≡ step.Begin (suc k) call) × (begin_denial state (suc k) call ≡ None) × (found ≡ begun_operation state call)) →
         found.is_marked ≡ false → found.opens ≡ Some n → root_at after n ≡ None
     unopened_by k n found (inl r) unmarked its =
         stays_none s o after m n (H.unopened k n r.was r.at_k (r.unmarked unmarked) (sym r.opens ∙ its))

@@ -19,9 +19,10 @@ use Rattle.proof_generations.specs.Beneath.machine_model.specs.Machine.{begin_de
 use Rattle.proof_generations.specs.Beneath.machine_model.specs.Moves.{Begins, Goes, Ends, Sweeps}
 use Rattle.proof_generations.specs.Beneath.machine_model.specs.Moves.{Moves, GoesOn, begun_operation}
 use Rattle.proof_generations.specs.Beneath.machine_model.proofs.Found.{found_within, found_elsewhere}
-use Rattle.proof_generations.specs.Beneath.machine_model.proofs.Actors.{mark_one, marks_by, marks_in, marks_of, after_marks, gone_actors, begin_actors, IsOf, is_of, of_others, of_itself, of_begin, of_end}
-use Rattle.proof_generations.specs.Beneath.proof_memory.proofs.Safety.Held.{begin_counts}
+use Rattle.proof_generations.specs.Beneath.machine_model.proofs.Actors.{mark_one, marks_by, marks_in, marks_of, after_marks, gone_actors, begin_actors, IsOf, is_of, of_others, go_counts, begin_counts}
+use Rattle.proof_generations.specs.Beneath.machine_model.proofs.Actors.{of_itself, of_begin, of_end}
 use Rattle.proof_generations.specs.Running.{Runs}
+use Rattle.proof_generations.specs.Beneath.machine_model.proofs.Basics.{actor_at}
 
 -- an actor whose operation is told has a place
 pub place_of_actor : (state : State) (actor : ℕ) (operation : Operation) → operation_of state actor ≡ Some operation → (k : ℕ) × (actor ≡ suc k) × Runs state k operation
@@ -49,19 +50,12 @@ marked_runs : (m : Option ℕ) (xs : List (Option Operation)) (k : ℕ) (operati
 marked_runs None xs k operation at_k = at_k
 marked_runs (Some id) xs k operation at_k = get_or-map (marked id) xs k None ∙ ap (marked id) at_k
 
--- the actor whose place it is
-actor_at : (actor k : ℕ) → 0 < actor → k ≡ actor - 1 → actor ≡ suc k
-actor_at actor k pos e = omega arith
-
 -- an actor that runs an operation begins no other
 pub begin_not_running : (state : State) (k actor : ℕ) (call : Call) (operation : Operation) → begin_denial state actor call ≡ None → actor ≡ suc k → Runs state k operation → ⊥
 begin_not_running state k actor call operation d own is = denied (subst (λ a. operation_of state a ≡ Some operation) (sym own) is)
   where
     denied : operation_of state actor ≡ Some operation → ⊥
     denied e = grind arith
-
-go_counts : (state : State) (actor : ℕ) → go_denial state actor ≡ None → 0 < actor
-go_counts state actor d = grind arith
 
 -- what becomes of an operation in a step: it rests while another actor or the sweep moves, goes on by its own step, or ends
 pub data Follows (state : State) (s : Step) (after : State) (k : ℕ) (operation : Operation) : Type 0 where
@@ -83,12 +77,16 @@ follows state s o after (Goes {actor} {operation = own} d is a g) k operation at
       let one = one_at state k own operation (at_place state actor k own place is) at_k in
       let marks : marks_by state (Some own) ≡ marks_in state (step.Go actor) = ap (λ x. marks_by state x) (sym is) in
       steps (ap (λ x. step.Go x) place) (subst (λ x. GoesOn (action_of state x)) one (rw a g))
-      (rw gone_actors (subst (λ m. get_or (after_marks (marks_by state (Some own)) (set state.actors (actor - 1) (Some (operation_after state own)))) k None ≡ Some (mark_one m (operation_after state operation))) marks
-      (subst (λ x. get_or (after_marks (marks_by state (Some own)) (set state.actors (actor - 1) (Some (operation_after state own)))) k None ≡ Some (mark_one (marks_by state (Some own)) (operation_after state x))) one
+      (rw gone_actors
+      (subst (λ m. get_or (after_marks (marks_by state (Some own)) (set state.actors (actor - 1) (Some (operation_after state own)))) k None ≡ Some
+      (mark_one m (operation_after state operation))) marks
+      (subst (λ x. get_or (after_marks (marks_by state (Some own)) (set state.actors (actor - 1) (Some (operation_after state own)))) k None ≡ Some
+      (mark_one (marks_by state (Some own)) (operation_after state x))) one
       (marked_runs (marks_by state (Some own)) _ k (operation_after state own) here.1))))
   | inr there ↦
       let marks : marks_by state (Some own) ≡ marks_in state (step.Go actor) = ap (λ x. marks_by state x) (sym is) in
-      rests (not_place actor k there.0) (rw gone_actors (subst (λ m. get_or (after_marks (marks_by state (Some own)) (set state.actors (actor - 1) (Some (operation_after state own)))) k None ≡ Some (mark_one m operation)) marks
+      rests (not_place actor k there.0)
+      (rw gone_actors (subst (λ m. get_or (after_marks (marks_by state (Some own)) (set state.actors (actor - 1) (Some (operation_after state own)))) k None ≡ Some (mark_one m operation)) marks
       (marked_runs (marks_by state (Some own)) _ k operation there.1)))
 ]
 follows state s o after (Ends {actor} {operation = own} {answer} d is a) k operation at_k = elim (write_cases state.actors (actor - 1) k None operation at_k) [

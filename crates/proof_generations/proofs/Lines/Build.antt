@@ -42,7 +42,8 @@ module _ (state : State) (operation : Operation) (Own Fits Falls : Ref → Type 
   BuildMakes (build.Rung path main position below depth) made = Falls made
   BuildMakes (build.Main path main c former) made = Falls made
 
-  single_falls : (path : List Ref) (main : Ref) → FallsOn Own Fits Falls Late path main → (former : Option ℕ) (s : Site) (made : Ref) → Fits made → K (after_single state operation path main former s made)
+  single_falls : (path : List Ref) (main : Ref) → FallsOn Own Fits Falls Late path main → (former : Option ℕ) (s : Site) (made : Ref) → Fits made →
+      K (after_single state operation path main former s made)
   single_falls path main k former site.Absent made m = (k, tt)
   single_falls path main k former (site.At position) made m = (k, m)
   single_falls path main k former (site.Beside position) made m = k
@@ -54,7 +55,8 @@ module _ (state : State) (operation : Operation) (Own Fits Falls : Ref → Type 
   build_made_falls own_fits (build.Rung path main position below depth) k made m = (k.0, m)
   build_made_falls own_fits (build.Main path main c former) k made m = (own_current Own path k.0.0, m, k.0.0)
 
-  pub build_falls : ((r : Ref) → Own r → Fits r) → (l : BuildLine) → KnowsBuild Own Fits Falls Late l → (o : Option Ref) → ((made : Ref) → o ≡ Some made → BuildMakes l made) → K (build_if_made state operation l o)
+  pub build_falls : ((r : Ref) → Own r → Fits r) → (l : BuildLine) → KnowsBuild Own Fits Falls Late l → (o : Option Ref) →
+      ((made : Ref) → o ≡ Some made → BuildMakes l made) → K (build_if_made state operation l o)
   build_falls own_fits l k None makes = tt
   build_falls own_fits l k (Some made) makes = build_made_falls own_fits l k made (makes made refl)
 

@@ -42,8 +42,10 @@ use Rattle.proof_generations.specs.Beneath.machine_model.specs.Lines.{new_try}
 use Rattle.proof_generations.specs.Beneath.machine_model.specs.Paths.{flag_in}
 use Rattle.proof_generations.specs.Beneath.machine_model.specs.Reading.{read_action, read_step}
 use Rattle.proof_generations.specs.Beneath.machine_model.specs.Swapping.{is_plain, complete_after, complete_action}
-use Rattle.proof_generations.specs.Beneath.machine_model.specs.Finding.{key_after, key_after_read, key_after_main, key_after_entry, after_tomb, after_listed, after_sibling, found, found_so, absent, absent_beside, absent_listed}
-use Rattle.proof_generations.specs.Beneath.machine_model.specs.Copying.{copy_action, copy_after, copy_after_read, copy_after_made, copy_if_made, copy_after_complete, after_successor, after_given, after_offer, offering, copied_reply}
+use Rattle.proof_generations.specs.Beneath.machine_model.specs.Finding.{key_after, key_after_read, key_after_main, key_after_entry, after_tomb, after_listed, after_sibling, found}
+use Rattle.proof_generations.specs.Beneath.machine_model.specs.Finding.{found_so, absent, absent_beside, absent_listed}
+use Rattle.proof_generations.specs.Beneath.machine_model.specs.Copying.{copy_action, copy_after, copy_after_read, copy_after_made, copy_if_made, copy_after_complete}
+use Rattle.proof_generations.specs.Beneath.machine_model.specs.Copying.{after_successor, after_given, after_offer, offering, copied_reply}
 use Rattle.proof_generations.specs.Beneath.machine_model.specs.Operations.{line_action, line_after, first_line, from_root, after_root}
 use Rattle.proof_generations.specs.Beneath.machine_model.specs.Acting.{operation_after, attempt_after}
 use Rattle.proof_generations.specs.Beneath.machine_model.specs.Moves.{Moves}

@@ -20,7 +20,8 @@ use Rattle.proof_generations.specs.Beneath.machine_model.specs.declared.lines.Li
 use Rattle.proof_generations.specs.Beneath.machine_model.specs.Calls.{when_found, inserts, key_of}
 use Rattle.proof_generations.specs.Beneath.machine_model.specs.States.{State}
 use Rattle.proof_generations.specs.Beneath.machine_model.specs.Paths.{flag_in, is_below_root, is_start}
-use Rattle.proof_generations.specs.Beneath.machine_model.specs.Finding.{key_after_read, key_after_main, after_tomb, key_after_entry, after_listed, after_sibling, absent, absent_beside, absent_listed, removing, found_so, passes}
+use Rattle.proof_generations.specs.Beneath.machine_model.specs.Finding.{key_after_read, key_after_main, after_tomb, key_after_entry, after_listed, after_sibling, absent}
+use Rattle.proof_generations.specs.Beneath.machine_model.specs.Finding.{absent_beside, absent_listed, removing, found_so, passes}
 use Rattle.proof_generations.specs.Beneath.machine_model.specs.Renewing.{renew_next}
 use Rattle.proof_generations.proofs.Lines.Knows.{OwnPath, Knows, FallsOn, own_current, own_above, own_pushed}
 
@@ -70,7 +71,8 @@ module _ (state : State) (operation : Operation) (Own Fits Falls : Ref → Type 
     found_falls position value Removes = removing_falls position value (node_at state.heap main)
 
     -- a writable operation goes down to an indirection of its own generation alone
-    pub key_entry_falls : (position : ℕ) → operation.access ≡ Writable → (n : Node) → ((h : ℕ) (word : Ref) → n ≡ Indirection h word → is_start operation h ≡ true → Own (entry_at state.heap main position)) →
+    pub key_entry_falls : (position : ℕ) → operation.access ≡ Writable → (n : Node) →
+        ((h : ℕ) (word : Ref) → n ≡ Indirection h word → is_start operation h ≡ true → Own (entry_at state.heap main position)) →
         K (key_after_entry state operation path main position n)
     key_entry_falls position w (Indirection h word) own =
         cond_both (passes operation.access (is_start operation h)) _ _ K

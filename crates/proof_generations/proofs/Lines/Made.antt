@@ -135,7 +135,8 @@ module _ (state : State) (operation : Operation) (start : ℕ) (begun : operatio
       let single = w.1.1.0 in
       let at = w.1.1.1.0 in
       let es = set (entries_of (node_at state.heap main)) (place_in state operation c main) c.single in
-      let all = All-set Fits (entries_of (node_at state.heap main)) (place_in state operation c main) c.single (single_fits c.single (safe_of single) (meets_of single)) (entries_fit main (safe_of at) k.1) in
+      let all = All-set Fits (entries_of (node_at state.heap main)) (place_in state operation c main) c.single
+      (single_fits c.single (safe_of single) (meets_of single)) (entries_fit main (safe_of at) k.1) in
       subst MainMade (same_Some _ _ e)
       (contracted_no_link (is_below_root (above c.path)) (bitmap_of (node_at state.heap main)) es, contracted_entries Fits (is_below_root (above c.path)) (bitmap_of (node_at state.heap main)) es all)
   climb_node (climb.Root c l) k w n e = absurd (root_makes state operation l n e)

@@ -35,7 +35,8 @@ use Rattle.proof_commits.specs.Stages.{stage_of}
 use Rattle.proof_generations.proofs.Lines.Knows.{Knows, IsInner, KnowsKey, KnowsRenew, KnowsClean, KnowsClimb, KnowsCopy}
 use Rattle.proof_generations.proofs.Lines.Key.{key_read_falls, key_main_falls, key_entry_falls, key_listed_falls, key_sibling_falls}
 use Rattle.proof_generations.proofs.Lines.Build.{build_falls, BuildMakes, swap_falls}
-use Rattle.proof_generations.proofs.Lines.Repair.{renew_entry_falls, renew_read_falls, renew_link_falls, renew_branch_falls, clean_read_falls, clean_main_falls, clean_entry_falls, clean_child_falls, clean_tomb_falls, clean_contracted_falls}
+use Rattle.proof_generations.proofs.Lines.Repair.{renew_entry_falls, renew_read_falls, renew_link_falls, renew_branch_falls, clean_read_falls, clean_main_falls, clean_entry_falls}
+use Rattle.proof_generations.proofs.Lines.Repair.{clean_child_falls, clean_tomb_falls, clean_contracted_falls}
 use Rattle.proof_generations.proofs.Lines.Climb.{climb_read_falls, climb_main_falls, climb_contracted_falls, climb_root_falls, copy_read_falls, copy_made_falls, CopyMakes, offer_falls, complete_falls}
 
 -- Own, Fits and Falls speak of the time after the step; of the READ in which the line is, Was speaks of the time before it, and Late of that after it. A READ goes
@@ -95,19 +96,23 @@ module _ (state : State) (operation : Operation) (Own Fits Falls : Ref → Type 
   -- the next entry fits
   next_fits : (main : Ref) (done : List Ref) → S main → Falls main → Holds S state.heap (Is main (WithEntry (length done))) → Fits (next_entry state main done)
   next_fits main done used falls within =
-      All-get_or Fits (entries_of (node_at state.heap main)) (length done) no_ref (ltb-true (length done) (length (entries_of (node_at state.heap main))) (meets_of within)) (step.entries_fit main used falls)
+      All-get_or Fits (entries_of (node_at state.heap main)) (length done) no_ref
+      (ltb-true (length done) (length (entries_of (node_at state.heap main))) (meets_of within)) (step.entries_fit main used falls)
 
-  renew_own : (l : RenewLine) → operation.line ≡ line.Renew l → KnowsRenew Own Fits Falls Was l → Wants (line.Renew l) → Acts (line.Renew l) → Makes (line.Renew l) → K (line_after state operation (line.Renew l))
+  renew_own : (l : RenewLine) → operation.line ≡ line.Renew l → KnowsRenew Own Fits Falls Was l → Wants (line.Renew l) → Acts (line.Renew l) →
+      Makes (line.Renew l) → K (line_after state operation (line.Renew l))
   renew_own (renew.Entry path main done) is k w a makes =
       let fits = next_fits main done (safe_of w.1.1.0) k.0.1 w.1.1.1.1.0 in
       renew_entry_falls state operation Own Fits Falls Late path main done k fits (node_at state.heap (next_entry state main done))
       (λ h word e other. step.begins (next_entry state main done) h word (safe_of a.0) e fits)
   renew_own (renew.Read path main done r) is k w a makes =
-      renew_read_falls state operation Own Fits Falls Late path main done k.0 (read_step state operation r) (λ next e. step.late_goes r next (ap stage_of is) k.1 e) (λ m e. step.late_gives r m (ap stage_of is) k.1 e)
+      renew_read_falls state operation Own Fits Falls Late path main done k.0 (read_step state operation r) (λ next e. step.late_goes r next (ap stage_of is) k.1 e)
+      (λ m e. step.late_gives r m (ap stage_of is) k.1 e)
   renew_own (renew.Link path main done child) is k w a makes = renew_link_falls state operation Own Fits Falls Late path main done k.0 (next_ref state.heap) makes
   renew_own (renew.Branch path main done) is k w a makes = renew_branch_falls state operation Own Fits Falls Late path main done k (next_ref state.heap) makes
 
-  clean_own : (l : CleanLine) → operation.line ≡ line.Clean l → KnowsClean Own Fits Falls Was l → Wants (line.Clean l) → Acts (line.Clean l) → Makes (line.Clean l) → K (line_after state operation (line.Clean l))
+  clean_own : (l : CleanLine) → operation.line ≡ line.Clean l → KnowsClean Own Fits Falls Was l → Wants (line.Clean l) → Acts (line.Clean l) →
+      Makes (line.Clean l) → K (line_after state operation (line.Clean l))
   clean_own (clean.Read path r) is k w a makes =
       clean_read_falls state operation Own Fits Falls Late path k.0 (read_step state operation r) (own_goes r k.1) (λ m e. step.own_gives r m (ap stage_of is) k.1 e)
   clean_own (clean.Main path main) is k w a makes = clean_main_falls state operation Own Fits Falls Late path main k (node_at state.heap main)
@@ -116,7 +121,8 @@ module _ (state : State) (operation : Operation) (Own Fits Falls : Ref → Type 
       clean_entry_falls state operation Own Fits Falls Late path main done k fits (node_at state.heap (next_entry state main done))
       (λ h word e. step.begins (next_entry state main done) h word (safe_of a.0) e fits)
   clean_own (clean.Child path main done r) is k w a makes =
-      clean_child_falls state operation Own Fits Falls Late path main done k.0 (read_step state operation r) (λ next e. step.late_goes r next (ap stage_of is) k.1 e) (λ m e. step.late_gives r m (ap stage_of is) k.1 e)
+      clean_child_falls state operation Own Fits Falls Late path main done k.0 (read_step state operation r)
+      (λ next e. step.late_goes r next (ap stage_of is) k.1 e) (λ m e. step.late_gives r m (ap stage_of is) k.1 e)
   clean_own (clean.Tomb path main done child) is k w a makes =
       clean_tomb_falls state operation Own Fits Falls Late path main done k.0 (next_fits main done (safe_of w.1.1.0) k.0.0.1 w.1.1.1.1.0) (node_at state.heap child)
       (step.entries_fit child (safe_of w.1.1.1.1.1.0) k.1)

@@ -90,7 +90,8 @@ module _ (limits : Limits) (states : ℕ → State) (last : ℕ) (run : IsRun li
     late_so r h is (inl same) other = absurd (other (is ∙ same))
     late_so r h is (inr (less, closed)) other = subst (λ x. IsLate states (suc t) now (reading r) x) (sym is) (closed.0, closed.1, closed.2, inl refl)
 
-    own_step : OwnStep (states t) operation (IsOwn states last g) (FitsBelow states last (suc t) g) (FallsBelow states last (suc t) g) (LateBelow states last t operation g) (LateBelow states last (suc t) now g) S
+    own_step : OwnStep (states t) operation (IsOwn states last g) (FitsBelow states last (suc t) g) (FallsBelow states last (suc t) g)
+        (LateBelow states last t operation g) (LateBelow states last (suc t) now g) S
     own_step = record {
       writable = w;
       own_fits = own_fits states last (suc t) g;
@@ -101,7 +102,8 @@ module _ (limits : Limits) (states : ℕ → State) (last : ℕ) (run : IsRun li
           (mains.falls r.indirection m (given_stands limits states last run t lt (suc k) operation runs r stage o moves m e) (subst (λ x. WasOpened states (suc t) x) (sym own) opened));
       late_goes = λ r next stage was e.
           let (link, fits, late) = was in
-          subst (λ i. IsLink states last i × FitsBelow states last (suc t) g i × ((gen_of states last i ≡ g → ⊥) → IsLate states (suc t) now next (gen_of states last i))) (sym (read_stays (states t) operation r next e)) (
+          subst (λ i. IsLink states last i × FitsBelow states last (suc t) g i × ((gen_of states last i ≡ g → ⊥) → IsLate states (suc t) now next (gen_of states last i)))
+          (sym (read_stays (states t) operation r next e)) (
             link,
             fits_next limits states last run t lt g r.indirection fits,
             λ other. let (c, before, closed, since) = late other in
@@ -112,7 +114,8 @@ module _ (limits : Limits) (states : ℕ → State) (last : ℕ) (run : IsRun li
           let under = fits h is in
           let told = told_generation states last h r.indirection is in
           falls_below states last (suc t) g (gen_of states last r.indirection) m (subst (λ x. MayStandBelow states (suc t) g x) (sym told) (below_next limits states last run t lt g h under))
-          (mains.falls r.indirection m (given_stands limits states last run t lt (suc k) operation runs r stage o moves m e) (subst (λ x. WasOpened states (suc t) x) (sym told) (opened_under h under)));
+          (mains.falls r.indirection m (given_stands limits states last run t lt (suc k) operation runs r stage o moves m e)
+          (subst (λ x. WasOpened states (suc t) x) (sym told) (opened_under h under)));
       looked = λ r h word used is same.
           told_generation states last h r (link_used limits states last run t (omega arith) r used h word is) ∙ same_Some _ _ (sym (licensed_so operation.generation h same) ∙ begun);
       begins = λ r h word used is fits.
@@ -133,17 +136,20 @@ module _ (limits : Limits) (states : ℕ → State) (last : ℕ) (run : IsRun li
 
     abbrev MadeSo : Line → Node → Type 0
     MadeSo =
-        NodeMade (states t) operation g begun (IsOwn states last g) Fits Falls (LateBelow states last t operation g) S (own_fits states last (suc t) g) (single_fits limits states last run t lt (suc t) g)
+        NodeMade (states t) operation g begun (IsOwn states last g) Fits Falls (LateBelow states last t operation g) S (own_fits states last (suc t) g)
+        (single_fits limits states last run t lt (suc t) g)
         (entries_fit limits states last run t lt (suc t) g)
 
     node_of_line : (l : Line) → operation.line ≡ l → Kn l → (n : Node) → made_node (states t) (line_action (states t) operation l) ≡ Some n → MadeSo l n
     node_of_line l is known n e =
-        node_made (states t) operation g begun (IsOwn states last g) Fits Falls (LateBelow states last t operation g) S (own_fits states last (suc t) g) (single_fits limits states last run t lt (suc t) g)
+        node_made (states t) operation g begun (IsOwn states last g) Fits Falls (LateBelow states last t operation g) S (own_fits states last (suc t) g)
+        (single_fits limits states last run t lt (suc t) g)
         (entries_fit limits states last run t lt (suc t) g) l known
         (subst (λ x. AllHold S (states t).heap (line_wants (states t).limits.hash operation.call operation.access x)) is
         (line_finds (states t) (safe_at limits states last run t (omega arith)) (suc k) operation runs)) n e
 
-    module _ (l : Line) (is : operation.line ≡ l) (known : Kn l) (n : Node) (e : made_node (states t) (line_action (states t) operation l) ≡ Some n) (made : Ref) (takes : next_ref (states t).heap ≡ Some made) where
+    module _ (l : Line) (is : operation.line ≡ l) (known : Kn l) (n : Node) (e : made_node (states t) (line_action (states t) operation l) ≡ Some n) (made : Ref)
+        (takes : next_ref (states t).heap ≡ Some made) where
       used_new : IsInUse (states (suc t)).heap made × (node_at (states (suc t)).heap made ≡ n)
       used_new = new_used n made (ap (λ x. made_node (states t) (line_action (states t) operation x)) is ∙ e) takes
 
@@ -217,5 +223,6 @@ module _ (limits : Limits) (states : ℕ → State) (last : ℕ) (run : IsRun li
         let known = knows_still (IsOwn states last g) (FitsBelow states last t g) (FallsBelow states last t g) (LateBelow states last t operation g) Fits Falls (LateBelow states last t operation g)
         (fits_next limits states last run t lt g) (falls_next limits states last run t lt g) (λ r late. late) operation.line knows in
         own_falls (states t) operation (IsOwn states last g) Fits Falls (LateBelow states last t operation g) (LateBelow states last (suc t) now g) S own_step operation.line refl inner known
-        (line_finds (states t) (safe_at limits states last run t (omega arith)) (suc k) operation runs) (action_finds (states t) (safe_at limits states last run t (omega arith)) (suc k) operation runs)
+        (line_finds (states t) (safe_at limits states last run t (omega arith)) (suc k) operation runs)
+        (action_finds (states t) (safe_at limits states last run t (omega arith)) (suc k) operation runs)
         (λ made takes. line_makes operation.line refl known made takes)

@@ -41,6 +41,7 @@ use Rattle.proof_commits.specs.Protocol.{Reads}
 use Rattle.proof_commits.specs.Stages.{stage_of}
 use Rattle.proof_generations.specs.Beneath.proof_memory.specs.Wants.{AllHold, line_wants, action_wants}
 use Rattle.proof_generations.specs.Beneath.proof_memory.proofs.Claims.Uses.{safe_of, meets_of, fact_of}
+use Rattle.proof_generations.specs.Beneath.machine_model.proofs.Readers.{reader_inserts, reader_answers}
 
 -- Ends is of entries, Shut of main nodes, Late of READs.
 module _ (Ends Shut : Ref → Type 0) (Late : Read → Type 0) where
@@ -117,18 +118,12 @@ pub record ReaderStep (state : State) (operation : Operation) (Ends Shut : Ref �
   pub plain : word_at state (handle_of operation.call) ≡ Plain (root_of (word_at state (handle_of operation.call)))
   pub root_late : Late (reading (root_of (word_at state (handle_of operation.call))))
 
-no_inserts : (call : Call) → needs_writable call ≡ false → inserts call ≡ false
-no_inserts call n = grind arith
-
-answers : (call : Call) → needs_writable call ≡ false → (value : ℕ) → when_found call value ≡ Answers (reply.Found (Some value))
-answers call n value = grind arith
-
 module _ (state : State) (operation : Operation) (Ends Shut : Ref → Type 0) (Was Late : Read → Type 0) (S : Ref → Type 0) (step : ReaderStep state operation Ends Shut Was Late S) where
   abbrev K : Line → Type 0
   K = KnowsReader Ends Shut Late
 
   inserts_not : inserts operation.call ≡ true → ⊥
-  inserts_not e = true≢false (sym e ∙ no_inserts operation.call step.reads)
+  inserts_not e = true≢false (sym e ∙ reader_inserts operation.call step.reads)
 
   absent_ends : (path : List Ref) (main : Ref) → K (absent operation path main)
   absent_ends path main = cond_both (inserts operation.call) _ _ K (λ e. inserts_not e) (λ e. tt)
@@ -142,7 +137,7 @@ module _ (state : State) (operation : Operation) (Ends Shut : Ref → Type 0) (W
   found_by path main position value Removes e = let wrong : ⊥ = cc e in absurd wrong
 
   found_ends : (path : List Ref) (main : Ref) (position value : ℕ) → K (found_so state path main position value (when_found operation.call value))
-  found_ends path main position value = found_by path main position value (when_found operation.call value) (answers operation.call step.reads value)
+  found_ends path main position value = found_by path main position value (when_found operation.call value) (reader_answers operation.call step.reads value)
 
   tomb_ends : (access : Access) → access ≡ ReadOnly → (path : List Ref) (main : Ref) → K (after_tomb access path main)
   tomb_ends ReadOnly e path main = tt

@@ -56,7 +56,8 @@ root_claim state (Plain r) h = h.0
 root_claim state (Offer offer) h = h.0
 
 module _ (limits : Limits) (states : ℕ → State) (last : ℕ) (run : IsRun limits states last) (t : ℕ) (lt : t < last) (mains : MainsFall states last (suc t)) (k : ℕ) (operation : Operation)
-    (runs : Runs (states t) k operation) (o : Outcome) (moves : Moves (states t) (step.Go (suc k)) o (states (suc t))) (goes : GoesOn (action_of (states t) operation)) (read_only : operation.access ≡ ReadOnly) where
+    (runs : Runs (states t) k operation) (o : Outcome) (moves : Moves (states t) (step.Go (suc k)) o (states (suc t)))
+    (goes : GoesOn (action_of (states t) operation)) (read_only : operation.access ≡ ReadOnly) where
   abbrev now : Operation
   now = operation_after (states t) operation
 
@@ -88,7 +89,8 @@ module _ (limits : Limits) (states : ℕ → State) (last : ℕ) (run : IsRun li
         root = root;
         found = found;
         plain = read_only_plain (states t) I O handle root found (access ∙ read_only);
-        closed = subst (λ x. WasClosed states t x) (sym (standing_generation limits states last run t (omega arith) handle root found)) (c, (closed_so limits states last run t (omega arith) _ c closed).0, closed);
+        closed = subst (λ x. WasClosed states t x) (sym (standing_generation limits states last run t (omega arith) handle root found))
+            (c, (closed_so limits states last run t (omega arith) _ c closed).0, closed);
         link = (h, link_used limits states last run t (omega arith) (root_of root.word) (safe_of claim) h word is);
       }
 
@@ -123,5 +125,6 @@ module _ (limits : Limits) (states : ℕ → State) (last : ℕ) (run : IsRun li
   reader_knows knows =
       let known = reader_still (Ends states last t) (Shut states last t) (LateEnd states last t operation) (Ends states last (suc t)) (Shut states last (suc t)) (LateEnd states last t operation)
       (ends_next limits states last run t lt) (shut_next limits states last run t lt) (λ r late. late) operation.line knows in
-      reader_falls (states t) operation (Ends states last (suc t)) (Shut states last (suc t)) (LateEnd states last t operation) (LateEnd states last (suc t) now) S reader_step operation.line refl known
+      reader_falls (states t) operation (Ends states last (suc t)) (Shut states last (suc t)) (LateEnd states last t operation)
+      (LateEnd states last (suc t) now) S reader_step operation.line refl known
       (line_finds (states t) I (suc k) operation runs) (action_finds (states t) I (suc k) operation runs)

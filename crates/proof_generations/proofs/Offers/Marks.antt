@@ -35,6 +35,7 @@ use Rattle.proof_generations.specs.Laws.Roots.{settles}
 use Rattle.proof_generations.proofs.Offers.Standing.{own_offer, own_numbers, completes_it}
 use Rattle.proof_generations.proofs.Offers.Same.{HasOffers, same_offer}
 use Rattle.proof_generations.proofs.Handles.Footings.{CarriesOut}
+use Rattle.proof_generations.specs.Beneath.machine_model.proofs.Basics.{or_first, or_second}
 
 -- ---- who is marked
 
@@ -67,7 +68,8 @@ pub record Marks (state : State) (s : Step) (k : ℕ) (owner : Operation) : Type
   pub unmarked : owner.is_marked ≡ false
 
 module _ (state : State) (I : HasOffers state) where
-  marked_by : (k : ℕ) (owner : Operation) → Runs state k owner → (actor : ℕ) (o : Option Operation) → operation_of state actor ≡ o → marks_by state o ≡ Some owner.id → Marks state (step.Go actor) k owner
+  marked_by : (k : ℕ) (owner : Operation) → Runs state k owner → (actor : ℕ) (o : Option Operation) → operation_of state actor ≡ o →
+      marks_by state o ≡ Some owner.id → Marks state (step.Go actor) k owner
   marked_by k owner at_k actor None is e = absurd (none-some owner.id e)
   marked_by k owner at_k actor (Some mover) is e =
       let (offer, carries, its) = carries_so state (handle_of mover.call) (action_of state mover) owner.id e in
@@ -130,7 +132,8 @@ done_of l offer e = absurd (none-some offer e)
 ended_done : (operation : Operation) (done : Bool) → (done || operation.is_marked) ≡ true → is_done (copy_after_complete operation (Gives done)) ≡ true
 ended_done operation done e = ap (λ b. is_done (cond b (line.End (copied_reply operation.call operation.opens)) new_try)) e
 
-next_done : (state : State) (operation : Operation) (c : Complete) → ((main : Ref) → c.line ≡ complete.Swap main → (is_carried_out (word_at state (handle_of operation.call)) c.offer main || operation.is_marked) ≡ true) →
+next_done : (state : State) (operation : Operation) (c : Complete) →
+    ((main : Ref) → c.line ≡ complete.Swap main → (is_carried_out (word_at state (handle_of operation.call)) c.offer main || operation.is_marked) ≡ true) →
     is_done (line_after state operation (line.Copy (copy.Complete c))) ≡ true
 next_done state operation c h = by c.line refl
   where
@@ -138,7 +141,8 @@ next_done state operation c h = by c.line refl
     going (Continues l) g = refl
     going (Gives done) g = ended_done operation done (g done refl)
 
-    by : (l : CompleteLine) → c.line ≡ l → is_done (copy_after_complete operation (of_offer c.offer (after_complete state.heap operation.access (word_at state (handle_of operation.call)) c.offer l))) ≡ true
+    by : (l : CompleteLine) → c.line ≡ l →
+        is_done (copy_after_complete operation (of_offer c.offer (after_complete state.heap operation.access (word_at state (handle_of operation.call)) c.offer l))) ≡ true
     by (complete.Reading l) e = going _ (λ done wrong. absurd (never done _ wrong))
       where
         never : (done : Bool) (a : After _ Ref) → after_reading a ≡ Gives done → ⊥
@@ -153,14 +157,6 @@ is_completing l e state operation g = absurd (false≢true e)
 
 pub complete_mark : (mark : Bool) (c : Complete) → mark_after mark (complete_action c) ≡ mark
 complete_mark mark c = grind arith
-
-or_first : (a b : Bool) → a ≡ true → (a || b) ≡ true
-or_first true b e = refl
-or_first false b e = absurd (false≢true e)
-
-or_second : (a b : Bool) → b ≡ true → (a || b) ≡ true
-or_second true b e = refl
-or_second false b e = e
 
 module _ (state : State) (I : HasOffers state) (all : AllDone state) (s : Step) where
   done_by : (k : ℕ) (found : Operation) → Comes state s k found → found.is_marked ≡ true → is_done found.line ≡ true
@@ -202,14 +198,16 @@ module _ (state : State) (I : HasOffers state) (all : AllDone state) (s : Step) 
       carried_by was c offer now main e action_is its carried =
           let swaps : act.Complete c.offer main ≡ act.Complete offer now = ap (λ l. complete_action (record c { line = l })) (sym e) ∙ action_is in
           or_first (is_carried_out (word_at state (handle_of was.call)) c.offer main) was.is_marked
-          (ap (λ d. is_carried_out (word_at state (handle_of was.call)) d main) its ∙ ap (λ m. is_carried_out (word_at state (handle_of was.call)) offer m) (complete_main c.offer offer main now swaps) ∙ carried)
+          (ap (λ d. is_carried_out (word_at state (handle_of was.call)) d main) its ∙ ap (λ m. is_carried_out (word_at state (handle_of was.call)) offer m)
+          (complete_main c.offer offer main now swaps) ∙ carried)
 
       carries_now : (k : ℕ) (was : Operation) → Runs state k was → s ≡ step.Go (suc k) → (h : Marks state s k was) → (c : Complete) → was.line ≡ line.Copy (copy.Complete c) → c.offer ≡ h.offer →
           is_done (line_after state was was.line) ≡ true
       carries_now k was at_k is h c at_line its =
           let mover_is : h.mover ≡ was = same_Some _ _ (sym h.moves ∙ ap (operation_of state) (same_actor h.actor k h.is_step is) ∙ at_k) in
           let action_is : complete_action c ≡ act.Complete h.offer (h.carries.main) = ap (line_action state was) (sym at_line) ∙ ap (action_of state) (sym mover_is) ∙ h.carries.is_it in
-          let carried : is_carried_out (word_at state (handle_of was.call)) h.offer (h.carries.main) ≡ true = ap (λ (x : Operation). is_carried_out (word_at state (handle_of x.call)) h.offer (h.carries.main)) (sym mover_is) ∙ h.carries.carried in
+          let carried : is_carried_out (word_at state (handle_of was.call)) h.offer (h.carries.main) ≡ true =
+          ap (λ (x : Operation). is_carried_out (word_at state (handle_of x.call)) h.offer (h.carries.main)) (sym mover_is) ∙ h.carries.carried in
           ap (λ l. is_done (line_after state was l)) at_line ∙ next_done state was c (λ main e. carried_by was c h.offer (h.carries.main) main e action_is its carried)
 
 pub done_after : (state : State) → HasOffers state → AllDone state → (s : Step) (o : Outcome) (after : State) → Moves state s o after → AllDone after

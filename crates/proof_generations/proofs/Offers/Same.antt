@@ -43,7 +43,8 @@ use Rattle.proof_generations.proofs.Handles.Ids.{HasIds, one_of_id, begun_kept, 
 use Rattle.proof_generations.proofs.Lines.Copy.{AllOwn, own_after, is_copy, no_copy_after, complete_tries, same_offer_after}
 use Rattle.proof_generations.specs.Laws.Roots.{settles}
 use Rattle.proof_generations.proofs.Offers.Standing.{own_offer, own_numbers, OffersStand, stands_as, offers_after, none_offered}
-use Rattle.proof_generations.proofs.Lines.Offers.{Holds, completing_of, abort_after, CompletesFrom, completes_after, settles_held}
+use Rattle.proof_generations.proofs.Lines.Offers.{HoldsOffer, completing_of, abort_after, settles_held}
+use Rattle.proof_generations.proofs.Lines.Completes.{CompletesFrom, completes_after}
 
 -- ---- where an operation has its own offer from
 
@@ -90,7 +91,8 @@ own_from state operation (line.Copy (copy.Complete c)) d e = inl (by (complete_a
     ended true e = none-some d e
     ended false e = none-some d e
 
-    by : (a : After Complete Bool) → complete_after state.heap operation.access (word_at state (handle_of operation.call)) c ≡ a → own_offer (copy_after_complete operation a) ≡ Some d → Some c.offer ≡ Some d
+    by : (a : After Complete Bool) → complete_after state.heap operation.access (word_at state (handle_of operation.call)) c ≡ a →
+        own_offer (copy_after_complete operation a) ≡ Some d → Some c.offer ≡ Some d
     by (Continues next) is e = ap Some (sym (same_offer_after state operation c next is)) ∙ e
     by (Gives done) is e = absurd (ended (done || operation.is_marked) e)
 own_from state operation (line.Copy l) d e = absurd (made_none operation l (next_ref state.heap) d e)
@@ -115,7 +117,7 @@ pub record IsKnown (state : State) (offer : Descriptor) : Type 0 where
 
 -- all that a running operation is to settle is known
 abbrev pub AllKnown : State → Type 0
-AllKnown state = (k : ℕ) (operation : Operation) → Runs state k operation → (offer : Descriptor) → Holds operation.line offer → IsKnown state offer
+AllKnown state = (k : ℕ) (operation : Operation) → Runs state k operation → (offer : Descriptor) → HoldsOffer operation.line offer → IsKnown state offer
 
 module _ (state : State) (ids : HasIds state) (own : AllOwn state) where
   pub known_own : (k : ℕ) (operation : Operation) (offer : Descriptor) → Runs state k operation → own_offer operation.line ≡ Some offer → IsKnown state offer
@@ -182,7 +184,7 @@ module _ (state : State) (s : Step) (o : Outcome) (after : State) (m : Moves sta
   }
 
 -- an operation that begins holds no offer
-first_holds : (call : Call) (offer : Descriptor) → Holds (first_line call) offer → ⊥
+first_holds : (call : Call) (offer : Descriptor) → HoldsOffer (first_line call) offer → ⊥
 first_holds (Entries h) offer (inl e) = none-some offer e
 first_holds (Entries h) offer (inr (c, e, f)) = none-some c e
 first_holds (Count h) offer (inl e) = none-some offer e
@@ -202,7 +204,8 @@ pub record HasOffers (state : State) : Type 0 where
   pub known : AllKnown state
 
 module _ (state : State) (I : HasOffers state) (s : Step) (o : Outcome) (after : State) (m : Moves state s o after) where
-  own_line : (was : Operation) (c : Complete) → was.line ≡ line.Copy (copy.Offer c.offer) → completing_of (line_after state was was.line) ≡ Some c → own_offer (line_after state was was.line) ≡ Some c.offer
+  own_line : (was : Operation) (c : Complete) → was.line ≡ line.Copy (copy.Offer c.offer) → completing_of (line_after state was was.line) ≡ Some c →
+      own_offer (line_after state was was.line) ≡ Some c.offer
   own_line was c at_line e = by (is_plain (word_at state (handle_of was.call)) c.offer.root) refl
     where
       by : (b : Bool) → is_plain (word_at state (handle_of was.call)) c.offer.root ≡ b → own_offer (line_after state was was.line) ≡ Some c.offer
@@ -216,19 +219,20 @@ module _ (state : State) (I : HasOffers state) (s : Step) (o : Outcome) (after :
   completing_known k was found at_k now line_is c e (inr (inr offers)) =
       known_own after (ids_after state s o after m I.ids) (own_after state s o after m I.own) k found c.offer now (ap own_offer line_is ∙ own_line was c offers e)
 
-  went_known : (k : ℕ) (was found : Operation) → Runs state k was → Runs after k found → found.line ≡ line_after state was was.line → (offer : Descriptor) → Holds (line_after state was was.line) offer → IsKnown after offer
+  went_known : (k : ℕ) (was found : Operation) → Runs state k was → Runs after k found → found.line ≡ line_after state was was.line → (offer : Descriptor) →
+      HoldsOffer (line_after state was was.line) offer → IsKnown after offer
   went_known k was found at_k now line_is offer (inl abort) =
       known_kept state s o after m offer (known_standing state I.ids I.own I.offers (handle_of was.call) offer (abort_after state was was.line offer abort))
   went_known k was found at_k now line_is offer (inr (c, e, same)) = subst (λ d. IsKnown after d) same (completing_known k was found at_k now line_is c e (completes_after state was was.line c e))
 
-  known_by : (k : ℕ) (found : Operation) → Runs after k found → Comes state s k found → (offer : Descriptor) → Holds found.line offer → IsKnown after offer
-  known_by k found now (began call is d it) offer held = absurd (first_holds call offer (subst (λ (x : Operation). Holds x.line offer) it held))
+  known_by : (k : ℕ) (found : Operation) → Runs after k found → Comes state s k found → (offer : Descriptor) → HoldsOffer found.line offer → IsKnown after offer
+  known_by k found now (began call is d it) offer held = absurd (first_holds call offer (subst (λ (x : Operation). HoldsOffer x.line offer) it held))
   known_by k found now (rested was at_k it) offer held =
       let same = it ∙ mark_only (marks_in state s) was in
-      known_kept state s o after m offer (I.known k was at_k offer (subst (λ (x : Operation). Holds x.line offer) same held))
+      known_kept state s o after m offer (I.known k was at_k offer (subst (λ (x : Operation). HoldsOffer x.line offer) same held))
   known_by k found now (went was is at_k g it) offer held =
       let same = it ∙ mark_only (marks_in state s) (operation_after state was) in
-      went_known k was found at_k now (ap (λ (x : Operation). x.line) same) offer (subst (λ (x : Operation). Holds x.line offer) same held)
+      went_known k was found at_k now (ap (λ (x : Operation). x.line) same) offer (subst (λ (x : Operation). HoldsOffer x.line offer) same held)
 
   pub has_offers_after : HasOffers after
   has_offers_after = record {

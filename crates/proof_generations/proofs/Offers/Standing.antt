@@ -1,5 +1,6 @@
 -- While an offer stands in a root word, the operation that offered it runs, on that handle and in that try, completes it, and isn't marked.
-use Rattle.std.proofs.Common.{◌≡◌, ℕ, zero, suc, ◌==◌, Bool, true, false, cond, inl, inr, ◌⊎◌, List, set, get_or, length, replicate, Option, Some, None, refl, sym, ap, ◌∙◌, subst, arith, eqb-true, eq-eqb, ne_eqb}
+use Rattle.std.proofs.Common.{◌≡◌, ℕ, zero, suc, ◌==◌, Bool, true, false, cond, inl, inr, ◌⊎◌, List, set, get_or, length, replicate, Option, Some, None, refl, sym, ap, ◌∙◌, subst}
+use Rattle.std.proofs.Common.{arith, eqb-true, eq-eqb, ne_eqb}
 use Rattle.std.proofs.lemmas.Bool.{cases_eq, cases_lt, true≢false, false≢true, and_parts, and_from, cond_both}
 use Rattle.std.proofs.lemmas.List.{get_or_past, get_or-set_same, length-set}
 use Rattle.std.proofs.lemmas.Option.{none-some, same_Some}
@@ -44,14 +45,12 @@ use Rattle.proof_generations.specs.Running.{Runs}
 use Rattle.proof_generations.specs.Laws.Roots.{settles}
 use Rattle.proof_generations.proofs.Handles.Ids.{HasIds, one_of_id}
 use Rattle.proof_generations.proofs.Lines.Copy.{IsOwn, HasOwn, AllOwn}
+use Rattle.proof_generations.specs.Beneath.machine_model.proofs.Basics.{not_offer}
 
 -- ---- which offers stand after an action
 
 abbrev word_in : List (Option Root) → ℕ → RootWord
 word_in roots handle = word_of (get_or roots handle None)
-
-not_offer : (r : Ref) (offer : Descriptor) → Plain r ≡ Offer offer → ⊥
-not_offer r offer e = cc e
 
 plain_put : (r : Ref) (o : Option Root) (offer : Descriptor) → word_of (rewritten (Plain r) o) ≡ Offer offer → ⊥
 plain_put r None offer e = cc e
@@ -212,7 +211,8 @@ marks_so state handle (act.Complete other main) id e = by (is_carried_out (word_
 marks_so state handle action id e = absurd (none-some id e)
 
 -- what stands by its number
-pub stands_as : (word : RootWord) (other : Descriptor) → stands_in word other ≡ true → (offer : Descriptor) × (word ≡ Offer offer) × (offer.operation ≡ other.operation) × (offer.attempt ≡ other.attempt)
+pub stands_as : (word : RootWord) (other : Descriptor) → stands_in word other ≡ true → (offer : Descriptor) × (word ≡ Offer offer)
+    × (offer.operation ≡ other.operation) × (offer.attempt ≡ other.attempt)
 stands_as (Plain root) other e = absurd (false≢true e)
 stands_as (Offer offer) other e =
     let p = and_parts (offer.operation == other.operation) (offer.attempt == other.attempt) e in
@@ -255,7 +255,8 @@ module _ (state : State) (ids : HasIds state) (own : AllOwn state) (all : Offers
       (ap (λ x. settles (line_action state owner x)) at_line ∙ ap (λ x. settles (complete_action (record c { line = x }))) e ∙ ap Some its) (sym on)
       (ap (λ w. stands_in w offer) word ∙ try_itself offer))
 
-  stays_by : (s : Step) (after : State) (handle : ℕ) (offer : Descriptor) → word_at state handle ≡ Offer offer → NotSettled s handle → (b : StandsBy state handle offer) → Follows state s after b.k b.owner →
+  stays_by : (s : Step) (after : State) (handle : ℕ) (offer : Descriptor) → word_at state handle ≡ Offer offer → NotSettled s handle →
+      (b : StandsBy state handle offer) → Follows state s after b.k b.owner →
       StandsBy after handle offer
   stays_by s after handle offer word free b (rests other at_k) =
       record {
@@ -286,7 +287,8 @@ module _ (state : State) (ids : HasIds state) (own : AllOwn state) (all : Offers
   stays s o after m handle offer word free = let b = all handle offer word in stays_by s after handle offer word free b (follows state s o after m b.k b.owner b.runs)
 
   -- an offer that its step puts there
-  put_by : (actor : ℕ) (operation : Operation) (after : State) (handle k : ℕ) (offer : Descriptor) → actor ≡ suc k → operation_of state actor ≡ Some operation → action_of state operation ≡ act.Offer offer →
+  put_by : (actor : ℕ) (operation : Operation) (after : State) (handle k : ℕ) (offer : Descriptor) → actor ≡ suc k → operation_of state actor ≡ Some operation →
+      action_of state operation ≡ act.Offer offer →
       handle ≡ handle_of operation.call → is_plain (word_at state (handle_of operation.call)) offer.root ≡ true → Follows state (step.Go actor) after k operation → StandsBy after handle offer
   put_by actor operation after handle k offer place is a here plain (rests other at_k) = absurd (other (ap (λ x. step.Go x) place))
   put_by actor operation after handle k offer place is a here plain (steps go g at_k) =

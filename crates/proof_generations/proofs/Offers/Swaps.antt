@@ -1,5 +1,6 @@
 -- What a step does to closings and roots: it leaves them, or carries an offer out, which closes the generation of the old root.
-use Rattle.std.proofs.Common.{◌≡◌, ℕ, ◌==◌, ◌&&◌, Bool, true, false, cond, find, inl, inr, ◌⊎◌, List, ◌∷◌, ◌++◌, Option, Some, None, get_or, set, refl, sym, ap, ◌∙◌, subst, eqb-true, eq-eqb, ne_eqb, []}
+use Rattle.std.proofs.Common.{◌≡◌, ℕ, ◌==◌, ◌&&◌, Bool, true, false, cond, find, inl, inr, ◌⊎◌, List, ◌∷◌, ◌++◌, Option, Some, None, get_or, set, refl, sym, ap, ◌∙◌, subst}
+use Rattle.std.proofs.Common.{eqb-true, eq-eqb, ne_eqb, []}
 use Rattle.std.proofs.lemmas.Bool.{true≢false, false≢true, and_from, cond_both}
 use Rattle.std.proofs.lemmas.Option.{none-some, same_Some}
 use Rattle.proof_generations.specs.Beneath.history.specs.declared.calls.Call.{Call}
@@ -122,7 +123,8 @@ closings_same st at (act.Complete own main) none = by (stands_in (word_at st at)
 closings_same st at (act.MakeRoot main) none = root_closings st main (next_ref st.heap)
 closings_same st at action none = refl
 
-completed_closes : (st : State) (at : ℕ) (own : Descriptor) (b e : Bool) → (b && e) ≡ true → (if_changed b (cond e (carried_out st at own) (with_word st at (Plain own.root))) st).closings ≡ st.closings ++ closing_of st own ∷ []
+completed_closes : (st : State) (at : ℕ) (own : Descriptor) (b e : Bool) → (b && e) ≡ true →
+    (if_changed b (cond e (carried_out st at own) (with_word st at (Plain own.root))) st).closings ≡ st.closings ++ closing_of st own ∷ []
 completed_closes st at own true true t = ap (λ l. l ++ closing_of st own ∷ []) (opened_closings (with_word st at (Plain own.successor)) own own.opens)
 completed_closes st at own true false t = absurd (false≢true t)
 completed_closes st at own false e t = absurd (false≢true t)
@@ -143,7 +145,8 @@ pub data StepKind (state : State) (s : Step) (after : State) : Type 0 where
       after.closings ≡ state.closings ++ closing_of state offer ∷ [] →
       ((handle : ℕ) (now : Root) → root_at after handle ≡ Some now → RootFrom state (handle_of mover.call) (action_of state mover) handle now) → StepKind state s after
 
-kept_from : (state : State) (at : ℕ) (action : Action) → ((offer : Descriptor) → CarriesOut state at action offer → ⊥) → (handle : ℕ) (now : Root) → RootFrom state at action handle now → Kept state handle now
+kept_from : (state : State) (at : ℕ) (action : Action) → ((offer : Descriptor) → CarriesOut state at action offer → ⊥) → (handle : ℕ) (now : Root) →
+    RootFrom state at action handle now → Kept state handle now
 kept_from state at action none handle now (stood root e access word free) = (root, e, access, word)
 kept_from state at action none handle now (swapped root offer c at_it e is) = absurd (none offer c)
 kept_from state at action none handle now (newly offer n c its at_it is) = absurd (none offer c)

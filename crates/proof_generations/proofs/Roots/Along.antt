@@ -31,6 +31,7 @@ use Rattle.proof_generations.proofs.Roots.Own.{HasRoots, IsUnused, gen, roots_af
 use Rattle.proof_generations.proofs.Roots.Kept.{fresh_of}
 use Rattle.proof_generations.specs.Beneath.slot_arena.specs.Heaps.{generation_at}
 use Rattle.proof_generations.specs.Beneath.slot_arena.specs.declared.refs.Ref.{Ref}
+use Rattle.proof_generations.specs.Beneath.machine_model.proofs.Basics.{both_kinds}
 
 -- all of generations that one state knows
 pub record IsOrdered (state : State) : Type 0 where
@@ -57,11 +58,10 @@ first_root handle root e = elim (cases_eq handle 0) [
     ap (λ (r : Root). r.access) (sym (same_Some _ _ (found_here {X = Root} (replicate handle_limit None) 0 (Some (record { access = Writable; word = Plain (ref_to 2 1) })) root
         (subst (λ h. get_or (set (replicate handle_limit None) 0 (Some (record { access = Writable; word = Plain (ref_to 2 1) }))) h None ≡ Some root) same e)))),
   )
-  | inr other ↦ absurd (none_found {X = Root} handle_limit handle root (sym (found_elsewhere {X = Root} (replicate handle_limit None) 0 handle (Some (record { access = Writable; word = Plain (ref_to 2 1) })) other) ∙ e))
+  | inr other ↦ absurd
+      (none_found {X = Root} handle_limit handle root
+      (sym (found_elsewhere {X = Root} (replicate handle_limit None) 0 handle (Some (record { access = Writable; word = Plain (ref_to 2 1) })) other) ∙ e))
 ]
-
-both_kinds : (access : Access) → access ≡ Writable → access ≡ ReadOnly → ⊥
-both_kinds access w r = let both : Writable ≡ ReadOnly = sym w ∙ r in cc both
 
 roots_at_first : (limits : Limits) → HasRoots (first_state limits)
 unfolding first_state
@@ -92,7 +92,8 @@ ordered_along limits ok = along limits IsOrdered (ordered_at_first limits) (λ s
 -- ---- what follows
 
 -- an offer stands in a writable handle's word alone
-pub offer_writable : (state : State) → IsSafe state → IsOrdered state → (handle : ℕ) (root : Root) (offer : Descriptor) → root_at state handle ≡ Some root → root.word ≡ Offer offer → root.access ≡ Writable
+pub offer_writable : (state : State) → IsSafe state → IsOrdered state → (handle : ℕ) (root : Root) (offer : Descriptor) → root_at state handle ≡ Some root →
+    root.word ≡ Offer offer → root.access ≡ Writable
 offer_writable state S I handle root offer e word =
     let b = I.offers.offers handle offer (ap word_of e ∙ word) in
     let mine = own_numbers b.owner offer (I.offers.own b.k b.owner b.runs) b.completes in
@@ -140,7 +141,8 @@ alone_on state I handle other root rival e w f same = by rival.access refl
         absurd (none-some c (sym (I.roots.unclosed handle root e w) ∙ ap (closed_at state) (sym same) ∙ closed))
 
 -- the fresh root of an offer that stands
-pub offered_unused : (state : State) → IsOrdered state → (handle : ℕ) (offer : Descriptor) → word_at state handle ≡ Offer offer → (x : Bool) (r : Ref) → fresh_of x offer ≡ Some r → IsUnused state (generation_at state.heap r)
+pub offered_unused : (state : State) → IsOrdered state → (handle : ℕ) (offer : Descriptor) → word_at state handle ≡ Offer offer → (x : Bool) (r : Ref) →
+    fresh_of x offer ≡ Some r → IsUnused state (generation_at state.heap r)
 offered_unused state I handle offer word x r e =
     let b = I.offers.offers handle offer word in
     I.roots.fresh b.k b.owner x r b.runs b.unmarked (its_fresh b.owner.line offer x r b.completes e)

@@ -41,6 +41,7 @@ use Rattle.proof_generations.specs.Beneath.proof_memory.proofs.Safety.States.{Is
 use Rattle.proof_generations.specs.Beneath.proof_memory.proofs.Safety.Steps.{step_carries}
 use Rattle.proof_generations.proofs.Lines.Copy.{is_copy, no_copy_after, same_offer_after}
 use Rattle.proof_generations.proofs.Counter.Drawn.{generation_kept}
+use Rattle.proof_generations.specs.Running.{Runs}
 
 -- ---- in root words
 
@@ -128,7 +129,8 @@ module _ (state : State) (operation : Operation) where
   given_none (Clear h) root main r x e = none-some r e
   given_none call root main r x e = none-some r e
 
-  only_first : (root main made r : Ref) (x : Bool) → fresh_of x (record { operation = operation.id; attempt = operation.attempt + 1; root = root; expected = main; successor = made; second = None; opens = operation.opens }) ≡ Some r →
+  only_first : (root main made r : Ref) (x : Bool) →
+      fresh_of x (record { operation = operation.id; attempt = operation.attempt + 1; root = root; expected = main; successor = made; second = None; opens = operation.opens }) ≡ Some r →
       (x ≡ true) × (made ≡ r)
   only_first root main made r true e = (refl, same_Some _ _ e)
   only_first root main made r false e = absurd (none-some r e)
@@ -146,7 +148,8 @@ module _ (state : State) (operation : Operation) where
   made_fresh (copy.Cleared root main branch) made r x n e = let p = only_first root main made r x e in new branch refl (n ∙ ap Some p.1) p.0
   made_fresh l made r x n e = absurd (none-some r e)
 
-  if_made_fresh : (l : CopyLine) (made : Option Ref) (r : Ref) (x : Bool) → next_ref state.heap ≡ made → fresh_in x (copy_if_made operation l made) ≡ Some r → FreshFrom state operation (line.Copy l) x r
+  if_made_fresh : (l : CopyLine) (made : Option Ref) (r : Ref) (x : Bool) → next_ref state.heap ≡ made → fresh_in x (copy_if_made operation l made) ≡ Some r →
+      FreshFrom state operation (line.Copy l) x r
   if_made_fresh l None r x n e = absurd (none-some r e)
   if_made_fresh l (Some made) r x n e = made_fresh l made r x n e
 
@@ -178,3 +181,9 @@ module _ (state : State) (operation : Operation) where
   fresh_from (line.Copy (copy.Complete c)) x r e = had (complete_fresh c (complete_after state.heap operation.access (word_at state (handle_of operation.call)) c) refl r x e)
   fresh_from (line.Copy l) x r e = if_made_fresh l (next_ref state.heap) r x refl e
   fresh_from l x r e = absurd (no_fresh (line_after state operation l) x r (no_copy_after state operation l refl refl) e)
+
+-- a fresh root keeps its generation over a step
+pub fresh_kept : (state : State) (S : IsSafe state) (s : Step) (o : Outcome) (after : State) → Moves state s o after → (k : ℕ) (was : Operation) (x : Bool) (r : Ref) →
+    Runs state k was → fresh_in x was.line ≡ Some r → generation_at after.heap r ≡ generation_at state.heap r
+fresh_kept state S s o after m k was x r at_k e =
+    safe_kept state S s o after m was.epoch (S.recent k was at_k).0 (S.recent k was at_k).1 r (fresh_safe (Safe state was.epoch) state was was.line (S.lines k was at_k) x r e)

@@ -12,11 +12,11 @@ use Rattle.proof_generations.specs.Beneath.machine_model.specs.Machine.{AreLimit
 use Rattle.proof_generations.specs.Beneath.machine_model.proofs.Along.{along}
 use Rattle.proof_generations.specs.Beneath.machine_model.specs.Grown.{standing}
 use Rattle.proof_generations.specs.Beneath.proof_memory.proofs.Safety.AtEachTime.{safe_along}
-use Rattle.proof_generations.specs.Beneath.proof_memory.proofs.Heap.Under.{standing_parts}
 use Rattle.proof_generations.proofs.Offers.Same.{HasOffers, has_offers_after, no_offers_at_first}
 use Rattle.proof_generations.proofs.Handles.Operations.{HasHandles, handles_after, handles_at_first}
 use Rattle.proof_generations.proofs.Counter.Below.{IsBelow, below_after, below_at_first}
 use Rattle.proof_generations.proofs.Handles.Running.{place_of_actor}
+use Rattle.proof_generations.specs.Beneath.machine_model.proofs.Grown.{standing_parts}
 
 pub has_handles_along : (limits : Limits) (steps : List Step) → HasOffers (run limits steps) × HasHandles (run limits steps)
 has_handles_along limits =

@@ -44,24 +44,29 @@ unfolding first_state
 no_closes limits k operation at_k = absurd (none_found limits.actors k operation at_k)
 
 -- an operation that isn't at its end is no close
-pub no_close_at : (limits : Limits) (states : ℕ → State) (last : ℕ) → IsRun limits states last → (t : ℕ) → t ≤ last → (k : ℕ) (operation : Operation) → Runs (states t) k operation → is_end operation.line ≡ false →
+pub no_close_at : (limits : Limits) (states : ℕ → State) (last : ℕ) → IsRun limits states last → (t : ℕ) → t ≤ last → (k : ℕ) (operation : Operation) →
+    Runs (states t) k operation → is_end operation.line ≡ false →
     is_close operation.call ≡ false
 no_close_at limits states last r t within k operation at_k going = by (is_close operation.call) refl
   where
     by : (b : Bool) → is_close operation.call ≡ b → b ≡ false
     by false e = refl
     by true e =
-        absurd (true≢false (sym (at_each_time limits states last r ClosesEnd (no_closes limits) (λ before s o after m all j found at_j. closes_by before s all j found (comes before s o after m j found at_j)) t within k operation at_k e) ∙ going))
+        absurd (true≢false
+        (sym (at_each_time limits states last r ClosesEnd (no_closes limits)
+        (λ before s o after m all j found at_j. closes_by before s all j found (comes before s o after m j found at_j)) t within k operation at_k e) ∙ going))
 
 -- ---- when a generation is closed
 
 -- by a step that is taken then
 closed_now : (state : State) (s : Step) (after : State) → StepKind state s after → (g c : ℕ) → closed_at state g ≡ None → closed_at after g ≡ Some c → c ≡ state.steps
 closed_now state s after (quiet closings roots) g c none e = absurd (none-some c (sym none ∙ ap (λ l. closed_in l g) (sym closings) ∙ e))
-closed_now state s after (swaps actor mover offer go is carried closings roots) g c none e = sym (closed_new state.closings (closing_of state offer) g c none (ap (λ l. closed_in l g) (sym closings) ∙ e)).1
+closed_now state s after (swaps actor mover offer go is carried closings roots) g c none e =
+    sym (closed_new state.closings (closing_of state offer) g c none (ap (λ l. closed_in l g) (sym closings) ∙ e)).1
 
 module _ (limits : Limits) (states : ℕ → State) (last : ℕ) (r : IsRun limits states last) (t g : ℕ) (open_then : closed_at (states t) g ≡ None) where
-  closed_by_turn : (u c : ℕ) → t ≤ u → u < last → Turn (states u) (states (suc u)) → IsOrdered (states u) → (states u).steps ≡ u → ((d : ℕ) → closed_at (states u) g ≡ Some d → t ≤ d) → closed_at (states (suc u)) g ≡ Some c → t ≤ c
+  closed_by_turn : (u c : ℕ) → t ≤ u → u < last → Turn (states u) (states (suc u)) → IsOrdered (states u) → (states u).steps ≡ u →
+      ((d : ℕ) → closed_at (states u) g ≡ Some d → t ≤ d) → closed_at (states (suc u)) g ≡ Some c → t ≤ c
   closed_by_turn u c le lt (turns s o m) I count before e = by (closed_at (states u) g) refl
     where
       by : (was : Option ℕ) → closed_at (states u) g ≡ was → t ≤ c
@@ -79,11 +84,14 @@ module _ (limits : Limits) (states : ℕ → State) (last : ℕ) (r : IsRun limi
   ]
 
 -- what an operation on a writable handle finds in its root word with no offer wasn't closed before
-pub open_root : (limits : Limits) (states : ℕ → State) (last : ℕ) → IsRun limits states last → (t : ℕ) → t ≤ last → (actor : ℕ) (operation : Operation) → operation_of (states t) actor ≡ Some operation →
-    is_end operation.line ≡ false → operation.access ≡ Writable → (q : Ref) → word_at (states t) (handle_of operation.call) ≡ Plain q → (c : ℕ) → closed_at (states last) (generation_at (states t).heap q) ≡ Some c → t ≤ c
+pub open_root : (limits : Limits) (states : ℕ → State) (last : ℕ) → IsRun limits states last → (t : ℕ) → t ≤ last → (actor : ℕ) (operation : Operation) →
+    operation_of (states t) actor ≡ Some operation →
+    is_end operation.line ≡ false → operation.access ≡ Writable → (q : Ref) → word_at (states t) (handle_of operation.call) ≡ Plain q → (c : ℕ) →
+    closed_at (states last) (generation_at (states t).heap q) ≡ Some c → t ≤ c
 open_root limits states last r t within actor operation is going w q word c e =
     let I = ordered_at limits states last r t within in
     let (k, place, at_k) = place_of_actor (states t) actor operation is in
     let (root, found, access) = I.handles.on_open k operation at_k (no_close_at limits states last r t within k operation at_k going) in
     let its : gen (states t) root ≡ generation_at (states t).heap q = ap (λ x. generation_at (states t).heap (root_of x)) (sym (ap word_of found) ∙ word) in
-    closed_from limits states last r t (generation_at (states t).heap q) (ap (closed_at (states t)) (sym its) ∙ I.roots.unclosed (handle_of operation.call) root found (access ∙ w)) last c (omega arith) within e
+    closed_from limits states last r t (generation_at (states t).heap q)
+    (ap (closed_at (states t)) (sym its) ∙ I.roots.unclosed (handle_of operation.call) root found (access ∙ w)) last c (omega arith) within e

@@ -40,8 +40,9 @@ use Rattle.proof_generations.proofs.Handles.Footings.{CarriesOut, RootFrom, stoo
 use Rattle.proof_generations.proofs.Offers.Marks.{carried_stands}
 use Rattle.proof_generations.proofs.Handles.Operations.{HasHandles, Ran, ran_or_began}
 use Rattle.proof_generations.proofs.Counter.Below.{IsBelow, looked_up_below, closed_below}
-use Rattle.proof_generations.proofs.Roots.Kept.{root_kept, safe_kept, fresh_in, fresh_of, fresh_safe, fresh_from, FreshFrom, had, new, makes_first}
+use Rattle.proof_generations.proofs.Roots.Kept.{root_kept, safe_kept, fresh_in, fresh_of, fresh_safe, fresh_from, FreshFrom, had, new, makes_first, fresh_kept}
 use Rattle.proof_generations.proofs.Offers.Swaps.{StepKind, quiet, swaps, step_kind, Kept, closing_of, closed_in, closed_kept, closed_other, closed_last}
+use Rattle.proof_generations.specs.Beneath.machine_model.proofs.Basics.{both_kinds}
 
 -- the generation of a root
 abbrev pub gen : State → Root → ℕ
@@ -56,8 +57,10 @@ pub record HasRoots (state : State) : Type 0 where
   pub unclosed : (handle : ℕ) (root : Root) → root_at state handle ≡ Some root → root.access ≡ Writable → closed_at state (gen state root) ≡ None
   pub is_closed : (handle : ℕ) (root : Root) → root_at state handle ≡ Some root → root.access ≡ ReadOnly → (c : ℕ) × (closed_at state (gen state root) ≡ Some c)
   pub apart : (handle other : ℕ) (a b : Root) → root_at state handle ≡ Some a → root_at state other ≡ Some b → a.access ≡ Writable → b.access ≡ Writable → gen state a ≡ gen state b → handle ≡ other
-  pub fresh : (k : ℕ) (operation : Operation) (x : Bool) (r : Ref) → Runs state k operation → operation.is_marked ≡ false → fresh_in x operation.line ≡ Some r → IsUnused state (generation_at state.heap r)
-  pub fresh_apart : (k j : ℕ) (a b : Operation) (x y : Bool) (r q : Ref) → Runs state k a → Runs state j b → a.is_marked ≡ false → b.is_marked ≡ false → fresh_in x a.line ≡ Some r → fresh_in y b.line ≡ Some q →
+  pub fresh : (k : ℕ) (operation : Operation) (x : Bool) (r : Ref) → Runs state k operation → operation.is_marked ≡ false → fresh_in x operation.line ≡ Some r →
+      IsUnused state (generation_at state.heap r)
+  pub fresh_apart : (k j : ℕ) (a b : Operation) (x y : Bool) (r q : Ref) → Runs state k a → Runs state j b → a.is_marked ≡ false → b.is_marked ≡ false →
+      fresh_in x a.line ≡ Some r → fresh_in y b.line ≡ Some q →
       generation_at state.heap r ≡ generation_at state.heap q → (k ≡ j) × (x ≡ y)
 
 pub first_none : (call : Call) (x : Bool) (r : Ref) → fresh_in x (first_line call) ≡ Some r → ⊥
@@ -78,7 +81,8 @@ drawn_by state S s o after (Begins d) k was e at_k main r a n = let wrong : ⊥ 
 drawn_by state S s o after (Goes {actor} {operation} d is action g) k was e at_k main r a n =
     let place : actor ≡ suc k = cc e in
     let one : operation ≡ was = same_Some _ _ (sym is ∙ ap (operation_of state) place ∙ at_k) in
-    ap generation_of (made_fresh state S actor k operation (at_k ∙ ap Some (sym one)) (Indirection state.generations main) r (ap (λ x. made_node state (action_of state x)) one ∙ ap (made_node state) a) n).1
+    ap generation_of
+    (made_fresh state S actor k operation (at_k ∙ ap Some (sym one)) (Indirection state.generations main) r (ap (λ x. made_node state (action_of state x)) one ∙ ap (made_node state) a) n).1
 drawn_by state S s o after (Ends {actor} {operation} {answer} d is action) k was e at_k main r a n =
     let place : actor ≡ suc k = cc e in
     let one : operation ≡ was = same_Some _ _ (sym is ∙ ap (operation_of state) place ∙ at_k) in
@@ -94,10 +98,8 @@ writable_call (Snapshot h) second e = (refl, refl)
 writable_call (Freeze h) second e = (refl, refl)
 writable_call call second e = absurd (false≢true e)
 
-both_kinds : (access : Access) → access ≡ Writable → access ≡ ReadOnly → ⊥
-both_kinds access w r = let both : Writable ≡ ReadOnly = sym w ∙ r in cc both
-
-module _ (state : State) (S : IsSafe state) (I : HasOffers state) (H : HasHandles state) (B : IsBelow state) (R : HasRoots state) (s : Step) (o : Outcome) (after : State) (m : Moves state s o after) where
+module _ (state : State) (S : IsSafe state) (I : HasOffers state) (H : HasHandles state) (B : IsBelow state) (R : HasRoots state) (s : Step) (o : Outcome)
+    (after : State) (m : Moves state s o after) where
   -- ---- fresh roots behind the step
 
   data FreshHad (k : ℕ) (found : Operation) (x : Bool) (r : Ref) : Type 0 where
@@ -117,21 +119,18 @@ module _ (state : State) (S : IsSafe state) (I : HasOffers state) (H : HasHandle
     | inr (call, is, d, it) ↦ absurd (first_none call x r (ap (λ (y : Operation). fresh_in x y.line) (sym it) ∙ e))
   ]
 
-  fresh_kept : (k : ℕ) (was : Operation) (x : Bool) (r : Ref) → Runs state k was → fresh_in x was.line ≡ Some r → generation_at after.heap r ≡ generation_at state.heap r
-  fresh_kept k was x r at_k e =
-      safe_kept state S s o after m was.epoch (S.recent k was at_k).0 (S.recent k was at_k).1 r (fresh_safe (Safe state was.epoch) state was was.line (S.lines k was at_k) x r e)
-
   gen_kept : (handle : ℕ) (root now : Root) → root_at state handle ≡ Some root → root_of now.word ≡ root_of root.word → gen after now ≡ gen state root
   gen_kept handle root now e word = ap (generation_at after.heap) word ∙ root_kept state S s o after m handle root e
 
   -- ---- a swap
 
-  module _ (actor : ℕ) (mover : Operation) (offer : Descriptor) (go : s ≡ step.Go actor) (is : operation_of state actor ≡ Some mover) (c : CarriesOut state (handle_of mover.call) (action_of state mover) offer) where
+  module _ (actor : ℕ) (mover : Operation) (offer : Descriptor) (go : s ≡ step.Go actor) (is : operation_of state actor ≡ Some mover)
+      (c : CarriesOut state (handle_of mover.call) (action_of state mover) offer) where
     stands : StandsBy state (handle_of mover.call) offer
     stands = I.offers (handle_of mover.call) offer (carried_stands state I actor mover offer is c)
 
     new_kept : (x : Bool) (r : Ref) → fresh_of x offer ≡ Some r → generation_at after.heap r ≡ generation_at state.heap r
-    new_kept x r e = fresh_kept stands.k stands.owner x r stands.runs (its_fresh stands.owner.line offer x r stands.completes e)
+    new_kept x r e = fresh_kept state S s o after m stands.k stands.owner x r stands.runs (its_fresh stands.owner.line offer x r stands.completes e)
 
     new_unused : (x : Bool) (r : Ref) → fresh_of x offer ≡ Some r → IsUnused state (generation_at state.heap r)
     new_unused x r e = R.fresh stands.k stands.owner x r stands.runs stands.unmarked (its_fresh stands.owner.line offer x r stands.completes e)
@@ -178,7 +177,8 @@ module _ (state : State) (S : IsSafe state) (I : HasOffers state) (H : HasHandle
         let same = same_carried other d in
         behind_opened handle now (ap (λ (x : Descriptor). x.opens) (sym same) ∙ its ∙ ap Some (sym at_it)) offer.second refl (it ∙ ap (λ (x : Descriptor). opened_root x x.second) same)
 
-    module _ (closings : after.closings ≡ state.closings ++ closing_of state offer ∷ []) (roots : (handle : ℕ) (now : Root) → root_at after handle ≡ Some now → RootFrom state (handle_of mover.call) (action_of state mover) handle now) where
+    module _ (closings : after.closings ≡ state.closings ++ closing_of state offer ∷ []) (roots : (handle : ℕ) (now : Root) → root_at after handle ≡ Some now →
+        RootFrom state (handle_of mover.call) (action_of state mover) handle now) where
       still_open : (g : ℕ) → closed_at state g ≡ None → (generation_at state.heap offer.root ≡ g → ⊥) → closed_at after g ≡ None
       still_open g none other = ap (λ l. closed_in l g) closings ∙ closed_other state.closings (closing_of state offer) g none other
 
@@ -215,7 +215,8 @@ module _ (state : State) (S : IsSafe state) (I : HasOffers state) (H : HasHandle
       closed_by handle now (frozen access same) w = (
         state.steps,
         ap (closed_at after) same ∙ ap (λ l. closed_in l (generation_at state.heap offer.root)) closings
-            ∙ closed_last state.closings (closing_of state offer) (generation_at state.heap offer.root) (ap (closed_at state) (sym old_gen) ∙ R.unclosed (handle_of mover.call) old_root.0 old_root.1 old_root.3) refl,
+            ∙ closed_last state.closings (closing_of state offer) (generation_at state.heap offer.root)
+            (ap (closed_at state) (sym old_gen) ∙ R.unclosed (handle_of mover.call) old_root.0 old_root.1 old_root.3) refl,
       )
 
       two_fresh : (x y : Bool) (r q : Ref) → fresh_of x offer ≡ Some r → fresh_of y offer ≡ Some q → generation_at state.heap r ≡ generation_at state.heap q → x ≡ y
@@ -237,14 +238,17 @@ module _ (state : State) (S : IsSafe state) (I : HasOffers state) (H : HasHandle
       apart_by h j a b behind_a (frozen qa qs) wa wb same = absurd (both_kinds b.access wb qa)
 
       -- what isn't marked has other fresh roots
-      not_its : (k : ℕ) (found : Operation) (ran : Ran state s k found) → found.is_marked ≡ false → (x : Bool) (r : Ref) → fresh_in x ran.was.line ≡ Some r → (y : Bool) (q : Ref) → fresh_of y offer ≡ Some q →
+      not_its : (k : ℕ) (found : Operation) (ran : Ran state s k found) → found.is_marked ≡ false → (x : Bool) (r : Ref) → fresh_in x ran.was.line ≡ Some r →
+          (y : Bool) (q : Ref) → fresh_of y offer ≡ Some q →
           generation_at state.heap q ≡ generation_at state.heap r → ⊥
       not_its k found ran unmarked x r e y q f same =
-          let place = (R.fresh_apart stands.k k stands.owner ran.was y x q r stands.runs ran.at_k stands.unmarked (ran.unmarked unmarked) (its_fresh stands.owner.line offer y q stands.completes f) e same).0 in
+          let place =
+          (R.fresh_apart stands.k k stands.owner ran.was y x q r stands.runs ran.at_k stands.unmarked (ran.unmarked unmarked) (its_fresh stands.owner.line offer y q stands.completes f) e same).0 in
           let one = one_at state k stands.owner ran.was (subst (λ i. Runs state i stands.owner) place stands.runs) ran.at_k in
           let mine = own_numbers stands.owner offer (I.own stands.k stands.owner stands.runs) stands.completes in
           ran.not_marked unmarked
-          (ap (marks_in state) go ∙ ap (marks_by state) is ∙ ap (marks_of state (handle_of mover.call)) c.is_it ∙ ap (λ b. cond b (Some offer.operation) None) c.carried ∙ ap Some (mine.its ∙ ap (λ (x : Operation). x.id) one))
+          (ap (marks_in state) go ∙ ap (marks_by state) is ∙ ap (marks_of state (handle_of mover.call)) c.is_it
+          ∙ ap (λ b. cond b (Some offer.operation) None) c.carried ∙ ap Some (mine.its ∙ ap (λ (x : Operation). x.id) one))
 
   -- ---- a generation that is drawn is used by none
 
@@ -258,13 +262,15 @@ module _ (state : State) (S : IsSafe state) (I : HasOffers state) (H : HasHandle
       by None e = refl
       by (Some c) e = absurd (omega (arith, closed_below state.generations state.closings state.generations c B.closings e))
 
-  fresh_apart_by : (k j : ℕ) (a b : Operation) (x y : Bool) (r q : Ref) → FreshHad k a x r → FreshHad j b y q → a.is_marked ≡ false → b.is_marked ≡ false → generation_at after.heap r ≡ generation_at after.heap q → (k ≡ j) × (x ≡ y)
+  fresh_apart_by : (k j : ℕ) (a b : Operation) (x y : Bool) (r q : Ref) → FreshHad k a x r → FreshHad j b y q → a.is_marked ≡ false → b.is_marked ≡ false →
+      generation_at after.heap r ≡ generation_at after.heap q → (k ≡ j) × (x ≡ y)
   fresh_apart_by k j a b x y r q (old p e) (old t f) ua ub same =
-      R.fresh_apart k j p.was t.was x y r q p.at_k t.at_k (p.unmarked ua) (t.unmarked ub) e f (sym (fresh_kept k p.was x r p.at_k e) ∙ same ∙ fresh_kept j t.was y q t.at_k f)
+      R.fresh_apart k j p.was t.was x y r q p.at_k t.at_k (p.unmarked ua) (t.unmarked ub) e f
+      (sym (fresh_kept state S s o after m k p.was x r p.at_k e) ∙ same ∙ fresh_kept state S s o after m j t.was y q t.at_k f)
   fresh_apart_by k j a b x y r q (old p e) (made was at_j is drawn side) ua ub same =
-      absurd (omega (arith, looked_up_below state B r, fresh_kept k p.was x r p.at_k e, same, drawn))
+      absurd (omega (arith, looked_up_below state B r, fresh_kept state S s o after m k p.was x r p.at_k e, same, drawn))
   fresh_apart_by k j a b x y r q (made was at_k is drawn side) (old t f) ua ub same =
-      absurd (omega (arith, looked_up_below state B q, fresh_kept j t.was y q t.at_k f, same, drawn))
+      absurd (omega (arith, looked_up_below state B q, fresh_kept state S s o after m j t.was y q t.at_k f, same, drawn))
   fresh_apart_by k j a b x y r q (made was at_k is drawn side) (made was' at_j is' drawn' side') ua ub same =
       let both : step.Go (suc k) ≡ step.Go (suc j) = sym is ∙ is' in
       let sucs : suc k ≡ suc j = cc both in
@@ -272,7 +278,8 @@ module _ (state : State) (S : IsSafe state) (I : HasOffers state) (H : HasHandle
       let one = one_at state j was was' (subst (λ i. Runs state i was) place at_k) at_j in
       (place, side ∙ ap (λ (z : Operation). makes_first z.line) one ∙ sym side')
 
-  fresh_apart_after : (k j : ℕ) (a b : Operation) (x y : Bool) (r q : Ref) → Runs after k a → Runs after j b → a.is_marked ≡ false → b.is_marked ≡ false → fresh_in x a.line ≡ Some r → fresh_in y b.line ≡ Some q →
+  fresh_apart_after : (k j : ℕ) (a b : Operation) (x y : Bool) (r q : Ref) → Runs after k a → Runs after j b → a.is_marked ≡ false → b.is_marked ≡ false →
+      fresh_in x a.line ≡ Some r → fresh_in y b.line ≡ Some q →
       generation_at after.heap r ≡ generation_at after.heap q → (k ≡ j) × (x ≡ y)
   fresh_apart_after k j a b x y r q at_k at_j ua ub e f same = fresh_apart_by k j a b x y r q (fresh_had k a at_k x r e) (fresh_had j b at_j y q f) ua ub same
 
@@ -287,7 +294,7 @@ module _ (state : State) (S : IsSafe state) (I : HasOffers state) (H : HasHandle
 
     fresh_quiet : (k : ℕ) (found : Operation) (x : Bool) (r : Ref) → found.is_marked ≡ false → FreshHad k found x r → IsUnused after (generation_at after.heap r)
     fresh_quiet k found x r unmarked (old ran e) =
-        subst (IsUnused after) (sym (fresh_kept k ran.was x r ran.at_k e)) (unused_kept _ (R.fresh k ran.was x r ran.at_k (ran.unmarked unmarked) e))
+        subst (IsUnused after) (sym (fresh_kept state S s o after m k ran.was x r ran.at_k e)) (unused_kept _ (R.fresh k ran.was x r ran.at_k (ran.unmarked unmarked) e))
     fresh_quiet k found x r unmarked (made was at_k is drawn side) = subst (IsUnused after) (sym drawn) (unused_kept _ drawn_unused)
 
     roots_quiet : HasRoots after
@@ -309,12 +316,15 @@ module _ (state : State) (S : IsSafe state) (I : HasOffers state) (H : HasHandle
 
   -- ---- all of it
 
-  fresh_swapped : (actor : ℕ) (mover : Operation) (offer : Descriptor) (go : s ≡ step.Go actor) (is : operation_of state actor ≡ Some mover) (c : CarriesOut state (handle_of mover.call) (action_of state mover) offer) →
-      (closings : after.closings ≡ state.closings ++ closing_of state offer ∷ []) → (roots : (handle : ℕ) (now : Root) → root_at after handle ≡ Some now → RootFrom state (handle_of mover.call) (action_of state mover) handle now) →
+  fresh_swapped : (actor : ℕ) (mover : Operation) (offer : Descriptor) (go : s ≡ step.Go actor) (is : operation_of state actor ≡ Some mover)
+      (c : CarriesOut state (handle_of mover.call) (action_of state mover) offer) →
+      (closings : after.closings ≡ state.closings ++ closing_of state offer ∷ []) →
+      (roots : (handle : ℕ) (now : Root) → root_at after handle ≡ Some now → RootFrom state (handle_of mover.call) (action_of state mover) handle now) →
       (k : ℕ) (found : Operation) (x : Bool) (r : Ref) → found.is_marked ≡ false → FreshHad k found x r → IsUnused after (generation_at after.heap r)
   fresh_swapped actor mover offer go is c closings roots k found x r unmarked (old ran e) =
-      subst (IsUnused after) (sym (fresh_kept k ran.was x r ran.at_k e))
-      (unused_swapped actor mover offer go is c closings roots _ (R.fresh k ran.was x r ran.at_k (ran.unmarked unmarked) e) (not_its actor mover offer go is c closings roots k found ran unmarked x r e))
+      subst (IsUnused after) (sym (fresh_kept state S s o after m k ran.was x r ran.at_k e))
+      (unused_swapped actor mover offer go is c closings roots _ (R.fresh k ran.was x r ran.at_k (ran.unmarked unmarked) e)
+      (not_its actor mover offer go is c closings roots k found ran unmarked x r e))
   fresh_swapped actor mover offer go is c closings roots k found x r unmarked (made was at_k is' drawn side) =
       subst (IsUnused after) (sym drawn) (unused_swapped actor mover offer go is c closings roots _ drawn_unused (λ y q e same. omega (arith, looked_up_below state B q, same)))
 

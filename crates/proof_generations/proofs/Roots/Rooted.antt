@@ -50,7 +50,8 @@ standing_root state handle access generation e = by (root_at state handle) refl
         (root, is, parts.0, parts.1)
 
 -- and the other way round
-stands : (states : ℕ → State) (t handle generation : ℕ) (root : Root) → root_at (states t) handle ≡ Some root → root.access ≡ Writable → gen (states t) root ≡ generation → On states t handle generation
+stands : (states : ℕ → State) (t handle generation : ℕ) (root : Root) → root_at (states t) handle ≡ Some root → root.access ≡ Writable →
+    gen (states t) root ≡ generation → On states t handle generation
 stands states t handle generation root is writable its =
     ap (standing_of (states t).heap) is ∙ ap (λ a. Some (a, gen (states t) root)) writable ∙ ap (λ g. Some (Writable, g)) its
 
@@ -107,7 +108,8 @@ AllRooted states t =
     (k : ℕ) (operation : Operation) (g : ℕ) → Runs (states t) k operation → is_close operation.call ≡ false → operation.access ≡ Writable → operation.generation ≡ Some g →
     IsRooted states t (handle_of operation.call) g
 
-module _ (states : ℕ → State) (t : ℕ) (S : IsSafe (states t)) (I : IsOrdered (states t)) (count : (states t).steps ≡ t) (all : AllRooted states t) (s : Step) (o : Outcome) (m : Moves (states t) s o (states (suc t))) where
+module _ (states : ℕ → State) (t : ℕ) (S : IsSafe (states t)) (I : IsOrdered (states t)) (count : (states t).steps ≡ t) (all : AllRooted states t) (s : Step)
+    (o : Outcome) (m : Moves (states t) s o (states (suc t))) where
   before_by : (k : ℕ) (was : Operation) (g : ℕ) → Runs (states t) k was → is_close was.call ≡ false → was.access ≡ Writable → GivenFrom (states t) was g → IsRooted states t (handle_of was.call) g
   unfolding GivenFrom
   before_by k was g at_k no_close w (inl same) = all k was g at_k no_close w same
@@ -115,7 +117,8 @@ module _ (states : ℕ → State) (t : ℕ) (S : IsSafe (states t)) (I : IsOrder
       let (root, found, access) = I.handles.on_open k was at_k no_close in
       inl (stands states t (handle_of was.call) g root found (access ∙ w) (ap (λ x. generation_at (states t).heap (root_of x)) (sym (ap word_of found) ∙ word) ∙ its))
 
-  from_before : (k : ℕ) (found : Operation) (g : ℕ) → Comes (states t) s k found → is_close found.call ≡ false → found.access ≡ Writable → found.generation ≡ Some g → IsRooted states t (handle_of found.call) g
+  from_before : (k : ℕ) (found : Operation) (g : ℕ) → Comes (states t) s k found → is_close found.call ≡ false → found.access ≡ Writable →
+      found.generation ≡ Some g → IsRooted states t (handle_of found.call) g
   unfolding GivenFrom
   from_before k found g (began call is d it) no_close w e = absurd (none-some g (sym (ap (λ (x : Operation). x.generation) it) ∙ e))
   from_before k found g (rested was at_k it) no_close w e =
@@ -146,7 +149,8 @@ rooted_at limits states last r =
     first : AllRooted states zero
     first k operation g at_k no_close w e = absurd (none_runs (states zero) r.first k operation at_k)
 
-    turned : (t : ℕ) → IsSafe (states t) → IsOrdered (states t) → (states t).steps ≡ t → AllRooted states t → (after : State) → after ≡ states (suc t) → Turn (states t) after → AllRooted states (suc t)
+    turned : (t : ℕ) → IsSafe (states t) → IsOrdered (states t) → (states t).steps ≡ t → AllRooted states t → (after : State) → after ≡ states (suc t) →
+        Turn (states t) after → AllRooted states (suc t)
     turned t S I count all after is (turns s o m) = rooted_after states t S I count all s o (subst (λ q. Moves (states t) s o q) is m)
 
     by_turn : (t : ℕ) → IsSafe (states t) → IsOrdered (states t) → (states t).steps ≡ t → AllRooted states t → Turn (states t) (states (suc t)) → AllRooted states (suc t)

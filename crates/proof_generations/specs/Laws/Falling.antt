@@ -12,17 +12,16 @@ use Rattle.proof_generations.specs.Beneath.machine_model.specs.declared.steps.Li
 use Rattle.proof_generations.specs.Beneath.machine_model.specs.declared.steps.Step.{Step}
 use Rattle.proof_generations.specs.Beneath.machine_model.specs.States.{State, root_at, operation_of, closed_at}
 use Rattle.proof_generations.specs.Beneath.machine_model.specs.Machine.{AreLimits, run}
-use Rattle.proof_commits.specs.Runs.{steps_taken, state_before, HasIndirection}
+use Rattle.proof_commits.specs.Runs.{HasIndirection}
 use Rattle.proof_commits.specs.Laws.{IsGiven, after_given}
 use Rattle.proof_generations.specs.Laws.Roots.{root_generation}
-use Rattle.proof_generations.specs.Falling.{ReadsClosed}
+use Rattle.proof_generations.specs.Falling.{ReadsClosed, WasOpened}
 use Rattle.proof_generations.specs.Beneath.proof_memory.specs.Wants.{is_indirection}
+use Rattle.proof_generations.specs.Beneath.machine_model.specs.Times.{states_of, last_of}
 
 -- after some of the steps a handle's root had this generation
 abbrev pub IsOpened : Limits → List Step → ℕ → Type 0
-IsOpened limits steps g =
-    (n : ℕ) × (n ≤ steps_taken limits steps)
-    × ((handle : ℕ) × (root : Root) × (root_at (state_before limits steps n) handle ≡ Some root) × (root_generation (state_before limits steps n) root ≡ g))
+IsOpened limits steps g = WasOpened (states_of limits steps) (last_of limits steps) g
 
 -- the main node counts for the indirection, or stands in its main word
 abbrev pub HasMain : State → Ref → Ref → Type 0
@@ -55,7 +54,7 @@ SwapsAreOwn =
 -- what a READ gives through a read-only handle, or a repair's READ of an indirection of another generation than the operation's, is its logical main node for ever
 abbrev pub ReadForGood : Type 0
 ReadForGood =
-    (limits : Limits) (steps : List Step) → AreLimits limits → (n : ℕ) → n < steps_taken limits steps → (indirection main : Ref) (given : IsGiven limits steps n indirection main) →
-    HasIndirection (state_before limits steps n) indirection → ReadsClosed given.operation (generation_at (state_before limits steps n).heap indirection) →
-    (k : ℕ) → (after_given given).moment < k → k ≤ steps_taken limits steps → HasIndirection (state_before limits steps k) indirection →
-    logical_main (state_before limits steps k).heap indirection ≡ main
+    (limits : Limits) (steps : List Step) → AreLimits limits → (n : ℕ) → n < last_of limits steps → (indirection main : Ref) (given : IsGiven limits steps n indirection main) →
+    HasIndirection (states_of limits steps n) indirection → ReadsClosed given.operation (generation_at (states_of limits steps n).heap indirection) →
+    (k : ℕ) → (after_given given).moment < k → k ≤ last_of limits steps → HasIndirection (states_of limits steps k) indirection →
+    logical_main (states_of limits steps k).heap indirection ≡ main

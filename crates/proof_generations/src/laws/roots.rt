@@ -1,6 +1,7 @@
 //! Laws of generations, handles and offers, for every list of steps.
 
-ghost use Rattle.proof_generations.specs.Laws.Roots.{GenerationsAreDrawn, OfferersRun, OffersAreFound, HandlesStayOpen, NumbersAreReserved, WritableRootsAreOwn, ReadOnlyRootsAreClosed, ClosedForEver, OfferedRootsAreFree};
+ghost use Rattle.proof_generations.specs.Laws.Roots.{GenerationsAreDrawn, OfferersRun, OffersAreFound, HandlesStayOpen, NumbersAreReserved, WritableRootsAreOwn};
+ghost use Rattle.proof_generations.specs.Laws.Roots.{ReadOnlyRootsAreClosed, ClosedForEver, OfferedRootsAreFree};
 
 /// A law: the next generation to be drawn is greater than each that there is.
 pub fn generations_are_drawn()

@@ -1,5 +1,6 @@
 -- The nodes that lines make are formed, and what stands in them is as wanted.
-use Rattle.std.proofs.Common.{◌≡◌, ℕ, suc, ◌+◌, ◌^◌, ◌<◌, ◌≤◌, ◌==◌, ◌&&◌, Bool, true, false, nat_lt, nat_le, List, [], ◌∷◌, ◌++◌, Option, Some, None, All, length, get_or, set, take, drop, refl, sym, ap, ◌∙◌, subst, ltb-true, lt-ltb, leb-true, arith}
+use Rattle.std.proofs.Common.{◌≡◌, ℕ, suc, ◌+◌, ◌^◌, ◌<◌, ◌≤◌, ◌==◌, ◌&&◌, Bool, true, false, nat_lt, nat_le, List, [], ◌∷◌, ◌++◌, Option, Some, None, All, length, get_or, set}
+use Rattle.std.proofs.Common.{take, drop, refl, sym, ap, ◌∙◌, subst, ltb-true, lt-ltb, leb-true, arith}
 use Rattle.std.specs.Prelude.{bit_and, bit_or, bit_xor, count_ones, insert, remove}
 use Rattle.std.proofs.lemmas.Bool.{false≢true, and_parts, and_from, cond_both, le-leb}
 use Rattle.std.proofs.lemmas.Nat.{mod_below}
@@ -18,7 +19,8 @@ use Rattle.machine_model.specs.declared.actions.Action.TheVariants as act
 use Rattle.machine_model.specs.declared.building.Change.{Change}
 use Rattle.machine_model.specs.declared.building.Change.TheVariants as change
 use Rattle.machine_model.specs.Building.{changed}
-use Rattle.proof_memory.specs.Wants.{AnIndirection, ABranch, AList, BranchOrList, AnEntry, ASingle, ToSpare, meets, is_formed, Is, Holds, each, so, AllHold, node_wants, action_wants, change_wants, update_wants}
+use Rattle.proof_memory.specs.Wants.{AnIndirection, ABranch, AList, BranchOrList, AnEntry, ASingle, ToSpare, meets, is_formed, Is, Holds, each, so, AllHold, node_wants}
+use Rattle.proof_memory.specs.Wants.{action_wants, change_wants, update_wants}
 use Rattle.proof_memory.proofs.Heap.Ones.{ones_set, ones_cleared, ones_most, ones_flag, set_small, cleared_small, flag_small}
 use Rattle.proof_memory.proofs.Claims.Uses.{Meets, safe_of, meets_of, all_of}
 use Rattle.proof_memory.proofs.Claims.Nodes.{single_entry, indirection_entry}
@@ -56,6 +58,13 @@ pub small_of : (bitmap n : ℕ) → (nat_lt bitmap (2 ^ 32) && nat_le (count_one
 small_of bitmap n e =
     let (small, ones) = and_parts (nat_lt bitmap (2 ^ 32)) (nat_le (count_ones bitmap) n) e in
     (ltb-true bitmap (2 ^ 32) small, leb-true (count_ones bitmap) n ones)
+
+-- two references, in either order
+pub pair_all : (P : Ref → Type 0) (x y : Ref) → P x → P y → All P (x ∷ y ∷ [])
+pair_all P x y h g = All-cons P x (y ∷ []) h (All-cons P y [] g (All-nil P))
+
+pub by_index_all : (P : Ref → Type 0) (a b : ℕ) (x y : Ref) → P x → P y → All P (by_index a b x y)
+by_index_all P a b x y h g = cond_both (nat_lt a b) _ _ (λ es. All P es) (λ e. pair_all P x y h g) (λ e. pair_all P y x g h)
 
 module _ (S : Ref → Type 0) (heap : Heap) where
   abbrev Wanting : Node → Type 0
@@ -123,12 +132,6 @@ module _ (S : Ref → Type 0) (heap : Heap) where
     changed_made node c e b formed n w = absurd (false≢true b)
 
   -- ---- two singles, and the way down to them
-
-  pair_all : (P : Ref → Type 0) (x y : Ref) → P x → P y → All P (x ∷ y ∷ [])
-  pair_all P x y h g = All-cons P x (y ∷ []) h (All-cons P y [] g (All-nil P))
-
-  pub by_index_all : (P : Ref → Type 0) (a b : ℕ) (x y : Ref) → P x → P y → All P (by_index a b x y)
-  by_index_all P a b x y h g = cond_both (nat_lt a b) _ _ (λ es. All P es) (λ e. pair_all P x y h g) (λ e. pair_all P y x g h)
 
   by_index_two : (a b : ℕ) (x y : Ref) → length (by_index a b x y) ≡ 2
   by_index_two a b x y = cond_both (nat_lt a b) _ _ (λ (es : List Ref). length es ≡ 2) (λ e. refl) (λ e. refl)

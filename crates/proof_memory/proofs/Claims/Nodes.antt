@@ -6,7 +6,8 @@ use Rattle.proof_memory.specs.Beneath.slot_arena.specs.declared.refs.Ref.{Ref}
 use Rattle.proof_memory.specs.Beneath.slot_arena.specs.declared.nodes.Node.{Node}
 use Rattle.proof_memory.specs.Beneath.slot_arena.specs.declared.nodes.Node.TheVariants.{Indirection, Branch, Single, Tomb, List as Listed}
 use Rattle.proof_memory.specs.Beneath.slot_arena.specs.Heaps.{Heap, node_at, prev_at, main_at, main_of, entry_at, entries_of, no_ref}
-use Rattle.proof_memory.specs.Wants.{Wanted, AnIndirection, AMain, ABranch, AList, BranchOrList, TombOrList, AnEntry, ASingle, WithEntry, meets, is_formed, is_indirection, Is, Holds, AllHold, node_wants, prev_wants}
+use Rattle.proof_memory.specs.Wants.{Wanted, AnIndirection, AMain, ABranch, AList, BranchOrList, TombOrList, AnEntry, ASingle, WithEntry, meets, is_formed, is_indirection, Is}
+use Rattle.proof_memory.specs.Wants.{Holds, AllHold, node_wants, prev_wants}
 use Rattle.proof_memory.proofs.Claims.Uses.{Meets, safe_of, meets_of, all_of}
 
 pub record Heaped (S : Ref → Type 0) (heap : Heap) : Type 0 where

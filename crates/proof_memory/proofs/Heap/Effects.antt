@@ -21,7 +21,8 @@ use Rattle.machine_model.proofs.HeapMoves.{aborted_heap, offered_heap, completed
 use Rattle.proof_memory.specs.Wants.{AnIndirection, AMain, meets, is_formed, Claim, Is, So, Holds, so, AllHold, node_wants, prev_wants, action_wants}
 use Rattle.proof_memory.specs.Laws.{SameNode, IsInUse}
 use Rattle.proof_memory.proofs.Claims.Uses.{same_node, safe_of, meets_of}
-use Rattle.proof_memory.proofs.Heap.Under.{node_under, main_here, main_other, prev_here, prev_other, freed_here, freed_other, fresh_slot, taken_all, none_taken, births_taken}
+use Rattle.proof_memory.proofs.Heap.Under.{main_here, main_other, prev_here, prev_other, freed_here, freed_other, fresh_slot, taken_all, none_taken, births_taken, main_births}
+use Rattle.machine_model.proofs.Grown.{node_standing}
 
 -- the effects of a step: under which references what stands changes. What is written is claimed by C; b and c are how many births were drawn before and
 -- after; due is what may be freed.
@@ -65,11 +66,7 @@ module _ (S : Ref → Type 0) (heap : Heap) (due : Option Ref) (used : (r : Ref)
 
   -- where the main word is read
   pub main_is : (r : Ref) (slot : Slot) → standing heap r ≡ Some slot → main_of slot.node ≡ main_at heap r
-  main_is r slot e = ap main_of (sym (node_under heap r slot e))
-
-  births_main : (r m : Ref) → (with_main heap r m).births ≡ heap.births
-  unfolding with_main
-  births_main r m = refl
+  main_is r slot e = ap main_of (sym (node_standing heap r slot e))
 
   births_freed : (r : Ref) → (freed heap r).births ≡ heap.births
   unfolding freed
@@ -78,7 +75,7 @@ module _ (S : Ref → Type 0) (heap : Heap) (due : Option Ref) (used : (r : Ref)
   restores : (i main previous : Ref) → main_at heap i ≡ main → AllHold S heap (action_wants (act.Restore i main previous)) → Does (with_main heap i previous)
   restores i main previous e h =
       let (was, found) = used i (safe_of h.0) in
-      Restores i main previous was (births_main i previous) h found (main_is i was found ∙ e) (main_here heap i previous was found) (main_other heap i previous was found)
+      Restores i main previous was (main_births heap i previous) h found (main_is i was found ∙ e) (main_here heap i previous was found) (main_other heap i previous was found)
 
   decides : (main : Ref) (p : Prev) → AllHold S heap (Is main AMain ∷ prev_wants p) → Does (with_prev heap main p)
   decides main p h =
@@ -93,7 +90,7 @@ module _ (S : Ref → Type 0) (heap : Heap) (due : Option Ref) (used : (r : Ref)
       let other : fresh ≡ i → ⊥ = λ same. apart h.0 h.1.1.0 (sym same) in
       let between = with_main heap i fresh in
       let fresh_between = main_other heap i fresh was found fresh other ∙ found_fresh in
-      Publishes i replaced fresh was new (births_prev between fresh (prev.Pending replaced) ∙ births_main i fresh) h (apart h.0 h.1.1.0) found (main_is i was found ∙ e) found_fresh
+      Publishes i replaced fresh was new (births_prev between fresh (prev.Pending replaced) ∙ main_births heap i fresh) h (apart h.0 h.1.1.0) found (main_is i was found ∙ e) found_fresh
       (prev_other between fresh (prev.Pending replaced) new fresh_between i (apart h.0 h.1.1.0) ∙ main_here heap i fresh was found) (prev_here between fresh (prev.Pending replaced) new fresh_between)
       (λ r a b. prev_other between fresh (prev.Pending replaced) new fresh_between r b ∙ main_other heap i fresh was found r a)
 

@@ -43,7 +43,8 @@ same_there C f g b c due (Keeps e k) r was now h h' =
 same_there C f g b c due (Makes made new e e' w p none at_made others) r was now h h' =
     let (found, is, same) = stays C f g b c None (Makes made new e e' w p none at_made others) r was h (none-some r) in subst (SameSlot was) (same_Some _ _ (sym is ∙ h')) same
 same_there C f g b c due (Publishes i replaced fresh at_i at_fresh e w differ f_i m f_fresh g_i g_fresh others) r was now h h' =
-    let (found, is, same) = stays C f g b c None (Publishes i replaced fresh at_i at_fresh e w differ f_i m f_fresh g_i g_fresh others) r was h (none-some r) in subst (SameSlot was) (same_Some _ _ (sym is ∙ h')) same
+    let (found, is, same) = stays C f g b c None (Publishes i replaced fresh at_i at_fresh e w differ f_i m f_fresh g_i g_fresh others) r was h (none-some r) in
+    subst (SameSlot was) (same_Some _ _ (sym is ∙ h')) same
 same_there C f g b c due (Restores i main previous at_i e w f_i m g_i others) r was now h h' =
     let (found, is, same) = stays C f g b c None (Restores i main previous at_i e w f_i m g_i others) r was h (none-some r) in subst (SameSlot was) (same_Some _ _ (sym is ∙ h')) same
 same_there C f g b c due (Decides main p at_main e w f_main g_main others) r was now h h' =
@@ -98,5 +99,6 @@ drawn_once limits ok before since r e (slot, found) =
     apart (drawn_birth (run limits (before ++ since)) (safe_along limits ok (before ++ since)) r e)
     (subst (λ state. (run limits before).heap.births ≤ state.heap.births) (sym joined) later) (I.births r slot found)
   where
-    apart : birth_of r ≡ (run limits (before ++ since)).heap.births + 1 → (run limits before).heap.births ≤ (run limits (before ++ since)).heap.births → birth_of r ≤ (run limits before).heap.births → ⊥
+    apart : birth_of r ≡ (run limits (before ++ since)).heap.births + 1 → (run limits before).heap.births ≤ (run limits (before ++ since)).heap.births →
+        birth_of r ≤ (run limits before).heap.births → ⊥
     apart x y z = omega arith

@@ -1,6 +1,7 @@
 -- What a step of a run does to the heap that only grows: one kind of move for each word or node that a step writes, tied to the action of the operation that takes it.
 -- The layers above cite `word_move`, and for two times `grown_stays`, `grown_in_use` and `not_yet_drawn`.
-use Rattle.std.proofs.Common.{◌≡◌, ℕ, zero, suc, ◌+◌, ◌<◌, ◌≤◌, ◌==◌, Bool, true, false, nat_le, List, [], ◌∷◌, map, length, Option, Some, None, get_or, refl, sym, ap, ◌∙◌, subst, ◌⊎◌, inl, inr, eqb-true, arith}
+use Rattle.std.proofs.Common.{◌≡◌, ℕ, zero, suc, ◌+◌, ◌<◌, ◌≤◌, ◌==◌, Bool, true, false, nat_le, List, [], ◌∷◌, map, length, Option, Some, None, get_or, refl, sym, ap, ◌∙◌, subst}
+use Rattle.std.proofs.Common.{◌⊎◌, inl, inr, eqb-true, arith}
 use Rattle.std.proofs.lemmas.Bool.{cases_eq, cond_both}
 use Rattle.std.proofs.lemmas.Option.{none-some, same_Some}
 use Rattle.proof_memory.specs.Beneath.epochs.specs.declared.limbo.Swept.{Swept}
@@ -43,6 +44,7 @@ use Rattle.proof_memory.specs.Making.{made_node}
 use Rattle.proof_memory.proofs.Safety.States.{IsSafe, used_of, births_grow, stands_in_use}
 use Rattle.proof_memory.proofs.Safety.Steps.{of_actor, step_claims, step_effect}
 use Rattle.proof_memory.proofs.Safety.AtEachTime.{safe_at}
+use Rattle.machine_model.proofs.Grown.{stands_in, grown_in_use}
 
 -- the operation of this actor takes a step that does this
 abbrev pub Takes : State → ℕ → Operation → Action → Type 0
@@ -121,7 +123,8 @@ module _ (state : State) (I : IsSafe state) (actor k : ℕ) (operation : Operati
       commits actor operation i main previous told was (running, a) e at_main (prev_here state.heap main prev.None was at_main) (prev_other state.heap main prev.None was at_main)
   decided_by i main previous told a h Fails e =
       let (was, at_main) = used_of state operation.epoch main (safe_of h.1.0) in
-      fails actor operation i main previous told was (running, a) e at_main (prev_here state.heap main (prev.Failed previous) was at_main) (prev_other state.heap main (prev.Failed previous) was at_main)
+      fails actor operation i main previous told was (running, a) e at_main (prev_here state.heap main (prev.Failed previous) was at_main)
+      (prev_other state.heap main (prev.Failed previous) was at_main)
   decided_by i main previous told a h (Overtaken licensed) e = same_heap state.heap refl
 
   -- by the action, in a state with this heap and as many generations
@@ -151,17 +154,8 @@ module _ (state : State) (I : IsSafe state) (actor k : ℕ) (operation : Operati
 
 -- ---- in the heap that only grows
 
--- what stands is what stood last
-stands_in : (now before : Option Slot) (slot : Slot) → now ≡ Some slot → or_before now before ≡ Some slot
-stands_in now before slot e = ap (λ o. or_before o before) e
-
 stands_not : (now before : Option Slot) → now ≡ None → or_before now before ≡ before
 stands_not now before e = ap (λ o. or_before o before) e
-
-pub grown_in_use : (states : ℕ → State) (t : ℕ) (r : Ref) (slot : Slot) → standing (states t).heap r ≡ Some slot → grown states t r ≡ Some slot
-unfolding grown
-grown_in_use states zero r slot e = e
-grown_in_use states (suc t) r slot e = stands_in _ (grown states t r) slot e
 
 -- by what stands before and after a step
 grown_same_by : (states : ℕ → State) (t : ℕ) (r : Ref) (o : Option Slot) → standing (states t).heap r ≡ o → standing (states (suc t)).heap r ≡ o → grown states (suc t) r ≡ grown states t r
@@ -176,12 +170,6 @@ module _ (states : ℕ → State) (t : ℕ) where
   grown_freed : (r : Ref) → standing (states (suc t)).heap r ≡ None → grown states (suc t) r ≡ grown states t r
   unfolding grown
   grown_freed r e = stands_not _ (grown states t r) e
-
-  grown_new : (r : Ref) (slot : Slot) → standing (states (suc t)).heap r ≡ Some slot → grown states (suc t) r ≡ Some slot
-  grown_new r slot e = grown_in_use states (suc t) r slot e
-
-  grown_old : (r : Ref) (slot : Slot) → standing (states t).heap r ≡ Some slot → grown states t r ≡ Some slot
-  grown_old r slot e = grown_in_use states t r slot e
 
 -- ---- along a run
 
@@ -280,16 +268,17 @@ module _ (limits : Limits) (states : ℕ → State) (last : ℕ) (run : IsRun li
   lifted t h (inr goes) = keeps (λ r. elim (goes r) [ inl same ↦ grown_same states t r same | inr none ↦ grown_freed states t r none ])
   lifted t h (inl (keeps k)) = keeps (λ r. grown_same states t r (k r))
   lifted t h (inl (makes actor operation node made is a e none new others)) =
-      makes actor operation node made is a e (not_yet_drawn t (omega arith) made e) (grown_new states t made _ new) (λ r other. grown_same states t r (others r other))
+      makes actor operation node made is a e (not_yet_drawn t (omega arith) made e) (grown_in_use states (suc t) made _ new) (λ r other. grown_same states t r (others r other))
   lifted t h (inl (publishes actor operation i replaced fresh at_i at_fresh takes differ f_i m f_fresh g_i g_fresh others)) =
-      publishes actor operation i replaced fresh at_i at_fresh takes differ (grown_old states t i _ f_i) m (grown_old states t fresh _ f_fresh) (grown_new states t i _ g_i) (grown_new states t fresh _ g_fresh)
+      publishes actor operation i replaced fresh at_i at_fresh takes differ (grown_in_use states t i _ f_i) m (grown_in_use states t fresh _ f_fresh)
+      (grown_in_use states (suc t) i _ g_i) (grown_in_use states (suc t) fresh _ g_fresh)
       (λ r x y. grown_same states t r (others r x y))
   lifted t h (inl (restores actor operation i main previous at_i takes f_i m g_i others)) =
-      restores actor operation i main previous at_i takes (grown_old states t i _ f_i) m (grown_new states t i _ g_i) (λ r x. grown_same states t r (others r x))
+      restores actor operation i main previous at_i takes (grown_in_use states t i _ f_i) m (grown_in_use states (suc t) i _ g_i) (λ r x. grown_same states t r (others r x))
   lifted t h (inl (commits actor operation i main previous told at_main takes v f_main g_main others)) =
-      commits actor operation i main previous told at_main takes v (grown_old states t main _ f_main) (grown_new states t main _ g_main) (λ r x. grown_same states t r (others r x))
+      commits actor operation i main previous told at_main takes v (grown_in_use states t main _ f_main) (grown_in_use states (suc t) main _ g_main) (λ r x. grown_same states t r (others r x))
   lifted t h (inl (fails actor operation i main previous told at_main takes v f_main g_main others)) =
-      fails actor operation i main previous told at_main takes v (grown_old states t main _ f_main) (grown_new states t main _ g_main) (λ r x. grown_same states t r (others r x))
+      fails actor operation i main previous told at_main takes v (grown_in_use states t main _ f_main) (grown_in_use states (suc t) main _ g_main) (λ r x. grown_same states t r (others r x))
 
   pub word_move : (t : ℕ) → t < last → WordMove (states t) (grown states t) (grown states (suc t))
   word_move t h = lifted t h (by_turn (states t) (states (suc t)) (safe_at limits states last run t (omega arith)) (run.turn t h))

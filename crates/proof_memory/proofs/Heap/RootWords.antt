@@ -57,7 +57,8 @@ module _ (P : RootWord → Type 0) where
   opened_word offer None w h = w
   opened_word offer (Some second) w h = h second refl
 
-  opened_words : (state : State) (offer : Descriptor) (opens : Option ℕ) → AllWords state → P (Plain offer.root) → ((r : Ref) → offer.second ≡ Some r → P (Plain r)) → AllWords (opened state offer opens)
+  opened_words : (state : State) (offer : Descriptor) (opens : Option ℕ) → AllWords state → P (Plain offer.root) →
+      ((r : Ref) → offer.second ≡ Some r → P (Plain r)) → AllWords (opened state offer opens)
   opened_words state offer None h w s = h
   opened_words state offer (Some at) h w s = root_words state at (opened_root offer offer.second) h (opened_word offer offer.second w s)
 

@@ -1,5 +1,6 @@
 -- What stands under each reference after a write, a taking and a freeing: only what is written, taken or freed changes.
-use Rattle.std.proofs.Common.{◌≡◌, ℕ, ◌+◌, ◌^◌, ◌<◌, ◌≤◌, ◌==◌, false, is_some, List, [], ◌∷◌, length, map, get_or, set, Option, Some, None, option_map, refl, sym, ap, ◌∙◌, subst, inl, inr, eqb-true, eq-eqb, ne_eqb, arith}
+use Rattle.std.proofs.Common.{◌≡◌, ℕ, ◌+◌, ◌^◌, ◌<◌, ◌≤◌, ◌==◌, false, is_some, List, [], ◌∷◌, length, map, get_or, set, Option, Some, None, option_map, refl, sym, ap, ◌∙◌, subst}
+use Rattle.std.proofs.Common.{◌⊎◌, inl, inr, eqb-true, eq-eqb, ne_eqb, arith}
 use Rattle.std.proofs.lemmas.Bool.{cases_eq, false≢true}
 use Rattle.std.proofs.lemmas.List.{get_or-set_same, get_or-set_other, get_or-map, length-map}
 use Rattle.std.proofs.lemmas.Option.{none-some, same_Some, cond_some}
@@ -9,11 +10,13 @@ use Rattle.proof_memory.specs.Beneath.slot_arena.specs.declared.nodes.Node.{Node
 use Rattle.proof_memory.specs.Beneath.slot_arena.specs.declared.nodes.Prev.{Prev}
 use Rattle.proof_memory.specs.Beneath.slot_arena.specs.declared.nodes.Prev.TheVariants as prev
 use Rattle.proof_memory.specs.Beneath.slot_arena.specs.declared.nodes.Slot.{Slot}
-use Rattle.proof_memory.specs.Beneath.slot_arena.specs.Heaps.{Heap, stored, node_at, node_of, prev_at, prev_of, written, with_main, with_prev, main_changed, prev_changed, taken, take_from, freed, next_ref, ref_in}
-use Rattle.machine_model.proofs.Found.{found_within}
+use Rattle.proof_memory.specs.Beneath.slot_arena.specs.Heaps.{Heap, stored, node_at, node_of, prev_at, prev_of, written, with_main, with_prev, main_changed, prev_changed, taken}
+use Rattle.proof_memory.specs.Beneath.slot_arena.specs.Heaps.{take_from, freed, next_ref, ref_in}
+use Rattle.machine_model.proofs.Found.{found_within, found_here}
 use Rattle.machine_model.proofs.Rest.{first_free}
 use Rattle.machine_model.proofs.Slots.{AddsUp}
 use Rattle.machine_model.specs.Grown.{of_birth, standing}
+use Rattle.machine_model.proofs.Grown.{birth_parts, standing_parts}
 
 -- a reference is its birth and its slot
 pub same_ref : (r q : Ref) → slot_of r ≡ slot_of q → birth_of r ≡ birth_of q → r ≡ q
@@ -25,16 +28,6 @@ slot_of-ref_to birth slot h = omega arith
 pub birth_of-ref_to : (birth slot : ℕ) → slot < 2 ^ 16 → birth_of (ref_to birth slot) ≡ birth
 birth_of-ref_to birth slot h = omega arith
 
--- what stands under a birth is the slot with that birth
-birth_parts : (birth : ℕ) (o : Option Slot) (slot : Slot) → of_birth birth o ≡ Some slot → (o ≡ Some slot) × (slot.birth ≡ birth)
-birth_parts birth None slot e = absurd (none-some slot e)
-birth_parts birth (Some found) slot e =
-    let (b, same) = cond_some (found.birth == birth) found slot e in
-    (ap Some same, subst (λ s. s.birth ≡ birth) same (eqb-true _ _ b))
-
-pub standing_parts : (heap : Heap) (r : Ref) (slot : Slot) → standing heap r ≡ Some slot → (stored heap r ≡ Some slot) × (slot.birth ≡ birth_of r)
-standing_parts heap r slot e = birth_parts (birth_of r) (stored heap r) slot e
-
 birth_met : (birth : ℕ) (slot : Slot) → slot.birth ≡ birth → of_birth birth (Some slot) ≡ Some slot
 birth_met birth slot e = rw (eq-eqb slot.birth birth e) refl
 
@@ -43,15 +36,6 @@ birth_missed birth slot e = rw (ne_eqb slot.birth birth e) refl
 
 pub standing_from : (heap : Heap) (r : Ref) (slot : Slot) → stored heap r ≡ Some slot → slot.birth ≡ birth_of r → standing heap r ≡ Some slot
 standing_from heap r slot e b = ap (of_birth (birth_of r)) e ∙ birth_met (birth_of r) slot b
-
--- then the node and the prev word are those of the slot
-pub node_under : (heap : Heap) (r : Ref) (slot : Slot) → standing heap r ≡ Some slot → node_at heap r ≡ slot.node
-unfolding node_at
-node_under heap r slot e = ap node_of ((standing_parts heap r slot e).0)
-
-pub prev_under : (heap : Heap) (r : Ref) (slot : Slot) → standing heap r ≡ Some slot → prev_at heap r ≡ slot.prev
-unfolding prev_at
-prev_under heap r slot e = ap prev_of ((standing_parts heap r slot e).0)
 
 -- ---- one slot is written
 
@@ -148,6 +132,21 @@ unfolding freed stored
 freed_other heap q was found r other =
     under_other heap.slots q was ((standing_parts heap q was found).0) ((standing_parts heap q was found).1) None (λ x apart. refl) r other
 
+-- what stands after a slot was freed stood before
+nothing_there : (xs : List (Option Slot)) (k : ℕ) (x : Option Slot) → get_or (set xs k None) k None ≡ x → x ≡ None
+nothing_there xs k None e = refl
+nothing_there xs k (Some y) e = absurd (none-some y (found_here xs k None y e))
+
+freed_by : (heap : Heap) (r q : Ref) (slot : Slot) → (slot_of q ≡ slot_of r) ⊎ (slot_of q ≡ slot_of r → ⊥) → standing (freed heap r) q ≡ Some slot → standing heap q ≡ Some slot
+unfolding freed stored
+freed_by heap r q slot (inl same) e =
+    let empty = ap (λ k. get_or (set heap.slots (slot_of r) None) k None) same ∙ nothing_there heap.slots (slot_of r) _ refl in
+    absurd (none-some slot (sym (ap (of_birth (birth_of q)) empty) ∙ e))
+freed_by heap r q slot (inr differ) e = sym (ap (of_birth (birth_of q)) (get_or-set_other heap.slots (slot_of r) (slot_of q) None None differ)) ∙ e
+
+pub freed_before : (heap : Heap) (r q : Ref) (slot : Slot) → standing (freed heap r) q ≡ Some slot → standing heap q ≡ Some slot
+freed_before heap r q slot e = freed_by heap r q slot (cases_eq (slot_of q) (slot_of r)) e
+
 -- ---- a slot is taken
 
 -- what is put into a slot that was free
@@ -215,7 +214,8 @@ module _ (slots : ℕ) (heap : Heap) (sound : AddsUp slots heap) (small : slots 
   taken_by [] e is = absurd (none-some made is)
   taken_by (slot ∷ free) e is =
       let first = first_is_free slots heap sound small slot free e in
-      subst (λ q. (standing (take_from heap node (slot ∷ free)) q ≡ Some (fresh_slot heap node)) × (standing heap q ≡ None) × ((r : Ref) → (r ≡ q → ⊥) → standing (take_from heap node (slot ∷ free)) r ≡ standing heap r)
+      subst (λ q. (standing (take_from heap node (slot ∷ free)) q ≡ Some (fresh_slot heap node)) × (standing heap q ≡ None)
+      × ((r : Ref) → (r ≡ q → ⊥) → standing (take_from heap node (slot ∷ free)) r ≡ standing heap r)
       × (birth_of q ≡ heap.births + 1)) (same_Some _ _ is)
       (from_here heap node slot free first, none_before heap node slot free first, from_other heap node slot free first, sym (its_birth heap node slot free first))
 
@@ -242,3 +242,8 @@ births_taken heap node made e = by_free heap.free e
     by_free : (free : List ℕ) → ref_in heap.births free ≡ Some made → (take_from heap node free).births ≡ heap.births + 1
     by_free [] e = absurd (none-some made e)
     by_free (slot ∷ free) e = refl
+
+-- a write of a main word draws nothing
+pub main_births : (heap : Heap) (r m : Ref) → (with_main heap r m).births ≡ heap.births
+unfolding with_main
+main_births heap r m = refl

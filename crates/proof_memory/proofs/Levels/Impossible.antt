@@ -133,7 +133,8 @@ module _ (state : State) (operation : Operation) where
 
   renew_entry_never : (path : List Ref) (main : Ref) (done : List Ref) (entry : Ref) (node : Node) → meets AnEntry node ≡ true →
       IsImpossible (renew_after_entry state operation path main done entry node) → ⊥
-  renew_entry_never path main done entry (Indirection generation word) e = cond_both (is_start operation generation) _ _ (λ l. IsImpossible l → ⊥) (λ e. renew_next_never path main (done ++ entry ∷ [])) (λ e h. h)
+  renew_entry_never path main done entry (Indirection generation word) e =
+      cond_both (is_start operation generation) _ _ (λ l. IsImpossible l → ⊥) (λ e. renew_next_never path main (done ++ entry ∷ [])) (λ e h. h)
   renew_entry_never path main done entry (Single k v) e = renew_next_never path main (done ++ entry ∷ [])
   renew_entry_never path main done entry node e = λ h. false≢true e
 
@@ -174,7 +175,8 @@ module _ (state : State) (operation : Operation) where
 
   module _ (S : Ref → Type 0) (H : Heaped S state.heap) (fits : operation.access ≡ ReadOnly → needs_writable operation.call ≡ false) where
     -- the entry that is looked at
-    entry_meets : (main : Ref) (position : ℕ) → Holds S state.heap (Is main ABranch) → Holds S state.heap (Is main (WithEntry position)) → meets AnEntry (node_at state.heap (entry_at state.heap main position)) ≡ true
+    entry_meets : (main : Ref) (position : ℕ) → Holds S state.heap (Is main ABranch) → Holds S state.heap (Is main (WithEntry position)) →
+        meets AnEntry (node_at state.heap (entry_at state.heap main position)) ≡ true
     entry_meets main position m w = (at_position S state.heap AnEntry position (branch_entries S state.heap H m) w).1
 
     single_never : (path : List Ref) (main : Ref) (position : ℕ) (node : Node) → meets ASingle node ≡ true → Holds S state.heap (Is main (listed operation.access)) →
@@ -186,7 +188,8 @@ module _ (state : State) (operation : Operation) where
         (λ e. cond_both (nat_lt (position + 1) (length (entries_of (node_at state.heap main)))) _ _ (λ l. IsImpossible l → ⊥) (λ e h. h) (λ e. listed_never path main _))
     single_never path main position node e m = λ h. false≢true e
 
-    pub impossible_strange : (l : Line) → AllHold S state.heap (line_wants state.limits.hash operation.call operation.access l) → (IsImpossible l → ⊥) → IsImpossible (line_after state operation l) → IsStrange state l
+    pub impossible_strange : (l : Line) → AllHold S state.heap (line_wants state.limits.hash operation.call operation.access l) → (IsImpossible l → ⊥) →
+        IsImpossible (line_after state operation l) → IsStrange state l
     impossible_strange (line.Root l) h n i = absurd (root_never state operation l i)
     impossible_strange (line.Key (key.Read path r)) h n i = absurd (read_never i)
       where

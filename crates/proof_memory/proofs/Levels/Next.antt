@@ -1,5 +1,6 @@
 -- Levels after any line's step, and those of the node that a step makes.
-use Rattle.std.proofs.Common.{◌≡◌, ℕ, zero, suc, ◌+◌, ◌-◌, ◌<◌, ◌≤◌, ◌==◌, ◌&&◌, Bool, true, false, nat_lt, List, ◌∷◌, ◌++◌, All, length, Option, Some, None, is_some, refl, sym, ◌∙◌, subst, inl, inr, eqb-true, ltb-true, arith, []}
+use Rattle.std.proofs.Common.{◌≡◌, ℕ, zero, suc, ◌+◌, ◌-◌, ◌<◌, ◌≤◌, ◌==◌, ◌&&◌, Bool, true, false, nat_lt, List, ◌∷◌, ◌++◌, All, length, Option, Some, None, is_some, refl, sym}
+use Rattle.std.proofs.Common.{◌∙◌, subst, inl, inr, eqb-true, ltb-true, arith, []}
 use Rattle.std.specs.Prelude.{bit_or, bit_xor}
 use Rattle.std.proofs.lemmas.Bool.{false≢true, cond_both, eqb-false}
 use Rattle.std.proofs.lemmas.List.Elements.{All-nil, All-cons, All-take, All-set}
@@ -55,15 +56,21 @@ use Rattle.machine_model.specs.Climbing.{climb_after_contracted, place_in}
 use Rattle.machine_model.specs.Copying.{copy_if_made, copy_after_made, after_successor}
 use Rattle.machine_model.specs.Walking.{first_of, rest_of}
 use Rattle.machine_model.specs.Operations.{line_action, line_after}
-use Rattle.proof_memory.specs.Wants.{ABranch, BranchOrList, AnEntry, WithEntry, meets, Is, Holds, AllHold, line_wants, site_wants, change_wants, update_wants, swap_wants, swap_line_wants, purpose_wants, read_wants}
+use Rattle.proof_memory.specs.Wants.{ABranch, BranchOrList, AnEntry, WithEntry, meets, Is, Holds, AllHold, line_wants, site_wants, change_wants, update_wants, swap_wants}
+use Rattle.proof_memory.specs.Wants.{swap_line_wants, purpose_wants, read_wants}
 use Rattle.proof_memory.proofs.Claims.Uses.{safe_of, meets_of, fact_of, entry_of, from_meets, first_hold, last_hold}
 use Rattle.proof_memory.proofs.Claims.Nodes.{Heaped, branch_entries, at_position}
 use Rattle.proof_memory.proofs.Lines.Shared.{above_long}
 use Rattle.proof_memory.specs.Making.{made_node}
 use Rattle.proof_memory.proofs.Claims.Made.{All-inserted, All-removed, by_index_all}
-use Rattle.proof_memory.specs.Levels.{EntryLevel, InsideLevel, KindLevel, NodeLevel, PrevLevel, WordLevel, ReadLevel, CompleteLevel, RootLevel, PathLevel, PlaceLevel, UpdateLevel, ChangeLevel, BuildLevel, SwapLineLevel, SwapLevel, DoneLevel, LineLevel, ActionLevel, build_level, made_level}
+use Rattle.proof_memory.specs.Levels.{EntryLevel, InsideLevel, KindLevel, NodeLevel, PrevLevel, WordLevel, ReadLevel, CompleteLevel, RootLevel, PathLevel, PlaceLevel, UpdateLevel}
+use Rattle.proof_memory.specs.Levels.{ChangeLevel, BuildLevel, SwapLineLevel, SwapLevel, DoneLevel, LineLevel, ActionLevel, build_level, made_level}
 use Rattle.proof_memory.proofs.Levels.Paths.{current_level, above_level}
-use Rattle.proof_memory.proofs.Levels.Steps.{AfterLevel, SwappedLevel, RenewsPath, single_level, branch_level, read_next, complete_next, root_next, renew_next_level, more_done, key_read_level, key_main_level, key_entry_level, listed_level, sibling_level, renew_entry_level, renew_read_level, clean_read_level, clean_main_level, clean_entry_level, child_level, clean_tomb_level, climb_read_level, climb_main_level, climb_root_level, copy_read_level, copy_offer_level, copy_complete_level, walk_next_level, walk_read_level, walk_entry_level, root_line_level, publish_level, deciding_level, check_level, line_swap_level}
+use Rattle.proof_memory.proofs.Levels.Steps.{AfterLevel, SwappedLevel, RenewsPath, single_level, branch_level, read_next, complete_next, root_next, renew_next_level, more_done}
+use Rattle.proof_memory.proofs.Levels.Steps.{key_read_level, key_main_level, key_entry_level, listed_level, sibling_level, renew_entry_level, renew_read_level, clean_read_level}
+use Rattle.proof_memory.proofs.Levels.Steps.{clean_main_level, clean_entry_level, child_level, clean_tomb_level, climb_read_level, climb_main_level, climb_root_level}
+use Rattle.proof_memory.proofs.Levels.Steps.{copy_read_level, copy_offer_level, copy_complete_level, walk_next_level, walk_read_level, walk_entry_level, root_line_level}
+use Rattle.proof_memory.proofs.Levels.Steps.{publish_level, deciding_level, check_level, line_swap_level}
 
 -- two hashes part at this depth or below it
 parting_below : (left a b depth : ℕ) → depth ≤ parting left a b depth
@@ -73,7 +80,8 @@ parting_below (suc left) a b depth = cond_both (index_in a depth == index_in b d
     later : depth + 1 ≤ parting left a b (depth + 1) → depth ≤ parting left a b (depth + 1)
     later h = omega arith
 
-module _ (lv : Ref → ℕ) (state : State) (operation : Operation) (S : Ref → Type 0) (H : Heaped S state.heap) (N : (r : Ref) → S r → NodeLevel lv r (node_at state.heap r) × PrevLevel lv r (prev_at state.heap r)) where
+module _ (lv : Ref → ℕ) (state : State) (operation : Operation) (S : Ref → Type 0) (H : Heaped S state.heap)
+    (N : (r : Ref) → S r → NodeLevel lv r (node_at state.heap r) × PrevLevel lv r (prev_at state.heap r)) where
   abbrev L : Line → Type 0
   L l = LineLevel lv l
 
@@ -81,7 +89,8 @@ module _ (lv : Ref → ℕ) (state : State) (operation : Operation) (S : Ref →
   Wants l = AllHold S state.heap (line_wants state.limits.hash operation.call operation.access l)
 
   -- the entry at a position
-  at_level : (path : List Ref) (main : Ref) (position : ℕ) → Holds S state.heap (Is main ABranch) → Holds S state.heap (Is main (WithEntry position)) → EntryLevel lv (lv main) (entry_at state.heap main position)
+  at_level : (path : List Ref) (main : Ref) (position : ℕ) → Holds S state.heap (Is main ABranch) → Holds S state.heap (Is main (WithEntry position)) →
+      EntryLevel lv (lv main) (entry_at state.heap main position)
   at_level path main position m w = branch_level lv state operation S N main m position no_ref (ltb-true position _ (meets_of w))
 
   next_level : (path : List Ref) (main : Ref) (done : List Ref) → DoneLevel lv path main done → Holds S state.heap (Is main ABranch) → Holds S state.heap (Is main (WithEntry (length done))) →
@@ -102,7 +111,8 @@ module _ (lv : Ref → ℕ) (state : State) (operation : Operation) (S : Ref →
   contracted_made level true bitmap (x ∷ y ∷ es) low all = branch_made level bitmap (x ∷ y ∷ es) low all
   contracted_made level false bitmap es low all = branch_made level bitmap es low all
 
-  changed_entry : (path : List Ref) (main : Ref) (former : Option ℕ) (entry : Ref) → UpdateLevel lv path former entry → AllHold S state.heap (update_wants main entry former) → EntryLevel lv (depth_of path + 1) entry
+  changed_entry : (path : List Ref) (main : Ref) (former : Option ℕ) (entry : Ref) → UpdateLevel lv path former entry →
+      AllHold S state.heap (update_wants main entry former) → EntryLevel lv (depth_of path + 1) entry
   changed_entry path main None entry u w = inr (deeper u)
     where
       deeper : lv entry ≡ depth_of path + 2 → lv entry ≡ depth_of path + 1 + 1
@@ -135,16 +145,19 @@ module _ (lv : Ref → ℕ) (state : State) (operation : Operation) (S : Ref →
   pair_level : (kind : HashKind) (depth a b : ℕ) (x y : Ref) → lv x ≡ 0 → lv y ≡ 0 → Node (depth + 1) (pair kind depth a b x y)
   pair_level kind depth a b x y e f =
       cond_both (depth == list_depth kind) _ _ (Node (depth + 1)) (λ t. (tt, omega arith))
-      (λ t. branch_made (depth + 1) (bit_or (flag_of a depth) (flag_of b depth)) _ (omega arith) (by_index_all S state.heap (EntryLevel lv (depth + 1)) (index_in a depth) (index_in b depth) x y (inl e) (inl f)))
+      (λ t. branch_made (depth + 1) (bit_or (flag_of a depth) (flag_of b depth)) _ (omega arith)
+      (by_index_all (EntryLevel lv (depth + 1)) (index_in a depth) (index_in b depth) x y (inl e) (inl f)))
 
   build_made : (l : BuildLine) → Wants (line.Build l) → BuildLevel lv l → ActionLevel lv (build_level l) (build_action state operation l)
   build_made (build.Single path main s former) h e = (tt, refl)
   build_made (build.Pair path main position single depth) h e =
-      pair_level state.limits.hash depth _ _ (entry_at state.heap main position) single (single_level lv state operation S N (entry_at state.heap main position) (from_meets (entry_at state.heap main position) (entry_of h.1.1.1.0)))
+      pair_level state.limits.hash depth _ _ (entry_at state.heap main position) single
+      (single_level lv state operation S N (entry_at state.heap main position) (from_meets (entry_at state.heap main position) (entry_of h.1.1.1.0)))
       (single_level lv state operation S N single h.1.1.1.1.0)
   build_made (build.Link path main position below depth) h e = (e.2, omega arith)
   build_made (build.Rung path main position below depth) h e =
-      branch_made (depth + 1) (flag_of (hash_in state operation) depth) (below ∷ []) (omega arith) (All-cons (EntryLevel lv (depth + 1)) below [] (inr (deeper e.2)) (All-nil (EntryLevel lv (depth + 1))))
+      branch_made (depth + 1) (flag_of (hash_in state operation) depth) (below ∷ []) (omega arith)
+      (All-cons (EntryLevel lv (depth + 1)) below [] (inr (deeper e.2)) (All-nil (EntryLevel lv (depth + 1))))
     where
       deeper : lv below ≡ depth + 2 → lv below ≡ depth + 1 + 1
       deeper x = omega arith
@@ -207,7 +220,8 @@ module _ (lv : Ref → ℕ) (state : State) (operation : Operation) (S : Ref →
   line_level_acts (line.Climb (climb.Main c main)) h e = tt
   line_level_acts (line.Climb (climb.Contracted c main)) h e =
       contracted_made (depth_of (above c.path) + 1) (is_below_root (above c.path)) (bitmap_of (node_at state.heap main)) _ (omega arith)
-      (All-set (EntryLevel lv (depth_of (above c.path) + 1)) (entries_of (node_at state.heap main)) (place_in state operation c main) c.single (inl (single_level lv state operation S N c.single h.1.1.0))
+      (All-set (EntryLevel lv (depth_of (above c.path) + 1)) (entries_of (node_at state.heap main)) (place_in state operation c main) c.single
+      (inl (single_level lv state operation S N c.single h.1.1.0))
       (subst (λ n. All (EntryLevel lv n) (entries_of (node_at state.heap main))) e.1 (branch_level lv state operation S N main h.1.1.1.0)))
   line_level_acts (line.Climb (climb.Root c l)) h e = root_acts l e.1
   line_level_acts (line.Copy (copy.Read r l)) h e = any_level 1 l.indirection l.line (read_acts l.indirection l.line e.2)
@@ -231,16 +245,19 @@ module _ (lv : Ref → ℕ) (state : State) (operation : Operation) (S : Ref →
     abbrev Made : Line → Type 0
     Made l = (node : SlotNode) (made : Ref) → made_node state (line_action state operation l) ≡ Some node → next_ref state.heap ≡ Some made → lv made ≡ made_level l
 
-    swap_begun : (path : List Ref) (main made : Ref) → PathLevel lv path → nat_lt 0 (length path) ≡ true → lv main ≡ depth_of path + 1 → S main → lv made ≡ depth_of path + 1 → next_ref state.heap ≡ Some made →
+    swap_begun : (path : List Ref) (main made : Ref) → PathLevel lv path → nat_lt 0 (length path) ≡ true → lv main ≡ depth_of path + 1 → S main →
+        lv made ≡ depth_of path + 1 → next_ref state.heap ≡ Some made →
         SwapLevel lv (current path) main made
     swap_begun path main made p long e s f next =
         let here = current_level lv path p long in (e ∙ sym here, f ∙ sym here, older main made s next)
 
-    build_by : (l : BuildLine) → ((made : Ref) → next_ref state.heap ≡ Some made → L (build_after_made state operation l made)) → (o : Option Ref) → next_ref state.heap ≡ o → L (build_if_made state operation l o)
+    build_by : (l : BuildLine) → ((made : Ref) → next_ref state.heap ≡ Some made → L (build_after_made state operation l made)) → (o : Option Ref) →
+        next_ref state.heap ≡ o → L (build_if_made state operation l o)
     build_by l f None e = tt
     build_by l f (Some made) e = f made e
 
-    single_next : (path : List Ref) (main : Ref) (former : Option ℕ) (s : Site) (made : Ref) → AllHold S state.heap (site_wants main former s) → PlaceLevel lv path main → L (after_single state operation path main former s made)
+    single_next : (path : List Ref) (main : Ref) (former : Option ℕ) (s : Site) (made : Ref) → AllHold S state.heap (site_wants main former s) →
+        PlaceLevel lv path main → L (after_single state operation path main former s made)
     single_next path main former site.Absent made h p = (p, tt)
     single_next path main former (site.At position) made h p = (p, updated former (fact_of h.0))
       where
@@ -249,7 +266,8 @@ module _ (lv : Ref → ℕ) (state : State) (operation : Operation) (S : Ref →
         updated (Some value) e = tt
     single_next path main former (site.Beside position) made h p = (p, parting_below _ (old_hash state main position) (hash_in state operation) (depth_of path + 1))
 
-    link_next : (path : List Ref) (main : Ref) (position depth : ℕ) (made : Ref) → PlaceLevel lv path main → depth_of path + 1 ≤ depth → lv made ≡ depth + 1 → L (after_link path main position depth made)
+    link_next : (path : List Ref) (main : Ref) (position depth : ℕ) (made : Ref) → PlaceLevel lv path main → depth_of path + 1 ≤ depth → lv made ≡ depth + 1 →
+        L (after_link path main position depth made)
     link_next path main position depth made p le e =
         cond_both (depth == depth_of path + 1) _ _ L (λ t. (p, two_deeper (eqb-true depth (depth_of path + 1) t))) (λ t. (p, higher (eqb-false depth (depth_of path + 1) t), one_more))
       where
@@ -265,26 +283,31 @@ module _ (lv : Ref → ℕ) (state : State) (operation : Operation) (S : Ref →
     build_next : (l : BuildLine) → Wants (line.Build l) → BuildLevel lv l → Made (line.Build l) → L (build_after state operation l)
     build_next (build.Single path main s former) h e m = build_by (build.Single path main s former) (λ made n. single_next path main former s made h.1.1.1 e) (next_ref state.heap) refl
     build_next (build.Pair path main position single depth) h e m = build_by (build.Pair path main position single depth) (λ made n. (e.0, e.1, m _ made refl n)) (next_ref state.heap) refl
-    build_next (build.Link path main position below depth) h e m = build_by (build.Link path main position below depth) (λ made n. link_next path main position depth made e.0 e.1 (m _ made refl n)) (next_ref state.heap) refl
+    build_next (build.Link path main position below depth) h e m =
+        build_by (build.Link path main position below depth) (λ made n. link_next path main position depth made e.0 e.1 (m _ made refl n)) (next_ref state.heap) refl
     build_next (build.Rung path main position below depth) h e m = build_by (build.Rung path main position below depth) (λ made n. (e.0, e.1, m _ made refl n)) (next_ref state.heap) refl
     build_next (build.Main path main c former) h e m =
         build_by (build.Main path main c former)
         (λ made n. (swap_begun path main made e.0.0 (fact_of h.1.0) e.0.1 (safe_of h.1.1.0) (m _ made refl n) n, tt, e.0.0)) (next_ref state.heap) refl
 
-    link_by : (path : List Ref) (main : Ref) (done : List Ref) → DoneLevel lv path main done → ((made : Ref) → next_ref state.heap ≡ Some made → lv made ≡ depth_of path + 2) → (o : Option Ref) → next_ref state.heap ≡ o →
+    link_by : (path : List Ref) (main : Ref) (done : List Ref) → DoneLevel lv path main done →
+        ((made : Ref) → next_ref state.heap ≡ Some made → lv made ≡ depth_of path + 2) → (o : Option Ref) → next_ref state.heap ≡ o →
         L (renew_after_link state path main done o)
     link_by path main done d f None e = tt
-    link_by path main done d f (Some made) e = renew_next_level lv state operation S N path main (done ++ made ∷ []) (more_done lv state operation S N path main done made d (inr (one_more (f made e))))
+    link_by path main done d f (Some made) e =
+        renew_next_level lv state operation S N path main (done ++ made ∷ []) (more_done lv state operation S N path main done made d (inr (one_more (f made e))))
       where
         one_more : lv made ≡ depth_of path + 2 → lv made ≡ depth_of path + 1 + 1
         one_more x = omega arith
 
-    branch_by : (path : List Ref) (main : Ref) → PlaceLevel lv path main → nat_lt 0 (length path) ≡ true → S main → ((made : Ref) → next_ref state.heap ≡ Some made → lv made ≡ depth_of path + 1) → (o : Option Ref) →
+    branch_by : (path : List Ref) (main : Ref) → PlaceLevel lv path main → nat_lt 0 (length path) ≡ true → S main →
+        ((made : Ref) → next_ref state.heap ≡ Some made → lv made ≡ depth_of path + 1) → (o : Option Ref) →
         next_ref state.heap ≡ o → L (renew_after_branch path main o)
     branch_by path main p long s f None e = tt
     branch_by path main p long s f (Some made) e = (swap_begun path main made p.0 long p.1 s (f made e) e, tt, p.0)
 
-    clean_by : (path : List Ref) (main : Ref) → PlaceLevel lv path main → nat_lt 0 (length path) ≡ true → S main → ((made : Ref) → next_ref state.heap ≡ Some made → lv made ≡ depth_of path + 1) → (o : Option Ref) →
+    clean_by : (path : List Ref) (main : Ref) → PlaceLevel lv path main → nat_lt 0 (length path) ≡ true → S main →
+        ((made : Ref) → next_ref state.heap ≡ Some made → lv made ≡ depth_of path + 1) → (o : Option Ref) →
         next_ref state.heap ≡ o → L (clean_after_contracted path main o)
     clean_by path main p long s f None e = tt
     clean_by path main p long s f (Some made) e = (swap_begun path main made p.0 long p.1 s (f made e) e, tt, tt)
@@ -327,7 +350,8 @@ module _ (lv : Ref → ℕ) (state : State) (operation : Operation) (S : Ref →
         key_entry_level lv state operation S N path main position (node_at state.heap (entry_at state.heap main position)) refl
         ((at_position S state.heap AnEntry position (branch_entries S state.heap H h.1.1.0) h.1.1.1.0).0) (fact_of h.1.0) e (at_level path main position h.1.1.0 h.1.1.1.0)
     line_level_next (line.Key (key.Listed path main position)) h e m = listed_level lv state operation S N path main position (node_at state.heap (entry_at state.heap main position)) e
-    line_level_next (line.Key (key.Sibling path main position former)) h e m = sibling_level lv state operation S N path main position former _ (node_at state.heap (entry_at state.heap main (1 - position))) e
+    line_level_next (line.Key (key.Sibling path main position former)) h e m =
+        sibling_level lv state operation S N path main position former _ (node_at state.heap (entry_at state.heap main (1 - position))) e
     line_level_next (line.Build l) h e m = build_next l h e m
     line_level_next (line.Swap why s) h e m =
         let its = first_hold S state.heap (swap_wants s) (purpose_wants why) h in
@@ -351,7 +375,8 @@ module _ (lv : Ref → ℕ) (state : State) (operation : Operation) (S : Ref →
     line_level_next (line.Climb (climb.Contracted c main)) h e m = climb_by c main e.0 (fact_of h.1.0) e.1 (safe_of h.1.1.1.0) (λ made n. m _ made refl n) (next_ref state.heap) refl
     line_level_next (line.Climb (climb.Root c l)) h e m = climb_root_level lv state operation S N c _ e.0 (root_next lv state operation S N W l h.1.1.1 e.1)
     line_level_next (line.Copy (copy.Read r l)) h e m = copy_read_level lv state operation S N r l.indirection _ e.0 e.1 (reads l.indirection l.line h.1 e.2)
-    line_level_next (line.Copy (copy.Successor r main)) h e m = copy_by (copy.Successor r main) (λ made n. successor_next operation.call r main made e.0 e.1 (m _ made refl n)) (next_ref state.heap) refl
+    line_level_next (line.Copy (copy.Successor r main)) h e m =
+        copy_by (copy.Successor r main) (λ made n. successor_next operation.call r main made e.0 e.1 (m _ made refl n)) (next_ref state.heap) refl
     line_level_next (line.Copy (copy.Second r main successor)) h e m =
         copy_by (copy.Second r main successor) (λ made n. (e.0, e.1, e.2, All-cons (λ x. lv x ≡ 1) made [] (m _ made refl n) (All-nil (λ x. lv x ≡ 1)))) (next_ref state.heap) refl
     line_level_next (line.Copy (copy.Empty r main)) h e m = copy_by (copy.Empty r main) (λ made n. (e.0, e.1, m _ made refl n)) (next_ref state.heap) refl

@@ -1,11 +1,14 @@
 -- The levels of paths: each indirection of one is a level below the one before.
 use Rattle.std.proofs.Common.{◌≡◌, ℕ, ◌+◌, ◌-◌, ◌<◌, true, nat_lt, List, [], ◌∷◌, ◌++◌, length, get_or, sym, ap, ◌∙◌, inl, inr, ltb-true, arith}
-use Rattle.std.proofs.lemmas.Bool.{cases_lt}
+use Rattle.std.proofs.lemmas.Bool.{cases_lt, false≢true}
 use Rattle.std.proofs.lemmas.List.{get_or-take, get_or_append_left, get_or_push, length-take-le, length-append}
 use Rattle.proof_memory.specs.Beneath.slot_arena.specs.declared.refs.Ref.{Ref}
 use Rattle.proof_memory.specs.Beneath.slot_arena.specs.Heaps.{no_ref}
 use Rattle.machine_model.specs.Paths.{current, above, depth_of}
-use Rattle.proof_memory.specs.Levels.{PathLevel}
+use Rattle.proof_memory.specs.Levels.{PathLevel, NodeLevel}
+use Rattle.proof_memory.specs.Beneath.slot_arena.specs.declared.nodes.Node.{Node}
+use Rattle.proof_memory.specs.Beneath.slot_arena.specs.declared.nodes.Node.TheVariants.{Single}
+use Rattle.proof_memory.specs.Wants.{meets, ASingle}
 
 module _ (lv : Ref → ℕ) where
   pub current_level : (path : List Ref) → PathLevel lv path → nat_lt 0 (length path) ≡ true → lv (current path) ≡ depth_of path + 1
@@ -24,3 +27,8 @@ module _ (lv : Ref → ℕ) where
     where
       at_end : k ≡ length path → lv (get_or (path ++ below ∷ []) k d) ≡ k + 1
       at_end is = ap lv (get_or_push path below d k (sym is)) ∙ e ∙ ap (λ n. n + 1) (sym is)
+
+-- a single's level is 0
+pub single_level_by : (lv : Ref → ℕ) (r : Ref) (node : Node) → meets ASingle node ≡ true → NodeLevel lv r node → lv r ≡ 0
+single_level_by lv r (Single k v) e n = n.1
+single_level_by lv r node e n = absurd (false≢true e)

@@ -100,13 +100,15 @@ module _ (lv : Ref → ℕ) (state : State) (I : IsSafe state) (s : Step) (steps
   given_later : (later : ℕ) (r : Ref) → (made_now state s ≡ Some r → ⊥) → cond (is_number r (made_now state s)) (level_now state s) later ≡ later
   given_later later r other = cond_both (is_number r (made_now state s)) _ _ (λ n. n ≡ later) (λ e. absurd (other (number_is r (made_now state s) e))) (λ e. refl)
 
-  agrees_by : (o : Outcome) (after : State) → Moves state s o after → ((r : Ref) → state.heap.births < birth_of r → lv r ≡ cond (is_number r (made_now state s)) (level_now state s) (levels_from after steps r)) →
+  agrees_by : (o : Outcome) (after : State) → Moves state s o after →
+      ((r : Ref) → state.heap.births < birth_of r → lv r ≡ cond (is_number r (made_now state s)) (level_now state s) (levels_from after steps r)) →
       GivesLevel lv state s × Agrees lv after steps
   agrees_by o after m agrees = (
     (λ actor operation node made is running n e.
         let its = made_is actor operation node made is running n e in
         agrees made (above made (drawn_birth state I made e)) ∙ given_here (levels_from after steps made) made its ∙ level_is actor operation is running),
-    (λ r high. agrees r (still_above r (births_grow _ _ _ _ _ _ ((step_effect state I s o after m).3)) high) ∙ given_later (levels_from after steps r) r (λ e. too_high r (births_made state I s o after m r e) high)),
+    (λ r high. agrees r (still_above r (births_grow _ _ _ _ _ _ ((step_effect state I s o after m).3)) high) ∙ given_later (levels_from after steps r) r
+        (λ e. too_high r (births_made state I s o after m r e) high)),
   )
     where
       above : (made : Ref) → birth_of made ≡ state.heap.births + 1 → state.heap.births < birth_of made
@@ -118,7 +120,8 @@ module _ (lv : Ref → ℕ) (state : State) (I : IsSafe state) (s : Step) (steps
       too_high : (r : Ref) → birth_of r ≤ after.heap.births → after.heap.births < birth_of r → ⊥
       too_high r x y = omega arith
 
-      made_is : (actor : ℕ) (operation : Operation) (node : Node) (made : Ref) → s ≡ step.Go actor → operation_of state actor ≡ Some operation → made_node state (action_of state operation) ≡ Some node →
+      made_is : (actor : ℕ) (operation : Operation) (node : Node) (made : Ref) → s ≡ step.Go actor → operation_of state actor ≡ Some operation →
+          made_node state (action_of state operation) ≡ Some node →
           next_ref state.heap ≡ Some made → made_now state s ≡ Some made
       made_is actor operation node made is running n e =
           ap (made_now state) is ∙ ap (made_by state) running ∙ ap (λ x. if_made x (next_ref state.heap)) n ∙ e
@@ -127,7 +130,8 @@ module _ (lv : Ref → ℕ) (state : State) (I : IsSafe state) (s : Step) (steps
       level_is actor operation is running = ap (level_now state) is ∙ ap level_by running
 
 -- what is kept by each step that gives what it makes its level
-module _ (lv : Ref → ℕ) (P : State → Type 0) (keeps : (state : State) → IsSafe state → P state → (s : Step) (o : Outcome) (after : State) → Moves state s o after → GivesLevel lv state s → P after) where
+module _ (lv : Ref → ℕ) (P : State → Type 0) (keeps : (state : State) → IsSafe state → P state → (s : Step) (o : Outcome) (after : State) → Moves state s o after →
+    GivesLevel lv state s → P after) where
   -- one more step, taken or denied
   kept_by : (X : State → Type 0) (state : State) → IsSafe state → P state → (s : Step) (steps : List Step) (answer : Answer) → MovesIfTaken state s answer →
       ((r : Ref) → state.heap.births < birth_of r → lv r ≡ given state s answer (levels_from (state_after state answer) steps r) r) →
@@ -219,4 +223,5 @@ levels_at_first limits ok steps = first_levels limits ok (levels_of limits steps
 
 pub has_levels : (limits : Limits) → AreLimits limits → (steps : List Step) → HasLevels (levels_of limits steps) (run limits steps)
 has_levels limits ok steps =
-    along_levels limits ok steps (HasLevels (levels_of limits steps)) (levels_at_first limits ok steps) (λ state I h s o after m gives. levels_after (levels_of limits steps) state I h s o after m gives)
+    along_levels limits ok steps (HasLevels (levels_of limits steps)) (levels_at_first limits ok steps)
+    (λ state I h s o after m gives. levels_after (levels_of limits steps) state I h s o after m gives)

@@ -1,5 +1,6 @@
 -- Nodes stand at their levels in every reachable state; so no operation comes to the impossible line.
-use Rattle.std.proofs.Common.{◌≡◌, ℕ, zero, suc, ◌+◌, ◌-◌, ◌<◌, ◌≤◌, true, false, nat_lt, List, map, length, get_or, Option, Some, None, refl, sym, ap, ◌∙◌, subst, ◌⊎◌, inl, inr, ltb-true, ltb-false, arith}
+use Rattle.std.proofs.Common.{◌≡◌, ℕ, zero, suc, ◌+◌, ◌-◌, ◌<◌, ◌≤◌, true, false, nat_lt, List, map, length, get_or, Option, Some, None, refl, sym, ap, ◌∙◌, subst, ◌⊎◌, inl, inr}
+use Rattle.std.proofs.Common.{ltb-true, ltb-false, arith}
 use Rattle.std.proofs.lemmas.Bool.{cases_eq, false≢true}
 use Rattle.std.proofs.lemmas.Option.{none-some, same_Some}
 use Rattle.std.proofs.lemmas.List.{length-take-le}
@@ -47,7 +48,7 @@ use Rattle.machine_model.specs.Grown.{standing}
 use Rattle.proof_memory.specs.Wants.{is_list, is_indirection, AllHold, line_wants}
 use Rattle.proof_memory.specs.Laws.{IsInUse}
 use Rattle.proof_memory.proofs.Claims.Uses.{safe_of, all_of, fact_of}
-use Rattle.proof_memory.proofs.Heap.Under.{node_under, fresh_slot, taken_all}
+use Rattle.proof_memory.proofs.Heap.Under.{fresh_slot, taken_all}
 use Rattle.proof_memory.proofs.Safety.EachStep.{each_after}
 use Rattle.proof_memory.specs.Making.{made_node}
 use Rattle.proof_memory.proofs.Safety.States.{IsSafe, stood_or_made, stands_in_use}
@@ -62,6 +63,7 @@ use Rattle.proof_memory.specs.Levels.{LineLevel, made_level}
 use Rattle.proof_memory.proofs.Levels.States.{HasLevels, GivesLevel, heaped_in_use, births_same, levels_after}
 use Rattle.proof_memory.proofs.Levels.Runs.{levels_of, levels_at, along_levels, levels_at_first, root_level, branch_level, old_level}
 use Rattle.proof_memory.proofs.Levels.Shapes.{ShapeAt, LineShape, ActionShape, line_shape_next, line_makes, deep_low}
+use Rattle.machine_model.proofs.Grown.{node_standing}
 
 pub record HasShapes (lv : Ref → ℕ) (state : State) : Type 0 where
   pub nodes : (r : Ref) (slot : Slot) → standing state.heap r ≡ Some slot → ShapeAt (list_depth state.limits.hash) (lv r) slot.node
@@ -111,10 +113,11 @@ module _ (lv : Ref → ℕ) (state : State) (I : IsSafe state) (h : HasLevels lv
   deep = list_depth state.limits.hash
 
   shape_under : (r : Ref) → IsInUse state.heap r → ShapeAt deep (lv r) (node_at state.heap r)
-  shape_under r u = subst (ShapeAt deep (lv r)) (sym (node_under state.heap r u.0 u.1)) (g.nodes r u.0 u.1)
+  shape_under r u = subst (ShapeAt deep (lv r)) (sym (node_standing state.heap r u.0 u.1)) (g.nodes r u.0 u.1)
 
   -- the node that a step makes is that of its action
-  gone_makes : (actor : ℕ) (operation : Operation) (k : ℕ) → get_or state.actors k None ≡ Some operation → (o : Option Node) → made_node state (action_of state operation) ≡ o → (node : Node) (made : Ref) →
+  gone_makes : (actor : ℕ) (operation : Operation) (k : ℕ) → get_or state.actors k None ≡ Some operation → (o : Option Node) →
+      made_node state (action_of state operation) ≡ o → (node : Node) (made : Ref) →
       next_ref state.heap ≡ Some made → standing state.heap made ≡ None → standing (settled state (gone state actor operation)).heap made ≡ Some (fresh_slot state.heap node) →
       made_node state (action_of state operation) ≡ Some node
   gone_makes actor operation k found (Some other) a node made e none new =
@@ -168,7 +171,8 @@ module _ (lv : Ref → ℕ) (state : State) (I : IsSafe state) (h : HasLevels lv
   nodes_shape : (s : Step) (o : Outcome) (after : State) → Moves state s o after → GivesLevel lv state s → (r : Ref) (slot : Slot) → standing after.heap r ≡ Some slot → ShapeAt deep (lv r) slot.node
   nodes_shape s o after m gives r slot e = by_move (standing_move state I s o after m)
     where
-      by_move : WordMove state (standing state.heap) (standing after.heap) ⊎ ((r : Ref) → (standing after.heap r ≡ standing state.heap r) ⊎ (standing after.heap r ≡ None)) → ShapeAt deep (lv r) slot.node
+      by_move : WordMove state (standing state.heap) (standing after.heap)
+          ⊎ ((r : Ref) → (standing after.heap r ≡ standing state.heap r) ⊎ (standing after.heap r ≡ None)) → ShapeAt deep (lv r) slot.node
       by_move (inl w) = slots_shape lv state deep (standing state.heap) (standing after.heap) (g.nodes) (fresh_shape s o after m gives) w r slot e
       by_move (inr goes) = elim (goes r) [ inl same ↦ g.nodes r slot (sym same ∙ e) | inr none ↦ absurd (none-some slot (sym none ∙ e)) ]
 
@@ -182,9 +186,11 @@ module _ (lv : Ref → ℕ) (state : State) (I : IsSafe state) (h : HasLevels lv
 
   lines_shape : (s : Step) (o : Outcome) (after : State) → Moves state s o after → (k : ℕ) (found : Operation) → get_or after.actors k None ≡ Some found → LineShape deep found.line
   lines_shape =
-      each_after state (λ k operation. get_or state.actors k None ≡ Some operation) (λ after k operation. LineShape deep operation.line) (λ k operation e. e) (λ actor call k own d. first_shape deep call)
+      each_after state (λ k operation. get_or state.actors k None ≡ Some operation) (λ after k operation. LineShape deep operation.line) (λ k operation e. e)
+      (λ actor call k own d. first_shape deep call)
       (λ actor operation k own is goes found. marked_shape _ (operation_after state operation)
-      (line_shape_next lv state operation (IsInUse state.heap) (heaped_in_use state I) shape_under operation.line (line_finds state I actor operation is) (h.lines k operation found) (g.lines k operation found)))
+      (line_shape_next lv state operation (IsInUse state.heap) (heaped_in_use state I) shape_under operation.line (line_finds state I actor operation is)
+      (h.lines k operation found) (g.lines k operation found)))
       (λ s o after m k other operation found e. marked_shape _ operation (g.lines k operation found))
 
   pub shapes_after : (s : Step) (o : Outcome) (after : State) → Moves state s o after → GivesLevel lv state s → HasShapes lv after
@@ -210,7 +216,8 @@ module _ (lv : Ref → ℕ) (state : State) (I : IsSafe state) (h : HasLevels lv
   tomb_at_root : (path : List Ref) (level : ℕ) → level ≡ depth_of path + 1 → nat_lt 1 (length path) ≡ false → 2 ≤ level → ⊥
   tomb_at_root path level e short two = let few : length path ≤ 1 = ltb-false 1 (length path) short in omega arith
 
-  list_as_parent : (path : List Ref) (last level : ℕ) → nat_lt 1 (length path) ≡ true → depth_of (above path) + 1 ≡ depth_of path → last ≡ depth_of path + 1 → last ≤ deep + 1 → level ≡ depth_of (above path) + 1 →
+  list_as_parent : (path : List Ref) (last level : ℕ) → nat_lt 1 (length path) ≡ true → depth_of (above path) + 1 ≡ depth_of path → last ≡ depth_of path + 1 →
+      last ≤ deep + 1 → level ≡ depth_of (above path) + 1 →
       level ≡ deep + 1 → ⊥
   list_as_parent path last level long above_is e high m list = omega arith
 
@@ -225,7 +232,8 @@ module _ (lv : Ref → ℕ) (state : State) (I : IsSafe state) (h : HasLevels lv
       let many : 1 < length x.path = ltb-true 1 (length x.path) long in
       let last = all_of c.0 (length x.path - 1) no_ref (omega arith) in
       list_as_parent x.path (lv (get_or x.path (length x.path - 1) no_ref)) (lv main) long (above_depth x.path long) (e.0 (length x.path - 1) no_ref (omega arith))
-      (indirection_high (lv (get_or x.path (length x.path - 1) no_ref)) (node_at state.heap (get_or x.path (length x.path - 1) no_ref)) last.1 (shape_under (get_or x.path (length x.path - 1) no_ref) last.0)) e.1
+      (indirection_high (lv (get_or x.path (length x.path - 1) no_ref)) (node_at state.heap (get_or x.path (length x.path - 1) no_ref)) last.1
+      (shape_under (get_or x.path (length x.path - 1) no_ref) last.0)) e.1
       (list_deep (lv main) (node_at state.heap main) s (shape_under main (safe_of c.1.1.1.0)))
   strange_by kind call access (line.Key (key.Read path r)) c e s = s
   strange_by kind call access (line.Key (key.Entry path main position)) c e s = s
@@ -284,6 +292,7 @@ none_impossible limits ok =
     let both = has_shapes limits ok steps in
     never_after (run limits steps) I (none_strange (levels_of limits steps) (run limits steps) I both.0 both.1) before s o after m)
 
-pub never_there : (limits : Limits) → AreLimits limits → (steps : List Step) (actor : ℕ) (operation : Operation) → operation_of (run limits steps) actor ≡ Some operation → operation.line ≡ line.Impossible → ⊥
+pub never_there : (limits : Limits) → AreLimits limits → (steps : List Step) (actor : ℕ) (operation : Operation) →
+    operation_of (run limits steps) actor ≡ Some operation → operation.line ≡ line.Impossible → ⊥
 never_there limits ok steps zero operation found e = none-some operation found
 never_there limits ok steps (suc k) operation found e = none_impossible limits ok steps k operation found (subst IsImpossible (sym e) tt)

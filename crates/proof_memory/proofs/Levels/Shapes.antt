@@ -1,6 +1,7 @@
 -- Which nodes stand at which levels: a tomb below the root's level, a list below all levels of a hash, branches above it, indirections no deeper than lists.
 -- So neither a tomb at a root nor a list as parent comes about.
-use Rattle.std.proofs.Common.{◌≡◌, ℕ, zero, suc, ◌+◌, ◌-◌, ◌<◌, ◌≤◌, ◌==◌, ◌&&◌, Bool, true, false, nat_lt, nat_le, List, [], ◌∷◌, length, Option, Some, None, refl, sym, ap, ◌∙◌, subst, ltb-true, eqb-true, arith}
+use Rattle.std.proofs.Common.{◌≡◌, ℕ, zero, suc, ◌+◌, ◌-◌, ◌<◌, ◌≤◌, ◌==◌, ◌&&◌, Bool, true, false, nat_lt, nat_le, List, [], ◌∷◌, length, Option, Some, None, refl, sym, ap, ◌∙◌}
+use Rattle.std.proofs.Common.{subst, ltb-true, eqb-true, arith}
 use Rattle.std.proofs.lemmas.Bool.{false≢true, cond_both, eqb-false, and_parts}
 use Rattle.proof_memory.specs.Beneath.ctrie_base.specs.declared.hashes.HashKind.{HashKind}
 use Rattle.proof_memory.specs.Beneath.ctrie_base.specs.declared.hashes.HashKind.TheVariants.{Low, Fold, Wide, Block}
@@ -219,7 +220,8 @@ module _ (lv : Ref → ℕ) (state : State) (operation : Operation) (S : Ref →
 
   -- ---- nodes for a change
 
-  single_shape : (path : List Ref) (main : Ref) (former : Option ℕ) (s : Site) (made : Ref) → AllHold S state.heap (site_wants main former s) → lv main ≡ depth_of path + 1 → L (after_single state operation path main former s made)
+  single_shape : (path : List Ref) (main : Ref) (former : Option ℕ) (s : Site) (made : Ref) → AllHold S state.heap (site_wants main former s) →
+      lv main ≡ depth_of path + 1 → L (after_single state operation path main former s made)
   single_shape path main former site.Absent made h e = tt
   single_shape path main former (site.At position) made h e = tt
   single_shape path main former (site.Beside position) made h e =
@@ -297,7 +299,8 @@ module _ (lv : Ref → ℕ) (state : State) (operation : Operation) (S : Ref →
   contracted_shape level true bitmap (x ∷ y ∷ es) low two = low
   contracted_shape level false bitmap es low two = low
 
-  changed_shape : (path : List Ref) (main : Ref) (flag : ℕ) (node : SlotNode) (c : Change) → meets BranchOrList node ≡ true → ShapeAt deep (lv main) node → lv main ≡ depth_of path + 1 → ChangeShape path c →
+  changed_shape : (path : List Ref) (main : Ref) (flag : ℕ) (node : SlotNode) (c : Change) → meets BranchOrList node ≡ true → ShapeAt deep (lv main) node →
+      lv main ≡ depth_of path + 1 → ChangeShape path c →
       ShapeAt deep (depth_of path + 1) (changed flag node c)
   changed_shape path main flag (Branch bitmap entries) (change.Insert single) b g e c = subst (λ l. l ≤ deep) e g
   changed_shape path main flag (Branch bitmap entries) (change.Update position entry) b g e c = subst (λ l. l ≤ deep) e g

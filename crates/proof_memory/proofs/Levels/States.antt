@@ -38,7 +38,7 @@ use Rattle.proof_memory.specs.Wants.{is_formed, AllHold, node_wants, prev_wants}
 use Rattle.proof_memory.specs.Laws.{IsInUse}
 use Rattle.proof_memory.proofs.Claims.Uses.{first_hold, last_hold}
 use Rattle.proof_memory.proofs.Claims.Nodes.{Heaped}
-use Rattle.proof_memory.proofs.Heap.Under.{node_under, prev_under, fresh_slot, taken_all}
+use Rattle.proof_memory.proofs.Heap.Under.{fresh_slot, taken_all, main_births}
 use Rattle.proof_memory.proofs.Safety.EachStep.{at_place}
 use Rattle.proof_memory.proofs.Safety.Base.{goes_no_end}
 use Rattle.proof_memory.specs.Making.{made_node}
@@ -50,6 +50,7 @@ use Rattle.proof_memory.proofs.Heap.Moves.{WordMove, keeps, makes, publishes, re
 use Rattle.proof_memory.specs.Levels.{InsideLevel, KindLevel, NodeLevel, PrevLevel, WordLevel, LineLevel, ActionLevel, made_level}
 use Rattle.proof_memory.proofs.Levels.Next.{line_level_acts, line_level_next}
 use Rattle.proof_memory.proofs.Heap.Effects.{births_prev}
+use Rattle.machine_model.proofs.Grown.{node_standing, prev_standing}
 
 pub record HasLevels (lv : Ref → ℕ) (state : State) : Type 0 where
   pub nodes : (r : Ref) (slot : Slot) → standing state.heap r ≡ Some slot → NodeLevel lv r slot.node × PrevLevel lv r slot.prev
@@ -145,10 +146,6 @@ if_births : (b : Bool) (changed same : Heap) → changed.births ≡ same.births 
 if_births true changed same e = e
 if_births false changed same e = refl
 
-main_births : (heap : Heap) (r m : Ref) → (with_main heap r m).births ≡ heap.births
-unfolding with_main
-main_births heap r m = refl
-
 decided_births : (heap : Heap) (main previous : Ref) (v : Verdict) → (decided heap main previous v).births ≡ heap.births
 decided_births heap main previous Commits = births_prev heap main prev.None
 decided_births heap main previous Fails = births_prev heap main (prev.Failed previous)
@@ -172,17 +169,17 @@ births_same state handle action e = refl
 
 pub heaped_in_use : (state : State) → IsSafe state → Heaped (IsInUse state.heap) state.heap
 heaped_in_use state I = record {
-  inside = λ r u. subst (λ node. AllHold (IsInUse state.heap) state.heap (node_wants node)) (sym (node_under state.heap r u.0 u.1))
+  inside = λ r u. subst (λ node. AllHold (IsInUse state.heap) state.heap (node_wants node)) (sym (node_standing state.heap r u.0 u.1))
       (first_hold (IsInUse state.heap) state.heap (node_wants u.0.node) (prev_wants u.0.prev) ((I.nodes r u.0 u.1).0));
-  formed = λ r u. ap is_formed (node_under state.heap r u.0 u.1) ∙ (I.nodes r u.0 u.1).1;
-  before = λ r u. subst (λ p. AllHold (IsInUse state.heap) state.heap (prev_wants p)) (sym (prev_under state.heap r u.0 u.1))
+  formed = λ r u. ap is_formed (node_standing state.heap r u.0 u.1) ∙ (I.nodes r u.0 u.1).1;
+  before = λ r u. subst (λ p. AllHold (IsInUse state.heap) state.heap (prev_wants p)) (sym (prev_standing state.heap r u.0 u.1))
       (last_hold (IsInUse state.heap) state.heap (node_wants u.0.node) (prev_wants u.0.prev) ((I.nodes r u.0 u.1).0));
 }
 
 module _ (lv : Ref → ℕ) (state : State) (I : IsSafe state) (h : HasLevels lv state) where
   pub level_under : (r : Ref) → IsInUse state.heap r → NodeLevel lv r (node_at state.heap r) × PrevLevel lv r (prev_at state.heap r)
   level_under r u =
-      (subst (NodeLevel lv r) (sym (node_under state.heap r u.0 u.1)) ((h.nodes r u.0 u.1).0), subst (PrevLevel lv r) (sym (prev_under state.heap r u.0 u.1)) ((h.nodes r u.0 u.1).1))
+      (subst (NodeLevel lv r) (sym (node_standing state.heap r u.0 u.1)) ((h.nodes r u.0 u.1).0), subst (PrevLevel lv r) (sym (prev_standing state.heap r u.0 u.1)) ((h.nodes r u.0 u.1).1))
 
   acts_level : (actor : ℕ) (operation : Operation) → operation_of state actor ≡ Some operation → ActionLevel lv (made_level operation.line) (action_of state operation)
   acts_level actor operation e =
@@ -204,7 +201,8 @@ module _ (lv : Ref → ℕ) (state : State) (I : IsSafe state) (h : HasLevels lv
   words_after : (s : Step) (o : Outcome) (after : State) → Moves state s o after → AllWords (WordLevel lv) after
   words_after s o after (Begins {actor} {call} d) = begin_words (WordLevel lv) state call (begun_operation state call).id (h.words)
   words_after s o after (Goes {actor} {operation} d is a g) =
-      put_words (WordLevel lv) _ (handle_of operation.call) (action_of state operation) (h.words) (puts_level lv (made_level operation.line) (action_of state operation) (acts_level actor operation is))
+      put_words (WordLevel lv) _ (handle_of operation.call) (action_of state operation) (h.words)
+      (puts_level lv (made_level operation.line) (action_of state operation) (acts_level actor operation is))
   words_after s o after (Ends d is a) = h.words
   words_after s o after (Sweeps spent) = h.words
 
@@ -228,7 +226,8 @@ module _ (lv : Ref → ℕ) (state : State) (I : IsSafe state) (h : HasLevels lv
       ∙ (taken_all state.limits.slots state.heap (I.sound.heap) (I.small) other made e).0 in
       let same : other ≡ node = ap (λ (x : Slot). x.node) (same_Some _ _ (sym stood ∙ new)) in
       subst (NodeLevel lv made) same
-      (made_slot lv made (made_level operation.line) other (gives actor operation other made refl is a e) (made_of lv state (made_level operation.line) (action_of state operation) other a (acts_level actor operation is)))
+      (made_slot lv made (made_level operation.line) other (gives actor operation other made refl is a e)
+      (made_of lv state (made_level operation.line) (action_of state operation) other a (acts_level actor operation is)))
   gone_made actor operation k is found gives None a node made e none new =
       elim (stood_or_made _ _ _ _ _ _ (gone_effect state I actor k operation found) made (fresh_slot state.heap node) new) [
         | inl stood ↦ absurd (none-some stood.0 (sym none ∙ stood.1))
@@ -261,7 +260,8 @@ module _ (lv : Ref → ℕ) (state : State) (I : IsSafe state) (h : HasLevels lv
   marked_level : (m : Option ℕ) (operation : Operation) → LineLevel lv operation.line → LineLevel lv (mark_one m operation).line
   marked_level m operation l = subst (λ (x : Operation). LineLevel lv x.line) (sym (mark_only m operation)) l
 
-  lines_after : (s : Step) (o : Outcome) (after : State) → Moves state s o after → GivesLevel lv state s → (k : ℕ) → Dec (IsOf (suc k) s) → (found : Operation) → get_or after.actors k None ≡ Some found →
+  lines_after : (s : Step) (o : Outcome) (after : State) → Moves state s o after → GivesLevel lv state s → (k : ℕ) → Dec (IsOf (suc k) s) → (found : Operation) →
+      get_or after.actors k None ≡ Some found →
       LineLevel lv found.line
   lines_after s o after m gives k (no other) found at_k =
       let (was, at_was, same) = of_others state s o after m k other found at_k in
@@ -271,10 +271,12 @@ module _ (lv : Ref → ℕ) (state : State) (I : IsSafe state) (h : HasLevels lv
   lines_after s o after (Goes {actor} {operation} d is a g) gives k (yes own) found at_k =
       let at_was = at_place state actor k operation own is in
       let goes_on : GoesOn (action_of state operation) = rw a g in
-      let is_open : is_some (root_at state (handle_of operation.call)) ≡ true = elim (or_cases _ _ (I.handles k operation at_was)) [ inl ends ↦ absurd (goes_no_end state operation operation.line goes_on ends) | inr opened ↦ opened ] in
+      let is_open : is_some (root_at state (handle_of operation.call)) ≡ true =
+      elim (or_cases _ _ (I.handles k operation at_was)) [ inl ends ↦ absurd (goes_no_end state operation operation.line goes_on ends) | inr opened ↦ opened ] in
       subst (λ (x : Operation). LineLevel lv x.line) (sym (of_itself state actor operation k own found at_k))
       (marked_level (marks_by state (Some operation)) (operation_after state operation)
-      (line_level_next lv state operation (IsInUse state.heap) (heaped_in_use state I) level_under (word_by (root_at state (handle_of operation.call)) (handle_of operation.call) refl is_open) older operation.line
+      (line_level_next lv state operation (IsInUse state.heap) (heaped_in_use state I) level_under
+      (word_by (root_at state (handle_of operation.call)) (handle_of operation.call) refl is_open) older operation.line
       (line_finds state I actor operation is) (h.lines k operation at_was) (λ node made m e. gives actor operation node made refl is m e)))
   lines_after s o after (Ends {actor} d is a) gives k (yes own) found at_k = absurd (of_end state actor k own found at_k)
   lines_after s o after (Sweeps spent) gives k (yes own) found at_k = absurd own

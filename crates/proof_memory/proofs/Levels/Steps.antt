@@ -52,8 +52,9 @@ use Rattle.machine_model.specs.Operations.{after_swap as line_after_swap}
 use Rattle.proof_memory.specs.Wants.{AnIndirection, ABranch, ASingle, meets, Is, Holds, AllHold, node_wants, read_wants, complete_wants, offer_wants, root_wants}
 use Rattle.proof_memory.proofs.Claims.Uses.{safe_of, meets_of, last_hold}
 use Rattle.proof_memory.proofs.Lines.Shared.{above_long}
-use Rattle.proof_memory.specs.Levels.{EntryLevel, KindLevel, NodeLevel, PrevLevel, OfferLevel, WordLevel, PairLevel, ReadLevel, CompleteLevel, RootLevel, PathLevel, PlaceLevel, SwapLineLevel, PurposeLevel, SwapLevel, DoneLevel, LineLevel}
-use Rattle.proof_memory.proofs.Levels.Paths.{current_level, above_level, pushed_level}
+use Rattle.proof_memory.specs.Levels.{EntryLevel, KindLevel, NodeLevel, PrevLevel, OfferLevel, WordLevel, PairLevel, ReadLevel, CompleteLevel, RootLevel, PathLevel, PlaceLevel}
+use Rattle.proof_memory.specs.Levels.{SwapLineLevel, PurposeLevel, SwapLevel, DoneLevel, LineLevel}
+use Rattle.proof_memory.proofs.Levels.Paths.{current_level, above_level, pushed_level, single_level_by}
 
 module _ (lv : Ref → ℕ) (state : State) (operation : Operation) (S : Ref → Type 0) (N : (r : Ref) → S r → NodeLevel lv r (node_at state.heap r) × PrevLevel lv r (prev_at state.heap r)) where
   abbrev pub L : Line → Type 0
@@ -68,13 +69,8 @@ module _ (lv : Ref → ℕ) (state : State) (operation : Operation) (S : Ref →
   pub main_level : (i : Ref) → Holds S state.heap (Is i AnIndirection) → lv (main_at state.heap i) ≡ lv i
   main_level i h = main_level_by i (node_at state.heap i) (meets_of h) ((N i (safe_of h)).0)
 
-  -- a single's level is 0
-  pub single_level_by : (r : Ref) (node : Node) → meets ASingle node ≡ true → NodeLevel lv r node → lv r ≡ 0
-  single_level_by r (Single k v) e n = n.1
-  single_level_by r node e n = absurd (false≢true e)
-
   pub single_level : (r : Ref) → Holds S state.heap (Is r ASingle) → lv r ≡ 0
-  single_level r h = single_level_by r (node_at state.heap r) (meets_of h) ((N r (safe_of h)).0)
+  single_level r h = single_level_by lv r (node_at state.heap r) (meets_of h) ((N r (safe_of h)).0)
 
   -- the entries of a branch
   pub branch_level_by : (main : Ref) (node : Node) → meets ABranch node ≡ true → NodeLevel lv main node → All (EntryLevel lv (lv main)) (entries_of node)
@@ -119,7 +115,8 @@ module _ (lv : Ref → ℕ) (state : State) (operation : Operation) (S : Ref →
   restore_next i previous false e = tt
 
   module _ (W : WordLevel lv (word_at state (handle_of operation.call))) where
-    pub read_next : (i : Ref) (l : ReadLine) → AllHold S state.heap (read_wants i l) → ReadLevel lv i l → AfterLevel i (read_after state.heap operation.access (word_at state (handle_of operation.call)) i l)
+    pub read_next : (i : Ref) (l : ReadLine) → AllHold S state.heap (read_wants i l) → ReadLevel lv i l →
+        AfterLevel i (read_after state.heap operation.access (word_at state (handle_of operation.call)) i l)
     read_next i read.Main h e = main_level i h.0
     read_next i (read.Prev main) h e = prev_next operation.access i main (prev_at state.heap main) ((N main (safe_of h.1.0)).1) e
     read_next i (read.AskRoot main previous) h e = ask_next i main previous (word_at state (handle_of operation.call)) W e
@@ -279,11 +276,13 @@ module _ (lv : Ref → ℕ) (state : State) (operation : Operation) (S : Ref →
   clean_entry_level path main done entry (Single k v) d h = clean_next_level path main (done ++ entry ∷ []) (more_done path main done entry d h)
   clean_entry_level path main done entry node d h = tt
 
-  pub child_level : (path : List Ref) (main : Ref) (done : List Ref) (i : Ref) (a : After ReadLine Ref) → DoneLevel lv path main done → AfterLevel i a → L (after_child path main done (at_indirection i a))
+  pub child_level : (path : List Ref) (main : Ref) (done : List Ref) (i : Ref) (a : After ReadLine Ref) → DoneLevel lv path main done → AfterLevel i a →
+      L (after_child path main done (at_indirection i a))
   child_level path main done i (Goes l) d h = (d, h)
   child_level path main done i (Gives child) d h = d
 
-  pub clean_tomb_level : (path : List Ref) (main : Ref) (done : List Ref) (node : Node) → AllHold S state.heap (node_wants node) → DoneLevel lv path main done → EntryLevel lv (depth_of path + 1) (next_entry state main done) →
+  pub clean_tomb_level : (path : List Ref) (main : Ref) (done : List Ref) (node : Node) → AllHold S state.heap (node_wants node) → DoneLevel lv path main done →
+      EntryLevel lv (depth_of path + 1) (next_entry state main done) →
       L (clean_after_tomb state path main done node)
   clean_tomb_level path main done (Tomb single) n d h = clean_next_level path main (done ++ single ∷ []) (more_done path main done single d (inl (single_level single n.0)))
   clean_tomb_level path main done node n d h = clean_next_level path main (done ++ next_entry state main done ∷ []) (more_done path main done (next_entry state main done) d h)

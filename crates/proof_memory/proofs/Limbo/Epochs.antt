@@ -1,5 +1,6 @@
 -- Limbo's epochs rise, and lie in the last three.
-use Rattle.std.proofs.Common.{◌≡◌, ℕ, ◌+◌, ◌<◌, ◌≤◌, ◌&&◌, Bool, cond, nat_le, List, [], ◌∷◌, ◌++◌, map, filter, length, get_or, All, Option, Some, None, refl, sym, ap, ◌∙◌, subst, ◌⊎◌, inl, inr, leb-false, arith}
+use Rattle.std.proofs.Common.{◌≡◌, ℕ, ◌+◌, ◌<◌, ◌≤◌, ◌&&◌, Bool, cond, nat_le, List, [], ◌∷◌, ◌++◌, map, filter, length, get_or, All, Option, Some, None, refl, sym, ap, ◌∙◌, subst}
+use Rattle.std.proofs.Common.{◌⊎◌, inl, inr, leb-false, arith}
 use Rattle.std.proofs.lemmas.Bool.{cond_both, cases_Bool}
 use Rattle.std.proofs.lemmas.Option.{none-some}
 use Rattle.std.proofs.lemmas.List.Elements.{All-nil, All-cons, All-head, All-tail, All-append, All-filter, All-map, All-weaker}
@@ -91,12 +92,14 @@ old_lie state now (inr (e, none)) h =
     lies : (z : Zeroed) → z.epoch ≤ state.epoch → state.epoch ≤ z.epoch + 1 → Lies now z
     lies z a b = (omega (arith, e), omega (arith, e))
 
-lies_after : (heap : Heap) (outside : List Ref) (now : ℕ) (limbo : List Zeroed) → IsRising limbo → All (Lies now) limbo → IsRising (limbo_after heap outside now limbo) × All (Lies now) (limbo_after heap outside now limbo)
+lies_after : (heap : Heap) (outside : List Ref) (now : ℕ) (limbo : List Zeroed) → IsRising limbo → All (Lies now) limbo →
+    IsRising (limbo_after heap outside now limbo) × All (Lies now) (limbo_after heap outside now limbo)
 lies_after heap outside now limbo rises all =
     let kept = filter (λ z. is_in_use heap z.at && is_zero heap outside z.at) limbo in
     let lie = All-filter (λ z. is_in_use heap z.at && is_zero heap outside z.at) (Lies now) limbo all in (
       rising_both now kept (newly_zero heap outside limbo) (rising_filter _ limbo rises) (All-weaker (Lies now) (λ z. z.epoch ≤ now) (λ z l. l.0) kept lie),
-      All-append (Lies now) kept (map (zeroed_now now) (newly_zero heap outside limbo)) lie (All-map (Lies now) (zeroed_now now) (newly_zero heap outside limbo) (λ k d within. (omega arith, omega arith))),
+      All-append (Lies now) kept (map (zeroed_now now) (newly_zero heap outside limbo)) lie
+          (All-map (Lies now) (zeroed_now now) (newly_zero heap outside limbo) (λ k d within. (omega arith, omega arith))),
     )
 
 lies_next : (state : State) (s : Step) (o : Outcome) (after : State) → Moves state s o after → LimboLies state → LimboLies after

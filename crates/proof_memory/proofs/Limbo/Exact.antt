@@ -1,5 +1,6 @@
 -- Limbo has exactly the slots in use to which nothing refers.
-use Rattle.std.proofs.Common.{◌≡◌, ℕ, zero, suc, ◌+◌, ◌==◌, ◌&&◌, ◌||◌, Bool, true, not, cond, nat_lt, List, [], ◌∷◌, ◌++◌, map, filter, get_or, All, Contains, Option, Some, None, refl, sym, ap, ◌∙◌, subst, ◌⊎◌, inl, inr, eqb-true, eq-eqb, arith}
+use Rattle.std.proofs.Common.{◌≡◌, ℕ, zero, suc, ◌+◌, ◌==◌, ◌&&◌, ◌||◌, Bool, true, not, cond, nat_lt, List, [], ◌∷◌, ◌++◌, map, filter, get_or, All, Contains, Option, Some, None}
+use Rattle.std.proofs.Common.{refl, sym, ap, ◌∙◌, subst, ◌⊎◌, inl, inr, eqb-true, eq-eqb, arith}
 use Rattle.std.specs.List.{list_any}
 use Rattle.std.proofs.lemmas.Bool.{cond_both, cases_Bool, or_cases, or_left, or_right, and_from, false≢true, not_from_false}
 use Rattle.std.proofs.lemmas.Option.{none-some, same_Some}
@@ -14,8 +15,8 @@ use Rattle.proof_memory.specs.Beneath.epochs.specs.Limbo.{is_zero, is_in, is_in_
 use Rattle.machine_model.specs.States.{State}
 use Rattle.machine_model.specs.Counting.{outside}
 use Rattle.proof_memory.specs.Laws.{IsInUse, IsZero}
-use Rattle.proof_memory.proofs.Heap.Under.{standing_parts}
 use Rattle.proof_memory.proofs.Safety.States.{IsSafe, stands_in_use}
+use Rattle.machine_model.proofs.Grown.{standing_parts}
 
 -- ---- membership by test
 

@@ -15,18 +15,15 @@ use Rattle.machine_model.specs.Machine.{is_busy}
 use Rattle.proof_memory.specs.Wants.{AMain, ASingle, is_indirection, is_main_node, meets, Is, Holds, AllHold, node_wants, prev_wants}
 use Rattle.proof_memory.specs.Laws.{IsInUse}
 use Rattle.proof_memory.proofs.Claims.Uses.{Meets, safe_of, meets_of, all_of, from_meets, first_hold, last_hold}
-use Rattle.proof_memory.proofs.Heap.Under.{node_under}
 use Rattle.proof_memory.proofs.Safety.States.{IsSafe}
 use Rattle.proof_memory.proofs.Limbo.Exact.{HasZeros}
 use Rattle.proof_memory.proofs.Safety.Standing.{none_contained}
 use Rattle.proof_memory.specs.Levels.{EntryLevel, NodeLevel, PrevLevel}
 use Rattle.proof_memory.proofs.Levels.States.{HasLevels}
 use Rattle.proof_memory.proofs.Limbo.Ranks.{IsMeasured, in_use_reached}
-
--- the one reference of a list
-only_one : (x r : Ref) → Contains (x ∷ []) r → x ≡ r
-only_one x r (zero, within, e) = e
-only_one x r (suc k, within, e) = absurd (omega arith)
+use Rattle.machine_model.proofs.Grown.{node_standing}
+use Rattle.machine_model.proofs.Basics.{only_one}
+use Rattle.proof_memory.proofs.Levels.Paths.{single_level_by}
 
 -- on one level an indirection comes first, and then its main nodes, the youngest first
 abbrev step_down : Bool → ℕ → ℕ
@@ -48,14 +45,10 @@ module _ (state : State) (I : IsSafe state) (lv : Ref → ℕ) (h : HasLevels lv
   leaf r = lv r == 0
 
   level_at : (r : Ref) → IsInUse state.heap r → NodeLevel lv r (node_at state.heap r)
-  level_at r (slot, found) = subst (NodeLevel lv r) (sym (node_under state.heap r slot found)) ((h.nodes r slot found).0)
-
-  single_by : (r : Ref) (node : Node) → meets ASingle node ≡ true → NodeLevel lv r node → lv r ≡ 0
-  single_by r (Single k v) e n = n.1
-  single_by r node e n = absurd (false≢true e)
+  level_at r (slot, found) = subst (NodeLevel lv r) (sym (node_standing state.heap r slot found)) ((h.nodes r slot found).0)
 
   single_zero : (r : Ref) → Holds (IsInUse state.heap) state.heap (Is r ASingle) → lv r ≡ 0
-  single_zero r c = single_by r (node_at state.heap r) (meets_of c) (level_at r (safe_of c))
+  single_zero r c = single_level_by lv r (node_at state.heap r) (meets_of c) (level_at r (safe_of c))
 
   main_by : (r : Ref) (node : Node) → is_main_node node ≡ true → NodeLevel lv r node → 1 ≤ lv r
   main_by r (Branch bitmap entries) e n = n.1
@@ -88,7 +81,8 @@ module _ (state : State) (I : IsSafe state) (lv : Ref → ℕ) (h : HasLevels lv
   node_inner q r (Tomb single) c n = n.1
   node_inner q r (Listed singles) c n = n.1
 
-  node_falls : (q r : Ref) (node : Node) → node_at state.heap q ≡ node → Contains (refs_of_node node) r → NodeLevel lv q node → AllHold (IsInUse state.heap) state.heap (node_wants node) → (lv r ≡ 0 → ⊥) →
+  node_falls : (q r : Ref) (node : Node) → node_at state.heap q ≡ node → Contains (refs_of_node node) r → NodeLevel lv q node →
+      AllHold (IsInUse state.heap) state.heap (node_wants node) → (lv r ≡ 0 → ⊥) →
       measure q < measure r
   node_falls q r (Indirection generation main) e c n w inner =
       let same = only_one main r c in
@@ -141,7 +135,7 @@ module _ (state : State) (I : IsSafe state) (lv : Ref → ℕ) (h : HasLevels lv
       | inr before ↦ prev_inner q r slot.prev before ((h.nodes q slot e).1) (last_hold (IsInUse state.heap) state.heap (node_wants slot.node) (prev_wants slot.prev) ((I.nodes q slot e).0))
     ]);
     falls = λ q r slot e c inner. elim (Contains-append_cases (refs_of_node slot.node) (refs_of_prev slot.prev) r c) [
-      | inl inside ↦ node_falls q r slot.node (node_under state.heap q slot e) inside ((h.nodes q slot e).0)
+      | inl inside ↦ node_falls q r slot.node (node_standing state.heap q slot e) inside ((h.nodes q slot e).0)
           (first_hold (IsInUse state.heap) state.heap (node_wants slot.node) (prev_wants slot.prev) ((I.nodes q slot e).0)) (eqb-false (lv r) 0 inner)
       | inr before ↦ prev_falls q r slot.prev (slot, e) before ((h.nodes q slot e).1) (last_hold (IsInUse state.heap) state.heap (node_wants slot.node) (prev_wants slot.prev) ((I.nodes q slot e).0))
     ];

@@ -1,5 +1,6 @@
 -- At rest, with limbo empty, each slot in use is reached, where some measure falls on the way up.
-use Rattle.std.proofs.Common.{◌≡◌, ℕ, zero, suc, ◌+◌, ◌^◌, ◌<◌, ◌==◌, Bool, true, false, cond, is_some, List, [], ◌∷◌, ◌++◌, map, flat_map, count_by, get_or, Contains, Option, Some, None, refl, sym, ap, ◌∙◌, subst, ◌⊎◌, inl, inr, ne_eqb, arith}
+use Rattle.std.proofs.Common.{◌≡◌, ℕ, zero, suc, ◌+◌, ◌^◌, ◌<◌, ◌==◌, Bool, true, false, cond, is_some, List, [], ◌∷◌, ◌++◌, map, flat_map, count_by, get_or, Contains, Option}
+use Rattle.std.proofs.Common.{Some, None, refl, sym, ap, ◌∙◌, subst, ◌⊎◌, inl, inr, ne_eqb, arith}
 use Rattle.std.specs.List.{list_any}
 use Rattle.std.proofs.lemmas.Bool.{cases_eq, true≢false, or_parts}
 use Rattle.std.proofs.lemmas.List.Elements.{Contains-append_right, Contains-append_cases}
@@ -18,10 +19,11 @@ use Rattle.machine_model.proofs.Rest.{one_if}
 use Rattle.machine_model.proofs.Found.{found_within}
 use Rattle.machine_model.specs.Grown.{standing}
 use Rattle.proof_memory.specs.Laws.{IsInUse}
-use Rattle.proof_memory.proofs.Heap.Under.{standing_parts, standing_from, slot_of-ref_to, birth_of-ref_to}
+use Rattle.proof_memory.proofs.Heap.Under.{standing_from, slot_of-ref_to, birth_of-ref_to}
 use Rattle.proof_memory.proofs.Safety.States.{IsSafe}
 use Rattle.proof_memory.proofs.Limbo.Exact.{HasZeros}
 use Rattle.proof_memory.proofs.Safety.Standing.{none_contained, in_root, in_any_slot}
+use Rattle.machine_model.proofs.Grown.{standing_parts}
 
 -- ---- what is counted stands somewhere
 

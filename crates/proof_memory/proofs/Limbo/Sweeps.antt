@@ -29,11 +29,11 @@ use Rattle.proof_memory.specs.Wants.{AnEntry, AllHold, node_wants, prev_wants, w
 use Rattle.proof_memory.specs.Laws.{IsInUse}
 use Rattle.proof_memory.proofs.Claims.Uses.{Meets, safe_of}
 use Rattle.proof_memory.proofs.Claims.Nodes.{Heaped, all_in}
-use Rattle.proof_memory.proofs.Heap.Under.{node_under, prev_under}
 use Rattle.proof_memory.proofs.Safety.Guards.{Safe}
 use Rattle.proof_memory.proofs.Safety.States.{IsSafe, heaped, open_word, stands_in_use}
 use Rattle.proof_memory.proofs.Safety.Steps.{step_carries}
 use Rattle.proof_memory.proofs.Heap.Moves.{sweep_goes}
+use Rattle.machine_model.proofs.Grown.{node_standing, prev_standing}
 
 -- two functions that agree on a list
 flat_map_same : {X : Type 0} (f g : Ref → List X) (rs : List Ref) → All (λ r. f r ≡ g r) rs → flat_map f rs ≡ flat_map g rs
@@ -45,10 +45,10 @@ flat_map_same f g (r ∷ rs) all =
 
 module _ (S : Ref → Type 0) (heap after : Heap) (used : (r : Ref) → S r → IsInUse heap r) (same : (r : Ref) → S r → standing after r ≡ standing heap r) (H : Heaped S heap) where
   same_node_at : (r : Ref) → S r → node_at after r ≡ node_at heap r
-  same_node_at r s = let (slot, found) = used r s in node_under after r slot (same r s ∙ found) ∙ sym (node_under heap r slot found)
+  same_node_at r s = let (slot, found) = used r s in node_standing after r slot (same r s ∙ found) ∙ sym (node_standing heap r slot found)
 
   same_prev_at : (r : Ref) → S r → prev_at after r ≡ prev_at heap r
-  same_prev_at r s = let (slot, found) = used r s in prev_under after r slot (same r s ∙ found) ∙ sym (prev_under heap r slot found)
+  same_prev_at r s = let (slot, found) = used r s in prev_standing after r slot (same r s ∙ found) ∙ sym (prev_standing heap r slot found)
 
   logical_safe : (m : Ref) (p : Prev) → S m → AllHold S heap (prev_wants p) → S (logical m p)
   logical_safe m prev.None s h = s
@@ -63,7 +63,8 @@ module _ (S : Ref → Type 0) (heap after : Heap) (used : (r : Ref) → S r → 
       let logical_same = ap (λ x. logical x (prev_at after x)) e ∙ ap (logical (main_at heap r)) (same_prev_at (main_at heap r) m) in
       ap (λ x. flat_map f (entries_of (node_at after x))) logical_same ∙ ap (λ n. flat_map f (entries_of n)) (same_node_at (logical_main heap r) here)
       ∙ flat_map_same f g (entries_of (node_at heap (logical_main heap r)))
-      (All-weaker (Meets S heap AnEntry) (λ q. f q ≡ g q) (λ q h. agree q h.0) (entries_of (node_at heap (logical_main heap r))) (all_in S heap (node_at heap (logical_main heap r)) (H.inside (logical_main heap r) here)))
+      (All-weaker (Meets S heap AnEntry) (λ q. f q ≡ g q) (λ q h. agree q h.0) (entries_of (node_at heap (logical_main heap r)))
+      (all_in S heap (node_at heap (logical_main heap r)) (H.inside (logical_main heap r) here)))
 
   pairs_by : (f g : Ref → List (ℕ × ℕ)) → ((r : Ref) → S r → f r ≡ g r) → (r : Ref) → (node : Node) → node_at heap r ≡ node → node_at after r ≡ node → AllHold S heap (node_wants node) →
       pairs_at f after r node ≡ pairs_at g heap r node

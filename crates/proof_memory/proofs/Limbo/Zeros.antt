@@ -1,5 +1,6 @@
 -- A slot of limbo has been referred to by nothing since a state of its epoch; so what is freed is zero for two epochs.
-use Rattle.std.proofs.Common.{◌≡◌, ℕ, ◌+◌, ◌≤◌, Bool, nat_le, List, [], ◌∷◌, ◌++◌, map, filter, All, Option, Some, None, Ok, Err, refl, sym, ap, ◌∙◌, subst, ◌⊎◌, inl, inr, append_assoc, append-nil, leb-true, arith}
+use Rattle.std.proofs.Common.{◌≡◌, ℕ, ◌+◌, ◌≤◌, Bool, nat_le, List, [], ◌∷◌, ◌++◌, map, filter, All, Option, Some, None, Ok, Err, refl, sym, ap, ◌∙◌, subst, ◌⊎◌, inl, inr}
+use Rattle.std.proofs.Common.{append_assoc, append-nil, leb-true, arith}
 use Rattle.std.proofs.lemmas.Bool.{cases_eq}
 use Rattle.std.proofs.lemmas.Option.{none-some, same_Some, cond_some}
 use Rattle.std.proofs.lemmas.List.{same_from_push}
@@ -68,8 +69,13 @@ module _ (limits : Limits) (steps : List Step) (s : Step) where
 
   -- it becomes so
   since_now : (z : Zeroed) → (run limits (steps ++ s ∷ [])).epoch ≡ z.epoch → IsZero (run limits (steps ++ s ∷ [])) z.at → ZeroSince limits (steps ++ s ∷ []) z
-  since_now z epoch now =
-      (steps ++ s ∷ [], [], sym (append-nil (steps ++ s ∷ [])), epoch, λ a b parts. subst (λ l. IsZero (run limits l) z.at) (sym (ap (λ l. (steps ++ s ∷ []) ++ l) (nothing a b parts) ∙ append-nil (steps ++ s ∷ []))) now)
+  since_now z epoch now = (
+    steps ++ s ∷ [],
+    [],
+    sym (append-nil (steps ++ s ∷ [])),
+    epoch,
+    λ a b parts. subst (λ l. IsZero (run limits l) z.at) (sym (ap (λ l. (steps ++ s ∷ []) ++ l) (nothing a b parts) ∙ append-nil (steps ++ s ∷ []))) now,
+  )
     where
       nothing : (a b : List Step) → [] ≡ a ++ b → a ≡ []
       nothing [] b e = refl
@@ -151,7 +157,8 @@ goes_due state I s o after m r (slot, found) gone = by_due (due_in state s) refl
       | inr other ↦ absurd (stays_if (λ is. other (same_Some _ _ (sym e ∙ is))))
     ]
 
-goes_by : (state : State) → IsSafe state → (s : Step) (answer : Answer) → MovesIfTaken state s answer → (r : Ref) → IsInUse state.heap r → (IsInUse (state_after state answer).heap r → ⊥) → due_in state s ≡ Some r
+goes_by : (state : State) → IsSafe state → (s : Step) (answer : Answer) → MovesIfTaken state s answer → (r : Ref) → IsInUse state.heap r →
+    (IsInUse (state_after state answer).heap r → ⊥) → due_in state s ≡ Some r
 goes_by state I s (Ok done) m r used gone = goes_due state I s done.0 done.1 m r used gone
 goes_by state I s (Err why) m r used gone = absurd (gone used)
 

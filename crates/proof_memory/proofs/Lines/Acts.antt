@@ -40,7 +40,8 @@ use Rattle.machine_model.specs.Cleaning.{leaves_single}
 use Rattle.machine_model.specs.Climbing.{place_in, climbed_node}
 use Rattle.machine_model.specs.Walking.{first_of}
 use Rattle.machine_model.specs.Operations.{line_action}
-use Rattle.proof_memory.specs.Wants.{Wanted, AnIndirection, AMain, ABranch, AnEntry, ASingle, WithEntry, WithFlag, meets, is_formed, Is, Each, Holds, is, so, AllHold, action_wants, line_wants, build_wants, swap_wants, swap_line_wants, purpose_wants, renew_wants, clean_wants, climb_wants, copy_wants, walk_wants}
+use Rattle.proof_memory.specs.Wants.{Wanted, AnIndirection, AMain, ABranch, AnEntry, ASingle, WithEntry, WithFlag, meets, is_formed, Is, Each, Holds, is, so, AllHold, action_wants}
+use Rattle.proof_memory.specs.Wants.{line_wants, build_wants, swap_wants, swap_line_wants, purpose_wants, renew_wants, clean_wants, climb_wants, copy_wants, walk_wants}
 use Rattle.proof_memory.proofs.Claims.Uses.{Meets, safe_of, meets_of, all_of, fact_of, entry_of, as_meets, first_hold}
 use Rattle.proof_memory.proofs.Claims.Nodes.{Heaped, branch_entries, at_position, single_entry}
 use Rattle.proof_memory.proofs.Lines.Read.{read_acts, complete_acts, root_acts}

@@ -25,12 +25,15 @@ use Rattle.machine_model.specs.States.{State, word_at}
 use Rattle.machine_model.specs.Paths.{above, is_below_root, flag_in, hash_in, depth_of}
 use Rattle.machine_model.specs.Reading.{read_step}
 use Rattle.machine_model.specs.Renewing.{renew_next}
-use Rattle.machine_model.specs.Finding.{key_action, key_after, absent, absent_beside, absent_listed, removing, found_so, key_after_read, after_tomb, key_after_main, is_passable, key_after_entry, after_listed, after_sibling}
-use Rattle.proof_memory.specs.Wants.{Wanted, AnIndirection, ABranch, AList, BranchOrList, TombOrList, AnEntry, ASingle, WithEntry, WithFlag, ToSpare, meets, is_formed, Is, Each, EntryIs, So, Holds, is, entry_is, so, AllHold, word_wants, read_wants, action_wants, listed, key_wants, line_wants}
+use Rattle.machine_model.specs.Finding.{key_action, key_after, absent, absent_beside, absent_listed, removing, found_so, key_after_read, after_tomb, key_after_main, is_passable}
+use Rattle.machine_model.specs.Finding.{key_after_entry, after_listed, after_sibling}
+use Rattle.proof_memory.specs.Wants.{Wanted, AnIndirection, ABranch, AList, BranchOrList, TombOrList, AnEntry, ASingle, WithEntry, WithFlag, ToSpare, meets, is_formed, Is, Each}
+use Rattle.proof_memory.specs.Wants.{EntryIs, So, Holds, is, entry_is, so, AllHold, word_wants, read_wants, action_wants, listed, key_wants, line_wants}
 use Rattle.proof_memory.proofs.Claims.Uses.{safe_of, meets_of, is_also, from_meets}
 use Rattle.proof_memory.proofs.Claims.Nodes.{Heaped, branch_entries, listed_entries, at_position, branch_both, list_both}
 use Rattle.proof_memory.proofs.Lines.Read.{step_wants, read_acts, read_next, indirection_next}
-use Rattle.proof_memory.proofs.Lines.Shared.{position_within, this, current_is, above_each, above_long, pushed_each, pushed_long, none_each, flag_spares, formed_ones, at_most, other_of_two, three, first_of_two}
+use Rattle.proof_memory.proofs.Lines.Shared.{position_within, this, current_is, above_each, above_long, pushed_each, pushed_long, none_each, flag_spares, formed_ones, at_most}
+use Rattle.proof_memory.proofs.Lines.Shared.{other_of_two, three, first_of_two}
 
 -- the call changes the map
 abbrev pub Changes : WhenFound → Type 0
@@ -110,7 +113,20 @@ module _ (state : State) (operation : Operation) (S : Ref → Type 0) (H : Heape
       At main (WithFlag (flag_in state operation path)) → Wants (removing state path main position value node)
   removing_branch path main position value (Branch bitmap entries) e p m f =
       cond_both (is_below_root path && (length entries.items == 2)) _ _ Wants
-      (λ two. (p.0, (p.1, (m, (this S state.heap (WithEntry (1 - position)) (Branch bitmap entries) (safe_of m) e (other_of_two position (length entries.items) (and_parts (is_below_root path) _ two).1), (f, tt))))))
+      (λ two. (
+        p.0,
+        (
+          p.1,
+          (
+            m,
+            (
+              this S state.heap (WithEntry (1 - position)) (Branch bitmap entries) (safe_of m) e
+                  (other_of_two position (length entries.items) (and_parts (is_below_root path) _ two).1),
+              (f, tt),
+            ),
+          ),
+        ),
+      ))
       (λ other. (p.0, (p.1, (is_also BranchOrList branch_both m, (is_also (ToSpare (flag_in state operation path)) (flag_spares (flag_in state operation path)) f, tt)))))
   removing_branch path main position value node e p m f = absurd (false≢true (sym (ap (meets ABranch) e) ∙ meets_of m))
 

@@ -46,13 +46,15 @@ use Rattle.machine_model.specs.Climbing.{climb_after, climb_after_contracted}
 use Rattle.machine_model.specs.Copying.{copy_after, copy_if_made, copy_after_made, after_successor}
 use Rattle.machine_model.specs.Walking.{walk_after}
 use Rattle.machine_model.specs.Operations.{line_action, line_after}
-use Rattle.proof_memory.specs.Wants.{Wanted, AnIndirection, AMain, ABranch, BranchOrList, AnEntry, ASingle, WithEntry, AtMost, meets, Claim, Is, Each, So, Holds, is, so, AllHold, word_wants, line_wants, build_wants, update_wants, renew_wants, clean_wants, climb_wants, climb_carries, copy_wants, walk_wants}
+use Rattle.proof_memory.specs.Wants.{Wanted, AnIndirection, AMain, ABranch, BranchOrList, AnEntry, ASingle, WithEntry, AtMost, meets, Claim, Is, Each, So, Holds, is, so, AllHold}
+use Rattle.proof_memory.specs.Wants.{word_wants, line_wants, build_wants, update_wants, renew_wants, clean_wants, climb_wants, climb_carries, copy_wants, walk_wants}
 use Rattle.proof_memory.proofs.Claims.Uses.{safe_of, meets_of, is_also, fact_of, carried, all_carried, Carries}
 use Rattle.proof_memory.proofs.Claims.Nodes.{Heaped, IsNoLink, branch_entries, at_position, branch_main, both_main, branch_both, main_no_link}
 use Rattle.proof_memory.proofs.Lines.Read.{root_next, complete_next}
 use Rattle.proof_memory.proofs.Lines.Shared.{current_is, above_each, above_long, none_each, pushed_each, at_most}
 use Rattle.proof_memory.proofs.Lines.Key.{step_next, key_next}
-use Rattle.proof_memory.proofs.Lines.Repair.{renew_entry_next, renew_read_next, clean_read_next, clean_main_next, clean_entry_next, child_next, clean_tomb_next, climb_read_next, climb_main_next, climb_root_next}
+use Rattle.proof_memory.proofs.Lines.Repair.{renew_entry_next, renew_read_next, clean_read_next, clean_main_next, clean_entry_next, child_next, clean_tomb_next, climb_read_next}
+use Rattle.proof_memory.proofs.Lines.Repair.{climb_main_next, climb_root_next}
 use Rattle.proof_memory.proofs.Lines.Others.{swap_next, root_line_next, copy_read_next, copy_offer_next, copy_complete_next, walk_read_next, walk_main_next, walk_entry_next, root_of_next}
 use Rattle.proof_memory.specs.Making.{made_node}
 
@@ -173,14 +175,16 @@ module _ (state : State) (operation : Operation) (S : Ref → Type 0) (H : Heape
   link_by path main done f None e = tt
   link_by path main done f (Some made) e = f made e
 
-  branch_by : (path : List Ref) (main : Ref) → Holds T after (Each path AnIndirection) → nat_lt 0 (length path) ≡ true → At main AMain → ((made : Ref) → next_ref state.heap ≡ Some made → At made AMain) →
+  branch_by : (path : List Ref) (main : Ref) → Holds T after (Each path AnIndirection) → nat_lt 0 (length path) ≡ true → At main AMain →
+      ((made : Ref) → next_ref state.heap ≡ Some made → At made AMain) →
       (o : Option Ref) → next_ref state.heap ≡ o → Wants (renew_after_branch path main o)
   branch_by path main p q m f None e = tt
   branch_by path main p q m f (Some made) e = (swap_begun path p q, (m, (f made e, (p, (so q, tt)))))
 
   -- ---- CLEAN and CLIMB
 
-  contracted_by : (path : List Ref) (main : Ref) → Holds T after (Each path AnIndirection) → nat_lt 0 (length path) ≡ true → At main AMain → ((made : Ref) → next_ref state.heap ≡ Some made → At made AMain) →
+  contracted_by : (path : List Ref) (main : Ref) → Holds T after (Each path AnIndirection) → nat_lt 0 (length path) ≡ true → At main AMain →
+      ((made : Ref) → next_ref state.heap ≡ Some made → At made AMain) →
       (o : Option Ref) → next_ref state.heap ≡ o → Wants (clean_after_contracted path main o)
   contracted_by path main p q m f None e = tt
   contracted_by path main p q m f (Some made) e = (swap_begun path p q, (m, (f made e, tt)))
@@ -245,7 +249,8 @@ module _ (state : State) (operation : Operation) (S : Ref → Type 0) (H : Heape
         contracted_by path main c.0 (fact_of c.1.0) (is_also AMain branch_main c.1.1.0)
         (λ made e. made_is AMain _ (fresh _ made refl e) (contracted_main _ _ done)) (next_ref state.heap) refl
 
-    climb_line_next : (l : ClimbLine) → AllHold S state.heap (climb_wants state.limits.hash operation.call l) → Fresh (line_action state operation (line.Climb l)) → Wants (climb_after state operation l)
+    climb_line_next : (l : ClimbLine) → AllHold S state.heap (climb_wants state.limits.hash operation.call l) → Fresh (line_action state operation (line.Climb l)) →
+        Wants (climb_after state operation l)
     climb_line_next (climb.Read c r) h fresh =
         carry (line_wants state.limits.hash operation.call operation.access (climb_after state operation (climb.Read c r)))
         (climb_read_next state operation S H c (read_step state operation r) (h.0, (h.1.0, (h.1.1.0, tt))) (step_next state operation S H fits W r h.1.1.1))

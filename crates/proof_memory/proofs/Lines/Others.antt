@@ -34,7 +34,8 @@ use Rattle.machine_model.specs.Copying.{copy_after_read, after_given, after_offe
 use Rattle.machine_model.specs.Walking.{walk_next, first_of, rest_of, walk_after_read, walk_after_entry}
 use Rattle.machine_model.specs.Operations.{from_root, after_root, after_update, climbed_on, swapped}
 use Rattle.machine_model.specs.Operations.{after_swap as line_after_swap}
-use Rattle.proof_memory.specs.Wants.{Wanted, AnIndirection, AMain, AnEntry, Claim, Is, Each, Holds, each, so, AllHold, node_wants, word_wants, swap_line_wants, swap_wants, purpose_wants, climb_carries, line_wants}
+use Rattle.proof_memory.specs.Wants.{Wanted, AnIndirection, AMain, AnEntry, Claim, Is, Each, Holds, each, so, AllHold, node_wants, word_wants, swap_line_wants, swap_wants}
+use Rattle.proof_memory.specs.Wants.{purpose_wants, climb_carries, line_wants}
 use Rattle.proof_memory.proofs.Claims.Uses.{Meets, safe_of, all_of, fact_of, both_hold, first_hold, last_hold}
 use Rattle.proof_memory.proofs.Claims.Nodes.{Heaped, main_entries}
 use Rattle.proof_memory.proofs.Lines.Read.{after_read_wants, step_wants, completed_wants, after_root_wants, read_next, offer_begun}

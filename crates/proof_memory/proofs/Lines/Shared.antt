@@ -1,5 +1,6 @@
 -- What several programs' lines share: paths, positions, and the lines to which several programs lead.
-use Rattle.std.proofs.Common.{◌≡◌, ℕ, ◌-◌, ◌^◌, ◌<◌, ◌≤◌, ◌==◌, ◌&&◌, Bool, true, false, not, nat_lt, nat_le, List, ◌∷◌, ◌++◌, length, sym, ap, ◌∙◌, ltb-true, lt-ltb, leb-true, ltb-false, eq-eqb, arith, []}
+use Rattle.std.proofs.Common.{◌≡◌, ℕ, ◌-◌, ◌^◌, ◌<◌, ◌≤◌, ◌==◌, ◌&&◌, Bool, true, false, not, nat_lt, nat_le, List, ◌∷◌, ◌++◌, length, sym, ap, ◌∙◌, ltb-true, lt-ltb, leb-true}
+use Rattle.std.proofs.Common.{ltb-false, eq-eqb, arith, []}
 use Rattle.std.specs.Prelude.{bit_and, count_ones}
 use Rattle.std.proofs.lemmas.Bool.{false≢true, and_parts, not_from_true, le-leb, eqb-true, eqb-false}
 use Rattle.std.proofs.lemmas.List.{length-append, length-take-le}

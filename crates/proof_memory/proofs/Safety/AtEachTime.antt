@@ -22,8 +22,3 @@ safe_along limits ok = along limits IsSafe (safe_at_first limits ok) (λ steps s
 -- after a step, be it taken or denied
 pub safe_next : (state : State) → IsSafe state → (s : Step) → IsSafe (next_state state s)
 safe_next state I s = kept_by_moves IsSafe state s I (λ o after m. safe_after state I s o after m)
-
--- a machine keeps its limits
-pub limits_along : (limits : Limits) (steps : List Step) → (run limits steps).limits ≡ limits
-unfolding first_state
-limits_along limits = along limits (λ state. state.limits ≡ limits) refl (λ steps s o after m e. limits_kept (run limits steps) s o after m ∙ e)

@@ -16,12 +16,11 @@ use Rattle.machine_model.specs.Grown.{node_under as grown_node}
 use Rattle.proof_memory.specs.Wants.{Wanted, meets, Is, Holds, AllHold, action_wants, line_wants}
 use Rattle.proof_memory.specs.Laws.{IsInUse}
 use Rattle.proof_memory.proofs.Claims.Uses.{Carries, all_carried, same_node, safe_of, meets_of}
-use Rattle.proof_memory.proofs.Heap.Under.{node_under, prev_under}
 use Rattle.proof_memory.proofs.Safety.Guards.{Safe}
 use Rattle.proof_memory.proofs.Safety.States.{IsSafe}
 use Rattle.proof_memory.proofs.Safety.Steps.{of_actor, step_claims}
 use Rattle.proof_memory.proofs.Safety.AtEachTime.{safe_at}
-use Rattle.proof_memory.proofs.Heap.Moves.{grown_in_use}
+use Rattle.machine_model.proofs.Grown.{node_standing, prev_standing, grown_in_use, node_grown, prev_grown}
 
 -- ---- in one safe state
 
@@ -33,7 +32,8 @@ module _ (state : State) (I : IsSafe state) where
   pub line_finds : (actor : ℕ) (operation : Operation) → operation_of state actor ≡ Some operation →
       AllHold (IsInUse state.heap) state.heap (line_wants state.limits.hash operation.call operation.access operation.line)
   line_finds actor operation e =
-      let (k, h) = of_actor state (λ k operation. AllHold (Safe state operation.epoch) state.heap (line_wants state.limits.hash operation.call operation.access operation.line)) (I.lines) actor operation e in
+      let (k, h) =
+      of_actor state (λ k operation. AllHold (Safe state operation.epoch) state.heap (line_wants state.limits.hash operation.call operation.access operation.line)) (I.lines) actor operation e in
       all_carried (Safe state operation.epoch) state.heap (IsInUse state.heap) state.heap (used_carries operation.epoch) _ h
 
   pub action_finds : (actor : ℕ) (operation : Operation) → operation_of state actor ≡ Some operation →
@@ -69,15 +69,15 @@ pub kind_at : (states : ℕ → State) (t : ℕ) (r : Ref) (wanted : Wanted) →
     (slot : Slot) × (grown states t r ≡ Some slot) × (meets wanted slot.node ≡ true)
 kind_at states t r wanted h =
     let (slot, found) = safe_of h in
-    (slot, grown_in_use states t r slot found, ap (meets wanted) (sym (node_under (states t).heap r slot found)) ∙ meets_of h)
+    (slot, grown_in_use states t r slot found, ap (meets wanted) (sym (node_standing (states t).heap r slot found)) ∙ meets_of h)
 
 -- a look-up of what is in use finds what stands in the heap that only grows
 module _ (states : ℕ → State) (t : ℕ) (r : Ref) (used : IsInUse (states t).heap r) where
   pub node_found : node_at (states t).heap r ≡ grown_node states t r
-  node_found = node_under (states t).heap r used.0 used.1 ∙ sym (ap node_of (grown_in_use states t r used.0 used.1))
+  node_found = node_grown states t r used.0 used.1
 
   pub prev_found : prev_at (states t).heap r ≡ prev_word states t r
-  prev_found = prev_under (states t).heap r used.0 used.1 ∙ sym (ap prev_of (grown_in_use states t r used.0 used.1))
+  prev_found = prev_grown states t r used.0 used.1
 
   pub main_found : main_at (states t).heap r ≡ main_word states t r
   main_found = ap main_of node_found

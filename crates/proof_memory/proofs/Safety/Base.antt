@@ -1,6 +1,7 @@
 -- What holds of operations whatever stands in memory: their handle is open until they end, a reader changes nothing, and their epoch is the present one or the one
 -- before it; the present one where the sweep has passed their actor.
-use Rattle.std.proofs.Common.{◌≡◌, ℕ, zero, suc, ◌+◌, ◌-◌, ◌<◌, ◌≤◌, ◌==◌, ◌||◌, Bool, true, false, cond, nat_le, is_some, List, ◌∷◌, map, length, get_or, set, Option, Some, None, refl, sym, ap, ◌∙◌, subst, inl, inr, eqb-true, eq-eqb, leb-false, arith, []}
+use Rattle.std.proofs.Common.{◌≡◌, ℕ, zero, suc, ◌+◌, ◌-◌, ◌<◌, ◌≤◌, ◌==◌, ◌||◌, Bool, true, false, cond, nat_le, is_some, List, ◌∷◌, map, length, get_or, set, Option, Some, None}
+use Rattle.std.proofs.Common.{refl, sym, ap, ◌∙◌, subst, inl, inr, eqb-true, eq-eqb, leb-false, arith, []}
 use Rattle.std.proofs.lemmas.Bool.{cases_eq, cases_lt, cases_Bool, false≢true, cond_both, or_left, or_right, or_cases}
 use Rattle.std.proofs.lemmas.Option.{none-some}
 use Rattle.std.proofs.Math.ListN.{get_or-map}
@@ -151,7 +152,8 @@ module _ (state : State) (all : (k : ℕ) (operation : Operation) → get_or sta
       rw (mark_only (marks_by state (Some operation)) (operation_after state operation))
       (or_right _ _ (acted_open _ (handle_of operation.call) (action_of state operation) (handle_of operation.call) (open_of operation (goes_no_end state operation operation.line g) h)))
 
-  kept_handle : (after : State) (operation : Operation) → ((handle : ℕ) → handle ≡ handle_of operation.call → IsOpen state handle → IsOpen after handle) → HasHandle state operation → HasHandle after operation
+  kept_handle : (after : State) (operation : Operation) → ((handle : ℕ) → handle ≡ handle_of operation.call → IsOpen state handle → IsOpen after handle) →
+      HasHandle state operation → HasHandle after operation
   kept_handle after operation keeps h = elim (or_cases _ _ h) [ inl e ↦ or_left _ _ e | inr e ↦ or_right _ _ (keeps (handle_of operation.call) refl e) ]
 
   other_handle : (s : Step) (o : Outcome) (after : State) → Moves state s o after → (k : ℕ) → (IsOf (suc k) s → ⊥) → (operation : Operation) → get_or state.actors k None ≡ Some operation →

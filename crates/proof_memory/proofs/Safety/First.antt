@@ -27,11 +27,12 @@ use Rattle.proof_memory.specs.Wants.{AnIndirection, AMain, meets, Is, Holds, is,
 use Rattle.proof_memory.specs.Laws.{SameNode, IsInUse}
 use Rattle.proof_memory.proofs.Claims.Uses.{Carries, all_carried}
 use Rattle.proof_memory.proofs.Lines.Shared.{none_each}
-use Rattle.proof_memory.proofs.Heap.Under.{node_under, taken_all, fresh_slot}
+use Rattle.proof_memory.proofs.Heap.Under.{taken_all, fresh_slot}
 use Rattle.proof_memory.proofs.Heap.Effects.{Effect, takes, stays}
 use Rattle.proof_memory.proofs.Safety.Guards.{counted, counted_in_slot, counted_in_root}
 use Rattle.proof_memory.proofs.Limbo.Exact.{HasZeros}
 use Rattle.proof_memory.proofs.Safety.States.{IsSafe, SlotHolds, slots_after, births_after}
+use Rattle.machine_model.proofs.Grown.{node_standing}
 
 -- what is known of a heap
 record IsRight (slots : ℕ) (heap : Heap) : Type 0 where
@@ -49,8 +50,8 @@ module _ (slots : ℕ) (small : slots ≤ 2 ^ 16) (heap : Heap) (h : IsRight slo
       let (was, found) = u in
       let (now, found_now, same) = stays _ _ _ _ _ None effect r was found (none-some r) in (
         (now, found_now),
-        subst (λ n. SameNode n (node_at (taken heap node) r)) (sym (node_under heap r was found))
-            (subst (λ n. SameNode was.node n) (sym (node_under (taken heap node) r now found_now)) same.0),
+        subst (λ n. SameNode n (node_at (taken heap node) r)) (sym (node_standing heap r was found))
+            (subst (λ n. SameNode was.node n) (sym (node_standing (taken heap node) r now found_now)) same.0),
       )
 
   right_taken : IsRight slots (taken heap node)
@@ -95,7 +96,7 @@ module _ (n : ℕ) (small : suc (suc n) ≤ 2 ^ 16) where
   branch_stands = (taken_all slots (empty_heap slots) (empty_adds_up slots) small empty_branch (ref_to 1 0) refl).0
 
   root_wants : AllHold (IsInUse one_taken) one_taken (action_wants (act.Make (Indirection 0 (ref_to 1 0))))
-  root_wants = (so refl, (is (fresh_slot (empty_heap slots) empty_branch, branch_stands) (ap (meets AMain) (node_under one_taken (ref_to 1 0) _ branch_stands)), tt))
+  root_wants = (so refl, (is (fresh_slot (empty_heap slots) empty_branch, branch_stands) (ap (meets AMain) (node_standing one_taken (ref_to 1 0) _ branch_stands)), tt))
 
   right_two : IsRight slots (first_heap slots)
   right_two = right_taken slots small one_taken right_one (Indirection 0 (ref_to 1 0)) root_wants
@@ -108,7 +109,7 @@ module _ (n : ℕ) (small : suc (suc n) ≤ 2 ^ 16) where
   root_stands = (taken_all slots one_taken (taken_kept slots (empty_heap slots) empty_branch (empty_adds_up slots)) small (Indirection 0 (ref_to 1 0)) (ref_to 2 1) second_ref).0
 
   root_right : Holds (IsInUse (first_heap slots)) (first_heap slots) (Is (ref_to 2 1) AnIndirection)
-  root_right = is (fresh_slot one_taken (Indirection 0 (ref_to 1 0)), root_stands) (ap (meets AnIndirection) (node_under (first_heap slots) (ref_to 2 1) _ root_stands))
+  root_right = is (fresh_slot one_taken (Indirection 0 (ref_to 1 0)), root_stands) (ap (meets AnIndirection) (node_standing (first_heap slots) (ref_to 2 1) _ root_stands))
 
 abbrev FirstIsRight : ℕ → Type 0
 FirstIsRight slots = IsRight slots (first_heap slots) × Holds (IsInUse (first_heap slots)) (first_heap slots) (Is (ref_to 2 1) AnIndirection)
@@ -145,6 +146,14 @@ safe_at_first limits ok =
       privates = λ k operation found. absurd (none_found limits.actors k operation found);
     }
 
+-- what stands under other references stood there before the two nodes were made
+one_other : (n : ℕ) (small : suc (suc n) ≤ 2 ^ 16) (r : Ref) → (r ≡ ref_to 2 1 → ⊥) → standing (first_heap (suc (suc n))) r ≡ standing (one_taken n small) r
+one_other n small = (taken_all (suc (suc n)) (one_taken n small) (taken_kept (suc (suc n)) (empty_heap (suc (suc n))) empty_branch (empty_adds_up (suc (suc n)))) small
+    (Indirection 0 (ref_to 1 0)) (ref_to 2 1) (second_ref n small)).2
+
+empty_other : (n : ℕ) (small : suc (suc n) ≤ 2 ^ 16) (r : Ref) → (r ≡ ref_to 1 0 → ⊥) → standing (one_taken n small) r ≡ standing (empty_heap (suc (suc n))) r
+empty_other n small = (taken_all (suc (suc n)) (empty_heap (suc (suc n))) (empty_adds_up (suc (suc n))) small empty_branch (ref_to 1 0) refl).2
+
 first_stands_in : (P : Ref → Slot → Type 0) (n : ℕ) → suc (suc n) ≤ 2 ^ 16 →
     ((birth : ℕ) → P (ref_to 2 1) (record { birth = birth; node = Indirection 0 (ref_to 1 0); prev = prev.None })) →
     ((birth : ℕ) → P (ref_to 1 0) (record { birth = birth; node = empty_branch; prev = prev.None })) →
@@ -154,20 +163,14 @@ first_stands_in P n small at_root at_branch r slot found = elim (cases_eq r (ref
       subst (λ q. P q slot) (sym is_root)
       (subst (P (ref_to 2 1)) (same_Some _ _ (sym (root_stands n small) ∙ ap (standing (first_heap (suc (suc n)))) (sym is_root) ∙ found)) (at_root ((one_taken n small).births + 1)))
   | inr other ↦
-      let before = sym (one_other r other) ∙ found in
+      let before = sym (one_other n small r other) ∙ found in
       elim (cases_eq r (ref_to 1 0)) [
         | inl is_branch ↦
             subst (λ q. P q slot) (sym is_branch)
             (subst (P (ref_to 1 0)) (same_Some _ _ (sym (branch_stands n small) ∙ ap (standing (one_taken n small)) (sym is_branch) ∙ before)) (at_branch ((empty_heap (suc (suc n))).births + 1)))
-        | inr another ↦ absurd (none_stands (suc (suc n)) r slot (sym (empty_other r another) ∙ before))
+        | inr another ↦ absurd (none_stands (suc (suc n)) r slot (sym (empty_other n small r another) ∙ before))
       ]
 ]
-  where
-    one_other : (r : Ref) → (r ≡ ref_to 2 1 → ⊥) → standing (first_heap (suc (suc n))) r ≡ standing (one_taken n small) r
-    one_other = (taken_all (suc (suc n)) (one_taken n small) (taken_kept (suc (suc n)) (empty_heap (suc (suc n))) empty_branch (empty_adds_up (suc (suc n)))) small (Indirection 0 (ref_to 1 0)) (ref_to 2 1) (second_ref n small)).2
-
-    empty_other : (r : Ref) → (r ≡ ref_to 1 0 → ⊥) → standing (one_taken n small) r ≡ standing (empty_heap (suc (suc n))) r
-    empty_other = (taken_all (suc (suc n)) (empty_heap (suc (suc n))) (empty_adds_up (suc (suc n))) small empty_branch (ref_to 1 0) refl).2
 
 -- ---- what stands at first
 
@@ -187,19 +190,13 @@ first_counted : (n : ℕ) → suc (suc n) ≤ 2 ^ 16 → (state : State) → sta
 first_counted n small state heap root word holds r (slot, found) = elim (cases_eq r (ref_to 2 1)) [
   | inl is_root ↦ counted_in_root state 0 r root word (subst (Contains (refs_of_root (Some root))) (sym is_root) holds)
   | inr other ↦
-      let before = sym (one_other r other) ∙ ap (λ h. standing h r) (sym heap) ∙ found in
+      let before = sym (one_other n small r other) ∙ ap (λ h. standing h r) (sym heap) ∙ found in
       elim (cases_eq r (ref_to 1 0)) [
         | inl is_branch ↦ counted_in_slot state (ref_to 2 1) r (fresh_slot (one_taken n small) (Indirection 0 (ref_to 1 0))) (ap (λ h. standing h (ref_to 2 1)) heap ∙ root_stands n small)
             (zero, omega arith, sym is_branch)
-        | inr another ↦ absurd (none_stands (suc (suc n)) r slot (sym (empty_other r another) ∙ before))
+        | inr another ↦ absurd (none_stands (suc (suc n)) r slot (sym (empty_other n small r another) ∙ before))
       ]
 ]
-  where
-    one_other : (r : Ref) → (r ≡ ref_to 2 1 → ⊥) → standing (first_heap (suc (suc n))) r ≡ standing (one_taken n small) r
-    one_other = (taken_all (suc (suc n)) (one_taken n small) (taken_kept (suc (suc n)) (empty_heap (suc (suc n))) empty_branch (empty_adds_up (suc (suc n)))) small (Indirection 0 (ref_to 1 0)) (ref_to 2 1) (second_ref n small)).2
-
-    empty_other : (r : Ref) → (r ≡ ref_to 1 0 → ⊥) → standing (one_taken n small) r ≡ standing (empty_heap (suc (suc n))) r
-    empty_other = (taken_all (suc (suc n)) (empty_heap (suc (suc n))) (empty_adds_up (suc (suc n))) small empty_branch (ref_to 1 0) refl).2
 
 first_counted_by : (slots : ℕ) → 2 ≤ slots → slots ≤ 2 ^ 16 → (state : State) → state.heap ≡ first_heap slots → (root : Root) → root_at state 0 ≡ Some root →
     Contains (refs_of_root (Some root)) (ref_to 2 1) → (r : Ref) → IsInUse state.heap r → Contains (heap_refs state.heap ++ outside state) r

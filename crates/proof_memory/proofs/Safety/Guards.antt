@@ -1,5 +1,6 @@
 -- What is safe for an operation: in use, and guarded, which is: wherever it stands in limbo, its count became zero in the operation's epoch or later.
-use Rattle.std.proofs.Common.{◌≡◌, ℕ, zero, suc, ◌<◌, ◌≤◌, ◌==◌, ◌&&◌, Bool, true, false, cond, not, List, [], ◌∷◌, ◌++◌, filter, flat_map, count_by, All, Contains, get_or, Option, Some, None, sym, ap, ◌∙◌, subst, eq-eqb, ne_eqb, arith}
+use Rattle.std.proofs.Common.{◌≡◌, ℕ, zero, suc, ◌<◌, ◌≤◌, ◌==◌, ◌&&◌, Bool, true, false, cond, not, List, [], ◌∷◌, ◌++◌, filter, flat_map, count_by, All, Contains, get_or, Option}
+use Rattle.std.proofs.Common.{Some, None, sym, ap, ◌∙◌, subst, eq-eqb, ne_eqb, arith}
 use Rattle.std.proofs.lemmas.Bool.{and_parts, false≢true}
 use Rattle.std.proofs.lemmas.Option.{none-some}
 use Rattle.std.proofs.lemmas.List.Elements.{All-append, All-filter, All-map, All-weaker, filter_passes, Contains-append_left, Contains-append_right}
@@ -18,7 +19,7 @@ use Rattle.machine_model.proofs.Rest.{one_if}
 use Rattle.machine_model.proofs.InUse.{by_birth_all}
 use Rattle.machine_model.specs.Grown.{standing}
 use Rattle.proof_memory.specs.Laws.{IsInUse}
-use Rattle.proof_memory.proofs.Heap.Under.{standing_parts}
+use Rattle.machine_model.proofs.Grown.{standing_parts}
 
 abbrev pub Guarded : List Zeroed → ℕ → Ref → Type 0
 Guarded limbo epoch r = All (λ z. z.at ≡ r → epoch ≤ z.epoch) limbo

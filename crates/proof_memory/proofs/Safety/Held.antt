@@ -104,10 +104,6 @@ module _ (state : State) (I : IsSafe state) (actor k : ℕ) (operation : Operati
 pub idle_before : (state : State) (actor : ℕ) (call : Call) → begin_denial state actor call ≡ None → operation_of state actor ≡ None
 idle_before state actor call d = grind arith
 
--- and is one
-pub begin_counts : (state : State) (actor : ℕ) (call : Call) → begin_denial state actor call ≡ None → 0 < actor
-begin_counts state actor call d = grind arith
-
 not_running : (state : State) (actor : ℕ) (call : Call) (k : ℕ) → actor ≡ suc k → begin_denial state actor call ≡ None → get_or state.actors k None ≡ None
 not_running state actor call k own d = sym (ap (λ a. operation_of state a) own) ∙ idle_before state actor call d
 
@@ -131,7 +127,8 @@ module _ (state : State) (I : IsSafe state) (k : ℕ) (refs : List Ref) (h : Hol
       All (Safe after found.epoch) (refs ++ got_of state (suc k) s)
   by_owner s o after m (no other) found at_k =
       let (was, at_was, same) = of_others state s o after m k other found at_k in
-      let kept = All-weaker (Safe state was.epoch) (Safe after was.epoch) (λ r x. (step_carries state I s o after m was.epoch (I.recent k was at_was).0 (I.recent k was at_was).1 r x).0) refs (h.safe was at_was) in
+      let kept = All-weaker (Safe state was.epoch) (Safe after was.epoch)
+      (λ r x. (step_carries state I s o after m was.epoch (I.recent k was at_was).0 (I.recent k was at_was).1 r x).0) refs (h.safe was at_was) in
       subst (λ (x : Operation). All (Safe after x.epoch) (refs ++ got_of state (suc k) s)) (sym (same ∙ mark_only (marks_in state s) was))
       (subst (λ got. All (Safe after was.epoch) (refs ++ got)) (sym (nothing_got s other)) (subst (All (Safe after was.epoch)) (sym (append-nil refs)) kept))
   by_owner s o after (Begins {actor} {call} d) (yes own) found at_k =
@@ -141,7 +138,8 @@ module _ (state : State) (I : IsSafe state) (k : ℕ) (refs : List Ref) (h : Hol
       let goes_on : GoesOn (action_of state operation) = rw a g in
       let kept = carried_all state I actor k operation at_was goes_on refs (h.safe operation at_was) in
       let got = got_safe state I actor k operation at_was goes_on (action_of state operation) refl (step_claims state I k operation at_was) in
-      subst (λ (x : Operation). All (Safe after x.epoch) (refs ++ got_of state (suc k) (step.Go actor))) (sym (of_itself state actor operation k own found at_k ∙ mark_only (marks_by state (Some operation)) _))
+      subst (λ (x : Operation). All (Safe after x.epoch) (refs ++ got_of state (suc k) (step.Go actor)))
+      (sym (of_itself state actor operation k own found at_k ∙ mark_only (marks_by state (Some operation)) _))
       (All-append (Safe after operation.epoch) refs _ kept
       (cond_both (actor == suc k && is_taken_step (next state (step.Go actor))) _ _ (All (Safe after operation.epoch))
       (λ e. subst (λ o. All (Safe after operation.epoch) (got_in state o)) (sym at_was) got) (λ e. All-nil (Safe after operation.epoch))))
@@ -169,7 +167,8 @@ held_by : (state : State) (I : IsSafe state) (k : ℕ) (refs : List Ref) → Hol
 held_by state I k refs h s (Ok done) e m = kept_while done.1 k (refs ++ got_of state (suc k) s) (operation_of done.1 (suc k)) refl (by_owner state I k refs h s done.0 done.1 m (is_of (suc k) s))
 held_by state I k refs h s (Err why) e m =
     kept_while state k (refs ++ got_of state (suc k) s) (operation_of state (suc k)) refl
-    (λ operation found. subst (λ got. All (Safe state operation.epoch) (refs ++ got)) (sym (denied_gives state k s why e)) (subst (All (Safe state operation.epoch)) (sym (append-nil refs)) (h.safe operation found)))
+    (λ operation found. subst (λ got. All (Safe state operation.epoch) (refs ++ got)) (sym (denied_gives state k s why e))
+    (subst (All (Safe state operation.epoch)) (sym (append-nil refs)) (h.safe operation found)))
 
 held_along : (steps : List Step) (state : State) → IsSafe state → (k : ℕ) (refs : List Ref) → HoldsSafe state k refs → HoldsSafe (run_from state steps) k (held_from state (suc k) refs steps)
 unfolding held_from run_from
@@ -202,4 +201,5 @@ held_in_use limits ok steps zero r c = none_contained (subst (λ rs. Contains rs
     none_contained : Contains [] r → IsInUse (run limits steps).heap r
     none_contained (i, within, at_i) = absurd (omega arith)
 held_in_use limits ok steps (suc k) r c =
-    in_use_by (run limits steps) k (held limits steps (suc k)) (held_along steps (first_state limits) (safe_at_first limits ok) k [] (first_holds limits k)) (operation_of (run limits steps) (suc k)) refl r c
+    in_use_by (run limits steps) k (held limits steps (suc k)) (held_along steps (first_state limits) (safe_at_first limits ok) k [] (first_holds limits k))
+    (operation_of (run limits steps) (suc k)) refl r c

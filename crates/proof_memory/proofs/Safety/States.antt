@@ -1,5 +1,6 @@
 -- Memory is safe: what is taken for a node of a kind is one, after every step. One invariant for nodes, root words, lines and private lists.
-use Rattle.std.proofs.Common.{◌≡◌, ℕ, ◌+◌, ◌^◌, ◌<◌, ◌≤◌, true, nat_le, is_some, List, [], ◌∷◌, ◌++◌, All, Contains, length, get_or, Option, Some, None, refl, sym, ap, ◌∙◌, subst, ◌⊎◌, inl, inr, leb-true, arith}
+use Rattle.std.proofs.Common.{◌≡◌, ℕ, ◌+◌, ◌^◌, ◌<◌, ◌≤◌, true, nat_le, is_some, List, [], ◌∷◌, ◌++◌, All, Contains, length, get_or, Option, Some, None, refl, sym, ap, ◌∙◌, subst}
+use Rattle.std.proofs.Common.{◌⊎◌, inl, inr, leb-true, arith}
 use Rattle.std.proofs.lemmas.Bool.{cases_eq, false≢true}
 use Rattle.std.proofs.lemmas.Option.{none-some, same_Some, cond_some}
 use Rattle.std.proofs.lemmas.List.Elements.{All-head, Contains-append_left, Contains-append_right, Contains-get_or}
@@ -28,11 +29,12 @@ use Rattle.proof_memory.specs.Wants.{AMain, is_formed, Claim, Is, So, Holds, All
 use Rattle.proof_memory.specs.Laws.{SameNode, IsInUse}
 use Rattle.proof_memory.proofs.Claims.Uses.{fact_of, safer, both_hold, first_hold, last_hold, Carries}
 use Rattle.proof_memory.proofs.Claims.Nodes.{Heaped}
-use Rattle.proof_memory.proofs.Heap.Under.{node_under, prev_under, standing_from, slot_of-ref_to, birth_of-ref_to}
+use Rattle.proof_memory.proofs.Heap.Under.{standing_from, slot_of-ref_to, birth_of-ref_to}
 use Rattle.proof_memory.proofs.Safety.Guards.{Guarded, Safe, AllZero, guarded_after, guarded_if_counted, counted_in_slot, counted_in_root, counted_in_private}
 use Rattle.proof_memory.proofs.Heap.Effects.{Effect, Keeps, Makes, Publishes, Restores, Decides, Frees, stays}
 use Rattle.proof_memory.proofs.Safety.Base.{IsRecent, HasHandle, Fits}
 use Rattle.proof_memory.proofs.Safety.Started.{KnowsRoot}
+use Rattle.machine_model.proofs.Grown.{node_standing, prev_standing}
 
 pub record IsSafe (state : State) : Type 0 where
   pub sound : IsSound state.limits.slots state
@@ -72,7 +74,8 @@ module _ (S T : Ref → Type 0) (heap : Heap) where
       let seconds = refs_of_option offer.second in (
         safer S T heap _ tt (λ r c. f r (Contains-append_left (offer.root ∷ []) (offer.expected ∷ offer.successor ∷ seconds) r c)) h.0,
         (
-          safer S T heap _ tt (λ r c. f r (Contains-append_right (offer.root ∷ []) (offer.expected ∷ offer.successor ∷ seconds) r (Contains-append_left (offer.expected ∷ []) (offer.successor ∷ seconds) r c))) h.1.0,
+          safer S T heap _ tt
+              (λ r c. f r (Contains-append_right (offer.root ∷ []) (offer.expected ∷ offer.successor ∷ seconds) r (Contains-append_left (offer.expected ∷ []) (offer.successor ∷ seconds) r c))) h.1.0,
           (
             safer S T heap _ tt (λ r c. f r (Contains-append_right (offer.root ∷ offer.expected ∷ []) (offer.successor ∷ seconds) r (Contains-append_left (offer.successor ∷ []) seconds r c))) h.1.1.0,
             (safer S T heap _ tt (λ r c. f r (Contains-append_right (offer.root ∷ offer.expected ∷ offer.successor ∷ []) seconds r c)) h.1.1.1.0, tt),
@@ -101,9 +104,9 @@ module _ (state : State) (I : IsSafe state) (epoch : ℕ) where
 
   pub heaped : Heaped (Safe state epoch) state.heap
   heaped = record {
-    inside = λ r s. subst (λ node. AllHold (Safe state epoch) state.heap (node_wants node)) (sym (node_under state.heap r s.used.0 s.used.1)) (node_in r s.used.0 s.used.1);
-    formed = λ r s. ap is_formed (node_under state.heap r s.used.0 s.used.1) ∙ (I.nodes r s.used.0 s.used.1).1;
-    before = λ r s. subst (λ p. AllHold (Safe state epoch) state.heap (prev_wants p)) (sym (prev_under state.heap r s.used.0 s.used.1)) (prev_in r s.used.0 s.used.1);
+    inside = λ r s. subst (λ node. AllHold (Safe state epoch) state.heap (node_wants node)) (sym (node_standing state.heap r s.used.0 s.used.1)) (node_in r s.used.0 s.used.1);
+    formed = λ r s. ap is_formed (node_standing state.heap r s.used.0 s.used.1) ∙ (I.nodes r s.used.0 s.used.1).1;
+    before = λ r s. subst (λ p. AllHold (Safe state epoch) state.heap (prev_wants p)) (sym (prev_standing state.heap r s.used.0 s.used.1)) (prev_in r s.used.0 s.used.1);
   }
 
   pub word_in : (handle : ℕ) (root : Root) → root_at state handle ≡ Some root → AllHold (Safe state epoch) state.heap (word_wants root.word)
@@ -120,7 +123,8 @@ module _ (state : State) (I : IsSafe state) (epoch : ℕ) where
 
   pub in_private : (k : ℕ) (operation : Operation) → get_or state.actors k None ≡ Some operation → All (Safe state epoch) operation.private
   in_private k operation e i d within =
-      safe_counted (get_or operation.private i d) (counted_in_private state k (get_or operation.private i d) operation e (Contains-get_or operation.private i d within)) (I.privates k operation e i d within)
+      safe_counted (get_or operation.private i d)
+      (counted_in_private state k (get_or operation.private i d) operation e (Contains-get_or operation.private i d within)) (I.privates k operation e i d within)
 
 -- ---- what a step carries over
 
@@ -160,12 +164,13 @@ module _ (state after : State) (epoch : ℕ) (low : epoch ≤ state.epoch) (high
       let (now, found_now, same) = stays C (standing state.heap) (standing after.heap) state.heap.births after.heap.births due effect r was found
       (λ is_due. ripe_old state.limbo state.epoch epoch r (is_ripe r is_due) (s.guarded) high) in (
         record { used = (now, found_now); guarded = guard_kept r (s.guarded) },
-        subst (λ n. SameNode n (node_at after.heap r)) (sym (node_under state.heap r was found))
-            (subst (λ n. SameNode was.node n) (sym (node_under after.heap r now found_now)) same.0),
+        subst (λ n. SameNode n (node_at after.heap r)) (sym (node_standing state.heap r was found))
+            (subst (λ n. SameNode was.node n) (sym (node_standing after.heap r now found_now)) same.0),
       )
 
   -- what is made is safe
-  pub made_safe : (sound : IsSound state.limits.slots state) → state.limits.slots ≤ 2 ^ 16 → (made : Ref) (slot : Slot) → standing state.heap made ≡ None → standing after.heap made ≡ Some slot → Safe after epoch made
+  pub made_safe : (sound : IsSound state.limits.slots state) → state.limits.slots ≤ 2 ^ 16 → (made : Ref) (slot : Slot) → standing state.heap made ≡ None →
+      standing after.heap made ≡ Some slot → Safe after epoch made
   made_safe sound small made slot none found =
       record { used = (slot, found); guarded = guard_kept made (λ k d within same. absurd (none_stands (get_or state.limbo k d).at same (sound.limbo k d within))) }
     where

@@ -38,7 +38,7 @@ use Rattle.machine_model.specs.Grown.{standing}
 use Rattle.proof_memory.specs.Wants.{is_formed, AllHold, node_wants, prev_wants, word_wants, action_wants, line_wants}
 use Rattle.proof_memory.specs.Laws.{IsInUse}
 use Rattle.proof_memory.proofs.Claims.Uses.{Carries, all_carried, both_hold}
-use Rattle.proof_memory.proofs.Heap.Under.{node_under, fresh_slot, taken_all}
+use Rattle.proof_memory.proofs.Heap.Under.{fresh_slot, taken_all}
 use Rattle.proof_memory.proofs.Safety.Guards.{Safe, zero_after, AllZero}
 use Rattle.proof_memory.proofs.Heap.Effects.{Effect, Does, same, same_as, frees, acted_effect}
 use Rattle.proof_memory.proofs.Safety.EachStep.{each_after}
@@ -49,6 +49,7 @@ use Rattle.proof_memory.proofs.Lines.Acts.{line_acts}
 use Rattle.proof_memory.proofs.Lines.Next.{line_next}
 use Rattle.proof_memory.specs.Making.{made_node}
 use Rattle.proof_memory.proofs.Safety.States.{IsSafe, heaped, word_in, open_word, in_private, node_in, prev_in, stands_in_use, carries, made_safe, used_of, slots_after, births_after}
+use Rattle.machine_model.proofs.Grown.{node_standing}
 
 -- ---- what a step does at its end
 
@@ -122,11 +123,13 @@ module _ (state : State) (I : IsSafe state) where
       (action_of state operation) (step_claims k operation e)
 
   sweep_effect : (pins : List (Option ℕ)) (due : Option Ref) → ripe state.epoch state.limbo ≡ due →
-      Effect (AllHold (Safe state state.epoch) state.heap) (standing state.heap) (standing (sweep_by pins (reclaimer_of state) due).1.heap) state.heap.births (sweep_by pins (reclaimer_of state) due).1.heap.births
+      Effect (AllHold (Safe state state.epoch) state.heap) (standing state.heap) (standing (sweep_by pins (reclaimer_of state) due).1.heap) state.heap.births
+      (sweep_by pins (reclaimer_of state) due).1.heap.births
       (ripe state.epoch state.limbo)
   sweep_effect pins None e =
       cond_both (nat_le state.cursor (length pins)) _ _ (λ (done : Swept × Reclaimer). Does (Safe state state.epoch) state.heap (ripe state.epoch state.limbo) (used_of state state.epoch) done.1.heap)
-      (λ b. same (Safe state state.epoch) state.heap (ripe state.epoch state.limbo) (used_of state state.epoch)) (λ b. same (Safe state state.epoch) state.heap (ripe state.epoch state.limbo) (used_of state state.epoch))
+      (λ b. same (Safe state state.epoch) state.heap (ripe state.epoch state.limbo) (used_of state state.epoch))
+      (λ b. same (Safe state state.epoch) state.heap (ripe state.epoch state.limbo) (used_of state state.epoch))
   sweep_effect pins (Some q) e =
       frees (Safe state state.epoch) state.heap (ripe state.epoch state.limbo) (used_of state state.epoch) q e
       (stands_in_use state.heap q (omega (arith, I.small, I.sound.heap.size)) (ripe_in_use (InUse state.heap) state.epoch state.limbo (I.sound.limbo) q e))
@@ -156,7 +159,8 @@ module _ (state : State) (I : IsSafe state) where
     nodes_after r slot h =
         let (epoch, low, high, effect) = step_effect s o after m in
         let (claims, formed) = slots_after (Safe state epoch) state.heap _ _ _ _ _ effect
-        (λ q was e. (both_hold (Safe state epoch) state.heap (node_wants was.node) (prev_wants was.prev) (node_in state I epoch q was e) (prev_in state I epoch q was e), (I.nodes q was e).1)) r slot h in
+        (λ q was e.
+        (both_hold (Safe state epoch) state.heap (node_wants was.node) (prev_wants was.prev) (node_in state I epoch q was e) (prev_in state I epoch q was e), (I.nodes q was e).1)) r slot h in
         (all_carried (Safe state epoch) state.heap (IsInUse after.heap) after.heap (used_carries epoch low high) (node_wants slot.node ++ prev_wants slot.prev) claims, formed)
 
   -- root words, where what they want is still said of the state before
@@ -164,7 +168,8 @@ module _ (state : State) (I : IsSafe state) where
   words_between s o after (Begins {actor} {call} d) =
       (state.epoch, omega arith, omega arith, begun_words (Safe state state.epoch) state.heap state call (begun_operation state call).id (word_in state I state.epoch))
   words_between s o after (Goes {actor} {operation} d is a g) =
-      let (k, recent) = of_actor state (λ k operation. IsRecent state k operation × (get_or state.actors k None ≡ Some operation)) (λ k operation e. (I.recent k operation e, e)) actor operation is in (
+      let (k, recent) = of_actor state (λ k operation. IsRecent state k operation × (get_or state.actors k None ≡ Some operation))
+      (λ k operation e. (I.recent k operation e, e)) actor operation is in (
         operation.epoch,
         recent.0.0,
         recent.0.1,
@@ -199,8 +204,9 @@ module _ (state : State) (I : IsSafe state) where
     made_fresh node made is e =
         let (here, none, others, birth) = taken_all state.limits.slots state.heap (I.sound.heap) (I.small) node made e in
         let stood = ap (λ heap. standing heap made) (made_heap _ (handle_of operation.call) (action_of state operation) node made is e) ∙ here in (
-          made_safe state next operation.epoch its_epoch.0 its_epoch.1 grows refl None (λ r e. absurd (none-some r e)) _ (gone_effect actor k operation found) (I.sound) (I.small) made (fresh_slot state.heap node) none stood,
-          node_under next.heap made (fresh_slot state.heap node) stood,
+          made_safe state next operation.epoch its_epoch.0 its_epoch.1 grows refl None (λ r e. absurd (none-some r e)) _ (gone_effect actor k operation found)
+              (I.sound) (I.small) made (fresh_slot state.heap node) none stood,
+          node_standing next.heap made (fresh_slot state.heap node) stood,
         )
 
     pub its_word : GoesOn (action_of state operation) → AllHold (Safe state operation.epoch) state.heap (word_wants (word_at state (handle_of operation.call)))
@@ -212,7 +218,8 @@ module _ (state : State) (I : IsSafe state) where
     gone_line : GoesOn (action_of state operation) →
         AllHold (Safe next operation.epoch) next.heap (line_wants state.limits.hash operation.call operation.access (line_after state operation operation.line))
     gone_line g =
-        line_next state operation (Safe state operation.epoch) (heaped state I operation.epoch) (Safe next operation.epoch) next.heap gone_carries (I.fits k operation found) (its_word g) operation.line
+        line_next state operation (Safe state operation.epoch) (heaped state I operation.epoch) (Safe next operation.epoch) next.heap gone_carries
+        (I.fits k operation found) (its_word g) operation.line
         (I.lines k operation found) made_fresh
 
     -- its private list
@@ -243,7 +250,8 @@ module _ (state : State) (I : IsSafe state) where
       get_or state.actors k None ≡ Some operation → Lines (settled state (gone state actor operation)) k (mark_one (marks_by state (Some operation)) (operation_after state operation))
   own_line actor operation k own is g found =
       rw (mark_only (marks_by state (Some operation)) (operation_after state operation))
-      (subst (λ (l : Limits). AllHold (Safe (settled state (gone state actor operation)) operation.epoch) (gone state actor operation).heap (line_wants l.hash operation.call operation.access (line_after state operation operation.line)))
+      (subst (λ (l : Limits). AllHold (Safe (settled state (gone state actor operation)) operation.epoch) (gone state actor operation).heap
+      (line_wants l.hash operation.call operation.access (line_after state operation operation.line)))
       (sym (acted_framed _ (handle_of operation.call) (action_of state operation)).limits) (gone_line actor k operation found g))
 
   other_line : (s : Step) (o : Outcome) (after : State) → Moves state s o after → (k : ℕ) → (IsOf (suc k) s → ⊥) → (operation : Operation) → get_or state.actors k None ≡ Some operation →
@@ -252,7 +260,8 @@ module _ (state : State) (I : IsSafe state) where
       rw (mark_only (marks_in state s) operation)
       (all_carried (Safe state operation.epoch) state.heap (Safe after operation.epoch) after.heap
       (step_carries s o after m operation.epoch (I.recent k operation found).0 (I.recent k operation found).1) _
-      (subst (λ (l : Limits). AllHold (Safe state operation.epoch) state.heap (line_wants l.hash operation.call operation.access operation.line)) (sym (limits_kept state s o after m)) (I.lines k operation found)))
+      (subst (λ (l : Limits). AllHold (Safe state operation.epoch) state.heap (line_wants l.hash operation.call operation.access operation.line))
+      (sym (limits_kept state s o after m)) (I.lines k operation found)))
 
   lines_after : (s : Step) (o : Outcome) (after : State) → Moves state s o after → (k : ℕ) (operation : Operation) → get_or after.actors k None ≡ Some operation → Lines after k operation
   lines_after = each_after state (λ k operation. get_or state.actors k None ≡ Some operation) Lines (λ k operation e. e) begun_line own_line other_line

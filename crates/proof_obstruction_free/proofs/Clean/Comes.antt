@@ -1,5 +1,6 @@
 -- CLEAN from an entry, where one actor alone takes steps: it comes to a new try, or to the SWAP of a main node in which tombs gave way to their singles.
-use Rattle.std.proofs.Common.{◌≡◌, ℕ, zero, suc, ◌+◌, ◌*◌, ◌<◌, ◌≤◌, ◌⊎◌, inl, inr, Bool, true, false, cond, nat_eq, List, ◌∷◌, ◌++◌, length, slice_index_or, Option, refl, sym, ap, subst, ◌∙◌, arith, []}
+use Rattle.std.proofs.Common.{◌≡◌, ℕ, zero, suc, ◌+◌, ◌*◌, ◌<◌, ◌≤◌, ◌⊎◌, inl, inr, Bool, true, false, cond, nat_eq, List, ◌∷◌, ◌++◌, length, slice_index_or, Option, refl, sym, ap}
+use Rattle.std.proofs.Common.{subst, ◌∙◌, arith, []}
 use Rattle.std.specs.Cmp.Lexicographic.{pointwise, same_text}
 use Rattle.std.proofs.lemmas.Bool.{cases_lt, lt-ltb, le-ltb}
 use Rattle.std.proofs.lemmas.List.{length-append, get_or_append_left, get_or_push}
@@ -91,7 +92,8 @@ module _ (a : Lone) (steps : Stepping a) (weight : ℕ → ℕ) (c : ℕ) (heavy
             each = λ k low high. elim (cases_lt (length done) k) [
               | inl past ↦ r.to.each k (omega (arith, size, past)) high
               | inr up ↦ (let same : length done ≡ k = omega (arith, low, up) in
-                  subst (λ n. IsCleaned a u (slice_index_or entries n no_ref) (slice_index_or r.to.done n no_ref)) same (subst (IsCleaned a u (slice_index_or entries (length done) no_ref)) (sym at_x) cleaned))
+                  subst (λ n. IsCleaned a u (slice_index_or entries n no_ref) (slice_index_or r.to.done n no_ref)) same
+                  (subst (IsCleaned a u (slice_index_or entries (length done) no_ref)) (sym at_x) cleaned))
             ];
             so = r.to.so;
             keeps = on.keeps;

@@ -62,7 +62,8 @@ module _ (a : Lone) (steps : Stepping a) (g : Option ℕ) (path : List Ref) (mai
     other : (n : Node) → node_at (a.states t).heap main ≡ n → (is_branch n ≡ true → ⊥) → is_branch (node a main) ≡ true → ⊥
     other n e wrong is = wrong (ap is_branch (sym e ∙ found) ∙ is)
 
-    by_node : (n : Node) → node_at (a.states t).heap main ≡ n → Stands a (suc t) g (clean_after_main (a.states t) path main n) → Begins (suc t) ⊎ ((is_branch (node a main) ≡ true → ⊥) × Stands a (suc t) g new_try)
+    by_node : (n : Node) → node_at (a.states t).heap main ≡ n → Stands a (suc t) g (clean_after_main (a.states t) path main n) →
+        Begins (suc t) ⊎ ((is_branch (node a main) ≡ true → ⊥) × Stands a (suc t) g new_try)
     by_node (Branch b es) e stands = inl (record {
       branch = ap is_branch (sym found ∙ e);
       stands = subst (Stands a (suc t) g) (ap (λ n. clean_line (entries_of n) path main []) found) stands;

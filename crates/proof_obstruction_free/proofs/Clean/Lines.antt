@@ -155,7 +155,8 @@ module _ (a : Lone) (steps : Stepping a) (g : Option ℕ) (path : List Ref) (mai
     kept_settles n e no_tomb h u within keeps =
         ((λ m other k tomb. absurd (no_tomb other (sym e ∙ child_is ∙ ap (node a) (sym (still h u keeps m k)) ∙ tomb))), inl (entry_same t passes_found.branch))
 
-    keeps_it : (n : Node) → node_at (a.states t).heap child ≡ n → ((single : Ref) → n ≡ Tomb single → ⊥) → Stands a (suc t) g (clean_next (a.states t) path main (done ++ next_entry (a.states t) main done ∷ [])) →
+    keeps_it : (n : Node) → node_at (a.states t).heap child ≡ n → ((single : Ref) → n ≡ Tomb single → ⊥) →
+        Stands a (suc t) g (clean_next (a.states t) path main (done ++ next_entry (a.states t) main done ∷ [])) →
         Passed t child
     keeps_it n e no_tomb stands = record {
       put = next_entry (a.states t) main done;

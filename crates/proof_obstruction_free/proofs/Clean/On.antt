@@ -45,7 +45,8 @@ module _ (a : Lone) (steps : Stepping a) (weight : ℕ → ℕ) (c : ℕ) (heavy
       by_so (inr y) = swap_on main x.to.done u y
 
   -- with so many entries left
-  from_it : (n left : ℕ) (main : Ref) (done : List Ref) (t : ℕ) → left ≤ n → Within a weight (Cleans a steps weight c heavy machines g path main done t) (left * (c + 2) + 2) t → WithinOn (n * (c + 2) + 12) t
+  from_it : (n left : ℕ) (main : Ref) (done : List Ref) (t : ℕ) → left ≤ n → Within a weight (Cleans a steps weight c heavy machines g path main done t)
+      (left * (c + 2) + 2) t → WithinOn (n * (c + 2) + 12) t
   from_it n left main done t few first =
       let low : left * (c + 2) ≤ n * (c + 2) = mul-le left (c + 2) n (c + 2) few (omega arith) in
       weaken a weight Anew (left * (c + 2) + 2 + 10) (n * (c + 2) + 12) t (omega (arith, low))

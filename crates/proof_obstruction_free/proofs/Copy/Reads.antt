@@ -129,7 +129,9 @@ module _ (a : Lone) (steps : Stepping a) (writable : a.own.access ≡ Writable) 
 
   prev_by : (u : ℕ) (m : Ref) → u + 3 ≤ a.last → Stands a u g (wrap (read.Prev m)) → (v : Prev) → Sees a u i m v → IsPlain a u i → Given u 3
   prev_by u m room s over.None sees plain = longer u 1 3 (omega arith) (finds_decided u (omega (arith, room)) m s sees)
-  prev_by u m room s (over.Failed q) sees plain = longer u 2 3 (omega arith) (behind u (omega (arith, room)) l s 1 (puts_back (suc u) (omega (arith, room)) m q x.stands (sees_on u (omega (arith, room)) m (over.Failed q) (prev_leaves a u i m _ x.turn) sees)))
+  prev_by u m room s (over.Failed q) sees plain =
+      longer u 2 3 (omega arith)
+      (behind u (omega (arith, room)) l s 1 (puts_back (suc u) (omega (arith, room)) m q x.stands (sees_on u (omega (arith, room)) m (over.Failed q) (prev_leaves a u i m _ x.turn) sees)))
     where
       l : ReadLine
       l = read.Prev m

@@ -28,10 +28,12 @@ use Rattle.proof_obstruction_free.proofs.Inherited.Onward.{from, level}
 use Rattle.proof_obstruction_free.proofs.Inherited.Renewal.{IsRenewed, IsTried, renews_level}
 use Rattle.proof_obstruction_free.proofs.Inherited.Tombs.{tomb_first}
 
-module _ (a : Lone) (weight : ℕ → ℕ) (c : ℕ) (heavy : IsWeight a weight) (steps : Stepping a) (machines : Machines a weight c) (writes : a.own.access ≡ Writable) (few : FewEntries a) (renewing : RenewsFrom a weight c) (bottom : BottomEnds a weight c)
+module _ (a : Lone) (weight : ℕ → ℕ) (c : ℕ) (heavy : IsWeight a weight) (steps : Stepping a) (machines : Machines a weight c) (writes : a.own.access ≡ Writable)
+    (few : FewEntries a) (renewing : RenewsFrom a weight c) (bottom : BottomEnds a weight c)
     (known : PassKnown a weight c) (tombs : (to : List Ref) (r m : Ref) (u h : ℕ) → length to ≤ 13 + 1 → AtEnd a r h to m u → Within a weight (λ v. ⊥) (tombs_most c 13) u)
     (fresh : (u h : ℕ) → Stands a u (Some h) new_try → Within a weight (λ v. ⊥) (fresh_most c) u)
-    (stale_bottom : (path : List Ref) (main : Ref) (u h : ℕ) → Stands a u (Some h) (line.Key (key.Main path main)) → IsEnd a (depth_of path) main → Within a weight (Tries a weight c (Some h)) (stale_bottom_most c) u) where
+    (stale_bottom : (path : List Ref) (main : Ref) (u h : ℕ) → Stands a u (Some h) (line.Key (key.Main path main)) → IsEnd a (depth_of path) main →
+    Within a weight (Tries a weight c (Some h)) (stale_bottom_most c) u) where
   abbrev W : (ℕ → Type 0) → ℕ → ℕ → Type 0
   W = Within a weight
 
@@ -43,7 +45,8 @@ module _ (a : Lone) (weight : ℕ → ℕ) (c : ℕ) (heavy : IsWeight a weight)
   abbrev m : ℕ
   m = 13 * level_most c + (46 * (c + 2) + 10 + tombs_most c 13)
 
-  below_first : (path : List Ref) (r : Ref) (t g j : ℕ) → length path ≡ j + 2 → Stands a t (Some g) (line.Key (key.Read path (reading (current path)))) → IsCurrent a t r (Some g) → Linked a j t g path → W Never (once_most c) t
+  below_first : (path : List Ref) (r : Ref) (t g j : ℕ) → length path ≡ j + 2 → Stands a t (Some g) (line.Key (key.Read path (reading (current path)))) →
+      IsCurrent a t r (Some g) → Linked a j t g path → W Never (once_most c) t
   below_first path r t g j size s x linked =
       weaken a weight Never (level_most c + m) (once_most c) t (omega arith)
       (level a weight c heavy steps machines writes few renewing bottom known tombs fresh path r g j m (omega (arith, size)) (omega arith)
@@ -52,7 +55,8 @@ module _ (a : Lone) (weight : ℕ → ℕ) (c : ℕ) (heavy : IsWeight a weight)
       (λ u below next root links.
       let len = length-append path (below ∷ []) in
       weaken a weight Never (suc (12 - j) * level_most c + (46 * (c + 2) + 10 + tombs_most c 13)) m u (few_left (mul-le-mul_right (level_most c) low))
-      (from a weight c heavy steps machines writes few renewing bottom known tombs fresh (12 - j) (path ++ below ∷ []) r u g j (omega (arith, size, len, short)) (omega (arith, size, len)) next root links)) t s x linked)
+      (from a weight c heavy steps machines writes few renewing bottom known tombs fresh (12 - j) (path ++ below ∷ []) r u g j (omega (arith, size, len, short))
+      (omega (arith, size, len)) next root links)) t s x linked)
     where
       short : length path ≤ 14
       short = short_way a t (Some g) (line.Key (key.Read path (reading (current path)))) s
@@ -82,22 +86,27 @@ module _ (a : Lone) (weight : ℕ → ℕ) (c : ℕ) (heavy : IsWeight a weight)
   abbrev From : ℕ → Type 0
   From n = (path : List Ref) (t g : ℕ) → length path + n ≡ 15 → Stands a t (Some g) (line.Key (key.Read path (reading (current path)))) → W Never (n * (c + 2) + first_most c) t
 
-  main_on : (n : ℕ) → From n → (path : List Ref) (main : Ref) (t g : ℕ) → length path + suc n ≡ 15 → 1 ≤ length path → Stands a t (Some g) (line.Key (key.Main path main)) → W Never (n * (c + 2) + first_most c + 1 + 1) t
+  main_on : (n : ℕ) → From n → (path : List Ref) (main : Ref) (t g : ℕ) → length path + suc n ≡ 15 → 1 ≤ length path →
+      Stands a t (Some g) (line.Key (key.Main path main)) → W Never (n * (c + 2) + first_most c + 1 + 1) t
   main_on n further path main t g size some s = by (leads_or_ends a (depth_of path) main)
     where
-      after_it : (v : ℕ) → IsRenewed a weight c heavy steps machines writes few renewing path g t v ⊎ IsTried a weight c heavy steps machines writes few renewing path main g t v → W Never (once_most c + 1 + 1) v
+      after_it : (v : ℕ) → IsRenewed a weight c heavy steps machines writes few renewing path g t v
+          ⊎ IsTried a weight c heavy steps machines writes few renewing path main g t v → W Never (once_most c + 1 + 1) v
       after_it v (inl y) = after_first path g t v some y
       after_it v (inr y) = weaken a weight Never (fresh_most c) (once_most c + 1 + 1) v (omega arith) (fresh v g y.stands)
 
       by_test : (lead : Leading a (depth_of path) main) (b : Bool) → (g == lead.generation) ≡ b → W Never (n * (c + 2) + first_most c + 1 + 1) t
       by_test lead true e =
-          down_along a weight c heavy steps machines writes Never (n * (c + 2) + first_most c) t g path main lead.below s lead.leads (subst (IsOf a lead.below) (sym (eqb-true g lead.generation e)) lead.is)
+          down_along a weight c heavy steps machines writes Never (n * (c + 2) + first_most c) t g path main lead.below s lead.leads
+          (subst (IsOf a lead.below) (sym (eqb-true g lead.generation e)) lead.is)
           (λ keeps stays next.
           let len = length-append path (lead.below ∷ []) in
           further (path ++ lead.below ∷ []) (suc (suc t)) g (omega (arith, len, size)) (down_reads a (suc (suc t)) (Some g) path lead.below next))
       by_test lead false e =
           weaken a weight Never ((33 * (c + 2) + 12) + (once_most c + 1 + 1)) (n * (c + 2) + first_most c + 1 + 1) t (omega arith)
-          (bind a weight (λ v. IsRenewed a weight c heavy steps machines writes few renewing path g t v ⊎ IsTried a weight c heavy steps machines writes few renewing path main g t v) Never (33 * (c + 2) + 12) (once_most c + 1 + 1) t
+          (bind a weight
+          (λ v. IsRenewed a weight c heavy steps machines writes few renewing path g t v
+          ⊎ IsTried a weight c heavy steps machines writes few renewing path main g t v) Never (33 * (c + 2) + 12) (once_most c + 1 + 1) t
           (renews_level a weight c heavy steps machines writes few renewing path main lead.below lead.generation t g s lead.leads lead.is e) (λ v after in_time y. after_it v y))
 
       by : Leading a (depth_of path) main ⊎ IsEnd a (depth_of path) main → W Never (n * (c + 2) + first_most c + 1 + 1) t

@@ -28,7 +28,8 @@ use Rattle.proof_obstruction_free.specs.Inherited.{NoneOlder, PassKnown, known_m
 pub not_older_later : (a : Lone) (n t u g : ℕ) (r : Ref) → t ≤ u → Keeps a t u → NoneOlder a n t r g → NoneOlder a n u r g
 not_older_later a n t u g r le keeps none v after within more = none v (omega (arith, le, after)) within (keeps_on a t u v keeps more)
 
-module _ (a : Lone) (weight : ℕ → ℕ) (c : ℕ) (heavy : IsWeight a weight) (steps : Stepping a) (machines : Machines a weight c) (writes : a.own.access ≡ Writable) (few : FewEntries a) (renewing : RenewsFrom a weight c) (passes : PassEnds a weight c) where
+module _ (a : Lone) (weight : ℕ → ℕ) (c : ℕ) (heavy : IsWeight a weight) (steps : Stepping a) (machines : Machines a weight c) (writes : a.own.access ≡ Writable)
+    (few : FewEntries a) (renewing : RenewsFrom a weight c) (passes : PassEnds a weight c) where
   abbrev W : (ℕ → Type 0) → ℕ → ℕ → Type 0
   W = Within a weight
 
@@ -42,7 +43,8 @@ module _ (a : Lone) (weight : ℕ → ℕ) (c : ℕ) (heavy : IsWeight a weight)
     -- with so many known levels below
     abbrev From : ℕ → ℕ → Type 0
     From d m =
-        (path : List Ref) (t : ℕ) → length path + d ≡ n + 1 → Stands a t (Some g) (line.Key (key.Read path (reading (current path)))) → IsCurrent a t r (Some g) → Chain a t r g path → NoneOlder a n t r g →
+        (path : List Ref) (t : ℕ) → length path + d ≡ n + 1 → Stands a t (Some g) (line.Key (key.Read path (reading (current path)))) → IsCurrent a t r (Some g) →
+        Chain a t r g path → NoneOlder a n t r g →
         W Ends m t
 
     -- where all levels that are known are behind
@@ -52,7 +54,8 @@ module _ (a : Lone) (weight : ℕ → ℕ) (c : ℕ) (heavy : IsWeight a weight)
         let cost = mul-le-mul_right most left in
         weaken a weight Ends ((15 - length path) * most) (0 * (c + 2) + (14 - n) * most) t (omega (arith, cost)) (passes path r t g s x chain)
 
-    module _ (d m : ℕ) (further : From d m) (path : List Ref) (size : length path + suc d ≡ n + 1) (u : ℕ) (main : Ref) (x : AtMain a weight c heavy steps writes r g path main u) (none : NoneOlder a n u r g) where
+    module _ (d m : ℕ) (further : From d m) (path : List Ref) (size : length path + suc d ≡ n + 1) (u : ℕ) (main : Ref)
+        (x : AtMain a weight c heavy steps writes r g path main u) (none : NoneOlder a n u r g) where
       down : (lead : Leading a (depth_of path) main) → lead.generation ≡ g → W Ends (m + 1 + 1) u
       down lead same =
           let of : IsOf a lead.below g = subst (IsOf a lead.below) same lead.is in

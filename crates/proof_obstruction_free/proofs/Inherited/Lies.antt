@@ -13,14 +13,14 @@ use Rattle.proof_obstruction_free.specs.Beneath.machine_model.specs.Grown.{prev_
 use Rattle.proof_obstruction_free.specs.Beneath.proof_contents.specs.Nodes.Looking.{Absent, Below, look_at, look_in}
 use Rattle.proof_obstruction_free.specs.Beneath.proof_contents.specs.Tries.{Trie, On, at_root, at_below, generation, says}
 use Rattle.proof_obstruction_free.specs.Beneath.proof_contents.specs.Steps.{IsTrie}
-use Rattle.proof_obstruction_free.specs.Beneath.proof_contents.proofs.Values.Runs.{main_at-made}
+use Rattle.proof_obstruction_free.specs.Beneath.proof_contents.proofs.Values.Runs.{counting_main-made}
 use Rattle.proof_obstruction_free.specs.Beneath.proof_shape.specs.Shaped.{trie_of_run}
 use Rattle.proof_updates.specs.Paths.{LiesOn, path_of}
-use Rattle.proof_updates.proofs.Tries.Taken.{roots_are_kept}
-use Rattle.proof_updates.proofs.Tries.Whole as whole
+use Rattle.proof_updates.proofs.Tries.OfRuns as whole
 use Rattle.proof_obstruction_free.specs.Alone.{Lone, Stands, Has, IsCurrent}
 use Rattle.proof_obstruction_free.specs.Keys.{Chain, IsOf, Leads, flag_at}
 use Rattle.proof_obstruction_free.proofs.Swap.Found.{handle_open, root_generation}
+use Rattle.proof_obstruction_free.specs.Beneath.proof_order.proofs.Openings.ClosedRoots.{root_is as root_of_run}
 
 module _ (a : Lone) where
   abbrev pub trie : Trie
@@ -38,7 +38,7 @@ module _ (a : Lone) where
   -- a decided main node counts
   pub has_main : (t : ℕ) (i m : Ref) → Has a t i m → trie.main t i ≡ m
   has_main t i m has =
-      main_at-made a.states a.last t i has.made ∙ ap (λ x. logical x (prev_word a.states t x)) has.main ∙ ap (logical m) has.decided
+      counting_main-made a.states a.last t i has.made ∙ ap (λ x. logical x (prev_word a.states t x)) has.main ∙ ap (logical m) has.decided
 
   pub of_generation : (i : Ref) (g : ℕ) → IsOf a i g → generation trie i ≡ g
   of_generation i g (m, is) = ap generation_of is
@@ -47,7 +47,9 @@ module _ (a : Lone) where
   pub has_says : (t k h : ℕ) (i m below : Ref) → Has a t i m → Leads a k m below → IsOf a below h → says trie t q k i ≡ Below below
   has_says t k h i m below has leads (w, is) =
       ap (λ x. look_in trie.node (flag_at a k) q (trie.node x)) (has_main t i m has) ∙ ap (look_in trie.node (flag_at a k) q) leads.branch
-      ∙ ap (λ b. cond b (look_at q (get_or leads.entries.items (position_of (flag_at a k) leads.bitmap) no_ref) (trie.node (get_or leads.entries.items (position_of (flag_at a k) leads.bitmap) no_ref))) Absent) leads.flagged
+      ∙ ap (λ b. cond b
+      (look_at q (get_or leads.entries.items (position_of (flag_at a k) leads.bitmap) no_ref)
+      (trie.node (get_or leads.entries.items (position_of (flag_at a k) leads.bitmap) no_ref))) Absent) leads.flagged
       ∙ ap (λ r. look_at q r (trie.node r)) leads.entry ∙ ap (look_at q below) is
 
   -- ---- a chain from the root
@@ -72,7 +74,7 @@ module _ (a : Lone) where
         let plain : root.word ≡ Plain r = sym (ap word_of found) ∙ x.plain in
         let its : generation_at (a.states t).heap (root_of root.word) ≡ g =
         ap (λ w. generation_at (a.states t).heap (root_of w)) plain ∙ root_generation a t (Some g) (line.Key (key.Main path main)) s refl r x.plain ∙ (let same = x.own in cc same) in
-        ap trie.root (sym its) ∙ roots_are_kept a.limits a.states a.last a.run t (handle_of a.own.call) root s.until found ∙ ap root_of plain
+        ap trie.root (sym its) ∙ root_of_run a.limits a.states a.last a.run t (handle_of a.own.call) root s.until found ∙ ap root_of plain
 
     -- its path lies on that of the key
     pub lies : a.own.access ≡ Writable → LiesOn trie t g q path

@@ -117,7 +117,8 @@ module _ (a : Lone) (weight : ℕ → ℕ) (c : ℕ) (heavy : IsWeight a weight)
     link_on h of =
         let sees = sees_entry a steps t (Some g) path main position s in
         let (w, now) = link_seen a steps t s.until entry h sees.used of in
-        let found : node_at (a.states t).heap (entry_at (a.states t).heap main position) ≡ Indirection h w = ap (λ n. node_at (a.states t).heap (get_or (entries_of n) position no_ref)) sees.branch ∙ now in
+        let found : node_at (a.states t).heap (entry_at (a.states t).heap main position) ≡ Indirection h w =
+        ap (λ n. node_at (a.states t).heap (get_or (entries_of n) position no_ref)) sees.branch ∙ now in
         weaken a weight Never (renewing + 1) (fine_most c) t (omega arith)
         (quiet_on a weight heavy steps Never renewing t (Some g) (line.Key (key.Entry path main position)) s tt tt tt refl
         (λ next keeps word.

@@ -28,7 +28,8 @@ use Rattle.proof_obstruction_free.proofs.Inherited.Linking.{Linked, linked_all, 
 use Rattle.proof_obstruction_free.proofs.Inherited.Renewal.{IsRenewed, IsTried, renews_level}
 use Rattle.proof_obstruction_free.proofs.Inherited.Tombs.{tomb_known}
 
-module _ (a : Lone) (weight : ℕ → ℕ) (c : ℕ) (heavy : IsWeight a weight) (steps : Stepping a) (machines : Machines a weight c) (writes : a.own.access ≡ Writable) (few : FewEntries a) (renewing : RenewsFrom a weight c) (bottom : BottomEnds a weight c)
+module _ (a : Lone) (weight : ℕ → ℕ) (c : ℕ) (heavy : IsWeight a weight) (steps : Stepping a) (machines : Machines a weight c) (writes : a.own.access ≡ Writable)
+    (few : FewEntries a) (renewing : RenewsFrom a weight c) (bottom : BottomEnds a weight c)
     (known : PassKnown a weight c) (tombs : (to : List Ref) (r m : Ref) (u h : ℕ) → length to ≤ 13 + 1 → AtEnd a r h to m u → Within a weight (λ v. ⊥) (tombs_most c 13) u)
     (fresh : (u h : ℕ) → Stands a u (Some h) new_try → Within a weight (λ v. ⊥) (fresh_most c) u) where
   abbrev W : (ℕ → Type 0) → ℕ → ℕ → Type 0
@@ -42,17 +43,21 @@ module _ (a : Lone) (weight : ℕ → ℕ) (c : ℕ) (heavy : IsWeight a weight)
   module _ (path : List Ref) (r : Ref) (g j m : ℕ) (some : 1 ≤ length path) (enough : bottom_most c ≤ m) where
     -- a level further down
     abbrev Further : ℕ → Type 0
-    Further m = (u : ℕ) (below : Ref) → Stands a u (Some g) (line.Key (key.Read (path ++ below ∷ []) (reading (current (path ++ below ∷ []))))) → IsCurrent a u r (Some g) → Linked a j u g (path ++ below ∷ []) → W Never m u
+    Further m =
+        (u : ℕ) (below : Ref) → Stands a u (Some g) (line.Key (key.Read (path ++ below ∷ []) (reading (current (path ++ below ∷ []))))) → IsCurrent a u r (Some g) →
+        Linked a j u g (path ++ below ∷ []) → W Never m u
 
     -- from a main node that is known to lead on to the root's generation alone
-    down : Further m → (main : Ref) (u : ℕ) → Stands a u (Some g) (line.Key (key.Main path main)) → IsCurrent a u r (Some g) → Linked a j u g path → Has a u (current path) main → (below : Ref) → Leads a (depth_of path) main below → IsOf a below g → W Never (m + 1 + 1) u
+    down : Further m → (main : Ref) (u : ℕ) → Stands a u (Some g) (line.Key (key.Main path main)) → IsCurrent a u r (Some g) → Linked a j u g path →
+        Has a u (current path) main → (below : Ref) → Leads a (depth_of path) main below → IsOf a below g → W Never (m + 1 + 1) u
     down further main u s x linked has below leads of =
         down_along a weight c heavy steps machines writes Never m u g path main below s leads of
         (λ keeps stays next.
         further (suc (suc u)) below (down_reads a (suc (suc u)) (Some g) path below next) (current_later a u (suc (suc u)) r (Some g) stays x)
         (linked_longer a (suc (suc u)) g j path main below some (linked_all a u (suc (suc u)) g j path keeps linked) (keeps (current path) main has) leads of))
 
-    bottom_here : (main : Ref) (u : ℕ) → Stands a u (Some g) (line.Key (key.Main path main)) → IsCurrent a u r (Some g) → Has a u (current path) main → IsEnd a (depth_of path) main → IsNoTomb a (node a main) → W Never (m + 1 + 1) u
+    bottom_here : (main : Ref) (u : ℕ) → Stands a u (Some g) (line.Key (key.Main path main)) → IsCurrent a u r (Some g) → Has a u (current path) main →
+        IsEnd a (depth_of path) main → IsNoTomb a (node a main) → W Never (m + 1 + 1) u
     bottom_here main u s x has ends none = weaken a weight Never (bottom_most c) (m + 1 + 1) u (omega (arith, enough)) (bottom path r main u g s x has ends none)
 
     -- after a RENEW
@@ -78,7 +83,8 @@ module _ (a : Lone) (weight : ℕ → ℕ) (c : ℕ) (heavy : IsWeight a weight)
         let one : r ≡ other = cc same in
         apart (x.own ∙ ap (λ i. Some (generation a i)) one)
 
-    from_main : Further m → (main : Ref) (u : ℕ) → Stands a u (Some g) (line.Key (key.Main path main)) → IsCurrent a u r (Some g) → Linked a j u g path → Has a u (current path) main → IsNoTomb a (node a main) → W Never (33 * (c + 2) + 14 + m) u
+    from_main : Further m → (main : Ref) (u : ℕ) → Stands a u (Some g) (line.Key (key.Main path main)) → IsCurrent a u r (Some g) → Linked a j u g path →
+        Has a u (current path) main → IsNoTomb a (node a main) → W Never (33 * (c + 2) + 14 + m) u
     from_main further main u s x linked has none = by (leads_or_ends a (depth_of path) main)
       where
         by_test : (lead : Leading a (depth_of path) main) (b : Bool) → (g == lead.generation) ≡ b → W Never (33 * (c + 2) + 14 + m) u
@@ -87,11 +93,14 @@ module _ (a : Lone) (weight : ℕ → ℕ) (c : ℕ) (heavy : IsWeight a weight)
             (down further main u s x linked has lead.below lead.leads (subst (IsOf a lead.below) (sym (eqb-true g lead.generation e)) lead.is))
         by_test lead false e =
             weaken a weight Never ((33 * (c + 2) + 12) + (m + 1 + 1)) (33 * (c + 2) + 14 + m) u (omega arith)
-            (bind a weight (λ v. IsRenewed a weight c heavy steps machines writes few renewing path g u v ⊎ IsTried a weight c heavy steps machines writes few renewing path main g u v) Never (33 * (c + 2) + 12) (m + 1 + 1) u
+            (bind a weight
+            (λ v. IsRenewed a weight c heavy steps machines writes few renewing path g u v
+            ⊎ IsTried a weight c heavy steps machines writes few renewing path main g u v) Never (33 * (c + 2) + 12) (m + 1 + 1) u
             (renews_level a weight c heavy steps machines writes few renewing path main lead.below lead.generation u g s lead.leads lead.is e)
             (λ v after in_time y. after_it v y))
           where
-            after_it : (v : ℕ) → IsRenewed a weight c heavy steps machines writes few renewing path g u v ⊎ IsTried a weight c heavy steps machines writes few renewing path main g u v → W Never (m + 1 + 1) v
+            after_it : (v : ℕ) → IsRenewed a weight c heavy steps machines writes few renewing path g u v
+                ⊎ IsTried a weight c heavy steps machines writes few renewing path main g u v → W Never (m + 1 + 1) v
             after_it v (inl y) = renewed further main u v s x linked y
             after_it v (inr y) = absurd (never_tried main u v x has y)
 
@@ -101,7 +110,8 @@ module _ (a : Lone) (weight : ℕ → ℕ) (c : ℕ) (heavy : IsWeight a weight)
 
     -- what comes of a tomb
     abbrev IfTomb : Type 0
-    IfTomb = (u : ℕ) (main single : Ref) → Stands a u (Some g) (line.Key (key.Main path main)) → IsCurrent a u r (Some g) → Linked a j u g path → node a main ≡ Tomb single → W Never (33 * (c + 2) + 14 + m) u
+    IfTomb = (u : ℕ) (main single : Ref) → Stands a u (Some g) (line.Key (key.Main path main)) → IsCurrent a u r (Some g) → Linked a j u g path →
+        node a main ≡ Tomb single → W Never (33 * (c + 2) + 14 + m) u
 
     pub level : IfTomb → Further m → (t : ℕ) → Stands a t (Some g) (line.Key (key.Read path (reading (current path)))) → IsCurrent a t r (Some g) → Linked a j t g path → W Never (level_most c + m) t
     level if_tomb further t s x linked =
@@ -123,7 +133,8 @@ module _ (a : Lone) (weight : ℕ → ℕ) (c : ℕ) (heavy : IsWeight a weight)
   -- from a level that is linked twice above
   abbrev From : ℕ → Type 0
   From n =
-      (path : List Ref) (r : Ref) (t g j : ℕ) → length path + n ≡ 15 → j + 3 ≤ length path → Stands a t (Some g) (line.Key (key.Read path (reading (current path)))) → IsCurrent a t r (Some g) → Linked a j t g path →
+      (path : List Ref) (r : Ref) (t g j : ℕ) → length path + n ≡ 15 → j + 3 ≤ length path →
+      Stands a t (Some g) (line.Key (key.Read path (reading (current path)))) → IsCurrent a t r (Some g) → Linked a j t g path →
       W Never (suc n * level_most c + rest) t
 
   tomb_cost : (n k : ℕ) → k + 3 + suc n ≡ 15 → (33 * (c + 2) + 11) + (known_most a weight c (suc k) + tombs_most c 13) + 1 ≤ 33 * (c + 2) + 14 + (suc n * level_most c + rest)
@@ -147,7 +158,8 @@ module _ (a : Lone) (weight : ℕ → ℕ) (c : ℕ) (heavy : IsWeight a weight)
       (level path r g j (suc n * level_most c + rest) (omega (arith, deep)) (omega arith)
       (λ u main single now root links is.
       let size' : length path ≡ (length path - 3) + 3 = omega (arith, deep) in
-      weaken a weight Never ((33 * (c + 2) + 11) + (known_most a weight c (suc (length path - 3)) + tombs_most c 13) + 1) (33 * (c + 2) + 14 + (suc n * level_most c + rest)) u (tomb_cost n (length path - 3) (omega (arith, size, deep)))
+      weaken a weight Never ((33 * (c + 2) + 11) + (known_most a weight c (suc (length path - 3)) + tombs_most c 13) + 1)
+      (33 * (c + 2) + 14 + (suc n * level_most c + rest)) u (tomb_cost n (length path - 3) (omega (arith, size, deep)))
       (tomb_known a weight c heavy steps machines writes path main single u g now is known tombs r (length path - 3) size' root (links (length path - 3) (omega (arith, deep)) (omega (arith, deep)))))
       (λ u below next root links.
       let len = length-append path (below ∷ []) in

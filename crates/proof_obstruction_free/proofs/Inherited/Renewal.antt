@@ -22,7 +22,8 @@ use Rattle.proof_obstruction_free.proofs.Pass.Lines.{key_gives, key_holds_read, 
 use Rattle.proof_obstruction_free.proofs.Pass.Renewed.{renewed_leads}
 use Rattle.proof_obstruction_free.proofs.Step.Within.{bind, here, keeps_but, keeps_but_on, keeps_on, map, one, same_stays, stays_on, weaken}
 
-module _ (a : Lone) (weight : ℕ → ℕ) (c : ℕ) (heavy : IsWeight a weight) (steps : Stepping a) (machines : Machines a weight c) (writes : a.own.access ≡ Writable) (few : FewEntries a) (renewing : RenewsFrom a weight c) where
+module _ (a : Lone) (weight : ℕ → ℕ) (c : ℕ) (heavy : IsWeight a weight) (steps : Stepping a) (machines : Machines a weight c) (writes : a.own.access ≡ Writable)
+    (few : FewEntries a) (renewing : RenewsFrom a weight c) where
   abbrev W : (ℕ → Type 0) → ℕ → ℕ → Type 0
   W = Within a weight
 
@@ -69,7 +70,8 @@ module _ (a : Lone) (weight : ℕ → ℕ) (c : ℕ) (heavy : IsWeight a weight)
           keeps = keeps_but_on a t u y (current path) (keeps_but a t u (current path) ren.keeps) (keeps_but_on a u v y (current path) w.keeps (keeps_but a v y (current path) read.keeps));
           word = stays_on a t u y ren.word (stays_on a u v y w.word read.word);
           branch = subst (IsNoTomb a) (sym ren.branch) tt;
-          own = λ next h leads of. renewed_leads a (depth_of path) g h main ren.fresh below next ren.done (subst (λ n. n ≤ 32) (sym ren.same_length) entries) ren.branch ren.same_length ren.each x inside leads of;
+          own = λ next h leads of. renewed_leads a (depth_of path) g h main ren.fresh below next ren.done
+              (subst (λ n. n ≤ 32) (sym ren.same_length) entries) ren.branch ren.same_length ren.each x inside leads of;
         }
 
     after_swap : (t u v : ℕ) (ren : IsRenewing a weight c t g path main 0 u) (w : IsSwapped a weight c u (Some g) (purpose.Renew path) (current path) main ren.fresh v) → W (Comes t) c v
@@ -125,7 +127,8 @@ module _ (a : Lone) (weight : ℕ → ℕ) (c : ℕ) (heavy : IsWeight a weight)
       let e = to_entry a steps t (Some g) path main below s more x in
       one a weight heavy To rest (suc t) (Some g) l e tt (λ again.
       let keeps = keeps_on a t (suc t) (suc (suc t)) (steps.keeps t (Some g) at s more tt tt) (steps.keeps (suc t) (Some g) l e again tt tt) in
-      let word = stays_on a t (suc t) (suc (suc t)) (same_stays a t (suc t) (steps.words t (Some g) at s more tt tt)) (same_stays a (suc t) (suc (suc t)) (steps.words (suc t) (Some g) l e again tt tt)) in
+      let word = stays_on a t (suc t) (suc (suc t)) (same_stays a t (suc t) (steps.words t (Some g) at s more tt tt))
+      (same_stays a (suc t) (suc (suc t)) (steps.words (suc t) (Some g) l e again tt tt)) in
       let inside = within a steps writes (suc t) g path main below h x e again of in
       map a weight (Comes path g main below x inside (suc (suc t))) To rest (suc (suc t)) (λ v later soon y. earlier path g main below x inside t (suc (suc t)) v keeps word y)
       (renewing_level path g main below x inside (suc (suc t)) (renews a steps writes (suc t) g path main below h x e again of other)))))

@@ -37,7 +37,8 @@ module _ (a : Lone) (weight : ℕ → ℕ) (c : ℕ) (heavy : IsWeight a weight)
     at = line.Key (key.Main path main)
 
     -- CLEAN
-    cleans : (n : ℕ) → (2 ≤ length path → Keeps a t (suc t) → WordStays a t (suc t) → Stands a (suc t) (Some g) (line.Clean (clean.Read (above path) (reading (current (above path))))) → (v : ℕ) → suc t ≤ v →
+    cleans : (n : ℕ) →
+        (2 ≤ length path → Keeps a t (suc t) → WordStays a t (suc t) → Stands a (suc t) (Some g) (line.Clean (clean.Read (above path) (reading (current (above path))))) → (v : ℕ) → suc t ≤ v →
         IsCleared a weight c heavy steps machines (above path) (Some g) (suc t) v → W Never n v) → W Never ((33 * (c + 2) + 11) + n + 1) t
     cleans n then =
         one a weight heavy Never ((33 * (c + 2) + 11) + n) t (Some g) at s tt (λ more.
@@ -51,7 +52,8 @@ module _ (a : Lone) (weight : ℕ → ℕ) (c : ℕ) (heavy : IsWeight a weight)
     tomb_first fresh = cleans (fresh_most c) (λ two keeps word next v after x. fresh v g x.stands)
 
     -- and one of which all levels down to there are known
-    pub tomb_known : (known : PassKnown a weight c) → ((to : List Ref) (r m : Ref) (u h : ℕ) → length to ≤ 13 + 1 → AtEnd a r h to m u → W Never (tombs_most c 13) u) → (r : Ref) (k : ℕ) → length path ≡ k + 3 →
+    pub tomb_known : (known : PassKnown a weight c) →
+        ((to : List Ref) (r m : Ref) (u h : ℕ) → length to ≤ 13 + 1 → AtEnd a r h to m u → W Never (tombs_most c 13) u) → (r : Ref) (k : ℕ) → length path ≡ k + 3 →
         IsCurrent a t r (Some g) → IsLinked a t g k path → W Never ((33 * (c + 2) + 11) + (known_most a weight c (suc k) + tombs_most c 13) + 1) t
     tomb_known known tombs r k size now linked =
         cleans (known_most a weight c (suc k) + tombs_most c 13) (λ two keeps word next v after x.

@@ -66,7 +66,8 @@ module _ (a : Lone) (weight : ℕ → ℕ) (c : ℕ) (heavy : IsWeight a weight)
   passes = pass_ends a weight c (goes_down_a_level a weight c heavy steps writes machines (few_entries a) (renews_from a steps weight c heavy machines))
 
   tombs : Tombs a weight c heavy steps writes (bottom_ends a weight c heavy steps machines) (cleans_current a steps weight c heavy machines) (pass_along a weight c heavy steps machines writes on) 13
-  tombs = tombs_end a weight c heavy steps writes (bottom_ends a weight c heavy steps machines) (cleans_current a steps weight c heavy machines) (pass_along a weight c heavy steps machines writes on) 13
+  tombs = tombs_end a weight c heavy steps writes (bottom_ends a weight c heavy steps machines) (cleans_current a steps weight c heavy machines)
+      (pass_along a weight c heavy steps machines writes on) 13
 
   fresh : (u : ℕ) (h : Option ℕ) → Stands a u h new_try → W Never (fresh_most c) u
   fresh u h s = fresh_ends a weight c steps machines on passes tombs u h s
@@ -76,7 +77,8 @@ module _ (a : Lone) (weight : ℕ → ℕ) (c : ℕ) (heavy : IsWeight a weight)
 
   stale_bottom : (path : List Ref) (main : Ref) (u h : ℕ) → Stands a u (Some h) (line.Key (key.Main path main)) → IsEnd a (depth_of path) main → W (Tries a weight c (Some h)) (stale_bottom_most c) u
   stale_bottom path main u h s ends =
-      end_tries a weight c heavy steps machines writes few renewing (absent_again a weight c heavy steps machines) (lists_again a weight c heavy steps machines) (entries_again a weight c heavy steps machines)
+      end_tries a weight c heavy steps machines writes few renewing (absent_again a weight c heavy steps machines) (lists_again a weight c heavy steps machines)
+      (entries_again a weight c heavy steps machines)
       (cleans_on a steps weight c heavy machines) u h (AtBottom path main s ends)
 
   from_main : (path : List Ref) (main : Ref) (t g : ℕ) → Stands a t (Some g) (line.Key (key.Main path main)) → W Never (14 * (c + 2) + first_most c) t
@@ -103,7 +105,8 @@ module _ (a : Lone) (weight : ℕ → ℕ) (c : ℕ) (heavy : IsWeight a weight)
       first : Stands a t g (line.Swap purpose.Clean (swapping w.indirection w.replaced w.fresh)) → W (Tries a weight c g) (c + 10) t
       first s =
           weaken a weight (Tries a weight c g) (10 + 0) (c + 10) t (omega arith)
-          (bind a weight (IsSwapped a weight c t g purpose.Clean w.indirection w.replaced w.fresh) (Tries a weight c g) 10 0 t (machines.swaps_first purpose.Clean w.indirection w.replaced w.fresh t g s)
+          (bind a weight (IsSwapped a weight c t g purpose.Clean w.indirection w.replaced w.fresh) (Tries a weight c g) 10 0 t
+          (machines.swaps_first purpose.Clean w.indirection w.replaced w.fresh t g s)
           (λ u after in_time x. here a weight (Tries a weight c g) u x.stands))
 
       by_line : (l : SwapLine) → w.line ≡ l → W (Tries a weight c g) (c + 10) t
@@ -131,7 +134,8 @@ module _ (a : Lone) (weight : ℕ → ℕ) (c : ℕ) (heavy : IsWeight a weight)
   from_line : (l : Line) (t : ℕ) (g : Option ℕ) → is_down l ≡ true → (is_below l ≡ true → Knows g) → Stands a t g l → W Never (fine_most c) t
   from_line (line.Root l) t g down knows s =
       weaken a weight Never (2 * c + 10 + rooted_most c) (fine_most c) t (omega arith)
-      (bind a weight (IsRooted a weight c t) Never (2 * c + 10) (rooted_most c) t (machines.roots_on t g l s) (λ u after in_time rooted. rooted_ends a weight c steps machines on passes tombs t u rooted))
+      (bind a weight (IsRooted a weight c t) Never (2 * c + 10) (rooted_most c) t (machines.roots_on t g l s)
+      (λ u after in_time rooted. rooted_ends a weight c steps machines on passes tombs t u rooted))
   from_line (line.Key l) t g down knows s =
       with_root (line.Key l) t g (knows refl) (λ h s. key_line_ends a weight c heavy steps machines writes (λ u k s. fresh u (Some k) s) from_main from_read l t h s) s
   from_line (line.Build l) t g down knows s = tried (14 * (c + 12) + 43) t g (omega arith) (builds_again a weight c heavy steps machines l t g s)

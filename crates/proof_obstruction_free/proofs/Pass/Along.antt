@@ -46,7 +46,8 @@ module _ (a : Lone) (weight : ℕ → ℕ) (c : ℕ) (heavy : IsWeight a weight)
       let l = line.Key (key.Entry path main (position_of (flag_at a (depth_of path)) x.bitmap)) in
       one a weight heavy Q n (suc t) (Some g) l e tt (λ again.
       then (keeps_on a t (suc t) (suc (suc t)) (steps.keeps t (Some g) (line.Key (key.Main path main)) s more tt tt) (steps.keeps (suc t) (Some g) l e again tt tt))
-      (stays_on a t (suc t) (suc (suc t)) (same_stays a t (suc t) (steps.words t (Some g) (line.Key (key.Main path main)) s more tt tt)) (same_stays a (suc t) (suc (suc t)) (steps.words (suc t) (Some g) l e again tt tt)))
+      (stays_on a t (suc t) (suc (suc t)) (same_stays a t (suc t) (steps.words t (Some g) (line.Key (key.Main path main)) s more tt tt))
+      (same_stays a (suc t) (suc (suc t)) (steps.words (suc t) (Some g) l e again tt tt)))
       (goes_down a steps writes (suc t) g path main below g x e again of refl)))
 
   -- ---- along a path
@@ -55,13 +56,15 @@ module _ (a : Lone) (weight : ℕ → ℕ) (c : ℕ) (heavy : IsWeight a weight)
     -- from so many of its indirections
     abbrev From : List Ref → ℕ → Type 0
     From rest m =
-        (first : List Ref) (t : ℕ) → path ≡ first ++ rest → 1 ≤ length first → Stands a t (Some g) (line.Key (key.Read first (reading (current first)))) → IsCurrent a t r (Some g) → Ended a t r g path main →
+        (first : List Ref) (t : ℕ) → path ≡ first ++ rest → 1 ≤ length first → Stands a t (Some g) (line.Key (key.Read first (reading (current first)))) →
+        IsCurrent a t r (Some g) → Ended a t r g path main →
         W (AtEnd a r g path main) m t
 
     reads : (Q : ℕ → Type 0) (n t : ℕ) (first : List Ref) → Stands a t (Some g) (line.Key (key.Read first (reading (current first)))) → IsCurrent a t r (Some g) → Ended a t r g path main →
         ((u : ℕ) (m : Ref) → t ≤ u → Stands a u (Some g) (line.Key (key.Main first m)) → IsCurrent a u r (Some g) → Ended a u r g path main → Has a u (current first) m → W Q n u) → W Q (c + n) t
     reads Q n t first s x ended then =
-        bind a weight (IsRead a weight c t (Some g) (key_gives first) (current first)) Q c n t (machines.reads_first (key_read first) (key_gives first) (current first) (key_holds_read a.own first) t (Some g) s)
+        bind a weight (IsRead a weight c t (Some g) (key_gives first) (current first)) Q c n t
+        (machines.reads_first (key_read first) (key_gives first) (current first) (key_holds_read a.own first) t (Some g) s)
         (λ u after in_time read. then u read.main after read.stands (current_later a t u r (Some g) read.word x) (ended_later a t u r g path main read.keeps ended) read.has)
 
     at_end : From [] c
@@ -70,7 +73,13 @@ module _ (a : Lone) (weight : ℕ → ℕ) (c : ℕ) (heavy : IsWeight a weight)
         weaken a weight (AtEnd a r g path main) (c + 0) c t (omega arith)
         (reads (AtEnd a r g path main) 0 t first s x ended (λ u m after now root end has.
         let same : m ≡ main = one_main a u (current path) m main (subst (λ p. Has a u (current p) m) (sym whole) has) end.has in
-        here a weight (AtEnd a r g path main) u (record { stands = subst (λ n. Stands a u (Some g) (line.Key (key.Main path n))) same (subst (λ p. Stands a u (Some g) (line.Key (key.Main p m))) (sym whole) now); current_root = root; ended = end })))
+        here a weight (AtEnd a r g path main) u
+        (record {
+          stands = subst (λ n. Stands a u (Some g) (line.Key (key.Main path n))) same
+              (subst (λ p. Stands a u (Some g) (line.Key (key.Main p m))) (sym whole) now);
+          current_root = root;
+          ended = end;
+        })))
 
     module _ (first : List Ref) (b : Ref) (rest : List Ref) (whole : path ≡ first ++ b ∷ rest) (some : 1 ≤ length first) where
       below_it : suc (depth_of first) < length path
@@ -123,9 +132,11 @@ module _ (a : Lone) (weight : ℕ → ℕ) (c : ℕ) (heavy : IsWeight a weight)
     own_is = ap (λ i. Some (generation a i)) root_is ∙ sym current_root.own
 
     starts : Stands a u (Some g) (line.Key (key.Read (r ∷ []) (reading r)))
-    starts = stands_as a u (Some (generation a rooted.root)) (Some g) (from_root a.own.call rooted.root) (going_down [] r) own_is (key_begins a.own.call on rooted.root ∙ ap (going_down []) root_is) rooted.stands
+    starts = stands_as a u (Some (generation a rooted.root)) (Some g) (from_root a.own.call rooted.root) (going_down [] r) own_is
+        (key_begins a.own.call on rooted.root ∙ ap (going_down []) root_is) rooted.stands
 
-  by_path : (r : Ref) (g : ℕ) (path : List Ref) (main : Ref) (t : ℕ) (whole : List Ref) → path ≡ whole → Stands a t (Some g) (line.Key (key.Read (r ∷ []) (reading r))) → IsCurrent a t r (Some g) → Ended a t r g path main →
+  by_path : (r : Ref) (g : ℕ) (path : List Ref) (main : Ref) (t : ℕ) (whole : List Ref) → path ≡ whole →
+      Stands a t (Some g) (line.Key (key.Read (r ∷ []) (reading r))) → IsCurrent a t r (Some g) → Ended a t r g path main →
       W (AtEnd a r g path main) (length path * (c + 2)) t
   by_path r g path main t [] e s x ended = let long = ended.chain.long in let none = ap length e in absurd (omega (arith, long, none))
   by_path r g path main t (b ∷ rest) e s x ended =
@@ -138,7 +149,8 @@ module _ (a : Lone) (weight : ℕ → ℕ) (c : ℕ) (heavy : IsWeight a weight)
 
   pub pass_along : IsOnKey a.own.call → PassAlong a weight c
   pass_along on path r main t g s x ended =
-      bind a weight (λ u. IsRooted a weight c t u × IsPlain a u r) (λ u. (bottom : IsBottom a weight c r g path u) × (bottom.main ≡ main)) 1 (length path * (c + 2)) t (machines.roots_plain t (Some g) r s x.plain)
+      bind a weight (λ u. IsRooted a weight c t u × IsPlain a u r) (λ u. (bottom : IsBottom a weight c r g path u) × (bottom.main ≡ main)) 1
+      (length path * (c + 2)) t (machines.roots_plain t (Some g) r s x.plain)
       (λ u after in_time (rooted, plain).
       map a weight (AtEnd a r g path main) (λ v. (bottom : IsBottom a weight c r g path v) × (bottom.main ≡ main)) (length path * (c + 2)) u
       (λ v later soon end. (record { main = main; stands = end.stands; current_root = end.current_root; ended = end.ended }, refl))

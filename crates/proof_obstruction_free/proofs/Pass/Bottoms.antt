@@ -108,7 +108,8 @@ module _
               weaken a weight Nothing (after_build + 2) (after_build + 33) (suc t) (omega arith)
               (entry_ends a weight heavy steps path main (Some g) Fresh fresh_next Nothing after_build (omega arith) built_in (suc t) f
               (position_of (flag_in (a.states t) now.operation path) bitmap) next
-              (λ h x link. let (m, its) = entry_link a steps path main (position_of (flag_in (a.states t) now.operation path) bitmap) (suc t) (Some g) next h x link in no_link bitmap entries is flagged h m its))
+              (λ h x link. let (m, its) = entry_link a steps path main (position_of (flag_in (a.states t) now.operation path) bitmap) (suc t)
+              (Some g) next h x link in no_link bitmap entries is flagged h m its))
           by_flag false flagged next =
               weaken a weight Nothing after_build (after_build + 33) (suc t) (omega arith)
               (absent_ends a weight heavy steps path main (Some g) Fresh fresh_next Nothing after_build (omega arith) built_in (suc t) f now.operation next)

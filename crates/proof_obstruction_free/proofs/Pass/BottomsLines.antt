@@ -1,5 +1,6 @@
 -- The lines of KEY where its path ends, for an actor that is alone: each leads to the end or to BUILD, whatever follows that.
-use Rattle.std.proofs.Common.{◌≡◌, ℕ, zero, suc, ◌+◌, ◌-◌, ◌==◌, ◌&&◌, ◌<◌, ◌≤◌, Bool, true, false, nat_lt, nat_le, List, length, Option, Some, None, if◌then◌else◌, refl, sym, subst, ap, ◌∙◌, ltb-true, arith}
+use Rattle.std.proofs.Common.{◌≡◌, ℕ, zero, suc, ◌+◌, ◌-◌, ◌==◌, ◌&&◌, ◌<◌, ◌≤◌, Bool, true, false, nat_lt, nat_le, List, length, Option, Some, None, if◌then◌else◌, refl, sym}
+use Rattle.std.proofs.Common.{subst, ap, ◌∙◌, ltb-true, arith}
 use Rattle.proof_obstruction_free.specs.Beneath.history.specs.declared.calls.Access.{Access}
 use Rattle.proof_obstruction_free.specs.Beneath.history.specs.declared.calls.Access.TheVariants.{Writable, ReadOnly}
 use Rattle.proof_obstruction_free.specs.Beneath.history.specs.declared.replies.Reply.{Reply}
@@ -123,7 +124,9 @@ module _
         by_test false now = more m t (builds (build.Main path main (change.Remove position) (Some value)) t holds now refl refl)
     removing_ends t holds state position value (Listed singles) now = more m t (by_test (length singles.items == 2) now)
       where
-        by_test : (b : Bool) → Stands a t g (if b then line.Build (build.Main path main (change.Entomb (entry_at state.heap main (1 - position))) (Some value)) else line.Build (build.Main path main (change.Remove position) (Some value))) → W m t
+        by_test : (b : Bool) →
+            Stands a t g (if b then line.Build (build.Main path main (change.Entomb (entry_at state.heap main (1 - position))) (Some value)) else line.Build
+            (build.Main path main (change.Remove position) (Some value))) → W m t
         by_test true now = builds (build.Main path main (change.Entomb (entry_at state.heap main (1 - position))) (Some value)) t holds now refl refl
         by_test false now = builds (build.Main path main (change.Remove position) (Some value)) t holds now refl refl
     removing_ends t holds state position value (Indirection h x) now = absurd (never a t g now)

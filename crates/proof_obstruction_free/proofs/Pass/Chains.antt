@@ -145,8 +145,12 @@ module _ (a : Lone) where
           let long = x.long in
           let at : suc k ≡ length path = omega (arith, lt, high, len) in
           let last : depth_of path ≡ k = omega (arith, at) in
-          let here : get_or (path ++ below ∷ []) k no_ref ≡ current path = old path below k (omega (arith, at)) ∙ ap (λ n. get_or path n no_ref) (sym last) in
-          (main, subst (λ i. Has a t i main) (sym here) has, subst (λ n. Leads a n main (get_or (path ++ below ∷ []) (suc k) no_ref)) last (subst (λ j. Leads a (depth_of path) main j) (sym (new path below (suc k) at)) leads))
+          let here : get_or (path ++ below ∷ []) k no_ref ≡ current path = old path below k (omega (arith, at)) ∙ ap (λ n. get_or path n no_ref) (sym last) in (
+            main,
+            subst (λ i. Has a t i main) (sym here) has,
+            subst (λ n. Leads a n main (get_or (path ++ below ∷ []) (suc k) no_ref)) last
+                (subst (λ j. Leads a (depth_of path) main j) (sym (new path below (suc k) at)) leads),
+          )
 
   -- ---- the indirections of a path are apart
 

@@ -50,10 +50,6 @@ module _ (a : Lone) (weight : ℕ → ℕ) (c : ℕ) (heavy : IsWeight a weight)
   ends_here r g path main t x ends =
       record { main = main; stands = x.stands; current_root = x.current_root; ended = record { chain = x.chain; has = x.has; ends = ends } }
 
-  -- a quiet step that leaves root words
-  pub step_keeps : (t : ℕ) (g : Option ℕ) (l : Line) (s : Stands a t g l) → t < a.last → IsNoEnd l → IsQuiet (line_action (a.states t) s.operation l) → Keeps a t (suc t)
-  step_keeps t g l s more no_end quiet = steps.keeps t g l s more no_end quiet
-
   pub step_stays : (t : ℕ) (g : Option ℕ) (l : Line) (s : Stands a t g l) → t < a.last → IsNoEnd l → LeavesWords (line_action (a.states t) s.operation l) → WordStays a t (suc t)
   step_stays t g l s more no_end leaves = same_stays a t (suc t) (steps.words t g l s more no_end leaves)
 
@@ -66,7 +62,7 @@ module _ (a : Lone) (weight : ℕ → ℕ) (c : ℕ) (heavy : IsWeight a weight)
 
   at_entry : (r : Ref) (g : ℕ) (path : List Ref) (main below : Ref) (t : ℕ) → AtMain r g path main t → (x : Leads a (depth_of path) main below) → t < a.last → AtEntry r g path main below x (suc t)
   at_entry r g path main below t m x more =
-      let keeps = step_keeps t (Some g) (line.Key (key.Main path main)) m.stands more tt tt in
+      let keeps = steps.keeps t (Some g) (line.Key (key.Main path main)) m.stands more tt tt in
       record {
         stands = to_entry a steps t (Some g) path main below m.stands more x;
         current_root = current_later a t (suc t) r (Some g) (step_stays t (Some g) (line.Key (key.Main path main)) m.stands more tt tt) m.current_root;
@@ -75,10 +71,11 @@ module _ (a : Lone) (weight : ℕ → ℕ) (c : ℕ) (heavy : IsWeight a weight)
       }
 
   -- down to an indirection of the root's generation
-  goes_on : (r : Ref) (g : ℕ) (path : List Ref) (main below : Ref) (t : ℕ) (x : Leads a (depth_of path) main below) → AtEntry r g path main below x t → IsOf a below g → t < a.last → IsDown a weight c r g path (suc t)
+  goes_on : (r : Ref) (g : ℕ) (path : List Ref) (main below : Ref) (t : ℕ) (x : Leads a (depth_of path) main below) → AtEntry r g path main below x t →
+      IsOf a below g → t < a.last → IsDown a weight c r g path (suc t)
   goes_on r g path main below t x e of more =
       let l = line.Key (key.Entry path main (position_of (flag_at a (depth_of path)) x.bitmap)) in
-      let keeps = step_keeps t (Some g) l e.stands more tt tt in
+      let keeps = steps.keeps t (Some g) l e.stands more tt tt in
       record {
         below = below;
         stands = goes_down a steps writes t g path main below g x e.stands more of refl;
@@ -99,7 +96,8 @@ module _ (a : Lone) (weight : ℕ → ℕ) (c : ℕ) (heavy : IsWeight a weight)
     pub read_main : (r : Ref) (g : ℕ) (path : List Ref) (t : ℕ) → Stands a t (Some g) (line.Key (key.Read path (reading (current path)))) → IsCurrent a t r (Some g) → Chain a t r g path →
         (Q : ℕ → Type 0) (n : ℕ) → ((u : ℕ) → (main : Ref) → t ≤ u → Keeps a t u → AtMain r g path main u → W Q n u) → W Q (c + n) t
     read_main r g path t s x chain Q n then =
-        bind a weight (IsRead a weight c t (Some g) (key_gives path) (current path)) Q c n t (machines.reads_first (key_read path) (key_gives path) (current path) (key_holds_read a.own path) t (Some g) s)
+        bind a weight (IsRead a weight c t (Some g) (key_gives path) (current path)) Q c n t
+        (machines.reads_first (key_read path) (key_gives path) (current path) (key_holds_read a.own path) t (Some g) s)
         (λ u after in_time read. then u read.main after read.keeps
         (record { stands = read.stands; current_root = current_later a t u r (Some g) read.word x; chain = chain_later a t u r g path read.keeps chain; has = read.has }))
 
@@ -119,7 +117,8 @@ module _ (a : Lone) (weight : ℕ → ℕ) (c : ℕ) (heavy : IsWeight a weight)
       pub branch : node a fresh ≡ renewed (bitmap_of (node a main)) done
       pub each : (k : ℕ) → 0 ≤ k → k < length done → IsRenewed a g (slice_index_or done k no_ref)
 
-    module _ (r : Ref) (g : ℕ) (path : List Ref) (main below : Ref) (x : Leads a (depth_of path) main below) (within_it : position_of (flag_at a (depth_of path)) x.bitmap < length (entries_of (node a main))) where
+    module _ (r : Ref) (g : ℕ) (path : List Ref) (main below : Ref) (x : Leads a (depth_of path) main below)
+        (within_it : position_of (flag_at a (depth_of path)) x.bitmap < length (entries_of (node a main))) where
       after_renewal : (fresh t : ℕ) → Renewed g main fresh → AtMain r g path fresh t → W (Goes r g path) 2 t
       after_renewal fresh t done m = by (leads_or_ends a (depth_of path) fresh)
         where
@@ -133,7 +132,8 @@ module _ (a : Lone) (weight : ℕ → ℕ) (c : ℕ) (heavy : IsWeight a weight)
       after_swap : (t u : ℕ) → AtRenewal r g path main t → IsRenewing a weight c t g path main 0 u → t ≤ u → W (Goes r g path) (5 + (c + 2)) u
       after_swap t u e ren after =
           bind a weight (HasSwapped a weight c u (Some g) (purpose.Renew path) (current path) ren.fresh) (Goes r g path) 5 (c + 2) u
-          (machines.swaps_current (purpose.Renew path) (current path) main ren.fresh r u (Some g) ren.stands (current_later a t u r (Some g) ren.word e.current_root) (ren.keeps (current path) main e.has))
+          (machines.swaps_current (purpose.Renew path) (current path) main ren.fresh r u (Some g) ren.stands
+          (current_later a t u r (Some g) ren.word e.current_root) (ren.keeps (current path) main e.has))
           (λ v later in_time sw.
           let now = current_later a u v r (Some g) sw.word (current_later a t u r (Some g) ren.word e.current_root) in
           let chain = chain_kept a u v r g path (way_apart a u (Some g) (line.Swap (purpose.Renew path) (swapping (current path) main ren.fresh)) ren.stands path refl) sw.keeps
@@ -146,7 +146,8 @@ module _ (a : Lone) (weight : ℕ → ℕ) (c : ℕ) (heavy : IsWeight a weight)
           after_renewal found w done m))
 
       -- RENEW, from its first entry
-      renewing_level : (t : ℕ) → AtRenewal r g path main t → Stands a t (Some g) (line.Renew (renew.Entry path main [])) → W (Goes r g path) ((length (entries_of (node a main)) * (c + 2) + 2) + (5 + (c + 2))) t
+      renewing_level : (t : ℕ) → AtRenewal r g path main t → Stands a t (Some g) (line.Renew (renew.Entry path main [])) →
+          W (Goes r g path) ((length (entries_of (node a main)) * (c + 2) + 2) + (5 + (c + 2))) t
       renewing_level t e s =
           bind a weight (IsRenewing a weight c t g path main 0) (Goes r g path) (length (entries_of (node a main)) * (c + 2) + 2) (5 + (c + 2)) t
           (renewing path main [] t g (length (entries_of (node a main))) s (omega arith)) (λ u after in_time ren. after_swap t u e ren after)
@@ -159,7 +160,7 @@ module _ (a : Lone) (weight : ℕ → ℕ) (c : ℕ) (heavy : IsWeight a weight)
     from_entry r g path main below h t x e of other =
         weaken a weight (Goes r g path) (((length (entries_of (node a main)) * (c + 2) + 2) + (5 + (c + 2))) + 1) (33 * (c + 2) + 8) t (costs (length (entries_of (node a main))) entries)
         (one a weight heavy (Goes r g path) ((length (entries_of (node a main)) * (c + 2) + 2) + (5 + (c + 2))) t (Some g) l e.stands tt (λ more.
-        let keeps = step_keeps t (Some g) l e.stands more tt tt in
+        let keeps = steps.keeps t (Some g) l e.stands more tt tt in
         let next : AtRenewal r g path main (suc t) = record {
           current_root = current_later a t (suc t) r (Some g) (step_stays t (Some g) l e.stands more tt tt) e.current_root;
           chain = chain_later a t (suc t) r g path keeps e.chain;

@@ -41,7 +41,8 @@ module _ (a : Lone) (steps : Stepping a) where
       by (Tomb single) e = none (Tomb single) e refl
       by (Listed singles) e = none (Listed singles) e refl
 
-module _ (a : Lone) (weight : ℕ → ℕ) (c : ℕ) (steps : Stepping a) (machines : Machines a weight c) (on : IsOnKey a.own.call) (passes : PassEnds a weight c) (tombs : (path : List Ref) (r main : Ref) (t g : ℕ) → length path ≤ 13 + 1 → AtEnd a r g path main t → Within a weight (λ u. ⊥) (tombs_most c 13) t) where
+module _ (a : Lone) (weight : ℕ → ℕ) (c : ℕ) (steps : Stepping a) (machines : Machines a weight c) (on : IsOnKey a.own.call) (passes : PassEnds a weight c)
+    (tombs : (path : List Ref) (r main : Ref) (t g : ℕ) → length path ≤ 13 + 1 → AtEnd a r g path main t → Within a weight (λ u. ⊥) (tombs_most c 13) t) where
   abbrev W : (ℕ → Type 0) → ℕ → ℕ → Type 0
   W = Within a weight
 
@@ -52,7 +53,8 @@ module _ (a : Lone) (weight : ℕ → ℕ) (c : ℕ) (steps : Stepping a) (machi
   pub rooted_ends : (t u : ℕ) → IsRooted a weight c t u → W Never (rooted_most c) u
   rooted_ends t u rooted =
       bind a weight (λ v. (to : List Ref) × IsBottom a weight c rooted.root (generation a rooted.root) to v) Never (14 * (34 * (c + 2) + 10)) (tombs_most c 13) u
-      (passes (rooted.root ∷ []) rooted.root u (generation a rooted.root) now current_root (chain_root a u rooted.root (generation a rooted.root) (root_link a steps u (Some (generation a rooted.root)) rooted.root now)))
+      (passes (rooted.root ∷ []) rooted.root u (generation a rooted.root) now current_root
+      (chain_root a u rooted.root (generation a rooted.root) (root_link a steps u (Some (generation a rooted.root)) rooted.root now)))
       (λ v after in_time (to, b).
       tombs to rooted.root b.main v (generation a rooted.root) (short_way a v (Some (generation a rooted.root)) (line.Key (key.Main to b.main)) b.stands)
       (record { stands = b.stands; current_root = b.current_root; ended = b.ended }))

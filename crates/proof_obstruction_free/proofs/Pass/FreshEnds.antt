@@ -97,10 +97,12 @@ module _ (a : Lone) (weight : ℕ → ℕ) (c : ℕ) (heavy : IsWeight a weight)
         by : (b : Bool) → (entries == 1) ≡ b → W Never (tombs_most c (suc n) - 1) t
         by true e =
             let cost = one_costs c n entries (length (above path)) (eqb-true entries 1 e) low in
-            weaken a weight Never ((c + 8 + entries * (c + 2)) + ((1 + length (above path) * (c + 2)) + tombs_most c n)) (tombs_most c (suc n) - 1) t (less _ _ cost) (cleaned_one n further path r t g entries low w)
+            weaken a weight Never ((c + 8 + entries * (c + 2)) + ((1 + length (above path) * (c + 2)) + tombs_most c n)) (tombs_most c (suc n) - 1) t
+            (less _ _ cost) (cleaned_one n further path r t g entries low w)
         by false e =
             let cost = more_costs c n entries (length (above path)) few low in
-            weaken a weight Never ((c + 8 + entries * (c + 2)) + ((1 + length (above path) * (c + 2)) + bottom_most c)) (tombs_most c (suc n) - 1) t (less _ _ cost) (cleaned_more path r t g entries (eqb-false entries 1 e) w)
+            weaken a weight Never ((c + 8 + entries * (c + 2)) + ((1 + length (above path) * (c + 2)) + bottom_most c)) (tombs_most c (suc n) - 1) t (less _ _ cost)
+            (cleaned_more path r t g entries (eqb-false entries 1 e) w)
 
     -- after a step from the tomb
     from_tomb : (path : List Ref) (r main single : Ref) (t g : ℕ) → AtEnd a r g path main t → node a main ≡ Tomb single → (Q : ℕ → Type 0) (n : ℕ) →

@@ -90,5 +90,12 @@ module _ (a : Lone) where
     tomb_below t g path main single s more is = by (cases_lt 1 (length path))
       where
         by : (1 < length path) ⊎ (length path ≤ 1) → (2 ≤ length path) × Stands a (suc t) g (line.Clean (clean.Read (above path) (reading (current (above path)))))
-        by (inl low) = (low, stands_as a (suc t) g g _ _ refl (ap (λ b. cond b (line.Clean (clean.Read (above path) (reading (current (above path))))) impossible) (lt-ltb 1 (length path) low)) (tomb_next t g path main single s more is))
-        by (inr high) = absurd (never a (suc t) g (stands_as a (suc t) g g _ impossible refl (ap (λ b. cond b (line.Clean (clean.Read (above path) (reading (current (above path))))) impossible) (le-ltb 1 (length path) high)) (tomb_next t g path main single s more is)))
+        by (inl low) = (
+          low,
+          stands_as a (suc t) g g _ _ refl
+              (ap (λ b. cond b (line.Clean (clean.Read (above path) (reading (current (above path))))) impossible) (lt-ltb 1 (length path) low)) (tomb_next t g path main single s more is),
+        )
+        by (inr high) =
+            absurd (never a (suc t) g
+            (stands_as a (suc t) g g _ impossible refl
+            (ap (λ b. cond b (line.Clean (clean.Read (above path) (reading (current (above path))))) impossible) (le-ltb 1 (length path) high)) (tomb_next t g path main single s more is)))

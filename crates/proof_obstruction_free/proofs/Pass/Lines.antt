@@ -49,7 +49,8 @@ equal g h e = grind (arith, e)
 
 module _ (a : Lone) where
   -- going down is a READ of the longer path's last one
-  pub down_reads : (t : ℕ) (g : Option ℕ) (path : List Ref) (below : Ref) → Stands a t g (going_down path below) → Stands a t g (line.Key (key.Read (path ++ below ∷ []) (reading (current (path ++ below ∷ [])))))
+  pub down_reads : (t : ℕ) (g : Option ℕ) (path : List Ref) (below : Ref) → Stands a t g (going_down path below) →
+      Stands a t g (line.Key (key.Read (path ++ below ∷ []) (reading (current (path ++ below ∷ [])))))
   down_reads t g path below s = subst (λ i. Stands a t g (line.Key (key.Read (path ++ below ∷ []) (reading i)))) (sym last) s
     where
       last : current (path ++ below ∷ []) ≡ below
@@ -70,7 +71,8 @@ module _ (a : Lone) where
     pub to_entry : (t : ℕ) (g : Option ℕ) (path : List Ref) (main below : Ref) → Stands a t g (line.Key (key.Main path main)) → t < a.last → (x : Leads a (depth_of path) main below) →
         Stands a (suc t) g (line.Key (key.Entry path main (position_of (flag_at a (depth_of path)) x.bitmap)))
     to_entry t g path main below s more x =
-        stands_as a (suc t) s.operation.generation g (line_after (a.states t) s.operation (line.Key (key.Main path main))) (line.Key (key.Entry path main (position_of (flag_at a (depth_of path)) x.bitmap))) s.generation
+        stands_as a (suc t) s.operation.generation g (line_after (a.states t) s.operation (line.Key (key.Main path main)))
+        (line.Key (key.Entry path main (position_of (flag_at a (depth_of path)) x.bitmap))) s.generation
         (ap (key_after_main (a.states t) s.operation path main) (main_seen a steps t g path main s ∙ x.branch)
         ∙ main_leads (flag_in (a.states t) s.operation path) (flag_at a (depth_of path)) path main s.operation x.bitmap (flag_is a t g (line.Key (key.Main path main)) s path) x.flagged)
         (steps.next t g (line.Key (key.Main path main)) s more tt)
@@ -109,8 +111,10 @@ module _ (a : Lone) where
           ap (λ r. key_after_entry (a.states t) s.operation path main position (node_at (a.states t).heap r)) entry
           ∙ ap (key_after_entry (a.states t) s.operation path main position) link.1
           ∙ ap₂ (λ b r. cond b (going_down path r) (renew_next (a.states t) path main [])) (passable s.operation g h (s.access ∙ writes) s.generation) entry
-          ∙ ap (λ n. cond (g == h) (going_down path below) (cond (ltb 0 n) (line.Renew (renew.Entry path main [])) (line.Renew (renew.Branch path main [])))) (ap (λ n. length (entries_of n)) sees.branch)
-          ∙ ap (λ b. cond (g == h) (going_down path below) (cond b (line.Renew (renew.Entry path main [])) (line.Renew (renew.Branch path main [])))) (lt-ltb 0 (length (entries_of (node a main))) (some_entries _ sees.within))
+          ∙ ap (λ n. cond (g == h) (going_down path below) (cond (ltb 0 n) (line.Renew (renew.Entry path main [])) (line.Renew (renew.Branch path main []))))
+          (ap (λ n. length (entries_of n)) sees.branch)
+          ∙ ap (λ b. cond (g == h) (going_down path below) (cond b (line.Renew (renew.Entry path main [])) (line.Renew (renew.Branch path main []))))
+          (lt-ltb 0 (length (entries_of (node a main))) (some_entries _ sees.within))
 
       next : Stands a (suc t) (Some g) (cond (g == h) (going_down path below) (line.Renew (renew.Entry path main [])))
       next =

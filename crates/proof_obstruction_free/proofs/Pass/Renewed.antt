@@ -11,10 +11,12 @@ use Rattle.proof_obstruction_free.specs.Keys.{IsOf, IsRenewed, Leads, flag_at}
 use Rattle.proof_obstruction_free.proofs.Clean.Ends.{link_no_single}
 
 module _ (a : Lone) where
-  pub renewed_leads : (depth g h : ℕ) (main fresh below next : Ref) (done : List Ref) → length done ≤ 32 → node a fresh ≡ renewed (bitmap_of (node a main)) done → length done ≡ length (entries_of (node a main)) →
+  pub renewed_leads : (depth g h : ℕ) (main fresh below next : Ref) (done : List Ref) → length done ≤ 32 → node a fresh ≡ renewed (bitmap_of (node a main)) done →
+      length done ≡ length (entries_of (node a main)) →
       ((k : ℕ) → 0 ≤ k → k < length done → IsRenewed a g (get_or done k no_ref)) → (x : Leads a depth main below) → position_of (flag_at a depth) x.bitmap < length (entries_of (node a main)) →
       Leads a depth fresh next → IsOf a next h → IsOf a next g
-  renewed_leads depth g h main fresh below next done few branch same each x within y of = by (each (position_of (flag_at a depth) x.bitmap) (omega arith) (subst (λ n. position_of (flag_at a depth) x.bitmap < n) (sym same) within))
+  renewed_leads depth g h main fresh below next done few branch same each x within y of =
+      by (each (position_of (flag_at a depth) x.bitmap) (omega arith) (subst (λ n. position_of (flag_at a depth) x.bitmap < n) (sym same) within))
     where
       bits : bitmap_of (node a main) ≡ x.bitmap
       bits = ap bitmap_of x.branch

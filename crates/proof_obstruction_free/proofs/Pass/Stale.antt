@@ -28,7 +28,8 @@ use Rattle.proof_obstruction_free.proofs.Pass.Sees.{flag_is, main_seen}
 use Rattle.proof_obstruction_free.proofs.Step.Within.{here, weaken}
 use Rattle.proof_obstruction_free.proofs.Ends.StandsAt.{never}
 
-module _ (a : Lone) (weight : ℕ → ℕ) (c : ℕ) (heavy : IsWeight a weight) (steps : Stepping a) (machines : Machines a weight c) (writes : a.own.access ≡ Writable) (few : FewEntries a) (renewing : RenewsFrom a weight c) where
+module _ (a : Lone) (weight : ℕ → ℕ) (c : ℕ) (heavy : IsWeight a weight) (steps : Stepping a) (machines : Machines a weight c) (writes : a.own.access ≡ Writable)
+    (few : FewEntries a) (renewing : RenewsFrom a weight c) where
   abbrev W : (ℕ → Type 0) → ℕ → ℕ → Type 0
   W = Within a weight
 
@@ -69,8 +70,10 @@ module _ (a : Lone) (weight : ℕ → ℕ) (c : ℕ) (heavy : IsWeight a weight)
       from_main : (n : Node) → node a main ≡ n → Stands a (suc t) (Some g) (key_after_main (a.states t) s.operation path main n) → W T (stale_bottom_most c - 1) (suc t)
       from_main (Branch b es) is next = by (has_flag b flag) refl next
         where
-          by : (f : Bool) → has_flag b flag ≡ f → Stands a (suc t) (Some g) (if f then line.Key (key.Entry path main (position_of flag b)) else absent s.operation path main) → W T (stale_bottom_most c - 1) (suc t)
-          by true flagged next = weaken a weight T (14 * (c + 12) + 45) (stale_bottom_most c - 1) (suc t) (omega arith) (entries path main (position_of flag b) (suc t) (Some g) next (no_link b es is flagged))
+          by : (f : Bool) → has_flag b flag ≡ f →
+              Stands a (suc t) (Some g) (if f then line.Key (key.Entry path main (position_of flag b)) else absent s.operation path main) → W T (stale_bottom_most c - 1) (suc t)
+          by true flagged next =
+              weaken a weight T (14 * (c + 12) + 45) (stale_bottom_most c - 1) (suc t) (omega arith) (entries path main (position_of flag b) (suc t) (Some g) next (no_link b es is flagged))
           by false flagged next = weaken a weight T (14 * (c + 12) + 43) (stale_bottom_most c - 1) (suc t) (omega arith) (absents s.operation path main (suc t) (Some g) next)
       from_main (Tomb single) is next = cleans_tomb (subst (λ (x : Access). Stands a (suc t) (Some g) (after_tomb x path main)) (s.access ∙ writes) next)
       from_main (Listed singles) is next = weaken a weight T (14 * (c + 12) + 76) (stale_bottom_most c - 1) (suc t) (omega arith) (lists path main 0 (suc t) (Some g) next)

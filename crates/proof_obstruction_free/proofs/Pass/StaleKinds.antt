@@ -86,4 +86,5 @@ pub key_lines : (limits : Limits) (states : ℕ → State) (last : ℕ) → IsRu
     operation_of (states t) actor ≡ Some operation → IsOnKey operation.call → is_down operation.line ≡ true
 key_lines limits states last run t within actor operation runs =
     let (k, place, at_k) = place_of_actor (states t) actor operation runs in
-    at_each_time limits states last run AllDown (at_first limits) (λ before s o after m all k found now. by_coming before s k found all (comes before s o after m k found now)) t within k operation at_k
+    at_each_time limits states last run AllDown (at_first limits)
+    (λ before s o after m all k found now. by_coming before s k found all (comes before s o after m k found now)) t within k operation at_k

@@ -61,7 +61,8 @@ module _ (limits : Limits) (steps : List Step) (actor : ℕ) (operation : Operat
   over_left (inl still) =
       let room = last_is 12 still in
       let h = held 12 still in
-      let (u, from, soon, m, s) = read_goes_to_its_end (a 12 still) h.wrap h.gives own.indirection h.holds (last_of limits steps) operation.generation own.line (stands 12 still) (omega (arith, room)) in
+      let (u, from, soon, m, s) = read_goes_to_its_end (a 12 still) h.wrap h.gives own.indirection h.holds (last_of limits steps) operation.generation own.line
+      (stands 12 still) (omega (arith, room)) in
       given 12 still u m from soon s
 
   over_first : own.line ≡ read.Main → StillRuns limits steps actor operation r 9 ⊎ EndedBefore limits steps actor operation r 9 → Over 9

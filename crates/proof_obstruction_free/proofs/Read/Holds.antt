@@ -88,7 +88,8 @@ module _ (a : Lone) where
   root_holding root.Read = λ r e. absurd (none-some r e)
   root_holding (root.Completing c) = by c.offer c.line
     where
-      by : (offer : Descriptor) (l : CompleteLine) → Held (line.Root (root.Completing (record { offer = offer; line = l }))) (read_of (line.Root (root.Completing (record { offer = offer; line = l }))))
+      by : (offer : Descriptor) (l : CompleteLine) → Held (line.Root (root.Completing (record { offer = offer; line = l })))
+          (read_of (line.Root (root.Completing (record { offer = offer; line = l }))))
       by offer (complete.Swap m) = λ r e. absurd (none-some r e)
       by offer (complete.Reading own) = held_complete _ offer own (record {
         wrap = λ x. line.Root (root.Completing (record { offer = offer; line = complete.Reading x }));
@@ -113,7 +114,8 @@ module _ (a : Lone) where
         over = λ m. refl;
       })
 
-  copy_holding : (offer : Descriptor) (l : CompleteLine) → Held (line.Copy (copy.Complete (record { offer = offer; line = l }))) (read_of (line.Copy (copy.Complete (record { offer = offer; line = l }))))
+  copy_holding : (offer : Descriptor) (l : CompleteLine) → Held (line.Copy (copy.Complete (record { offer = offer; line = l })))
+      (read_of (line.Copy (copy.Complete (record { offer = offer; line = l }))))
   copy_holding offer (complete.Swap m) = λ r e. absurd (none-some r e)
   copy_holding offer (complete.Reading own) = held_complete _ offer own (record {
     wrap = λ x. line.Copy (copy.Complete (record { offer = offer; line = complete.Reading x }));
@@ -124,7 +126,8 @@ module _ (a : Lone) where
   })
 
   swap_holding : (why : Purpose) (i replaced fresh : Ref) (l : SwapLine) →
-      Held (line.Swap why (record { indirection = i; replaced = replaced; fresh = fresh; line = l })) (read_of (line.Swap why (record { indirection = i; replaced = replaced; fresh = fresh; line = l })))
+      Held (line.Swap why (record { indirection = i; replaced = replaced; fresh = fresh; line = l }))
+      (read_of (line.Swap why (record { indirection = i; replaced = replaced; fresh = fresh; line = l })))
   swap_holding why i replaced fresh swap.Publish = λ r e. absurd (none-some r e)
   swap_holding why i replaced fresh swap.Check = λ r e. absurd (none-some r e)
   swap_holding why i replaced fresh (swap.Deciding own) = held _ (record { indirection = i; line = own }) (record {
@@ -140,7 +143,8 @@ module _ (a : Lone) where
   holding (line.Climb (climb.Root x l)) = climb_root_holding x l
   holding (line.Copy (copy.Complete c)) = copy_holding c.offer c.line
   holding (line.Swap why s) = swap_holding why s.indirection s.replaced s.fresh s.line
-  holding (line.Key (key.Read path own)) = held _ own (record { wrap = key_read_of path own.indirection; gives = key_gives path; holds = key_holds_read_of a.own path own.indirection; is = refl; over = λ m. refl })
+  holding (line.Key (key.Read path own)) =
+      held _ own (record { wrap = key_read_of path own.indirection; gives = key_gives path; holds = key_holds_read_of a.own path own.indirection; is = refl; over = λ m. refl })
   holding (line.Renew (renew.Read path main done own)) = held _ own (record {
     wrap = entry_read path main done own.indirection;
     gives = entry_link path main done;
@@ -148,7 +152,8 @@ module _ (a : Lone) where
     is = refl;
     over = λ m. refl;
   })
-  holding (line.Clean (clean.Read path own)) = held _ own (record { wrap = current_read path own.indirection; gives = current_main path; holds = current_reads a.own path own.indirection; is = refl; over = λ m. refl })
+  holding (line.Clean (clean.Read path own)) =
+      held _ own (record { wrap = current_read path own.indirection; gives = current_main path; holds = current_reads a.own path own.indirection; is = refl; over = λ m. refl })
   holding (line.Clean (clean.Child path main done own)) = held _ own (record {
     wrap = child_read path main done own.indirection;
     gives = child_tomb path main done;
@@ -156,7 +161,8 @@ module _ (a : Lone) where
     is = refl;
     over = λ m. refl;
   })
-  holding (line.Climb (climb.Read x own)) = held _ own (record { wrap = climb_read x own.indirection; gives = climb_gives x; holds = climb_holds_read a.own x own.indirection; is = refl; over = λ m. refl })
+  holding (line.Climb (climb.Read x own)) =
+      held _ own (record { wrap = climb_read x own.indirection; gives = climb_gives x; holds = climb_holds_read a.own x own.indirection; is = refl; over = λ m. refl })
   holding (line.Copy (copy.Read r own)) = held _ own (record {
     wrap = λ l. line.Copy (copy.Read r (record { indirection = own.indirection; line = l }));
     gives = λ m. after_given a.own.call r m;

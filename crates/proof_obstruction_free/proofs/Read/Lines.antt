@@ -30,9 +30,9 @@ use Rattle.proof_obstruction_free.specs.Beneath.proof_commits.proofs.Known.Owner
 use Rattle.proof_obstruction_free.specs.Beneath.proof_commits.proofs.Words.Along.{remembers_at}
 use Rattle.proof_obstruction_free.specs.Beneath.proof_commits.proofs.Lines.Stages.{Remembers, ReadRemembers, CompleteRemembers, RootRemembers, SwapRemembers}
 use Rattle.proof_obstruction_free.specs.Beneath.proof_commits.specs.Stages.{stage_of, stage_of_root, stage_of_complete, stage_of_swap, stage_of_actor}
-use Rattle.proof_obstruction_free.specs.Beneath.proof_shape.proofs.Runs.Nodes.{known_run}
 use Rattle.proof_obstruction_free.specs.Alone.{Lone, Stands}
 use Rattle.proof_obstruction_free.proofs.Read.Words.{w, sound}
+use Rattle.proof_obstruction_free.specs.Beneath.proof_commits.proofs.Known.Acts.{known_run}
 
 -- ---- the line's stage is its READ
 

@@ -16,7 +16,7 @@ use Rattle.proof_obstruction_free.specs.Beneath.machine_model.specs.Grown.{prev_
 use Rattle.proof_obstruction_free.specs.Beneath.proof_commits.proofs.Known.Given.{GrownStays, GrownChanges, Either}
 use Rattle.proof_obstruction_free.specs.Beneath.proof_commits.proofs.Words.Stood.{Stood}
 use Rattle.proof_obstruction_free.specs.Beneath.proof_commits.proofs.Words.OfRuns.{link_made}
-use Rattle.proof_obstruction_free.specs.Beneath.proof_commits.proofs.Lines.Read.{pending_so}
+use Rattle.proof_obstruction_free.specs.Beneath.proof_commits.proofs.Lines.Read.{pending_so, not_pending_so}
 use Rattle.proof_obstruction_free.specs.Alone.{Lone, Stands, IsPlain, IsQuiet, word}
 use Rattle.proof_obstruction_free.specs.Machines.{HoldsRead, IsRead, WasRead, ReadsOn, lead}
 use Rattle.proof_obstruction_free.specs.Weighing.{Weighing, Sees}
@@ -26,10 +26,6 @@ use Rattle.proof_obstruction_free.proofs.Read.Lines.{on_line, pending_there}
 use Rattle.proof_obstruction_free.proofs.Read.Step.{Counts, acting, off, same_word_at, light, on}
 use Rattle.proof_obstruction_free.proofs.Read.First.{main, decide, prev_pending}
 use Rattle.proof_obstruction_free.proofs.Swap.Steps.{read_acts}
-
--- what isn't found so isn't
-pub not_pending_so : (v : Prev) (q : Ref) → is_pending v q ≡ false → v ≡ prev.Pending q → ⊥
-not_pending_so v q e is = true≢false (sym (ap (λ x. is_pending x q) is ∙ eq-eqb q q refl) ∙ e)
 
 module _ (a : Lone) (weight : ℕ → ℕ) (x f : ℕ) (wt : Weighing a weight x f) (wrap : ReadLine → Line) (gives : Ref → Line) (i : Ref) (h : HoldsRead a.own wrap gives i) (c : ℕ)
     (g : Option ℕ) (two : 2 ≤ c) (three : 3 ≤ c + f) (seven : 7 ≤ c + x) where
@@ -146,6 +142,36 @@ module _ (a : Lone) (weight : ℕ → ℕ) (x f : ℕ) (wt : Weighing a weight x
 
   -- ---- the root is asked for
 
+  -- where it is known how it goes on from a root with no offer
+  module _ (j : ℕ) (plain_on : (t b : ℕ) (m q r : Ref) → S t (read.AskRoot m q) → IsPlain a t r → c + (j + 1) + weight t ≤ b → C (P t) b t) where
+    abort_standing : (t b : ℕ) (m q : Ref) (offer : Descriptor) → S t (read.Abort m q offer) → word a t ≡ Offer offer → c + j + weight t ≤ b → C (P t) b t
+    abort_standing t b m q offer s there enough =
+        on a wrap gives i h weight P counts b t g (read.Abort m q offer) s (omega (arith, enough))
+        (λ more next.
+        let gone = off a wrap gives i h t g m q offer s more there in
+        let less = wt.abort t offer (acting a wrap gives i h t g (read.Abort m q offer) s more) there in
+        plain_on (suc t) (b - 1) m q gone.0 next gone.1 (omega (arith, enough, less)))
+
+    ask_by : (t b : ℕ) (m q : Ref) → S t (read.AskRoot m q) → c + (j + 1) + weight t ≤ b → (y : RootWord) → word a t ≡ y → C (P t) b t
+    ask_by t b m q s enough (Plain r) e = plain_on t b m q r s e enough
+    ask_by t b m q s enough (Offer offer) e =
+        on a wrap gives i h weight P counts b t g (read.AskRoot m q) s (omega (arith, enough))
+        (λ more next.
+        let less = quiet t (read.AskRoot m q) s more tt in
+        abort_standing (suc t) (b - 1) m q offer
+        (subst (λ y. Stands a (suc t) g (lead wrap gives (after_ask (a.states t).heap m q y))) e next)
+        (same_word_at a wrap gives i h t g m q s more ∙ e) (omega (arith, enough, less)))
+
+    pub ask : (t b : ℕ) (m q : Ref) → S t (read.AskRoot m q) → c + (j + 1) + weight t ≤ b → C (P t) b t
+    ask t b m q s enough = ask_by t b m q s enough (word a t) refl
+
+    pub abort : (t b : ℕ) (m q : Ref) (offer : Descriptor) → S t (read.Abort m q offer) → c + (j + 2) + weight t ≤ b → C (P t) b t
+    abort t b m q offer s enough =
+        on a wrap gives i h weight P counts b t g (read.Abort m q offer) s (omega (arith, enough))
+        (λ more next.
+        let less = quiet t (read.Abort m q offer) s more tt in
+        ask (suc t) (b - 1) m q next (omega (arith, enough, less)))
+
   ask_plain : (t b : ℕ) (m q r : Ref) → S t (read.AskRoot m q) → IsPlain a t r → c + 4 + weight t ≤ b → C (P t) b t
   ask_plain t b m q r s plain enough =
       on a wrap gives i h weight P counts b t g (read.AskRoot m q) s (omega (arith, enough))
@@ -154,41 +180,13 @@ module _ (a : Lone) (weight : ℕ → ℕ) (x f : ℕ) (wt : Weighing a weight x
       decide_any (suc t) (b - 1) m q (Some (generation_at (a.states t).heap r))
       (subst (λ y. Stands a (suc t) g (lead wrap gives (after_ask (a.states t).heap m q y))) plain next) (omega (arith, enough, less)))
 
-  abort_standing : (t b : ℕ) (m q : Ref) (offer : Descriptor) → S t (read.Abort m q offer) → word a t ≡ Offer offer → c + 3 + weight t ≤ b → C (P t) b t
-  abort_standing t b m q offer s there enough =
-      on a wrap gives i h weight P counts b t g (read.Abort m q offer) s (omega (arith, enough))
-      (λ more next.
-      let gone = off a wrap gives i h t g m q offer s more there in
-      let less = wt.abort t offer (acting a wrap gives i h t g (read.Abort m q offer) s more) there in
-      ask_plain (suc t) (b - 1) m q gone.0 next gone.1 (omega (arith, enough, less)))
-
-  ask_by : (t b : ℕ) (m q : Ref) → S t (read.AskRoot m q) → c + 4 + weight t ≤ b → (y : RootWord) → word a t ≡ y → C (P t) b t
-  ask_by t b m q s enough (Plain r) e = ask_plain t b m q r s e enough
-  ask_by t b m q s enough (Offer offer) e =
-      on a wrap gives i h weight P counts b t g (read.AskRoot m q) s (omega (arith, enough))
-      (λ more next.
-      let less = quiet t (read.AskRoot m q) s more tt in
-      abort_standing (suc t) (b - 1) m q offer
-      (subst (λ y. Stands a (suc t) g (lead wrap gives (after_ask (a.states t).heap m q y))) e next)
-      (same_word_at a wrap gives i h t g m q s more ∙ e) (omega (arith, enough, less)))
-
-  ask_any : (t b : ℕ) (m q : Ref) → S t (read.AskRoot m q) → c + 4 + weight t ≤ b → C (P t) b t
-  ask_any t b m q s enough = ask_by t b m q s enough (word a t) refl
-
-  abort_any : (t b : ℕ) (m q : Ref) (offer : Descriptor) → S t (read.Abort m q offer) → c + 5 + weight t ≤ b → C (P t) b t
-  abort_any t b m q offer s enough =
-      on a wrap gives i h weight P counts b t g (read.Abort m q offer) s (omega (arith, enough))
-      (λ more next.
-      let less = quiet t (read.Abort m q offer) s more tt in
-      ask_any (suc t) (b - 1) m q next (omega (arith, enough, less)))
-
   -- ---- from any line
 
   pub any : (t b : ℕ) (l : ReadLine) → S t l → c + 5 + weight t ≤ b → C (P t) b t
   any t b read.Main s enough = from_main t b s (omega (arith, enough))
   any t b (read.Prev m) s enough = prev_any t b m s (omega (arith, enough))
-  any t b (read.AskRoot m q) s enough = ask_any t b m q s (omega (arith, enough))
-  any t b (read.Abort m q offer) s enough = abort_any t b m q offer s enough
+  any t b (read.AskRoot m q) s enough = ask 3 ask_plain t b m q s (omega (arith, enough))
+  any t b (read.Abort m q offer) s enough = abort 3 ask_plain t b m q offer s enough
   any t b (read.Decide m q told) s enough = decide_any t b m q told s (omega (arith, enough))
   any t b (read.Restore m q) s enough = restore t b m q s (omega (arith, enough))
 

@@ -60,7 +60,8 @@ module _ (a : Lone) (wrap : ReadLine → Line) (gives : Ref → Line) (i : Ref) 
 
   -- a plain root stays
   pub stays : (t : ℕ) (g : Option ℕ) (l : ReadLine) → Stands a t g (wrap l) → t < a.last → WordStays a t (suc t)
-  stays t g (read.Abort m q offer) s more = stays_plain a t g (wrap (read.Abort m q offer)) s more (read_no_end a wrap gives i h t g (read.Abort m q offer) s more) offer (action t g (read.Abort m q offer) s)
+  stays t g (read.Abort m q offer) s more =
+      stays_plain a t g (wrap (read.Abort m q offer)) s more (read_no_end a wrap gives i h t g (read.Abort m q offer) s more) offer (action t g (read.Abort m q offer) s)
   stays t g l s more = same_stays a t (suc t) (same_word a wrap gives i h t g l s more (leaves i l tt))
 
   -- an offer that is taken back is off

@@ -12,7 +12,7 @@ use Rattle.proof_obstruction_free.specs.Beneath.machine_model.specs.declared.roo
 use Rattle.proof_obstruction_free.specs.Beneath.machine_model.specs.declared.roots.RootWord.TheVariants.{Plain, Offer}
 use Rattle.proof_obstruction_free.specs.Beneath.machine_model.specs.Reading.{verdict_by, is_licensed, is_pending, read_action, after_ask, after_decide}
 use Rattle.proof_obstruction_free.specs.Beneath.machine_model.specs.Grown.{prev_word}
-use Rattle.proof_obstruction_free.specs.Beneath.proof_commits.proofs.Lines.Read.{pending_so}
+use Rattle.proof_obstruction_free.specs.Beneath.proof_commits.proofs.Lines.Read.{pending_so, not_pending_so}
 use Rattle.proof_obstruction_free.specs.Alone.{Lone, Stands, IsPlain, IsQuiet, word, generation}
 use Rattle.proof_obstruction_free.specs.Machines.{HoldsRead, lead}
 use Rattle.proof_obstruction_free.specs.Weighing.{Weighing}
@@ -69,7 +69,7 @@ module _ (a : Lone) (weight : ℕ → ℕ) (x f : ℕ) (wt : Weighing a weight x
       on a wrap gives i h weight P counts b t g (read.Decide m q told) s (omega (arith, enough))
       (λ soon next.
       let found = read_acts a wrap gives i h t g (read.Decide m q told) s soon in
-      let less = wt.decided t i m q told (acting a wrap gives i h t g (read.Decide m q told) s soon) (λ is. On.not_pending_so _ q e (found.1.prev ∙ is)) in
+      let less = wt.decided t i m q told (acting a wrap gives i h t g (read.Decide m q told) s soon) (λ is. not_pending_so _ q e (found.1.prev ∙ is)) in
       overtaken (suc t) (b - 1) m r (is_licensed (a.states t).heap i told)
       (subst (λ y. Stands a (suc t) g (lead wrap gives (after_decide m (verdict_by (is_licensed (a.states t).heap i told) y)))) e next)
       (stays a wrap gives i h t g (read.Decide m q told) s soon r plain) writable
@@ -91,37 +91,12 @@ module _ (a : Lone) (weight : ℕ → ℕ) (x f : ℕ) (wt : Weighing a weight x
       (subst (λ n. S (suc t) (read.Decide m q (Some n))) told (subst (λ y. Stands a (suc t) g (lead wrap gives (after_ask (a.states t).heap m q y))) plain next))
       (stays a wrap gives i h t g (read.AskRoot m q) s more r plain) (asks_writable a t g (wrap (read.AskRoot m q)) s i m q (h.reads (read.AskRoot m q))) (omega (arith, enough, less)))
 
-  abort_standing : (t b : ℕ) (m q : Ref) (offer : Descriptor) → S t (read.Abort m q offer) → word a t ≡ Offer offer → c + 1 + weight t ≤ b → C (P t) b t
-  abort_standing t b m q offer s there enough =
-      on a wrap gives i h weight P counts b t g (read.Abort m q offer) s (omega (arith, enough))
-      (λ more next.
-      let gone = off a wrap gives i h t g m q offer s more there in
-      let less = wt.abort t offer (acting a wrap gives i h t g (read.Abort m q offer) s more) there in
-      ask_plain (suc t) (b - 1) m q gone.0 next gone.1 (omega (arith, enough, less)))
-
-  ask_by : (t b : ℕ) (m q : Ref) → S t (read.AskRoot m q) → c + 2 + weight t ≤ b → (y : RootWord) → word a t ≡ y → C (P t) b t
-  ask_by t b m q s enough (Plain r) e = ask_plain t b m q r s e enough
-  ask_by t b m q s enough (Offer offer) e =
-      on a wrap gives i h weight P counts b t g (read.AskRoot m q) s (omega (arith, enough))
-      (λ more next.
-      let less = quiet t (read.AskRoot m q) s more tt in
-      abort_standing (suc t) (b - 1) m q offer
-      (subst (λ y. Stands a (suc t) g (lead wrap gives (after_ask (a.states t).heap m q y))) e next)
-      (same_word_at a wrap gives i h t g m q s more ∙ e) (omega (arith, enough, less)))
-
-  abort : (t b : ℕ) (m q : Ref) (offer : Descriptor) → S t (read.Abort m q offer) → c + 3 + weight t ≤ b → C (P t) b t
-  abort t b m q offer s enough =
-      on a wrap gives i h weight P counts b t g (read.Abort m q offer) s (omega (arith, enough))
-      (λ more next.
-      let less = quiet t (read.Abort m q offer) s more tt in
-      ask_by (suc t) (b - 1) m q next (omega (arith, enough, less)) (word a (suc t)) refl)
-
   -- ---- from any line
 
   pub soon : (t b : ℕ) (l : ReadLine) → S t l → c + 3 + weight t ≤ b → C (P t) b t
   soon t b read.Main s enough = On.from_main a weight x f wt wrap gives i h c g two three seven t b s (omega (arith, enough))
   soon t b (read.Prev m) s enough = On.prev_any a weight x f wt wrap gives i h c g two three seven t b m s (omega (arith, enough))
-  soon t b (read.AskRoot m q) s enough = ask_by t b m q s (omega (arith, enough)) (word a t) refl
-  soon t b (read.Abort m q offer) s enough = abort t b m q offer s enough
+  soon t b (read.AskRoot m q) s enough = On.ask a weight x f wt wrap gives i h c g two three seven 1 ask_plain t b m q s (omega (arith, enough))
+  soon t b (read.Abort m q offer) s enough = On.abort a weight x f wt wrap gives i h c g two three seven 1 ask_plain t b m q offer s enough
   soon t b (read.Decide m q told) s enough = On.decide_any a weight x f wt wrap gives i h c g two three seven t b m q told s enough
   soon t b (read.Restore m q) s enough = On.restore a weight x f wt wrap gives i h c g two three seven t b m q s (omega (arith, enough))

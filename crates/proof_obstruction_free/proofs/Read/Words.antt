@@ -7,19 +7,21 @@ use Rattle.proof_obstruction_free.specs.Beneath.slot_arena.specs.declared.nodes.
 use Rattle.proof_obstruction_free.specs.Beneath.slot_arena.specs.Heaps.{node_of, main_of, prev_of, main_changed, prev_changed}
 use Rattle.proof_obstruction_free.specs.Beneath.machine_model.specs.Grown.{grown, node_under, main_word, prev_word}
 use Rattle.proof_obstruction_free.specs.Beneath.proof_commits.specs.Protocol.{Words, Protocol, Makes}
-use Rattle.proof_obstruction_free.specs.Beneath.proof_commits.proofs.Words.Stood.{none≢pending, none≢failed, over_failed}
+use Rattle.proof_obstruction_free.specs.Beneath.proof_commits.proofs.Words.Stood.{none≢pending, over_failed}
 use Rattle.proof_obstruction_free.specs.Beneath.proof_commits.proofs.Words.Effects.{Effect, Nothing, Made, SwappedIn, PutBack, Committed, Failed, made_later}
 use Rattle.proof_obstruction_free.specs.Beneath.proof_commits.proofs.Known.Owners.{IsSound}
 use Rattle.proof_obstruction_free.specs.Beneath.proof_commits.proofs.Known.Sounds.{sound_at}
 use Rattle.proof_obstruction_free.specs.Beneath.proof_commits.proofs.Course.Finals.{effect}
-use Rattle.proof_obstruction_free.specs.Beneath.proof_commits.proofs.Words.OfRuns.{slot_prev_node, slot_kept, slot_prev, slot_main, slot_main_prev}
+use Rattle.proof_obstruction_free.specs.Beneath.proof_commits.proofs.Words.OfRuns.{slot_prev_node, slot_prev, slot_main, slot_main_prev}
 use Rattle.proof_obstruction_free.specs.Beneath.proof_commits.proofs.Known.Given.{GrownStays, GrownChanges}
 use Rattle.proof_obstruction_free.specs.Beneath.proof_memory.specs.Wants.{is_indirection}
 use Rattle.proof_obstruction_free.specs.Beneath.proof_commits.proofs.Words.Along.{protocol}
 use Rattle.proof_obstruction_free.specs.Beneath.proof_contents.specs.Runs.{is_made}
-use Rattle.proof_obstruction_free.specs.Beneath.proof_shape.proofs.Runs.Nodes.{known_run}
 use Rattle.proof_obstruction_free.specs.Alone.{Lone, Has, Keeps}
 use Rattle.proof_obstruction_free.specs.Weighing.{Sees}
+use Rattle.proof_obstruction_free.specs.Beneath.proof_commits.proofs.Known.Acts.{known_run}
+use Rattle.proof_obstruction_free.specs.Beneath.machine_model.proofs.Basics.{none≢failed}
+use Rattle.proof_obstruction_free.specs.Beneath.machine_model.proofs.Slots.{change_kept}
 
 module _ (a : Lone) where
   abbrev pub p : Protocol
@@ -87,7 +89,7 @@ module _ (a : Lone) where
   prev_writes t v m e i (inl same) =
       let here : grown a.states (suc t) i ≡ option_map (prev_changed v) (grown a.states t i) =
       subst (λ r. grown a.states (suc t) r ≡ option_map (prev_changed v) (grown a.states t r)) (sym same) e.here in
-      (ap node_of here ∙ slot_prev_node v (grown a.states t i), ap is_some here ∙ slot_kept (prev_changed v) (grown a.states t i))
+      (ap node_of here ∙ slot_prev_node v (grown a.states t i), ap is_some here ∙ change_kept (prev_changed v) (grown a.states t i))
   prev_writes t v m e i (inr other) = (ap node_of (e.elsewhere i other), ap is_some (e.elsewhere i other))
 
   -- the prev word of the main node is written
@@ -109,7 +111,7 @@ module _ (a : Lone) where
   pub put_back : (t : ℕ) → t ≤ a.last → (i m q : Ref) → is_indirection (node_under a.states t i) ≡ true → GrownChanges a.states t (main_changed q) i → Sees a t i m (prev.Failed q) →
       Sees a (suc t) i q prev.None
   put_back t within i m q link e s = record {
-    made = ap is_some e.here ∙ slot_kept (main_changed q) (grown a.states t i) ∙ s.made;
+    made = ap is_some e.here ∙ change_kept (main_changed q) (grown a.states t i) ∙ s.made;
     main = ap (λ o. main_of (node_of o)) e.here ∙ slot_main q (grown a.states t i) link;
     prev = main_leaves_prev t i q e q (cases_eq q i) ∙ over_decided t within m q s.prev;
   }

@@ -33,7 +33,8 @@ use Rattle.proof_obstruction_free.specs.Beneath.proof_generations.proofs.Handles
 use Rattle.proof_obstruction_free.specs.Beneath.proof_generations.specs.Running.{Runs}
 use Rattle.proof_obstruction_free.specs.Alone.{Lone, Stands}
 use Rattle.proof_obstruction_free.specs.Keys.{IsOnKey}
-use Rattle.proof_obstruction_free.proofs.Reader.Lines.{IsReader, AfterMain, ToEntry, ToListed, MainEnds, MainFails, AfterEntry, ToBelow, EntryEnds, EntryFails, AfterListed, ToNext, ListedEnds, ListedFails, after_main, after_entry, after_single}
+use Rattle.proof_obstruction_free.proofs.Reader.Lines.{IsReader, AfterMain, ToEntry, ToListed, MainEnds, MainFails, AfterEntry, ToBelow, EntryEnds, EntryFails, AfterListed, ToNext}
+use Rattle.proof_obstruction_free.proofs.Reader.Lines.{ListedEnds, ListedFails, after_main, after_entry, after_single}
 use Rattle.proof_obstruction_free.proofs.Pass.Along.{key_begins}
 
 abbrev pub OfReader : Line → Type 0

@@ -37,7 +37,8 @@ use Rattle.proof_obstruction_free.specs.Keys.{IsOnKey}
 use Rattle.proof_obstruction_free.specs.Machines.{Machines, IsRead, WasRead, IsRooted}
 use Rattle.proof_obstruction_free.specs.Stepping.{Stepping}
 use Rattle.proof_obstruction_free.proofs.Reader.Calls.{OfReader, reader_at, reader_lines}
-use Rattle.proof_obstruction_free.proofs.Reader.Lines.{AfterMain, ToEntry, ToListed, MainEnds, MainFails, AfterEntry, ToBelow, EntryEnds, EntryFails, AfterListed, ToNext, ListedEnds, ListedFails, after_main, after_entry, after_single}
+use Rattle.proof_obstruction_free.proofs.Reader.Lines.{AfterMain, ToEntry, ToListed, MainEnds, MainFails, AfterEntry, ToBelow, EntryEnds, EntryFails, AfterListed, ToNext}
+use Rattle.proof_obstruction_free.proofs.Reader.Lines.{ListedEnds, ListedFails, after_main, after_entry, after_single}
 use Rattle.proof_obstruction_free.proofs.Root.Machines.{flat_machines}
 use Rattle.proof_obstruction_free.proofs.Ends.StandsAt.{begins, stands_as, never}
 use Rattle.proof_obstruction_free.proofs.Step.Step.{stepping}
@@ -46,6 +47,7 @@ use Rattle.proof_obstruction_free.proofs.Weights.Offers.{flat, is_weight, weighs
 use Rattle.proof_obstruction_free.proofs.Step.Within.{weaken, bind, one, ended}
 use Rattle.proof_obstruction_free.proofs.Pass.Along.{key_begins}
 use Rattle.proof_obstruction_free.proofs.Pass.Lines.{key_read_of, key_gives, key_holds_read_of}
+use Rattle.proof_obstruction_free.proofs.Climb.On.{short_way}
 
 list_plain : (n : Node) → meets TombOrList n ≡ true → is_indirection n ≡ false
 list_plain n e = grind arith
@@ -159,16 +161,11 @@ module _ (a : Lone) (read_only : a.own.access ≡ ReadOnly) (on_key : IsOnKey a.
 
   -- ---- all levels
 
-  -- a path has 14 indirections at most
-  short : (t : ℕ) (g : Option ℕ) (l : Line) → Stands a t g l → length (way_of l) ≤ 14
-  short t g l s =
-      subst (λ x. length (way_of x) ≤ 14) s.line ((ways_have_sites a.limits a.states a.steps a.last a.run a.takes a.fit) t s.until a.actor s.operation s.runs).0
-
   deeper : (path : List Ref) (below : Ref) (left : ℕ) → length path + suc left ≡ 14 → length (path ++ below ∷ []) + left ≡ 14
   deeper path below left e = omega (arith, e, length-append path (below ∷ []))
 
   below_on : (left t : ℕ) (path : List Ref) → length path + left ≡ 14 → Below (32 + 9 * left) path t
-  below_on zero t path e u g below le s = absurd (omega (arith, e, length-append path (below ∷ []), short u g (going_down path below) s))
+  below_on zero t path e u g below le s = absurd (omega (arith, e, length-append path (below ∷ []), short_way a u g (going_down path below) s))
   below_on (suc left) t path e u g below le s =
       weaken a (flat a) (λ u. ⊥) (7 + (32 + 9 * left + 2)) (32 + 9 * suc left) u (omega arith)
       (read_first (32 + 9 * left) u g (path ++ below ∷ []) below (omega arith) (below_on left u (path ++ below ∷ []) (deeper path below left e)) s)
@@ -182,14 +179,15 @@ module _ (a : Lone) (read_only : a.own.access ≡ ReadOnly) (on_key : IsOnKey a.
 
   from_key_line : (t : ℕ) (g : Option ℕ) (l : KeyLine) → OfReader (line.Key l) → Stands a t g (line.Key l) → Never 164 t
   from_key_line t g (key.Read path r) o s =
-      let few = short t g (line.Key (key.Read path r)) s in
+      let few = short_way a t g (line.Key (key.Read path r)) s in
       let some = ltb-true 0 (length path) (fact_of (steps.wants t g (line.Key (key.Read path r)) s).1.0) in
-      weaken a (flat a) (λ u. ⊥) (13 + (32 + 9 * left_of path + 2)) 164 t (omega (arith, few, some)) (read_on (32 + 9 * left_of path) t g path r.indirection r.line (omega arith) (path_on t path few) s)
+      weaken a (flat a) (λ u. ⊥) (13 + (32 + 9 * left_of path + 2)) 164 t (omega (arith, few, some))
+      (read_on (32 + 9 * left_of path) t g path r.indirection r.line (omega arith) (path_on t path few) s)
   from_key_line t g (key.Main path m) o s =
-      let few = short t g (line.Key (key.Main path m)) s in
+      let few = short_way a t g (line.Key (key.Main path m)) s in
       weaken a (flat a) (λ u. ⊥) (32 + 9 * left_of path + 2) 164 t (omega (arith, few)) (main_on (32 + 9 * left_of path) t g path m (omega arith) (path_on t path few) s)
   from_key_line t g (key.Entry path m p) o s =
-      let few = short t g (line.Key (key.Entry path m p)) s in
+      let few = short_way a t g (line.Key (key.Entry path m p)) s in
       weaken a (flat a) (λ u. ⊥) (32 + 9 * left_of path + 1) 164 t (omega (arith, few)) (entry_on (32 + 9 * left_of path) t g path m p (omega arith) (path_on t path few) s)
   from_key_line t g (key.Listed path m p) o s = weaken a (flat a) (λ u. ⊥) (31 + 2) 164 t (omega arith) (listed_on 31 t g path m p s (omega arith))
   from_key_line t g (key.Sibling path m p former) o s = absurd o
@@ -199,7 +197,8 @@ module _ (a : Lone) (read_only : a.own.access ≡ ReadOnly) (on_key : IsOnKey a.
   root_plain : (t : ℕ) (g : Option ℕ) → Stands a t g (line.Root root.Read) → (r : Ref) × IsPlain a t r
   root_plain t g s =
       let (found, is, access) = handle_open a t g (line.Root root.Read) s refl in
-      let plain = read_only_plain (a.states t) (safe_at a.limits a.states a.last a.run t s.until) (ordered_at a.limits a.states a.last a.run t s.until) (handle_of a.own.call) found is (access ∙ read_only) in
+      let plain = read_only_plain (a.states t) (safe_at a.limits a.states a.last a.run t s.until) (ordered_at a.limits a.states a.last a.run t s.until)
+      (handle_of a.own.call) found is (access ∙ read_only) in
       (root_of found.word, ap word_of is ∙ plain)
 
   never_completes : (t : ℕ) (g : Option ℕ) (c : Complete) → Stands a t g (line.Root (root.Completing c)) → ⊥

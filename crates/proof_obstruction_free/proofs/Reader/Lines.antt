@@ -18,10 +18,12 @@ use Rattle.proof_obstruction_free.specs.Beneath.machine_model.specs.declared.lin
 use Rattle.proof_obstruction_free.specs.Beneath.machine_model.specs.declared.lines.Line.TheVariants as line
 use Rattle.proof_obstruction_free.specs.Beneath.machine_model.specs.declared.operations.Operation.{Operation}
 use Rattle.proof_obstruction_free.specs.Beneath.machine_model.specs.Calls.{key_of, needs_writable, inserts, when_found, absent_reply}
-use Rattle.proof_obstruction_free.specs.Beneath.machine_model.specs.Finding.{going_down, absent, absent_beside, absent_listed, found, found_so, after_tomb, key_after_main, passes, is_passable, key_after_entry, after_listed}
+use Rattle.proof_obstruction_free.specs.Beneath.machine_model.specs.Finding.{going_down, absent, absent_beside, absent_listed, found, found_so, after_tomb, key_after_main, passes}
+use Rattle.proof_obstruction_free.specs.Beneath.machine_model.specs.Finding.{is_passable, key_after_entry, after_listed}
 use Rattle.proof_obstruction_free.specs.Beneath.machine_model.specs.Paths.{flag_in, is_start}
 use Rattle.proof_obstruction_free.specs.Beneath.machine_model.specs.States.{State}
 use Rattle.proof_obstruction_free.specs.Keys.{IsOnKey}
+use Rattle.proof_obstruction_free.specs.Beneath.machine_model.proofs.Readers.{reader_inserts}
 
 -- the operation reads a key on a read-only handle
 pub record IsReader (operation : Operation) : Type 0 where
@@ -48,11 +50,9 @@ pub data AfterListed (path : List Ref) (main : Ref) (position singles : ℕ) : L
   ListedEnds : (answer : Reply) → AfterListed path main position singles (line.End answer)
   ListedFails : AfterListed path main position singles line.Impossible
 
-no_insert : (call : Call) → needs_writable call ≡ false → inserts call ≡ false
-no_insert call e = grind arith
-
 -- its key is found: it answers
-finds_answer : (call : Call) → IsOnKey call → needs_writable call ≡ false → (v : ℕ) → (answer : Reply) × ((state : State) (path : List Ref) (main : Ref) (position : ℕ) → found_so state path main position v (when_found call v) ≡ line.End answer)
+finds_answer : (call : Call) → IsOnKey call → needs_writable call ≡ false → (v : ℕ) →
+    (answer : Reply) × ((state : State) (path : List Ref) (main : Ref) (position : ℕ) → found_so state path main position v (when_found call v) ≡ line.End answer)
 finds_answer (Get h k) on e v = (reply.Found (Some v), λ state path main position. refl)
 finds_answer (Close h) on e v = absurd on
 finds_answer (Entries h) on e v = absurd on
@@ -65,10 +65,10 @@ module _ (state : State) (operation : Operation) (reader : IsReader operation) (
   Answers l = (answer : Reply) × (l ≡ line.End answer)
 
   absent_so : Answers (absent operation path main)
-  absent_so = cond_both (inserts operation.call) _ _ Answers (λ e. absurd (true≢false (sym e ∙ no_insert operation.call reader.reads))) (λ e. (absent_reply operation.call, refl))
+  absent_so = cond_both (inserts operation.call) _ _ Answers (λ e. absurd (true≢false (sym e ∙ reader_inserts operation.call reader.reads))) (λ e. (absent_reply operation.call, refl))
 
   beside_so : (position : ℕ) → Answers (absent_beside operation path main position)
-  beside_so position = cond_both (inserts operation.call) _ _ Answers (λ e. absurd (true≢false (sym e ∙ no_insert operation.call reader.reads))) (λ e. (absent_reply operation.call, refl))
+  beside_so position = cond_both (inserts operation.call) _ _ Answers (λ e. absurd (true≢false (sym e ∙ reader_inserts operation.call reader.reads))) (λ e. (absent_reply operation.call, refl))
 
   listed_so : (singles : ℕ) → Answers (absent_listed operation path main singles)
   listed_so singles = cond_both (inserts operation.call && nat_le 32 singles) _ _ Answers (λ e. (reply.Crowded, refl)) (λ e. absent_so)
@@ -95,7 +95,8 @@ module _ (state : State) (operation : Operation) (reader : IsReader operation) (
   after_entry position (Indirection g m) =
       cond_both (is_passable operation g) _ _ (AfterEntry path) (λ e. ToBelow (entry_at state.heap main position)) (λ e. absurd (true≢false (sym (passable g) ∙ e)))
   after_entry position (Single k v) =
-      cond_both (k == key_of operation.call) _ _ (AfterEntry path) (λ e. ends_as (AfterEntry path) EntryEnds _ (found_answers position v)) (λ e. ends_as (AfterEntry path) EntryEnds _ (beside_so position))
+      cond_both (k == key_of operation.call) _ _ (AfterEntry path) (λ e. ends_as (AfterEntry path) EntryEnds _ (found_answers position v))
+      (λ e. ends_as (AfterEntry path) EntryEnds _ (beside_so position))
   after_entry position (Branch bitmap entries) = EntryFails
   after_entry position (Tomb single) = EntryFails
   after_entry position (Listed singles) = EntryFails

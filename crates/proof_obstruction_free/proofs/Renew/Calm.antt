@@ -17,7 +17,8 @@ use Rattle.proof_obstruction_free.specs.Stepping.{Stepping, IsNoEnd, LeavesWords
 -- Lines that hold a READ: a step goes by the operation's call and access, which stay.
 pub holds_read : (own : Operation) (wrap : ReadLine → Line) (gives : Ref → Line) (i : Ref) → ((l : ReadLine) → read_of (wrap l) ≡ Some (record { indirection = i; line = l })) →
     ((state : State) (operation : Operation) (l : ReadLine) → line_action state operation (wrap l) ≡ read_action i l) →
-    ((state : State) (operation : Operation) (l : ReadLine) → line_after state operation (wrap l) ≡ lead wrap gives (read_after state.heap operation.access (word_at state (handle_of operation.call)) i l)) →
+    ((state : State) (operation : Operation) (l : ReadLine) →
+    line_after state operation (wrap l) ≡ lead wrap gives (read_after state.heap operation.access (word_at state (handle_of operation.call)) i l)) →
     ((state : State) (operation : Operation) (l : ReadLine) → generation_from state operation (wrap l) ≡ operation.generation) → HoldsRead own wrap gives i
 holds_read own wrap gives i reads acts leads stays = record {
   reads = reads;

@@ -122,7 +122,8 @@ module _ (a : Lone) (steps : Stepping a) (weight : ℕ → ℕ) (c : ℕ) (heavy
     pub goes_from : (left : ℕ) → From left
     goes_from zero done t size s =
         let all : length done ≡ length entries = omega (arith, size) in
-        let stands = subst (λ b. Stands a t (Some g) (cond b (line.Renew (renew.Entry path main done)) (line.Renew (renew.Branch path main done)))) (le-ltb (length done) (length entries) (omega (arith, size))) s in
+        let stands = subst (λ b. Stands a t (Some g) (cond b (line.Renew (renew.Entry path main done)) (line.Renew (renew.Branch path main done))))
+        (le-ltb (length done) (length entries) (omega (arith, size))) s in
         weaken a weight (Renews done t) 2 (zero * (c + 2) + 2) t (omega arith) (branch_within done t stands all)
     goes_from (suc left) done t size s = entry_on left (goes_from left) done t size s
 
@@ -131,7 +132,8 @@ module _ (a : Lone) (steps : Stepping a) (weight : ℕ → ℕ) (c : ℕ) (heavy
   pub renews_from : RenewsFrom a weight c
   renews_from path main done t g left s size =
       let seen = sees_more a steps t s.until path main done (steps.wants t (Some g) (line.Renew (renew.Entry path main done)) s) in
-      let stands = subst (λ b. Stands a t (Some g) (cond b (line.Renew (renew.Entry path main done)) (line.Renew (renew.Branch path main done)))) (sym (lt-ltb (length done) (length (entries_of (node a main))) seen.more)) s in
+      let stands = subst (λ b. Stands a t (Some g) (cond b (line.Renew (renew.Entry path main done)) (line.Renew (renew.Branch path main done))))
+      (sym (lt-ltb (length done) (length (entries_of (node a main))) seen.more)) s in
       map a weight (Renews g path main done t) (IsRenewing a weight c t g path main (length done)) (left * (c + 2) + 2) t (λ u past within r. r.to) (goes_from g path main left done t size stands)
 
   -- no more is done than there is

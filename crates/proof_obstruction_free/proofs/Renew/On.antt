@@ -57,7 +57,8 @@ module _ (a : Lone) (steps : Stepping a) (weight : ℕ → ℕ) (c : ℕ) (heavy
     from_read : (done : List Ref) (r : Read) (t : ℕ) → Stands a t (Some g) (line.Renew (renew.Read path main done r)) → W Comes (32 * (c + 2) + 10) t
     from_read done r t s =
         let seen = sees_more a steps t s.until path main done
-        (first_hold (IsInUse (a.states t).heap) (a.states t).heap (done_wants path main done) (read_wants r.indirection r.line) (steps.wants t (Some g) (line.Renew (renew.Read path main done r)) s)) in
+        (first_hold (IsInUse (a.states t).heap) (a.states t).heap (done_wants path main done) (read_wants r.indirection r.line)
+        (steps.wants t (Some g) (line.Renew (renew.Read path main done r)) s)) in
         from_it (c + 7) (omega arith) done t seen (read_on_within a steps g path main done weight c heavy machines r.indirection r.line t s)
 
     from_link : (done : List Ref) (child : Ref) (t : ℕ) → Stands a t (Some g) (line.Renew (renew.Link path main done child)) → W Comes (32 * (c + 2) + 10) t

@@ -31,7 +31,8 @@ pub record HoldsRoot (own : Operation) (wrap : RootLine → Line) (gives : State
   pub goes : (state : State) (operation : Operation) (l : RootLine) → operation.call ≡ own.call → operation.access ≡ own.access →
       line_after state operation (wrap l) ≡ led wrap (gives state operation) (root_after state.heap own.access (word_at state (handle_of own.call)) l)
   pub stays : (state : State) (operation : Operation) (c : Complete) → generation_from state operation (wrap (root.Completing c)) ≡ operation.generation
-  pub finds_offer : (state : State) (operation : Operation) (d : Descriptor) → word_at state (handle_of operation.call) ≡ Offer d → generation_from state operation (wrap root.Read) ≡ operation.generation
+  pub finds_offer : (state : State) (operation : Operation) (d : Descriptor) → word_at state (handle_of operation.call) ≡ Offer d →
+      generation_from state operation (wrap root.Read) ≡ operation.generation
   pub no_own : (l : RootLine) → own_offer (wrap l) ≡ None
 
 module _ (own : Operation) (wrap : RootLine → Line) (gives : State → Operation → Ref → Line) (holds : HoldsRoot own wrap gives) (offer : Descriptor) where

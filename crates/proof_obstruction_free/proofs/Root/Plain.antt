@@ -83,7 +83,8 @@ module _ (a : Lone) (steps : Stepping a) (weight : ℕ → ℕ) (heavy : IsWeigh
   -- ---- from each line
 
   -- the offer's root is read: it stands still, or no offer does
-  after_read : (t u : ℕ) (d : Descriptor) (m : Ref) → t ≤ u → a.start ≤ t → word a t ≡ Offer d → Keeps a t u → WordStays a t u → Stands a u g (swapping_line a.own wrap gives holds d m) → W (AtPlain t) 1 u
+  after_read : (t u : ℕ) (d : Descriptor) (m : Ref) → t ≤ u → a.start ≤ t → word a t ≡ Offer d → Keeps a t u → WordStays a t u →
+      Stands a u g (swapping_line a.own wrap gives holds d m) → W (AtPlain t) 1 u
   after_read t u d m le since is keeps still s = quiet_step (AtPlain t) 0 u l s tt (λ h. let (r, plain) = by h (word a u) refl in here a weight (AtPlain t) (suc u) (record {
     at = r;
     plain = plain;

@@ -13,9 +13,10 @@ use Rattle.proof_obstruction_free.specs.Beneath.proof_memory.specs.Wants.{AllHol
 use Rattle.proof_obstruction_free.specs.Beneath.proof_memory.proofs.Safety.AtTimes.{line_at}
 use Rattle.proof_obstruction_free.specs.Beneath.proof_contents.proofs.Values.Started.{node_stays, indirection_stays}
 use Rattle.proof_obstruction_free.specs.Beneath.proof_commits.proofs.Known.Given.{ActsOn, Taken, GrownTakes}
-use Rattle.proof_obstruction_free.specs.Beneath.proof_shape.proofs.Runs.Nodes.{nodes_stay, node_known, link_known}
+use Rattle.proof_obstruction_free.specs.Beneath.proof_shape.proofs.Runs.Nodes.{node_known, link_known}
 use Rattle.proof_obstruction_free.specs.Alone.{Lone, Stands, node}
 use Rattle.proof_obstruction_free.proofs.Step.Keeps.{acts_so}
+use Rattle.proof_obstruction_free.specs.Beneath.proof_generations.proofs.Falling.Nodes.{nodes_stay}
 
 no_link : (n : Node) → is_indirection n ≡ false → (g : ℕ) (w : Ref) → n ≡ Indirection g w → ⊥
 no_link n not g w e = true≢false (sym (ap is_indirection e) ∙ not)

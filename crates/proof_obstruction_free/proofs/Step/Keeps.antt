@@ -14,11 +14,11 @@ use Rattle.proof_obstruction_free.specs.Beneath.machine_model.specs.States.{Stat
 use Rattle.proof_obstruction_free.specs.Beneath.machine_model.specs.Grown.{grown}
 use Rattle.proof_obstruction_free.specs.Beneath.machine_model.specs.Moves.{GoesOn}
 use Rattle.proof_obstruction_free.specs.Beneath.proof_commits.proofs.Known.Given.{Known, ActsOn, GrownStays, GrownTakes, Taken}
-use Rattle.proof_obstruction_free.specs.Beneath.proof_shape.proofs.Runs.Nodes.{known_run}
 use Rattle.proof_obstruction_free.specs.Beneath.proof_generations.proofs.Falling.ReadsGive.{gone_is}
 use Rattle.proof_obstruction_free.specs.Alone.{Lone, Stands, Keeps, IsQuiet, word}
 use Rattle.proof_obstruction_free.specs.Stepping.{IsNoEnd, LeavesWords}
 use Rattle.proof_obstruction_free.proofs.Step.Next.{takes, no_end}
+use Rattle.proof_obstruction_free.specs.Beneath.proof_commits.proofs.Known.Acts.{known_run}
 
 -- what isn't the end goes on
 pub goes_by : (action : Action) → ((answer : _) → action ≡ act.End answer → ⊥) → GoesOn action

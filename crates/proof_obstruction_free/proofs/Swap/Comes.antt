@@ -21,7 +21,7 @@ use Rattle.proof_obstruction_free.specs.Beneath.proof_commits.proofs.Words.OfRun
 use Rattle.proof_obstruction_free.proofs.Swap.Steps.{keeps_left}
 use Rattle.proof_obstruction_free.proofs.Swap.Lines.{swap_line, deciding, checking, swap_reads, is_decided, checks, publishes, Publishes}
 use Rattle.proof_obstruction_free.proofs.Swap.Found.{swap_generation, fresh_nowhere}
-use Rattle.proof_obstruction_free.proofs.Swap.Course.{Holds}
+use Rattle.proof_obstruction_free.proofs.Swap.Course.{FreshStands}
 use Rattle.proof_obstruction_free.proofs.Swap.Deciding.{finds_pending, asks_offer, takes_back}
 use Rattle.proof_obstruction_free.proofs.Swap.Ends.{Pays, HasFailed, spends, acts_so, quiet_so, succeeds, fails_so, Succeeds}
 use Rattle.proof_obstruction_free.proofs.Step.Within.{Comes, at_once, within, weaken, bind, same_stays, stays_on, keeps_but, keeps_on}
@@ -53,7 +53,7 @@ module _ (a : Lone) (steps : Stepping a) (weight : ℕ → ℕ) (pending failed 
     Done = Succeeds a steps weight pending failed weighing c why i replaced fresh t g
 
     -- the fresh node was swapped in
-    published : (s : At swap.Publish t) → Publishes a why i replaced fresh steps t g true → Holds a i replaced fresh t (suc t) (over.Pending replaced)
+    published : (s : At swap.Publish t) → Publishes a why i replaced fresh steps t g true → FreshStands a i replaced fresh t (suc t) (over.Pending replaced)
     published s p = record {
       made = p.effect.makes.made i ∙ link_made _ p.link;
       main = p.effect.main.here;
@@ -71,7 +71,7 @@ module _ (a : Lone) (steps : Stepping a) (weight : ℕ → ℕ) (pending failed 
     stood_other s p has = eqb-false (main_at (a.states t).heap i) replaced p.test (p.main ∙ has.main)
 
     abbrev Undecided : ℕ → Type 0
-    Undecided u = Holds a i replaced fresh t u (over.Pending replaced)
+    Undecided u = FreshStands a i replaced fresh t u (over.Pending replaced)
 
     -- ---- where the root is the handle's
 

@@ -10,7 +10,9 @@ use Rattle.proof_obstruction_free.specs.Beneath.machine_model.specs.declared.rea
 use Rattle.proof_obstruction_free.specs.Beneath.machine_model.specs.declared.roots.Descriptor.{Descriptor}
 use Rattle.proof_obstruction_free.specs.Beneath.machine_model.specs.Grown.{main_word, prev_word}
 use Rattle.proof_obstruction_free.specs.Beneath.proof_contents.specs.Runs.{is_made}
-use Rattle.proof_obstruction_free.specs.Beneath.proof_commits.specs.Protocol.{ReadTurn, Leaves, Kept, Written, MakesNothing, CommitsNode, FailsNode, PutsBack, ReadsMain, FindsDecided, FindsFailed, FindsPending, DecidesAtOnce, Asks, FindsOffer, Aborts, Commits, Fails, Overtaken, Restores}
+use Rattle.proof_obstruction_free.specs.Beneath.proof_commits.specs.Protocol.{ReadTurn, Leaves, Kept, Written, MakesNothing, CommitsNode, FailsNode, PutsBack, ReadsMain}
+use Rattle.proof_obstruction_free.specs.Beneath.proof_commits.specs.Protocol.{FindsDecided, FindsFailed, FindsPending, DecidesAtOnce, Asks, FindsOffer, Aborts, Commits, Fails}
+use Rattle.proof_obstruction_free.specs.Beneath.proof_commits.specs.Protocol.{Overtaken, Restores}
 use Rattle.proof_obstruction_free.specs.Beneath.proof_commits.proofs.Words.Stood.{none≢pending}
 use Rattle.proof_obstruction_free.specs.Alone.{Lone, Has, KeepsBut, WordStays}
 use Rattle.proof_obstruction_free.proofs.Swap.Steps.{w, keeps_left}
@@ -47,7 +49,7 @@ module _ (a : Lone) where
 
 module _ (a : Lone) (i replaced fresh : Ref) (t : ℕ) where
   -- before step u the fresh node stands there and its prev word is this; since step t no other main node and no word went
-  pub record Holds (u : ℕ) (v : Prev) : Type 0 where
+  pub record FreshStands (u : ℕ) (v : Prev) : Type 0 where
     pub made : is_made a.states u i ≡ true
     pub main : main_word a.states u i ≡ fresh
     pub prev : prev_word a.states u fresh ≡ v
@@ -55,7 +57,7 @@ module _ (a : Lone) (i replaced fresh : Ref) (t : ℕ) where
     pub word : WordStays a t u
 
   -- a step that leaves all
-  pub left : (u : ℕ) (v : Prev) → Leaves (w a) u → WordStays a u (suc u) → Holds u v → Holds (suc u) v
+  pub left : (u : ℕ) (v : Prev) → Leaves (w a) u → WordStays a u (suc u) → FreshStands u v → FreshStands (suc u) v
   left u v e stays h = record {
     made = e.makes.made i ∙ h.made;
     main = e.main i ∙ h.main;
@@ -65,8 +67,8 @@ module _ (a : Lone) (i replaced fresh : Ref) (t : ℕ) where
   }
 
   -- a step that decides the fresh node
-  decided : (u : ℕ) (v : Prev) → Holds u (over.Pending replaced) → Kept ((w a).main u) ((w a).main (suc u)) → MakesNothing (w a) u → Written ((w a).prev u) ((w a).prev (suc u)) fresh v →
-      WordStays a u (suc u) → Holds (suc u) v
+  decided : (u : ℕ) (v : Prev) → FreshStands u (over.Pending replaced) → Kept ((w a).main u) ((w a).main (suc u)) → MakesNothing (w a) u → Written ((w a).prev u) ((w a).prev (suc u)) fresh v →
+      WordStays a u (suc u) → FreshStands (suc u) v
   decided u v h main makes prev stays = record {
     made = makes.made i ∙ h.made;
     main = main i ∙ h.main;
@@ -82,10 +84,10 @@ module _ (a : Lone) (i replaced fresh : Ref) (t : ℕ) where
         decided = prev.elsewhere m (λ same. none≢pending has.decided (ap (λ x. prev_word a.states u x) same ∙ h.prev)) ∙ has.decided;
       }
 
-  pub committed : (u : ℕ) → Holds u (over.Pending replaced) → CommitsNode (w a) u fresh replaced → WordStays a u (suc u) → Holds (suc u) over.None
+  pub committed : (u : ℕ) → FreshStands u (over.Pending replaced) → CommitsNode (w a) u fresh replaced → WordStays a u (suc u) → FreshStands (suc u) over.None
   committed u h e stays = decided u over.None h e.main e.makes e.prev stays
 
-  pub has_failed : (u : ℕ) → Holds u (over.Pending replaced) → FailsNode (w a) u fresh replaced → WordStays a u (suc u) → Holds (suc u) (over.Failed replaced)
+  pub has_failed : (u : ℕ) → FreshStands u (over.Pending replaced) → FailsNode (w a) u fresh replaced → WordStays a u (suc u) → FreshStands (suc u) (over.Failed replaced)
   has_failed u h e stays = decided u (over.Failed replaced) h e.main e.makes e.prev stays
 
   -- the node before stands there again
@@ -94,7 +96,7 @@ module _ (a : Lone) (i replaced fresh : Ref) (t : ℕ) where
     pub keeps : KeepsBut a t u i
     pub word : WordStays a t u
 
-  pub put_back : (u : ℕ) → Holds u (over.Failed replaced) → PutsBack (w a) u i fresh replaced → WordStays a u (suc u) → Restored (suc u)
+  pub put_back : (u : ℕ) → FreshStands u (over.Failed replaced) → PutsBack (w a) u i fresh replaced → WordStays a u (suc u) → Restored (suc u)
   put_back u h e stays = record {
     prev = e.prev fresh ∙ h.prev;
     keeps = λ j m other has.

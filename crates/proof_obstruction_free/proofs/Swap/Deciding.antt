@@ -27,7 +27,8 @@ use Rattle.proof_obstruction_free.proofs.Root.Words.{plain_on, settles_on}
 use Rattle.proof_obstruction_free.proofs.Swap.Steps.{w, facts, reads, read_next, same_word}
 use Rattle.proof_obstruction_free.proofs.Swap.Lines.{swap_line, deciding, checking, swap_reads}
 use Rattle.proof_obstruction_free.proofs.Swap.Found.{replaced_decided, root_generation, swap_writable, generation_for_good}
-use Rattle.proof_obstruction_free.proofs.Swap.Course.{prev_leaves, main_leaves, ask_leaves, abort_leaves, decide_commits, decide_fails, restores, Holds, left, committed, has_failed, Restored, put_back}
+use Rattle.proof_obstruction_free.proofs.Swap.Course.{prev_leaves, main_leaves, ask_leaves, abort_leaves, decide_commits, decide_fails, restores, FreshStands, left, committed}
+use Rattle.proof_obstruction_free.proofs.Swap.Course.{has_failed, Restored, put_back}
 use Rattle.proof_obstruction_free.proofs.Step.Within.{same_stays}
 
 module _ (a : Lone) (steps : Stepping a) (why : Purpose) (i replaced fresh : Ref) (t : ℕ) (g : Option ℕ) where
@@ -35,7 +36,7 @@ module _ (a : Lone) (steps : Stepping a) (why : Purpose) (i replaced fresh : Ref
   At x u = Stands a u g (swap_line a why i replaced fresh x)
 
   abbrev H : ℕ → Prev → Type 0
-  H = Holds a i replaced fresh t
+  H = FreshStands a i replaced fresh t
 
   -- what comes next, and what still holds
   pub record Next (u : ℕ) (x : SwapLine) (v : Prev) : Type 0 where
@@ -85,7 +86,8 @@ module _ (a : Lone) (steps : Stepping a) (why : Purpose) (i replaced fresh : Ref
     asks_plain s holds r plain =
         let l = read.AskRoot fresh replaced in
         let told = root_generation a u g (swap_line a why i replaced fresh (swap.Deciding l)) s refl r plain in
-        let x = goes l s (Goes (read.Decide fresh replaced (Some (generation a r)))) (ap (after_ask (a.states u).heap fresh replaced) plain ∙ ap (λ y. Goes (read.Decide fresh replaced (Some y))) told) in
+        let x = goes l s (Goes (read.Decide fresh replaced (Some (generation a r))))
+        (ap (after_ask (a.states u).heap fresh replaced) plain ∙ ap (λ y. Goes (read.Decide fresh replaced (Some y))) told) in
         let same = stays l s tt in
         (record { stands = x.stands; holds = on (over.Pending replaced) (ask_leaves a u i fresh replaced _ x.turn) same holds; word = same }, same r plain)
 
@@ -144,9 +146,14 @@ module _ (a : Lone) (steps : Stepping a) (why : Purpose) (i replaced fresh : Ref
     back_there : PutsBack (w a) u i fresh replaced → H u (over.Failed replaced) → prev_word a.states u replaced ≡ over.None → Sees a (suc u) i replaced over.None
     back_there e holds none = record { made = e.makes.made i ∙ holds.made; main = e.main.here; prev = e.prev replaced ∙ none }
 
-    pub puts_back : At (swap.Deciding (read.Restore fresh replaced)) u → H u (over.Failed replaced) → At swap.Check (suc u) × Restored a i replaced fresh t (suc u) × WordStays a u (suc u) × Sees a (suc u) i replaced over.None
+    pub puts_back : At (swap.Deciding (read.Restore fresh replaced)) u → H u (over.Failed replaced) → At swap.Check (suc u) × Restored a i replaced fresh t (suc u)
+        × WordStays a u (suc u) × Sees a (suc u) i replaced over.None
     puts_back s holds =
         let l = read.Restore fresh replaced in
         let found = (facts a u g (swap_line a why i replaced fresh (swap.Deciding l)) s h tt).acts.0.main in
-        let x = goes l s (Gives replaced) (ap (after_restore replaced) (eq-eqb _ fresh (found ∙ holds.main))) in
-        (x.stands, put_back a i replaced fresh t u holds (restores a u i fresh replaced _ x.turn) (stays l s tt), stays l s tt, back_there (restores a u i fresh replaced _ x.turn) holds (replaced_decided a why i replaced fresh u g l s))
+        let x = goes l s (Gives replaced) (ap (after_restore replaced) (eq-eqb _ fresh (found ∙ holds.main))) in (
+          x.stands,
+          put_back a i replaced fresh t u holds (restores a u i fresh replaced _ x.turn) (stays l s tt),
+          stays l s tt,
+          back_there (restores a u i fresh replaced _ x.turn) holds (replaced_decided a why i replaced fresh u g l s),
+        )

@@ -22,7 +22,7 @@ use Rattle.proof_obstruction_free.specs.Beneath.machine_model.specs.Swapping.{ac
 use Rattle.proof_obstruction_free.proofs.Swap.Steps.{keeps_left}
 use Rattle.proof_obstruction_free.proofs.Swap.Lines.{swap_line, checks}
 use Rattle.proof_obstruction_free.proofs.Swap.Found.{swap_generation}
-use Rattle.proof_obstruction_free.proofs.Swap.Course.{Holds, Restored}
+use Rattle.proof_obstruction_free.proofs.Swap.Course.{FreshStands, Restored}
 use Rattle.proof_obstruction_free.proofs.Swap.Deciding.{finds_failed, asks_plain, commits, fails, reads_main, puts_back}
 use Rattle.proof_obstruction_free.proofs.Step.Within.{Comes, at_once, same_stays, stays_on}
 
@@ -79,7 +79,7 @@ module _ (a : Lone) (steps : Stepping a) (weight : ℕ → ℕ) (pending failed 
   At x u = Stands a u g (swap_line a why i replaced fresh x)
 
   abbrev Held : ℕ → Prev → Type 0
-  Held u v = Holds a i replaced fresh t u v
+  Held u v = FreshStands a i replaced fresh t u v
 
   -- ---- what a step costs
 

@@ -75,12 +75,14 @@ module _ (a : Lone) where
     -- it is on a writable handle
     pub swap_writable : (t : ℕ) (g : Option ℕ) (x : SwapLine) → Stands a t g (swap_line a why i replaced fresh x) → a.own.access ≡ Writable
     swap_writable t g x s =
-        sym s.access ∙ (swaps_in_own_generation a.limits a.states a.last a.run t s.until a.actor s.operation s.runs why (record { indirection = i; replaced = replaced; fresh = fresh; line = x }) s.line).0
+        sym s.access
+        ∙ (swaps_in_own_generation a.limits a.states a.last a.run t s.until a.actor s.operation s.runs why (record { indirection = i; replaced = replaced; fresh = fresh; line = x }) s.line).0
 
     -- into an indirection of the operation's generation
     pub swap_generation : (t : ℕ) (g : Option ℕ) (x : SwapLine) → Stands a t g (swap_line a why i replaced fresh x) → g ≡ Some (generation a i)
     swap_generation t g x s =
-        sym s.generation ∙ (swaps_in_own_generation a.limits a.states a.last a.run t s.until a.actor s.operation s.runs why (record { indirection = i; replaced = replaced; fresh = fresh; line = x }) s.line).1
+        sym s.generation
+        ∙ (swaps_in_own_generation a.limits a.states a.last a.run t s.until a.actor s.operation s.runs why (record { indirection = i; replaced = replaced; fresh = fresh; line = x }) s.line).1
 
     fresh_private : (t : ℕ) (g : Option ℕ) → Stands a t g (swap_line a why i replaced fresh swap.Publish) → Private (w a) t fresh
     fresh_private t g s =

@@ -14,11 +14,10 @@ use Rattle.proof_obstruction_free.specs.Beneath.machine_model.specs.Orders.{comm
 use Rattle.proof_obstruction_free.specs.Beneath.machine_model.specs.Reading.{read_action, read_after}
 use Rattle.proof_obstruction_free.specs.Beneath.machine_model.specs.Moves.{Moves}
 use Rattle.proof_obstruction_free.specs.Beneath.proof_commits.specs.Protocol.{Words, ReadTurn, Leaves}
-use Rattle.proof_obstruction_free.specs.Beneath.proof_commits.proofs.Known.Memory.{memory}
 use Rattle.proof_obstruction_free.specs.Beneath.proof_commits.specs.Words.{words_of}
 use Rattle.proof_obstruction_free.specs.Beneath.proof_commits.proofs.Known.Given.{Known, ActsOn}
 use Rattle.proof_obstruction_free.specs.Beneath.proof_commits.proofs.Lines.Turns.{LineFacts}
-use Rattle.proof_obstruction_free.specs.Beneath.proof_commits.proofs.Known.Layers.{known_of_memory}
+use Rattle.proof_obstruction_free.specs.Beneath.proof_commits.proofs.Known.Acts.{known_run}
 use Rattle.proof_obstruction_free.specs.Beneath.proof_commits.proofs.Lines.Read.{read_turn}
 use Rattle.proof_obstruction_free.specs.Beneath.proof_commits.proofs.Words.Along.{line_facts}
 use Rattle.proof_obstruction_free.specs.Alone.{Lone, Stands, Keeps, word}
@@ -35,7 +34,7 @@ reads_no_end l r e = tt
 
 module _ (a : Lone) where
   abbrev pub known : Known a.limits a.states a.last
-  known = known_of_memory a.limits a.states a.last (memory a.limits a.states a.last a.run)
+  known = known_run a.limits a.states a.last a.run
 
   -- the words of the run, with no closing told
   abbrev pub w : Words

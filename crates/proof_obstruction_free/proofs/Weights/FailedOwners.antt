@@ -7,12 +7,15 @@ use Rattle.proof_obstruction_free.specs.Beneath.machine_model.specs.declared.rea
 use Rattle.proof_obstruction_free.specs.Beneath.machine_model.specs.declared.reading.After.TheVariants.{Goes, Gives}
 use Rattle.proof_obstruction_free.specs.Beneath.machine_model.specs.declared.reading.ReadLine.{ReadLine}
 use Rattle.proof_obstruction_free.specs.Beneath.machine_model.specs.declared.reading.ReadLine.TheVariants as read
-use Rattle.proof_obstruction_free.specs.Beneath.proof_commits.specs.Protocol.{Words, Decides, ReadTurn, ReadsMain, FindsDecided, FindsFailed, FindsPending, DecidesAtOnce, Asks, FindsOffer, Aborts, Commits, Fails, Overtaken, Restores, FindsAnother, after_deciding, Moves, Turn, Acts, Passes, Protocol}
-use Rattle.proof_obstruction_free.specs.Beneath.proof_commits.proofs.Words.Stood.{AreSound, stands_now, none≢pending, none≢failed, pending≢failed, over_failed}
+use Rattle.proof_obstruction_free.specs.Beneath.proof_commits.specs.Protocol.{Words, Decides, ReadTurn, ReadsMain, FindsDecided, FindsFailed, FindsPending, DecidesAtOnce, Asks}
+use Rattle.proof_obstruction_free.specs.Beneath.proof_commits.specs.Protocol.{FindsOffer, Aborts, Commits, Fails, Overtaken, Restores, FindsAnother, after_deciding, Moves, Turn}
+use Rattle.proof_obstruction_free.specs.Beneath.proof_commits.specs.Protocol.{Acts, Passes, Protocol}
+use Rattle.proof_obstruction_free.specs.Beneath.proof_commits.proofs.Words.Stood.{AreSound, stands_now, none≢pending, pending≢failed, over_failed}
 use Rattle.proof_obstruction_free.specs.Beneath.proof_commits.proofs.Words.Effects.{Effect, Nothing, Made, SwappedIn, PutBack, Committed, Failed, Becomes, Same, GoesIn, IsCommitted, IsFailed, becomes}
 use Rattle.proof_obstruction_free.specs.Beneath.proof_commits.proofs.Known.Owners.{OnLine, Staged, IsDeciding, IsSound}
 use Rattle.proof_obstruction_free.specs.Beneath.proof_commits.proofs.Known.Sounds.{deciding_turn, effect_at, sound_at}
 use Rattle.proof_obstruction_free.specs.Beneath.proof_commits.proofs.Course.Finals.{from_time}
+use Rattle.proof_obstruction_free.specs.Beneath.machine_model.proofs.Basics.{none≢failed}
 
 -- the line is about this node, or about none
 abbrev pub Names : ReadLine → Ref → Type 0

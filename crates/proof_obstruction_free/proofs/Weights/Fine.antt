@@ -9,7 +9,6 @@ use Rattle.proof_obstruction_free.specs.Beneath.machine_model.specs.declared.roo
 use Rattle.proof_obstruction_free.specs.Beneath.machine_model.specs.declared.roots.RootWord.TheVariants.{Offer}
 use Rattle.proof_obstruction_free.specs.Beneath.machine_model.specs.Operations.{action_of}
 use Rattle.proof_obstruction_free.specs.Beneath.machine_model.specs.Grown.{main_word, prev_word}
-use Rattle.proof_obstruction_free.specs.Beneath.proof_commits.proofs.Words.Stood.{none≢failed}
 use Rattle.proof_obstruction_free.specs.Beneath.proof_commits.proofs.Course.Finals.{failed_final}
 use Rattle.proof_obstruction_free.specs.Beneath.proof_commits.proofs.Known.Given.{GrownStays, GrownSwaps, Either}
 use Rattle.proof_obstruction_free.specs.Alone.{Lone, IsQuiet, IsWeight, word}
@@ -24,6 +23,7 @@ use Rattle.proof_obstruction_free.proofs.Weights.FineSteps.{in_range}
 pub use Rattle.proof_obstruction_free.proofs.Weights.FinePays.{fine, fine_at_most}
 use Rattle.proof_obstruction_free.proofs.Weights.FinePays.{does, lighter, quiet_lighter, pays, publishes, actor_range}
 use Rattle.proof_obstruction_free.proofs.Weights.FineOwners.{pending_weight, owner, weighs, failed_owner, failed_weight, weighs_failed}
+use Rattle.proof_obstruction_free.specs.Beneath.machine_model.proofs.Basics.{none≢failed}
 
 quiet_publishes : (action : Action) → IsQuiet action → IsNoPublish action
 quiet_publishes (act.Publish i r f) quiet = quiet

@@ -51,7 +51,8 @@ module _ (a : Lone) where
   failed_owner t within i m q sees =
       failed_owned (p a) t within i m q (link_seen t within i m (prev.Failed q) sees (λ e. let wrong : prev.Failed q ≡ prev.None = e in cc)) sees.prev sees.main
 
-  pub failed_weight : (t k : ℕ) (i below m q : Ref) (l : ReadLine) → (w a).stage t k ≡ Decides i below m l → prev_word a.states t m ≡ prev.Failed q → main_word a.states t i ≡ m → actor_weight a t k ≡ 1
+  pub failed_weight : (t k : ℕ) (i below m q : Ref) (l : ReadLine) → (w a).stage t k ≡ Decides i below m l → prev_word a.states t m ≡ prev.Failed q →
+      main_word a.states t i ≡ m → actor_weight a t k ≡ 1
   failed_weight t k i below m q l stage failed stands =
       ap (stage_weight (w a) t) stage ∙ ap (λ v. node_weight v (main_word a.states t i == m)) failed ∙ ap (node_weight (prev.Failed q)) (eq-eqb _ m stands)
 

@@ -22,13 +22,13 @@ use Rattle.proof_obstruction_free.specs.Beneath.proof_commits.proofs.Known.Steps
 use Rattle.proof_obstruction_free.specs.Beneath.proof_commits.proofs.Lines.Turns.{line_turn}
 use Rattle.proof_obstruction_free.specs.Beneath.proof_commits.proofs.Words.Along.{line_facts, remembers_at}
 use Rattle.proof_obstruction_free.specs.Beneath.proof_generations.proofs.Handles.Running.{marks_length}
-use Rattle.proof_obstruction_free.specs.Beneath.proof_shape.proofs.Runs.Nodes.{known_run}
 use Rattle.proof_obstruction_free.specs.Alone.{Lone, Stands}
 use Rattle.proof_obstruction_free.specs.Stepping.{IsNoEnd}
 use Rattle.proof_obstruction_free.proofs.Step.Next.{takes, next, no_end}
 use Rattle.proof_obstruction_free.proofs.Step.Keeps.{after_so, goes_by}
 use Rattle.proof_obstruction_free.proofs.Read.Words.{w, p, sound, NonePending}
 use Rattle.proof_obstruction_free.proofs.Weights.FineWeight.{stage_weight, still_lighter, own_lighter}
+use Rattle.proof_obstruction_free.specs.Beneath.proof_commits.proofs.Known.Acts.{known_run}
 
 -- ---- how many actors there are
 

@@ -7,7 +7,8 @@ use Rattle.proof_obstruction_free.specs.Beneath.slot_arena.specs.declared.nodes.
 use Rattle.proof_obstruction_free.specs.Beneath.machine_model.specs.declared.reading.After.{After}
 use Rattle.proof_obstruction_free.specs.Beneath.machine_model.specs.declared.reading.After.TheVariants.{Goes, Gives}
 use Rattle.proof_obstruction_free.specs.Beneath.machine_model.specs.declared.reading.ReadLine.{ReadLine}
-use Rattle.proof_obstruction_free.specs.Beneath.proof_commits.specs.Protocol.{Words, Stage, Rests, Reads, Holds, Publishes, Decides, Checks, Moves, Idles, MakesNode, SwapsNode, ReadsOn, DecidesOn, IsAtRest, MayHave, after_read, after_deciding}
+use Rattle.proof_obstruction_free.specs.Beneath.proof_commits.specs.Protocol.{Words, Stage, Rests, Reads, Holds, Publishes, Decides, Checks, Moves, Idles, MakesNode, SwapsNode}
+use Rattle.proof_obstruction_free.specs.Beneath.proof_commits.specs.Protocol.{ReadsOn, DecidesOn, IsAtRest, MayHave, after_read, after_deciding}
 use Rattle.proof_obstruction_free.specs.Beneath.proof_commits.proofs.Words.Stood.{Stood}
 use Rattle.proof_obstruction_free.specs.Beneath.proof_commits.proofs.Words.Effects.{Effect, Becomes, Same, GoesIn, IsCommitted, IsFailed, becomes, link_later}
 use Rattle.proof_obstruction_free.specs.Beneath.proof_commits.proofs.Known.Owners.{IsSound, Staged}

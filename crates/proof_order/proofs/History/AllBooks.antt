@@ -19,7 +19,7 @@ use Rattle.proof_order.specs.Beneath.machine_model.specs.Counting.{settled}
 use Rattle.proof_order.specs.Beneath.machine_model.specs.Machine.{swept}
 use Rattle.proof_order.specs.Beneath.machine_model.specs.Moves.{Begins, Goes, Ends, Sweeps}
 use Rattle.proof_order.specs.Beneath.machine_model.specs.Moves.{Moves, begun_operation}
-use Rattle.proof_order.specs.Beneath.machine_model.proofs.Frames.{acted_framed, limits_kept}
+use Rattle.proof_order.specs.Beneath.machine_model.proofs.Frames.{acted_framed, limits_kept, begin_events}
 use Rattle.proof_order.specs.Beneath.machine_model.proofs.Found.{none_found}
 use Rattle.proof_order.specs.Beneath.machine_model.proofs.Times.{at_each_time}
 use Rattle.proof_order.specs.Beneath.machine_model.specs.Times.{IsRun}
@@ -29,7 +29,7 @@ use Rattle.proof_order.specs.Facts.{Runs}
 use Rattle.proof_order.proofs.Places.Elements.{no_last}
 use Rattle.proof_order.proofs.History.Running.{IsBegun, IsEnded, ran_before, runs_on}
 use Rattle.proof_order.specs.Running.{IsSame}
-use Rattle.proof_order.proofs.History.Books.{IsTold, Books, told_same, one_by_id, quiet_books, begins_books, begin_events}
+use Rattle.proof_order.proofs.History.Books.{IsTold, Books, told_same, one_by_id, quiet_books, begins_books}
 
 -- ---- an end
 
@@ -104,7 +104,8 @@ gone_events state actor operation = (acted_framed _ _ (action_of state operation
 
 pub books_kept : (state : State) (s : Step) (o : Outcome) (after : State) → Moves state s o after → Books state → Books after
 books_kept state s o after (Begins {actor} {call} d) books =
-    begins_books state actor call _ _ (Begins d) d (begin_actors state actor call (begun_operation state call)) (limits_kept state _ _ _ (Begins d)) (begin_events state actor call (begun_operation state call)) books
+    begins_books state actor call _ _ (Begins d) d (begin_actors state actor call (begun_operation state call)) (limits_kept state _ _ _ (Begins d))
+    (begin_events state actor call (begun_operation state call)) books
 books_kept state s o after (Goes {actor} {operation} d is a g) books =
     quiet_books state (step.Go actor) _ _ (Goes d is a g)
     (ap length (gone_actors state actor operation) ∙ marks_length _ _ ∙ length-set state.actors (actor - 1) _)

@@ -29,7 +29,7 @@ use Rattle.proof_generations.proofs.Offers.Marks.{marks_mark}
 use Rattle.proof_generations.proofs.Offers.Standing.{offer_line}
 use Rattle.proof_generations.proofs.Handles.Running.{place_of_actor, one_at, at_place}
 use Rattle.proof_order.specs.Facts.{Runs, IsReply, CarriesOut}
-use Rattle.proof_order.proofs.History.Books.{one_by_id, begin_events}
+use Rattle.proof_order.proofs.History.Books.{one_by_id}
 use Rattle.proof_order.proofs.History.AllBooks.{gone_events}
 use Rattle.proof_order.proofs.History.Growing.{IsKept, ended_before, events_grow, holds_later}
 use Rattle.proof_order.proofs.History.Recalling.{begun_more_or_same}
@@ -37,6 +37,7 @@ use Rattle.proof_order.proofs.Offers.Known.{Offers, running_below}
 use Rattle.proof_order.proofs.Offers.Standing.{offers_kept, first_offers, nobody}
 use Rattle.proof_order.proofs.History.OneStep.{From, began, kept, stepped, from}
 use Rattle.proof_order.proofs.History.Copies.{IsDone, done_by, stays_marked, mark_kept, own_marks}
+use Rattle.proof_order.specs.Beneath.machine_model.proofs.Frames.{begin_events}
 
 -- an end that a step tells is of an operation that takes it
 pub ended_now : (state : State) (s : Step) (o : Outcome) (after : State) → Moves state s o after → (id : ℕ) (answer : Reply) → HasEnded after.events id answer →
@@ -90,7 +91,8 @@ complete_no_end c answer e = grind arith
 pub no_offer : (state : State) (operation : Operation) → IsDone operation → operation.is_marked ≡ true → (offer : Descriptor) → action_of state operation ≡ act.Offer offer → ⊥
 no_offer state operation done marked offer does = by (offer_line state operation operation.line offer does) (done marked)
   where
-    by : operation.line ≡ line.Copy (copy.Offer offer) → ((c : Complete) × (operation.line ≡ line.Copy (copy.Complete c))) ⊎ (operation.line ≡ line.End (copied_reply operation.call operation.opens)) → ⊥
+    by : operation.line ≡ line.Copy (copy.Offer offer) → ((c : Complete) × (operation.line ≡ line.Copy (copy.Complete c)))
+        ⊎ (operation.line ≡ line.End (copied_reply operation.call operation.opens)) → ⊥
     by at (inl (c, e)) = let wrong : line.Copy (copy.Offer offer) ≡ line.Copy (copy.Complete c) = sym at ∙ e in cc wrong
     by at (inr e) = let wrong : line.Copy (copy.Offer offer) ≡ line.End (copied_reply operation.call operation.opens) = sym at ∙ e in cc wrong
 
@@ -172,7 +174,8 @@ module _ (state : State) (s : Step) (o : Outcome) (after : State) (m : Moves sta
   now_by j found same (kept operation there is other) =
       let its : operation.id ≡ offer.operation = sym (ap (λ (q : Operation). q.id) (mark_only (marks_in state s) operation)) ∙ ap (λ (x : Operation). x.id) (sym is) ∙ same in
       let one = (one_by_id state phased.offers.books j k operation offerer there runs (its ∙ sym id)).1 in
-      subst (λ x. NowFits x) (sym is) (now_marked operation (marks_in state s) (carried_marks state s handle offer carries) its (ap (λ (x : Operation). x.call) one) (ap (λ (x : Operation). x.opens) one))
+      subst (λ x. NowFits x) (sym is) (now_marked operation (marks_in state s) (carried_marks state s handle offer carries) its (ap (λ (x : Operation). x.call) one)
+      (ap (λ (x : Operation). x.opens) one))
   now_by j found same (stepped operation there e goes is) =
       let next : Operation = operation_after state operation in
       let marks = marks_by state (Some operation) in

@@ -1,5 +1,6 @@
 -- What the history says of the running operations: it is well formed, and those run that have begun and not ended.
-use Rattle.std.proofs.Common.{◌≡◌, ℕ, suc, ◌-◌, ◌<◌, ◌≤◌, cond, inl, inr, List, ◌∷◌, ◌++◌, set, get_or, take, length, Option, Some, None, slice_get, refl, sym, ap, ◌∙◌, subst, take_all, length-set, arith, []}
+use Rattle.std.proofs.Common.{◌≡◌, ℕ, suc, ◌-◌, ◌<◌, ◌≤◌, cond, inl, inr, List, ◌∷◌, ◌++◌, set, get_or, take, length, Option, Some, None, slice_get, refl, sym, ap, ◌∙◌, subst}
+use Rattle.std.proofs.Common.{take_all, length-set, arith, []}
 use Rattle.std.proofs.lemmas.List.{get_or-set_same}
 use Rattle.std.proofs.lemmas.Option.{slice_get_within}
 use Rattle.proof_order.specs.Beneath.history.specs.declared.calls.Call.{Call}
@@ -89,7 +90,8 @@ quiet_told state s o after m e none books k found at_k = elim (ran_before state 
   | inr old ↦ subst (λ h. IsTold h k found) (sym e) (told_same state.events k old.0 found old.2 (books.told k old.0 old.1))
 ]
 
-quiet_running : (state : State) (s : Step) (o : Outcome) (after : State) → Moves state s o after → after.events ≡ state.events → ((k : ℕ) (operation : Operation) → ¬ IsEnded state s after k operation) →
+quiet_running : (state : State) (s : Step) (o : Outcome) (after : State) → Moves state s o after → after.events ≡ state.events →
+    ((k : ℕ) (operation : Operation) → ¬ IsEnded state s after k operation) →
     Books state → (id actor : ℕ) → IsRunning after.events id actor → (k : ℕ) × (operation : Operation) × (actor ≡ suc k) × Runs after k operation × (operation.id ≡ id)
 quiet_running state s o after m e none books id actor r =
     let (k, was, own, at_k, is) = books.running id actor (subst (λ h. IsRunning h id actor) e r) in
@@ -108,10 +110,6 @@ quiet_books state s o after m size limits e no_begin no_end books = record {
 }
 
 -- ---- a begin
-
-pub begin_events : (state : State) (actor : ℕ) (call : Call) (operation : Operation) →
-    (with_begin state actor call operation).events ≡ state.events ++ Begin operation.id actor call operation.opens ∷ []
-begin_events state actor call operation = grind arith
 
 opens_rightly : (call : Call) (n : ℕ) → OpensRightly call (cond (opens_handle call) (Some n) None)
 opens_rightly call n = grind arith

@@ -27,7 +27,7 @@ use Rattle.proof_order.specs.Facts.{Runs, Facts}
 use Rattle.proof_order.proofs.Places.Elements.{Among, Along, of_each, among_get, get_among, among_map, among_either, contains_among}
 use Rattle.proof_order.proofs.Places.Sorting.{AreApart, among_rising, rising_among}
 use Rattle.proof_order.proofs.Views.Replay.{ids_of}
-use Rattle.proof_order.proofs.History.Books.{begin_events, ended_below}
+use Rattle.proof_order.proofs.History.Books.{ended_below}
 use Rattle.proof_order.proofs.History.AllBooks.{books_at, gone_events}
 use Rattle.proof_order.proofs.History.Growing.{answered_at, unplaced, ended_before, events_grow, holds_later, IsKept}
 use Rattle.proof_order.proofs.History.Recalling.{event_later}
@@ -35,6 +35,7 @@ use Rattle.proof_order.proofs.Views.Standing.{step_at}
 use Rattle.proof_order.proofs.Views.Steps.{Enters, Kind, plain, updates, answers, closes, swaps, kind_at}
 use Rattle.proof_order.proofs.Places.Origins.{place_says}
 use Rattle.proof_order.proofs.Places.Members.{sorted, sorted_along, sorted_apart}
+use Rattle.proof_order.specs.Beneath.machine_model.proofs.Frames.{begin_events}
 
 -- ---- positions in a list of places
 

@@ -27,9 +27,10 @@ use Rattle.proof_order.specs.Beneath.machine_model.specs.Times.{IsRun}
 use Rattle.proof_order.specs.Beneath.machine_model.proofs.Actors.{IsOf, is_of, mark_one, mark_only, of_others, of_itself, of_begin, of_end}
 use Rattle.proof_generations.proofs.Handles.Running.{place_of_actor, at_place}
 use Rattle.proof_order.specs.Facts.{Runs}
-use Rattle.proof_order.proofs.History.Books.{Books, begin_events, ended_below}
+use Rattle.proof_order.proofs.History.Books.{Books, ended_below}
 use Rattle.proof_order.proofs.History.AllBooks.{books_kept, gone_events, first_books}
 use Rattle.proof_order.proofs.History.Growing.{IsKept}
+use Rattle.proof_order.specs.Beneath.machine_model.proofs.Frames.{begin_events}
 
 -- ---- a close that runs is about to end
 
@@ -110,7 +111,8 @@ answers_kept state s o after (Ends {actor = a} {operation} {answer = told} d is 
             let same_id : operation.id ≡ id = cc event in
             let same_reply : told ≡ answer = cc event in
             let (k, own, runs) = place_of_actor state a operation is in
-            sym same_reply ∙ ended_closed state k operation told c runs b place actor handle opens (subst (λ i. slice_get state.events place ≡ Some (Begin i actor (Close handle) opens)) (sym same_id) old)
+            sym same_reply ∙ ended_closed state k operation told c runs b place actor handle opens
+            (subst (λ i. slice_get state.events place ≡ Some (Begin i actor (Close handle) opens)) (sym same_id) old)
       ]
       | inr new ↦ let event = new.1 in let wrong : ⊥ = cc event in absurd wrong
     ]

@@ -45,7 +45,8 @@ marked_completes state s offers k operation runs e =
     (it, c, at)
 
 -- from the COMPLETE it goes on, or answers once it is marked or has carried the offer out itself
-completes_on : (state : State) (operation : Operation) (c : Complete) → (complete_after state.heap operation.access (word_at state (handle_of operation.call)) c ≡ Gives false → operation.is_marked ≡ true) →
+completes_on : (state : State) (operation : Operation) (c : Complete) →
+    (complete_after state.heap operation.access (word_at state (handle_of operation.call)) c ≡ Gives false → operation.is_marked ≡ true) →
     ((d : Complete) × (line_after state operation (line.Copy (copy.Complete c)) ≡ line.Copy (copy.Complete d)))
     ⊎ (line_after state operation (line.Copy (copy.Complete c)) ≡ line.End (copied_reply operation.call operation.opens))
 completes_on state operation c marked = by (complete_after state.heap operation.access (word_at state (handle_of operation.call)) c) refl
@@ -120,7 +121,8 @@ stepped_done state s offers k operation runs e goes done (inr marked) =
     subst (λ l. ((c : Complete) × (line_after state operation l ≡ line.Copy (copy.Complete c))) ⊎ (line_after state operation l ≡ line.End (copied_reply operation.call operation.opens)))
     (sym at) (completes_on state operation c (λ gives. absurd (gives_carried state operation c it.offer main does carried gives)))
 
-pub done_by : (state : State) (s : Step) → Offers state → ((k : ℕ) (operation : Operation) → Runs state k operation → IsDone operation) → (k : ℕ) (found : Operation) → From state s k found → IsDone found
+pub done_by : (state : State) (s : Step) → Offers state → ((k : ℕ) (operation : Operation) → Runs state k operation → IsDone operation) →
+    (k : ℕ) (found : Operation) → From state s k found → IsDone found
 done_by state s offers each k found (began new) e = absurd (false≢true (ap (λ (x : Operation). x.is_marked) (sym new.is_it) ∙ e))
 done_by state s offers each k found (kept operation runs is other) e =
     subst IsDone (sym is) (by (marked_or (marks_in state s) operation (ap (λ (x : Operation). x.is_marked) (sym is) ∙ e))) e
@@ -133,6 +135,10 @@ done_by state s offers each k found (stepped operation runs step_is goes is) e =
     let m = marks_by state (Some operation) in
     subst IsDone (sym is) (by (marked_or m next (ap (λ (x : Operation). x.is_marked) (sym is) ∙ e))) e
   where
-    by : ((operation_after state operation).is_marked ≡ true) ⊎ (marks_by state (Some operation) ≡ Some operation.id) → IsDone (mark_one (marks_by state (Some operation)) (operation_after state operation))
-    by (inl marked) = done_as _ (operation_after state operation) (stepped_done state s offers k operation runs step_is goes (each k operation runs) (inl (marked_before operation.is_marked (action_of state operation) marked)))
-    by (inr marked) = done_as _ (operation_after state operation) (stepped_done state s offers k operation runs step_is goes (each k operation runs) (inr (own_marks state s k operation step_is runs ∙ marked)))
+    by : ((operation_after state operation).is_marked ≡ true) ⊎ (marks_by state (Some operation) ≡ Some operation.id) →
+        IsDone (mark_one (marks_by state (Some operation)) (operation_after state operation))
+    by (inl marked) =
+        done_as _ (operation_after state operation)
+        (stepped_done state s offers k operation runs step_is goes (each k operation runs) (inl (marked_before operation.is_marked (action_of state operation) marked)))
+    by (inr marked) =
+        done_as _ (operation_after state operation) (stepped_done state s offers k operation runs step_is goes (each k operation runs) (inr (own_marks state s k operation step_is runs ∙ marked)))

@@ -1,5 +1,6 @@
 -- Each operation that has a place has begun.
-use Rattle.std.proofs.Common.{◌≡◌, ℕ, zero, suc, ◌⊎◌, inl, inr, Bool, true, false, if◌then◌else◌, List, [], ◌∷◌, ◌++◌, get_or, length, Option, Some, None, slice_get, ◌<◌, ◌≤◌, refl, sym, ap, ◌∙◌, subst}
+use Rattle.std.proofs.Common.{◌≡◌, ℕ, zero, suc, ◌⊎◌, inl, inr, Bool, true, false, if◌then◌else◌, List, [], ◌∷◌, ◌++◌, get_or, length, Option, Some, None, slice_get, ◌<◌, ◌≤◌}
+use Rattle.std.proofs.Common.{refl, sym, ap, ◌∙◌, subst}
 use Rattle.std.proofs.lemmas.Bool.{and_parts}
 use Rattle.proof_order.specs.Beneath.history.specs.declared.calls.Call.{Call}
 use Rattle.proof_order.specs.Beneath.history.specs.declared.calls.Call.TheVariants.{Close}
@@ -38,12 +39,13 @@ use Rattle.proof_generations.proofs.Handles.Running.{place_of_actor}
 use Rattle.proof_order.specs.Facts.{Runs}
 use Rattle.proof_order.proofs.Places.Elements.{Among, among_get, among_mapped, among_either, among_flat_map}
 use Rattle.proof_order.proofs.Places.Sorting.{among_rising}
-use Rattle.proof_order.proofs.History.Books.{Books, begin_events, id_below}
+use Rattle.proof_order.proofs.History.Books.{Books, id_below}
 use Rattle.proof_order.proofs.Views.Changes.{carries, acted_places, completed_is, carried_roots}
 use Rattle.proof_order.proofs.History.Growing.{Grows, get_grown, events_grow}
 use Rattle.proof_order.proofs.Places.Origins.{place_says}
 use Rattle.proof_order.proofs.Offers.Known.{Offers, stands}
 use Rattle.proof_order.proofs.Offers.Standing.{offers_kept, first_offers}
+use Rattle.proof_order.specs.Beneath.machine_model.proofs.Frames.{begin_events}
 
 -- who runs has begun
 runs_begun : (state : State) → Books state → (k : ℕ) (operation : Operation) → Runs state k operation → HasBegun state.events operation.id
@@ -89,7 +91,8 @@ acted_begun : (base : State) (handle : ℕ) (action : Action) (carried : Bool) �
 acted_begun base handle action false e p a = inl (subst (Among p) (acted_places base handle action e).0 a)
 acted_begun base handle (act.Complete offer main) true e p a =
     let (roots, places, closings, heap) = carried_roots base handle offer offer.opens in
-    elim (among_either base.places _ p (subst (Among p) (ap (λ (q : State). q.places) (completed_is base handle offer main e) ∙ ap (λ l. l ++ on_time base.steps false offer.operation ∷ []) places) a)) [
+    elim (among_either base.places _ p
+    (subst (Among p) (ap (λ (q : State). q.places) (completed_is base handle offer main e) ∙ ap (λ l. l ++ on_time base.steps false offer.operation ∷ []) places) a)) [
       | inl old ↦ inl old
       | inr new ↦ elim new [ inl is ↦ inr (offer, main, refl, e, ap (λ (q : Place). q.id) is) | inr none ↦ absurd none ]
     ]
@@ -149,7 +152,8 @@ place_begun state s o after (Ends {actor} {operation} {answer} d is b) offers p 
     let grown = events_grow state s o after (Ends {actor = actor} {operation = operation} {answer = answer} d is b) in
     elim (among_either state.places (entered_at_end state operation answer) p a) [
       | inl old ↦ inl old
-      | inr new ↦ inr (still_begun state.events after.events p.id grown (subst (λ i. HasBegun state.events i) (sym (end_place state operation answer p new)) (runs_begun state offers.books k operation runs)))
+      | inr new ↦ inr
+          (still_begun state.events after.events p.id grown (subst (λ i. HasBegun state.events i) (sym (end_place state operation answer p new)) (runs_begun state offers.books k operation runs)))
     ]
 place_begun state s o after (Sweeps spent) offers p a = inl a
 

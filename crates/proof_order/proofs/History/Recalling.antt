@@ -23,9 +23,9 @@ use Rattle.proof_order.specs.Beneath.machine_model.specs.Moves.{Begins, Goes, En
 use Rattle.proof_order.specs.Beneath.machine_model.specs.Moves.{Moves, GoesOn, begun_operation}
 use Rattle.proof_order.specs.Beneath.machine_model.specs.Times.{IsRun}
 use Rattle.proof_order.specs.Facts.{Runs, IsReply}
-use Rattle.proof_order.proofs.History.Books.{begin_events}
 use Rattle.proof_order.proofs.History.AllBooks.{books_at}
 use Rattle.proof_order.proofs.History.Growing.{IsKept, holds_later, Grows, get_grown, events_grow}
+use Rattle.proof_order.specs.Beneath.machine_model.proofs.Frames.{begin_events}
 
 -- ---- an operation ends once
 

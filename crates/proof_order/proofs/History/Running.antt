@@ -15,11 +15,12 @@ use Rattle.proof_order.specs.Beneath.machine_model.specs.Acting.{operation_after
 use Rattle.proof_order.specs.Beneath.machine_model.specs.Machine.{go_denial}
 use Rattle.proof_order.specs.Beneath.machine_model.specs.Moves.{Begins, Goes, Ends, Sweeps}
 use Rattle.proof_order.specs.Beneath.machine_model.specs.Moves.{Moves, begun_operation}
-use Rattle.proof_order.specs.Beneath.machine_model.proofs.Actors.{IsOf, is_of, mark_one, mark_only, marks_by, after_marks, of_others, of_itself, of_begin, of_end, gone_actors, begin_actors}
-use Rattle.proof_order.specs.Beneath.proof_memory.proofs.Safety.Held.{begin_counts}
+use Rattle.proof_order.specs.Beneath.machine_model.proofs.Actors.{IsOf, is_of, mark_one, mark_only, marks_by, after_marks, of_others, of_itself, of_begin, of_end, gone_actors}
+use Rattle.proof_order.specs.Beneath.machine_model.proofs.Actors.{begin_actors, go_counts, begin_counts}
 use Rattle.proof_generations.proofs.Handles.Running.{one_at, at_place, write_cases, begin_not_running}
 use Rattle.proof_order.specs.Facts.{Runs}
 use Rattle.proof_order.specs.Running.{IsSame}
+use Rattle.proof_order.specs.Beneath.machine_model.proofs.Basics.{actor_at}
 
 -- with a mark it is the same
 pub marked_same : (m : Option ℕ) (operation : Operation) → IsSame operation (mark_one m operation)
@@ -74,13 +75,6 @@ marked_runs (Some id) xs k operation at_k =
 pub same_trans : (a b c : Operation) → IsSame a b → IsSame b c → IsSame a c
 same_trans a b c p q = record { id = q.id ∙ p.id; call = q.call ∙ p.call; opens = q.opens ∙ p.opens; access = q.access ∙ p.access }
 
--- the actor whose place it is
-actor_at : (actor k : ℕ) → 0 < actor → k ≡ actor - 1 → actor ≡ suc k
-actor_at actor k pos e = omega arith
-
-pub go_counts : (state : State) (actor : ℕ) → go_denial state actor ≡ None → 0 < actor
-go_counts state actor d = grind arith
-
 -- the step is the end of this operation
 abbrev pub IsEnded : State → Step → State → ℕ → Operation → Type 0
 IsEnded state s after k operation =
@@ -97,7 +91,12 @@ runs_on state s o after (Goes {actor} {operation = own} d is a g) k operation at
   | inl here ↦
       let at_own = at_place state actor k own (actor_at actor k (go_counts state actor d) here.0) is in
       let (found, at_found, same) = marked_runs (marks_by state (Some own)) (set state.actors (actor - 1) (Some (operation_after state own))) k (operation_after state own) here.1 in
-      inr (found, rw gone_actors at_found, subst (λ (x : Operation). IsSame x found) (one_at state k own operation at_own at_k) (record { id = same.id; call = same.call; opens = same.opens; access = same.access }))
+      inr (
+        found,
+        rw gone_actors at_found,
+        subst (λ (x : Operation). IsSame x found) (one_at state k own operation at_own at_k)
+            (record { id = same.id; call = same.call; opens = same.opens; access = same.access }),
+      )
   | inr there ↦
       let (found, at_found, same) = marked_runs (marks_by state (Some own)) (set state.actors (actor - 1) (Some (operation_after state own))) k operation there.1 in
       inr (found, rw gone_actors at_found, same)

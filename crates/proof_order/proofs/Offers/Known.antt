@@ -28,7 +28,7 @@ pub record Offers (state : State) : Type 0 where
   pub own : HasOffers state
 
 -- an offer that stands on a handle: its operation completes it, without a mark
-pub record Stands (state : State) (handle : ℕ) (offer : Descriptor) : Type 0 where
+pub record OfferStands (state : State) (handle : ℕ) (offer : Descriptor) : Type 0 where
   pub k : ℕ
   pub operation : Operation
   pub c : Complete
@@ -40,7 +40,7 @@ pub record Stands (state : State) (handle : ℕ) (offer : Descriptor) : Type 0 w
   pub at : operation.line ≡ line.Copy (copy.Complete c)
   pub its : c.offer ≡ offer
 
-pub stands : (state : State) → Offers state → (handle : ℕ) (offer : Descriptor) → word_at state handle ≡ Offer offer → Stands state handle offer
+pub stands : (state : State) → Offers state → (handle : ℕ) (offer : Descriptor) → word_at state handle ≡ Offer offer → OfferStands state handle offer
 stands state offers handle offer word =
     let b = offers.own.offers handle offer word in
     let mine = own_numbers b.owner offer (offers.own.own b.k b.owner b.runs) b.completes in

@@ -66,7 +66,8 @@ module _ (state : State) (actor : ℕ) (own : Operation) (is : operation_of stat
   end_by none word =
       stood word (λ k operation mine e runs settled here stands. none-some mine (sym none ∙ ap (λ x. settles (action_of state x)) (same_own k operation e runs) ∙ settled))
 
-pub words_after : (state : State) (s : Step) (o : Outcome) (after : State) → Moves state s o after → (handle : ℕ) (offer : Descriptor) → word_at after handle ≡ Offer offer → StandsFrom state s handle offer
+pub words_after : (state : State) (s : Step) (o : Outcome) (after : State) → Moves state s o after → (handle : ℕ) (offer : Descriptor) →
+    word_at after handle ≡ Offer offer → StandsFrom state s handle offer
 words_after state s o after (Begins {actor} {call} d) handle offer e =
     stood (begun_word state actor call (begun_operation state call) handle offer e) (λ k operation mine is. let wrong : ⊥ = cc is in absurd wrong)
 words_after state s o after (Goes {actor} {operation} d is a g) handle offer e =

@@ -24,7 +24,7 @@ use Rattle.proof_generations.proofs.Lines.Copy.{is_clear, second_fits}
 use Rattle.proof_generations.proofs.Offers.Standing.{StandsBy, completes_it}
 use Rattle.proof_generations.proofs.Roots.Own.{its_fresh}
 use Rattle.proof_generations.proofs.Roots.Kept.{fresh_of}
-use Rattle.proof_order.specs.Beneath.proof_contents.specs.Runs.{main_at}
+use Rattle.proof_order.specs.Beneath.proof_contents.specs.Runs.{counting_main}
 use Rattle.proof_order.specs.Openings.{IsSwap, IsRootOf, IsNewRoot, Brings, clears, snapshots, freezes, SwapsBring}
 use Rattle.proof_order.proofs.Openings.Carried.{ordered}
 use Rattle.proof_order.proofs.Openings.NeverStood.{IsNew, new_at}
@@ -96,18 +96,18 @@ module _ (limits : Limits) (states : ℕ → State) (last : ℕ) (run : IsRun li
         keeps = one.1;
       }
 
-  main_shows : (x : Bool) (q : Ref) → fresh_of x offer ≡ Some q → ShowsMain limits states last run (is_clear by.owner.call) offer.expected (main_at states last (suc t) q)
+  main_shows : (x : Bool) (q : Ref) → fresh_of x offer ≡ Some q → ShowsMain limits states last run (is_clear by.owner.call) offer.expected (counting_main states last (suc t) q)
   main_shows x q e =
       let s = shows x q e in
       let stays = fresh_stays limits states last run t swap.taken by.k by.owner x q by.runs by.unmarked (its_fresh by.owner.line offer x q by.completes e) s.link in
       subst (λ m. ShowsMain limits states last run (is_clear by.owner.call) offer.expected m) (sym stays)
-      (subst (λ p. ShowsMain limits states last run (is_clear by.owner.call) p.1 (main_at states last t q)) copied_is s.main_is)
+      (subst (λ p. ShowsMain limits states last run (is_clear by.owner.call) p.1 (counting_main states last t q)) copied_is s.main_is)
 
   -- ---- by the call
 
   module _ (call : Call) (is : by.owner.call ≡ call) where
-    shows_so : (x : Bool) (q : Ref) → fresh_of x offer ≡ Some q → ShowsMain limits states last run (is_clear call) offer.expected (main_at states last (suc t) q)
-    shows_so x q e = subst (λ c. ShowsMain limits states last run (is_clear c) offer.expected (main_at states last (suc t) q)) is (main_shows x q e)
+    shows_so : (x : Bool) (q : Ref) → fresh_of x offer ≡ Some q → ShowsMain limits states last run (is_clear call) offer.expected (counting_main states last (suc t) q)
+    shows_so x q e = subst (λ c. ShowsMain limits states last run (is_clear c) offer.expected (counting_main states last (suc t) q)) is (main_shows x q e)
 
     fits : second_fits call offer.second ≡ true
     fits = ap (λ c. second_fits c offer.second) (sym is) ∙ (offers limits states last run t handle offer swap).second
@@ -164,4 +164,5 @@ module _ (limits : Limits) (states : ℕ → State) (last : ℕ) (run : IsRun li
 
 pub swaps_bring : (limits : Limits) (states : ℕ → State) (last : ℕ) → IsRun limits states last → SwapsBring states last
 swaps_bring limits states last run t handle offer swap actor operation is id =
-    subst (λ (x : Operation). Brings states last t handle offer x.call) (offered_by limits states last run t handle offer swap actor operation is id) (brings_owner limits states last run t handle offer swap)
+    subst (λ (x : Operation). Brings states last t handle offer x.call) (offered_by limits states last run t handle offer swap actor operation is id)
+    (brings_owner limits states last run t handle offer swap)

@@ -28,6 +28,7 @@ use Rattle.proof_generations.proofs.Roots.Kept.{fresh_of, root_kept}
 use Rattle.proof_generations.proofs.Roots.Along.{IsOrdered, ordered_at, offer_writable, offered_unused, offered_apart}
 use Rattle.proof_order.specs.Facts.{CarriesOut, On, IsFresh, standing_of}
 use Rattle.proof_order.specs.Openings.{IsSwap}
+use Rattle.proof_order.specs.Beneath.machine_model.proofs.Basics.{not_offer}
 
 -- what carries an offer out, told apart
 pub record Carried (state : State) (s : Step) (handle : ℕ) (offer : Descriptor) : Type 0 where
@@ -50,14 +51,11 @@ pub record IsOffered (state : State) (handle : ℕ) (offer : Descriptor) : Type 
   pub word : root.word ≡ Offer offer
   pub writable : root.access ≡ Writable
 
-plain_no_offer : (r : Ref) (offer : Descriptor) → Plain r ≡ Offer offer → ⊥
-plain_no_offer r offer e = cc e
-
 pub offered_root : (state : State) → IsSafe state → IsOrdered state → (handle : ℕ) (offer : Descriptor) → word_at state handle ≡ Offer offer → IsOffered state handle offer
 offered_root state S I handle offer e = by (root_at state handle) refl e
   where
     by : (o : Option Root) → root_at state handle ≡ o → word_of o ≡ Offer offer → IsOffered state handle offer
-    by None is w = absurd (plain_no_offer _ offer w)
+    by None is w = absurd (not_offer _ offer w)
     by (Some root) is w = record { root = root; is_open = is; word = w; writable = offer_writable state S I handle root offer is w }
 
 -- what no handle's root has is fresh

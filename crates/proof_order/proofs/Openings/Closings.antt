@@ -1,5 +1,6 @@
 -- Each closing is of another generation, and is a root swap.
-use Rattle.std.proofs.Common.{◌≡◌, ℕ, zero, suc, ◌<◌, ◌≤◌, ◌==◌, Bool, true, false, cond, ◌⊎◌, inl, inr, List, [], ◌∷◌, ◌++◌, length, find, Option, Some, None, refl, sym, ap, ◌∙◌, subst, arith, eq-eqb}
+use Rattle.std.proofs.Common.{◌≡◌, ℕ, zero, suc, ◌<◌, ◌≤◌, ◌==◌, Bool, true, false, cond, ◌⊎◌, inl, inr, List, [], ◌∷◌, ◌++◌, length, find, Option, Some, None, refl, sym, ap, ◌∙◌}
+use Rattle.std.proofs.Common.{subst, arith, eq-eqb}
 use Rattle.std.specs.Prelude.{slice_get}
 use Rattle.std.proofs.lemmas.Bool.{true≢false}
 use Rattle.std.proofs.lemmas.Option.{none-some, same_Some}
@@ -97,7 +98,8 @@ pub record ClosesSo (states : ℕ → State) (last t generation : ℕ) : Type 0 
   pub its : generation_at (states t).heap offer.root ≡ generation
 
 module _ (limits : Limits) (states : ℕ → State) (last : ℕ) (r : IsRun limits states last) where
-  closed_by : (t generation c : ℕ) → t < last → (s : Step) (o : Outcome) → Moves (states t) s o (states (suc t)) → closed_at (states t) generation ≡ None → closed_at (states (suc t)) generation ≡ Some c →
+  closed_by : (t generation c : ℕ) → t < last → (s : Step) (o : Outcome) → Moves (states t) s o (states (suc t)) → closed_at (states t) generation ≡ None →
+      closed_at (states (suc t)) generation ≡ Some c →
       StepKind (states t) s (states (suc t)) → (c ≡ t) × ClosesSo states last t generation
   closed_by t generation c within s o m none e (quiet closings roots) = absurd (none-some c (sym none ∙ ap (λ l. closed_in l generation) (sym closings) ∙ e))
   closed_by t generation c within s o m none e (swaps actor mover offer go is d closings roots) =

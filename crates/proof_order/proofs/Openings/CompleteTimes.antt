@@ -41,8 +41,7 @@ use Rattle.proof_order.specs.Beneath.proof_commits.proofs.Known.Given.{Known}
 use Rattle.proof_order.specs.Beneath.proof_commits.specs.Words.{words_of}
 use Rattle.proof_order.specs.Beneath.proof_commits.proofs.Lines.Reads.{read_counts}
 use Rattle.proof_order.specs.Beneath.proof_commits.proofs.Course.Moments.{moment_at}
-use Rattle.proof_order.specs.Beneath.proof_commits.proofs.Known.Layers.{known_of_memory}
-use Rattle.proof_order.specs.Beneath.proof_commits.proofs.Known.Memory.{memory}
+use Rattle.proof_order.specs.Beneath.proof_commits.proofs.Known.Acts.{known_run}
 use Rattle.proof_generations.proofs.Handles.Running.{Comes, began, rested, went, comes}
 use Rattle.proof_generations.specs.Running.{Runs}
 use Rattle.proof_generations.proofs.Lines.Offers.{completing_of}
@@ -93,9 +92,6 @@ counts_from (read.Decide m p told) since t read_at le (inr h) = h
 counts_from l since t read_at le (inl e) = let wrong : ⊥ = cc e in absurd wrong
 
 module _ (limits : Limits) (states : ℕ → State) (last : ℕ) (run : IsRun limits states last) where
-  abbrev pub known_run : Known limits states last
-  known_run = known_of_memory limits states last (memory limits states last run)
-
   -- the words of the run, with no closing told
   abbrev pub w : Words
   w = words_of states last (λ g. None)
@@ -128,7 +124,8 @@ module _ (limits : Limits) (states : ℕ → State) (last : ℕ) (run : IsRun li
       abbrev next : Operation
       next = operation_after (states t) was
 
-      read_by : (since : ℕ) → since ≤ t → (offer : Descriptor) (l : ReadLine) → completing_of was.line ≡ Some (record { offer = offer; line = complete.Reading l }) → (l ≡ read.Main) ⊎ (since ≤ was.read_at) →
+      read_by : (since : ℕ) → since ≤ t → (offer : Descriptor) (l : ReadLine) →
+          completing_of was.line ≡ Some (record { offer = offer; line = complete.Reading l }) → (l ≡ read.Main) ⊎ (since ≤ was.read_at) →
           since ≤ next.read_at
       read_by since le offer l is h =
           let counts : next.read_at ≡ counts_at l t was.read_at =
@@ -137,7 +134,8 @@ module _ (limits : Limits) (states : ℕ → State) (last : ℕ) (run : IsRun li
           omega (arith, counts_from l since t was.read_at le h, counts)
 
       -- what comes after it
-      goes_by : (offer : Descriptor) (l : ReadLine) → completing_of was.line ≡ Some (record { offer = offer; line = complete.Reading l }) → (since : ℕ) → since ≤ t → (l ≡ read.Main) ⊎ (since ≤ was.read_at) →
+      goes_by : (offer : Descriptor) (l : ReadLine) → completing_of was.line ≡ Some (record { offer = offer; line = complete.Reading l }) → (since : ℕ) →
+          since ≤ t → (l ≡ read.Main) ⊎ (since ≤ was.read_at) →
           (out : After ReadLine Ref) → read_after (states t).heap was.access (word_at (states t) (handle_of was.call)) offer.root l ≡ out → (c : Complete) →
           of_offer offer (after_reading out) ≡ Continues c → (c.offer ≡ offer) × CountsSince (suc t) since next c.offer c.line
       goes_by offer l is since le h (Continues x) gives c e =
@@ -146,10 +144,12 @@ module _ (limits : Limits) (states : ℕ → State) (last : ℕ) (run : IsRun li
       goes_by offer l is since le h (Gives main) gives c e =
           let same : record { offer = offer; line = complete.Swap main } ≡ c = cc e in
           let moved = went_so (states t) s o (states (suc t)) m k was go at_k g in
-          let moment = moment_at limits states last known_run t within (suc k) was o moved.0 at_k moved.1 offer.root l (completing_stage was.line (record { offer = offer; line = complete.Reading l }) is) main gives in
+          let moment = moment_at limits states last (known_run limits states last run) t within (suc k) was o moved.0 at_k moved.1 offer.root l
+          (completing_stage was.line (record { offer = offer; line = complete.Reading l }) is) main gives in
           (ap (λ (y : Complete). y.offer) (sym same), subst (λ (y : Complete). CountsSince (suc t) since next y.offer y.line) same (read_by since le offer l is h, (t, omega arith, moment)))
 
-      on_by : (d c : Complete) → completing_of was.line ≡ Some d → complete_after (states t).heap was.access (word_at (states t) (handle_of was.call)) d ≡ Continues c → (l : CompleteLine) → d.line ≡ l →
+      on_by : (d c : Complete) → completing_of was.line ≡ Some d → complete_after (states t).heap was.access (word_at (states t) (handle_of was.call)) d
+          ≡ Continues c → (l : CompleteLine) → d.line ≡ l →
           Since (suc t) next c
       on_by d c is e (complete.Reading l) at_line =
           let so = so_far k was d at_k is in
@@ -176,7 +176,8 @@ module _ (limits : Limits) (states : ℕ → State) (last : ℕ) (run : IsRun li
         by (complete.Swap main) (le, (v, before, is)) =
             (omega (arith, le, reads), (v, before, subst (λ r. IsMoment w c.offer.root main r found.moment v) (sym reads) (subst (λ n. IsMoment w c.offer.root main next.read_at n v) (sym moment) is)))
 
-    went_by : (k : ℕ) (found was : Operation) (c : Complete) → Runs (states (suc t)) k found → completing_of found.line ≡ Some c → s ≡ step.Go (suc k) → Runs (states t) k was → GoesOn (action_of (states t) was) →
+    went_by : (k : ℕ) (found was : Operation) (c : Complete) → Runs (states (suc t)) k found → completing_of found.line ≡ Some c → s ≡ step.Go (suc k) →
+        Runs (states t) k was → GoesOn (action_of (states t) was) →
         ComesFrom (states t) was was.line c → found.read_at ≡ (operation_after (states t) was).read_at → found.moment ≡ (operation_after (states t) was).moment → Since (suc t) found c
     went_by k found was c now e go at_k g (starts first) reads moment = record {
       at = suc t;

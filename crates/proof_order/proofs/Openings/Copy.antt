@@ -74,7 +74,8 @@ module _ (state : State) (operation : Operation) where
 
   -- over the main node that was found, or, by a clear, over the branch that it made
   pub data MakesOver (l : Line) (main : Ref) : Type 0 where
-    over_found : (root : Ref) → is_clear operation.call ≡ false → (l ≡ line.Copy (copy.Successor root main)) ⊎ ((successor : Ref) × (l ≡ line.Copy (copy.Second root main successor))) → MakesOver l main
+    over_found : (root : Ref) → is_clear operation.call ≡ false → (l ≡ line.Copy (copy.Successor root main))
+        ⊎ ((successor : Ref) × (l ≡ line.Copy (copy.Second root main successor))) → MakesOver l main
     over_branch : (root found : Ref) → is_clear operation.call ≡ true → l ≡ line.Copy (copy.Cleared root found main) → MakesOver l main
 
   opens_no_clear : (call : Call) → opens_handle call ≡ true → is_clear call ≡ false
@@ -159,7 +160,8 @@ copied_safe S state (copy.Complete c) h = by c.line h
     by (complete.Reading l) h = safe_of h.0
     by (complete.Swap main) h = safe_of h.0
 
-pub line_safe : (S : Ref → Type 0) (state : State) (operation : Operation) (l : Line) → AllHold S state.heap (line_wants state.limits.hash operation.call operation.access l) → (c : CopyLine) → l ≡ line.Copy c →
+pub line_safe : (S : Ref → Type 0) (state : State) (operation : Operation) (l : Line) →
+    AllHold S state.heap (line_wants state.limits.hash operation.call operation.access l) → (c : CopyLine) → l ≡ line.Copy c →
     S (copied l).0
 line_safe S state operation (line.Copy l) h c e = copied_safe S state l h
 line_safe S state operation l h c e = let wrong : ⊥ = cc e in absurd wrong

@@ -22,12 +22,13 @@ use Rattle.proof_order.specs.Beneath.proof_memory.proofs.Safety.Steps.{made_fres
 use Rattle.proof_generations.proofs.Handles.Running.{comes}
 use Rattle.proof_generations.specs.Running.{Runs}
 use Rattle.proof_generations.proofs.Handles.Operations.{Ran, ran_or_began}
-use Rattle.proof_generations.proofs.Roots.Kept.{safe_kept, fresh_in, fresh_safe, fresh_from, FreshFrom, had, new, makes_first}
+use Rattle.proof_generations.proofs.Roots.Kept.{safe_kept, fresh_in, fresh_safe, fresh_from, FreshFrom, had, new, makes_first, fresh_kept}
 use Rattle.proof_generations.proofs.Roots.Along.{IsOrdered}
 use Rattle.proof_generations.proofs.Roots.Own.{first_none}
 
 -- what a step makes stands behind it
-pub stands_made : (state : State) (S : IsSafe state) (s : Step) (o : Outcome) (after : State) → Moves state s o after → (k : ℕ) (was : Operation) → s ≡ step.Go (suc k) → Runs state k was → (node : Node) (r : Ref) →
+pub stands_made : (state : State) (S : IsSafe state) (s : Step) (o : Outcome) (after : State) → Moves state s o after → (k : ℕ) (was : Operation) →
+    s ≡ step.Go (suc k) → Runs state k was → (node : Node) (r : Ref) →
     made_node state (action_of state was) ≡ Some node → next_ref state.heap ≡ Some r → IsInUse after.heap r × (node_at after.heap r ≡ node)
 stands_made state S s o after (Begins d) k was e at_k node r a n = let wrong : ⊥ = cc e in absurd wrong
 stands_made state S s o after (Goes {actor} {operation} d is action g) k was e at_k node r a n =
@@ -49,13 +50,10 @@ module _ (state : State) (S : IsSafe state) (I : IsOrdered state) (s : Step) (o 
     made : (ran : Ran state s k found) (main : Ref) → s ≡ step.Go (suc k) → action_of state ran.was ≡ act.MakeRoot main → next_ref state.heap ≡ Some r → x ≡ makes_first ran.was.line →
         found.line ≡ line_after state ran.was ran.was.line → IsInUse after.heap r → node_at after.heap r ≡ Indirection state.generations main → FreshBehind k found x r
 
-  fresh_kept : (k : ℕ) (was : Operation) (x : Bool) (r : Ref) → Runs state k was → fresh_in x was.line ≡ Some r → generation_at after.heap r ≡ generation_at state.heap r
-  fresh_kept k was x r at_k e =
-      safe_kept state S s o after m was.epoch (S.recent k was at_k).0 (S.recent k was at_k).1 r (fresh_safe (Safe state was.epoch) state was was.line (S.lines k was at_k) x r e)
-
-  from_line : (k : ℕ) (found : Operation) (x : Bool) (r : Ref) (ran : Ran state s k found) → s ≡ step.Go (suc k) → found.line ≡ line_after state ran.was ran.was.line → FreshFrom state ran.was ran.was.line x r →
+  from_line : (k : ℕ) (found : Operation) (x : Bool) (r : Ref) (ran : Ran state s k found) → s ≡ step.Go (suc k) →
+      found.line ≡ line_after state ran.was ran.was.line → FreshFrom state ran.was ran.was.line x r →
       FreshBehind k found x r
-  from_line k found x r ran is goes (had e) = stays ran e (fresh_kept k ran.was x r ran.at_k e)
+  from_line k found x r ran is goes (had e) = stays ran e (fresh_kept state S s o after m k ran.was x r ran.at_k e)
   from_line k found x r ran is goes (new main a n side) =
       let stands = stands_made state S s o after m k ran.was is ran.at_k (Indirection state.generations main) r (ap (made_node state) a) n in
       made ran main is a n side goes stands.0 stands.1
@@ -63,7 +61,7 @@ module _ (state : State) (S : IsSafe state) (I : IsOrdered state) (s : Step) (o 
   pub fresh_behind : (k : ℕ) (found : Operation) → Runs after k found → (x : Bool) (r : Ref) → fresh_in x found.line ≡ Some r → FreshBehind k found x r
   fresh_behind k found at_k x r e = elim (ran_or_began state I.offers I.handles s k found (comes state s o after m k found at_k)) [
     | inl ran ↦ elim ran.line [
-      | inl same ↦ stays ran (ap (fresh_in x) (sym same) ∙ e) (fresh_kept k ran.was x r ran.at_k (ap (fresh_in x) (sym same) ∙ e))
+      | inl same ↦ stays ran (ap (fresh_in x) (sym same) ∙ e) (fresh_kept state S s o after m k ran.was x r ran.at_k (ap (fresh_in x) (sym same) ∙ e))
       | inr goes ↦ from_line k found x r ran goes.0 goes.1 (fresh_from state ran.was ran.was.line x r (ap (fresh_in x) (sym goes.1) ∙ e))
     ]
     | inr (call, is, d, it) ↦ absurd (first_none call x r (ap (λ (y : Operation). fresh_in x y.line) (sym it) ∙ e))

@@ -22,7 +22,6 @@ use Rattle.proof_order.specs.Beneath.proof_memory.specs.Laws.{IsInUse}
 use Rattle.proof_order.specs.Beneath.proof_memory.proofs.Safety.AtEachTime.{safe_at}
 use Rattle.proof_order.specs.Beneath.proof_memory.proofs.Safety.AtTimes.{line_finds, generation_found}
 use Rattle.proof_order.specs.Beneath.proof_memory.proofs.Safety.States.{IsSafe}
-use Rattle.proof_order.specs.Beneath.proof_memory.proofs.Heap.Moves.{grown_in_use}
 use Rattle.proof_order.specs.Beneath.proof_commits.specs.Protocol.{Given}
 use Rattle.proof_order.specs.Beneath.proof_commits.proofs.Known.Owners.{IsSound, Staged}
 use Rattle.proof_order.specs.Beneath.proof_commits.proofs.Known.Sounds.{sound_at}
@@ -37,15 +36,17 @@ use Rattle.proof_generations.proofs.Lines.Copy.{is_clear}
 use Rattle.proof_generations.proofs.Roots.Own.{IsUnused}
 use Rattle.proof_generations.proofs.Roots.Kept.{fresh_in, fresh_safe}
 use Rattle.proof_generations.proofs.Roots.Along.{IsOrdered, ordered_at}
-use Rattle.proof_order.specs.Beneath.proof_contents.specs.Runs.{main_at}
-use Rattle.proof_order.specs.Beneath.proof_contents.proofs.Values.Runs.{main_at-made, main_at-stays}
+use Rattle.proof_order.specs.Beneath.proof_contents.specs.Runs.{counting_main}
+use Rattle.proof_order.specs.Beneath.proof_contents.proofs.Values.Runs.{counting_main-made, counting_main-stays}
 use Rattle.proof_order.proofs.Openings.AlongMoves.{along_moves}
 use Rattle.proof_order.proofs.Openings.Fresh.{FreshBehind, stays, made, fresh_behind}
-use Rattle.proof_order.proofs.Openings.CompleteTimes.{w, known_run}
+use Rattle.proof_order.proofs.Openings.CompleteTimes.{w}
 use Rattle.proof_order.proofs.Openings.MainChanges.{unused_stays}
 use Rattle.proof_order.proofs.Openings.Copy.{copied, copied_kept, copied_made, MakesOver, over_found, over_branch, makes_over}
 use Rattle.proof_order.proofs.Openings.Branches.{IsCleared, empty_at}
 use Rattle.proof_order.specs.Beneath.proof_memory.specs.Wants.{is_indirection}
+use Rattle.proof_order.specs.Beneath.machine_model.proofs.Grown.{grown_in_use}
+use Rattle.proof_order.specs.Beneath.proof_commits.proofs.Known.Acts.{known_run}
 
 -- ---- along a run
 
@@ -58,7 +59,7 @@ module _ (limits : Limits) (states : ℕ → State) (last : ℕ) (run : IsRun li
   -- what is known of a fresh root that an operation has at this time
   pub record Shows (t : ℕ) (operation : Operation) (q : Ref) : Type 0 where
     pub link : is_indirection (node_under states t q) ≡ true
-    pub main_is : ShowsMain (is_clear operation.call) (copied operation.line).1 (main_at states last t q)
+    pub main_is : ShowsMain (is_clear operation.call) (copied operation.line).1 (counting_main states last t q)
 
   abbrev AllShow : ℕ → Type 0
   AllShow t = (k : ℕ) (operation : Operation) (x : Bool) (q : Ref) → Runs (states t) k operation → operation.is_marked ≡ false → fresh_in x operation.line ≡ Some q → Shows t operation q
@@ -71,20 +72,21 @@ module _ (limits : Limits) (states : ℕ → State) (last : ℕ) (run : IsRun li
 
   -- a fresh root's main node stays in a step
   pub fresh_stays : (t : ℕ) → t < last → (k : ℕ) (operation : Operation) (x : Bool) (q : Ref) → Runs (states t) k operation → operation.is_marked ≡ false → fresh_in x operation.line ≡ Some q →
-      is_indirection (node_under states t q) ≡ true → main_at states last (suc t) q ≡ main_at states last t q
+      is_indirection (node_under states t q) ≡ true → counting_main states last (suc t) q ≡ counting_main states last t q
   fresh_stays t within k operation x q at_k unmarked e l =
       let used : IsInUse (states t).heap q =
       fresh_safe (IsInUse (states t).heap) (states t) operation operation.line (line_finds (states t) (S t (omega arith)) (suc k) operation at_k) x q e in
       let its : generation_at (states t).heap q ≡ generation_of (node_under states last q) =
       generation_found states t q used ∙ sym (generation_stays limits states last run t last (omega arith) (omega arith) q used.0 (grown_in_use states t q used.0 used.1)) in
-      main_at-stays states last t q within
+      counting_main-stays states last t q within
       (λ is_there. unused_stays limits states last run t within q l
       (subst (IsUnused (states t)) its ((I t (omega arith)).roots.fresh k operation x q at_k unmarked e)))
 
   module _ (t : ℕ) (within : t < last) (so_far : AllShow t) (s : Step) (o : Outcome) (m : Moves (states t) s o (states (suc t))) where
     -- ---- a root that is made
 
-    module _ (k : ℕ) (was : Operation) (main q : Ref) (at_k : Runs (states t) k was) (go : s ≡ step.Go (suc k)) (does : action_of (states t) was ≡ act.MakeRoot main) (n : next_ref (states t).heap ≡ Some q) where
+    module _ (k : ℕ) (was : Operation) (main q : Ref) (at_k : Runs (states t) k was) (go : s ≡ step.Go (suc k))
+        (does : action_of (states t) was ≡ act.MakeRoot main) (n : next_ref (states t).heap ≡ Some q) where
       -- the node over which it is made is made and decided
       abbrev Held : Type 0
       Held = (is_some (grown states t main) ≡ true) × (prev_word states t main ≡ over.None)
@@ -119,17 +121,18 @@ module _ (limits : Limits) (states : ℕ → State) (last : ℕ) (run : IsRun li
       apart same = true≢false (sym (held_by made_over).0 ∙ ap (λ r. is_some (grown states t r)) same ∙ ap is_some takes.new)
 
       -- so it is the new root's main node
-      over_main : main_at states last (suc t) q ≡ main
+      over_main : counting_main states last (suc t) q ≡ main
       over_main =
-          main_at-made states last (suc t) q (ap is_some takes.here)
+          counting_main-made states last (suc t) q (ap is_some takes.here)
           ∙ ap (λ x. logical (main_of (node_of x)) (prev_word states (suc t) (main_of (node_of x)))) takes.here
           ∙ ap (λ x. logical main (prev_of x)) (takes.elsewhere main apart) ∙ ap (logical main) (held_by made_over).1
 
-      shows_by : MakesOver (states t) was was.line main → ShowsMain (is_clear was.call) (copied was.line).1 (main_at states last (suc t) q)
-      shows_by (over_found root clear (inl e)) = subst (λ b. ShowsMain b (copied was.line).1 (main_at states last (suc t) q)) (sym clear) (over_main ∙ sym (ap (λ l. (copied l).1) e))
-      shows_by (over_found root clear (inr (successor, e))) = subst (λ b. ShowsMain b (copied was.line).1 (main_at states last (suc t) q)) (sym clear) (over_main ∙ sym (ap (λ l. (copied l).1) e))
+      shows_by : MakesOver (states t) was was.line main → ShowsMain (is_clear was.call) (copied was.line).1 (counting_main states last (suc t) q)
+      shows_by (over_found root clear (inl e)) = subst (λ b. ShowsMain b (copied was.line).1 (counting_main states last (suc t) q)) (sym clear) (over_main ∙ sym (ap (λ l. (copied l).1) e))
+      shows_by (over_found root clear (inr (successor, e))) =
+          subst (λ b. ShowsMain b (copied was.line).1 (counting_main states last (suc t) q)) (sym clear) (over_main ∙ sym (ap (λ l. (copied l).1) e))
       shows_by (over_branch root found clear e) =
-          subst (λ b. ShowsMain b (copied was.line).1 (main_at states last (suc t) q)) (sym clear)
+          subst (λ b. ShowsMain b (copied was.line).1 (counting_main states last (suc t) q)) (sym clear)
           (ap (node_under states last) over_main ∙ empty_at limits states last run t (omega arith) k was main at_k (subst (λ l. IsCleared l main) (sym e) refl))
 
     -- ---- all of them
@@ -145,8 +148,8 @@ module _ (limits : Limits) (states : ℕ → State) (last : ℕ) (run : IsRun li
         record {
           link = link_stays (protocol limits states last (known_run limits states last run)) q t (suc t) (omega arith) within before.link;
           main_is =
-              subst (λ c. ShowsMain (is_clear c) (copied found.line).1 (main_at states last (suc t) q)) (sym ran.call)
-              (subst (λ p. ShowsMain (is_clear ran.was.call) p.1 (main_at states last (suc t) q)) (sym same)
+              subst (λ c. ShowsMain (is_clear c) (copied found.line).1 (counting_main states last (suc t) q)) (sym ran.call)
+              (subst (λ p. ShowsMain (is_clear ran.was.call) p.1 (counting_main states last (suc t) q)) (sym same)
               (subst (λ y. ShowsMain (is_clear ran.was.call) (copied ran.was.line).1 y) (sym (fresh_stays t within k ran.was x q ran.at_k (ran.unmarked unmarked) f before.link)) before.main_is));
         }
     show_by k found x q now unmarked e (made ran main go does n side goes used node) =
@@ -155,8 +158,8 @@ module _ (limits : Limits) (states : ℕ → State) (last : ℕ) (run : IsRun li
         record {
           link = ap (λ y. is_indirection (node_of y)) new.here;
           main_is =
-              subst (λ c. ShowsMain (is_clear c) (copied found.line).1 (main_at states last (suc t) q)) (sym ran.call)
-              (subst (λ p. ShowsMain (is_clear ran.was.call) p.1 (main_at states last (suc t) q)) (sym same)
+              subst (λ c. ShowsMain (is_clear c) (copied found.line).1 (counting_main states last (suc t) q)) (sym ran.call)
+              (subst (λ p. ShowsMain (is_clear ran.was.call) p.1 (counting_main states last (suc t) q)) (sym same)
               (shows_by k ran.was main q ran.at_k go does n (made_over k ran.was main q ran.at_k go does n)));
         }
 

@@ -91,7 +91,8 @@ module _ (limits : Limits) (states : ℕ → State) (last : ℕ) (run : IsRun li
       over_old : handle ≡ handle_of mover.call → gen (states u) a < generation_at (states t).heap offer.successor
       over_old here =
           let old_is : gen (states t) before.root ≡ generation_at (states t).heap offer.root = ap (λ w. generation_at (states t).heap (root_of w)) before.word in
-          let newer : generation_at (states t).heap offer.root < generation_at (states t).heap offer.successor = omega (arith, (is_new true offer.successor refl).newer, ap (generation_at (states t).heap) copied_is) in
+          let newer : generation_at (states t).heap offer.root < generation_at (states t).heap offer.successor =
+          omega (arith, (is_new true offer.successor refl).newer, ap (generation_at (states t).heap) copied_is) in
           by_old old_is newer (so_far u handle a before.root le at_u (ap (root_at (states t)) here ∙ before.is_open) before.writable)
         where
           by_old : gen (states t) before.root ≡ generation_at (states t).heap offer.root → generation_at (states t).heap offer.root < generation_at (states t).heap offer.successor →
@@ -112,9 +113,16 @@ module _ (limits : Limits) (states : ℕ → State) (last : ℕ) (run : IsRun li
       by_from : RootFrom (states t) (handle_of mover.call) (action_of (states t) mover) handle now → Rises u (suc t) handle a now
       by_from (stood root e access word free) = by_kept (root, e, access, word)
       by_from (swapped root other d here e it) =
-          inr (omega (arith, over_old here, kept true offer.successor refl, ap (gen (states (suc t))) it, ap (λ (x : Descriptor). generation_at (states (suc t)).heap x.successor) (same_carried other d)))
+          inr (omega (
+            arith,
+            over_old here,
+            kept true offer.successor refl,
+            ap (gen (states (suc t))) it,
+            ap (λ (x : Descriptor). generation_at (states (suc t)).heap x.successor) (same_carried other d),
+          ))
       by_from (newly other n d its at_it it) =
-          by_second offer.second refl (ap (λ (x : Descriptor). x.opens) (sym (same_carried other d)) ∙ its ∙ ap Some (sym at_it)) (it ∙ ap (λ (x : Descriptor). opened_root x x.second) (same_carried other d))
+          by_second offer.second refl (ap (λ (x : Descriptor). x.opens) (sym (same_carried other d)) ∙ its ∙ ap Some (sym at_it))
+          (it ∙ ap (λ (x : Descriptor). opened_root x x.second) (same_carried other d))
 
     rise_next : StepKind (states t) s (states (suc t)) → Rises u (suc t) handle a now
     rise_next (quiet closings roots) = by_kept (roots handle now at_now)

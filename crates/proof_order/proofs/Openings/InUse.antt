@@ -11,16 +11,14 @@ use Rattle.proof_order.specs.Beneath.machine_model.specs.Times.{IsRun}
 use Rattle.proof_order.specs.Beneath.proof_memory.specs.Laws.{IsInUse}
 use Rattle.proof_order.specs.Beneath.proof_memory.proofs.Safety.AtEachTime.{safe_at}
 use Rattle.proof_order.specs.Beneath.proof_memory.proofs.Limbo.Ranks.{reached_in_use}
-use Rattle.proof_order.specs.Beneath.proof_memory.proofs.Heap.Under as Under
-use Rattle.proof_order.specs.Beneath.proof_memory.proofs.Heap.Moves.{grown_in_use, grown_stays}
+use Rattle.proof_order.specs.Beneath.proof_memory.proofs.Heap.Moves.{grown_stays}
 use Rattle.proof_order.specs.Beneath.proof_contents.specs.Grows.{NodesStay}
 use Rattle.proof_order.specs.Beneath.proof_contents.specs.InUse.{ReachesInUse}
 use Rattle.proof_order.specs.Beneath.proof_contents.proofs.Values.Started.{node_stays}
+use Rattle.proof_order.specs.Beneath.machine_model.proofs.Grown.{grown_in_use, node_standing}
+use Rattle.proof_generations.proofs.Falling.Nodes.{nodes_stay}
 
 module _ (limits : Limits) (states : ℕ → State) (last : ℕ) (run : IsRun limits states last) where
-  pub nodes_stay : NodesStay states last
-  nodes_stay t u le within r was e = let (now, found, same) = grown_stays limits states last run t u le within r was e in (now, found, same.0)
-
   pub reaches_in_use : (t : ℕ) → t ≤ last → ReachesInUse (states t)
   reaches_in_use t within r reached = reached_in_use (states t) (safe_at limits states last run t within) r reached
 
@@ -28,5 +26,5 @@ module _ (limits : Limits) (states : ℕ → State) (last : ℕ) (run : IsRun li
   pub node_for_ever : (t : ℕ) (r : Ref) (node : Node) → t ≤ last → IsInUse (states t).heap r → node_at (states t).heap r ≡ node → ((g : ℕ) (w : Ref) → node ≡ Indirection g w → ⊥) →
       node_under states last r ≡ node
   node_for_ever t r node within used is apart =
-      let its = sym (Under.node_under (states t).heap r used.0 used.1) ∙ is in
-      node_stays states last nodes_stay t r used.0 within (grown_in_use states t r used.0 used.1) (λ g w e. apart g w (sym its ∙ e)) ∙ its
+      let its = sym (node_standing (states t).heap r used.0 used.1) ∙ is in
+      node_stays states last (nodes_stay limits states last run) t r used.0 within (grown_in_use states t r used.0 used.1) (λ g w e. apart g w (sym its ∙ e)) ∙ its

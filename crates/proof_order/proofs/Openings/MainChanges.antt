@@ -23,9 +23,10 @@ use Rattle.proof_generations.proofs.Roots.Open.{no_close_at}
 use Rattle.proof_generations.proofs.Roots.Own.{IsUnused}
 use Rattle.proof_generations.proofs.Roots.Rooted.{rooted_at}
 use Rattle.proof_generations.proofs.Falling.OwnSwaps.{swaps_in_own_generation}
-use Rattle.proof_order.proofs.Openings.CompleteTimes.{w, known_run}
+use Rattle.proof_order.proofs.Openings.CompleteTimes.{w}
 use Rattle.proof_order.specs.Beneath.proof_memory.specs.Wants.{is_indirection}
 use Rattle.proof_generations.proofs.Falling.FreshRoots.{not_rooted}
+use Rattle.proof_order.specs.Beneath.proof_commits.proofs.Known.Acts.{known_run}
 
 -- an operation stands in a SWAP into this indirection
 pub record SwapsInto (state : State) (i : Ref) : Type 0 where
@@ -62,7 +63,8 @@ module _ (limits : Limits) (states : ℕ → State) (last : ℕ) (run : IsRun li
       let (k, place, at_k) = place_of_actor (states t) s.actor s.operation s.runs in
       let going : is_end s.operation.line ≡ false = ap is_end s.stands in
       not_rooted states t (handle_of s.operation.call) (generation_of (node_under states last i)) unused
-      (rooted_at limits states last run t (omega arith) k s.operation (generation_of (node_under states last i)) at_k (no_close_at limits states last run t (omega arith) k s.operation at_k going) writable
+      (rooted_at limits states last run t (omega arith) k s.operation (generation_of (node_under states last i)) at_k
+      (no_close_at limits states last run t (omega arith) k s.operation at_k going) writable
       (its ∙ ap (λ r. Some (generation_of (node_under states last r))) s.into))
 
   -- so its main nodes stay

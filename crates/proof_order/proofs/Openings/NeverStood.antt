@@ -34,7 +34,8 @@ module _ (limits : Limits) (states : ℕ → State) (last : ℕ) (run : IsRun li
       omega (arith, looked_up_below (states u) (ordered_at limits states last run u (omega arith)).below (root_of root.word), counted limits states last run u t le within)
 
   -- the root that an operation is to replace keeps its generation
-  root_stays : (t : ℕ) → t < last → (s : Step) (o : Outcome) → Moves (states t) s o (states (suc t)) → (k : ℕ) (operation : Operation) → Runs (states t) k operation → (c : CopyLine) → operation.line ≡ line.Copy c →
+  root_stays : (t : ℕ) → t < last → (s : Step) (o : Outcome) → Moves (states t) s o (states (suc t)) → (k : ℕ) (operation : Operation) →
+      Runs (states t) k operation → (c : CopyLine) → operation.line ≡ line.Copy c →
       generation_at (states (suc t)).heap (copied operation.line).0 ≡ generation_at (states t).heap (copied operation.line).0
   root_stays t within s o m k operation at_k c e =
       let safe = safe_at limits states last run t (omega arith) in
@@ -76,7 +77,8 @@ module _ (limits : Limits) (states : ℕ → State) (last : ℕ) (run : IsRun li
         unused = behind.roots.fresh k found x r at_k unmarked e
 
     -- a line that had it goes on over the same root
-    same : (k : ℕ) (found : Operation) (x : Bool) (r : Ref) (ran : Ran (states t) s k found) → fresh_in x ran.was.line ≡ Some r → fresh_in x found.line ≡ Some r → copied found.line ≡ copied ran.was.line
+    same : (k : ℕ) (found : Operation) (x : Bool) (r : Ref) (ran : Ran (states t) s k found) → fresh_in x ran.was.line ≡ Some r → fresh_in x found.line ≡ Some r →
+        copied found.line ≡ copied ran.was.line
     same k found x r ran f e = elim ran.line [
       | inl stood ↦ ap copied stood
       | inr goes ↦ ap copied goes.1 ∙ copied_kept (states t) ran.was ran.was.line x x r r f (ap (fresh_in x) (sym goes.1) ∙ e)
@@ -94,7 +96,8 @@ module _ (limits : Limits) (states : ℕ → State) (last : ℕ) (run : IsRun li
         next_by k found x r at_k unmarked e
         (λ u handle root le at_handle same. omega (arith, stood_below u t handle root le (omega arith), same, ap generation_of node))
         (λ u n root le its at_n. omega (arith, stood_below u t n root le (omega arith), ap generation_of node))
-        (let copies = over_copies (states t) ran.was ran.was.line main (makes_over (states t) ran.was ran.was.line main ((ordered_at limits states last run t (omega arith)).offers.own k ran.was ran.at_k) a) in
+        (let copies = over_copies (states t) ran.was ran.was.line main
+        (makes_over (states t) ran.was ran.was.line main ((ordered_at limits states last run t (omega arith)).offers.own k ran.was ran.at_k) a) in
         omega (
           arith,
           looked_up_below (states t) (ordered_at limits states last run t (omega arith)).below (copied ran.was.line).0,

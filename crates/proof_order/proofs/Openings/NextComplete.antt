@@ -39,7 +39,9 @@ use Rattle.proof_order.specs.Beneath.machine_model.specs.Climbing.{climbed, clim
 use Rattle.proof_order.specs.Beneath.machine_model.specs.Copying.{copy_after_complete, copied_reply, after_offer}
 use Rattle.proof_order.specs.Beneath.machine_model.specs.Swapping.{complete_after, completing, after_root_word, after_completing, is_plain}
 use Rattle.proof_order.specs.Beneath.machine_model.specs.Operations.{line_after, after_root}
-use Rattle.proof_generations.proofs.Lines.Offers.{completing_of, CompletesFrom, completes_after, from_root_none}
+use Rattle.proof_generations.proofs.Lines.Offers.{completing_of}
+use Rattle.proof_order.specs.Beneath.machine_model.proofs.Basics.{not_offer}
+use Rattle.proof_generations.proofs.Lines.Completes.{CompletesFrom, completes_after, from_root_none}
 
 pub data ComesFrom (state : State) (operation : Operation) (l : Line) (c : Complete) : Type 0 where
   -- it begins
@@ -54,12 +56,9 @@ pub data ComesFrom (state : State) (operation : Operation) (l : Line) (c : Compl
 abbrev unrooted : State → State
 unrooted state = record state { roots = [] }
 
-no_offer : (r : Ref) (offer : Descriptor) → Plain r ≡ Offer offer → ⊥
-no_offer r offer e = cc e
-
 none_there : (state : State) (operation : Operation) (l : Line) (c : Complete) → completing_of l ≡ None → (l ≡ line.Copy (copy.Offer c.offer) → ⊥) → CompletesFrom (unrooted state) operation l c → ⊥
 none_there state operation l c none other (inl (before, is, same)) = none-some before (sym none ∙ is)
-none_there state operation l c none other (inr (inl word)) = no_offer _ c.offer word
+none_there state operation l c none other (inr (inl word)) = not_offer _ c.offer word
 none_there state operation l c none other (inr (inr offers)) = other offers
 
 module _ (state : State) (operation : Operation) (c : Complete) where
@@ -105,7 +104,8 @@ module _ (state : State) (operation : Operation) (c : Complete) where
       by (Offer offer) e = starts (started offer e)
   root_comes (root.Completing d) e = by (complete_after state.heap operation.access (word_at state (handle_of operation.call)) d) refl e
     where
-      by : (a : After Complete Bool) → complete_after state.heap operation.access (word_at state (handle_of operation.call)) d ≡ a → completing_of (after_root operation (after_completing a)) ≡ Some c →
+      by : (a : After Complete Bool) → complete_after state.heap operation.access (word_at state (handle_of operation.call)) d ≡ a →
+          completing_of (after_root operation (after_completing a)) ≡ Some c →
           ComesFrom state operation (line.Root (root.Completing d)) c
       by (Goes next) is e = goes_on d refl (is ∙ ap Goes (same_Some next c e))
       by (Gives done) is e = absurd (none-some c e)

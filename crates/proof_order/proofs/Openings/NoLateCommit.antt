@@ -23,27 +23,27 @@ use Rattle.proof_order.specs.Beneath.machine_model.specs.Grown.{node_under, main
 use Rattle.proof_order.specs.Beneath.machine_model.specs.Times.{IsRun}
 use Rattle.proof_order.specs.Beneath.proof_memory.specs.Laws.{is_end}
 use Rattle.proof_order.specs.Beneath.proof_memory.proofs.Safety.AtEachTime.{safe_at}
-use Rattle.proof_order.specs.Beneath.proof_memory.proofs.Heap.Moves.{grown_in_use}
 use Rattle.proof_order.specs.Beneath.proof_commits.proofs.Course.Readings.{given_for_good}
 use Rattle.proof_order.specs.Beneath.proof_commits.specs.Moments.{IsMoment}
 use Rattle.proof_order.specs.Beneath.proof_commits.proofs.Known.Given.{Known}
 use Rattle.proof_order.specs.Beneath.proof_commits.specs.Words.{words_of}
-use Rattle.proof_order.specs.Beneath.proof_commits.proofs.Known.Layers.{RootsAreOpen, known_by}
-use Rattle.proof_order.specs.Beneath.proof_commits.proofs.Known.Memory.{memory}
+use Rattle.proof_order.specs.Beneath.proof_commits.proofs.Known.Acts.{known_by}
+use Rattle.proof_order.specs.Beneath.proof_commits.proofs.Known.Given.{RootsAreOpen}
 use Rattle.proof_order.specs.Beneath.proof_commits.proofs.Words.Along.{protocol}
 use Rattle.proof_generations.proofs.Handles.Running.{place_of_actor}
 use Rattle.proof_generations.proofs.Lines.Offers.{completing_of}
 use Rattle.proof_generations.proofs.Roots.Open.{no_close_at, open_root}
 use Rattle.proof_generations.proofs.Roots.Own.{gen}
 use Rattle.proof_generations.proofs.Roots.Along.{IsOrdered, ordered_at}
-use Rattle.proof_order.specs.Beneath.proof_contents.specs.Runs.{main_at, is_made}
-use Rattle.proof_order.specs.Beneath.proof_contents.proofs.Values.Runs.{main_at-made, made_next}
+use Rattle.proof_order.specs.Beneath.proof_contents.specs.Runs.{counting_main, is_made}
+use Rattle.proof_order.specs.Beneath.proof_contents.proofs.Values.Runs.{counting_main-made, made_next}
 use Rattle.proof_order.specs.Openings.{IsSwap, IsRootOf, NoLateCommit}
 use Rattle.proof_order.proofs.Openings.Carried.{Carried, mover, word, IsOffered, offered_root}
 use Rattle.proof_order.proofs.Openings.RootOf.{roots_are_one, root_in_use}
 use Rattle.proof_order.proofs.Openings.CompleteTimes.{Since, since_at}
 use Rattle.proof_order.proofs.Openings.SwapState.{closed_for_ever, old_stands}
 use Rattle.proof_order.proofs.Openings.OfferStood.{stood_since, known_later, known_later_than_first}
+use Rattle.proof_order.specs.Beneath.machine_model.proofs.Grown.{grown_in_use}
 
 -- who carries an offer out stands on the last line of a COMPLETE of it
 completes_so : (state : State) (operation : Operation) (l : Line) (offer : Descriptor) (main : Ref) → line_action state operation l ≡ act.Complete offer main →
@@ -122,7 +122,8 @@ module _ (limits : Limits) (states : ℕ → State) (last : ℕ) (run : IsRun li
       let o = offered_then u from before in
       let I : IsOrdered (states u) = ordered_at limits states last run u (omega (arith, swap.taken)) in
       let gens : gen (states u) root ≡ gen (states u) o.root =
-      ap (λ x. generation_at (states u).heap (root_of x)) (sym (ap word_of is_open) ∙ plain) ∙ same ∙ sym (root_then u from before) ∙ ap (λ x. generation_at (states u).heap (root_of x)) (sym o.word) in
+      ap (λ x. generation_at (states u).heap (root_of x)) (sym (ap word_of is_open) ∙ plain) ∙ same ∙ sym (root_then u from before)
+      ∙ ap (λ x. generation_at (states u).heap (root_of x)) (sym o.word) in
       let one = I.roots.apart other handle root o.root is_open o.is_open writable o.writable gens in
       no_plain r (sym plain ∙ ap (word_at (states u)) one ∙ stands_then u from before)
 
@@ -162,7 +163,7 @@ module _ (limits : Limits) (states : ℕ → State) (last : ℕ) (run : IsRun li
       by false apart e = absurd (none-some c e)
 
   abbrev known_so : Known limits states last
-  known_so = known_by limits states last (memory limits states last run) closing asked_before
+  known_so = known_by limits states last run closing asked_before
 
   -- the READ gave the expected node
   given : carried.main ≡ offer.expected
@@ -178,14 +179,14 @@ module _ (limits : Limits) (states : ℕ → State) (last : ℕ) (run : IsRun li
       let same = (roots_are_one limits states last run t handle offer.root g (omega (arith, swap.taken)) (old_stands limits states last run t handle offer swap)).1 in
       ap (λ b. cond b (Some (since - 1)) None) (eq-eqb (generation_of (node_under states last offer.root)) g same)
 
-  pub stays_expected : (u : ℕ) → t ≤ u → u ≤ last → main_at states last u offer.root ≡ offer.expected
+  pub stays_expected : (u : ℕ) → t ≤ u → u ≤ last → counting_main states last u offer.root ≡ offer.expected
   stays_expected u after within =
       let counts = complete_since.counts in
       let final : main_before states u offer.root ≡ carried.main =
       given_for_good (protocol limits states last known_so) offer.root carried.main carried.mover.read_at carried.mover.moment counts.1.0 (since - 1)
       (omega (arith, counts.1.1, swap.taken)) moment its_closing (omega (arith, counts.0, began)) u (omega (arith, moment.past, counts.1.1)) within in
       let used = root_in_use limits states last run t handle offer.root g (omega (arith, swap.taken)) (old_stands limits states last run t handle offer swap) in
-      main_at-made states last u offer.root (made_later states t u offer.root after (ap is_some (grown_in_use states t offer.root used.0 used.1))) ∙ final ∙ given
+      counting_main-made states last u offer.root (made_later states t u offer.root after (ap is_some (grown_in_use states t offer.root used.0 used.1))) ∙ final ∙ given
 
 pub no_late_commit : (limits : Limits) (states : ℕ → State) (last : ℕ) → IsRun limits states last → NoLateCommit states last
 no_late_commit limits states last run t handle offer swap = stays_expected limits states last run t handle offer swap

@@ -1,34 +1,23 @@
 -- The laws for every list of steps, from those over runs.
-use Rattle.std.proofs.Common.{ℕ, subst}
-use Rattle.proof_order.specs.Beneath.machine_model.specs.States.{State}
 use Rattle.proof_order.specs.Beneath.machine_model.proofs.Times.{run_is}
 use Rattle.proof_order.specs.Beneath.machine_model.specs.Times.{states_of, last_of}
-use Rattle.proof_order.specs.Beneath.proof_commits.specs.Runs.{steps_taken}
-use Rattle.proof_order.specs.Beneath.proof_commits.proofs.Course.OfLists.{same_states}
-use Rattle.proof_order.specs.Laws.Openings.{OneRootIn, HandlesRiseIn, ClosedRootsStayIn, NewRootsFollowIn, NewRootsFollow, OneRoot, HandlesRise, ClosedRootsStay, ClosingsDiffer}
+use Rattle.proof_order.specs.Laws.Openings.{NewRootsFollow, OneRoot, HandlesRise, ClosedRootsStay, ClosingsDiffer}
 use Rattle.proof_order.proofs.Openings.ClosedRoots as over
 use Rattle.proof_order.proofs.Openings.Closings as closings
 use Rattle.proof_order.proofs.Openings.HandlesRise as rising
 use Rattle.proof_order.proofs.Openings.RootsFollow as following
 
 pub one_root : OneRoot
-one_root limits steps ok =
-    subst (λ (s : ℕ → State). OneRootIn s (steps_taken limits steps)) (same_states limits steps) (over.one_root limits (states_of limits steps) (last_of limits steps) (run_is limits steps ok))
+one_root limits steps ok = over.one_root limits (states_of limits steps) (last_of limits steps) (run_is limits steps ok)
 
 pub handles_rise : HandlesRise
-handles_rise limits steps ok =
-    subst (λ (s : ℕ → State). HandlesRiseIn s (steps_taken limits steps)) (same_states limits steps)
-    (rising.handles_rise limits (states_of limits steps) (last_of limits steps) (run_is limits steps ok))
+handles_rise limits steps ok = rising.handles_rise limits (states_of limits steps) (last_of limits steps) (run_is limits steps ok)
 
 pub closed_roots_stay : ClosedRootsStay
-closed_roots_stay limits steps ok =
-    subst (λ (s : ℕ → State). ClosedRootsStayIn s (steps_taken limits steps)) (same_states limits steps)
-    (over.closed_roots_stay limits (states_of limits steps) (last_of limits steps) (run_is limits steps ok))
+closed_roots_stay limits steps ok = over.closed_roots_stay limits (states_of limits steps) (last_of limits steps) (run_is limits steps ok)
 
 pub closings_differ : ClosingsDiffer
 closings_differ limits steps ok = closings.closings_differ limits ok steps
 
 pub new_roots_follow : NewRootsFollow
-new_roots_follow limits steps ok =
-    subst (λ (s : ℕ → State). NewRootsFollowIn s (steps_taken limits steps)) (same_states limits steps)
-    (following.new_roots_follow limits (states_of limits steps) (last_of limits steps) (run_is limits steps ok))
+new_roots_follow limits steps ok = following.new_roots_follow limits (states_of limits steps) (last_of limits steps) (run_is limits steps ok)

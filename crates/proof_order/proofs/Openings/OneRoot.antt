@@ -27,7 +27,7 @@ use Rattle.proof_generations.proofs.Offers.Standing.{StandsBy}
 use Rattle.proof_generations.proofs.Handles.Footings.{CarriesOut, RootFrom, stood, swapped, newly}
 use Rattle.proof_generations.proofs.Offers.Marks.{carried_stands}
 use Rattle.proof_generations.proofs.Roots.Own.{gen, its_fresh}
-use Rattle.proof_generations.proofs.Roots.Kept.{fresh_of, safe_kept, root_kept, fresh_safe}
+use Rattle.proof_generations.proofs.Roots.Kept.{fresh_of, safe_kept, root_kept, fresh_safe, fresh_kept}
 use Rattle.proof_generations.proofs.Roots.Along.{IsOrdered, ordered_at}
 use Rattle.proof_generations.proofs.Offers.Swaps.{StepKind, quiet, swaps, step_kind, Kept}
 use Rattle.proof_order.specs.Beneath.proof_memory.proofs.Safety.Guards.{Safe}
@@ -51,10 +51,7 @@ module _ (state : State) (S : IsSafe state) (I : IsOrdered state) (s : Step) (o 
 
   -- the roots that it brings keep their generations
   pub brought_kept : (x : Bool) (r : Ref) → fresh_of x offer ≡ Some r → generation_at after.heap r ≡ generation_at state.heap r
-  brought_kept x r e =
-      let b = stands in
-      safe_kept state S s o after m b.owner.epoch (S.recent b.k b.owner b.runs).0 (S.recent b.k b.owner b.runs).1 r
-      (fresh_safe (Safe state b.owner.epoch) state b.owner b.owner.line (S.lines b.k b.owner b.runs) x r (its_fresh b.owner.line offer x r b.completes e))
+  brought_kept x r e = fresh_kept state S s o after m stands.k stands.owner x r stands.runs (its_fresh stands.owner.line offer x r stands.completes e)
 
   -- a root behind the swap stood before, or is brought
   pub data Behind (r : Ref) (g : ℕ) : Type 0 where
@@ -87,7 +84,8 @@ started : (limits : Limits) (handle : ℕ) (root : Root) → root_at (first_stat
 unfolding first_state
 started limits handle root e = elim (cases_eq handle 0) [
   | inl same ↦
-      ap (λ (r : Root). r.word) (sym (same_Some _ _ (found_here {X = Root} (replicate handle_limit None) 0 first root (subst (λ h. get_or (set (replicate handle_limit None) 0 first) h None ≡ Some root) same e))))
+      ap (λ (r : Root). r.word)
+      (sym (same_Some _ _ (found_here {X = Root} (replicate handle_limit None) 0 first root (subst (λ h. get_or (set (replicate handle_limit None) 0 first) h None ≡ Some root) same e))))
   | inr other ↦ absurd (none_found {X = Root} handle_limit handle root (sym (found_elsewhere {X = Root} (replicate handle_limit None) 0 handle first other) ∙ e))
 ]
   where
@@ -149,7 +147,8 @@ module _ (limits : Limits) (states : ℕ → State) (last : ℕ) (run : IsRun li
       behind r g h = elim (split r g h) [
         | inl was ↦ inl was
         | inr (handle, now) ↦
-            as_behind r g (subst (λ x. Behind (states t) (safe t (omega arith)) (ordered t (omega arith)) s o (states (suc t)) m actor mover offer is c r x) (ap (generation_at (states (suc t)).heap) now.is ∙ now.its)
+            as_behind r g (subst (λ x. Behind (states t) (safe t (omega arith)) (ordered t (omega arith)) s o (states (suc t)) m actor mover offer is c r x)
+            (ap (generation_at (states (suc t)).heap) now.is ∙ now.its)
             (subst (λ x. Behind (states t) (safe t (omega arith)) (ordered t (omega arith)) s o (states (suc t)) m actor mover offer is c x (gen (states (suc t)) now.root)) now.is
             (behind_swap (states t) (safe t (omega arith)) (ordered t (omega arith)) s o (states (suc t)) m actor mover offer is c handle now.root (roots handle now.root now.is_open))))
       ]

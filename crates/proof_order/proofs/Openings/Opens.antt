@@ -13,7 +13,7 @@ use Rattle.proof_order.specs.Beneath.machine_model.specs.Moves.{Moves}
 use Rattle.proof_order.specs.Beneath.machine_model.specs.States.{State}
 use Rattle.proof_order.specs.Beneath.machine_model.specs.Grown.{node_under}
 use Rattle.proof_order.specs.Beneath.machine_model.specs.Times.{IsRun}
-use Rattle.proof_order.specs.Beneath.proof_contents.specs.Runs.{main_at, root_at, trie_of}
+use Rattle.proof_order.specs.Beneath.proof_contents.specs.Runs.{counting_main, root_of_generation, trie_of}
 use Rattle.proof_order.specs.Beneath.proof_contents.specs.Steps as steps
 use Rattle.proof_order.specs.Beneath.proof_contents.specs.Steps.{IsTrie}
 use Rattle.proof_order.specs.Beneath.proof_contents.specs.Tries.{Trie, content}
@@ -37,19 +37,19 @@ module _ (limits : Limits) (states : ℕ → State) (last : ℕ) (run : IsRun li
   abbrev gen : Ref → ℕ
   gen r = generation_at (states t).heap r
 
-  old_one : (root_at states last old ≡ offer.root) × (generation_of (node_under states last offer.root) ≡ old)
+  old_one : (root_of_generation states last old ≡ offer.root) × (generation_of (node_under states last offer.root) ≡ old)
   old_one = roots_are_one limits states last run t handle offer.root old (omega (arith, swap.taken)) (old_stands limits states last run t handle offer swap)
 
   -- a new root over the expected node shows, when it is opened, what the old one shows in the end
-  pub opens_over : (r : Ref) → IsNewRoot states last t offer r → main_at states last (suc t) r ≡ offer.expected → steps.Opens trie t old (gen r)
+  pub opens_over : (r : Ref) → IsNewRoot states last t offer r → counting_main states last (suc t) r ≡ offer.expected → steps.Opens trie t old (gen r)
   opens_over r new main = record {
     newer = new.newer;
     old_root = ap (λ q. generation_of (node_under states last q)) old_one.0 ∙ old_one.1;
     new_root = ap (λ q. generation_of (node_under states last q)) new.is_root ∙ new.keeps;
     in_range = swap.taken;
     same =
-        ap (λ q. main_at states last (suc t) q) new.is_root ∙ main ∙ sym (no_late_commit limits states last run t handle offer swap last (omega (arith, swap.taken)) (omega arith))
-        ∙ ap (λ q. main_at states last last q) (sym old_one.0);
+        ap (λ q. counting_main states last (suc t) q) new.is_root ∙ main ∙ sym (no_late_commit limits states last run t handle offer swap last (omega (arith, swap.taken)) (omega arith))
+        ∙ ap (λ q. counting_main states last last q) (sym old_one.0);
   }
 
   module _ (ok : IsTrie trie) where
@@ -57,7 +57,7 @@ module _ (limits : Limits) (states : ℕ → State) (last : ℕ) (run : IsRun li
     opens_by call (clears opens new empty) =
         facts.clears opens
         (empty_opens trie ok (suc t) (gen offer.successor) (ap (λ q. generation_of (node_under states last q)) new.is_root ∙ new.keeps)
-        (ap (λ q. node_under states last (main_at states last (suc t) q)) new.is_root ∙ empty))
+        (ap (λ q. node_under states last (counting_main states last (suc t) q)) new.is_root ∙ empty))
     opens_by call (snapshots n second opens is first main copy its) =
         facts.snapshots n second opens is (second_is_fresh limits states last run t handle offer swap second is) (second_differs limits states last run t handle offer swap second is)
         (copy_opens trie ok t old (gen offer.successor) (opens_over offer.successor first main)) (copy_opens trie ok t old (gen second) (opens_over second copy its))

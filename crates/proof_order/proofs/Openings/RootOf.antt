@@ -1,5 +1,6 @@
 -- The root of a generation, as the trie of a run has it, is that of the handle whose root has the generation.
-use Rattle.std.proofs.Common.{◌≡◌, ℕ, zero, suc, ◌≤◌, ◌==◌, Bool, true, false, cond, ◌⊎◌, inl, inr, List, ◌∷◌, Option, Some, None, get_or, unwrap_or, refl, sym, ap, ◌∙◌, subst, arith, eqb-true, eq-eqb, []}
+use Rattle.std.proofs.Common.{◌≡◌, ℕ, zero, suc, ◌≤◌, ◌==◌, Bool, true, false, cond, ◌⊎◌, inl, inr, List, ◌∷◌, Option, Some, None, get_or, unwrap_or, refl, sym, ap, ◌∙◌, subst}
+use Rattle.std.proofs.Common.{arith, eqb-true, eq-eqb, []}
 use Rattle.std.proofs.lemmas.Bool.{cases_eq}
 use Rattle.std.proofs.lemmas.Option.{none-some, same_Some}
 use Rattle.proof_order.specs.Beneath.slot_arena.specs.declared.refs.Ref.{Ref}
@@ -16,11 +17,11 @@ use Rattle.proof_order.specs.Beneath.proof_memory.specs.Wants.{AllHold, word_wan
 use Rattle.proof_order.specs.Beneath.proof_memory.proofs.Claims.Uses.{safe_of}
 use Rattle.proof_order.specs.Beneath.proof_memory.proofs.Safety.AtEachTime.{safe_at}
 use Rattle.proof_order.specs.Beneath.proof_memory.proofs.Safety.AtTimes.{generation_found}
-use Rattle.proof_order.specs.Beneath.proof_memory.proofs.Heap.Moves.{grown_in_use}
 use Rattle.proof_generations.proofs.Counter.Drawn.{generation_stays}
-use Rattle.proof_order.specs.Beneath.proof_contents.specs.Runs.{or_before, root_if, root_among, root_until, root_at}
+use Rattle.proof_order.specs.Beneath.proof_contents.specs.Runs.{or_other, root_if, root_among, root_until, root_of_generation}
 use Rattle.proof_order.specs.Openings.{IsRootOf, RootsAreOne}
 use Rattle.proof_order.proofs.Openings.OneRoot.{one_at}
+use Rattle.proof_order.specs.Beneath.machine_model.proofs.Grown.{grown_in_use}
 
 -- ---- among the handles of a state
 
@@ -41,13 +42,13 @@ among_found heap generation (None ∷ roots) q e = in_front heap generation None
 among_found heap generation (Some root ∷ roots) q e = by (among_found heap generation roots q) (generation_at heap (root_of root.word) == generation) refl e
   where
     by : (root_among heap generation roots ≡ Some q → IsAmong heap generation roots q) → (b : Bool) → (generation_at heap (root_of root.word) == generation) ≡ b →
-        or_before (cond b (Some (root_of root.word)) None) (root_among heap generation roots) ≡ Some q → IsAmong heap generation (Some root ∷ roots) q
+        or_other (cond b (Some (root_of root.word)) None) (root_among heap generation roots) ≡ Some q → IsAmong heap generation (Some root ∷ roots) q
     by rest true same e =
         let is = same_Some (root_of root.word) q e in
         record { handle = zero; root = root; is_open = refl; is = is; its = ap (generation_at heap) (sym is) ∙ eqb-true (generation_at heap (root_of root.word)) generation same }
     by rest false apart e = in_front heap generation (Some root) roots q (rest e)
 
-or_either : (a b : Option Ref) (q : Ref) → b ≡ Some q → (p : Ref) × (or_before a b ≡ Some p)
+or_either : (a b : Option Ref) (q : Ref) → b ≡ Some q → (p : Ref) × (or_other a b ≡ Some p)
 or_either None b q e = (q, e)
 or_either (Some p) b q e = (p, refl)
 
@@ -58,14 +59,14 @@ among_there heap generation (o ∷ roots) (suc handle) root e its =
     let (q, found) = among_there heap generation roots handle root e its in or_either (root_if heap generation o) (root_among heap generation roots) q found
 among_there heap generation (o ∷ roots) zero root e its = (
   root_of root.word,
-  ap (λ x. or_before (root_if heap generation x) (root_among heap generation roots)) e
-      ∙ ap (λ b. or_before (cond b (Some (root_of root.word)) None) (root_among heap generation roots)) (eq-eqb (generation_at heap (root_of root.word)) generation its),
+  ap (λ x. or_other (root_if heap generation x) (root_among heap generation roots)) e
+      ∙ ap (λ b. or_other (cond b (Some (root_of root.word)) None) (root_among heap generation roots)) (eq-eqb (generation_at heap (root_of root.word)) generation its),
 )
 
 -- ---- up to a time
 
 module _ (states : ℕ → State) where
-  or_cases : (a b : Option Ref) (q : Ref) → or_before a b ≡ Some q → (a ≡ Some q) ⊎ (b ≡ Some q)
+  or_cases : (a b : Option Ref) (q : Ref) → or_other a b ≡ Some q → (a ≡ Some q) ⊎ (b ≡ Some q)
   or_cases None b q e = inr e
   or_cases (Some p) b q e = inl e
 
@@ -94,7 +95,7 @@ module _ (states : ℕ → State) where
         let now = subst (λ w. IsRootOf states w handle r generation) same is in
         let (q, found) = among_there (states (suc t)).heap generation (states (suc t)).roots handle now.root now.is_open (ap (generation_at (states (suc t)).heap) now.is ∙ now.its) in
         or_either (root_until states generation t) _ q found
-    | inr before ↦ let (q, found) = until_there t u handle generation r (omega arith) is in (q, ap (λ o. or_before o (root_among (states (suc t)).heap generation (states (suc t)).roots)) found)
+    | inr before ↦ let (q, found) = until_there t u handle generation r (omega arith) is in (q, ap (λ o. or_other o (root_among (states (suc t)).heap generation (states (suc t)).roots)) found)
   ]
 
 -- ---- along a run
@@ -112,7 +113,7 @@ module _ (limits : Limits) (states : ℕ → State) (last : ℕ) (run : IsRun li
   pub roots_are_one : RootsAreOne states last
   roots_are_one t handle r generation within is = (by (root_until states generation last) refl, keeps)
     where
-      by : (o : Option Ref) → root_until states generation last ≡ o → root_at states last generation ≡ r
+      by : (o : Option Ref) → root_until states generation last ≡ o → root_of_generation states last generation ≡ r
       by None e = let (q, found) = until_there states last t handle generation r within is in absurd (none-some q (sym e ∙ found))
       by (Some q) e =
           ap (λ o. unwrap_or o 0) e ∙ one_at limits states last run last (omega arith) q r generation (until_found states last generation q e) (t, handle, within, is)

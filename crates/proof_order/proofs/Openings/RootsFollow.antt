@@ -18,18 +18,17 @@ use Rattle.proof_order.specs.Beneath.proof_memory.specs.Wants.{AllHold, node_wan
 use Rattle.proof_order.specs.Beneath.proof_memory.proofs.Safety.AtEachTime.{safe_at}
 use Rattle.proof_order.specs.Beneath.proof_memory.proofs.Claims.Uses.{safe_of, first_hold, last_hold}
 use Rattle.proof_order.specs.Beneath.proof_memory.proofs.Safety.States.{IsSafe}
-use Rattle.proof_order.specs.Beneath.proof_memory.proofs.Heap.Under as Under
-use Rattle.proof_order.specs.Beneath.proof_memory.proofs.Heap.Moves.{grown_in_use}
 use Rattle.proof_order.specs.Beneath.proof_contents.specs.Runs as trie
 use Rattle.proof_order.specs.Openings.{IsRootOf, IsSwap, Brings}
 use Rattle.proof_order.specs.Openings as opening
 use Rattle.proof_order.specs.Laws.Openings.{RootsFollow, clears, snapshots, freezes, NewRootsFollowIn}
 use Rattle.proof_order.proofs.Openings.Brings.{swaps_bring}
 use Rattle.proof_order.proofs.Openings.ClosedRoots.{root_link, main_there}
-use Rattle.proof_order.proofs.Openings.InUse.{nodes_stay}
 use Rattle.proof_order.proofs.Openings.NoLateCommit.{no_late_commit}
 use Rattle.proof_order.proofs.Openings.RootOf.{root_in_use}
 use Rattle.proof_order.proofs.Openings.SwapState.{old_stands, successor_stands, second_stands}
+use Rattle.proof_order.specs.Beneath.machine_model.proofs.Grown.{grown_in_use, node_standing, prev_standing}
+use Rattle.proof_generations.proofs.Falling.Nodes.{nodes_stay}
 
 -- the logical main node of an indirection in use is in use
 pub logical_in_use : (state : State) → IsSafe state → (r : Ref) → IsInUse state.heap r → is_indirection (node_at state.heap r) ≡ true → IsInUse state.heap (logical_main state.heap r)
@@ -43,7 +42,7 @@ logical_in_use state S r used l = over_main (prev_at state.heap (main_at state.h
     by_node (Listed singles) l h = absurd (true≢false (sym l))
 
     its : node_at state.heap r ≡ used.0.node
-    its = Under.node_under state.heap r used.0 used.1
+    its = node_standing state.heap r used.0 used.1
 
     main_used : IsInUse state.heap (main_at state.heap r)
     main_used =
@@ -57,7 +56,7 @@ logical_in_use state S r used l = over_main (prev_at state.heap (main_at state.h
 
     over_main : (p : Prev) → prev_at state.heap (main_at state.heap r) ≡ p → IsInUse state.heap (logical (main_at state.heap r) p)
     over_main p e =
-        let word = sym e ∙ Under.prev_under state.heap (main_at state.heap r) main_used.0 main_used.1 in
+        let word = sym e ∙ prev_standing state.heap (main_at state.heap r) main_used.0 main_used.1 in
         subst (λ x. IsInUse state.heap (logical (main_at state.heap r) x)) (sym word)
         (by_prev main_used.0.prev (last_hold (IsInUse state.heap) state.heap (node_wants main_used.0.node) (prev_wants main_used.0.prev) (S.nodes (main_at state.heap r) main_used.0 main_used.1).0))
 
@@ -75,30 +74,31 @@ module _ (limits : Limits) (states : ℕ → State) (last : ℕ) (run : IsRun li
     link = ap (λ q. is_indirection (node_under states last q)) (sym stands.is) ∙ root_link limits states last run t handle stands.root within stands.is_open
 
     -- the main node of a handle's root is the trie's
-    root_main : logical_main (states t).heap r ≡ trie.main_at states last t r
+    root_main : logical_main (states t).heap r ≡ trie.counting_main states last t r
     root_main = main_there limits states last run t r within used link
 
     link_then : is_indirection (node_at (states t).heap r) ≡ true
     link_then =
         let now = nodes_stay limits states last run t last within (omega arith) r used.0 (grown_in_use states t r used.0 used.1) in
-        ap is_indirection (Under.node_under (states t).heap r used.0 used.1) ∙ sym (kept now.2.0 used.0.node) ∙ ap is_indirection (sym now.2.1) ∙ sym (ap (λ o. is_indirection (node_of o)) now.1) ∙ link
+        ap is_indirection (node_standing (states t).heap r used.0 used.1) ∙ sym (kept now.2.0 used.0.node) ∙ ap is_indirection (sym now.2.1)
+        ∙ sym (ap (λ o. is_indirection (node_of o)) now.1) ∙ link
       where
         kept : (m : Ref) (n : Node) → is_indirection (with_main_word m n) ≡ is_indirection n
         kept m (Indirection g word) = refl
         kept m n = refl
 
     -- what it is for ever it is now
-    empty_now : node_under states last (trie.main_at states last t r) ≡ empty_branch → node_at (states t).heap (logical_main (states t).heap r) ≡ empty_branch
+    empty_now : node_under states last (trie.counting_main states last t r) ≡ empty_branch → node_at (states t).heap (logical_main (states t).heap r) ≡ empty_branch
     empty_now e =
         let main = logical_main (states t).heap r in
         let there = logical_in_use (states t) (safe_at limits states last run t within) r used link_then in
         let now = nodes_stay limits states last run t last within (omega arith) main there.0 (grown_in_use states t main there.0 there.1) in
-        Under.node_under (states t).heap main there.0 there.1
+        node_standing (states t).heap main there.0 there.1
         ∙ was_empty now.2.0 there.0.node (sym now.2.1 ∙ sym (ap node_of now.1) ∙ ap (node_under states last) root_main ∙ e)
 
   module _ (t handle : ℕ) (offer : Descriptor) (swap : IsSwap states last t handle offer) where
     -- a new root over the expected node is over the old root's
-    follows : (h : ℕ) (r : Ref) → IsRootOf states (suc t) h r (generation_at (states t).heap r) → trie.main_at states last (suc t) r ≡ offer.expected →
+    follows : (h : ℕ) (r : Ref) → IsRootOf states (suc t) h r (generation_at (states t).heap r) → trie.counting_main states last (suc t) r ≡ offer.expected →
         logical_main (states (suc t)).heap r ≡ logical_main (states t).heap offer.root
     follows h r stands is =
         let was = root_main t handle offer.root _ (omega (arith, swap.taken)) (old_stands limits states last run t handle offer swap) in

@@ -20,8 +20,9 @@ use Rattle.proof_order.specs.Beneath.proof_contents.proofs.Pairs.Heap.{content_i
 use Rattle.proof_order.specs.Beneath.proof_contents.proofs.Values.Started.{starts_empty}
 use Rattle.proof_generations.proofs.Lines.ReaderKnows.{indirection_is}
 use Rattle.proof_order.specs.Openings.{IsRootOf, HandlesShow}
-use Rattle.proof_order.proofs.Openings.InUse.{nodes_stay, reaches_in_use}
+use Rattle.proof_order.proofs.Openings.InUse.{reaches_in_use}
 use Rattle.proof_order.proofs.Openings.RootOf.{roots_are_one, root_in_use}
+use Rattle.proof_generations.proofs.Falling.Nodes.{nodes_stay}
 
 module _ (limits : Limits) (states : ℕ → State) (last : ℕ) (run : IsRun limits states last) where
   pub handles_show : HandlesShow limits states last

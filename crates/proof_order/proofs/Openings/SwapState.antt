@@ -84,7 +84,8 @@ module _ (limits : Limits) (states : ℕ → State) (last : ℕ) (r : IsRun limi
         let open_then : closed_at (states t) g ≡ None =
         ap (closed_at (states t)) (ap (λ w. generation_at (states t).heap (root_of w)) (sym old.word))
         ∙ (ordered limits states last r t handle offer swap).roots.unclosed handle old.root old.is_open old.writable in
-        ap (λ l. closed_in l g) swapped.closings ∙ closed_last (states t).closings (closing_of (states t) offer) g open_then refl ∙ ap Some (steps_at limits states last r t (omega (arith, swap.taken)))
+        ap (λ l. closed_in l g) swapped.closings ∙ closed_last (states t).closings (closing_of (states t) offer) g open_then refl
+        ∙ ap Some (steps_at limits states last r t (omega (arith, swap.taken)))
 
     pub closed_for_ever : (u : ℕ) → t < u → u ≤ last → closed_at (states u) (generation_at (states t).heap offer.root) ≡ Some t
     closed_for_ever u after within = closed_later limits states last r (suc t) u (generation_at (states t).heap offer.root) t after within closes

@@ -37,9 +37,9 @@ use Rattle.proof_order.specs.Phases.{PlacesRunBehind}
 use Rattle.proof_order.specs.Times.{Try, has_read}
 use Rattle.proof_order.proofs.Phases.Closers.{begun_runs, closes_placed}
 use Rattle.proof_order.proofs.Phases.Entering.{Enters, commits, at_end, at_close, carried, entering}
-use Rattle.proof_order.proofs.Phases.Placed.{end_line}
 use Rattle.proof_order.proofs.Phases.Since.{run_since}
 use Rattle.proof_generations.proofs.Roots.Rooted.{standing_root}
+use Rattle.proof_order.specs.Beneath.proof_commits.proofs.Lines.Reads.{only_end}
 
 module _ (limits : Limits) (states : ℕ → State) (last : ℕ) (r : IsRun limits states last) where
   -- an operation with this id runs just behind the step
@@ -98,20 +98,23 @@ module _ (limits : Limits) (states : ℕ → State) (last : ℕ) (r : IsRun limi
         by (rests other after) = (k, mark_one (marks_in (states t) s) operation, after, ap (λ (x : Operation). x.id) (mark_only (marks_in (states t) s) operation))
         by (steps go goes after) =
             (k, mark_one (marks_in (states t) s) (operation_after (states t) operation), after, ap (λ (x : Operation). x.id) (mark_only (marks_in (states t) s) (operation_after (states t) operation)))
-        by (ends answer go does) = absurd (going answer (end_line (states t) operation operation.line answer does))
+        by (ends answer go does) = absurd (going answer (only_end (states t) operation operation.line answer does))
 
     -- behind the moment of who ends without a place
     ended_behind : (k : ℕ) (operation : Operation) (answer : _) → Runs (states t) k operation → action_of (states t) operation ≡ act.End answer → is_placed (states t) operation.id ≡ false →
         (operation.moment ≤ t) × RunsBehind operation.moment operation.id
     ended_behind k operation answer runs does unplaced =
         let since = run_since limits states last r t k operation within runs in
-        let at = end_line (states t) operation operation.line answer does in
+        let at = only_end (states t) operation operation.line answer does in
         let moment = (since.reads no_close).moment (ap has_read at) in
         let (was, at_k, same) = since.runs (suc operation.moment) (omega (arith, moment.behind)) moment.past in
         (omega (arith, moment.past), (k, was, at_k, sym same.id))
       where
         no_close : is_close operation.call ≡ false
-        no_close = elim (cases_Bool (is_close operation.call)) [ inr none ↦ none | inl close ↦ absurd (true≢false (sym (closes_placed limits states last r t within k operation runs close) ∙ unplaced)) ]
+        no_close = elim (cases_Bool (is_close operation.call)) [
+          | inr none ↦ none
+          | inl close ↦ absurd (true≢false (sym (closes_placed limits states last r t within k operation runs close) ∙ unplaced))
+        ]
 
     behind_by : (q : Place) → Enters (states t) s q → RunsBehind q.step q.id
     behind_by q (commits it) =

@@ -97,23 +97,6 @@ module _ (state : State) (operation : Operation) (main : Ref) where
 
 -- ---- what it commits was pending
 
-pub was_pending : (heap : Heap) (i main p : Ref) (told : Option ℕ) → verdict heap i main p told ≡ Commits → prev_at heap main ≡ prev.Pending p
-was_pending heap i main p told e = by (is_licensed heap i told) (prev_at heap main) e
-  where
-    by : (licensed : Bool) (v : Prev) → verdict_by licensed (is_pending v p) ≡ Commits → v ≡ prev.Pending p
-    by true prev.None e = let wrong : ⊥ = cc e in absurd wrong
-    by true (prev.Failed q) e = let wrong : ⊥ = cc e in absurd wrong
-    by true (prev.Pending q) e = pending (q == p) refl e
-      where
-        pending : (b : Bool) → (q == p) ≡ b → verdict_by true b ≡ Commits → prev.Pending q ≡ prev.Pending p
-        pending true is c = ap prev.Pending (eqb-true q p is)
-        pending false is c = let wrong : ⊥ = cc c in absurd wrong
-    by false v e = none (is_pending v p) e
-      where
-        none : (b : Bool) → verdict_by false b ≡ Commits → v ≡ prev.Pending p
-        none true e = let wrong : ⊥ = cc e in absurd wrong
-        none false e = let wrong : ⊥ = cc e in absurd wrong
-
 -- and is decided then
 pub now_none : (o : Option Slot) → prev_of (option_map (λ (slot : Slot). record slot { prev = prev.None }) o) ≡ prev.None
 now_none None = refl

@@ -1,5 +1,6 @@
 -- A step that commits an own update: whose it is, that it enters the order alone and hadn't before, and what it answers.
-use Rattle.std.proofs.Common.{◌≡◌, ◌≢◌, ℕ, zero, suc, ◌<◌, ◌≤◌, Bool, true, false, cond, inl, inr, List, [], ◌∷◌, ◌++◌, flat_map, append-nil, get_or, Option, Some, None, refl, sym, ap, ◌∙◌, subst, arith}
+use Rattle.std.proofs.Common.{◌≡◌, ◌≢◌, ℕ, zero, suc, ◌<◌, ◌≤◌, Bool, true, false, cond, inl, inr, List, [], ◌∷◌, ◌++◌, flat_map, append-nil, get_or, Option, Some, None, refl, sym}
+use Rattle.std.proofs.Common.{ap, ◌∙◌, subst, arith}
 use Rattle.std.proofs.lemmas.Bool.{cases_Bool}
 use Rattle.proof_order.specs.Beneath.places.specs.declared.place.Place.{Place}
 use Rattle.proof_order.specs.Beneath.slot_arena.specs.declared.nodes.Prev.TheVariants as prev
@@ -29,10 +30,11 @@ use Rattle.proof_order.specs.Phases.{Phase, past, completes, answers, IsPastAt, 
 use Rattle.proof_order.proofs.Phases.Entering.{SwapsIn, Owns, owns, swaps_so}
 use Rattle.proof_order.proofs.Phases.NewPlaces.{line_so, commit_so, published, past_owner}
 use Rattle.proof_order.proofs.Phases.PastAnswers.{past_answers}
-use Rattle.proof_order.proofs.Phases.Placed.{placed_phase, end_line}
+use Rattle.proof_order.proofs.Phases.Placed.{placed_phase}
 use Rattle.proof_order.proofs.Phases.Published.{run_words, fresh_so, one_fresh}
 use Rattle.proof_order.proofs.Phases.Standing.{rooted_at}
 use Rattle.proof_order.proofs.Phases.Writers.{swaps_writable, swaps_rooted}
+use Rattle.proof_order.specs.Beneath.proof_commits.proofs.Lines.Reads.{only_end}
 
 -- ---- what one alone adds
 
@@ -75,8 +77,10 @@ module _ (limits : Limits) (states : ℕ → State) (last : ℕ) (r : IsRun limi
       by false e = refl
       by true e =
           let rival = swaps_so it.main other.line e in
-          let of_rival = subst (HasFresh ((run_words limits states last r).words.stage t (suc j))) rival.fresh (fresh_so limits states last r t j within other runs (purpose.Update rival.path rival.former) rival.its rival.at) in
-          let of_mine = subst (HasFresh ((run_words limits states last r).words.stage t (suc it.k))) mine.fresh (fresh_so limits states last r t it.k within it.owner it.runs (purpose.Update mine.path mine.former) mine.its mine.at) in
+          let of_rival = subst (HasFresh ((run_words limits states last r).words.stage t (suc j))) rival.fresh
+          (fresh_so limits states last r t j within other runs (purpose.Update rival.path rival.former) rival.its rival.at) in
+          let of_mine = subst (HasFresh ((run_words limits states last r).words.stage t (suc it.k))) mine.fresh
+          (fresh_so limits states last r t it.k within it.owner it.runs (purpose.Update mine.path mine.former) mine.its mine.at) in
           absurd (away (one_fresh limits states last r t j it.k within it.main of_rival of_mine))
 
   enters : entered_by_step (states t) s ≡ place_of (states t) it.owner t false ∷ []
@@ -126,7 +130,7 @@ module _ (limits : Limits) (states : ℕ → State) (last : ℕ) (r : IsRun limi
           let same = mark_only (marks_in (states t) s) (operation_after (states t) it.owner) in
           behind (mark_one (marks_in (states t) s) (operation_after (states t) it.owner)) runs (ap (λ (x : Operation). x.id) same) (ap (λ (x : Operation). x.call) same)
       by (ends answer go does) =
-          let wrong : line.Swap (purpose.Update mine.path mine.former) mine.its ≡ line.End answer = sym mine.at ∙ end_line (states t) it.owner it.owner.line answer does in
+          let wrong : line.Swap (purpose.Update mine.path mine.former) mine.its ≡ line.End answer = sym mine.at ∙ only_end (states t) it.owner it.owner.line answer does in
           absurd (cc wrong)
 
   pub own_update : OwnUpdate states last t s

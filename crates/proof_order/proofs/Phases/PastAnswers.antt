@@ -27,7 +27,7 @@ use Rattle.proof_order.proofs.History.OneStep.{From, began, kept, stepped, from}
 use Rattle.proof_order.proofs.History.Answering.{ended_now}
 use Rattle.proof_order.specs.Phases.{IsPast, IsPastAt, PastAnswers}
 use Rattle.proof_order.proofs.Phases.PastSteps.{past_by}
-use Rattle.proof_order.proofs.Phases.Placed.{end_line}
+use Rattle.proof_order.specs.Beneath.proof_commits.proofs.Lines.Reads.{only_end}
 
 module _ (limits : Limits) (states : ℕ → State) (last : ℕ) (r : IsRun limits states last) (id : ℕ) (call : Call) (former : Option ℕ) where
   -- it is past its commit while it runs, and has this answer once it has ended
@@ -40,7 +40,7 @@ module _ (limits : Limits) (states : ℕ → State) (last : ℕ) (r : IsRun limi
   its_answer : (t : ℕ) (operation : Operation) (answer : Reply) → IsPast states t operation former → operation.call ≡ call → action_of (states t) operation ≡ act.End answer →
       answer ≡ changed_reply call former
   its_answer t operation answer h same does =
-      subst (IsPastAt states t operation.call former) (end_line (states t) operation operation.line answer does) h ∙ ap (λ c. changed_reply c former) same
+      subst (IsPastAt states t operation.call former) (only_end (states t) operation operation.line answer does) h ∙ ap (λ c. changed_reply c former) same
 
   goes_on : (t : ℕ) (lt : t < last) (s : Step) (o : Outcome) → Moves (states t) s o (states (suc t)) → Answers t → (k : ℕ) (found : Operation) → found.id ≡ id → From (states t) s k found →
       IsPast states (suc t) found former × (found.call ≡ call)

@@ -122,7 +122,8 @@ module _ (states : ℕ → State) (t : ℕ) (operation : Operation) (former : Op
   -- ---- each line
 
   pub past_after : (l : Line) → IsPastAt states t operation.call former l → GoesOn (line_action state operation l) →
-      ((s : Swap) → (path : List Ref) → l ≡ line.Swap (purpose.Update path former) s → (prev_word states (suc t) s.fresh ≡ prev.None) × (s.line ≡ swap.Check → prev_at state.heap s.fresh ≡ prev.None)) →
+      ((s : Swap) → (path : List Ref) → l ≡ line.Swap (purpose.Update path former) s → (prev_word states (suc t) s.fresh ≡ prev.None)
+      × (s.line ≡ swap.Check → prev_at state.heap s.fresh ≡ prev.None)) →
       Past (line_after state operation l)
   past_after (line.Swap (purpose.Update path was) s) h goes keeps =
       let k = keeps s path (ap (λ f. line.Swap (purpose.Update path f) s) h.0) in past_swap path was h.0 s h.1 k.0 k.1

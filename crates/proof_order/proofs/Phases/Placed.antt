@@ -31,6 +31,7 @@ use Rattle.proof_order.specs.Phases.{Phase, past, completes, answers, IsPastAt, 
 use Rattle.proof_order.proofs.Phases.Entering.{entering}
 use Rattle.proof_order.proofs.Phases.Steps.{is_placed_so, old}
 use Rattle.proof_order.proofs.Phases.NewPlaces.{new_phase}
+use Rattle.proof_order.specs.Beneath.proof_commits.proofs.Lines.Reads.{only_end}
 
 -- ---- along a run
 
@@ -38,7 +39,8 @@ use Rattle.proof_order.proofs.Phases.NewPlaces.{new_phase}
 abbrev AllPhased : (ℕ → State) → ℕ → Type 0
 AllPhased states t = (k : ℕ) (operation : Operation) → Runs (states t) k operation → is_placed (states t) operation.id ≡ true → Phase states t operation
 
-phased_after : (limits : Limits) (states : ℕ → State) (last : ℕ) → IsRun limits states last → (t : ℕ) → t < last → (s : Step) (o : Outcome) → Moves (states t) s o (states (suc t)) → AllPhased states t →
+phased_after : (limits : Limits) (states : ℕ → State) (last : ℕ) → IsRun limits states last → (t : ℕ) → t < last → (s : Step) (o : Outcome) →
+    Moves (states t) s o (states (suc t)) → AllPhased states t →
     AllPhased states (suc t)
 phased_after limits states last r t lt s o m before k found runs is =
     let its = from (states t) s o (states (suc t)) m k found runs in
@@ -59,10 +61,6 @@ placed_phase limits states last r t k operation le runs is =
 
 -- ---- who has no place
 
--- who is about to end stands at its end
-pub end_line : (state : State) (operation : Operation) (l : Line) (answer : Reply) → line_action state operation l ≡ act.End answer → l ≡ line.End answer
-end_line state operation l answer e = grind arith
-
 refused_reply : (call : _) (former : Option ℕ) → reply.NoSlots ≡ changed_reply call former → ⊥
 refused_reply call former e = grind arith
 
@@ -73,7 +71,7 @@ refused_unplaced limits states last r t actor operation lt is does = elim (cases
 ]
   where
     at : operation.line ≡ line.End reply.NoSlots
-    at = end_line (states t) operation operation.line reply.NoSlots does
+    at = only_end (states t) operation operation.line reply.NoSlots does
 
     by : Phase states t operation → ⊥
     by (past former h) = refused_reply operation.call former (subst (IsPastAt states t operation.call former) at h)

@@ -28,16 +28,17 @@ use Rattle.proof_order.specs.Beneath.proof_commits.proofs.Known.Sounds.{sound_at
 use Rattle.proof_order.specs.Beneath.proof_commits.specs.Stages.{stage_of, stage_of_actor, stage_of_swap}
 use Rattle.proof_order.specs.Beneath.proof_commits.proofs.Course.Finals.{none_final}
 use Rattle.proof_order.specs.Beneath.proof_commits.proofs.Known.Given.{Known, Decided, ActsOn}
-use Rattle.proof_order.specs.Beneath.proof_commits.proofs.Known.Layers.{HasMain, Finds, known_of_memory}
-use Rattle.proof_order.specs.Beneath.proof_commits.proofs.Known.Memory.{memory}
+use Rattle.proof_order.specs.Beneath.proof_commits.proofs.Known.Acts.{known_run}
+use Rattle.proof_order.specs.Beneath.proof_commits.proofs.Known.Claims.{HasMain, Finds, finds}
 use Rattle.proof_order.specs.Beneath.proof_commits.proofs.Words.Along.{protocol}
 use Rattle.proof_order.specs.Facts.{Runs}
 use Rattle.proof_order.specs.Phases.{IsPublished}
-use Rattle.proof_order.proofs.Phases.Commits.{line_decides, was_pending, now_none}
+use Rattle.proof_order.proofs.Phases.Commits.{line_decides, now_none}
+use Rattle.proof_order.specs.Beneath.proof_commits.proofs.Lines.Read.{was_pending}
 
 module _ (limits : Limits) (states : ℕ → State) (last : ℕ) (run : IsRun limits states last) where
   abbrev known : Known limits states last
-  known = known_of_memory limits states last (memory limits states last run)
+  known = known_run limits states last run
 
   -- the words of the run
   abbrev pub run_words : Protocol
@@ -87,8 +88,9 @@ module _ (limits : Limits) (states : ℕ → State) (last : ℕ) (run : IsRun li
     -- and is seen so
     pub seen : t < last → s.line ≡ swap.Check → prev_at (states t).heap s.fresh ≡ prev_word states t s.fresh
     seen lt is =
-        let does : action_of (states t) operation ≡ act.ReadPrev s.fresh = ap (line_action (states t) operation) at ∙ ap (λ l. line_action (states t) operation (line.Swap why (record s { line = l }))) is in
-        let h : HasMain (states t) s.fresh = subst (Finds (states t)) does ((memory limits states last run).finds t lt (suc k) operation runs) in
+        let does : action_of (states t) operation ≡ act.ReadPrev s.fresh =
+        ap (line_action (states t) operation) at ∙ ap (λ l. line_action (states t) operation (line.Swap why (record s { line = l }))) is in
+        let h : HasMain (states t) s.fresh = subst (Finds (states t)) does (finds limits states last run t lt (suc k) operation runs) in
         prev_found states t s.fresh (h.slot, h.stands)
 
   -- two actors have different nodes
@@ -106,7 +108,8 @@ module _ (limits : Limits) (states : ℕ → State) (last : ℕ) (run : IsRun li
     pub was : prev_word states t main ≡ prev.Pending previous
     pub is : prev_word states (suc t) main ≡ prev.None
 
-  pub committed_so : (t actor : ℕ) (operation : Operation) (o : Outcome) (main : Ref) → t < last → Moves (states t) (step.Go actor) o (states (suc t)) → operation_of (states t) actor ≡ Some operation →
+  pub committed_so : (t actor : ℕ) (operation : Operation) (o : Outcome) (main : Ref) → t < last → Moves (states t) (step.Go actor) o (states (suc t)) →
+      operation_of (states t) actor ≡ Some operation →
       committed_now (states t) operation ≡ Some main → Committed t main
   committed_so t actor operation o main lt m is now =
       let d = line_decides (states t) operation main operation.line now in

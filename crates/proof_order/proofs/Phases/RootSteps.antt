@@ -25,7 +25,8 @@ pub record GetsRoot (state : State) (operation : Operation) (l : Line) : Type 0 
   pub goes_on : is_end l ≡ false
 
 root_cases : (state : State) (operation : Operation) (l : RootLine) (a : After RootLine Ref) →
-    root_after state.heap operation.access (word_at state (handle_of operation.call)) l ≡ a → (generation_from state operation (line.Root l) ≡ operation.generation) ⊎ GetsRoot state operation (line.Root l)
+    root_after state.heap operation.access (word_at state (handle_of operation.call)) l ≡ a → (generation_from state operation (line.Root l) ≡ operation.generation)
+    ⊎ GetsRoot state operation (line.Root l)
 root_cases state operation l (Continues next) e = inl (ap (λ a. given_root state a operation.generation) e)
 root_cases state operation l (Gives r) e = inr (record {
   root = r;

@@ -28,11 +28,9 @@ use Rattle.proof_order.proofs.Phases.LineTimes.{first_uncounted, root_uncounted,
 use Rattle.proof_order.proofs.Phases.Quiet.{quiet_commits}
 use Rattle.proof_order.proofs.Phases.ReadSteps.{reads_later, reads_marked, reads_stepped}
 use Rattle.proof_order.proofs.Phases.RootSteps.{GetsRoot, root_or_same}
+use Rattle.proof_order.specs.Beneath.machine_model.proofs.Basics.{at_or_before}
 
 -- ---- one more step
-
-now_or_before : (u t : ℕ) → u ≤ suc t → (u ≤ t) ⊎ (u ≡ suc t)
-now_or_before u t h = grind arith
 
 same_self : (operation : Operation) → IsSame operation operation
 same_self operation = record { id = refl; call = refl; opens = refl; access = refl }
@@ -54,14 +52,14 @@ module _ (states : ℕ → State) (t k : ℕ) (found : Operation) (runs : Runs (
 
   -- from before
   runs_on : (at : ℕ) (was : Operation) → IsSame was found → ((u : ℕ) → at < u → u ≤ t → RunsAs (states u) k was) → (u : ℕ) → at < u → u ≤ suc t → RunsAs (states u) k found
-  runs_on at was same before u h le = elim (now_or_before u t le) [
+  runs_on at was same before u h le = elim (at_or_before u t le) [
     | inl earlier ↦ let (x, at_k, as_was) = before u h earlier in (x, at_k, same_trans x was found as_was same)
     | inr now ↦ subst (λ v. RunsAs (states v) k found) (sym now) (found, runs, same_self found)
   ]
 
   rooted_on : (at : ℕ) (was : Operation) (generation : ℕ) → IsSame was found → found.generation ≡ Some generation → ((u : ℕ) → at < u → u ≤ t → RunsRooted (states u) k was generation) →
       (u : ℕ) → at < u → u ≤ suc t → RunsRooted (states u) k found generation
-  rooted_on at was generation same its before u h le = elim (now_or_before u t le) [
+  rooted_on at was generation same its before u h le = elim (at_or_before u t le) [
     | inl earlier ↦ let (x, at_k, as_was, rooted) = before u h earlier in (x, at_k, same_trans x was found as_was same, rooted)
     | inr now ↦ subst (λ v. RunsRooted (states v) k found generation) (sym now) (found, runs, same_self found, its)
   ]
@@ -122,7 +120,8 @@ module _ (limits : Limits) (states : ℕ → State) (last : ℕ) (r : IsRun limi
           (reads_marked states at (suc t) (marks_in (states t) s) (operation_after (states t) was)
           (reads_stepped states at t early I (steps_at limits states last r t (omega arith)) (quiet_commits limits states last r t (omega arith)) s o m k was go at_k h))
 
-  since_by : (k : ℕ) (found : Operation) → Runs (states (suc t)) k found → ((was : Operation) → Runs (states t) k was → Since states t k was) → Comes (states t) s k found → Since states (suc t) k found
+  since_by : (k : ℕ) (found : Operation) → Runs (states (suc t)) k found → ((was : Operation) → Runs (states t) k was → Since states t k was) →
+      Comes (states t) s k found → Since states (suc t) k found
   since_by k found runs before (began call go d it) = record {
     at = t;
     past = omega arith;

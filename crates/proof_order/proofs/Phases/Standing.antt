@@ -62,19 +62,19 @@ rooted_at_moments limits states last r t k operation generation le runs writable
 module _ (state : State) (S : IsSafe state) (I : IsOrdered state) (s : Step) (o : Outcome) (after : State) (m : Moves state s o after) (handle : ℕ) (root : Root)
     (is : root_at state handle ≡ Some root) (read_only : root.access ≡ ReadOnly) where
   -- the root that stood there, with its generation
-  abbrev pub Stands : Root → Type 0
-  Stands now = generation_at after.heap (root_of now.word) ≡ generation_at state.heap (root_of root.word)
+  abbrev pub IsItsRoot : Root → Type 0
+  IsItsRoot now = generation_at after.heap (root_of now.word) ≡ generation_at state.heap (root_of root.word)
 
-  kept_root : (now was : Root) → root_at state handle ≡ Some was → root_of now.word ≡ root_of was.word → Stands now
+  kept_root : (now was : Root) → root_at state handle ≡ Some was → root_of now.word ≡ root_of was.word → IsItsRoot now
   kept_root now was found word =
       let one = same_Some _ _ (sym found ∙ is) in
       ap (generation_at after.heap) (word ∙ ap (λ (x : Root). root_of x.word) one) ∙ root_kept state S s o after m handle root is
 
-  stands_by : (kind : StepKind state s after) (now : Root) → root_at after handle ≡ Some now → Stands now
+  stands_by : (kind : StepKind state s after) (now : Root) → root_at after handle ≡ Some now → IsItsRoot now
   stands_by (quiet closings roots) now found = let (was, at_it, access, word) = roots handle now found in kept_root now was at_it word
   stands_by (swaps actor mover offer go moves c closings roots) now found = by (roots handle now found)
     where
-      by : RootFrom state (handle_of mover.call) (action_of state mover) handle now → Stands now
+      by : RootFrom state (handle_of mover.call) (action_of state mover) handle now → IsItsRoot now
       by (stood was at_it access word other) = kept_root now was at_it word
       by (swapped was other d here at_it it) =
           let plain = read_only_plain state S I handle root is read_only in
@@ -88,7 +88,7 @@ module _ (state : State) (S : IsSafe state) (I : IsOrdered state) (s : Step) (o 
           let mine = own_numbers b.owner other (I.offers.own b.k b.owner b.runs) b.completes in
           absurd (none-some root (sym (I.handles.unopened b.k n b.owner b.runs b.unmarked (sym mine.number ∙ opens)) ∙ ap (root_at state) (sym at_it) ∙ is))
 
-  pub read_only_stays : (now : Root) → root_at after handle ≡ Some now → Stands now
+  pub read_only_stays : (now : Root) → root_at after handle ≡ Some now → IsItsRoot now
   read_only_stays = stands_by (step_kind state I.offers s o after m)
 
 module _ (limits : Limits) (states : ℕ → State) (last : ℕ) (r : IsRun limits states last) (t k : ℕ) (operation : Operation) (le : t ≤ last) (read_only : operation.access ≡ ReadOnly)

@@ -45,7 +45,8 @@ readers_at limits states last r =
     by_turn : (before after : State) → IsSafe before → Turn before after → AllReaders before → AllReaders after
     by_turn before after S (turns s o m) all k found runs = readers_by before s S all k found (comes before s o after m k found runs)
 
-pub swaps_writable : (limits : Limits) (states : ℕ → State) (last : ℕ) → IsRun limits states last → (t k : ℕ) (operation : Operation) (why : Purpose) (s : Swap) → t ≤ last → Runs (states t) k operation →
+pub swaps_writable : (limits : Limits) (states : ℕ → State) (last : ℕ) → IsRun limits states last → (t k : ℕ) (operation : Operation) (why : Purpose) (s : Swap) →
+    t ≤ last → Runs (states t) k operation →
     operation.line ≡ line.Swap why s → operation.access ≡ Writable
 swaps_writable limits states last r t k operation why s le runs at = by operation.access refl
   where
@@ -53,7 +54,8 @@ swaps_writable limits states last r t k operation why s le runs at = by operatio
     by Writable e = refl
     by ReadOnly e = absurd (subst IsReaders at (readers_at limits states last r t le k operation runs e))
 
-pub swaps_rooted : (limits : Limits) (states : ℕ → State) (last : ℕ) → IsRun limits states last → (t k : ℕ) (operation : Operation) (why : Purpose) (s : Swap) → t ≤ last → Runs (states t) k operation →
+pub swaps_rooted : (limits : Limits) (states : ℕ → State) (last : ℕ) → IsRun limits states last → (t k : ℕ) (operation : Operation) (why : Purpose) (s : Swap) →
+    t ≤ last → Runs (states t) k operation →
     operation.line ≡ line.Swap why s → (generation : ℕ) × (operation.generation ≡ Some generation)
 swaps_rooted limits states last r t k operation why s le runs at = by operation.generation ((safe_at limits states last r t le).known k operation runs (ap is_past_root at))
   where

@@ -1,5 +1,6 @@
 -- Which elements a list has, by recursion on it: what stands among them, what holds of each, and what a filter keeps.
-use Rattle.std.proofs.Common.{◌≡◌, ℕ, zero, suc, ◌<◌, ◌≤◌, ◌==◌, Bool, true, false, cond, nat_lt, ◌⊎◌, inl, inr, List, ◌∷◌, ◌++◌, map, filter, flat_map, length, get_or, Option, Some, None, slice_get, Contains, refl, sym, ap, ◌∙◌, subst, arith, lt-ltb, le-ltb, ne_eqb, eq-eqb, length-append, ◌+◌, []}
+use Rattle.std.proofs.Common.{◌≡◌, ℕ, zero, suc, ◌<◌, ◌≤◌, ◌==◌, Bool, true, false, cond, nat_lt, ◌⊎◌, inl, inr, List, ◌∷◌, ◌++◌, map, filter, flat_map, length, get_or, Option}
+use Rattle.std.proofs.Common.{Some, None, slice_get, Contains, refl, sym, ap, ◌∙◌, subst, arith, lt-ltb, le-ltb, ne_eqb, eq-eqb, length-append, ◌+◌, []}
 use Rattle.std.proofs.lemmas.Bool.{false≢true, cases_order}
 
 -- x stands among the elements

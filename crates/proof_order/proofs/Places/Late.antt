@@ -31,7 +31,8 @@ use Rattle.proof_order.proofs.Views.Closed.{closed_from, closed_later}
 use Rattle.proof_order.proofs.Views.Sound.{sound_at}
 use Rattle.proof_order.proofs.Places.Origins.{place_says, late_says}
 use Rattle.proof_order.proofs.Views.Timeline.{view, view_writable, but_here, but_there, update_leads, reader_leads}
-use Rattle.proof_order.proofs.Places.Members.{lates, late_at, IsPlace, in_lates, in_late_at, to_late_at, in_changing, to_changing, in_reading, lates_along, late_at_along, none_changing, one_changing, Reading, reading, late_at_apart, late_before, moment_within}
+use Rattle.proof_order.proofs.Places.Members.{lates, late_at, IsPlace, in_lates, in_late_at, to_late_at, in_changing, to_changing, in_reading, lates_along, late_at_along}
+use Rattle.proof_order.proofs.Places.Members.{none_changing, one_changing, Reading, reading, late_at_apart, late_before, moment_within}
 
 -- ---- small things
 

@@ -166,7 +166,8 @@ module _ (limits : Limits) (states : ℕ → State) (last : ℕ) (r : IsRun limi
             ∙ sym (view_writable limits states last V (suc t) handle update.generation (kept handle ∙ stands)) ∙ ap (at_time (suc t)) (sym here)
         behind handle stands other (no there) =
             but_there (at_time t) handle (Some (named Writable (V update.generation (suc t)))) other there
-            ∙ others_stay other (λ generation on same. there ((sound_at limits states last r V facts t (omega arith)).apart other handle generation on (subst (λ g. On states t handle g) (sym same) stands)))
+            ∙ others_stay other
+            (λ generation on same. there ((sound_at limits states last r V facts t (omega arith)).apart other handle generation on (subst (λ g. On states t handle g) (sym same) stands)))
 
     pub update_by : (b : Bool) → its.on_time ≡ b → LeadsOn (Changing t) (at_time t) (at_time (suc t))
     update_by true on = timely_update on

@@ -105,7 +105,8 @@ module _ (limits : Limits) (states : ℕ → State) (last : ℕ) (r : IsRun limi
     ]
   ]
 
-  origin_by : (t : ℕ) (p : Place) → Kind limits states last V t → (Among p (states t).places → Origin limits states last V t p) → Among p (states (suc t)).places → Origin limits states last V (suc t) p
+  origin_by : (t : ℕ) (p : Place) → Kind limits states last V t → (Among p (states t).places → Origin limits states last V t p) → Among p (states (suc t)).places →
+      Origin limits states last V (suc t) p
   origin_by t p (plain places closings kept still) rest a = older t p (rest (subst (Among p) places a))
   origin_by t p (updates entered update places closings kept) rest a = entered_last t p _ places (by_update entered update refl) rest a
   origin_by t p (answers k operation answer runs places unplaced agrees replied closings kept still) rest a =

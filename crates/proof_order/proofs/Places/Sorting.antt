@@ -3,32 +3,14 @@ use Rattle.std.proofs.Common.{◌≡◌, ℕ, ◌<◌, ◌≤◌, Bool, true, fa
 use Rattle.std.proofs.lemmas.Bool.{true≢false, false≢true}
 use Rattle.proof_order.specs.Beneath.places.specs.declared.place.Place.{Place}
 use Rattle.proof_order.specs.Beneath.places.specs.Places.{number_before, bool_before, is_before, placed, rising}
-use Rattle.proof_order.specs.Beneath.places.proofs.Comparing.{not_both}
+use Rattle.proof_order.specs.Beneath.places.proofs.Comparing.{not_both, not_through}
 use Rattle.proof_order.proofs.Places.Elements.{Among, Each, Along, each_of, of_each, each_filter, filter_none, among_either, tested}
 
 -- ---- comparing places
 
-number_transitive : (a b c : ℕ) (r s u : Bool) → (r ≡ true → s ≡ true → u ≡ true) → number_before a b r ≡ true → number_before b c s ≡ true → number_before a c u ≡ true
-number_transitive a b c r s u h d e = grind arith
-
-bool_transitive : (a b c r s u : Bool) → (r ≡ true → s ≡ true → u ≡ true) → bool_before a b r ≡ true → bool_before b c s ≡ true → bool_before a c u ≡ true
-bool_transitive a b c r s u h d e = grind arith
-
-id_transitive : (a b c : ℕ) → nat_lt a b ≡ true → nat_lt b c ≡ true → nat_lt a c ≡ true
-id_transitive a b c d e = grind arith
-
-pub before_transitive : (p q r : Place) → is_before p q ≡ true → is_before q r ≡ true → is_before p r ≡ true
-before_transitive p q r =
-    number_transitive p.step q.step r.step _ _ _
-    (bool_transitive p.on_time q.on_time r.on_time _ _ _
-    (number_transitive p.moment q.moment r.moment _ _ _ (bool_transitive p.changed_nothing q.changed_nothing r.changed_nothing _ _ _ (id_transitive p.id q.id r.id))))
-
--- what isn't after one is after none that comes behind it
+-- what isn't before one isn't before what stands before that
 not_after : (p q r : Place) → is_before p q ≡ true → is_before r q ≡ false → is_before r p ≡ false
-not_after p q r h n = elim (tested (is_before r p)) [
-  | inl before ↦ absurd (true≢false (sym (before_transitive r p q before h) ∙ n))
-  | inr e ↦ e
-]
+not_after p q r h n = not_through r q p n (not_both p q h)
 
 -- ---- sorted
 

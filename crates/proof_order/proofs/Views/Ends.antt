@@ -19,17 +19,13 @@ use Rattle.proof_order.proofs.Views.Replay.{View, Shows, but}
 use Rattle.proof_order.proofs.Views.Acts.{named, shows_insert}
 use Rattle.proof_order.proofs.Views.Sound.{first_standing}
 use Rattle.proof_order.proofs.Views.Timeline.{shown, view}
+use Rattle.proof_order.specs.Beneath.machine_model.proofs.Basics.{two_or_more}
 
 -- ---- at first
 
 first_stands : (limits : Limits) (n : ℕ) → limits.slots ≡ suc (suc n) → standing (first_state limits) 0 ≡ Some (Writable, 0)
 unfolding first_state
 first_stands limits n e = ap (λ g. Some (Writable, g)) (ap (λ s. generation_at (first_heap s) (ref_to 2 1)) e ∙ first_generation n)
-
-two_at_least : (n : ℕ) → 2 ≤ n → (m : ℕ) × (n ≡ suc (suc m))
-two_at_least zero h = absurd (omega (arith, h))
-two_at_least (suc zero) h = absurd (omega (arith, h))
-two_at_least (suc (suc m)) h = (m, refl)
 
 none_stands : (o : Option (Access × ℕ)) → ((access : Access) (generation : ℕ) → o ≡ Some (access, generation) → ⊥) → o ≡ None
 none_stands None none = refl
@@ -60,7 +56,7 @@ module _ (limits : Limits) (states : ℕ → State) (last : ℕ) (r : IsRun limi
   -- the first world shows what the handles show at first
   pub shows_first : Shows first_world (view limits states last V zero)
   shows_first =
-      let (n, slots) = two_at_least limits.slots r.limits_ok.0 in
+      let (n, slots) = two_or_more limits.slots r.limits_ok.0 in
       first_shown V last (states zero) facts.starts
       (ap (λ state. standing state 0) r.first ∙ first_stands limits n slots)
       (λ handle m is. none_stands (standing (states zero) handle) (λ access generation e.

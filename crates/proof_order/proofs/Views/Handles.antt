@@ -1,5 +1,6 @@
 -- Handle numbers: a handle that an operation is to open has a number in range.
-use Rattle.std.proofs.Common.{◌≡◌, ℕ, zero, suc, ◌+◌, ◌<◌, ◌≤◌, Bool, true, false, cond, nat_le, ◌⊎◌, inl, inr, length, replicate, Option, Some, None, refl, sym, ap, ◌∙◌, subst, length-set, add-one, arith}
+use Rattle.std.proofs.Common.{◌≡◌, ℕ, zero, suc, ◌+◌, ◌<◌, ◌≤◌, Bool, true, false, cond, nat_le, ◌⊎◌, inl, inr, length, replicate, Option, Some, None, refl, sym, ap, ◌∙◌, subst}
+use Rattle.std.proofs.Common.{length-set, add-one, arith}
 use Rattle.std.proofs.lemmas.List.{length-replicate}
 use Rattle.std.proofs.lemmas.Option.{none-some, same_Some}
 use Rattle.proof_order.specs.Beneath.history.specs.declared.calls.Access.TheVariants.{Writable}
@@ -74,7 +75,8 @@ sized_kept state s o after (Sweeps spent) size = size
 
 first_sized : (limits : Limits) → Sized (first_state limits)
 unfolding Sized first_state
-first_sized limits = length-set {A = Option Root} (replicate handle_limit None) 0 (Some (record { access = Writable; word = Plain (ref_to 2 1) })) ∙ length-replicate {A = Option Root} handle_limit None
+first_sized limits =
+    length-set {A = Option Root} (replicate handle_limit None) 0 (Some (record { access = Writable; word = Plain (ref_to 2 1) })) ∙ length-replicate {A = Option Root} handle_limit None
 
 pub handles_at : (limits : Limits) (states : ℕ → State) (last : ℕ) → IsRun limits states last → (t : ℕ) → t ≤ last → length (states t).roots ≡ handle_limit
 unfolding Sized

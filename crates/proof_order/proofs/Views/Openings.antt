@@ -159,7 +159,8 @@ module _ (limits : Limits) (states : ℕ → State) (last : ℕ) (r : IsRun limi
         leads_same (hash_of limits.hash) (states last).events (place ∷ []) at_last (but at_last n (Some (named Writable (V old last)))) (at_time (suc t))
         (leads_one (hash_of limits.hash) (states last).events place (record { call = Snapshot handle; opens = Some n; answer = reply.Opened n }) at_last _
         (recalled (Snapshot handle) (Some n) (reply.Opened n) c e (agrees_as (Snapshot handle) (Some n) c e))
-        (copies (hash_of limits.hash) (Snapshot handle) at_last handle n Writable (V old last) (λ w. refl) (there_last n e (swap.free n e) Writable first opened) (not_there n e (swap.free n e) Writable first opened)))
+        (copies (hash_of limits.hash) (Snapshot handle) at_last handle n Writable (V old last) (λ w. refl) (there_last n e (swap.free n e) Writable first opened)
+        (not_there n e (swap.free n e) Writable first opened)))
         (λ other. copy_by n e (swap.free n e) Writable first opened other (ℕ_discrete other n) (ℕ_discrete other handle))
     opens_lead call c (freezes n e s first) =
         let stands : standing (states (suc t)) n ≡ Some (ReadOnly, old) =
@@ -168,7 +169,8 @@ module _ (limits : Limits) (states : ℕ → State) (last : ℕ) (r : IsRun limi
         leads_same (hash_of limits.hash) (states last).events (place ∷ []) at_last (but at_last n (Some (named ReadOnly (V old last)))) (at_time (suc t))
         (leads_one (hash_of limits.hash) (states last).events place (record { call = Freeze handle; opens = Some n; answer = reply.Opened n }) at_last _
         (recalled (Freeze handle) (Some n) (reply.Opened n) c e (agrees_as (Freeze handle) (Some n) c e))
-        (copies (hash_of limits.hash) (Freeze handle) at_last handle n ReadOnly (V old last) (λ w. refl) (there_last n e (swap.free n e) ReadOnly first opened) (not_there n e (swap.free n e) ReadOnly first opened)))
+        (copies (hash_of limits.hash) (Freeze handle) at_last handle n ReadOnly (V old last) (λ w. refl) (there_last n e (swap.free n e) ReadOnly first opened)
+        (not_there n e (swap.free n e) ReadOnly first opened)))
         (λ other. copy_by n e (swap.free n e) ReadOnly first opened other (ℕ_discrete other n) (ℕ_discrete other handle))
 
     -- the swap itself

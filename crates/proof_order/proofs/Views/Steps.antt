@@ -111,7 +111,8 @@ module _ (limits : Limits) (states : ℕ → State) (last : ℕ) (r : IsRun limi
   end_kind t actor lt o operation answer false m is does e places closings kept still =
       let (k, own, runs) = place_of_actor (states t) actor operation is in
       let told = end_event (states t) (step.Go actor) o (states (suc t)) m actor operation answer refl is does in
-      let ended : HasEnded (states (suc t)).events operation.id answer = (length (states t).events, ap (λ l. slice_get l (length (states t).events)) told ∙ at_push (states t).events (End operation.id answer) (length (states t).events) refl) in
+      let ended : HasEnded (states (suc t)).events operation.id answer =
+      (length (states t).events, ap (λ l. slice_get l (length (states t).events)) told ∙ at_push (states t).events (End operation.id answer) (length (states t).events) refl) in
       answers k operation answer runs
       (places ∙ ap (λ b. (states t).places ++ cond b [] (place_of (states t) operation operation.moment true ∷ [])) e)
       e

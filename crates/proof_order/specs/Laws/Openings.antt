@@ -14,9 +14,9 @@ use Rattle.proof_order.specs.Beneath.machine_model.specs.declared.steps.Step.{St
 use Rattle.proof_order.specs.Beneath.machine_model.specs.States.{State, root_at, root_of, closed_at, operation_of}
 use Rattle.proof_order.specs.Beneath.machine_model.specs.Machine.{AreLimits, run}
 use Rattle.proof_order.specs.Beneath.proof_memory.specs.Laws.{IsInUse}
-use Rattle.proof_order.specs.Beneath.proof_commits.specs.Runs.{steps_taken, state_before}
 use Rattle.proof_generations.specs.Laws.Roots.{root_generation}
 use Rattle.proof_order.specs.Openings.{IsSwap}
+use Rattle.proof_order.specs.Beneath.machine_model.specs.Times.{states_of, last_of}
 
 -- ---- of the states of a run, each before the step of its number
 
@@ -58,16 +58,16 @@ NewRootsFollowIn states last =
 -- ---- for every list of steps
 
 abbrev pub OneRoot : Type 0
-OneRoot = (limits : Limits) (steps : List Step) → AreLimits limits → OneRootIn (state_before limits steps) (steps_taken limits steps)
+OneRoot = (limits : Limits) (steps : List Step) → AreLimits limits → OneRootIn (states_of limits steps) (last_of limits steps)
 
 abbrev pub HandlesRise : Type 0
-HandlesRise = (limits : Limits) (steps : List Step) → AreLimits limits → HandlesRiseIn (state_before limits steps) (steps_taken limits steps)
+HandlesRise = (limits : Limits) (steps : List Step) → AreLimits limits → HandlesRiseIn (states_of limits steps) (last_of limits steps)
 
 abbrev pub ClosedRootsStay : Type 0
-ClosedRootsStay = (limits : Limits) (steps : List Step) → AreLimits limits → ClosedRootsStayIn (state_before limits steps) (steps_taken limits steps)
+ClosedRootsStay = (limits : Limits) (steps : List Step) → AreLimits limits → ClosedRootsStayIn (states_of limits steps) (last_of limits steps)
 
 abbrev pub ClosingsDiffer : Type 0
 ClosingsDiffer = (limits : Limits) (steps : List Step) → AreLimits limits → ClosingsDifferIn (run limits steps)
 
 abbrev pub NewRootsFollow : Type 0
-NewRootsFollow = (limits : Limits) (steps : List Step) → AreLimits limits → NewRootsFollowIn (state_before limits steps) (steps_taken limits steps)
+NewRootsFollow = (limits : Limits) (steps : List Step) → AreLimits limits → NewRootsFollowIn (states_of limits steps) (last_of limits steps)

@@ -40,7 +40,6 @@ use Rattle.proof_shape.specs.Lines.Climbing.{KnowsClimbing}
 use Rattle.proof_shape.specs.Lines.Knowing.{known_with, first_main, IsPlaced}
 use Rattle.proof_shape.specs.Lines.Commits.{Firsts, made_with, KnowsFresh, OwnCommit, begins, goes, sweeps, MainStep, stays, changes, CommitsAt}
 use Rattle.proof_shape.proofs.Runs.EachAt.{GoesAt}
-use Rattle.proof_shape.proofs.Runs.Nodes.{known_run}
 use Rattle.proof_shape.proofs.Runs.RunOf.{run_of}
 use Rattle.proof_shape.proofs.Lines.Places.{places_at}
 use Rattle.proof_shape.proofs.Lines.Knows.{knows_at}
@@ -50,6 +49,7 @@ use Rattle.proof_shape.proofs.Commits.MainsStay.{quiet_stays}
 use Rattle.proof_shape.proofs.Commits.Deciders.{DecidesNode, decides_node}
 use Rattle.proof_shape.proofs.Commits.Owners.{over_another, owner_then, runs_then, alone_then, commits_then, main_before_then, main_after_then, others_then}
 use Rattle.proof_shape.proofs.Commits.Entered.{enters_owner}
+use Rattle.proof_shape.specs.Beneath.proof_commits.proofs.Known.Acts.{known_run}
 
 module _ (limits : Limits) (states : ℕ → State) (last : ℕ) (run : IsRun limits states last) where
   abbrev p : Protocol
@@ -125,14 +125,16 @@ module _ (limits : Limits) (states : ℕ → State) (last : ℕ) (run : IsRun li
         placed : IsPlaced runs.operation.generation (line.Swap runs.swaps.0 (record { indirection = owner.link; replaced = d.previous; fresh = x; line = swap.Deciding owner.line }))
         placed = subst (λ l. IsPlaced runs.operation.generation l) runs.swaps.1 (places_at limits states last run t (omega arith) owner.actor runs.operation runs.is)
 
-    goes_by : (actor : ℕ) (operation : Operation) → GoesAt states t actor operation → (now : Option Ref) → committed_now (states t) operation ≡ now → MainStep limits states last firsts t (step.Go actor)
+    goes_by : (actor : ℕ) (operation : Operation) → GoesAt states t actor operation → (now : Option Ref) → committed_now (states t) operation ≡ now →
+        MainStep limits states last firsts t (step.Go actor)
     goes_by actor operation go None e =
         stays (goes actor operation go.runs e)
         (quiet_stays limits states last run t h (ap (λ (x : State). x.commits) go.after ∙ gone_commits (states t) actor operation ∙ ap (commits_after (states t)) e))
     goes_by actor operation go (Some x) e = changes (committed (step.Go actor) actor operation refl go x e)
 
     -- an end commits nothing
-    ends_none : (operation : Operation) (answer : Reply) → action_of (states t) operation ≡ act.End answer → (now : Option Ref) → committed_now (states t) operation ≡ now → committed_now (states t) operation ≡ None
+    ends_none : (operation : Operation) (answer : Reply) → action_of (states t) operation ≡ act.End answer → (now : Option Ref) →
+        committed_now (states t) operation ≡ now → committed_now (states t) operation ≡ None
     ends_none operation answer a None e = e
     ends_none operation answer a (Some x) e = let d = decides_node (states t) operation x e in absurd (ends_not answer d.indirection x d.previous d.told (sym a ∙ d.action))
       where
@@ -159,9 +161,11 @@ module _ (limits : Limits) (states : ℕ → State) (last : ℕ) (run : IsRun li
   made_known t h actor owner (purpose.Update path former) i a f l start runs e begun commits =
       subst (λ x. KnowsLine (known_with limits states last (first_main states last)) owner.call x) e (knows_at limits states last run t (omega arith) actor owner runs)
   made_known t h actor owner (purpose.Renew path) i a f l start runs e begun commits =
-      subst (λ x. KnowsRepair (node_under states last) (first_main states last) (GaveBelow states last t actor owner.id start) start x) e (repairs_at limits states last run t (omega arith) actor owner runs start begun)
+      subst (λ x. KnowsRepair (node_under states last) (first_main states last) (GaveBelow states last t actor owner.id start) start x) e
+      (repairs_at limits states last run t (omega arith) actor owner runs start begun)
   made_known t h actor owner purpose.Clean i a f l start runs e begun commits =
-      subst (λ x. KnowsRepair (node_under states last) (first_main states last) (GaveBelow states last t actor owner.id start) start x) e (repairs_at limits states last run t (omega arith) actor owner runs start begun)
+      subst (λ x. KnowsRepair (node_under states last) (first_main states last) (GaveBelow states last t actor owner.id start) start x) e
+      (repairs_at limits states last run t (omega arith) actor owner runs start begun)
   made_known t h actor owner (purpose.Climb c) i a f l start runs e begun commits =
       subst (λ x. KnowsClimbing (known_with limits states last (first_main states last)) (Was states last t) owner.call x) e (climbs_at limits states last run t (omega arith) actor owner runs)
 

@@ -34,7 +34,8 @@ root_read_acts state operation l r e = grind arith
 key_read_acts : (state : State) (operation : Operation) (l : KeyLine) (r : Read) → read_of (line.Key l) ≡ Some r → line_action state operation (line.Key l) ≡ read_action r.indirection r.line
 key_read_acts state operation l r e = grind arith
 
-swap_read_acts : (state : State) (operation : Operation) (why : Purpose) (s : Swap) (r : Read) → read_of (line.Swap why s) ≡ Some r → line_action state operation (line.Swap why s) ≡ read_action r.indirection r.line
+swap_read_acts : (state : State) (operation : Operation) (why : Purpose) (s : Swap) (r : Read) → read_of (line.Swap why s) ≡ Some r →
+    line_action state operation (line.Swap why s) ≡ read_action r.indirection r.line
 swap_read_acts state operation why s r e = grind arith
 
 renew_read_acts : (state : State) (operation : Operation) (l : RenewLine) (r : Read) → read_of (line.Renew l) ≡ Some r → line_action state operation (line.Renew l) ≡ read_action r.indirection r.line
@@ -79,7 +80,8 @@ so_by m x Commits e = (same_Some m x e, refl)
 so_by m x Fails e = absurd (none-some x e)
 so_by m x (Overtaken licensed) e = absurd (none-some x e)
 
-by_line : (state : State) (operation : Operation) (i : Ref) (l : ReadLine) (x : Ref) → action_of state operation ≡ read_action i l → committed_by state.heap i l ≡ Some x → DecidesNode state operation x
+by_line : (state : State) (operation : Operation) (i : Ref) (l : ReadLine) (x : Ref) → action_of state operation ≡ read_action i l →
+    committed_by state.heap i l ≡ Some x → DecidesNode state operation x
 by_line state operation i (read.Decide m previous told) x a e =
     let both = so_by m x (verdict state.heap i m previous told) e in
     record {
@@ -101,11 +103,3 @@ decides_node state operation x e = by_read (read_of operation.line) refl e
     by_read : (o : Option Read) → read_of operation.line ≡ o → committed_in state o ≡ Some x → DecidesNode state operation x
     by_read None is e = absurd (none-some x e)
     by_read (Some r) is e = by_line state operation r.indirection r.line x (read_acts state operation operation.line r is) e
-
--- such a node is pending
-commits_pending : (b c : Bool) → verdict_by b c ≡ Commits → c ≡ true
-commits_pending b true e = refl
-commits_pending b false e = let wrong : ⊥ = cc in absurd wrong
-
-pub was_pending : (heap : Heap) (i x q : Ref) (told : Option ℕ) → verdict heap i x q told ≡ Commits → prev_at heap x ≡ over.Pending q
-was_pending heap i x q told e = pending_so (prev_at heap x) q (commits_pending (is_licensed heap i told) (is_pending (prev_at heap x) q) e)

@@ -17,13 +17,14 @@ use Rattle.proof_shape.specs.Beneath.proof_commits.proofs.Known.Sounds.{sound_at
 use Rattle.proof_shape.specs.Beneath.proof_commits.proofs.Course.Finals.{first_commit, commits_at}
 use Rattle.proof_shape.specs.Beneath.proof_commits.proofs.Course.Mains.{MainStep, MainStays, MainChanges, main_step}
 use Rattle.proof_shape.specs.Beneath.proof_commits.proofs.Words.Along.{protocol}
-use Rattle.proof_shape.specs.Beneath.proof_contents.specs.Runs.{is_made, main_at}
-use Rattle.proof_shape.specs.Beneath.proof_contents.proofs.Values.Runs.{main_at-stays}
-use Rattle.proof_shape.proofs.Runs.Nodes.{known_run}
+use Rattle.proof_shape.specs.Beneath.proof_contents.specs.Runs.{is_made, counting_main}
+use Rattle.proof_shape.specs.Beneath.proof_contents.proofs.Values.Runs.{counting_main-stays}
 use Rattle.proof_shape.specs.Beneath.proof_memory.specs.Wants.{is_indirection}
 use Rattle.proof_shape.specs.Beneath.proof_memory.proofs.Claims.Nodes.{no_main}
 use Rattle.proof_shape.specs.Beneath.proof_memory.proofs.Heap.NoRef.{nothing_stands}
 use Rattle.proof_shape.specs.Beneath.proof_commits.proofs.Words.OfRuns.{link_kept}
+use Rattle.proof_shape.specs.Beneath.proof_commits.proofs.Known.Acts.{known_run}
+use Rattle.proof_generations.proofs.Falling.NoRef.{no_main_before}
 
 module _ (limits : Limits) (states : ℕ → State) (last : ℕ) (run : IsRun limits states last) where
   abbrev p : Protocol
@@ -39,18 +40,14 @@ module _ (limits : Limits) (states : ℕ → State) (last : ℕ) (run : IsRun li
           let now = grown_stays limits states last run t (suc t) (omega arith) h i slot e in
           ap (λ o. is_indirection (node_of o)) now.1 ∙ ap is_indirection now.2.0.1 ∙ link_kept now.2.0.0 slot.node ∙ sym (ap (λ o. is_indirection (node_of o)) e)
 
-  -- a reference to something else has no main node
-  other_main : (t : ℕ) → t ≤ last → (i : Ref) → is_indirection (node_under states t i) ≡ false → main_before states t i ≡ no_ref
-  other_main t h i e =
-      ap (λ m. logical m (prev_word states t m)) (no_main (node_under states t i) e) ∙ ap (λ o. logical no_ref (prev_of o)) (nothing_stands limits states last run t h)
-
   -- the main node of any reference, by that of indirections
-  pub mains_by : (t : ℕ) → t < last → (i : Ref) → (is_indirection (node_under states t i) ≡ true → main_before states (suc t) i ≡ main_before states t i) → main_at states last (suc t) i ≡ main_at states last t i
-  mains_by t h i links = main_at-stays states last t i h (λ made. by_test made (is_indirection (node_under states t i)) refl)
+  pub mains_by : (t : ℕ) → t < last → (i : Ref) → (is_indirection (node_under states t i) ≡ true → main_before states (suc t) i ≡ main_before states t i) →
+      counting_main states last (suc t) i ≡ counting_main states last t i
+  mains_by t h i links = counting_main-stays states last t i h (λ made. by_test made (is_indirection (node_under states t i)) refl)
     where
       by_test : is_made states t i ≡ true → (b : Bool) → is_indirection (node_under states t i) ≡ b → main_before states (suc t) i ≡ main_before states t i
       by_test made true e = links e
-      by_test made false e = other_main (suc t) h i (link_next t h i made ∙ e) ∙ sym (other_main t (omega arith) i e)
+      by_test made false e = no_main_before limits states last run (suc t) h i (link_next t h i made ∙ e) ∙ sym (no_main_before limits states last run t (omega arith) i e)
 
   -- ---- a step that commits nothing
 
@@ -61,7 +58,7 @@ module _ (limits : Limits) (states : ℕ → State) (last : ℕ) (run : IsRun li
       let after : p.words.commit (suc t) c.fresh ≡ Some t = c.commits.commit before in
       absurd (none-some t (sym before ∙ sym (ap (λ xs. option_map (λ (x : Commit). x.step) (find (λ (x : Commit). x.main == c.fresh) xs)) quiet) ∙ after))
 
-  pub quiet_stays : (t : ℕ) → t < last → (states (suc t)).commits ≡ (states t).commits → (i : Ref) → main_at states last (suc t) i ≡ main_at states last t i
+  pub quiet_stays : (t : ℕ) → t < last → (states (suc t)).commits ≡ (states t).commits → (i : Ref) → counting_main states last (suc t) i ≡ counting_main states last t i
   quiet_stays t h quiet i = mains_by t h i (λ link. quiet_step t h quiet i (main_step p t h i link))
 
   -- ---- a commit
@@ -79,5 +76,5 @@ module _ (limits : Limits) (states : ℕ → State) (last : ℕ) (run : IsRun li
       absurd (apart ((sound_at p t (omega arith)).words.one_word x j link (λ none. none≢pending none c.was) (stands_now l (d.stands ∙ same)) (stands_now is_indirection stands)))
 
   pub others_stay : (t : ℕ) → t < last → (link x q : Ref) → CommitsNode p.words t x q → p.words.link t link ≡ true → p.words.main t link ≡ x → (j : Ref) → j ≢ link →
-      main_at states last (suc t) j ≡ main_at states last t j
+      counting_main states last (suc t) j ≡ counting_main states last t j
   others_stay t h link x q c is_indirection stands j apart = mains_by t h j (λ l. one_step t h link x q j c is_indirection stands apart l (main_step p t h j l))

@@ -24,13 +24,14 @@ use Rattle.proof_shape.specs.Beneath.proof_commits.specs.Stages.{stage_of_actor}
 use Rattle.proof_shape.specs.Beneath.proof_commits.proofs.Known.Given.{ActsOn, Decided, GrownChanges}
 use Rattle.proof_shape.specs.Beneath.proof_commits.proofs.Lines.Swap.{RunsSwap, runs_deciding, in_swap_fresh}
 use Rattle.proof_shape.specs.Beneath.proof_commits.proofs.Words.Along.{protocol}
-use Rattle.proof_shape.specs.Beneath.proof_contents.specs.Runs.{main_at}
+use Rattle.proof_shape.specs.Beneath.proof_contents.specs.Runs.{counting_main}
 use Rattle.proof_shape.proofs.Runs.EachAt.{GoesAt}
-use Rattle.proof_shape.proofs.Runs.Nodes.{known_run}
-use Rattle.proof_shape.proofs.Commits.Deciders.{DecidesNode, was_pending}
+use Rattle.proof_shape.proofs.Commits.Deciders.{DecidesNode}
 use Rattle.proof_shape.proofs.Commits.Was.{main_linked, commit_is}
 use Rattle.proof_shape.proofs.Commits.MainsStay.{others_stay}
 use Rattle.proof_shape.specs.Beneath.proof_memory.specs.Wants.{is_indirection}
+use Rattle.proof_shape.specs.Beneath.proof_commits.proofs.Known.Acts.{known_run}
+use Rattle.proof_shape.specs.Beneath.proof_commits.proofs.Lines.Read.{was_pending}
 
 none_set : (o : Option Slot) → prev_of (option_map (prev_changed over.None) o) ≡ over.None
 none_set None = refl
@@ -58,10 +59,10 @@ module _ (limits : Limits) (states : ℕ → State) (last : ℕ) (run : IsRun li
   over_another same =
       none≢pending (ap (p.words.prev t) same ∙ ((sound_at p t (omega arith)).words.over x d.previous (over_pending pending_then)).none) pending_then
 
-  pub before_is : Words.main_at p.words t owner_then.link ≡ d.previous
+  pub before_is : Words.logical_at p.words t owner_then.link ≡ d.previous
   before_is = ap (λ m. logical m (p.words.prev t m)) owner_then.stands ∙ ap (logical x) pending_then
 
-  after_is : Words.main_at p.words (suc t) owner_then.link ≡ x
+  after_is : Words.logical_at p.words (suc t) owner_then.link ≡ x
   after_is =
       let apart : owner_then.link ≡ x → ⊥ = λ same. true≢false (sym owner_then.is_link ∙ ap (λ r. is_indirection (node_under states t r)) same ∙ acts.1.no_link) in
       let word : p.words.main (suc t) owner_then.link ≡ x = ap (λ o. main_of (node_of o)) (changes.elsewhere owner_then.link apart) ∙ owner_then.stands in
@@ -92,11 +93,11 @@ module _ (limits : Limits) (states : ℕ → State) (last : ℕ) (run : IsRun li
 
   -- ---- the main nodes
 
-  pub main_before_then : main_at states last t owner_then.link ≡ d.previous
+  pub main_before_then : counting_main states last t owner_then.link ≡ d.previous
   main_before_then = main_linked limits states last run t owner_then.link owner_then.is_link ∙ before_is
 
-  pub main_after_then : main_at states last (suc t) owner_then.link ≡ x
+  pub main_after_then : counting_main states last (suc t) owner_then.link ≡ x
   main_after_then = commit_is limits states last run t h owner_then.actor owner_then.link d.previous x owner_then.line owner_then.stage d.previous commits_then
 
-  pub others_then : (j : Ref) → j ≢ owner_then.link → main_at states last (suc t) j ≡ main_at states last t j
+  pub others_then : (j : Ref) → j ≢ owner_then.link → counting_main states last (suc t) j ≡ counting_main states last t j
   others_then j apart = others_stay limits states last run t h owner_then.link x d.previous commits_then owner_then.is_link owner_then.stands j apart

@@ -16,7 +16,8 @@ pub data HowStands (w : Words) (t : ℕ) (i n : Ref) : Type 0 where
   given : (k : ℕ) (q : Ref) → Given w t k q n → HowStands w t i n
   private : Private w t n → HowStands w t i n
 
-by_read : (w : Words) (t : ℕ) (h : AreSound w t) (j : Ref) (l : ReadLine) (out : After ReadLine Ref) (s : OnLine w t j l) (r : ReadTurn w t j l out) (i n : Ref) → Stood w (suc t) i n → HowStands w t i n
+by_read : (w : Words) (t : ℕ) (h : AreSound w t) (j : Ref) (l : ReadLine) (out : After ReadLine Ref) (s : OnLine w t j l) (r : ReadTurn w t j l out) (i n : Ref) →
+    Stood w (suc t) i n → HowStands w t i n
 by_read w t h j l out s r i n now = by_cases (comes w t h (read_effect w t h j l out s r) i n now)
   where
     by_cases : Stood w t i n ⊎ Brings w t (read_effect w t h j l out s r) i n → HowStands w t i n

@@ -22,11 +22,11 @@ use Rattle.proof_shape.specs.Beneath.proof_commits.specs.Moments.{later_of}
 use Rattle.proof_shape.specs.Beneath.proof_commits.proofs.Words.OfRuns.{link_made}
 use Rattle.proof_shape.specs.Beneath.proof_commits.specs.Words.{words_of}
 use Rattle.proof_shape.specs.Beneath.proof_commits.proofs.Words.Along.{protocol}
-use Rattle.proof_shape.specs.Beneath.proof_contents.specs.Runs.{main_at}
-use Rattle.proof_shape.specs.Beneath.proof_contents.proofs.Values.Runs.{main_at-made}
+use Rattle.proof_shape.specs.Beneath.proof_contents.specs.Runs.{counting_main}
+use Rattle.proof_shape.specs.Beneath.proof_contents.proofs.Values.Runs.{counting_main-made}
 use Rattle.proof_shape.specs.Lines.Given.{Was}
-use Rattle.proof_shape.proofs.Runs.Nodes.{known_run}
 use Rattle.proof_shape.specs.Beneath.proof_memory.specs.Wants.{is_indirection}
+use Rattle.proof_shape.specs.Beneath.proof_commits.proofs.Known.Acts.{known_run}
 
 pub was_later : (states : ℕ → State) (last t : ℕ) (i m : Ref) → Was states last t i m → Was states last (suc t) i m
 was_later states last t i m (u, le, is) = (u, omega (arith, le), is)
@@ -36,8 +36,8 @@ module _ (limits : Limits) (states : ℕ → State) (last : ℕ) (run : IsRun li
   p = protocol limits states last (known_run limits states last run)
 
   -- the main nodes of indirections that are made
-  pub main_linked : (t : ℕ) (i : Ref) → is_indirection (node_under states t i) ≡ true → main_at states last t i ≡ main_before states t i
-  main_linked t i link = main_at-made states last t i (link_made (grown states t i) link)
+  pub main_linked : (t : ℕ) (i : Ref) → is_indirection (node_under states t i) ≡ true → counting_main states last t i ≡ main_before states t i
+  main_linked t i link = counting_main-made states last t i (link_made (grown states t i) link)
 
   -- an indirection is one in the end
   pub link_in_end : (t : ℕ) (i : Ref) → t ≤ last → is_indirection (node_under states t i) ≡ true → (g : ℕ) × (w : Ref) × (node_under states last i ≡ Indirection g w)
@@ -66,7 +66,7 @@ module _ (limits : Limits) (states : ℕ → State) (last : ℕ) (run : IsRun li
       (suc mu, omega (arith, moment.past, given.past), main_linked (suc mu) i link ∙ moment.is)
 
   -- just behind its commit a node is the main node of the indirection into which it was swapped
-  pub commit_is : (t : ℕ) → t < last → (k : ℕ) (i a f : Ref) (l : ReadLine) → p.words.stage t k ≡ Decides i a f l → (q : Ref) → CommitsNode p.words t f q → main_at states last (suc t) i ≡ f
+  pub commit_is : (t : ℕ) → t < last → (k : ℕ) (i a f : Ref) (l : ReadLine) → p.words.stage t k ≡ Decides i a f l → (q : Ref) → CommitsNode p.words t f q → counting_main states last (suc t) i ≡ f
   commit_is t h k i a f l stage q commits =
       let staged = subst (λ s. Staged p.words t k s) stage ((sound_at p t (omega arith)).staged k) in
       let stood : Stood p.words t i f = staged.1 in

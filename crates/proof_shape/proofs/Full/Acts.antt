@@ -81,11 +81,13 @@ module _ (s : Sites) where
     below : (path : List Ref) → 2 ≤ depth_of path + 1 → is_below_root path ≡ true
     below path h = lt-ltb 1 (length path) (omega (arith, h))
 
-    all_done : (path : List Ref) (main : Ref) (done : List Ref) → S main → length (entries_of (node_at state.heap main)) ≤ length done → DoneSite state.limits.hash s (hash_in state operation) path main done →
+    all_done : (path : List Ref) (main : Ref) (done : List Ref) → S main → length (entries_of (node_at state.heap main)) ≤ length done →
+        DoneSite state.limits.hash s (hash_in state operation) path main done →
         length done ≡ length (entries_of (s.node main))
     all_done path main done u most d = omega (arith, most, d.1, ap length (entries_are main u))
 
-    pub acts_full : (l : Line) → Wants l → LineLevel s.level l → LineSite state.limits.hash s (hash_in state operation) l → KnowsLine K operation.call l → FullLine s l → ActionFull s (made_level l) (line_action state operation l)
+    pub acts_full : (l : Line) → Wants l → LineLevel s.level l → LineSite state.limits.hash s (hash_in state operation) l → KnowsLine K operation.call l →
+        FullLine s l → ActionFull s (made_level l) (line_action state operation l)
     acts_full (line.Root l) h e p knows f = root_full 0 l
     acts_full (line.Key (key.Read path r)) h e p knows f = read_full 0 r.indirection r.line
     acts_full (line.Key (key.Main path main)) h e p knows f = tt
@@ -93,7 +95,8 @@ module _ (s : Sites) where
     acts_full (line.Key (key.Listed path main position)) h e p knows f = tt
     acts_full (line.Key (key.Sibling path main position former)) h e p knows f = tt
     acts_full (line.Build (build.Single path main where_ former)) h e p knows f = tt
-    acts_full (line.Build (build.Pair path main position single depth)) h e p knows f = pair_full s state.limits.hash (depth + 1) depth (old_hash state main position) (hash_in state operation) _ single
+    acts_full (line.Build (build.Pair path main position single depth)) h e p knows f =
+        pair_full s state.limits.hash (depth + 1) depth (old_hash state main position) (hash_in state operation) _ single
     acts_full (line.Build (build.Link path main position under depth)) h e p knows f = tt
     acts_full (line.Build (build.Rung path main position under depth)) h e p (inserts, (beside, single, new, leads, less, alike)) f = λ deep. alone s.node under (ap is_indirection leads.0.2)
     acts_full (line.Build (build.Main path main c former)) h e p knows f =
@@ -118,7 +121,8 @@ module _ (s : Sites) where
     acts_full (line.Climb (climb.Read c r)) h e p knows f = read_full 0 r.indirection r.line
     acts_full (line.Climb (climb.Main c main)) h e p knows f = tt
     acts_full (line.Climb (climb.Contracted c main)) h e p knows f =
-        climbed_full s state S same (depth_of (above c.path) + 1) (bitmap_of (node_at state.heap main)) (is_below_root (above c.path)) (set (entries_of (node_at state.heap main)) (place_in state operation c main) c.single)
+        climbed_full s state S same (depth_of (above c.path) + 1) (bitmap_of (node_at state.heap main)) (is_below_root (above c.path))
+        (set (entries_of (node_at state.heap main)) (place_in state operation c main) c.single)
         (below (above c.path))
         (λ deep. let some = old_entries (depth_of (above c.path) + 1) main (safe_of h.1.1.1.0) (meets_of h.1.1.1.0) e.1 deep in
         omega (arith, some.0, ap length (entries_are main (safe_of h.1.1.1.0)), length-set (entries_of (node_at state.heap main)) (place_in state operation c main) c.single))

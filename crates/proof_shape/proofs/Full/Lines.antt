@@ -1,6 +1,7 @@
 -- What lines know so that no branch below the root is left empty, or with one single alone: what KEY takes out of a pair leaves an indirection, and RENEW
 -- keeps indirections.
-use Rattle.std.proofs.Common.{◌≡◌, ℕ, ◌+◌, ◌-◌, ◌<◌, ◌==◌, ◌&&◌, Bool, true, false, nat_lt, nat_le, List, [], ◌∷◌, ◌++◌, length, slice_index_or, Option, Some, None, refl, sym, ap, ap₂, subst, ◌∙◌, inl, inr, eq-eqb, arith}
+use Rattle.std.proofs.Common.{◌≡◌, ℕ, ◌+◌, ◌-◌, ◌<◌, ◌==◌, ◌&&◌, Bool, true, false, nat_lt, nat_le, List, [], ◌∷◌, ◌++◌, length, slice_index_or, Option, Some, None, refl, sym, ap}
+use Rattle.std.proofs.Common.{ap₂, subst, ◌∙◌, inl, inr, eq-eqb, arith}
 use Rattle.std.proofs.lemmas.Bool.{cases_lt, false≢true, cond_both}
 use Rattle.std.proofs.lemmas.List.{get_or_append_left, get_or_push, length-append}
 use Rattle.arrayvec.specs.ArrayVec.{ArrayVec}
@@ -176,10 +177,12 @@ module _ (s : Sites) where
         (λ y. cond_both (inserts operation.call && nat_le 32 (length (entries_of (node_at state.heap main)))) _ _ L (λ z. tt) (λ z. absent_full path main)))
     listed_full path main position node u = tt
 
-    pub sibling_full : (path : List Ref) (main : Ref) (position former : ℕ) (node : Node) → node_at state.heap (entry_at state.heap main (1 - position)) ≡ node → S main → S (entry_at state.heap main (1 - position)) →
+    pub sibling_full : (path : List Ref) (main : Ref) (position former : ℕ) (node : Node) → node_at state.heap (entry_at state.heap main (1 - position)) ≡ node →
+        S main → S (entry_at state.heap main (1 - position)) →
         L (after_sibling path main position former (entry_at state.heap main (1 - position)) node)
     sibling_full path main position former (Indirection generation word) e u v = λ below b es is two.
-        let its : entry_at state.heap main (1 - position) ≡ slice_index_or es.items (1 - position) no_ref = entry_same main (1 - position) u ∙ ap (λ n. slice_index_or (entries_of n) (1 - position) no_ref) is in
+        let its : entry_at state.heap main (1 - position) ≡ slice_index_or es.items (1 - position) no_ref =
+        entry_same main (1 - position) u ∙ ap (λ n. slice_index_or (entries_of n) (1 - position) no_ref) is in
         ap (λ r. is_indirection (s.node r)) (sym its) ∙ link_there (entry_at state.heap main (1 - position)) v ∙ ap is_indirection e
       where
         link_there : (r : Ref) → S r → is_indirection (s.node r) ≡ is_indirection (node_at state.heap r)
@@ -189,7 +192,8 @@ module _ (s : Sites) where
 
     -- ---- RENEW
 
-    keeps_more : (main : Ref) (done : List Ref) (e : Ref) → KeepsLinks main done → (is_indirection (s.node (slice_index_or (entries_of (s.node main)) (length done) no_ref)) ≡ true → is_indirection (s.node e) ≡ true) →
+    keeps_more : (main : Ref) (done : List Ref) (e : Ref) → KeepsLinks main done →
+        (is_indirection (s.node (slice_index_or (entries_of (s.node main)) (length done) no_ref)) ≡ true → is_indirection (s.node e) ≡ true) →
         KeepsLinks main (done ++ e ∷ [])
     keeps_more main done e k new n within link = elim (cases_lt n (length done)) [
       | inl inside ↦ subst (λ x. is_indirection (s.node x) ≡ true) (sym (get_or_append_left done (e ∷ []) no_ref n inside)) (k n inside link)
@@ -204,7 +208,8 @@ module _ (s : Sites) where
     kept : (main : Ref) (done : List Ref) → S main → KeepsLinks main done → KeepsLinks main (done ++ next_entry state main done ∷ [])
     kept main done u k = keeps_more main done (next_entry state main done) k (λ link. subst (λ r. is_indirection (s.node r) ≡ true) (sym (entry_same main (length done) u)) link)
 
-    pub renew_entry_full : (path : List Ref) (main : Ref) (done : List Ref) (node : Node) → S main → KeepsLinks main done → L (renew_after_entry state operation path main done (next_entry state main done) node)
+    pub renew_entry_full : (path : List Ref) (main : Ref) (done : List Ref) (node : Node) → S main → KeepsLinks main done →
+        L (renew_after_entry state operation path main done (next_entry state main done) node)
     renew_entry_full path main done (Indirection generation word) u k =
         cond_both (is_start operation generation) _ _ L (λ x. renew_next_full path main (done ++ next_entry state main done ∷ []) (kept main done u k)) (λ x. k)
     renew_entry_full path main done (Single x y) u k = renew_next_full path main (done ++ next_entry state main done ∷ []) (kept main done u k)
@@ -214,7 +219,8 @@ module _ (s : Sites) where
     renew_read_full path main done (Goes r) k = k
     renew_read_full path main done (Gives child) k = k
 
-    pub link_full : (path : List Ref) (main : Ref) (done : List Ref) → KeepsLinks main done → ((made : Ref) → next_ref state.heap ≡ Some made → is_indirection (s.node made) ≡ true) → (o : Option Ref) → next_ref state.heap ≡ o →
+    pub link_full : (path : List Ref) (main : Ref) (done : List Ref) → KeepsLinks main done →
+        ((made : Ref) → next_ref state.heap ≡ Some made → is_indirection (s.node made) ≡ true) → (o : Option Ref) → next_ref state.heap ≡ o →
         L (renew_after_link state path main done o)
     link_full path main done k new None e = tt
     link_full path main done k new (Some made) e = renew_next_full path main (done ++ made ∷ []) (keeps_more main done made k (λ link. new made e))

@@ -68,7 +68,8 @@ module _ (node : Ref → Node) where
   full_pair a b x y = cond_both (nat_lt a b) (x ∷ y ∷ []) (y ∷ x ∷ []) (λ es. IsFull (take 32 es)) (λ e. two x y []) (λ e. two y x [])
 
   -- other entries, as many, where indirections stay so
-  pub full_kept : (es others : List Ref) → IsFull es → length others ≡ length es → ((n : ℕ) → n < length others → is_indirection (node (get_or es n no_ref)) ≡ true → is_indirection (node (get_or others n no_ref)) ≡ true) → IsFull others
+  pub full_kept : (es others : List Ref) → IsFull es → length others ≡ length es →
+      ((n : ℕ) → n < length others → is_indirection (node (get_or es n no_ref)) ≡ true → is_indirection (node (get_or others n no_ref)) ≡ true) → IsFull others
   full_kept [] others f same keeps = absurd (omega (arith, f.0))
   full_kept (e ∷ es) [] f same keeps = absurd (omega (arith, same))
   full_kept (e ∷ []) (x ∷ []) f same keeps = alone x (keeps 0 (omega arith) (f.1 e refl))

@@ -44,7 +44,8 @@ module _ (s : Sites) where
   pair_full kind level depth a b x y = cond_both (depth == list_depth kind) _ _ (FullNode level) (λ e. tt) (λ e below. full_pair s.node (index_in a depth) (index_in b depth) x y)
 
   -- a single was there, or the key's or another's
-  single_at : (kind : HashKind) (first : Ref → Ref) (depth key position value b : ℕ) (main : Ref) (es : ArrayVec Ref) → Presence (record { kind = kind; node = s.node; first = first }) depth key main position value →
+  single_at : (kind : HashKind) (first : Ref → Ref) (depth key position value b : ℕ) (main : Ref) (es : ArrayVec Ref) →
+      Presence (record { kind = kind; node = s.node; first = first }) depth key main position value →
       s.node main ≡ Branch b es → IsSingleAt s.node es.items position
   single_at kind first depth key position value b main es (in_branch c xs f was) is =
       let both : Branch c xs ≡ Branch b es = sym f.is ∙ is in
@@ -92,7 +93,8 @@ module _ (s : Sites) where
   entries_full level main (Branch b es) same is old below = subst (IsFull s.node) (sym (ap entries_of (bare_branch (s.node main) b es same))) (old below)
   entries_full level main n same is old below = absurd (false≢true is)
 
-  pub renewed_full : (level bitmap : ℕ) (main : Ref) (done : List Ref) → (2 ≤ level → IsFull s.node (entries_of (s.node main))) → length done ≡ length (entries_of (s.node main)) → KeepsLinks s main done →
+  pub renewed_full : (level bitmap : ℕ) (main : Ref) (done : List Ref) → (2 ≤ level → IsFull s.node (entries_of (s.node main))) →
+      length done ≡ length (entries_of (s.node main)) → KeepsLinks s main done →
       FullNode level (renewed bitmap done)
   renewed_full level bitmap main done old count k = λ below. full_taken s.node done (full_kept s.node (entries_of (s.node main)) done (old below) count k)
 
@@ -105,7 +107,8 @@ module _ (s : Sites) where
   rest_link (Listed ss) e other = absurd (false≢true e)
 
   module _ (state : State) (S : Ref → Type 0) (same : (r : Ref) → S r → bare (s.node r) ≡ bare (node_at state.heap r)) where
-    one_left : (level bitmap : ℕ) (below : Bool) (entry : Ref) → (2 ≤ level → below ≡ true) → Meets S state.heap AnEntry entry → FullNode level (contracted (below && is_single (node_at state.heap entry)) bitmap (entry ∷ []))
+    one_left : (level bitmap : ℕ) (below : Bool) (entry : Ref) → (2 ≤ level → below ≡ true) → Meets S state.heap AnEntry entry →
+        FullNode level (contracted (below && is_single (node_at state.heap entry)) bitmap (entry ∷ []))
     one_left level bitmap below entry is_below m = by_test (below && is_single (node_at state.heap entry)) refl
       where
         other_link : 2 ≤ level → (below && is_single (node_at state.heap entry)) ≡ false → is_indirection (s.node entry) ≡ true
@@ -129,7 +132,8 @@ module _ (s : Sites) where
         by_test : (t : Bool) → FullNode level (contracted t (bitmap_of (node_at state.heap main)) [])
         by_test true = λ below. absurd (omega (arith, some below))
         by_test false = λ below. absurd (omega (arith, some below))
-    cleaned_full level path main (entry ∷ []) is_below some all = one_left level (bitmap_of (node_at state.heap main)) (is_below_root path) entry is_below (All-head (Meets S state.heap AnEntry) entry [] all)
+    cleaned_full level path main (entry ∷ []) is_below some all =
+        one_left level (bitmap_of (node_at state.heap main)) (is_below_root path) entry is_below (All-head (Meets S state.heap AnEntry) entry [] all)
     cleaned_full level path main (x ∷ y ∷ es) is_below some all = many_left level (bitmap_of (node_at state.heap main)) (is_below_root path && leaves_single state (x ∷ y ∷ es)) x y es
 
     -- what CLIMB makes

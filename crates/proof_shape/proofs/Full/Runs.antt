@@ -28,12 +28,12 @@ use Rattle.proof_shape.specs.Beneath.proof_memory.specs.Laws.{IsInUse}
 use Rattle.proof_shape.specs.Beneath.proof_memory.proofs.Claims.Uses.{safe_of}
 use Rattle.proof_shape.specs.Beneath.proof_memory.proofs.Claims.Nodes.{branch_entries, at_position}
 use Rattle.proof_shape.specs.Beneath.proof_memory.specs.Making.{made_node}
-use Rattle.proof_shape.specs.Beneath.proof_memory.proofs.Heap.Under.{node_under, fresh_slot, taken_all}
+use Rattle.proof_shape.specs.Beneath.proof_memory.proofs.Heap.Under.{fresh_slot, taken_all}
 use Rattle.proof_shape.specs.Beneath.proof_memory.proofs.Safety.Steps.{made_heap}
 use Rattle.proof_shape.specs.Beneath.proof_memory.proofs.Safety.AtEachTime.{safe_at}
 use Rattle.proof_shape.specs.Beneath.proof_memory.proofs.Safety.AtTimes.{line_at, limits_at}
 use Rattle.proof_shape.specs.Beneath.proof_memory.proofs.Safety.First.{first_stands}
-use Rattle.proof_shape.specs.Beneath.proof_memory.proofs.Heap.Moves.{grown_in_use, grown_stays}
+use Rattle.proof_shape.specs.Beneath.proof_memory.proofs.Heap.Moves.{grown_stays}
 use Rattle.proof_shape.specs.Beneath.proof_memory.specs.Levels.{made_level}
 use Rattle.proof_shape.specs.Beneath.proof_memory.proofs.Levels.States.{heaped_in_use}
 use Rattle.proof_shape.specs.Beneath.proof_contents.specs.Lines.Changes.{KnowsLine}
@@ -47,9 +47,11 @@ use Rattle.proof_shape.proofs.Shaped.Places.{bare_link}
 use Rattle.proof_shape.proofs.Sites.Runs.{are_bare}
 use Rattle.proof_shape.proofs.Sites.At.{lines_have_sites}
 use Rattle.proof_shape.proofs.Sites.Born.{IsBorn, born}
-use Rattle.proof_shape.proofs.Full.Lines.{FullLine, free_full, first_full, root_free, swap_free, build_free, clean_free, climb_free, copy_free, walk_free, key_read_free, key_main_free, entry_full, listed_full, sibling_full, renew_entry_full, renew_read_full, link_full, branch_full}
+use Rattle.proof_shape.proofs.Full.Lines.{FullLine, free_full, first_full, root_free, swap_free, build_free, clean_free, climb_free, copy_free, walk_free, key_read_free}
+use Rattle.proof_shape.proofs.Full.Lines.{key_main_free, entry_full, listed_full, sibling_full, renew_entry_full, renew_read_full, link_full, branch_full}
 use Rattle.proof_shape.proofs.Full.Made.{FullNode, ActionFull}
 use Rattle.proof_shape.proofs.Full.Acts.{acts_full}
+use Rattle.proof_shape.specs.Beneath.machine_model.proofs.Grown.{node_standing, grown_in_use}
 
 module _ (limits : Limits) (states : ℕ → State) (steps : ℕ → Step) (last : ℕ) (run : IsRun limits states last) (takes : TakesSteps states steps last) where
   abbrev s : Sites
@@ -59,7 +61,7 @@ module _ (limits : Limits) (states : ℕ → State) (steps : ℕ → Step) (last
   S t = IsInUse (states t).heap
 
   same : (t : ℕ) → t ≤ last → (r : Ref) → S t r → bare (s.node r) ≡ bare (node_at (states t).heap r)
-  same t h r (slot, found) = are_bare limits states steps last run takes t h r slot found ∙ ap bare (sym (node_under (states t).heap r slot found))
+  same t h r (slot, found) = are_bare limits states steps last run takes t h r slot found ∙ ap bare (sym (node_standing (states t).heap r slot found))
 
   abbrev Wants : ℕ → Operation → Line → Type 0
   Wants t operation l = AllHold (S t) (states t).heap (line_wants limits.hash operation.call operation.access l)
@@ -70,11 +72,13 @@ module _ (limits : Limits) (states : ℕ → State) (steps : ℕ → Step) (last
   link_made t h actor operation go g child a made e =
       let I = safe_at limits states last run t (omega arith) in
       let n : made_node (states t) (action_of (states t) operation) ≡ Some (Indirection g child) = ap (made_node (states t)) a in
-      let stood = ap (λ (x : State). standing x.heap made) go.after ∙ ap (λ heap. standing heap made) (made_heap _ (handle_of operation.call) (action_of (states t) operation) (Indirection g child) made n e)
+      let stood = ap (λ (x : State). standing x.heap made) go.after ∙ ap (λ heap. standing heap made)
+      (made_heap _ (handle_of operation.call) (action_of (states t) operation) (Indirection g child) made n e)
       ∙ (taken_all (states t).limits.slots (states t).heap (I.sound.heap) (I.small) (Indirection g child) made e).0 in
       sym (bare_link (s.node made)) ∙ ap is_indirection (are_bare limits states steps last run takes (suc t) h made (fresh_slot (states t).heap (Indirection g child)) stood)
 
-  line_next : (t : ℕ) (h : t < last) (actor : ℕ) (operation : Operation) → GoesAt states t actor operation → (l : Line) → action_of (states t) operation ≡ line_action (states t) operation l → Wants t operation l →
+  line_next : (t : ℕ) (h : t < last) (actor : ℕ) (operation : Operation) → GoesAt states t actor operation → (l : Line) →
+      action_of (states t) operation ≡ line_action (states t) operation l → Wants t operation l →
       FullLine s l → FullLine s (line_after (states t) operation l)
   line_next t h actor operation go (line.Key (key.Entry path main position)) a w f =
       entry_full s (states t) operation (S t) (same t (omega arith)) path main position (node_at (states t).heap (entry_at (states t).heap main position)) (safe_of w.1.1.0)
@@ -87,7 +91,8 @@ module _ (limits : Limits) (states : ℕ → State) (steps : ℕ → Step) (last
   line_next t h actor operation go (line.Key (key.Main path main)) a w f = free_full s _ (key_main_free s (states t) operation path main (node_at (states t).heap main))
   line_next t h actor operation go (line.Renew (renew.Entry path main done)) a w f =
       renew_entry_full s (states t) operation (S t) (same t (omega arith)) path main done (node_at (states t).heap _) (safe_of w.1.1.0) f
-  line_next t h actor operation go (line.Renew (renew.Read path main done r)) a w f = renew_read_full s (states t) operation (S t) (same t (omega arith)) path main done (read_step (states t) operation r) f
+  line_next t h actor operation go (line.Renew (renew.Read path main done r)) a w f =
+      renew_read_full s (states t) operation (S t) (same t (omega arith)) path main done (read_step (states t) operation r) f
   line_next t h actor operation go (line.Renew (renew.Link path main done child)) a w f =
       link_full s (states t) operation (S t) (same t (omega arith)) path main done f (λ made e. link_made t h actor operation go (start_of operation) child a made e) (next_ref (states t).heap) refl
   line_next t h actor operation go (line.Renew (renew.Branch path main done)) a w f = branch_full s (states t) operation (S t) (same t (omega arith)) path main (next_ref (states t).heap)
@@ -121,13 +126,14 @@ module _ (limits : Limits) (states : ℕ → State) (steps : ℕ → Step) (last
   made_full level state action node is f = absurd (none-some node is)
 
   module _ (keys : StepsFit steps last) where
-    acts_at : (t : ℕ) → t ≤ last → ((r : Ref) (slot : Slot) → grown states t r ≡ Some slot → FullNode s (s.level r) slot.node) → (actor : ℕ) (operation : Operation) → operation_of (states t) actor ≡ Some operation →
+    acts_at : (t : ℕ) → t ≤ last → ((r : Ref) (slot : Slot) → grown states t r ≡ Some slot → FullNode s (s.level r) slot.node) →
+        (actor : ℕ) (operation : Operation) → operation_of (states t) actor ≡ Some operation →
         ActionFull s (made_level operation.line) (action_of (states t) operation)
     acts_at t h old actor operation is =
         let hash : limits.hash ≡ (states t).limits.hash = ap (λ (l : Limits). l.hash) (sym (limits_at limits states last run t h)) in
         let site = lines_have_sites limits states steps last run takes keys t h actor operation is in
         acts_full s (states t) operation (S t) (same t h) (first_main states last)
-        (λ r u. subst (FullNode s (s.level r)) (sym (node_under (states t).heap r u.0 u.1)) (old r u.0 (grown_in_use states t r u.0 u.1))) operation.line
+        (λ r u. subst (FullNode s (s.level r)) (sym (node_standing (states t).heap r u.0 u.1)) (old r u.0 (grown_in_use states t r u.0 u.1))) operation.line
         (subst (λ k. AllHold (S t) (states t).heap (line_wants k operation.call operation.access operation.line)) hash (line_at limits states last run t h actor operation is)) site.0
         (subst (λ k. LineSite k s (hash_of k (key_of operation.call)) operation.line) hash site.1)
         (subst (λ k. KnowsLine (record { kind = k; node = s.node; first = first_main states last }) operation.call operation.line) hash (knows_at limits states last run t h actor operation is))

@@ -32,7 +32,6 @@ use Rattle.proof_shape.specs.Beneath.proof_commits.specs.Stages.{stage_of, stage
 use Rattle.proof_shape.specs.Beneath.proof_commits.proofs.Words.Along.{protocol}
 use Rattle.proof_shape.specs.Lines.Knowing.{OfEachAt}
 use Rattle.proof_shape.proofs.Runs.EachAt.{GoesAt}
-use Rattle.proof_shape.proofs.Runs.Nodes.{known_run}
 use Rattle.proof_shape.proofs.Lines.Placed.{is_below}
 use Rattle.proof_shape.proofs.Lines.Places.{settled_at}
 use Rattle.proof_shape.proofs.Runs.Takers.{taker, each_with}
@@ -46,7 +45,9 @@ use Rattle.proof_shape.proofs.Held.Chain.{build_holds}
 use Rattle.proof_shape.proofs.Held.Renew.{renew_holds}
 use Rattle.proof_shape.proofs.Held.Clean.{clean_holds}
 use Rattle.proof_shape.proofs.Held.Entries.{renew_begins}
-use Rattle.proof_shape.proofs.Held.Free.{is_free, free_holds, first_free, root_free, key_read_free, key_main_free, key_single_free, key_listed_free, key_sibling_free, swapped_free, climb_free, copy_free, walk_free}
+use Rattle.proof_shape.proofs.Held.Free.{is_free, free_holds, first_free, root_free, key_read_free, key_main_free, key_single_free, key_listed_free, key_sibling_free, swapped_free}
+use Rattle.proof_shape.proofs.Held.Free.{climb_free, copy_free, walk_free}
+use Rattle.proof_shape.specs.Beneath.proof_commits.proofs.Known.Acts.{known_run}
 
 module _ (limits : Limits) (states : ℕ → State) (last : ℕ) (run : IsRun limits states last) where
   abbrev p : Protocol
@@ -92,7 +93,8 @@ module _ (limits : Limits) (states : ℕ → State) (last : ℕ) (run : IsRun li
 
   -- the main node that a link is to be made over wasn't given
   node_not_given : (t : ℕ) → t ≤ last → (k : ℕ) (operation : Operation) → operation_of (states t) k ≡ Some operation → (l : Line) → operation.line ≡ l →
-      (l' : Line) → l ≡ l' → (path : List Ref) (main : Ref) (position : ℕ) (below : Ref) (depth : ℕ) → l' ≡ line.Build (build.Link path main position below depth) → NotGiven limits states last run t below
+      (l' : Line) → l ≡ l' → (path : List Ref) (main : Ref) (position : ℕ) (below : Ref) (depth : ℕ) → l' ≡ line.Build (build.Link path main position below depth) →
+      NotGiven limits states last run t below
   node_not_given t h k operation is l e l' e' path main position below depth e'' q i g =
       let private : Private p.words t below = subst (λ s. Staged p.words t k s) (ap stage_of_actor is ∙ ap stage_of (e ∙ e' ∙ e'')) ((sound_at p t h).staged k) in
       private.apart i ((sound_at p t h).given q i below g).stood
@@ -104,7 +106,8 @@ module _ (limits : Limits) (states : ℕ → State) (last : ℕ) (run : IsRun li
     not_given : (k : ℕ) (operation : Operation) → operation_of (states t) k ≡ Some operation → (id start : ℕ)
         (held : (j : Ref) → IsHeld limits states last run t k start j → IsHeld limits states last run (suc t) k start j) → (l : Line) → operation.line ≡ l →
         NodeNotGiven limits states last run t h k id start new held l
-    not_given k operation is id start held (line.Build (build.Link path main position below depth)) e = node_not_given t (omega arith) k operation is operation.line refl _ e path main position below depth refl
+    not_given k operation is id start held (line.Build (build.Link path main position below depth)) e =
+        node_not_given t (omega arith) k operation is operation.line refl _ e path main position below depth refl
     not_given k operation is id start held (line.Build (build.Single path main s former)) e = tt
     not_given k operation is id start held (line.Build (build.Pair path main position s depth)) e = tt
     not_given k operation is id start held (line.Build (build.Rung path main position below depth)) e = tt
@@ -122,8 +125,10 @@ module _ (limits : Limits) (states : ℕ → State) (last : ℕ) (run : IsRun li
 
     stays_holding : (k : ℕ) (operation : Operation) → operation_of (states t) k ≡ Some operation → (taker limits states last run t ≡ k → ⊥) → HoldsAt (suc t) k operation
     stays_holding k operation is apart start begun =
-        let held : (j : Ref) → IsHeld limits states last run t k start j → IsHeld limits states last run (suc t) k start j = λ j x. held_still limits states last run t k start j (omega arith) new apart x in
-        line_still limits states last run t h k operation.id start new held operation.call operation.line (not_given k operation is operation.id start held operation.line refl) (all k operation is start begun)
+        let held : (j : Ref) → IsHeld limits states last run t k start j → IsHeld limits states last run (suc t) k start j =
+        λ j x. held_still limits states last run t k start j (omega arith) new apart x in
+        line_still limits states last run t h k operation.id start new held operation.call operation.line
+        (not_given k operation is operation.id start held operation.line refl) (all k operation is start begun)
 
     -- ---- the own step
 
@@ -172,7 +177,8 @@ module _ (limits : Limits) (states : ℕ → State) (last : ℕ) (run : IsRun li
       line_holds (line.Clean l) e begun x = clean_holds limits states last run t h actor operation go takes_it new start begun l e (x begun)
       line_holds (line.Swap why s) e begun x =
           let held = quiet_held limits states last run t h actor operation go (ap (λ y. is_making (line_action (states t) operation y)) e ∙ swap_quiet (states t) operation why s) start in
-          swap_holds why s (line_still limits states last run t h actor operation.id start new held operation.call (line.Swap why s) (not_given actor operation go.runs operation.id start held _ e) (x begun)) _
+          swap_holds why s
+          (line_still limits states last run t h actor operation.id start new held operation.call (line.Swap why s) (not_given actor operation go.runs operation.id start held _ e) (x begun)) _
       line_holds (line.Climb l) e begun x = free _ (climb_free (states t) operation l)
       line_holds (line.Copy l) e begun x = free _ (copy_free (states t) operation l)
       line_holds (line.Walk l) e begun x = free _ (walk_free (states t) operation l)

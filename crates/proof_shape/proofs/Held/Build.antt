@@ -24,7 +24,7 @@ use Rattle.proof_shape.specs.Beneath.proof_commits.proofs.Words.Along.{protocol}
 use Rattle.proof_shape.specs.Beneath.proof_contents.specs.Runs.{is_made}
 use Rattle.proof_shape.specs.Beneath.proof_contents.proofs.Values.Runs.{made_next}
 use Rattle.proof_shape.proofs.Runs.EachAt.{GoesAt}
-use Rattle.proof_shape.proofs.Runs.Nodes.{known_run, takes, made_link}
+use Rattle.proof_shape.proofs.Runs.Nodes.{takes, made_link}
 use Rattle.proof_shape.proofs.Runs.Levels.{level, levels_along}
 use Rattle.proof_shape.proofs.Runs.Began.{RunsAfter, runs_after}
 use Rattle.proof_shape.proofs.Runs.Takers.{taker}
@@ -33,6 +33,7 @@ use Rattle.proof_shape.proofs.Runs.MadeNodes.{is_making, quiet_step, new_is, new
 use Rattle.proof_shape.proofs.Held.Fresh.{IsHeld, IsNamed, StandsIn, held_by}
 use Rattle.proof_shape.proofs.Held.Lines.{NamedOrHeld}
 use Rattle.proof_shape.specs.Beneath.proof_memory.specs.Wants.{is_indirection}
+use Rattle.proof_shape.specs.Beneath.proof_commits.proofs.Known.Acts.{known_run}
 
 module _ (limits : Limits) (states : ℕ → State) (last : ℕ) (run : IsRun limits states last) (t : ℕ) (h : t < last) (actor : ℕ) (operation : Operation) (go : GoesAt states t actor operation) where
   abbrev heap : Heap
@@ -48,7 +49,8 @@ module _ (limits : Limits) (states : ℕ → State) (last : ℕ) (run : IsRun li
       held_by limits states last run t actor start j held (λ m before after names. true≢false (sym after ∙ quiet_step limits states last run t h actor operation go q m ∙ before))
 
   -- what the step makes is the only new node
-  pub only_new : (n : Node) → action_of (states t) operation ≡ act.Make n → (made : Ref) → next_ref (states t).heap ≡ Some made → (m : Ref) → is_made states t m ≡ false → is_made states (suc t) m ≡ true → m ≡ made
+  pub only_new : (n : Node) → action_of (states t) operation ≡ act.Make n → (made : Ref) → next_ref (states t).heap ≡ Some made → (m : Ref) →
+      is_made states t m ≡ false → is_made states (suc t) m ≡ true → m ≡ made
   only_new n a made next m before after = same_Some _ _ (sym (new_is limits states last run t h actor operation go n a m before after) ∙ next)
 
   pub made_now : (n : Node) → action_of (states t) operation ≡ act.Make n → (made : Ref) → next_ref (states t).heap ≡ Some made → (is_made states t made ≡ false) × (is_made states (suc t) made ≡ true)
@@ -74,7 +76,8 @@ module _ (limits : Limits) (states : ℕ → State) (last : ℕ) (run : IsRun li
       by_made m made_m names_m true e = absurd (held.unnamed m e names_m)
       by_made m made_m names_m false e = only_new n a made next m e made_m
 
-  pub named_or_held : (n : Node) → action_of (states t) operation ≡ act.Make n → (made : Ref) → next_ref (states t).heap ≡ Some made → (start : ℕ) (j : Ref) → IsHeld limits states last run t actor start j →
+  pub named_or_held : (n : Node) → action_of (states t) operation ≡ act.Make n → (made : Ref) → next_ref (states t).heap ≡ Some made → (start : ℕ) (j : Ref) →
+      IsHeld limits states last run t actor start j →
       NamedOrHeld limits states last run (suc t) actor start made j
   named_or_held n a made next start j held = by_cases (contains_or_not (entries_of (node_under states last made)) j)
     where

@@ -40,7 +40,7 @@ use Rattle.proof_shape.specs.Beneath.proof_memory.proofs.Claims.Nodes.{main_no_l
 use Rattle.proof_shape.specs.Beneath.proof_memory.proofs.Lines.Next.{pair_no_link, changed_main}
 use Rattle.proof_shape.specs.Lines.Knowing.{known_with, first_main}
 use Rattle.proof_shape.proofs.Runs.EachAt.{GoesAt}
-use Rattle.proof_shape.proofs.Runs.Nodes.{known_run, made_node, prev_still, first_is}
+use Rattle.proof_shape.proofs.Runs.Nodes.{made_node, prev_still, first_is}
 use Rattle.proof_shape.proofs.Runs.Levels.{level}
 use Rattle.proof_shape.proofs.Lines.Knows.{knows_at}
 use Rattle.proof_shape.proofs.Runs.Takers.{taker}
@@ -50,6 +50,7 @@ use Rattle.proof_shape.proofs.Runs.Entries.{one_entry, pair_not_rung}
 use Rattle.proof_shape.proofs.Held.Fresh.{IsNamed, StandsIn, IsChain, ends, goes_on, NotGiven, NewNames, held_closed, named_closed, named_still, chain_still}
 use Rattle.proof_shape.proofs.Held.Lines.{NamedOrHeld, HeldNode, HeldLink, HeldChange, HeldBuild, HeldIn}
 use Rattle.proof_shape.proofs.Held.Build.{made_named, named_or_held, new_held, new_stands, next_level}
+use Rattle.proof_shape.specs.Beneath.proof_commits.proofs.Known.Acts.{known_run}
 
 module _ (limits : Limits) (states : ℕ → State) (last : ℕ) (run : IsRun limits states last) (t : ℕ) (h : t < last) (actor : ℕ) (operation : Operation) (go : GoesAt states t actor operation)
     (takes_it : taker limits states last run t ≡ actor) (new : NewNames limits states last run t) (start : ℕ) (begun : operation.generation ≡ Some start) where
@@ -108,16 +109,19 @@ module _ (limits : Limits) (states : ℕ → State) (last : ℕ) (run : IsRun li
         by_leads (by_link link is both above alike) =
             let it = later _ depth link is in
             goes_on made link _ depth (ap node first_below ∙ is) (subst (λ n. IsNamed limits states last run (suc t) start link n) (sym first_below) it.0)
-            (subst (λ n. StandsIn limits states last run (suc t) n made) (sym first_below) (new_stands limits states last run t h actor operation go below a made next takes_it start begun (below_private path main position below depth e)))
+            (subst (λ n. StandsIn limits states last run (suc t) n made) (sym first_below)
+            (new_stands limits states last run t h actor operation go below a made next takes_it start begun (below_private path main position below depth e)))
             it.1
 
-    by_test : (b : Bool) → LineLevel (level limits states last run) (cond b (line.Build (build.Main path main (change.Update position made) None)) (line.Build (build.Rung path main position made (depth - 1)))) →
+    by_test : (b : Bool) →
+        LineLevel (level limits states last run) (cond b (line.Build (build.Main path main (change.Update position made) None)) (line.Build (build.Rung path main position made (depth - 1)))) →
         Next (cond b (line.Build (build.Main path main (change.Update position made) None)) (line.Build (build.Rung path main position made (depth - 1))))
     by_test true lv = λ none. (new_held limits states last run t h actor operation go below a made next takes_it start begun (omega (arith, lv.1)), chain)
     by_test false lv = (new_held limits states last run t h actor operation go below a made next takes_it start begun (omega (arith, lv.2)), chain)
 
   module _ (made : Ref) (next : next_ref heap ≡ Some made) where
-    made_next : (l : BuildLine) (e : operation.line ≡ line.Build l) → HeldBuild limits states last run t actor start l → LineLevel (level limits states last run) (build_if_made (states t) operation l (Some made)) →
+    made_next : (l : BuildLine) (e : operation.line ≡ line.Build l) → HeldBuild limits states last run t actor start l →
+        LineLevel (level limits states last run) (build_if_made (states t) operation l (Some made)) →
         Next (build_if_made (states t) operation l (Some made))
     made_next (build.Single path main site.Absent former) e x lv = tt
     made_next (build.Single path main (site.At position) former) e x lv =

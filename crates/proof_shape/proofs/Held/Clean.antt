@@ -19,7 +19,8 @@ use Rattle.proof_shape.specs.Beneath.machine_model.specs.States.{State}
 use Rattle.proof_shape.specs.Beneath.machine_model.specs.Paths.{is_below_root}
 use Rattle.proof_shape.specs.Beneath.machine_model.specs.Reading.{read_step}
 use Rattle.proof_shape.specs.Beneath.machine_model.specs.Renewing.{next_entry}
-use Rattle.proof_shape.specs.Beneath.machine_model.specs.Cleaning.{cleaned, leaves_single, clean_after, clean_after_read, clean_after_main, clean_after_entry, after_child, clean_after_tomb, clean_after_contracted}
+use Rattle.proof_shape.specs.Beneath.machine_model.specs.Cleaning.{cleaned, leaves_single, clean_after, clean_after_read, clean_after_main, clean_after_entry, after_child}
+use Rattle.proof_shape.specs.Beneath.machine_model.specs.Cleaning.{clean_after_tomb, clean_after_contracted}
 use Rattle.proof_shape.specs.Beneath.machine_model.specs.Operations.{line_action}
 use Rattle.proof_shape.specs.Beneath.machine_model.specs.Grown.{node_under}
 use Rattle.proof_shape.specs.Beneath.machine_model.specs.Times.{IsRun}
@@ -58,7 +59,10 @@ module _ (limits : Limits) (states : ℕ → State) (last : ℕ) (run : IsRun li
   clean_entry_holds : (path : List Ref) (main : Ref) (done : List Ref) → node_at heap main ≡ node main → Came' (suc t) main done → (n : Node) →
       Next (clean_after_entry (states t) path main done (next_entry (states t) main done) n)
   clean_entry_holds path main done there all (Indirection g w) = all
-  clean_entry_holds path main done there all (Single k v) = clean_next_holds limits states last run t h actor operation go takes_it new start begun path main _ (one_more limits states last run t h actor operation go takes_it new start begun (suc t) main done _ all (next_came limits states last run t h actor operation go takes_it new start begun (suc t) main done there))
+  clean_entry_holds path main done there all (Single k v) =
+      clean_next_holds limits states last run t h actor operation go takes_it new start begun path main _
+      (one_more limits states last run t h actor operation go takes_it new start begun (suc t) main done _ all
+      (next_came limits states last run t h actor operation go takes_it new start begun (suc t) main done there))
   clean_entry_holds path main done there all (Branch b es) = tt
   clean_entry_holds path main done there all (Tomb s) = tt
   clean_entry_holds path main done there all (Listed ss) = tt
@@ -81,22 +85,38 @@ module _ (limits : Limits) (states : ℕ → State) (last : ℕ) (run : IsRun li
       by_node (Tomb q) e used m = absurd (true≢false (sym m))
       by_node (Listed ss) e used m = absurd (true≢false (sym m))
 
-  clean_tomb_holds : (path : List Ref) (main : Ref) (done : List Ref) (child : Ref) → node_at heap main ≡ node main → IsInUse heap child → Came' (suc t) main done → (n : Node) → node_at heap child ≡ n →
+  clean_tomb_holds : (path : List Ref) (main : Ref) (done : List Ref) (child : Ref) → node_at heap main ≡ node main → IsInUse heap child → Came' (suc t) main done →
+      (n : Node) → node_at heap child ≡ n →
       Next (clean_after_tomb (states t) path main done n)
   clean_tomb_holds path main done child there used all (Tomb s) is =
       let one = tomb_single child s used is in
-      clean_next_holds limits states last run t h actor operation go takes_it new start begun path main (done ++ s ∷ []) (one_more limits states last run t h actor operation go takes_it new start begun (suc t) main done s all (single one.0 one.1 one.2))
-  clean_tomb_holds path main done child there used all (Indirection g w) is = clean_next_holds limits states last run t h actor operation go takes_it new start begun path main _ (one_more limits states last run t h actor operation go takes_it new start begun (suc t) main done _ all (next_came limits states last run t h actor operation go takes_it new start begun (suc t) main done there))
-  clean_tomb_holds path main done child there used all (Branch b es) is = clean_next_holds limits states last run t h actor operation go takes_it new start begun path main _ (one_more limits states last run t h actor operation go takes_it new start begun (suc t) main done _ all (next_came limits states last run t h actor operation go takes_it new start begun (suc t) main done there))
-  clean_tomb_holds path main done child there used all (Single k v) is = clean_next_holds limits states last run t h actor operation go takes_it new start begun path main _ (one_more limits states last run t h actor operation go takes_it new start begun (suc t) main done _ all (next_came limits states last run t h actor operation go takes_it new start begun (suc t) main done there))
-  clean_tomb_holds path main done child there used all (Listed ss) is = clean_next_holds limits states last run t h actor operation go takes_it new start begun path main _ (one_more limits states last run t h actor operation go takes_it new start begun (suc t) main done _ all (next_came limits states last run t h actor operation go takes_it new start begun (suc t) main done there))
+      clean_next_holds limits states last run t h actor operation go takes_it new start begun path main (done ++ s ∷ [])
+      (one_more limits states last run t h actor operation go takes_it new start begun (suc t) main done s all (single one.0 one.1 one.2))
+  clean_tomb_holds path main done child there used all (Indirection g w) is =
+      clean_next_holds limits states last run t h actor operation go takes_it new start begun path main _
+      (one_more limits states last run t h actor operation go takes_it new start begun (suc t) main done _ all
+      (next_came limits states last run t h actor operation go takes_it new start begun (suc t) main done there))
+  clean_tomb_holds path main done child there used all (Branch b es) is =
+      clean_next_holds limits states last run t h actor operation go takes_it new start begun path main _
+      (one_more limits states last run t h actor operation go takes_it new start begun (suc t) main done _ all
+      (next_came limits states last run t h actor operation go takes_it new start begun (suc t) main done there))
+  clean_tomb_holds path main done child there used all (Single k v) is =
+      clean_next_holds limits states last run t h actor operation go takes_it new start begun path main _
+      (one_more limits states last run t h actor operation go takes_it new start begun (suc t) main done _ all
+      (next_came limits states last run t h actor operation go takes_it new start begun (suc t) main done there))
+  clean_tomb_holds path main done child there used all (Listed ss) is =
+      clean_next_holds limits states last run t h actor operation go takes_it new start begun path main _
+      (one_more limits states last run t h actor operation go takes_it new start begun (suc t) main done _ all
+      (next_came limits states last run t h actor operation go takes_it new start begun (suc t) main done there))
 
   clean_read_holds : (path : List Ref) (out : After Read Ref) → Next (clean_after_read path out)
   clean_read_holds path (Goes r) = tt
   clean_read_holds path (Gives main) = tt
 
   clean_main_holds : (path : List Ref) (main : Ref) (n : Node) → Next (clean_after_main (states t) path main n)
-  clean_main_holds path main (Branch b es) = clean_next_holds limits states last run t h actor operation go takes_it new start begun path main [] (none_came limits states last run t h actor operation go takes_it new start begun (suc t) main)
+  clean_main_holds path main (Branch b es) =
+      clean_next_holds limits states last run t h actor operation go takes_it new start begun path main []
+      (none_came limits states last run t h actor operation go takes_it new start begun (suc t) main)
   clean_main_holds path main (Indirection g w) = tt
   clean_main_holds path main (Single k v) = tt
   clean_main_holds path main (Tomb s) = tt
@@ -107,11 +127,15 @@ module _ (limits : Limits) (states : ℕ → State) (last : ℕ) (run : IsRun li
   clean_holds (clean.Read path r) e x = clean_read_holds path (read_step (states t) operation r)
   clean_holds (clean.Main path main) e x = clean_main_holds path main (node_at heap main)
   clean_holds (clean.Entry path main done) e x =
-      clean_entry_holds path main done (branch_there limits states last run t h actor operation go takes_it new start begun main (claims limits states last run t h actor operation go _ e).1.1.0) (quiet_all limits states last run t h actor operation go takes_it new start begun _ e refl main done x) (node_at heap (next_entry (states t) main done))
-  clean_holds (clean.Child path main done r) e x = child_holds path main done (quiet_all limits states last run t h actor operation go takes_it new start begun _ e (read_quiet r.indirection r.line) main done x) (read_step (states t) operation r)
+      clean_entry_holds path main done
+      (branch_there limits states last run t h actor operation go takes_it new start begun main (claims limits states last run t h actor operation go _ e).1.1.0)
+      (quiet_all limits states last run t h actor operation go takes_it new start begun _ e refl main done x) (node_at heap (next_entry (states t) main done))
+  clean_holds (clean.Child path main done r) e x =
+      child_holds path main done (quiet_all limits states last run t h actor operation go takes_it new start begun _ e (read_quiet r.indirection r.line) main done x) (read_step (states t) operation r)
   clean_holds (clean.Tomb path main done child) e x =
       let all = claims limits states last run t h actor operation go _ e in
-      clean_tomb_holds path main done child (branch_there limits states last run t h actor operation go takes_it new start begun main all.1.1.0) (safe_of all.1.1.1.1.1.0) (quiet_all limits states last run t h actor operation go takes_it new start begun _ e refl main done x) (node_at heap child) refl
+      clean_tomb_holds path main done child (branch_there limits states last run t h actor operation go takes_it new start begun main all.1.1.0)
+      (safe_of all.1.1.1.1.1.0) (quiet_all limits states last run t h actor operation go takes_it new start begun _ e refl main done x) (node_at heap child) refl
   clean_holds (clean.Contracted path main done) e x = by_made (next_ref heap) refl
     where
       by_made : (o : Option Ref) → next_ref heap ≡ o → Next (clean_after_contracted path main o)
@@ -122,4 +146,5 @@ module _ (limits : Limits) (states : ℕ → State) (last : ℕ) (run : IsRun li
           let b = is_below_root path && leaves_single (states t) done in
           fresh_repair limits states last run t h actor operation go takes_it new start begun main made done _ a next x b
           (λ bitmap entries is. made_node limits states last run t h actor operation go (cleaned (states t) path main done) a made next (contracted_no_link b (bitmap_of (node_at heap main)) done)
-          ∙ ap (λ n. contracted b (bitmap_of n) done) (branch_there limits states last run t h actor operation go takes_it new start begun main claim ∙ is)) (repairs limits states last run t h actor operation go takes_it new start begun _ e)
+          ∙ ap (λ n. contracted b (bitmap_of n) done) (branch_there limits states last run t h actor operation go takes_it new start begun main claim ∙ is))
+          (repairs limits states last run t h actor operation go takes_it new start begun _ e)

@@ -23,9 +23,10 @@ use Rattle.proof_shape.specs.Beneath.machine_model.specs.Grown.{node_under}
 use Rattle.proof_shape.specs.Beneath.machine_model.specs.Times.{IsRun}
 use Rattle.proof_shape.specs.Beneath.proof_commits.proofs.Words.Stood.{none≢pending}
 use Rattle.proof_shape.specs.Beneath.proof_commits.proofs.Course.Finals.{from_time}
-use Rattle.proof_shape.specs.Beneath.proof_contents.specs.Lines.Changes.{Known, flag_in, IsFlagged, Absence, no_flag, not_listed, Presence, in_branch, in_list, Neighbour, IsOther, of_branch, of_list, KnowsChange, KnowsSwap}
+use Rattle.proof_shape.specs.Beneath.proof_contents.specs.Lines.Changes.{Known, flag_in, IsFlagged, Absence, no_flag, not_listed, Presence, in_branch, in_list, Neighbour, IsOther}
+use Rattle.proof_shape.specs.Beneath.proof_contents.specs.Lines.Changes.{of_branch, of_list, KnowsChange, KnowsSwap}
 use Rattle.proof_shape.specs.Beneath.proof_contents.specs.Lines.Repairs.{IsDone, keeps, renews, cleans, IsRepaired}
-use Rattle.proof_shape.specs.Beneath.proof_contents.specs.Runs.{main_at}
+use Rattle.proof_shape.specs.Beneath.proof_contents.specs.Runs.{counting_main}
 use Rattle.proof_shape.specs.Lines.Given.{GaveBelow, Was}
 use Rattle.proof_shape.specs.Lines.Climbing.{KnowsClimbing}
 use Rattle.proof_shape.specs.Lines.Knowing.{known_with, first_main}
@@ -81,7 +82,8 @@ module _ (kind : HashKind) (node : Ref → Node) (A B : Ref → Ref) where
       KnowsSwap L call depth replaced former fresh
   swap_moves call depth replaced fresh former (c, known, made) chain = by_change c refl known made
     where
-      by_change : (d : Change) → c ≡ d → KnowsChange K call depth replaced former d → node fresh ≡ changed (flag_in K depth (key_of call)) (node replaced) d → KnowsSwap L call depth replaced former fresh
+      by_change : (d : Change) → c ≡ d → KnowsChange K call depth replaced former d → node fresh ≡ changed (flag_in K depth (key_of call)) (node replaced) d →
+          KnowsSwap L call depth replaced former fresh
       by_change (change.Insert s) e (ins, absence, new) made = (change.Insert s, (ins, absence_moves depth (key_of call) replaced absence, new), made)
       by_change (change.Update position entry) e (inl (value, had, sets, presence, new)) made =
           (change.Update position entry, inl (value, had, sets, presence_moves depth (key_of call) replaced position value presence, new), made)
@@ -108,14 +110,14 @@ module _ (limits : Limits) (states : ℕ → State) (last : ℕ) (run : IsRun li
 
   -- ---- what can't be read has its first main node
 
-  untouched : (t : ℕ) → t ≤ last → (j : Ref) → (IsOpen limits states last run t j → ⊥) → main_at states last t j ≡ first_main states last j
+  untouched : (t : ℕ) → t ≤ last → (j : Ref) → (IsOpen limits states last run t j → ⊥) → counting_main states last t j ≡ first_main states last j
   untouched t h j closed =
-      from_time (λ u. main_at states last u j ≡ first_main states last j) zero t refl
+      from_time (λ u. counting_main states last u j ≡ first_main states last j) zero t refl
       (λ u low below so_far. closed_keeps limits states last run u (omega arith) j (λ may. closed (open_still limits states last run u t (omega arith) j may)) ∙ so_far) t (omega arith) (omega arith)
 
-  assigned_own : (start t : ℕ) (j word : Ref) → node j ≡ Indirection start word → assigned_at states last start t j ≡ main_at states last t j
+  assigned_own : (start t : ℕ) (j word : Ref) → node j ≡ Indirection start word → assigned_at states last start t j ≡ counting_main states last t j
   assigned_own start t j word is =
-      ap (λ b. cond b (main_at states last t j) (main_at states last last j)) (eq-eqb (generation_of (node j)) start (ap generation_of is))
+      ap (λ b. cond b (counting_main states last t j) (counting_main states last last j)) (eq-eqb (generation_of (node j)) start (ap generation_of is))
 
   module _ (t : ℕ) (h : t < last) (start : ℕ) where
     -- at the commit, and just behind it
@@ -135,9 +137,11 @@ module _ (limits : Limits) (states : ℕ → State) (last : ℕ) (run : IsRun li
     chain_leads kind other key old s levels depth j (by_rung left d i below word g is under index rest) (goes_on q next hash e next_is named stands more) fresh closed =
         let same : next ≡ below =
         one_entry below next (subst (λ n. Contains (entries_of n) next) is (subst (λ n. Contains (entries_of n) next) (sym next_is) (0, omega arith, refl))) in
-        let below_closed = named_closed limits states last run t start next (first_main states last q) (omega arith) named (stands_not_given limits states last run t (first_main states last q) q (omega arith) stands closed) in
+        let below_closed = named_closed limits states last run t start next (first_main states last q) (omega arith) named
+        (stands_not_given limits states last run t (first_main states last q) q (omega arith) stands closed) in
         by_rung left d i below word g (ap node (assigned_next i fresh closed) ∙ is) under index
-        (chain_leads kind other key old s left (suc d) below rest (subst (λ r. IsChain limits states last run t start r) same more) (subst (λ r. IsFresh limits states last run t start r) same named.fresh)
+        (chain_leads kind other key old s left (suc d) below rest (subst (λ r. IsChain limits states last run t start r) same more)
+        (subst (λ r. IsFresh limits states last run t start r) same named.fresh)
         (subst (λ r. IsOpen limits states last run t r → ⊥) same below_closed))
 
     module _ (actor : ℕ) (f : Ref) (un : IsUncommitted limits states last run t f) where
@@ -161,7 +165,8 @@ module _ (limits : Limits) (states : ℕ → State) (last : ℕ) (run : IsRun li
       repair_known id a x = (x.done, x.bitmap, x.entries, record { is = x.is; each = λ n lt. by_done (x.each n lt) }, x.all, (x.may_entomb, x.made))
         where
           by_done : {entry other : Ref} →
-              DoneWith node (first_main states last) (GaveBelow states last t actor id start) (λ r. IsUncommitted limits states last run t f → NamedOrHeld limits states last run t actor start f r) start entry other →
+              DoneWith node (first_main states last) (GaveBelow states last t actor id start)
+              (λ r. IsUncommitted limits states last run t f → NamedOrHeld limits states last run t actor start f r) start entry other →
               IsDone node (assigned_at states last start t) (GaveBelow states last t actor id start) start entry other
           by_done (kept e) = keeps e
           by_done (cleaned g word child is gave tomb) = cleans g word child is gave tomb

@@ -1,5 +1,6 @@
 -- Which entries of a repair were kept, or are singles, or were made anew; and the fresh main node of them.
-use Rattle.std.proofs.Common.{◌≡◌, ℕ, suc, ◌<◌, nat_lt, nat_eq, Bool, true, false, cond, List, ◌∷◌, ◌++◌, length, slice_index_or, Some, refl, sym, ◌∙◌, ap, subst, subst₂, arith, length-append, ltb-true, ltb-false, []}
+use Rattle.std.proofs.Common.{◌≡◌, ℕ, suc, ◌<◌, nat_lt, nat_eq, Bool, true, false, cond, List, ◌∷◌, ◌++◌, length, slice_index_or, Some, refl, sym, ◌∙◌, ap, subst, subst₂, arith}
+use Rattle.std.proofs.Common.{length-append, ltb-true, ltb-false, []}
 use Rattle.std.proofs.lemmas.List.{get_or_append_left}
 use Rattle.std.proofs.Math.Seq.{get_or-append_seam}
 use lib.Pointwise.{pointwise}
@@ -60,7 +61,8 @@ module _ (limits : Limits) (states : ℕ → State) (last : ℕ) (run : IsRun li
   pub none_came : (v : ℕ) (main : Ref) → Came' v main []
   none_came v main n lt = absurd (omega (arith, lt))
 
-  pub one_more : (v : ℕ) (main : Ref) (done : List Ref) (other : Ref) → Came' v main done → Came node (Held v) (slice_index_or (entries_of (node main)) (length done) no_ref) other → Came' v main (done ++ other ∷ [])
+  pub one_more : (v : ℕ) (main : Ref) (done : List Ref) (other : Ref) → Came' v main done →
+      Came node (Held v) (slice_index_or (entries_of (node main)) (length done) no_ref) other → Came' v main (done ++ other ∷ [])
   one_more v main done other all it n lt = by_place (nat_lt n (length done)) refl
     where
       by_place : (b : Bool) → nat_lt n (length done) ≡ b → Came node (Held v) (slice_index_or (entries_of (node main)) n no_ref) (slice_index_or (done ++ other ∷ []) n no_ref)
@@ -73,7 +75,8 @@ module _ (limits : Limits) (states : ℕ → State) (last : ℕ) (run : IsRun li
           (sym (ap (λ m. slice_index_or (done ++ other ∷ []) m no_ref) at ∙ get_or-append_seam done other [] no_ref)) it
 
   -- the entry itself
-  pub next_came : (v : ℕ) (main : Ref) (done : List Ref) → node_at heap main ≡ node main → Came node (Held v) (slice_index_or (entries_of (node main)) (length done) no_ref) (next_entry (states t) main done)
+  pub next_came : (v : ℕ) (main : Ref) (done : List Ref) → node_at heap main ≡ node main →
+      Came node (Held v) (slice_index_or (entries_of (node main)) (length done) no_ref) (next_entry (states t) main done)
   next_came v main done there = same (ap (λ n. slice_index_or (entries_of n) (length done) no_ref) (sym there))
 
   pub renew_next_holds : (path : List Ref) (main : Ref) (done : List Ref) → Came' (suc t) main done → Next (renew_next (states t) path main done)
@@ -97,13 +100,15 @@ module _ (limits : Limits) (states : ℕ → State) (last : ℕ) (run : IsRun li
   -- where the step makes nothing
   pub quiet_all : (l : Line) → operation.line ≡ l → is_making (line_action (states t) operation l) ≡ false → (main : Ref) (done : List Ref) → Came' t main done → Came' (suc t) main done
   quiet_all l e q main done all =
-      all_still limits states last run t h actor operation.id start new (quiet_held limits states last run t h actor operation go (ap (λ x. is_making (line_action (states t) operation x)) e ∙ q) start) main done all
+      all_still limits states last run t h actor operation.id start new
+      (quiet_held limits states last run t h actor operation go (ap (λ x. is_making (line_action (states t) operation x)) e ∙ q) start) main done all
 
   -- ---- the fresh main node
 
   module _ (main made : Ref) (done : List Ref) (n : Node) (a : action_of (states t) operation ≡ act.Make n) (next : next_ref heap ≡ Some made) (all : Came' t main done) (b : Bool)
       (is_made : (bitmap : ℕ) (entries : ArrayVec Ref) → node main ≡ Branch bitmap entries → node made ≡ contracted b bitmap done) where
-    pub fresh_repair : AllDone node (first_main states last) (GaveBelow states last t actor operation.id start) start main done → HeldRepair limits states last run (suc t) actor operation.id start main made
+    pub fresh_repair : AllDone node (first_main states last) (GaveBelow states last t actor operation.id start) start main done →
+        HeldRepair limits states last run (suc t) actor operation.id start main made
     fresh_repair (bitmap, entries, are, count) = record {
       done = done;
       bitmap = bitmap;
@@ -135,7 +140,9 @@ module _ (limits : Limits) (states : ℕ → State) (last : ℕ) (run : IsRun li
             (λ un. named_or_held limits states last run t h actor operation go n a made next start other held)
 
   pub repairs : (l : Line) → operation.line ≡ l → KnowsRepair node (first_main states last) (GaveBelow states last t actor operation.id start) start l
-  repairs l e = subst (λ x. KnowsRepair node (first_main states last) (GaveBelow states last t actor operation.id start) start x) e (repairs_at limits states last run t (omega arith) actor operation go.runs start begun)
+  repairs l e =
+      subst (λ x. KnowsRepair node (first_main states last) (GaveBelow states last t actor operation.id start) start x) e
+      (repairs_at limits states last run t (omega arith) actor operation go.runs start begun)
 
   pub branch_there : (main : Ref) → Holds (IsInUse heap) heap (Is main ABranch) → node_at heap main ≡ node main
   branch_there main claim = main_seen limits states last run t (omega arith) main ABranch branch_main claim

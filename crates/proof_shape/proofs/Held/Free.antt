@@ -72,7 +72,8 @@ pub key_listed_free : (state : State) (operation : Operation) (path : List Ref) 
 key_listed_free state operation path main position (Single k v) = by_key (k == key_of operation.call) (nat_lt (position + 1) (length (entries_of (node_at state.heap main))))
   where
     by_key : (a b : Bool) →
-        is_free (cond a (found state operation path main position v) (cond b (line.Key (key.Listed path main (position + 1))) (absent_listed operation path main (length (entries_of (node_at state.heap main)))))) ≡ true
+        is_free (cond a (found state operation path main position v)
+        (cond b (line.Key (key.Listed path main (position + 1))) (absent_listed operation path main (length (entries_of (node_at state.heap main)))))) ≡ true
     by_key true b = found_free state operation path main position v
     by_key false true = refl
     by_key false false = absent_free operation path main (length (entries_of (node_at state.heap main)))

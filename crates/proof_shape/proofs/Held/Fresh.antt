@@ -24,11 +24,11 @@ use Rattle.proof_shape.specs.Beneath.proof_contents.specs.Runs.{is_made}
 use Rattle.proof_shape.specs.Beneath.proof_contents.proofs.Values.Runs.{made_next}
 use Rattle.proof_shape.specs.Beneath.proof_memory.proofs.Heap.NoRef.{nothing_stands}
 use Rattle.proof_shape.specs.Lines.Knowing.{first_main}
-use Rattle.proof_shape.proofs.Runs.Nodes.{known_run}
 use Rattle.proof_shape.proofs.Runs.Levels.{level, levels_along}
 use Rattle.proof_shape.proofs.Runs.Takers.{taker}
 use Rattle.proof_shape.proofs.Commits.Standing.{HowStands, stood, given, private, how_stands}
 use Rattle.proof_shape.proofs.Opened.Mains.{IsOpen, rooted, named, given_is_open}
+use Rattle.proof_shape.specs.Beneath.proof_commits.proofs.Known.Acts.{known_run}
 
 module _ (limits : Limits) (states : ℕ → State) (last : ℕ) (run : IsRun limits states last) where
   abbrev p : Protocol

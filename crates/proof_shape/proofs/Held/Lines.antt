@@ -129,7 +129,8 @@ module _ (limits : Limits) (states : ℕ → State) (last : ℕ) (run : IsRun li
     fresh_still : (f : Ref) → IsUncommitted limits states last run (suc t) f → (r : Ref) → NamedOrHeld t k start f r → NamedOrHeld (suc t) k start f r
     fresh_still f un r (inl named) =
         inl (named_still limits states last run t start r f new
-        (named_closed limits states last run t start r f (omega arith) named (uncommitted_not_given limits states last run t f (omega arith) (uncommitted_before limits states last run t f h un))) named)
+        (named_closed limits states last run t start r f (omega arith) named
+        (uncommitted_not_given limits states last run t f (omega arith) (uncommitted_before limits states last run t f h un))) named)
     fresh_still f un r (inr j) = inr (held r j)
 
     fresh_closed : (f : Ref) → IsUncommitted limits states last run t f → (r : Ref) → NamedOrHeld t k start f r → IsOpen limits states last run t r → ⊥

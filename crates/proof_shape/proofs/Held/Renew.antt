@@ -1,5 +1,6 @@
 -- What a step of RENEW makes of the indirections that its line holds.
-use Rattle.std.proofs.Common.{◌≡◌, ℕ, suc, ◌+◌, ◌<◌, ◌≤◌, nat_lt, Bool, true, false, cond, List, ◌∷◌, ◌++◌, length, Contains, Option, Some, None, inl, inr, refl, sym, ◌∙◌, ap, subst, arith, length-append, []}
+use Rattle.std.proofs.Common.{◌≡◌, ℕ, suc, ◌+◌, ◌<◌, ◌≤◌, nat_lt, Bool, true, false, cond, List, ◌∷◌, ◌++◌, length, Contains, Option, Some, None, inl, inr, refl, sym, ◌∙◌, ap}
+use Rattle.std.proofs.Common.{subst, arith, length-append, []}
 use Rattle.std.proofs.Math.Seq.{get_or-append_seam}
 use Rattle.proof_shape.specs.Beneath.slot_arena.specs.declared.refs.Ref.{Ref}
 use Rattle.proof_shape.specs.Beneath.slot_arena.specs.declared.nodes.Node.{Node}
@@ -31,7 +32,6 @@ use Rattle.proof_shape.proofs.Runs.EachAt.{GoesAt}
 use Rattle.proof_shape.proofs.Runs.Nodes.{takes, made_node, made_link}
 use Rattle.proof_shape.proofs.Runs.Began.{RunsAfter, runs_after}
 use Rattle.proof_shape.specs.Beneath.proof_memory.proofs.Safety.AtTimes.{line_at}
-use Rattle.proof_shape.specs.Beneath.proof_memory.proofs.Heap.Moves.{grown_in_use}
 use Rattle.proof_shape.specs.Beneath.machine_model.specs.Acting.{operation_after}
 use Rattle.proof_shape.specs.Beneath.slot_arena.specs.declared.nodes.Slot.{Slot}
 use Rattle.std.proofs.lemmas.Option.{same_Some}
@@ -45,6 +45,7 @@ use Rattle.proof_shape.proofs.Held.Fresh.{IsHeld, NewNames}
 use Rattle.proof_shape.proofs.Held.Lines.{anew, AllCame, HeldRenew, HeldIn, all_still}
 use Rattle.proof_shape.proofs.Held.Build.{made_held, new_held, next_level}
 use Rattle.proof_shape.proofs.Held.Entries.{one_more, next_came, renew_next_holds, quiet_all, fresh_repair, repairs, branch_there}
+use Rattle.proof_shape.specs.Beneath.machine_model.proofs.Grown.{grown_in_use}
 
 module _ (limits : Limits) (states : ℕ → State) (last : ℕ) (run : IsRun limits states last) (t : ℕ) (h : t < last) (actor : ℕ) (operation : Operation) (go : GoesAt states t actor operation)
     (takes_it : taker limits states last run t ≡ actor) (new : NewNames limits states last run t) (start : ℕ) (begun : operation.generation ≡ Some start) where
@@ -66,10 +67,17 @@ module _ (limits : Limits) (states : ℕ → State) (last : ℕ) (run : IsRun li
       Next (renew_after_entry (states t) operation path main done (next_entry (states t) main done) n)
   renew_entry_holds path main done there all (Indirection g w) = by_test (is_start operation g)
     where
-      by_test : (b : Bool) → Next (cond b (renew_next (states t) path main (done ++ next_entry (states t) main done ∷ [])) (line.Renew (renew.Read path main done (reading (next_entry (states t) main done)))))
-      by_test true = renew_next_holds limits states last run t h actor operation go takes_it new start begun path main _ (one_more limits states last run t h actor operation go takes_it new start begun (suc t) main done _ all (next_came limits states last run t h actor operation go takes_it new start begun (suc t) main done there))
+      by_test : (b : Bool) →
+          Next (cond b (renew_next (states t) path main (done ++ next_entry (states t) main done ∷ [])) (line.Renew (renew.Read path main done (reading (next_entry (states t) main done)))))
+      by_test true =
+          renew_next_holds limits states last run t h actor operation go takes_it new start begun path main _
+          (one_more limits states last run t h actor operation go takes_it new start begun (suc t) main done _ all
+          (next_came limits states last run t h actor operation go takes_it new start begun (suc t) main done there))
       by_test false = all
-  renew_entry_holds path main done there all (Single k v) = renew_next_holds limits states last run t h actor operation go takes_it new start begun path main _ (one_more limits states last run t h actor operation go takes_it new start begun (suc t) main done _ all (next_came limits states last run t h actor operation go takes_it new start begun (suc t) main done there))
+  renew_entry_holds path main done there all (Single k v) =
+      renew_next_holds limits states last run t h actor operation go takes_it new start begun path main _
+      (one_more limits states last run t h actor operation go takes_it new start begun (suc t) main done _ all
+      (next_came limits states last run t h actor operation go takes_it new start begun (suc t) main done there))
   renew_entry_holds path main done there all (Branch b es) = tt
   renew_entry_holds path main done there all (Tomb s) = tt
   renew_entry_holds path main done there all (Listed ss) = tt
@@ -81,15 +89,20 @@ module _ (limits : Limits) (states : ℕ → State) (last : ℕ) (run : IsRun li
   pub renew_holds : (l : RenewLine) → operation.line ≡ line.Renew l → HeldRenew limits states last run t actor start l →
       HeldIn limits states last run (suc t) actor operation.id start operation.call (renew_after (states t) operation l)
   renew_holds (renew.Entry path main done) e x =
-      renew_entry_holds path main done (branch_there limits states last run t h actor operation go takes_it new start begun main (claims limits states last run t h actor operation go _ e).1.1.0) (quiet_all limits states last run t h actor operation go takes_it new start begun _ e refl main done x) (node_at heap (next_entry (states t) main done))
-  renew_holds (renew.Read path main done r) e x = renew_read_holds path main done (quiet_all limits states last run t h actor operation go takes_it new start begun _ e (read_quiet r.indirection r.line) main done x) (read_step (states t) operation r)
+      renew_entry_holds path main done
+      (branch_there limits states last run t h actor operation go takes_it new start begun main (claims limits states last run t h actor operation go _ e).1.1.0)
+      (quiet_all limits states last run t h actor operation go takes_it new start begun _ e refl main done x) (node_at heap (next_entry (states t) main done))
+  renew_holds (renew.Read path main done r) e x =
+      renew_read_holds path main done
+      (quiet_all limits states last run t h actor operation go takes_it new start begun _ e (read_quiet r.indirection r.line) main done x) (read_step (states t) operation r)
   renew_holds (renew.Link path main done child) e x =
       by_made (next_ref heap) refl (subst (λ y. LineLevel (level limits states last run) (line_after (states t) operation y)) e (next_level limits states last run t h actor operation go))
     where
       a : action_of (states t) operation ≡ act.Make (Indirection (start_of operation) child)
       a = ap (line_action (states t) operation) e
 
-      last_level : (made : Ref) → LineLevel (level limits states last run) (renew_next (states t) path main (done ++ made ∷ [])) → DoneLevel (level limits states last run) path main (done ++ made ∷ [])
+      last_level : (made : Ref) → LineLevel (level limits states last run) (renew_next (states t) path main (done ++ made ∷ [])) →
+          DoneLevel (level limits states last run) path main (done ++ made ∷ [])
       last_level made lv = by_test (nat_lt (length (done ++ made ∷ [])) (length (entries_of (node_at heap main)))) lv
         where
           by_test : (b : Bool) → LineLevel (level limits states last run) (cond b (line.Renew (renew.Entry path main (done ++ made ∷ []))) (line.Renew (renew.Branch path main (done ++ made ∷ [])))) →
@@ -100,7 +113,9 @@ module _ (limits : Limits) (states : ℕ → State) (last : ℕ) (run : IsRun li
       -- what was made has the level below: a single's it hasn't
       deep : (made : Ref) → next_ref heap ≡ Some made → renew_after (states t) operation (renew.Link path main done child) ≡ renew_next (states t) path main (done ++ made ∷ []) →
           DoneLevel (level limits states last run) path main (done ++ made ∷ []) → 2 ≤ level limits states last run made
-      deep made next is lv = by_level (subst (EntryLevel (level limits states last run) (depth_of path + 1)) (get_or-append_seam done made [] no_ref) (lv.1 (length done) no_ref (omega (arith, length-append done (made ∷ [])))))
+      deep made next is lv =
+          by_level (subst (EntryLevel (level limits states last run) (depth_of path + 1)) (get_or-append_seam done made [] no_ref)
+          (lv.1 (length done) no_ref (omega (arith, length-append done (made ∷ [])))))
         where
           own : RunsAfter (states (suc t)) actor (operation_after (states t) operation)
           own = runs_after states t actor operation go
@@ -109,7 +124,8 @@ module _ (limits : Limits) (states : ℕ → State) (last : ℕ) (run : IsRun li
           line_is = own.line ∙ ap (line_after (states t) operation) e ∙ is
 
           wants : (b : Bool) → AllHold (IsInUse (states (suc t)).heap) (states (suc t)).heap
-              (line_wants limits.hash own.operation.call own.operation.access (cond b (line.Renew (renew.Entry path main (done ++ made ∷ []))) (line.Renew (renew.Branch path main (done ++ made ∷ []))))) →
+              (line_wants limits.hash own.operation.call own.operation.access
+              (cond b (line.Renew (renew.Entry path main (done ++ made ∷ []))) (line.Renew (renew.Branch path main (done ++ made ∷ []))))) →
               Holds (IsInUse (states (suc t)).heap) (states (suc t)).heap (Each (done ++ made ∷ []) AnEntry)
           wants true c = c.1.1.1.0
           wants false c = c.1.1.1.0
@@ -142,8 +158,10 @@ module _ (limits : Limits) (states : ℕ → State) (last : ℕ) (run : IsRun li
       by_made (Some made) next lv =
           renew_next_holds limits states last run t h actor operation go takes_it new start begun path main (done ++ made ∷ [])
           (one_more limits states last run t h actor operation go takes_it new start begun (suc t) main done made
-          (all_still limits states last run t h actor operation.id start new (λ j held. made_held limits states last run t h actor operation go _ a made next start j (λ names. link_names made next j names) held) main done x)
-          (anew (new_held limits states last run t h actor operation go child a made next takes_it start begun (deep made next (ap (renew_after_link (states t) path main done) next) (last_level made lv)))))
+          (all_still limits states last run t h actor operation.id start new
+          (λ j held. made_held limits states last run t h actor operation go _ a made next start j (λ names. link_names made next j names) held) main done x)
+          (anew (new_held limits states last run t h actor operation go child a made next takes_it start begun
+          (deep made next (ap (renew_after_link (states t) path main done) next) (last_level made lv)))))
   renew_holds (renew.Branch path main done) e x = by_made (next_ref heap) refl
     where
       by_made : (o : Option Ref) → next_ref heap ≡ o → Next (renew_after_branch path main o)
@@ -153,4 +171,5 @@ module _ (limits : Limits) (states : ℕ → State) (last : ℕ) (run : IsRun li
           let a = ap (line_action (states t) operation) e in
           fresh_repair limits states last run t h actor operation go takes_it new start begun main made done _ a next x false
           (λ bitmap entries is. made_node limits states last run t h actor operation go (branch_of (states t) main done) a made next (renewed_no_link (bitmap_of (node_at heap main)) done)
-          ∙ ap (λ n. renewed_node (bitmap_of n) done) (branch_there limits states last run t h actor operation go takes_it new start begun main claim ∙ is)) (repairs limits states last run t h actor operation go takes_it new start begun _ e)
+          ∙ ap (λ n. renewed_node (bitmap_of n) done) (branch_there limits states last run t h actor operation go takes_it new start begun main claim ∙ is))
+          (repairs limits states last run t h actor operation go takes_it new start begun _ e)

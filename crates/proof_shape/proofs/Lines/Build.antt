@@ -43,10 +43,11 @@ use Rattle.proof_shape.specs.Beneath.proof_memory.proofs.Lines.Next.{pair_no_lin
 use Rattle.proof_shape.specs.Beneath.proof_memory.proofs.Heap.NoRef.{nothing_stands}
 use Rattle.proof_shape.specs.Lines.Knowing.{known_with, first_main}
 use Rattle.proof_shape.proofs.Runs.EachAt.{GoesAt}
-use Rattle.proof_shape.proofs.Runs.Nodes.{known_run, known_node, made_node, made_link, prev_still, first_is}
+use Rattle.proof_shape.proofs.Runs.Nodes.{known_node, made_node, made_link, prev_still, first_is}
 use Rattle.proof_shape.proofs.Runs.RunOf.{HasSites, sites_at, branch_shallow}
 use Rattle.proof_shape.proofs.Runs.Seen.{sees}
 use Rattle.proof_shape.proofs.Lines.Key.{same_known, claims}
+use Rattle.proof_shape.specs.Beneath.proof_commits.proofs.Known.Acts.{known_run}
 
 -- ---- nodes that are made
 
@@ -120,7 +121,8 @@ module _ (limits : Limits) (states : ℕ → State) (last : ℕ) (run : IsRun li
 
     new_single : (l : BuildLine) (e : operation.line ≡ line.Build l) → build_action (states t) operation l ≡ act.Make (Single (key_of operation.call) (value_of operation.call)) →
         node made ≡ Single (key_of operation.call) (value_of operation.call)
-    new_single l e a = stands (Single (key_of operation.call) (value_of operation.call)) (acts l e ∙ a) (λ g w bad. let wrong : Single (key_of operation.call) (value_of operation.call) ≡ Indirection g w = bad in cc)
+    new_single l e a =
+        stands (Single (key_of operation.call) (value_of operation.call)) (acts l e ∙ a) (λ g w bad. let wrong : Single (key_of operation.call) (value_of operation.call) ≡ Indirection g w = bad in cc)
 
     -- the main node that is held is decided
     held_none : (path : List Ref) (main : Ref) (position : ℕ) (below : Ref) (depth : ℕ) → operation.line ≡ line.Build (build.Link path main position below depth) → prev_word states t below ≡ over.None
@@ -158,8 +160,12 @@ module _ (limits : Limits) (states : ℕ → State) (last : ℕ) (run : IsRun li
     made_step (build.Main path main c former) e knows =
         let claim = (claims limits states last run t h actor operation go _ e).1.1.0 in
         let there = (sees limits states last run t (omega arith) operation main BranchOrList both_main claim).main_is in
-        let n = changed (flag_in (states t) operation path) (node_at heap main) c in
-        (c, knows, stands n (acts _ e) (main_no_link n (changed_main (flag_in (states t) operation path) (node_at heap main) c (meets_of claim))) ∙ ap (λ x. changed (flag_in (states t) operation path) x c) there)
+        let n = changed (flag_in (states t) operation path) (node_at heap main) c in (
+          c,
+          knows,
+          stands n (acts _ e) (main_no_link n (changed_main (flag_in (states t) operation path) (node_at heap main) c (meets_of claim)))
+              ∙ ap (λ x. changed (flag_in (states t) operation path) x c) there,
+        )
 
   if_made : (l : BuildLine) → operation.line ≡ line.Build l → KnowsBuild K operation.call l → (o : Option Ref) → next_ref heap ≡ o → KnowsLine K operation.call (build_if_made (states t) operation l o)
   if_made l e knows None next = tt

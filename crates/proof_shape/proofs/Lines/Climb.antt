@@ -1,5 +1,6 @@
 -- A step of CLIMB, or of a swap that leads to it, hands on what the line knows of the tomb that it climbs from.
-use Rattle.std.proofs.Common.{◌≡◌, ℕ, zero, suc, ◌<◌, ◌==◌, nat_lt, Bool, true, false, cond, List, ◌∷◌, length, slice_index_or, slice_set, Option, Some, None, refl, sym, ◌∙◌, ap, ap₂, subst, arith, eqb-true, ltb-true, ltb-false, []}
+use Rattle.std.proofs.Common.{◌≡◌, ℕ, zero, suc, ◌<◌, ◌==◌, nat_lt, Bool, true, false, cond, List, ◌∷◌, length, slice_index_or, slice_set, Option, Some, None, refl, sym, ◌∙◌, ap}
+use Rattle.std.proofs.Common.{ap₂, subst, arith, eqb-true, ltb-true, ltb-false, []}
 use Rattle.std.proofs.lemmas.Bool.{and_parts}
 use Rattle.std.proofs.lemmas.List.{get_or_past}
 use Rattle.proof_shape.specs.Beneath.ctrie_base.specs.Paths.{position_of}
@@ -26,7 +27,8 @@ use Rattle.proof_shape.specs.Beneath.machine_model.specs.States.{State, word_at}
 use Rattle.proof_shape.specs.Beneath.machine_model.specs.Paths.{current, above, is_below_root, flag_in, is_start}
 use Rattle.proof_shape.specs.Beneath.machine_model.specs.Reading.{read_step, reading}
 use Rattle.proof_shape.specs.Beneath.machine_model.specs.Swapping.{root_after}
-use Rattle.proof_shape.specs.Beneath.machine_model.specs.Climbing.{climbing, climbed, higher, place_in, climbed_node, holds_it, climb_after, climb_after_read, climb_after_main, climb_after_contracted, climb_after_root}
+use Rattle.proof_shape.specs.Beneath.machine_model.specs.Climbing.{climbing, climbed, higher, place_in, climbed_node, holds_it, climb_after, climb_after_read, climb_after_main}
+use Rattle.proof_shape.specs.Beneath.machine_model.specs.Climbing.{climb_after_contracted, climb_after_root}
 use Rattle.proof_shape.specs.Beneath.machine_model.specs.Operations.{line_action}
 use Rattle.proof_shape.specs.Beneath.machine_model.specs.Grown.{grown, node_under}
 use Rattle.proof_shape.specs.Beneath.machine_model.specs.Times.{IsRun}
@@ -44,10 +46,11 @@ use Rattle.proof_shape.specs.Lines.Given.{Was}
 use Rattle.proof_shape.specs.Lines.Climbing.{WasTombed, HoldsIt, KnowsClimb, KnowsClimbing}
 use Rattle.proof_shape.specs.Lines.Knowing.{first_main}
 use Rattle.proof_shape.proofs.Runs.EachAt.{GoesAt}
-use Rattle.proof_shape.proofs.Runs.Nodes.{known_run, made_node}
+use Rattle.proof_shape.proofs.Runs.Nodes.{made_node}
 use Rattle.proof_shape.proofs.Runs.Seen.{main_seen}
 use Rattle.proof_shape.proofs.Lines.Key.{claims}
-use Rattle.proof_shape.proofs.Commits.Was.{was_given, given_link}
+use Rattle.proof_shape.proofs.Commits.Was.{was_given, given_link, was_later}
+use Rattle.proof_shape.specs.Beneath.proof_commits.proofs.Known.Acts.{known_run}
 
 -- ---- a climb goes on or is over
 
@@ -91,9 +94,6 @@ module _ (limits : Limits) (states : ℕ → State) (last : ℕ) (run : IsRun li
   abbrev W : Ref → Ref → Type 0
   W = Was states last (suc t)
 
-  later : (i m : Ref) → Was states last t i m → Was states last (suc t) i m
-  later i m (u, le, is) = (u, omega (arith, le), is)
-
   -- the indirection at the end of a path above
   module _ (c : Climb) (main : Ref) (l : Line) (e : operation.line ≡ l) where
     -- the parent's node is a tomb, or holds the tombed indirection
@@ -106,7 +106,8 @@ module _ (limits : Limits) (states : ℕ → State) (last : ℕ) (run : IsRun li
             KnowsClimbing K W operation.call (cond b (line.Climb (climb.Contracted c main)) (climbed operation c.former))
         by_test false test = tt
         by_test true test =
-            let both = and_parts (has_flag bitmap (flag_in (states t) operation (above c.path))) (slice_index_or entries.items (place_in (states t) operation c main) no_ref == current c.path) test in (
+            let both = and_parts (has_flag bitmap (flag_in (states t) operation (above c.path)))
+            (slice_index_or entries.items (place_in (states t) operation c main) no_ref == current c.path) test in (
               tombed,
               record {
                 bitmap = bitmap;
@@ -156,7 +157,7 @@ module _ (limits : Limits) (states : ℕ → State) (last : ℕ) (run : IsRun li
   pub tombed_given : (i m single : Ref) → Given (words_of states last (known_run limits states last run).closing) t actor i m → node_under states last m ≡ Tomb single → WasTombed K W i single
   tombed_given i m single given is =
       let link = given_link limits states last run t (omega arith) actor i m given in
-      record { generation = link.0; word = link.1; link = link.2; tomb = m; was = later i m (was_given limits states last run t (omega arith) actor i m given); is = is }
+      record { generation = link.0; word = link.1; link = link.2; tomb = m; was = was_later states last t i m (was_given limits states last run t (omega arith) actor i m given); is = is }
 
   read_knows : (c : Climb) → WasTombed K W (current c.path) c.single → (out : After Read Ref) → KnowsClimbing K W operation.call (climb_after_read c out)
   read_knows c tombed (Goes r) = tombed
@@ -165,7 +166,7 @@ module _ (limits : Limits) (states : ℕ → State) (last : ℕ) (run : IsRun li
   -- ---- CLIMB
 
   tombed_later : (i single : Ref) → WasTombed K (Was states last t) i single → WasTombed K W i single
-  tombed_later i single x = record { generation = x.generation; word = x.word; link = x.link; tomb = x.tomb; was = later i x.tomb x.was; is = x.is }
+  tombed_later i single x = record { generation = x.generation; word = x.word; link = x.link; tomb = x.tomb; was = was_later states last t i x.tomb x.was; is = x.is }
 
   pub climb_knows : (l : ClimbLine) → operation.line ≡ line.Climb l → KnowsClimb K (Was states last t) operation.call l → KnowsClimbing K W operation.call (climb_after (states t) operation l)
   climb_knows (climb.Read c read) e tombed = read_knows c (tombed_later _ _ tombed) (read_step (states t) operation read)

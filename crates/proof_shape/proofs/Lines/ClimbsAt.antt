@@ -44,13 +44,13 @@ use Rattle.proof_shape.specs.Lines.Given.{Was}
 use Rattle.proof_shape.specs.Lines.Climbing.{WasTombed, KnowsClimbing}
 use Rattle.proof_shape.specs.Lines.Knowing.{known_with, first_main, SwapsAt, IsPlaced, ClimbsAt}
 use Rattle.proof_shape.proofs.Runs.EachAt.{GoesAt, each_at}
-use Rattle.proof_shape.proofs.Runs.Nodes.{known_run}
 use Rattle.proof_shape.proofs.Lines.Places.{places_at}
 use Rattle.proof_shape.proofs.Runs.Seen.{main_seen}
 use Rattle.proof_shape.proofs.Lines.Key.{same_known, claims}
 use Rattle.proof_shape.proofs.Commits.Was.{link_in_end, was_committed}
 use Rattle.proof_shape.proofs.Lines.Climb.{climbing_knows, contracted_single, position_within, climb_knows}
 use Rattle.proof_shape.proofs.Lines.Grounded.{grounded_knows, first_grounded, root_grounded, key_grounded, build_grounded, renew_grounded, clean_grounded, copy_grounded, walk_grounded, climbing_later}
+use Rattle.proof_shape.specs.Beneath.proof_commits.proofs.Known.Acts.{known_run}
 
 -- ---- a SWAP
 
@@ -114,7 +114,8 @@ module _ (limits : Limits) (states : ℕ → State) (last : ℕ) (run : IsRun li
       place = (subst (λ x. IsPlaced operation.generation x) e (places_at limits states last run t (omega arith) actor operation go.runs)).1
 
       -- a removal that left a tomb climbs from it, and so does a climb that did
-      succeeds_by : (w : Purpose) → SwapsAt w i → KnowsClimbing K W operation.call (line.Swap w (record { indirection = i; replaced = a; fresh = f; line = swap.Check })) → (n : Node) → node_at heap f ≡ n →
+      succeeds_by : (w : Purpose) → SwapsAt w i →
+          KnowsClimbing K W operation.call (line.Swap w (record { indirection = i; replaced = a; fresh = f; line = swap.Check })) → (n : Node) → node_at heap f ≡ n →
           KnowsClimbing K W operation.call (swapped operation n w true)
       succeeds_by (purpose.Update path former) at knows (Tomb single) is =
           climbing_knows K W operation (record { path = path; single = single; former = former }) (subst (λ j. WasTombed K W j single) at (tomb_stands single is))
@@ -141,23 +142,28 @@ module _ (limits : Limits) (states : ℕ → State) (last : ℕ) (run : IsRun li
     Knows l = KnowsClimbing K W operation.call l
 
     publish_knows : Knows (line.Swap why (record { indirection = i; replaced = a; fresh = f; line = swap.Publish })) → (b : Bool) →
-        Knows (after_swap (states t) operation why (record { indirection = i; replaced = a; fresh = f; line = swap.Publish }) (on_line (record { indirection = i; replaced = a; fresh = f; line = swap.Publish }) (after_publish f b)))
+        Knows (after_swap (states t) operation why (record { indirection = i; replaced = a; fresh = f; line = swap.Publish })
+        (on_line (record { indirection = i; replaced = a; fresh = f; line = swap.Publish }) (after_publish f b)))
     publish_knows knows true = swap_stays K W operation.call why (s_at swap.Publish) _ knows
     publish_knows knows false = fails_knows K W operation (node_at heap f) why (s_at swap.Publish) knows
 
     decide_knows : (l : ReadLine) → Knows (line.Swap why (record { indirection = i; replaced = a; fresh = f; line = swap.Deciding l })) → (out : After ReadLine Ref) →
-        Knows (after_swap (states t) operation why (record { indirection = i; replaced = a; fresh = f; line = swap.Deciding l }) (on_line (record { indirection = i; replaced = a; fresh = f; line = swap.Deciding l }) (after_deciding out)))
+        Knows (after_swap (states t) operation why (record { indirection = i; replaced = a; fresh = f; line = swap.Deciding l })
+        (on_line (record { indirection = i; replaced = a; fresh = f; line = swap.Deciding l }) (after_deciding out)))
     decide_knows l knows (Goes next) = swap_stays K W operation.call why (s_at (swap.Deciding l)) (swap.Deciding next) knows
     decide_knows l knows (Gives m) = swap_stays K W operation.call why (s_at (swap.Deciding l)) swap.Check knows
 
-    check_knows : operation.line ≡ line.Swap why (record { indirection = i; replaced = a; fresh = f; line = swap.Check }) → Knows (line.Swap why (record { indirection = i; replaced = a; fresh = f; line = swap.Check })) →
+    check_knows : operation.line ≡ line.Swap why (record { indirection = i; replaced = a; fresh = f; line = swap.Check }) →
+        Knows (line.Swap why (record { indirection = i; replaced = a; fresh = f; line = swap.Check })) →
         (v : Prev) → prev_at heap f ≡ v →
-        Knows (after_swap (states t) operation why (record { indirection = i; replaced = a; fresh = f; line = swap.Check }) (on_line (record { indirection = i; replaced = a; fresh = f; line = swap.Check }) (after_check v)))
+        Knows (after_swap (states t) operation why (record { indirection = i; replaced = a; fresh = f; line = swap.Check })
+        (on_line (record { indirection = i; replaced = a; fresh = f; line = swap.Check }) (after_check v)))
     check_knows e knows over.None is = succeeds_by e is why (place e is) knows (node_at heap f) refl
     check_knows e knows (over.Pending q) is = fails_knows K W operation (node_at heap f) why (s_at swap.Check) knows
     check_knows e knows (over.Failed q) is = fails_knows K W operation (node_at heap f) why (s_at swap.Check) knows
 
-    swap_knows : (l : SwapLine) → operation.line ≡ line.Swap why (record { indirection = i; replaced = a; fresh = f; line = l }) → Knows (line.Swap why (record { indirection = i; replaced = a; fresh = f; line = l })) →
+    swap_knows : (l : SwapLine) → operation.line ≡ line.Swap why (record { indirection = i; replaced = a; fresh = f; line = l }) →
+        Knows (line.Swap why (record { indirection = i; replaced = a; fresh = f; line = l })) →
         Knows (line_after (states t) operation (line.Swap why (record { indirection = i; replaced = a; fresh = f; line = l })))
     swap_knows swap.Publish e knows = publish_knows knows (main_at heap i == a)
     swap_knows (swap.Deciding l) e knows = decide_knows l knows (read_after heap operation.access (word_at (states t) (handle_of operation.call)) i l)

@@ -69,10 +69,12 @@ key_read_grounded state operation path r = grind arith
 pub key_main_grounded : (state : State) (operation : Operation) (path : List Ref) (main : Ref) (node : Node) → is_grounded (key_after_main state operation path main node) ≡ true
 key_main_grounded state operation path main node = grind arith
 
-pub key_entry_grounded : (state : State) (operation : Operation) (path : List Ref) (main : Ref) (position : ℕ) (node : Node) → is_grounded (key_after_entry state operation path main position node) ≡ true
+pub key_entry_grounded : (state : State) (operation : Operation) (path : List Ref) (main : Ref) (position : ℕ) (node : Node) →
+    is_grounded (key_after_entry state operation path main position node) ≡ true
 key_entry_grounded state operation path main position node = grind arith
 
-pub key_listed_grounded : (state : State) (operation : Operation) (path : List Ref) (main : Ref) (position : ℕ) (node : Node) → is_grounded (after_listed state operation path main position node) ≡ true
+pub key_listed_grounded : (state : State) (operation : Operation) (path : List Ref) (main : Ref) (position : ℕ) (node : Node) →
+    is_grounded (after_listed state operation path main position node) ≡ true
 key_listed_grounded state operation path main position node = grind arith
 
 pub key_sibling_grounded : (path : List Ref) (main : Ref) (position former : ℕ) (other : Ref) (node : Node) → is_grounded (after_sibling path main position former other node) ≡ true

@@ -79,7 +79,8 @@ module _ (limits : Limits) (states : ℕ → State) (last : ℕ) (run : IsRun li
         subst (λ (p : Ref × ℕ). SeesSingle (states t) operation node first p.0 p.1) (same_Some _ _ is)
         (λ k v s. single_seen limits states last run t (omega arith) (entry_at heap m (1 - q)) (looks _ e (entry_at heap m (1 - q)) refl) k v s)
 
-    pub key_step : KnowsKey (known_with limits states last (first_main states last)) operation.call l → KnowsLine (known_with limits states last (first_main states last)) operation.call (key_after (states t) operation l)
+    pub key_step : KnowsKey (known_with limits states last (first_main states last)) operation.call l →
+        KnowsLine (known_with limits states last (first_main states last)) operation.call (key_after (states t) operation l)
     key_step knows =
         subst (λ (k : Known). KnowsLine k operation.call (key_after (states t) operation l)) same_known
         (key_knows (states t) operation node first l only_gets (sees_by l e) (single_by l e) (subst (λ (k : Known). KnowsKey k operation.call l) (sym same_known) knows))

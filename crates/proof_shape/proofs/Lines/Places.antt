@@ -18,8 +18,10 @@ use Rattle.proof_shape.specs.Beneath.machine_model.specs.Operations.{first_line,
 use Rattle.proof_shape.specs.Beneath.machine_model.specs.Times.{IsRun}
 use Rattle.proof_shape.specs.Lines.Knowing.{OfEachAt, IsPlaced, PlacesAt}
 use Rattle.proof_shape.proofs.Runs.EachAt.{each_at}
-use Rattle.proof_shape.proofs.Lines.Placed.{is_keyed, is_copy, is_below, is_down, is_copying, is_walking, key_down, build_down, swap_down, renew_down, clean_down, climb_down, copy_copying, walk_walking}
+use Rattle.proof_shape.proofs.Lines.Placed.{is_keyed, is_copy, is_below, is_down, is_copying, is_walking, key_down, build_down, swap_down, renew_down, clean_down, climb_down}
+use Rattle.proof_shape.proofs.Lines.Placed.{copy_copying, walk_walking}
 use Rattle.proof_shape.proofs.Lines.Swap.{SwapPlace, is_swap, no_place, line_places}
+use Rattle.proof_shape.specs.Beneath.machine_model.proofs.Basics.{or_first, or_second}
 
 -- ---- calls and lines
 
@@ -35,16 +37,8 @@ FitsCall call (line.Climb l) = is_keyed call ≡ true
 FitsCall call (line.Copy l) = is_copy call ≡ true
 FitsCall call l = Unit {0}
 
-either_true : (a b : Bool) → a ≡ true → (a || b) ≡ true
-either_true true b e = refl
-either_true false b e = absurd (true≢false (sym e))
-
-or_true : (a b : Bool) → b ≡ true → (a || b) ≡ true
-or_true true b e = refl
-or_true false b e = e
-
 down_fits : (call : Call) (l : Line) → is_keyed call ≡ true → is_down l ≡ true → FitsCall call l
-down_fits call (line.Root l) k d = either_true (is_keyed call) (is_copy call) k
+down_fits call (line.Root l) k d = or_first (is_keyed call) (is_copy call) k
 down_fits call (line.Key l) k d = k
 down_fits call (line.Build l) k d = k
 down_fits call (line.Swap why s) k d = k
@@ -57,7 +51,7 @@ down_fits call (line.End answer) k d = tt
 down_fits call line.Impossible k d = tt
 
 copying_fits : (call : Call) (l : Line) → is_copy call ≡ true → is_copying l ≡ true → FitsCall call l
-copying_fits call (line.Root l) k d = or_true (is_keyed call) (is_copy call) k
+copying_fits call (line.Root l) k d = or_second (is_keyed call) (is_copy call) k
 copying_fits call (line.Copy l) k d = k
 copying_fits call (line.End answer) k d = tt
 copying_fits call line.Impossible k d = tt

@@ -38,18 +38,20 @@ use Rattle.proof_shape.specs.Beneath.proof_commits.specs.Stages.{stage_of}
 use Rattle.proof_shape.specs.Beneath.proof_commits.proofs.Words.Along.{protocol}
 use Rattle.proof_shape.specs.Beneath.proof_contents.specs.Lines.Changes.{KnowsKey}
 use Rattle.proof_shape.specs.Beneath.proof_contents.specs.Lines.Repairs.{KnowsRenew, KnowsClean, KnowsRepair, ReadsBelow}
-use Rattle.proof_shape.specs.Beneath.proof_contents.proofs.Lines.Repair.{renew_starts, clean_starts, renew_entry_knows, renew_read_knows, renew_link_knows, renew_branch_knows, clean_entry_knows, clean_child_knows, clean_tomb_knows, clean_contracted_knows, read_stays}
+use Rattle.proof_shape.specs.Beneath.proof_contents.proofs.Lines.Repair.{renew_starts, clean_starts, renew_entry_knows, renew_read_knows, renew_link_knows, renew_branch_knows}
+use Rattle.proof_shape.specs.Beneath.proof_contents.proofs.Lines.Repair.{clean_entry_knows, clean_child_knows, clean_tomb_knows, clean_contracted_knows, read_stays}
 use Rattle.proof_shape.specs.Beneath.proof_memory.proofs.Claims.Nodes.{IsNoLink, branch_main}
 use Rattle.proof_shape.specs.Beneath.proof_memory.proofs.Lines.Next.{contracted_no_link}
 use Rattle.proof_shape.specs.Beneath.proof_commits.proofs.Course.OfLists.{given_read}
 use Rattle.proof_shape.specs.Lines.Given.{GaveBelow}
 use Rattle.proof_shape.specs.Lines.Knowing.{known_with, first_main}
 use Rattle.proof_shape.proofs.Runs.EachAt.{GoesAt}
-use Rattle.proof_shape.proofs.Runs.Nodes.{known_run, link_known, made_node, made_link, first_is}
+use Rattle.proof_shape.proofs.Runs.Nodes.{link_known, made_node, made_link, first_is}
 use Rattle.proof_shape.proofs.Runs.Began.{gave_now}
 use Rattle.proof_shape.proofs.Runs.Seen.{main_seen}
 use Rattle.proof_shape.proofs.Lines.Key.{claims, looks}
 use Rattle.proof_shape.proofs.Lines.RepairMore.{is_unrepairing, unrepairing_knows}
+use Rattle.proof_shape.specs.Beneath.proof_commits.proofs.Known.Acts.{known_run}
 
 -- ---- KEY's lines but one lead to no repair
 
@@ -83,7 +85,8 @@ module _ (limits : Limits) (states : ℕ → State) (last : ℕ) (run : IsRun li
   abbrev first : Ref → Ref
   first = first_main states last
 
-  link_at : (l : Line) → operation.line ≡ l → (r : Ref) → line_action (states t) operation l ≡ act.Look r → (g : ℕ) (w : Ref) → node_at heap r ≡ Indirection g w → (m : Ref) × (node r ≡ Indirection g m)
+  link_at : (l : Line) → operation.line ≡ l → (r : Ref) → line_action (states t) operation l ≡ act.Look r → (g : ℕ) (w : Ref) → node_at heap r ≡ Indirection g w →
+      (m : Ref) × (node r ≡ Indirection g m)
   link_at l e r a g w is = link_known limits states last run t (omega arith) r (looks limits states last run t h actor operation go l e r a) g w is
 
   module _ (start : ℕ) (begun : operation.generation ≡ Some start) where
@@ -151,7 +154,8 @@ module _ (limits : Limits) (states : ℕ → State) (last : ℕ) (run : IsRun li
     branch_there : (main : Ref) (l : Line) → operation.line ≡ l → Holds (IsInUse heap) heap (Is main ABranch) → node_at heap main ≡ node main
     branch_there main l e claim = main_seen limits states last run t (omega arith) main ABranch branch_main claim
 
-    pub renew_repairs : (l : RenewLine) → operation.line ≡ line.Renew l → KnowsRenew (node_under states last) (first_main states last) (GaveBelow states last (suc t) actor operation.id start) start l →
+    pub renew_repairs : (l : RenewLine) → operation.line ≡ line.Renew l →
+        KnowsRenew (node_under states last) (first_main states last) (GaveBelow states last (suc t) actor operation.id start) start l →
         KnowsRepair (node_under states last) (first_main states last) (GaveBelow states last (suc t) actor operation.id start) start (renew_after (states t) operation l)
     renew_repairs (renew.Entry path main done) e knows =
         let claim = (claims limits states last run t h actor operation go _ e).1.1.0 in
@@ -184,7 +188,8 @@ module _ (limits : Limits) (states : ℕ → State) (last : ℕ) (run : IsRun li
 
     -- ---- CLEAN
 
-    pub clean_repairs : (l : CleanLine) → operation.line ≡ line.Clean l → KnowsClean (node_under states last) (first_main states last) (GaveBelow states last (suc t) actor operation.id start) start l →
+    pub clean_repairs : (l : CleanLine) → operation.line ≡ line.Clean l →
+        KnowsClean (node_under states last) (first_main states last) (GaveBelow states last (suc t) actor operation.id start) start l →
         KnowsRepair (node_under states last) (first_main states last) (GaveBelow states last (suc t) actor operation.id start) start (clean_after (states t) operation l)
     clean_repairs (clean.Read path read) e knows = by_out (read_step (states t) operation read)
       where

@@ -35,8 +35,10 @@ module _ (node : Ref → Node) (first : Ref → Ref) (G H : Ref → Ref → Type
 
   renew_more : (l : RenewLine) → KnowsRenew node first G start l → KnowsRenew node first H start l
   renew_more (renew.Entry path main done) k = some_more main done (λ next. Unit {0}) (λ next. Unit {0}) (λ r n. n) k
-  renew_more (renew.Read path main done read) k = some_more main done (λ next. (read.indirection ≡ next) × IsOlder node start next) (λ next. (read.indirection ≡ next) × IsOlder node start next) (λ r n. n) k
-  renew_more (renew.Link path main done child) k = some_more main done (λ next. G next child × IsOlder node start next) (λ next. H next child × IsOlder node start next) (λ r n. (more r child n.0, n.1)) k
+  renew_more (renew.Read path main done read) k =
+      some_more main done (λ next. (read.indirection ≡ next) × IsOlder node start next) (λ next. (read.indirection ≡ next) × IsOlder node start next) (λ r n. n) k
+  renew_more (renew.Link path main done child) k =
+      some_more main done (λ next. G next child × IsOlder node start next) (λ next. H next child × IsOlder node start next) (λ r n. (more r child n.0, n.1)) k
   renew_more (renew.Branch path main done) k = all_more main done k
 
   clean_more : (l : CleanLine) → KnowsClean node first G start l → KnowsClean node first H start l

@@ -101,7 +101,8 @@ module _ (limits : Limits) (states : ℕ → State) (last : ℕ) (run : IsRun li
 
   repairs_later : (t actor id start : ℕ) (l : Line) → Repairs t actor id start l → Repairs (suc t) actor id start l
   repairs_later t actor id start l k =
-      repair_more (node_under states last) (first_main states last) (GaveBelow states last t actor id start) (GaveBelow states last (suc t) actor id start) (gave_below_later states last t actor id start) start l k
+      repair_more (node_under states last) (first_main states last) (GaveBelow states last t actor id start) (GaveBelow states last (suc t) actor id start)
+      (gave_below_later states last t actor id start) start l k
 
   not_repairing : (t actor id start : ℕ) (l : Line) → is_unrepairing l ≡ true → Repairs t actor id start l
   not_repairing t actor id start l e = unrepairing_knows (node_under states last) (first_main states last) (GaveBelow states last t actor id start) start l e

@@ -105,7 +105,8 @@ build_places state operation (build.Main path main c former) (Some made) = refl
 swapped_no_swap : (operation : Operation) (node : Node) (why : Purpose) (b : Bool) → is_swap (swapped operation node why b) ≡ false
 swapped_no_swap operation node why b = grind arith
 
-after_swap_places : (state : State) (operation : Operation) (why : Purpose) (s : Swap) → SwapsAt why s.indirection → (out : After SwapLine Bool) → SwapPlace (after_swap state operation why s (on_line s out))
+after_swap_places : (state : State) (operation : Operation) (why : Purpose) (s : Swap) → SwapsAt why s.indirection → (out : After SwapLine Bool) →
+    SwapPlace (after_swap state operation why s (on_line s out))
 after_swap_places state operation why s at (Goes l) = at
 after_swap_places state operation why s at (Gives done) = no_place _ (swapped_no_swap operation (node_at state.heap s.fresh) why done)
 
@@ -125,7 +126,8 @@ renew_places state operation (renew.Read path main done r) = no_place _ (read_no
     read_no_swap state operation path main done r = grind arith
 renew_places state operation (renew.Link path main done child) = no_place _ (link_no_swap state operation path main done child)
   where
-    link_no_swap : (state : State) (operation : Operation) (path : List Ref) (main : Ref) (done : List Ref) (child : Ref) → is_swap (renew_after state operation (renew.Link path main done child)) ≡ false
+    link_no_swap : (state : State) (operation : Operation) (path : List Ref) (main : Ref) (done : List Ref) (child : Ref) →
+        is_swap (renew_after state operation (renew.Link path main done child)) ≡ false
     link_no_swap state operation path main done child = grind arith
 
 -- CLEAN swaps wherever it is

@@ -43,15 +43,16 @@ use Rattle.proof_shape.specs.Beneath.proof_commits.specs.Stages.{stage_of, stage
 use Rattle.proof_shape.specs.Beneath.proof_commits.specs.Words.{words_of}
 use Rattle.proof_shape.specs.Beneath.proof_commits.proofs.Known.Owners.{given_later}
 use Rattle.proof_shape.specs.Beneath.proof_commits.proofs.Words.Along.{protocol, remembers_at}
-use Rattle.proof_shape.specs.Beneath.proof_contents.specs.Runs.{main_at}
+use Rattle.proof_shape.specs.Beneath.proof_contents.specs.Runs.{counting_main}
 use Rattle.proof_shape.specs.Lines.Knowing.{OfEachAt}
 use Rattle.proof_shape.specs.Lines.Commits.{MainStep, stays, changes, made_with}
 use Rattle.proof_shape.proofs.Runs.EachAt.{GoesAt, each_at}
-use Rattle.proof_shape.proofs.Runs.Nodes.{known_run, node_known}
+use Rattle.proof_shape.proofs.Runs.Nodes.{node_known}
 use Rattle.proof_shape.proofs.Opened.Lines.{Opens}
 use Rattle.proof_shape.proofs.Opened.Later.{opens_more}
 use Rattle.proof_shape.proofs.Opened.Repair.{line_opens}
 use Rattle.proof_shape.proofs.Commits.At.{commits_at}
+use Rattle.proof_shape.specs.Beneath.proof_commits.proofs.Known.Acts.{known_run}
 
 -- ---- who reads an indirection may
 
@@ -143,7 +144,8 @@ module _ (limits : Limits) (states : ℕ → State) (last : ℕ) (run : IsRun li
   first_opens : (O : Ref → Type 0) (call : Call) → Opens O (first_line call)
   first_opens O call = grind arith
 
-  goes_opens : (t : ℕ) → t < last → (actor : ℕ) (operation : Operation) → GoesAt states t actor operation → Opens (IsOpen t) operation.line → Opens (IsOpen (suc t)) (operation_after (states t) operation).line
+  goes_opens : (t : ℕ) → t < last → (actor : ℕ) (operation : Operation) → GoesAt states t actor operation → Opens (IsOpen t) operation.line →
+      Opens (IsOpen (suc t)) (operation_after (states t) operation).line
   goes_opens t h actor operation go o =
       line_opens limits.hash (states t) operation (IsOpen (suc t)) (λ i m. Given w t actor i m)
       (λ i m given used position within. named actor i m (given_later given) (named_by m used position within))
@@ -186,19 +188,19 @@ module _ (limits : Limits) (states : ℕ → State) (last : ℕ) (run : IsRun li
 
   -- ---- so what may not be read keeps its main node
 
-  pub closed_keeps : (t : ℕ) → t < last → (j : Ref) → (IsOpen t j → ⊥) → main_at states last (suc t) j ≡ main_at states last t j
+  pub closed_keeps : (t : ℕ) → t < last → (j : Ref) → (IsOpen t j → ⊥) → counting_main states last (suc t) j ≡ counting_main states last t j
   closed_keeps t h j closed = by_turn (states (suc t)) (run.turn t h) refl
     where
-      by_step : (s : Step) → MainStep limits states last (made_with states last) t s → main_at states last (suc t) j ≡ main_at states last t j
+      by_step : (s : Step) → MainStep limits states last (made_with states last) t s → counting_main states last (suc t) j ≡ counting_main states last t j
       by_step s (stays none all) = all j
       by_step s (changes own) = by_place (cases_eq j own.indirection)
         where
-          by_place : (j ≡ own.indirection) ⊎ (j ≡ own.indirection → ⊥) → main_at states last (suc t) j ≡ main_at states last t j
+          by_place : (j ≡ own.indirection) ⊎ (j ≡ own.indirection → ⊥) → counting_main states last (suc t) j ≡ counting_main states last t j
           by_place (inl same) =
               let kept = subst (λ l. Remembers (λ i m. Given w t own.actor i m) (own.owner.access ≡ Writable) l) own.swaps
               (remembers_at limits states last (known_run limits states last run) t (omega arith) own.actor own.owner own.runs) in
               absurd (closed (subst (IsOpen t) (sym same) (given_is_open t (omega arith) own.actor own.indirection own.replaced kept.1)))
           by_place (inr apart) = own.others j apart
 
-      by_turn : (after : State) → Turn (states t) after → after ≡ states (suc t) → main_at states last (suc t) j ≡ main_at states last t j
+      by_turn : (after : State) → Turn (states t) after → after ≡ states (suc t) → counting_main states last (suc t) j ≡ counting_main states last t j
       by_turn after (turns s o m) e = by_step s (commits_at limits states last run t h s o (subst (λ x. Moves (states t) s o x) e m))

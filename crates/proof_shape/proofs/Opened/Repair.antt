@@ -52,7 +52,8 @@ module _ (kind : HashKind) (state : State) (operation : Operation) (O : Ref → 
 
   -- ---- CLEAN
 
-  clean_read_opens : (path : List Ref) (r : Read) → All O path → O r.indirection → (out : After Read Ref) → ((q : Read) → out ≡ Goes q → q.indirection ≡ r.indirection) → Opens O (clean_after_read path out)
+  clean_read_opens : (path : List Ref) (r : Read) → All O path → O r.indirection → (out : After Read Ref) →
+      ((q : Read) → out ≡ Goes q → q.indirection ≡ r.indirection) → Opens O (clean_after_read path out)
   clean_read_opens path r all o (Goes q) same = (all, subst O (sym (same q refl)) o)
   clean_read_opens path r all o (Gives main) same = all
 
@@ -129,7 +130,8 @@ module _ (kind : HashKind) (state : State) (operation : Operation) (O : Ref → 
 
   -- ---- all lines
 
-  pub line_opens : (l : Line) → AllHold (IsInUse state.heap) state.heap (line_wants kind operation.call operation.access l) → Remembers G (operation.access ≡ Writable) l → Opens O l → Opens O (line_after state operation l)
+  pub line_opens : (l : Line) → AllHold (IsInUse state.heap) state.heap (line_wants kind operation.call operation.access l) →
+      Remembers G (operation.access ≡ Writable) l → Opens O l → Opens O (line_after state operation l)
   line_opens (line.Root l) c g o = root_opens kind state operation O G entry_opens word_opens l o
   line_opens (line.Key l) c g o = key_opens kind state operation O G entry_opens word_opens l c g o
   line_opens (line.Build l) c g o = build_opens kind state operation O G entry_opens word_opens l o

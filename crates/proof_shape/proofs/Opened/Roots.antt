@@ -56,7 +56,8 @@ module _ (kind : HashKind) (state : State) (operation : Operation) (O : Ref → 
 
   -- ---- ROOT
 
-  complete_stays : (c : Complete) (out : After CompleteLine Bool) → O c.offer.root → (after : After RootLine Ref) → after ≡ after_completing (of_offer c.offer out) → ((l : RootLine) → after ≡ Goes l → RootOpens O l)
+  complete_stays : (c : Complete) (out : After CompleteLine Bool) → O c.offer.root → (after : After RootLine Ref) →
+      after ≡ after_completing (of_offer c.offer out) → ((l : RootLine) → after ≡ Goes l → RootOpens O l)
   complete_stays c (Goes l) o after e root.Read is = tt
   complete_stays c (Goes l) o after e (root.Completing d) is =
       let same : Goes (root.Completing (record { offer = c.offer; line = l })) ≡ Goes (root.Completing d) = sym e ∙ is in

@@ -36,7 +36,8 @@ use Rattle.proof_shape.specs.Beneath.machine_model.specs.Paths.{current, above, 
 use Rattle.proof_shape.specs.Beneath.machine_model.specs.States.{State, word_at, root_of}
 use Rattle.proof_shape.specs.Beneath.machine_model.specs.Reading.{read_step, reading}
 use Rattle.proof_shape.specs.Beneath.machine_model.specs.Swapping.{on_line}
-use Rattle.proof_shape.specs.Beneath.machine_model.specs.Finding.{going_down, is_passable, key_after, key_after_read, key_after_main, after_tomb, key_after_entry, after_listed, after_sibling, found, absent_listed}
+use Rattle.proof_shape.specs.Beneath.machine_model.specs.Finding.{going_down, is_passable, key_after, key_after_read, key_after_main, after_tomb, key_after_entry, after_listed}
+use Rattle.proof_shape.specs.Beneath.machine_model.specs.Finding.{after_sibling, found, absent_listed}
 use Rattle.proof_shape.specs.Beneath.machine_model.specs.Building.{build_after, build_if_made}
 use Rattle.proof_shape.specs.Beneath.machine_model.specs.Renewing.{next_entry, renew_next, renew_after, renew_after_entry, renew_after_read, renew_after_link, renew_after_branch}
 use Rattle.proof_shape.specs.Beneath.machine_model.specs.Cleaning.{clean_next}
@@ -101,7 +102,8 @@ module _ (kind : HashKind) (state : State) (operation : Operation) (O : Ref → 
 
   -- ---- KEY and BUILD
 
-  key_read_opens : (path : List Ref) (r : Read) → KeyOpens O (key.Read path r) → (out : After Read Ref) → ((q : Read) → out ≡ Goes q → q.indirection ≡ r.indirection) → Opens O (key_after_read path out)
+  key_read_opens : (path : List Ref) (r : Read) → KeyOpens O (key.Read path r) → (out : After Read Ref) →
+      ((q : Read) → out ≡ Goes q → q.indirection ≡ r.indirection) → Opens O (key_after_read path out)
   key_read_opens path r all (Goes q) same = (all.0, subst O (sym (same q refl)) all.1)
   key_read_opens path r all (Gives main) same = all.0
 
@@ -142,7 +144,8 @@ module _ (kind : HashKind) (state : State) (operation : Operation) (O : Ref → 
   build_single_on : (path : List Ref) (main : Ref) (s : Site) (former : Option ℕ) (o : Option Ref) → OnPath O path (build_if_made state operation (build.Single path main s former) o)
   build_single_on path main s former o = grind arith
 
-  build_pair_on : (path : List Ref) (main : Ref) (position : ℕ) (single : Ref) (depth : ℕ) (o : Option Ref) → OnPath O path (build_if_made state operation (build.Pair path main position single depth) o)
+  build_pair_on : (path : List Ref) (main : Ref) (position : ℕ) (single : Ref) (depth : ℕ) (o : Option Ref) →
+      OnPath O path (build_if_made state operation (build.Pair path main position single depth) o)
   build_pair_on path main position single depth o = grind arith
 
   build_link_on : (path : List Ref) (main : Ref) (position : ℕ) (below : Ref) (depth : ℕ) (o : Option Ref) → OnPath O path (build_if_made state operation (build.Link path main position below depth) o)

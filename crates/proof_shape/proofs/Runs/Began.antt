@@ -29,12 +29,13 @@ use Rattle.proof_shape.specs.Beneath.proof_commits.proofs.Lines.Reads.{CountsTo,
 use Rattle.proof_shape.specs.Beneath.proof_commits.proofs.Lines.Turns.{line_turn}
 use Rattle.proof_shape.specs.Beneath.proof_commits.proofs.Words.Along.{line_facts, remembers_at, protocol}
 use Rattle.proof_shape.specs.Beneath.proof_commits.proofs.Course.Moments.{moment_at}
-use Rattle.proof_shape.specs.Beneath.proof_contents.proofs.Values.Runs.{main_at-made}
+use Rattle.proof_shape.specs.Beneath.proof_contents.proofs.Values.Runs.{counting_main-made}
 use Rattle.proof_shape.specs.Lines.Given.{HasBegun, at_first, later, Reading, Gave}
 use Rattle.proof_shape.specs.Lines.Knowing.{OfEachAt}
 use Rattle.proof_shape.proofs.Runs.EachAt.{GoesAt, each_at}
-use Rattle.proof_shape.proofs.Runs.Nodes.{known_run}
 use Rattle.proof_shape.specs.Beneath.proof_memory.specs.Wants.{is_indirection}
+use Rattle.proof_shape.specs.Beneath.proof_commits.proofs.Known.Acts.{known_run}
+use Rattle.proof_shape.specs.Beneath.proof_commits.proofs.Lines.Stages.{first_rests}
 
 -- what an actor runs after a step of its operation: what the step makes of it, with a mark or none
 pub record RunsAfter (state : State) (actor : ℕ) (made : Operation) : Type 0 where
@@ -83,9 +84,6 @@ reads_next w t k s after (DecidesOn {out = Gives m} turn) i x e = let wrong : �
 -- of what an operation runs
 abbrev IsReadingSince : (ℕ → State) → ℕ → ℕ → Operation → Type 0
 IsReadingSince states t actor operation = (i : Ref) (x : ReadLine) → stage_of operation.line ≡ Reads i x → Reading states t actor operation.id operation.read_at i x
-
-first_rests : (call : Call) → stage_of (first_line call) ≡ Rests
-first_rests call = grind arith
 
 -- what was read so far is so still where the READ counts from a later time
 counted : (began from t : ℕ) (before after : ReadLine) → began ≤ t → HasBegun began from before → HasBegun began (counts_at before t from) after
@@ -157,7 +155,8 @@ module _ (limits : Limits) (states : ℕ → State) (last : ℕ) (run : IsRun li
       let moment : IsMoment w i m (read_at_after (states t) operation) (moment_after (states t) operation) t =
       moment_at limits states last known t h actor operation go.o go.moves go.runs go.after i x is m gives in
       let linked : is_indirection (node_under states (suc (moment_after (states t) operation)) i) ≡ true =
-      link_stays (protocol limits states last known) i (suc (read_at_after (states t) operation)) (suc (moment_after (states t) operation)) (omega (arith, moment.from)) (omega (arith, moment.past)) moment.link in
+      link_stays (protocol limits states last known) i (suc (read_at_after (states t) operation)) (suc (moment_after (states t) operation))
+      (omega (arith, moment.from)) (omega (arith, moment.past)) moment.link in
       record {
         began = r.began;
         first = r.first;
@@ -170,7 +169,7 @@ module _ (limits : Limits) (states : ℕ → State) (last : ℕ) (run : IsRun li
         gave = record { operation = operation; runs = go.runs; same = refl; reads = is };
         gives = gives;
         is_moment = moment;
-        is = main_at-made states last (suc (moment_after (states t) operation)) i (link_made (grown states (suc (moment_after (states t) operation)) i) linked) ∙ moment.is;
+        is = counting_main-made states last (suc (moment_after (states t) operation)) i (link_made (grown states (suc (moment_after (states t) operation)) i) linked) ∙ moment.is;
       }
     where
       from_first : {began : ℕ} (y : ReadLine) → read_after (states t).heap operation.access (word_at (states t) (handle_of operation.call)) i y ≡ Gives m → began ≤ t →

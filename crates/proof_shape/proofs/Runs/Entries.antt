@@ -116,7 +116,8 @@ pair_entries kind d a b x y r c = by_depth (d == list_depth kind) c
     by_order true c = two_entries x y r c
     by_order false c = swap_sides x y r (two_entries y x r c)
 
-    by_depth : (o : Bool) → Contains (entries_of (cond o (Listed (entries_from (x ∷ y ∷ []))) (Branch (bit_or (flag_of a d) (flag_of b d)) (entries_from (by_index (index_in a d) (index_in b d) x y))))) r →
+    by_depth : (o : Bool) →
+        Contains (entries_of (cond o (Listed (entries_from (x ∷ y ∷ []))) (Branch (bit_or (flag_of a d) (flag_of b d)) (entries_from (by_index (index_in a d) (index_in b d) x y))))) r →
         (r ≡ x) ⊎ (r ≡ y)
     by_depth true c = two_entries x y r c
     by_depth false c = by_order (nat_lt (index_in a d) (index_in b d)) c

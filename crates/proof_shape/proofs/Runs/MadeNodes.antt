@@ -21,7 +21,6 @@ use Rattle.proof_shape.specs.Beneath.proof_memory.specs.Laws.{IsInUse}
 use Rattle.proof_shape.specs.Beneath.proof_memory.specs.Wants.{AnEntry, AllHold, node_wants, prev_wants, action_wants}
 use Rattle.proof_shape.specs.Beneath.proof_memory.proofs.Claims.Uses.{Meets, first_hold}
 use Rattle.proof_shape.specs.Beneath.proof_memory.proofs.Claims.Nodes.{all_in}
-use Rattle.proof_shape.specs.Beneath.proof_memory.proofs.Heap.Moves.{grown_in_use}
 use Rattle.proof_shape.specs.Beneath.proof_memory.proofs.Safety.AtEachTime.{safe_at}
 use Rattle.proof_shape.specs.Beneath.proof_memory.proofs.Safety.AtTimes.{action_at}
 use Rattle.proof_shape.specs.Beneath.proof_commits.proofs.Course.Finals.{from_time}
@@ -30,11 +29,13 @@ use Rattle.proof_shape.specs.Beneath.proof_commits.proofs.Known.StepsAt.{StepAt,
 use Rattle.proof_shape.specs.Beneath.proof_contents.specs.Runs.{is_made}
 use Rattle.proof_shape.specs.Beneath.proof_contents.proofs.Values.Runs.{made_next}
 use Rattle.proof_shape.specs.Beneath.proof_contents.proofs.Values.Started.{node_stays, indirection_stays}
-use Rattle.proof_shape.specs.Beneath.proof_commits.proofs.Words.OfRuns.{slot_kept}
 use Rattle.proof_shape.proofs.Runs.EachAt.{GoesAt}
-use Rattle.proof_shape.proofs.Runs.Nodes.{known_run, nodes_stay}
 use Rattle.proof_shape.proofs.Runs.Takers.{taker, taker_of, step_taken}
 use Rattle.proof_shape.proofs.Runs.Entries.{no_entry}
+use Rattle.proof_shape.specs.Beneath.machine_model.proofs.Grown.{grown_in_use}
+use Rattle.proof_shape.specs.Beneath.proof_commits.proofs.Known.Acts.{known_run}
+use Rattle.proof_shape.specs.Beneath.machine_model.proofs.Slots.{change_kept}
+use Rattle.proof_generations.proofs.Falling.Nodes.{nodes_stay}
 
 abbrev pub is_making : Action → Bool
 is_making (act.Make node) = true
@@ -54,15 +55,15 @@ module _ (states : ℕ → State) (t : ℕ) where
   changes_made change r c m = by_ref (cases_eq m r)
     where
       by_ref : (m ≡ r) ⊎ (m ≡ r → ⊥) → is_made states (suc t) m ≡ is_made states t m
-      by_ref (inl same) = ap (is_made states (suc t)) same ∙ ap is_some c.here ∙ slot_kept change (grown states t r) ∙ sym (ap (is_made states t) same)
+      by_ref (inl same) = ap (is_made states (suc t)) same ∙ ap is_some c.here ∙ change_kept change (grown states t r) ∙ sym (ap (is_made states t) same)
       by_ref (inr apart) = ap is_some (c.elsewhere m apart)
 
   swaps_made : (i a f : Ref) → GrownSwaps states t i a f → SameMade
   swaps_made i a f s m = by_ref (cases_eq m i) (cases_eq m f)
     where
       by_ref : (m ≡ i) ⊎ (m ≡ i → ⊥) → (m ≡ f) ⊎ (m ≡ f → ⊥) → is_made states (suc t) m ≡ is_made states t m
-      by_ref (inl same) other = ap (is_made states (suc t)) same ∙ ap is_some s.main ∙ slot_kept _ (grown states t i) ∙ sym (ap (is_made states t) same)
-      by_ref (inr apart) (inl same) = ap (is_made states (suc t)) same ∙ ap is_some s.prev ∙ slot_kept _ (grown states t f) ∙ sym (ap (is_made states t) same)
+      by_ref (inl same) other = ap (is_made states (suc t)) same ∙ ap is_some s.main ∙ change_kept _ (grown states t i) ∙ sym (ap (is_made states t) same)
+      by_ref (inr apart) (inl same) = ap (is_made states (suc t)) same ∙ ap is_some s.prev ∙ change_kept _ (grown states t f) ∙ sym (ap (is_made states t) same)
       by_ref (inr apart) (inr other) = ap is_some (s.elsewhere m apart other)
 
   either_made : (b : Bool) (A B : Type 0) → (A → SameMade) → (B → SameMade) → Either b A B → SameMade
@@ -105,13 +106,16 @@ module _ (limits : Limits) (states : ℕ → State) (last : ℕ) (run : IsRun li
       let link = indirection_stays states last (nodes_stay limits states last run) (suc t) m _ g x h takes.here refl in
       absurd (no_entry r (subst (λ n. Contains (entries_of n) r) link.1 names))
   taken_names t h m r (Branch b es) takes names =
-      subst (λ n. Contains (entries_of n) r) (node_stays states last (nodes_stay limits states last run) (suc t) m _ h takes.here (λ g x bad. let wrong : Branch b es ≡ Indirection g x = bad in cc)) names
+      subst (λ n. Contains (entries_of n) r)
+      (node_stays states last (nodes_stay limits states last run) (suc t) m _ h takes.here (λ g x bad. let wrong : Branch b es ≡ Indirection g x = bad in cc)) names
   taken_names t h m r (Single k v) takes names =
-      subst (λ n. Contains (entries_of n) r) (node_stays states last (nodes_stay limits states last run) (suc t) m _ h takes.here (λ g x bad. let wrong : Single k v ≡ Indirection g x = bad in cc)) names
+      subst (λ n. Contains (entries_of n) r)
+      (node_stays states last (nodes_stay limits states last run) (suc t) m _ h takes.here (λ g x bad. let wrong : Single k v ≡ Indirection g x = bad in cc)) names
   taken_names t h m r (Tomb s) takes names =
       subst (λ n. Contains (entries_of n) r) (node_stays states last (nodes_stay limits states last run) (suc t) m _ h takes.here (λ g x bad. let wrong : Tomb s ≡ Indirection g x = bad in cc)) names
   taken_names t h m r (Listed ss) takes names =
-      subst (λ n. Contains (entries_of n) r) (node_stays states last (nodes_stay limits states last run) (suc t) m _ h takes.here (λ g x bad. let wrong : Listed ss ≡ Indirection g x = bad in cc)) names
+      subst (λ n. Contains (entries_of n) r)
+      (node_stays states last (nodes_stay limits states last run) (suc t) m _ h takes.here (λ g x bad. let wrong : Listed ss ≡ Indirection g x = bad in cc)) names
 
   module _ (t : ℕ) (h : t < last) (actor : ℕ) (operation : Operation) (go : GoesAt states t actor operation) where
     acts : (a : Action) → action_of (states t) operation ≡ a → ActsOn states t a
@@ -169,13 +173,21 @@ module _ (limits : Limits) (states : ℕ → State) (last : ℕ) (run : IsRun li
           let link = indirection_stays states last (nodes_stay limits states last run) zero m slot g x (omega arith) (grown_in_use states zero m slot e) is in
           absurd (no_entry r (subst (λ n. Contains (entries_of n) r) link.1 names))
       slot_names slot e (Branch b es) is =
-          subst (λ n. Contains (entries_of n) r) (node_stays states last (nodes_stay limits states last run) zero m slot (omega arith) (grown_in_use states zero m slot e) (λ g x bad. let wrong : Branch b es ≡ Indirection g x = sym is ∙ bad in cc) ∙ is) names
+          subst (λ n. Contains (entries_of n) r)
+          (node_stays states last (nodes_stay limits states last run) zero m slot (omega arith) (grown_in_use states zero m slot e)
+          (λ g x bad. let wrong : Branch b es ≡ Indirection g x = sym is ∙ bad in cc) ∙ is) names
       slot_names slot e (Single k v) is =
-          subst (λ n. Contains (entries_of n) r) (node_stays states last (nodes_stay limits states last run) zero m slot (omega arith) (grown_in_use states zero m slot e) (λ g x bad. let wrong : Single k v ≡ Indirection g x = sym is ∙ bad in cc) ∙ is) names
+          subst (λ n. Contains (entries_of n) r)
+          (node_stays states last (nodes_stay limits states last run) zero m slot (omega arith) (grown_in_use states zero m slot e)
+          (λ g x bad. let wrong : Single k v ≡ Indirection g x = sym is ∙ bad in cc) ∙ is) names
       slot_names slot e (Tomb s) is =
-          subst (λ n. Contains (entries_of n) r) (node_stays states last (nodes_stay limits states last run) zero m slot (omega arith) (grown_in_use states zero m slot e) (λ g x bad. let wrong : Tomb s ≡ Indirection g x = sym is ∙ bad in cc) ∙ is) names
+          subst (λ n. Contains (entries_of n) r)
+          (node_stays states last (nodes_stay limits states last run) zero m slot (omega arith) (grown_in_use states zero m slot e)
+          (λ g x bad. let wrong : Tomb s ≡ Indirection g x = sym is ∙ bad in cc) ∙ is) names
       slot_names slot e (Listed ss) is =
-          subst (λ n. Contains (entries_of n) r) (node_stays states last (nodes_stay limits states last run) zero m slot (omega arith) (grown_in_use states zero m slot e) (λ g x bad. let wrong : Listed ss ≡ Indirection g x = sym is ∙ bad in cc) ∙ is) names
+          subst (λ n. Contains (entries_of n) r)
+          (node_stays states last (nodes_stay limits states last run) zero m slot (omega arith) (grown_in_use states zero m slot e)
+          (λ g x bad. let wrong : Listed ss ≡ Indirection g x = sym is ∙ bad in cc) ∙ is) names
 
       by_slot : (o : Option Slot) → standing (states zero).heap m ≡ o → is_some o ≡ true → is_made states zero r ≡ true
       by_slot None e made = absurd (true≢false (sym made))
@@ -209,7 +221,8 @@ module _ (limits : Limits) (states : ℕ → State) (last : ℕ) (run : IsRun li
       from_time (λ v. (m r : Ref) → is_made states v m ≡ true → Contains (entries_of (node_under states last m)) r → is_made states v r ≡ true) zero last made_first
       (λ v low within so_far m r made names. by_made v within so_far m r made names (is_made states v m) refl) t (omega arith) h
     where
-      by_made : (v : ℕ) → v < last → ((m r : Ref) → is_made states v m ≡ true → Contains (entries_of (node_under states last m)) r → is_made states v r ≡ true) → (m r : Ref) → is_made states (suc v) m ≡ true →
+      by_made : (v : ℕ) → v < last → ((m r : Ref) → is_made states v m ≡ true → Contains (entries_of (node_under states last m)) r → is_made states v r ≡ true) →
+          (m r : Ref) → is_made states (suc v) m ≡ true →
           Contains (entries_of (node_under states last m)) r → (b : Bool) → is_made states v m ≡ b → is_made states (suc v) r ≡ true
       by_made v within so_far m r made names true e = made_next states v r (so_far m r e names)
       by_made v within so_far m r made names false e = made_next states v r (new_made v within m r e made names)

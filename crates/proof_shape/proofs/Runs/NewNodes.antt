@@ -1,5 +1,6 @@
 -- A node that a line makes names what may be read, and what the line holds.
-use Rattle.std.proofs.Common.{◌≡◌, ℕ, zero, suc, ◌<◌, ◌⊎◌, ◌&&◌, true, false, List, ◌∷◌, length, slice_set, slice_index_or, get_or, Contains, Option, Some, None, inl, inr, refl, sym, ◌∙◌, ap, subst, arith, []}
+use Rattle.std.proofs.Common.{◌≡◌, ℕ, zero, suc, ◌<◌, ◌⊎◌, ◌&&◌, true, false, List, ◌∷◌, length, slice_set, slice_index_or, get_or, Contains, Option, Some, None, inl, inr, refl}
+use Rattle.std.proofs.Common.{sym, ◌∙◌, ap, subst, arith, []}
 use Rattle.std.proofs.lemmas.Bool.{true≢false}
 use Rattle.std.proofs.lemmas.List.Elements.{Contains-get_or}
 use Rattle.proof_shape.specs.Beneath.slot_arena.specs.declared.refs.Ref.{Ref}
@@ -51,7 +52,6 @@ use Rattle.proof_shape.specs.Beneath.proof_commits.specs.Words.{words_of}
 use Rattle.proof_shape.specs.Beneath.proof_contents.specs.Runs.{is_made}
 use Rattle.proof_shape.specs.Beneath.proof_memory.proofs.Claims.Nodes.{branch_main, both_main}
 use Rattle.proof_shape.proofs.Runs.EachAt.{GoesAt}
-use Rattle.proof_shape.proofs.Runs.Nodes.{known_run}
 use Rattle.proof_shape.proofs.Runs.Seen.{main_seen, single_seen}
 use Rattle.proof_shape.proofs.Lines.Key.{claims}
 use Rattle.proof_shape.proofs.Lines.Climb.{remembered, position_within}
@@ -60,6 +60,7 @@ use Rattle.proof_shape.proofs.Runs.Entries.{no_entry, one_entry, of_take, of_set
 use Rattle.proof_shape.proofs.Runs.MadeNodes.{is_making, quiet_step, new_names, root_names}
 use Rattle.proof_shape.proofs.Held.Fresh.{IsHeld}
 use Rattle.proof_shape.proofs.Held.Lines.{Came, same, single, anew, AllCame, HeldChange, HeldBuild, HeldRenew, HeldClean, HeldIn}
+use Rattle.proof_shape.specs.Beneath.proof_commits.proofs.Known.Acts.{known_run}
 
 -- ---- lines that make nothing
 
@@ -84,7 +85,8 @@ complete_quiet state operation c = grind arith
 climb_root_quiet : (state : State) (operation : Operation) (c : Climb) (l : RootLine) → is_making (line_action state operation (line.Climb (climb.Root c l))) ≡ false
 climb_root_quiet state operation c l = grind arith
 
-module _ (limits : Limits) (states : ℕ → State) (last : ℕ) (run : IsRun limits states last) (t : ℕ) (h : t < last) (actor : ℕ) (operation : Operation) (go : GoesAt states t actor operation) (start : ℕ) where
+module _ (limits : Limits) (states : ℕ → State) (last : ℕ) (run : IsRun limits states last) (t : ℕ) (h : t < last) (actor : ℕ) (operation : Operation)
+    (go : GoesAt states t actor operation) (start : ℕ) where
   abbrev heap : Heap
   heap = (states t).heap
 
@@ -116,7 +118,8 @@ module _ (limits : Limits) (states : ℕ → State) (last : ℕ) (run : IsRun li
     no_root l e main a = absurd (root_names limits states last run t h actor operation go main (ap (line_action (states t) operation) e ∙ a) m r before after names)
 
     -- an entry of the main node before
-    by_main : (i main : Ref) → Given (words_of states last (known_run limits states last run).closing) t actor i main → (wanted : Wanted) → ((n : Node) → meets wanted n ≡ true → meets AMain n ≡ true) →
+    by_main : (i main : Ref) → Given (words_of states last (known_run limits states last run).closing) t actor i main → (wanted : Wanted) →
+        ((n : Node) → meets wanted n ≡ true → meets AMain n ≡ true) →
         Holds (IsInUse heap) heap (Is main wanted) → Contains (entries_of (node_at heap main)) r → NamesWell r
     by_main i main given wanted also claim c =
         inl (named actor i main given (subst (λ n. Contains (entries_of n) r) (main_seen limits states last run t (omega arith) main wanted also claim) c))
@@ -135,7 +138,8 @@ module _ (limits : Limits) (states : ℕ → State) (last : ℕ) (run : IsRun li
             Came (node_under states last) (IsHeld limits states last run t actor start) (slice_index_or (entries_of (node_under states last main)) n no_ref) other → NamesWell r
         by_came other other_is (same e) =
             let within = position_within limits states last run r g y is n (entries_of (node_under states last main)) (e ∙ other_is) in
-            inl (named actor i main given (subst (λ x. Contains (entries_of (node_under states last main)) x) (e ∙ other_is) (Contains-get_or (entries_of (node_under states last main)) n no_ref within)))
+            inl (named actor i main given
+            (subst (λ x. Contains (entries_of (node_under states last main)) x) (e ∙ other_is) (Contains-get_or (entries_of (node_under states last main)) n no_ref within)))
         by_came other other_is (single k v e) = let bad : Single k v ≡ Indirection g y = sym e ∙ ap (node_under states last) other_is ∙ is in let wrong : ⊥ = cc in absurd wrong
         by_came other other_is (anew held) = inr (start, subst (IsHeld limits states last run t actor start) other_is held)
 
@@ -192,7 +196,8 @@ module _ (limits : Limits) (states : ℕ → State) (last : ℕ) (run : IsRun li
       where
         by_set : Contains (entries_of (node_at heap main)) r ⊎ (r ≡ c.single) → NamesWell r
         by_set (inl old) =
-            by_main (current (above c.path)) main (remembered limits states last run t h actor operation go _ e) ABranch branch_main (claims limits states last run t h actor operation go _ e).1.1.1.0 old
+            by_main (current (above c.path)) main (remembered limits states last run t h actor operation go _ e) ABranch branch_main
+            (claims limits states last run t h actor operation go _ e).1.1.1.0 old
         by_set (inr it) = absurd (single_not_link c.single (as_meets (claims limits states last run t h actor operation go _ e).1.1.0) g y (ap (node_under states last) (sym it) ∙ is))
     climb_names (climb.Read c q) e = quiet _ e (read_quiet q.indirection q.line)
     climb_names (climb.Main c main) e = quiet _ e refl

@@ -16,41 +16,34 @@ use Rattle.proof_shape.specs.Beneath.machine_model.specs.Operations.{action_of}
 use Rattle.proof_shape.specs.Beneath.machine_model.specs.Grown.{grown, node_under, main_word, prev_word}
 use Rattle.proof_shape.specs.Beneath.machine_model.specs.Times.{IsRun}
 use Rattle.proof_shape.specs.Beneath.proof_memory.specs.Laws.{IsInUse}
-use Rattle.proof_shape.specs.Beneath.proof_memory.proofs.Heap.Under as Under
-use Rattle.proof_shape.specs.Beneath.proof_memory.proofs.Heap.Moves.{grown_stays, grown_in_use}
+use Rattle.proof_shape.specs.Beneath.proof_memory.proofs.Heap.Moves.{grown_stays}
 use Rattle.proof_shape.specs.Beneath.proof_commits.proofs.Course.Finals.{from_time}
 use Rattle.proof_shape.specs.Beneath.proof_commits.proofs.Known.Given.{Known, ActsOn, Taken, GrownTakes}
-use Rattle.proof_shape.specs.Beneath.proof_commits.proofs.Known.Layers.{known_of_memory}
-use Rattle.proof_shape.specs.Beneath.proof_commits.proofs.Known.Memory.{memory}
+use Rattle.proof_shape.specs.Beneath.proof_commits.proofs.Known.Acts.{known_run}
 use Rattle.proof_shape.specs.Beneath.proof_contents.specs.Grows.{NodesStay}
-use Rattle.proof_shape.specs.Beneath.proof_contents.specs.Runs.{is_made, main_at}
-use Rattle.proof_shape.specs.Beneath.proof_contents.proofs.Values.Runs.{main_at-made, main_at-unmade}
+use Rattle.proof_shape.specs.Beneath.proof_contents.specs.Runs.{is_made, counting_main}
+use Rattle.proof_shape.specs.Beneath.proof_contents.proofs.Values.Runs.{counting_main-made, counting_main-unmade}
 use Rattle.proof_shape.specs.Beneath.proof_contents.proofs.Values.Started.{node_stays, indirection_stays}
 use Rattle.proof_shape.specs.Beneath.proof_memory.proofs.Claims.Nodes.{IsNoLink}
 use Rattle.proof_shape.specs.Lines.Knowing.{first_main}
 use Rattle.proof_shape.proofs.Runs.EachAt.{GoesAt}
-
--- of memory and words alone
-abbrev pub known_run : (limits : Limits) (states : ℕ → State) (last : ℕ) → IsRun limits states last → Known limits states last
-known_run limits states last run = known_of_memory limits states last (memory limits states last run)
+use Rattle.proof_shape.specs.Beneath.machine_model.proofs.Grown.{grown_in_use, node_standing}
+use Rattle.proof_generations.proofs.Falling.Nodes.{nodes_stay}
 
 module _ (limits : Limits) (states : ℕ → State) (last : ℕ) (run : IsRun limits states last) where
-  pub nodes_stay : NodesStay states last
-  nodes_stay t u le within r was e = let (now, found, same) = grown_stays limits states last run t u le within r was e in (now, found, same.0)
-
   -- ---- what is looked at
 
   module _ (t : ℕ) (h : t ≤ last) (r : Ref) (used : IsInUse (states t).heap r) where
     here : node_at (states t).heap r ≡ used.0.node
-    here = Under.node_under (states t).heap r used.0 used.1
+    here = node_standing (states t).heap r used.0 used.1
 
     -- a node that is no indirection
     pub node_known : IsNoLink (node_at (states t).heap r) → node_under states last r ≡ node_at (states t).heap r
     node_known not =
-        node_stays states last nodes_stay t r used.0 h (grown_in_use states t r used.0 used.1) (λ g w e. not g w (here ∙ e)) ∙ sym here
+        node_stays states last (nodes_stay limits states last run) t r used.0 h (grown_in_use states t r used.0 used.1) (λ g w e. not g w (here ∙ e)) ∙ sym here
 
     pub link_known : (g : ℕ) (w : Ref) → node_at (states t).heap r ≡ Indirection g w → (m : Ref) × (node_under states last r ≡ Indirection g m)
-    link_known g w e = indirection_stays states last nodes_stay t r used.0 g w h (grown_in_use states t r used.0 used.1) (sym here ∙ e)
+    link_known g w e = indirection_stays states last (nodes_stay limits states last run) t r used.0 g w h (grown_in_use states t r used.0 used.1) (sym here ∙ e)
 
     -- what it is in the end it is now
     pub known_node : (n : Node) → node_under states last r ≡ n → IsNoLink n → node_at (states t).heap r ≡ n
@@ -72,10 +65,10 @@ module _ (limits : Limits) (states : ℕ → State) (last : ℕ) (run : IsRun li
       by_slot None e = refl
       by_slot (Some slot) e = let now = grown_stays limits states last run u t le within r slot e in absurd (none-some now.0 (sym none ∙ now.1))
 
-  first_until : (t : ℕ) (r : Ref) → t < last → grown states t r ≡ None → first_main states last r ≡ main_at states last (suc t) r
+  first_until : (t : ℕ) (r : Ref) → t < last → grown states t r ≡ None → first_main states last r ≡ counting_main states last (suc t) r
   first_until t r within none =
-      from_time (λ u. first_main states last r ≡ main_at states last u r) zero (suc t) refl
-      (λ u low below so_far. so_far ∙ sym (main_at-unmade states last u r (omega arith) (unmade_before t u r (omega arith) (omega arith) none))) (suc t) (omega arith) (omega arith)
+      from_time (λ u. first_main states last r ≡ counting_main states last u r) zero (suc t) refl
+      (λ u low below so_far. so_far ∙ sym (counting_main-unmade states last u r (omega arith) (unmade_before t u r (omega arith) (omega arith) none))) (suc t) (omega arith) (omega arith)
 
   -- ---- what is made
 
@@ -87,10 +80,10 @@ module _ (limits : Limits) (states : ℕ → State) (last : ℕ) (run : IsRun li
         (subst (λ x. ActsOn states t x) a ((known_run limits states last run).acts t h actor go.o go.moves operation go.runs))
 
     pub made_node : IsNoLink node → node_under states last made ≡ node
-    made_node not = node_stays states last nodes_stay (suc t) made _ h takes.here not
+    made_node not = node_stays states last (nodes_stay limits states last run) (suc t) made _ h takes.here not
 
     pub made_link : (g : ℕ) (below : Ref) → node ≡ Indirection g below → (m : Ref) × (node_under states last made ≡ Indirection g m)
-    made_link g below is = indirection_stays states last nodes_stay (suc t) made _ g below h takes.here is
+    made_link g below is = indirection_stays states last (nodes_stay limits states last run) (suc t) made _ g below h takes.here is
 
     pub prev_still : (m : Ref) → prev_word states t m ≡ over.None → prev_word states (suc t) m ≡ over.None
     prev_still m none = by_ref (cases_eq m made)
@@ -104,6 +97,6 @@ module _ (limits : Limits) (states : ℕ → State) (last : ℕ) (run : IsRun li
     first_is g below is none =
         let word : main_word states (suc t) made ≡ below = ap (λ o. main_of (node_of o)) takes.here ∙ ap main_of is in
         first_until t made h takes.new
-        ∙ main_at-made states last (suc t) made (ap is_some takes.here)
+        ∙ counting_main-made states last (suc t) made (ap is_some takes.here)
         ∙ ap (λ m. logical m (prev_word states (suc t) m)) word
         ∙ ap (logical below) none

@@ -19,7 +19,6 @@ use Rattle.proof_shape.specs.Beneath.slot_arena.specs.declared.nodes.Node.{Node}
 use Rattle.proof_shape.specs.Beneath.slot_arena.specs.declared.nodes.Node.TheVariants.{Indirection, Branch, Single, Tomb, List as Listed}
 use Rattle.proof_shape.specs.Beneath.proof_memory.specs.Laws.{IsInUse}
 use Rattle.proof_shape.specs.Beneath.proof_memory.specs.Wants.{meets, ABranch}
-use Rattle.proof_shape.specs.Beneath.proof_memory.proofs.Heap.Under.{node_under}
 use Rattle.proof_shape.specs.Beneath.proof_memory.specs.Levels.{PlaceLevel}
 use Rattle.proof_shape.specs.Beneath.proof_memory.proofs.Levels.States.{HasLevels}
 use Rattle.proof_shape.specs.Beneath.proof_memory.proofs.Levels.Runs.{levels_of}
@@ -35,6 +34,7 @@ use Rattle.proof_shape.specs.Beneath.machine_model.specs.Moves.{Moves, GoesOn}
 use Rattle.proof_shape.specs.Beneath.machine_model.proofs.Times.{along_run}
 use Rattle.proof_shape.specs.Beneath.machine_model.specs.Times.{turns}
 use Rattle.proof_shape.specs.Beneath.machine_model.specs.Times.{IsRun, Turn}
+use Rattle.proof_shape.specs.Beneath.machine_model.proofs.Grown.{node_standing}
 
 -- ---- a move is what the step comes to
 
@@ -85,7 +85,7 @@ sites_at limits states last r t h =
 pub branch_shallow : (state : State) (sites : HasSites state) (path : List Ref) (main : Ref) → PlaceLevel sites.level path main → IsInUse state.heap main →
     meets ABranch (node_at state.heap main) ≡ true → depth_of path < list_depth state.limits.hash
 branch_shallow state sites path main place used is =
-    by_node used.0.node (ap (meets ABranch) (sym (node_under state.heap main used.0 used.1)) ∙ is) (sites.shapes.nodes main used.0 used.1)
+    by_node used.0.node (ap (meets ABranch) (sym (node_standing state.heap main used.0 used.1)) ∙ is) (sites.shapes.nodes main used.0 used.1)
   where
     by_node : (n : Node) → meets ABranch n ≡ true → ShapeAt (list_depth state.limits.hash) (sites.level main) n → depth_of path < list_depth state.limits.hash
     by_node (Branch bitmap entries) e shape = omega (arith, shape, place.1)

@@ -19,7 +19,6 @@ use Rattle.proof_shape.specs.Beneath.machine_model.specs.Grown.{node_under}
 use Rattle.proof_shape.specs.Beneath.machine_model.specs.Times.{IsRun}
 use Rattle.proof_shape.specs.Beneath.proof_memory.specs.Laws.{IsInUse}
 use Rattle.proof_shape.specs.Beneath.proof_memory.specs.Wants.{Wanted, AMain, meets, is_formed, listed, Holds, Is, AllHold, action_wants}
-use Rattle.proof_shape.specs.Beneath.proof_memory.proofs.Heap.Under as Under
 use Rattle.proof_shape.specs.Beneath.proof_memory.proofs.Claims.Uses.{safe_of, meets_of}
 use Rattle.proof_shape.specs.Beneath.proof_memory.proofs.Safety.Steps.{of_actor}
 use Rattle.proof_shape.specs.Beneath.proof_memory.proofs.Safety.Base.{Fits}
@@ -31,6 +30,7 @@ use Rattle.proof_shape.specs.Beneath.proof_memory.proofs.Claims.Nodes.{main_no_l
 use Rattle.proof_shape.specs.Lines.Knowing.{first_main}
 use Rattle.proof_shape.proofs.Runs.Nodes.{node_known, known_node}
 use Rattle.proof_shape.proofs.Lines.Placed.{is_keyed}
+use Rattle.proof_shape.specs.Beneath.machine_model.proofs.Grown.{node_standing}
 
 -- ---- kinds
 
@@ -72,7 +72,7 @@ module _ (limits : Limits) (states : ℕ → State) (last : ℕ) (run : IsRun li
   list_filled main singles used is =
       let there : node_at heap main ≡ Listed singles = known_node limits states last run t h main used (Listed singles) is (λ g w bad. let wrong : Listed singles ≡ Indirection g w = bad in cc) in
       let formed = ((safe_at limits states last run t h).nodes main used.0 used.1).1 in
-      let same : used.0.node ≡ Listed singles = sym (Under.node_under heap main used.0 used.1) ∙ there in
+      let same : used.0.node ≡ Listed singles = sym (node_standing heap main used.0 used.1) ∙ there in
       two_or_more (leb-true 2 (length singles.items) (ap is_formed (sym same) ∙ formed))
     where
       two_or_more : 2 ≤ length singles.items → 0 < length singles.items

@@ -14,11 +14,11 @@ use Rattle.proof_shape.specs.Beneath.machine_model.specs.Moves as Machine
 use Rattle.proof_shape.specs.Beneath.machine_model.specs.States.{State, operation_of}
 use Rattle.proof_shape.specs.Beneath.machine_model.specs.Counting.{settled}
 use Rattle.proof_shape.specs.Beneath.machine_model.specs.Machine.{begin_denial, with_begin}
-use Rattle.proof_shape.specs.Beneath.machine_model.proofs.Actors.{marks_by}
+use Rattle.proof_shape.specs.Beneath.machine_model.proofs.Actors.{marks_by, begin_counts}
 use Rattle.proof_shape.specs.Beneath.machine_model.specs.Times.{IsRun}
-use Rattle.proof_shape.specs.Beneath.proof_memory.proofs.Safety.Held.{begin_counts}
 use Rattle.proof_shape.specs.Beneath.proof_commits.proofs.Course.Finals.{from_time}
-use Rattle.proof_shape.specs.Beneath.proof_commits.proofs.Known.StepsAt.{StepAt, IsBegin, IsGo, IsEnd, IsSweep, step_at, after_mark, go_others, go_own, end_others, end_own, begin_others, begin_own, actor_counts}
+use Rattle.proof_shape.specs.Beneath.proof_commits.proofs.Known.StepsAt.{StepAt, IsBegin, IsGo, IsEnd, IsSweep, step_at, after_mark, go_others, go_own, end_others, end_own}
+use Rattle.proof_shape.specs.Beneath.proof_commits.proofs.Known.StepsAt.{begin_others, begin_own, actor_counts}
 use Rattle.proof_shape.specs.Beneath.proof_commits.proofs.Words.First.{idle_at_first}
 use Rattle.proof_shape.specs.Lines.Knowing.{OfEachAt}
 
@@ -80,11 +80,15 @@ module _ (limits : Limits) (states : ℕ → State) (last : ℕ) (run : IsRun li
       each_next t h so_far (IsBegin actor call o m d e) takes k found is = by_actor (cases_eq k actor)
         where
           own : (operation_of (states (suc t)) actor ≡ None) ⊎ (operation_of (states (suc t)) actor ≡ Some (begun_operation (states t) call))
-          own = subst (λ (s : State). (operation_of s actor ≡ None) ⊎ (operation_of s actor ≡ Some (begun_operation (states t) call))) (sym e) (begin_own (states t) actor call (begun_operation (states t) call))
+          own = subst (λ (s : State). (operation_of s actor ≡ None) ⊎ (operation_of s actor ≡ Some (begun_operation (states t) call))) (sym e)
+              (begin_own (states t) actor call (begun_operation (states t) call))
 
-          begun : (operation_of (states (suc t)) actor ≡ None) ⊎ (operation_of (states (suc t)) actor ≡ Some (begun_operation (states t) call)) → operation_of (states (suc t)) actor ≡ Some found → P (suc t) actor found
+          begun : (operation_of (states (suc t)) actor ≡ None) ⊎ (operation_of (states (suc t)) actor ≡ Some (begun_operation (states t) call)) →
+              operation_of (states (suc t)) actor ≡ Some found → P (suc t) actor found
           begun (inl none) at = absurd (none-some found (sym none ∙ at))
-          begun (inr some) at = let same : Some (begun_operation (states t) call) ≡ Some found = sym some ∙ at in let is_it : begun_operation (states t) call ≡ found = cc in subst (P (suc t) actor) is_it (begins t h actor call d takes e)
+          begun (inr some) at =
+              let same : Some (begun_operation (states t) call) ≡ Some found = sym some ∙ at in let is_it : begun_operation (states t) call ≡ found = cc in
+              subst (P (suc t) actor) is_it (begins t h actor call d takes e)
 
           by_actor : (k ≡ actor) ⊎ (k ≡ actor → ⊥) → P (suc t) k found
           by_actor (inl same) = subst (λ q. P (suc t) q found) (sym same) (begun own (ap (operation_of (states (suc t))) (sym same) ∙ is))
@@ -105,7 +109,8 @@ module _ (limits : Limits) (states : ℕ → State) (last : ℕ) (run : IsRun li
           by_actor : (k ≡ actor) ⊎ (k ≡ actor → ⊥) → P (suc t) k found
           by_actor (inl same) =
               subst (λ q. P (suc t) q found) (sym same)
-              (mark_by (suc t) actor (Some (operation_after (states t) operation)) (λ x at. (let is_it : operation_after (states t) operation ≡ x = cc in subst (P (suc t) actor) is_it gone)) marks found
+              (mark_by (suc t) actor (Some (operation_after (states t) operation))
+              (λ x at. (let is_it : operation_after (states t) operation ≡ x = cc in subst (P (suc t) actor) is_it gone)) marks found
               (sym own ∙ ap (operation_of (states (suc t))) (sym same) ∙ is))
           by_actor (inr apart) =
               others t h so_far marks k (λ it. apart (sym (sym takes ∙ it)))

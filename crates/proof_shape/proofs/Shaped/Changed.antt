@@ -1,6 +1,7 @@
 -- A main node with a change of one key has its shape.
 use Rattle.std.proofs.Common.{◌≡◌, ℕ, zero, suc, ◌-◌, ◌*◌, ◌^◌, ◌<◌, List, [], ◌∷◌, length, slice_index_or, Option, Some, None, inl, inr, refl, sym, ap, subst, ◌∙◌, arith, mod-eq_of_lt}
-use Rattle.proof_shape.specs.Beneath.ctrie_base.specs.Hashes.{hash_of, low_hash-lt, fold_hash-lt, block_hash-lt}
+use Rattle.proof_shape.specs.Beneath.ctrie_base.specs.Hashes.{hash_of}
+use Rattle.proof_shape.specs.Beneath.ctrie_base.proofs.Fits.{low_hash-lt, fold_hash-lt, block_hash-lt}
 use Rattle.proof_shape.specs.Beneath.ctrie_base.specs.declared.hashes.HashKind.{HashKind}
 use Rattle.proof_shape.specs.Beneath.ctrie_base.specs.declared.hashes.HashKind.TheVariants.{Low, Fold, Wide, Block}
 use Rattle.proof_shape.specs.Beneath.history.specs.declared.calls.Call.{Call}
@@ -80,7 +81,8 @@ module _ (kind : HashKind) (s : Sites) (fits : (i : Ref) → s.path i < 2 ^ (5 *
       (list_inserted_shaped (trie_at kind s) r ss listed (key_of call) (value_of call) single room (bare_among s.node (key_of call) ss.items ∙ none) (ap bare new)
       (whole (list_shape (trie_at kind s) r (Listed ss) ss listed refl).deep))
 
-  update_shaped : (main single : Ref) (position value : ℕ) (n : Node) → s.node main ≡ n → Shaped n → Presence K depth (key_of call) main position value → s.node single ≡ Single (key_of call) (value_of call) →
+  update_shaped : (main single : Ref) (position value : ℕ) (n : Node) → s.node main ≡ n → Shaped n → Presence K depth (key_of call) main position value →
+      s.node single ≡ Single (key_of call) (value_of call) →
       Shaped (changed flag n (change.Update position single))
   update_shaped main single position value n is shape (in_branch b es f was) new =
       let same : n ≡ Branch b es = sym is ∙ f.is in

@@ -27,7 +27,7 @@ use Rattle.proof_shape.specs.Beneath.proof_memory.proofs.Safety.States.{IsSafe}
 use Rattle.proof_shape.specs.Beneath.proof_memory.proofs.Safety.Standing.{in_root, in_any_slot}
 use Rattle.proof_shape.specs.Beneath.proof_contents.specs.Tries.{Trie, content, IsShaped, branch, list, tomb}
 use Rattle.proof_shape.specs.Beneath.proof_contents.specs.Steps.{IsTrie}
-use Rattle.proof_shape.specs.Beneath.proof_contents.specs.Runs.{main_at}
+use Rattle.proof_shape.specs.Beneath.proof_contents.specs.Runs.{counting_main}
 use Rattle.proof_shape.specs.Beneath.proof_contents.specs.Pairs.{pairs_of, pairs_from}
 use Rattle.proof_shape.specs.Beneath.proof_contents.specs.InUse.{ReachesInUse}
 use Rattle.proof_shape.specs.Beneath.proof_contents.proofs.Pairs.Heap.{pairs_are, flat_map-same}
@@ -86,7 +86,7 @@ module _ (limits : Limits) (states : ℕ → State) (steps : ℕ → Step) (last
 
   -- the trie in the end, with this root alone
   abbrev trie : Trie
-  trie = record (bare_trie_of_run limits states steps last) { last = 0; main = λ t i. main_at states last last i; root = λ g. r }
+  trie = record (bare_trie_of_run limits states steps last) { last = 0; main = λ t i. counting_main states last last i; root = λ g. r }
 
   level_is : s.level r ≡ 1
   level_is = word_root s.level root.word ((levels_there limits states steps last run takes last (omega arith)).0.words handle root at)
@@ -105,14 +105,14 @@ module _ (limits : Limits) (states : ℕ → State) (steps : ℕ → Step) (last
     root_depth = λ g. depth_is;
     root_path = λ g. ap (λ b. cond b (path_until states steps last r) 0) link ∙ root_path s (paths_fit states steps last) r level_is;
     path_fits = shape.path_fits;
-    shaped = λ t i le. same_shape (bare_trie_of_run limits states steps last) 0 (λ t i. main_at states last last i) (λ g. r) i _ (shape.shaped last i (omega arith));
+    shaped = λ t i le. same_shape (bare_trie_of_run limits states steps last) 0 (λ t i. counting_main states last last i) (λ g. r) i _ (shape.shaped last i (omega arith));
     does = λ t lt. absurd (omega (arith, lt));
   }
 
-  reached : (levels : ℕ) → pairs_below levels (states last).heap r ≡ pairs_from trie.node (λ i. main_at states last last i) levels r
+  reached : (levels : ℕ) → pairs_below levels (states last).heap r ≡ pairs_from trie.node (λ i. counting_main states last last i) levels r
   reached levels =
       pairs_are states last (reaches_in_use (states last) I) levels r (from_root handle r (subst (λ o. Contains (refs_of_root o) r) (sym at) (word_has root.word)))
-      ∙ sym (bare_pairs (node_under states last) (λ i. main_at states last last i) levels r)
+      ∙ sym (bare_pairs (node_under states last) (λ i. counting_main states last last i) levels r)
     where
       word_has : (w : RootWord) → Contains (refs_of_word w) (root_of w)
       word_has (Plain q) = (0, omega arith, refl)
@@ -128,4 +128,5 @@ module _ (limits : Limits) (states : ℕ → State) (steps : ℕ → Step) (last
 
   pub nothing_deeper : (more : ℕ) → pairs_below (most_levels + more) (states last).heap r ≡ pairs_below most_levels (states last).heap r
   nothing_deeper more =
-      reached (most_levels + more) ∙ enough trie ok (most_levels + more) most_levels r (omega arith) (omega arith) (λ g w is. (omega arith, omega arith, omega (arith, depth_is))) ∙ sym (reached most_levels)
+      reached (most_levels + more) ∙ enough trie ok (most_levels + more) most_levels r (omega arith) (omega arith)
+      (λ g w is. (omega arith, omega arith, omega (arith, depth_is))) ∙ sym (reached most_levels)

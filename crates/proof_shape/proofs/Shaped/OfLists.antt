@@ -28,7 +28,6 @@ use Rattle.proof_shape.specs.Beneath.machine_model.specs.Grown.{standing}
 use Rattle.proof_shape.specs.Beneath.proof_memory.specs.Wants.{AnEntry, is_indirection, ASingle, meets, AllHold, node_wants, is_formed}
 use Rattle.proof_shape.specs.Beneath.proof_memory.specs.Laws.{IsInUse}
 use Rattle.proof_shape.specs.Beneath.proof_memory.proofs.Claims.Uses.{Meets, all_of}
-use Rattle.proof_shape.specs.Beneath.proof_memory.proofs.Heap.Under.{node_under}
 use Rattle.proof_shape.specs.Beneath.proof_memory.proofs.Safety.AtEachTime.{safe_along}
 use Rattle.proof_shape.specs.Beneath.proof_memory.proofs.Levels.States.{heaped_in_use}
 use Rattle.proof_shape.specs.Beneath.proof_contents.proofs.Shapes.Nodes.{IsBranch, branch_shape, list_shape}
@@ -46,7 +45,7 @@ use Rattle.proof_shape.proofs.Sites.Fixed.{keys_fit}
 use Rattle.proof_shape.proofs.Full.Lists.{IsFull}
 use Rattle.proof_shape.proofs.Full.Made.{FullNode}
 use Rattle.proof_shape.proofs.Full.Runs.{full_grown}
-use Rattle.proof_shape.specs.Beneath.proof_memory.proofs.Heap.Moves.{grown_in_use}
+use Rattle.proof_shape.specs.Beneath.machine_model.proofs.Grown.{node_standing, grown_in_use}
 
 module _ (limits : Limits) (ok : AreLimits limits) (steps : List Step) (fit : KeysFit steps) where
   abbrev s : Sites
@@ -61,17 +60,18 @@ module _ (limits : Limits) (ok : AreLimits limits) (steps : List Step) (fit : Ke
   -- what stands in the end
   inside : (r : Ref) (slot : Slot) → standing heap r ≡ Some slot → InsideSite limits.hash s r slot.node
   inside r slot found =
-      ((sites_there limits (states_of limits steps) (steps_of limits steps) (last_of limits steps) (run_is limits steps ok) (takes_steps limits steps) keys (last_of limits steps) (omega arith)).nodes r slot
+      ((sites_there limits (states_of limits steps) (steps_of limits steps) (last_of limits steps) (run_is limits steps ok) (takes_steps limits steps) keys
+      (last_of limits steps) (omega arith)).nodes r slot
       (ap (λ (x : State). standing x.heap r) (run_ends limits steps) ∙ found)).0
 
   bares : (r : Ref) → IsInUse heap r → bare (s.node r) ≡ bare (node_at heap r)
   bares r (slot, found) =
       are_bare limits (states_of limits steps) (steps_of limits steps) (last_of limits steps) (run_is limits steps ok) (takes_steps limits steps) (last_of limits steps) (omega arith) r slot
-      (ap (λ (x : State). standing x.heap r) (run_ends limits steps) ∙ found) ∙ ap bare (sym (node_under heap r slot found))
+      (ap (λ (x : State). standing x.heap r) (run_ends limits steps) ∙ found) ∙ ap bare (sym (node_standing heap r slot found))
 
   entries_used : (r : Ref) (slot : Slot) → standing heap r ≡ Some slot → AllHold (IsInUse heap) heap (node_wants slot.node)
   entries_used r slot found =
-      subst (λ n. AllHold (IsInUse heap) heap (node_wants n)) (node_under heap r slot found) ((heaped_in_use (run limits steps) (safe_along limits ok steps)).inside r (slot, found))
+      subst (λ n. AllHold (IsInUse heap) heap (node_wants n)) (node_standing heap r slot found) ((heaped_in_use (run limits steps) (safe_along limits ok steps)).inside r (slot, found))
 
   -- ---- branches
 
@@ -106,7 +106,8 @@ module _ (limits : Limits) (ok : AreLimits limits) (steps : List Step) (fit : Ke
       full : IsFull s.node es.items
       full =
           subst (FullNode s (s.level r)) is
-          (full_grown limits (states_of limits steps) (steps_of limits steps) (last_of limits steps) (run_is limits steps ok) (takes_steps limits steps) keys (last_of limits steps) (omega arith) r slot
+          (full_grown limits (states_of limits steps) (steps_of limits steps) (last_of limits steps) (run_is limits steps ok) (takes_steps limits steps) keys
+          (last_of limits steps) (omega arith) r slot
           (grown_in_use (states_of limits steps) (last_of limits steps) r slot (ap (λ (x : State). standing x.heap r) (run_ends limits steps) ∙ found))) (omega (arith, deep))
 
       used_one : (one : Ref) → es.items ≡ one ∷ [] → IsInUse heap one
@@ -161,7 +162,8 @@ lists_crowds limits steps r slot singles ok fit found is = list_crowd limits ok 
 pub no_key_twice : NoKeyTwice
 no_key_twice limits steps handle root ok fit at =
     let at_last = ap (λ state. root_at state handle) (run_ends limits steps) ∙ at in
-    subst (λ state. T (is_sorted nat_cmp (content_at state handle)) × ((more : ℕ) → pairs_below (most_levels + more) state.heap (root_of root.word) ≡ pairs_below most_levels state.heap (root_of root.word)))
+    subst (λ state. T (is_sorted nat_cmp (content_at state handle))
+    × ((more : ℕ) → pairs_below (most_levels + more) state.heap (root_of root.word) ≡ pairs_below most_levels state.heap (root_of root.word)))
     (run_ends limits steps) (
       keys_rise limits (states_of limits steps) (steps_of limits steps) (last_of limits steps) (run_is limits steps ok) (takes_steps limits steps) (keys_fit limits steps fit) handle root at_last,
       nothing_deeper limits (states_of limits steps) (steps_of limits steps) (last_of limits steps) (run_is limits steps ok) (takes_steps limits steps) (keys_fit limits steps fit) handle root at_last,

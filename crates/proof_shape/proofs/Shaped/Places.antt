@@ -23,38 +23,23 @@ use Rattle.proof_shape.specs.Sites.Lines.{Sites, bare, trie_at}
 
 pub bare_entries : (n : Node) → entries_of (bare n) ≡ entries_of n
 bare_entries (Indirection g w) = refl
-bare_entries (Branch b es) = refl
-bare_entries (Single k v) = refl
-bare_entries (Tomb t) = refl
-bare_entries (Listed ss) = refl
+bare_entries n = refl
 
 pub bare_bitmap : (n : Node) → bitmap_of (bare n) ≡ bitmap_of n
 bare_bitmap (Indirection g w) = refl
-bare_bitmap (Branch b es) = refl
-bare_bitmap (Single k v) = refl
-bare_bitmap (Tomb t) = refl
-bare_bitmap (Listed ss) = refl
+bare_bitmap n = refl
 
 pub bare_link : (n : Node) → is_indirection (bare n) ≡ is_indirection n
 bare_link (Indirection g w) = refl
-bare_link (Branch b es) = refl
-bare_link (Single k v) = refl
-bare_link (Tomb t) = refl
-bare_link (Listed ss) = refl
+bare_link n = refl
 
 pub bare_generation : (n : Node) → generation_of (bare n) ≡ 0
 bare_generation (Indirection g w) = refl
-bare_generation (Branch b es) = refl
-bare_generation (Single k v) = refl
-bare_generation (Tomb t) = refl
-bare_generation (Listed ss) = refl
+bare_generation n = refl
 
 pub bare_again : (n : Node) → bare (bare n) ≡ bare n
 bare_again (Indirection g w) = refl
-bare_again (Branch b es) = refl
-bare_again (Single k v) = refl
-bare_again (Tomb t) = refl
-bare_again (Listed ss) = refl
+bare_again n = refl
 
 -- what is bare as a single is one
 pub bare_single : (n : Node) (k v : ℕ) → bare n ≡ Single k v → n ≡ Single k v

@@ -36,7 +36,8 @@ module _ (trie : Trie) (fits : (i : Ref) → trie.path i < 2 ^ (5 * trie.depth i
   repaired_shaped false others count fit alone = refilled_shaped trie fits main bitmap entries others shape count (λ n lt. fit n (omega (arith, lt, count)))
 
 -- one entry more is done
-pub more_done : (kind : HashKind) (s : Sites) (hash : ℕ) (path : List Ref) (main : Ref) (done : List Ref) (e : Ref) → length done < length (entries_of (s.node main)) → DoneSite kind s hash path main done →
+pub more_done : (kind : HashKind) (s : Sites) (hash : ℕ) (path : List Ref) (main : Ref) (done : List Ref) (e : Ref) →
+    length done < length (entries_of (s.node main)) → DoneSite kind s hash path main done →
     Fits (trie_at kind s) main (entry_in kind s main (length done)) e → DoneSite kind s hash path main (done ++ e ∷ [])
 more_done kind s hash path main done e lt d fit = (d.0, omega (arith, size, lt), each)
   where

@@ -1,5 +1,6 @@
 -- The trie of a run has its shape at each time.
-use Rattle.std.proofs.Common.{◌≡◌, ℕ, zero, suc, ◌+◌, ◌-◌, ◌*◌, ◌%◌, ◌^◌, ◌<◌, ◌≤◌, Bool, true, false, cond, List, ◌∷◌, Contains, Option, Some, None, is_some, unwrap_or, ◌⊎◌, inl, inr, refl, sym, ap, ap₂, subst, ◌∙◌, arith, []}
+use Rattle.std.proofs.Common.{◌≡◌, ℕ, zero, suc, ◌+◌, ◌-◌, ◌*◌, ◌%◌, ◌^◌, ◌<◌, ◌≤◌, Bool, true, false, cond, List, ◌∷◌, Contains, Option, Some, None, is_some, unwrap_or, ◌⊎◌, inl}
+use Rattle.std.proofs.Common.{inr, refl, sym, ap, ap₂, subst, ◌∙◌, arith, []}
 use Rattle.std.proofs.lemmas.Bool.{false≢true, cond_both}
 use Rattle.proof_shape.specs.Beneath.ctrie_base.specs.Hashes.{hash_of}
 use Rattle.proof_shape.specs.Beneath.slot_arena.specs.declared.refs.Ref.{Ref}
@@ -21,7 +22,7 @@ use Rattle.proof_shape.specs.Beneath.machine_model.specs.Grown.{grown, node_unde
 use Rattle.proof_shape.specs.Beneath.proof_memory.specs.Wants.{is_indirection}
 use Rattle.proof_shape.specs.Beneath.proof_memory.proofs.Levels.Shapes.{deep_low}
 use Rattle.proof_shape.specs.Beneath.proof_contents.specs.Tries.{Trie, generation, IsChild, IsShaped, branch, list, tomb, node_in}
-use Rattle.proof_shape.specs.Beneath.proof_contents.specs.Runs.{is_made, main_within, main_at, root_until}
+use Rattle.proof_shape.specs.Beneath.proof_contents.specs.Runs.{is_made, main_within, counting_main, root_until}
 use Rattle.proof_shape.specs.Beneath.proof_contents.proofs.Values.Runs.{key_until}
 use Rattle.proof_shape.specs.Beneath.proof_contents.proofs.Shapes.Builders.{empty_shaped}
 use Rattle.proof_shape.specs.Beneath.proof_contents.proofs.Shapes.Lists.{shape_moves}
@@ -116,7 +117,8 @@ module _ (limits : Limits) (states : ℕ → State) (steps : ℕ → Step) (last
           older = old;
         }
 
-    with_generations : (n : Node) → ((g : ℕ) (child w : Ref) → Contains (entries_of (shown n)) child → trie.node child ≡ Indirection g w → generation trie child ≤ generation trie i) → IsShaped T i n → IsShaped trie i (shown n)
+    with_generations : (n : Node) →
+        ((g : ℕ) (child w : Ref) → Contains (entries_of (shown n)) child → trie.node child ≡ Indirection g w → generation trie child ≤ generation trie i) → IsShaped T i n → IsShaped trie i (shown n)
     with_generations n old (branch b es places is has shallow in_place led children) =
         branch b es places its has (subst (λ d. d < list_depth limits.hash) (sym (depth_is i link)) shallow)
         (λ x k v e at single. ap (λ d. index_in (hash_of limits.hash k) d) (depth_is i link) ∙ in_place x k v e at (bare_shown e (Single k v) single))
@@ -148,7 +150,7 @@ module _ (limits : Limits) (states : ℕ → State) (steps : ℕ → Step) (last
       by_test rest true made = (t, omega (arith, e), refl, λ x. made)
       by_test rest false made = rest
 
-  main_of_some : (t : ℕ) (i : Ref) → t ≤ last → (u : ℕ) × (u ≤ last) × (main_at states last t i ≡ main_before states u i) × (is_made states last i ≡ true → is_made states u i ≡ true)
+  main_of_some : (t : ℕ) (i : Ref) → t ≤ last → (u : ℕ) × (u ≤ last) × (counting_main states last t i ≡ main_before states u i) × (is_made states last i ≡ true → is_made states u i ≡ true)
   main_of_some t i h = some_main (last - t) t i (omega (arith, h))
 
   slot_of_made : (o : Option Slot) → is_some o ≡ true → (slot : Slot) × (o ≡ Some slot)
@@ -160,7 +162,7 @@ module _ (limits : Limits) (states : ℕ → State) (steps : ℕ → Step) (last
       let (u, le, is, still) = main_of_some t i h in
       let (slot, found) = slot_of_made (grown states u i) (still (link_made (grown states last i) link)) in
       let c = counts limits states steps last run takes keys u le i slot found (sym (link_same limits states steps last run takes keys u le i slot found) ∙ link) in
-      with_generations i link (node_under states last (main_at states last t i))
+      with_generations i link (node_under states last (counting_main states last t i))
       (λ k child x within its. newer t h i child k x within its)
       (subst (λ m. IsShaped T i (node_under states last m)) (sym is)
       (shape_moves T (main_before states u i) i (node_under states last (main_before states u i)) (stands limits.hash s (main_before states u i) i (sym c.level) (sym c.path))
@@ -186,7 +188,9 @@ module _ (limits : Limits) (states : ℕ → State) (steps : ℕ → Step) (last
   other_shaped t i h none =
       let (u, le, is, still) = main_of_some t i h in
       let root : trie.depth i ≡ 0 = ap (λ b. cond b (depth_at (level_until states steps last i)) 0) none in
-      subst (IsShaped trie i) (sym (ap (λ m. shown (node_under states last m)) (is ∙ no_main_at u le i none) ∙ ap (λ o. shown (node_of o)) (nothing_stands limits states last run last (omega arith)) ∙ no_node)) (empty_shaped trie fits i (omega (arith, root, deep_low limits.hash)))
+      subst (IsShaped trie i)
+      (sym (ap (λ m. shown (node_under states last m)) (is ∙ no_main_at u le i none)
+      ∙ ap (λ o. shown (node_of o)) (nothing_stands limits states last run last (omega arith)) ∙ no_node)) (empty_shaped trie fits i (omega (arith, root, deep_low limits.hash)))
 
   shaped_at : (t : ℕ) (i : Ref) → t ≤ last → IsShaped trie i (node_in trie t i)
   shaped_at t i h = by_test (is_indirection (node_under states last i)) refl

@@ -79,7 +79,8 @@ module _ (s : Sites) (fits : (i : Ref) → s.path i < 2 ^ (5 * depth_at (s.level
   root_acts kind At root.Read e = tt
   root_acts kind At (root.Completing c) e = complete_acts kind At c.offer c.line e
 
-  swap_acts : (kind : HashKind) (At : Ref → Type 0) (i replaced fresh : Ref) (l : SwapLine) → SwapSite kind s i replaced fresh → SwapLineSite kind s i l → ActionSite kind s At (action_at i replaced fresh l)
+  swap_acts : (kind : HashKind) (At : Ref → Type 0) (i replaced fresh : Ref) (l : SwapLine) → SwapSite kind s i replaced fresh → SwapLineSite kind s i l →
+      ActionSite kind s At (action_at i replaced fresh l)
   swap_acts kind At i replaced fresh swap.Publish h e = h
   swap_acts kind At i replaced fresh (swap.Deciding l) h e = read_acts kind s At i l e
   swap_acts kind At i replaced fresh swap.Check h e = tt
@@ -113,10 +114,12 @@ module _ (s : Sites) (fits : (i : Ref) → s.path i < 2 ^ (5 * depth_at (s.level
     line_acts (line.Renew (renew.Entry path main done)) h e g p knows = tt
     line_acts (line.Renew (renew.Read path main done x)) h e g p knows = read_acts kind s _ x.indirection x.line p.2
     line_acts (line.Renew (renew.Link path main done child)) h e g p knows = λ r at.
-        let stands = link_stands s fits state operation S N path main done r (safe_of h.1.1.0) (meets_of h.1.1.0) (more_left s fits state operation S N main done (safe_of h.1.1.0) (meets_of h.1.1.1.1.0)) p.1.1 e.0.0.1 at.0 at.1 in
+        let stands = link_stands s fits state operation S N path main done r (safe_of h.1.1.0) (meets_of h.1.1.0)
+        (more_left s fits state operation S N main done (safe_of h.1.1.0) (meets_of h.1.1.1.1.0)) p.1.1 e.0.0.1 at.0 at.1 in
         p.2 ∙ sym stands.led
     line_acts (line.Renew (renew.Branch path main done)) h e g p knows = λ r at.
-        repair_makes s fits state operation S N false path main done r (safe_of h.1.1.0) (meets_of h.1.1.0) (leb-true _ (length done) (meets_of h.1.1.1.1.0)) p e.0.1 at.0 (on_way (depth_of path) r at.1)
+        repair_makes s fits state operation S N false path main done r (safe_of h.1.1.0) (meets_of h.1.1.0)
+        (leb-true _ (length done) (meets_of h.1.1.1.1.0)) p e.0.1 at.0 (on_way (depth_of path) r at.1)
         (λ single bad. absurd (false≢true bad))
     line_acts (line.Clean (clean.Read path x)) h e g p knows = read_acts kind s _ x.indirection x.line p.2
     line_acts (line.Clean (clean.Main path main)) h e g p knows = tt
@@ -125,7 +128,8 @@ module _ (s : Sites) (fits : (i : Ref) → s.path i < 2 ^ (5 * depth_at (s.level
     line_acts (line.Clean (clean.Tomb path main done child)) h e g p knows = tt
     line_acts (line.Clean (clean.Contracted path main done)) h e g p knows = λ r at.
         shaped_inside kind s r _
-        (repair_makes s fits state operation S N (is_below_root path && leaves_single state done) path main done r (safe_of h.1.1.0) (meets_of h.1.1.0) (leb-true _ (length done) (meets_of h.1.1.1.1.0)) p e.0.1 at.0
+        (repair_makes s fits state operation S N (is_below_root path && leaves_single state done) path main done r (safe_of h.1.1.0) (meets_of h.1.1.0)
+        (leb-true _ (length done) (meets_of h.1.1.1.1.0)) p e.0.1 at.0
         (on_way (depth_of path) r at.1) (left_alone s fits state operation S N path done (all_of h.1.1.1.0)))
     line_acts (line.Climb (climb.Read c x)) h e g p knows = read_acts kind s _ x.indirection x.line p.2
     line_acts (line.Climb (climb.Main c main)) h e g p knows = tt
@@ -135,7 +139,8 @@ module _ (s : Sites) (fits : (i : Ref) → s.path i < 2 ^ (5 * depth_at (s.level
         let last = all_of h.0 (length c.path - 1) no_ref (let pos : 0 < length c.path = ltb-true 0 (length c.path) some in omega arith) in
         shaped_inside kind s r _
         (climb_makes s fits state operation S N c main r (safe_of h.1.1.1.0) (meets_of h.1.1.1.0) (flags_bitmap _ (node_at state.heap main) (meets_of h.1.1.1.1.0)) long (safe_of h.1.1.0)
-        (single_is s fits state operation S N c.single (node_at state.heap c.single) refl (safe_of h.1.1.0) (meets_of h.1.1.0)) (link_seen s state S N (current c.path) last.0 ∙ last.1) (current_level s.level c.path e.0 some) e.1 p.0 p.1 p.2
+        (single_is s fits state operation S N c.single (node_at state.heap c.single) refl (safe_of h.1.1.0) (meets_of h.1.1.0))
+        (link_seen s state S N (current c.path) last.0 ∙ last.1) (current_level s.level c.path e.0 some) e.1 p.0 p.1 p.2
         at.0 (on_way (depth_of (above c.path)) r at.1))
     line_acts (line.Climb (climb.Root c l)) h e g p knows = root_acts kind _ l e.1
     line_acts (line.Copy (copy.Read q l)) h e g p knows = read_acts kind s _ l.indirection l.line (root_read kind l.indirection l.line e.1 e.2)

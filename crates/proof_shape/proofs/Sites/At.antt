@@ -19,10 +19,8 @@ use Rattle.proof_shape.specs.Beneath.machine_model.specs.Grown.{node_under}
 use Rattle.proof_shape.specs.Beneath.proof_memory.specs.Wants.{AnIndirection, is_indirection, AllHold, line_wants, swap_wants, purpose_wants}
 use Rattle.proof_shape.specs.Beneath.proof_memory.specs.Laws.{IsInUse}
 use Rattle.proof_shape.specs.Beneath.proof_memory.proofs.Claims.Uses.{Meets, fact_of, last_hold}
-use Rattle.proof_shape.specs.Beneath.proof_memory.proofs.Heap.Under.{node_under as heap_node_under}
 use Rattle.proof_shape.specs.Beneath.proof_memory.proofs.Safety.Steps.{of_actor}
 use Rattle.proof_shape.specs.Beneath.proof_memory.proofs.Safety.AtTimes.{limits_at, line_at}
-use Rattle.proof_shape.specs.Beneath.proof_memory.proofs.Heap.Moves.{grown_in_use}
 use Rattle.proof_shape.specs.Beneath.proof_memory.proofs.Levels.Shapes.{ShapeAt}
 use Rattle.proof_shape.specs.Beneath.proof_contents.proofs.Shapes.Nodes.{list_depth-le}
 use Rattle.proof_shape.specs.Sites.Nodes.{path_to, depth_at, level_until, path_until, depth_of_run, path_of_run}
@@ -32,6 +30,7 @@ use Rattle.proof_shape.proofs.Sites.LineWays.{way_level, way_site, way_links}
 use Rattle.proof_shape.proofs.Sites.Given.{levels_there}
 use Rattle.proof_shape.proofs.Sites.Runs.{sites_there}
 use Rattle.proof_shape.proofs.Sites.Grown.{link_same}
+use Rattle.proof_shape.specs.Beneath.machine_model.proofs.Grown.{node_standing as heap_node_under, grown_in_use}
 
 pub link_high : (deep level : ℕ) (n : Node) → is_indirection n ≡ true → ShapeAt deep level n → level ≤ deep + 1
 link_high deep level (Indirection g w) e h = h
@@ -83,7 +82,8 @@ module _ (limits : Limits) (states : ℕ → State) (steps : ℕ → Step) (last
         ap (λ b. cond b (path_until states steps last i) 0) link
         ∙ way_site limits.hash s (hash_of limits.hash (key_of operation.call)) operation.line (lines_have_sites t h actor operation e).1 d no_ref within
 
-    all_there : (is_indirection (node_under states last (slice_index_or (way_of operation.line) d no_ref)) ≡ true) × (depth_of_run states steps last (slice_index_or (way_of operation.line) d no_ref) ≡ d)
+    all_there : (is_indirection (node_under states last (slice_index_or (way_of operation.line) d no_ref)) ≡ true)
+        × (depth_of_run states steps last (slice_index_or (way_of operation.line) d no_ref) ≡ d)
         × (path_of_run states steps last (slice_index_or (way_of operation.line) d no_ref) ≡ path_to (hash_of limits.hash (key_of operation.call)) d)
     unfolding i
     all_there = (link, way_depth, way_path)
@@ -110,12 +110,14 @@ module _ (limits : Limits) (states : ℕ → State) (steps : ℕ → Step) (last
   pub updates_have_sites : UpdatesHaveSites limits states steps last
   updates_have_sites t h actor operation e path former w is =
       let site = subst (LineSite limits.hash s (hash_of limits.hash (key_of operation.call))) is (lines_have_sites t h actor operation e).1 in
-      let claims = subst (λ l. AllHold (IsInUse (states t).heap) (states t).heap (line_wants limits.hash operation.call operation.access l)) is (line_at limits states last run t h actor operation e) in
+      let claims = subst (λ l. AllHold (IsInUse (states t).heap) (states t).heap (line_wants limits.hash operation.call operation.access l)) is
+      (line_at limits states last run t h actor operation e) in
       let some : 0 < length path = ltb-true 0 (length path) (fact_of (last_hold (IsInUse (states t).heap) (states t).heap (swap_wants w) (purpose_wants (purpose.Update path former)) claims).1.0) in
       let same : way_of operation.line ≡ path = ap way_of is in
       let ways = ways_have_sites t h actor operation e in
       let short : length path ≤ 14 = subst (λ p. length p ≤ 14) same ways.0 in
       let there = subst (λ p. let i = slice_index_or p (depth_of path) no_ref in
-      (is_indirection (node_under states last i) ≡ true) × (depth_of_run states steps last i ≡ depth_of path) × (path_of_run states steps last i ≡ path_to (hash_of limits.hash (key_of operation.call)) (depth_of path))) same
+      (is_indirection (node_under states last i) ≡ true) × (depth_of_run states steps last i ≡ depth_of path)
+      × (path_of_run states steps last i ≡ path_to (hash_of limits.hash (key_of operation.call)) (depth_of path))) same
       (ways.1 (depth_of path) (subst (λ p. depth_of path < length p) (sym same) (omega arith))) in
       (site.2.1, ap (depth_of_run states steps last) site.2.1 ∙ there.1, omega arith, ap (path_of_run states steps last) site.2.1 ∙ there.2)

@@ -62,11 +62,13 @@ brought state f g (commits actor operation i main previous told was takes v f_ma
 brought state f g (fails actor operation i main previous told was takes v f_main g_main others) r slot none e =
     elim (cases_eq r main) [ inl same ↦ absurd (none-some was (sym none ∙ ap f same ∙ f_main)) | inr other ↦ absurd (none-some slot (sym none ∙ sym (others r other) ∙ e)) ]
 
-brought_by : (state : State) (f g : Ref → Option Slot) → WordMove state f g ⊎ ((r : Ref) → (g r ≡ f r) ⊎ (g r ≡ None)) → (r : Ref) (slot : Slot) → f r ≡ None → g r ≡ Some slot → next_ref state.heap ≡ Some r
+brought_by : (state : State) (f g : Ref → Option Slot) → WordMove state f g ⊎ ((r : Ref) → (g r ≡ f r) ⊎ (g r ≡ None)) → (r : Ref) (slot : Slot) → f r ≡ None →
+    g r ≡ Some slot → next_ref state.heap ≡ Some r
 brought_by state f g (inl w) r slot none e = brought state f g w r slot none e
 brought_by state f g (inr goes) r slot none e = elim (goes r) [ inl same ↦ absurd (none-some slot (sym none ∙ sym same ∙ e)) | inr gone ↦ absurd (none-some slot (sym gone ∙ e)) ]
 
-pub born : (state : State) → IsSafe state → (x : Step) (o : Outcome) (after : State) → Moves state x o after → (r : Ref) (slot : Slot) → standing state.heap r ≡ None → standing after.heap r ≡ Some slot → IsBorn state x r slot
+pub born : (state : State) → IsSafe state → (x : Step) (o : Outcome) (after : State) → Moves state x o after → (r : Ref) (slot : Slot) →
+    standing state.heap r ≡ None → standing after.heap r ≡ Some slot → IsBorn state x r slot
 born state I x o after (Begins {actor} {call} d) r slot none new =
     absurd (none-some slot (sym none ∙ sym (ap (λ heap. standing heap r) (begin_heap state actor call (begun_operation state call))) ∙ new))
 born state I x o after (Ends d is a) r slot none new = absurd (none-some slot (sym none ∙ new))

@@ -66,7 +66,8 @@ module _ (s : Sites) (fits : (i : Ref) → s.path i < 2 ^ (5 * depth_at (s.level
     K = record { kind = kind; node = s.node; first = first }
 
     -- where the paths of a neighbour and of the key part
-    module _ (path : List Ref) (main : Ref) (position : ℕ) (u : S main) (level : s.level main ≡ depth_of path + 1) (p : Place path main) (beside : Neighbour K (depth_of path) (key_of operation.call) main position) where
+    module _ (path : List Ref) (main : Ref) (position : ℕ) (u : S main) (level : s.level main ≡ depth_of path + 1) (p : Place path main)
+        (beside : Neighbour K (depth_of path) (key_of operation.call) main position) where
       deep : depth_at (s.level main) ≡ depth_of path
       deep = omega (arith, level)
 
@@ -92,12 +93,14 @@ module _ (s : Sites) (fits : (i : Ref) → s.path i < 2 ^ (5 * depth_at (s.level
           subst (λ d. index_in (hash_of kind beside.other) d ≡ index_in hash (depth_of path)) deep
           (b.in_place (index_in hash (depth_of path)) beside.other beside.own (slice_index_or beside.entries.items position no_ref) stood (ap bare beside.is))
 
-      parted : (depth : ℕ) → depth ≡ parting (list_depth kind - (depth_of path + 1)) (hash_of kind beside.other) hash (depth_of path + 1) → path_to (hash_of kind beside.other) depth ≡ path_to hash depth
+      parted : (depth : ℕ) → depth ≡ parting (list_depth kind - (depth_of path + 1)) (hash_of kind beside.other) hash (depth_of path + 1) →
+          path_to (hash_of kind beside.other) depth ≡ path_to hash depth
       parted depth e = subst (λ d. path_to (hash_of kind beside.other) d ≡ path_to hash d) ends
           (path_alike (hash_of kind beside.other) hash (suc (depth_of path)) (depth - suc (depth_of path)) (path_longer (hash_of kind beside.other) hash (depth_of path) shared same_index) alike)
         where
           its : IsParting (list_depth kind - (depth_of path + 1)) (hash_of kind beside.other) hash (depth_of path + 1) depth
-          its = subst (IsParting (list_depth kind - (depth_of path + 1)) (hash_of kind beside.other) hash (depth_of path + 1)) (sym e) (parting_is (list_depth kind - (depth_of path + 1)) (hash_of kind beside.other) hash (depth_of path + 1))
+          its = subst (IsParting (list_depth kind - (depth_of path + 1)) (hash_of kind beside.other) hash (depth_of path + 1)) (sym e)
+              (parting_is (list_depth kind - (depth_of path + 1)) (hash_of kind beside.other) hash (depth_of path + 1))
 
           ends : suc (depth_of path) + (depth - suc (depth_of path)) ≡ depth
           ends = omega (arith, its.from)
@@ -114,7 +117,8 @@ module _ (s : Sites) (fits : (i : Ref) → s.path i < 2 ^ (5 * depth_at (s.level
           let led_old = parted depth e in
           let shallow : depth_of path < list_depth kind = omega (arith, b.shallow, deep) in
           subst (λ d. IsShaped (trie_at kind s) r (pair kind d (hash_of kind beside.other) hash (slice_index_or beside.entries.items position no_ref) single)) here
-          (pair_shaped (trie_at kind s) fits r beside.other (key_of operation.call) beside.own (value_of operation.call) (slice_index_or beside.entries.items position no_ref) single (ap bare beside.is) (ap bare new)
+          (pair_shaped (trie_at kind s) fits r beside.other (key_of operation.call) beside.own (value_of operation.call)
+          (slice_index_or beside.entries.items position no_ref) single (ap bare beside.is) (ap bare new)
           beside.apart (omega (arith, here, most))
           (subst (Parts kind beside.other (key_of operation.call)) (sym e ∙ sym here) (pair_parts kind beside.other (key_of operation.call) (depth_of path) shallow))
           (ap (path_to (hash_of kind beside.other)) here ∙ led_old ∙ sym on) (ap (path_to hash) here ∙ sym on)
@@ -123,12 +127,14 @@ module _ (s : Sites) (fits : (i : Ref) → s.path i < 2 ^ (5 * depth_at (s.level
             sym (whole_path kind (key_of operation.call) key_fits) ∙ ap (path_to hash) (sym end ∙ here) ∙ sym on,
           )))
 
-    entry_child : (path : List Ref) (former : Option ℕ) (entry r : Ref) → s.level r ≡ depth_of path + 1 → IsOnWay kind s hash (depth_of path) r → UpdateLevel s.level path former entry → UpdateSite kind s hash path former entry →
+    entry_child : (path : List Ref) (former : Option ℕ) (entry r : Ref) → s.level r ≡ depth_of path + 1 → IsOnWay kind s hash (depth_of path) r →
+        UpdateLevel s.level path former entry → UpdateSite kind s hash path former entry →
         (led : path_to hash (depth_at (s.level r)) ≡ s.path r) → EntryIsChild kind s fits first operation.call r key_fits led former entry
     entry_child path None entry r level on e u led = on_way_child kind s hash (depth_of path) r entry level e on u
     entry_child path (Some value) entry r level on e u led = tt
 
-    link_child : (path : List Ref) (former : Option ℕ) (c : Change) (r : Ref) → s.level r ≡ depth_of path + 1 → IsOnWay kind s hash (depth_of path) r → ChangeLevel s.level path former c → ChangeSite kind s hash path former c →
+    link_child : (path : List Ref) (former : Option ℕ) (c : Change) (r : Ref) → s.level r ≡ depth_of path + 1 → IsOnWay kind s hash (depth_of path) r →
+        ChangeLevel s.level path former c → ChangeSite kind s hash path former c →
         (led : path_to hash (depth_at (s.level r)) ≡ s.path r) → LinkIsChild kind s fits first operation.call r key_fits led former c
     link_child path former (change.Insert single) r level on e u led = tt
     link_child path former (change.Update position entry) r level on e u led = entry_child path former entry r level on e u led
@@ -182,7 +188,8 @@ module _ (s : Sites) (fits : (i : Ref) → s.path i < 2 ^ (5 * depth_at (s.level
   abbrev Made : Line → Type 0
   Made l = (made : Ref) → next_ref state.heap ≡ Some made → AtSite s state operation l made
 
-  build_by : (l : BuildLine) → ((made : Ref) → next_ref state.heap ≡ Some made → L (build_after_made state operation l made)) → (o : Option Ref) → next_ref state.heap ≡ o → L (build_if_made state operation l o)
+  build_by : (l : BuildLine) → ((made : Ref) → next_ref state.heap ≡ Some made → L (build_after_made state operation l made)) → (o : Option Ref) →
+      next_ref state.heap ≡ o → L (build_if_made state operation l o)
   build_by l f None e = tt
   build_by l f (Some made) e = f made e
 
@@ -190,7 +197,8 @@ module _ (s : Sites) (fits : (i : Ref) → s.path i < 2 ^ (5 * depth_at (s.level
   updated_so path None made e = absurd (false≢true e)
   updated_so path (Some value) made e = tt
 
-  single_next : (path : List Ref) (main : Ref) (former : Option ℕ) (where_ : Site) (made : Ref) → AllHold S state.heap (site_wants main former where_) → Place path main → L (after_single state operation path main former where_ made)
+  single_next : (path : List Ref) (main : Ref) (former : Option ℕ) (where_ : Site) (made : Ref) → AllHold S state.heap (site_wants main former where_) →
+      Place path main → L (after_single state operation path main former where_ made)
   single_next path main former site.Absent made h p = (p, tt)
   single_next path main former (site.At position) made h p = (p, updated_so path former made (fact_of h.0))
   single_next path main former (site.Beside position) made h p = p
@@ -198,7 +206,8 @@ module _ (s : Sites) (fits : (i : Ref) → s.path i < 2 ^ (5 * depth_at (s.level
   on_way : (depth : ℕ) (made : Ref) → s.path made ≡ path_to hash (depth_at (depth + 1)) → IsOnWay kind s hash depth made
   on_way depth made e = let here : depth_at (depth + 1) ≡ depth = omega arith in e ∙ ap (path_to hash) here
 
-  link_next : (path : List Ref) (main : Ref) (position depth : ℕ) (made : Ref) → Place path main → depth_of path + 1 ≤ depth → IsOnWay kind s hash depth made → L (after_link path main position depth made)
+  link_next : (path : List Ref) (main : Ref) (position depth : ℕ) (made : Ref) → Place path main → depth_of path + 1 ≤ depth → IsOnWay kind s hash depth made →
+      L (after_link path main position depth made)
   link_next path main position depth made p le e =
       let back : depth ≡ depth - 1 + 1 = omega arith in
       cond_both (depth == depth_of path + 1) _ _ L (λ t. (p, e ∙ ap (path_to hash) (eqb-true depth (depth_of path + 1) t))) (λ t. (p, e ∙ ap (path_to hash) back))

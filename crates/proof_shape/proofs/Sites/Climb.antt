@@ -1,5 +1,6 @@
 -- Sites in CLIMB and after a SWAP: a tomb's single is carried up the path.
-use Rattle.std.proofs.Common.{◌≡◌, ℕ, suc, ◌+◌, ◌*◌, ◌^◌, ◌<◌, ◌==◌, Bool, true, false, nat_lt, List, [], ◌∷◌, length, set, length-set, slice_index_or, Option, Some, None, refl, sym, ap, subst, ◌∙◌, inl, inr, ltb-true, lt-ltb, eqb-true, arith}
+use Rattle.std.proofs.Common.{◌≡◌, ℕ, suc, ◌+◌, ◌*◌, ◌^◌, ◌<◌, ◌==◌, Bool, true, false, nat_lt, List, [], ◌∷◌, length, set, length-set, slice_index_or, Option, Some, None, refl}
+use Rattle.std.proofs.Common.{sym, ap, subst, ◌∙◌, inl, inr, ltb-true, lt-ltb, eqb-true, arith}
 use Rattle.std.proofs.lemmas.Bool.{cases_eq, cond_both, and_parts}
 use Rattle.std.proofs.lemmas.List.{get_or-set_same, get_or-set_other}
 use Rattle.arrayvec.specs.ArrayVec.{ArrayVec}
@@ -76,17 +77,24 @@ module _ (s : Sites) (fits : (i : Ref) → s.path i < 2 ^ (5 * depth_at (s.level
       let deep : depth_at (s.level main) ≡ depth = omega (arith, level) in
       ap (λ n. path_to (hash_of kind n) depth) (sym key_is) ∙ ap (path_to (hash_of kind t.key)) (sym deep) ∙ t.led ∙ on
 
-  pub climb_read_site : (c : Climb) (i : Ref) (a : After ReadLine Ref) → Carries c → IsOnWay kind s hash (depth_of (above c.path)) i → AfterSite s state S N i a → L (climb_after_read c (at_indirection i a))
+  pub climb_read_site : (c : Climb) (i : Ref) (a : After ReadLine Ref) → Carries c → IsOnWay kind s hash (depth_of (above c.path)) i → AfterSite s state S N i a →
+      L (climb_after_read c (at_indirection i a))
   climb_read_site c i (Goes l) p e h = (p, e, h)
   climb_read_site c i (Gives main) p e h = (p, h ∙ e)
 
-  pub climb_main_site : (c : Climb) (main : Ref) (node : Node) → node_at state.heap main ≡ node → S main → s.level main ≡ depth_of (above c.path) + 1 → Carries c → IsOnWay kind s hash (depth_of (above c.path)) main →
+  pub climb_main_site : (c : Climb) (main : Ref) (node : Node) → node_at state.heap main ≡ node → S main → s.level main ≡ depth_of (above c.path) + 1 → Carries c →
+      IsOnWay kind s hash (depth_of (above c.path)) main →
       L (climb_after_main state operation c main node)
   climb_main_site c main (Tomb single) e u level p on =
       climbing_site (higher c single) (above_site kind s hash c.path p.0, λ k v is. tomb_leads main single (depth_of (above c.path)) k v u e level on is)
   climb_main_site c main (Branch bitmap entries) e u level p on =
       cond_both (holds_it state operation c main bitmap entries.items) _ _ L
-      (λ x. (p, on, holds (eqb-true _ _ (and_parts (has_flag bitmap (flag_in state operation (above c.path))) (slice_index_or entries.items (place_in state operation c main) no_ref == current c.path) x).1))) (λ x. tt)
+      (λ x. (
+        p,
+        on,
+        holds (eqb-true _ _
+            (and_parts (has_flag bitmap (flag_in state operation (above c.path))) (slice_index_or entries.items (place_in state operation c main) no_ref == current c.path) x).1),
+      )) (λ x. tt)
     where
       holds : slice_index_or entries.items (place_in state operation c main) no_ref ≡ current c.path → HoldsTombed kind s hash c main
       holds same =
@@ -107,7 +115,8 @@ module _ (s : Sites) (fits : (i : Ref) → s.path i < 2 ^ (5 * depth_at (s.level
 
   -- ---- what CLIMB makes
 
-  pub climb_makes : (c : Climb) (main r : Ref) → S main → meets ABranch (node_at state.heap main) ≡ true → has_flag (bitmap_of (node_at state.heap main)) (flag_in state operation (above c.path)) ≡ true →
+  pub climb_makes : (c : Climb) (main r : Ref) → S main → meets ABranch (node_at state.heap main) ≡ true →
+      has_flag (bitmap_of (node_at state.heap main)) (flag_in state operation (above c.path)) ≡ true →
       nat_lt 1 (length c.path) ≡ true → S c.single → IsSingle (trie_at kind s) c.single → is_indirection (s.node (current c.path)) ≡ true → s.level (current c.path) ≡ depth_of c.path + 1 →
       s.level main ≡ depth_of (above c.path) + 1 → Carries c → IsOnWay kind s hash (depth_of (above c.path)) main → HoldsTombed kind s hash c main →
       s.level r ≡ depth_of (above c.path) + 1 → IsOnWay kind s hash (depth_of (above c.path)) r → IsShaped (trie_at kind s) r (climbed_node state operation c main)
@@ -193,7 +202,8 @@ module _ (s : Sites) (fits : (i : Ref) → s.path i < 2 ^ (5 * depth_at (s.level
   check_site w (prev.Pending p) = tt
   check_site w (prev.Failed p) = tt
 
-  update_site : (path : List Ref) (former : Option ℕ) (i fresh : Ref) (node : Node) → node_at state.heap fresh ≡ node → S fresh → PathSite kind s hash path → i ≡ current path → nat_lt 0 (length path) ≡ true →
+  update_site : (path : List Ref) (former : Option ℕ) (i fresh : Ref) (node : Node) → node_at state.heap fresh ≡ node → S fresh → PathSite kind s hash path →
+      i ≡ current path → nat_lt 0 (length path) ≡ true →
       s.level (current path) ≡ depth_of path + 1 → s.level fresh ≡ s.level i → s.path fresh ≡ s.path i → L (after_update operation path former node)
   update_site path former i fresh (Tomb single) e u p is long level same led =
       climbing_site (record { path = path; single = single; former = former })
@@ -207,7 +217,8 @@ module _ (s : Sites) (fits : (i : Ref) → s.path i < 2 ^ (5 * depth_at (s.level
       deep : depth_of c.path ≡ suc (depth_of (above c.path))
       deep = omega (arith, above_depth kind s hash c.path below)
 
-      shorter : (k : ℕ) → path_to (hash_of kind k) (depth_of c.path) ≡ path_to hash (depth_of c.path) → path_to (hash_of kind k) (suc (depth_of (above c.path))) ≡ path_to hash (suc (depth_of (above c.path)))
+      shorter : (k : ℕ) → path_to (hash_of kind k) (depth_of c.path) ≡ path_to hash (depth_of c.path) →
+          path_to (hash_of kind k) (suc (depth_of (above c.path))) ≡ path_to hash (suc (depth_of (above c.path)))
       shorter k e = subst (λ d. path_to (hash_of kind k) d ≡ path_to hash d) deep e
 
   climbed_site : (c : Climb) (node : Node) → is_below_root c.path ≡ true → Carries c → L (climbed_on operation c node)
@@ -221,7 +232,8 @@ module _ (s : Sites) (fits : (i : Ref) → s.path i < 2 ^ (5 * depth_at (s.level
   PurposePath purpose.Clean = Unit {0}
   PurposePath (purpose.Climb c) = nat_lt 1 (length c.path) ≡ true
 
-  swapped_site : (w : Swap) (why : Purpose) (done : Bool) → S w.fresh → s.level w.fresh ≡ s.level w.indirection → s.path w.fresh ≡ s.path w.indirection → PurposePath why → PurposeSite kind s hash w.indirection why →
+  swapped_site : (w : Swap) (why : Purpose) (done : Bool) → S w.fresh → s.level w.fresh ≡ s.level w.indirection → s.path w.fresh ≡ s.path w.indirection →
+      PurposePath why → PurposeSite kind s hash w.indirection why →
       L (swapped operation (node_at state.heap w.fresh) why done)
   swapped_site w (purpose.Update path former) true u same led long p = update_site path former w.indirection w.fresh (node_at state.heap w.fresh) refl u p.0 p.1 long.0 long.1 same led
   swapped_site w (purpose.Update path former) false u same led long p = tt
@@ -231,7 +243,8 @@ module _ (s : Sites) (fits : (i : Ref) → s.path i < 2 ^ (5 * depth_at (s.level
   swapped_site w (purpose.Climb c) true u same led long p = climbed_site c (node_at state.heap w.fresh) long p
   swapped_site w (purpose.Climb c) false u same led long p = p
 
-  pub line_swap_site : (why : Purpose) (w : Swap) (a : After SwapLine Bool) → S w.fresh → s.level w.fresh ≡ s.level w.indirection → PurposePath why → SwapSite kind s w.indirection w.replaced w.fresh → SwappedSite w a →
+  pub line_swap_site : (why : Purpose) (w : Swap) (a : After SwapLine Bool) → S w.fresh → s.level w.fresh ≡ s.level w.indirection → PurposePath why →
+      SwapSite kind s w.indirection w.replaced w.fresh → SwappedSite w a →
       PurposeSite kind s hash w.indirection why → L (line_after_swap state operation why w (on_line w a))
   line_swap_site why w (Goes l) u same long h e p = (h, e, p)
   line_swap_site why w (Gives done) u same long h e p = swapped_site w why done u same h.1 long p

@@ -13,24 +13,23 @@ use Rattle.proof_shape.specs.Beneath.machine_model.specs.declared.steps.Step.The
 use Rattle.proof_shape.specs.Beneath.machine_model.specs.States.{State, first_state, operation_of}
 use Rattle.proof_shape.specs.Beneath.machine_model.specs.Renewing.{next_entry}
 use Rattle.proof_shape.specs.Beneath.machine_model.specs.Machine.{run, run_from, next, next_state, is_number, is_taken_step, taken_from, taken_steps}
-use Rattle.proof_shape.specs.Beneath.machine_model.proofs.Times.{run_is, run_ends}
+use Rattle.proof_shape.specs.Beneath.machine_model.proofs.Times.{run_is, run_ends, states_from-zero}
 use Rattle.proof_shape.specs.Beneath.machine_model.specs.Times.{states_from, states_of, last_of}
 use Rattle.proof_shape.specs.Beneath.machine_model.specs.Grown.{grown, standing}
-use Rattle.proof_shape.specs.Beneath.proof_memory.proofs.Heap.Moves.{grown_in_use}
 use Rattle.proof_shape.specs.Beneath.proof_memory.specs.Making.{made_now, level_now}
 use Rattle.proof_shape.specs.Sites.Nodes.{path_to, depth_at, leads_by, leads_of, leads_now, level_until, path_until, steps_of}
 use Rattle.proof_shape.specs.Beneath.machine_model.specs.Keys.{FitsKey, KeysFit}
-use Rattle.proof_shape.specs.Beneath.proof_commits.proofs.Words.InHeap.{states_at_zero}
 use Rattle.proof_shape.specs.Sites.At.{StepsFit}
 use Rattle.proof_shape.specs.Laws.{SitesAreFixed}
 use Rattle.proof_shape.proofs.Sites.Stepped.{takes_steps}
 use Rattle.proof_shape.proofs.Sites.Given.{level_stays, path_stays}
+use Rattle.proof_shape.specs.Beneath.machine_model.proofs.Grown.{grown_in_use}
 
 -- ---- more steps go on from where those before end
 
 pub states_from-append : (state : State) (xs ys : List Step) (t : ℕ) → t ≤ length xs → states_from state (xs ++ ys) t ≡ states_from state xs t
 unfolding states_from
-states_from-append state [] ys t h = let none : t ≡ zero = omega (arith, h) in ap (states_from state ys) none ∙ states_at_zero state ys
+states_from-append state [] ys t h = let none : t ≡ zero = omega (arith, h) in ap (states_from state ys) none ∙ states_from-zero state ys
 states_from-append state (x ∷ xs) ys zero h = refl
 states_from-append state (x ∷ xs) ys (suc t) h = states_from-append (next_state state x) xs ys t (omega arith)
 
@@ -85,7 +84,8 @@ module _ (a b : ℕ → State) (s u : ℕ → Step) where
   unfolding path_until
   path_same zero same r = refl
   path_same (suc t) same r =
-      ap₂ (λ state step_. cond (is_number r (made_now state step_)) (path_to (leads_now state (path_until a s t) step_) (depth_at (level_now state step_))) (path_until a s t r)) (same.0 t (omega arith)) (same.1 t (omega arith))
+      ap₂ (λ state step_. cond (is_number r (made_now state step_)) (path_to (leads_now state (path_until a s t) step_) (depth_at (level_now state step_)))
+      (path_until a s t r)) (same.0 t (omega arith)) (same.1 t (omega arith))
       ∙ ap₂ (λ p q. cond (is_number r (made_now (b t) (u t))) (path_to p (depth_at (level_now (b t) (u t)))) q)
       (leads_same (b t) (path_until a s t) (path_until b u t) (path_same t ((λ v h. same.0 v (omega (arith, h))), (λ v h. same.1 v (omega (arith, h))))) (u t))
       (path_same t ((λ v h. same.0 v (omega (arith, h))), (λ v h. same.1 v (omega (arith, h)))) r)
@@ -108,9 +108,11 @@ keys_fit limits steps fit t h = taken_fit (first_state limits) steps fit t step.
 
 pub sites_are_fixed : SitesAreFixed
 sites_are_fixed limits steps more r ok (slot, found) = (
-  level_stays limits (states_of limits all) (steps_of limits all) (last_of limits all) (run_is limits all ok) (takes_steps limits all) (last_of limits steps) (last_of limits all) longer (omega arith) r slot made
+  level_stays limits (states_of limits all) (steps_of limits all) (last_of limits all) (run_is limits all ok) (takes_steps limits all) (last_of limits steps)
+      (last_of limits all) longer (omega arith) r slot made
       ∙ level_same (states_of limits all) (states_of limits steps) (steps_of limits all) (steps_of limits steps) (last_of limits steps) alike r,
-  path_stays limits (states_of limits all) (steps_of limits all) (last_of limits all) (run_is limits all ok) (takes_steps limits all) (last_of limits steps) (last_of limits all) longer (omega arith) r slot made
+  path_stays limits (states_of limits all) (steps_of limits all) (last_of limits all) (run_is limits all ok) (takes_steps limits all) (last_of limits steps)
+      (last_of limits all) longer (omega arith) r slot made
       ∙ path_same (states_of limits all) (states_of limits steps) (steps_of limits all) (steps_of limits steps) (last_of limits steps) alike r,
 )
   where

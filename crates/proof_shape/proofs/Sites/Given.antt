@@ -31,7 +31,7 @@ use Rattle.proof_shape.specs.Beneath.proof_memory.specs.Wants.{AllHold, node_wan
 use Rattle.proof_shape.specs.Beneath.proof_memory.specs.Laws.{IsInUse}
 use Rattle.proof_shape.specs.Beneath.proof_memory.proofs.Claims.Uses.{safe_of}
 use Rattle.proof_shape.specs.Beneath.proof_memory.proofs.Safety.First.{first_words, first_stands, safe_at_first}
-use Rattle.proof_shape.specs.Beneath.proof_memory.proofs.Heap.Moves.{grown_in_use, grown_stays, not_yet_drawn}
+use Rattle.proof_shape.specs.Beneath.proof_memory.proofs.Heap.Moves.{grown_stays, not_yet_drawn}
 use Rattle.proof_shape.specs.Beneath.proof_memory.specs.Levels.{WordLevel, EntryLevel}
 use Rattle.proof_shape.specs.Beneath.proof_memory.proofs.Levels.States.{HasLevels, GivesLevel, SlotLevel, levels_after}
 use Rattle.proof_shape.specs.Beneath.proof_memory.proofs.Levels.Runs.{made_next, number_is}
@@ -40,6 +40,7 @@ use Rattle.proof_shape.specs.Beneath.proof_memory.proofs.Levels.Shapes.{ShapeAt,
 use Rattle.proof_shape.specs.Beneath.proof_memory.proofs.Levels.ShapeStates.{HasShapes, shapes_after}
 use Rattle.proof_shape.specs.Sites.Nodes.{path_to, depth_at, leads_now, level_until, path_until}
 use Rattle.proof_shape.specs.Sites.At.{TakesSteps}
+use Rattle.proof_shape.specs.Beneath.machine_model.proofs.Grown.{grown_in_use}
 
 -- ---- what is made is drawn, and stands
 
@@ -141,7 +142,8 @@ module _ (limits : Limits) (states : ℕ → State) (steps : ℕ → Step) (last
       let (root, at_root) = safe_of ((safe_at_first limits run.limits_ok).words 0 _ refl).0 in
       let held = ((safe_at_first limits run.limits_ok).nodes (ref_to 2 1) root at_root).0 in
       let (slot, found) =
-      first_stands (λ r (slot : Slot). AllHold (IsInUse (first_state limits).heap) (first_state limits).heap (node_wants slot.node ++ prev_wants slot.prev) → r ≡ ref_to 2 1 → IsInUse (first_state limits).heap (ref_to 1 0)) limits.slots
+      first_stands (λ r (slot : Slot). AllHold (IsInUse (first_state limits).heap) (first_state limits).heap (node_wants slot.node ++ prev_wants slot.prev) →
+      r ≡ ref_to 2 1 → IsInUse (first_state limits).heap (ref_to 1 0)) limits.slots
       run.limits_ok.0 run.limits_ok.1 (λ birth h is. safe_of h.0) (λ birth h is. absurd (omega (arith, is))) (ref_to 2 1) root at_root held refl in
       old_level (ref_to 1 0) slot found
 

@@ -104,7 +104,8 @@ module _ (limits : Limits) (states : ℕ → State) (steps : ℕ → Step) (last
         inside = site.0;
         before = site.1;
         levels = (levels_there limits states steps last run takes t h).0.nodes r slot found;
-        shape = subst (λ (l : Limits). ShapeAt (list_depth l.hash) (s.level r) slot.node) (limits_at limits states last run t h) ((levels_there limits states steps last run takes t h).1.nodes r slot found);
+        shape = subst (λ (l : Limits). ShapeAt (list_depth l.hash) (s.level r) slot.node) (limits_at limits states last run t h)
+            ((levels_there limits states steps last run takes t h).1.nodes r slot found);
         word = word_made t slot.node (first_hold (IsInUse (states t).heap) (states t).heap (node_wants slot.node) (prev_wants slot.prev) claims);
         over = prev_made t slot.prev (last_hold (IsInUse (states t).heap) (states t).heap (node_wants slot.node) (prev_wants slot.prev) claims);
       }
@@ -114,7 +115,8 @@ module _ (limits : Limits) (states : ℕ → State) (steps : ℕ → Step) (last
   grown_sites zero h r slot found = from_standing zero h r slot found
   grown_sites (suc t) h r slot found = by_standing (grown_sites t (omega arith) r slot) (standing (states (suc t)).heap r) refl found
     where
-      by_standing : (grown states t r ≡ Some slot → GrownSite t r slot) → (o : Option Slot) → standing (states (suc t)).heap r ≡ o → or_before o (grown states t r) ≡ Some slot → GrownSite (suc t) r slot
+      by_standing : (grown states t r ≡ Some slot → GrownSite t r slot) → (o : Option Slot) → standing (states (suc t)).heap r ≡ o →
+          or_before o (grown states t r) ≡ Some slot → GrownSite (suc t) r slot
       by_standing was (Some now) e same = from_standing (suc t) h r slot (e ∙ same)
       by_standing was None e same =
           let at = was same in
@@ -135,7 +137,8 @@ module _ (limits : Limits) (states : ℕ → State) (steps : ℕ → Step) (last
     pub made : IsMadeMain states t m
 
   -- a main word, and what it stands over
-  pub counts_by : (t : ℕ) → t ≤ last → (i w : Ref) (slot : Slot) → s.path w ≡ s.path i → s.level w ≡ s.level i → IsMadeMain states t w → grown states t w ≡ Some slot → CountsFor t i (logical w slot.prev)
+  pub counts_by : (t : ℕ) → t ≤ last → (i w : Ref) (slot : Slot) → s.path w ≡ s.path i → s.level w ≡ s.level i → IsMadeMain states t w →
+      grown states t w ≡ Some slot → CountsFor t i (logical w slot.prev)
   counts_by t h i w slot path level made found = by_prev slot.prev (grown_sites t h w slot found).before (grown_sites t h w slot found).levels.1 (grown_sites t h w slot found).over
     where
       by_prev : (p : Prev) → PrevSite limits.hash s w p → PrevLevel s.level w p → PrevMade states t p → CountsFor t i (logical w p)
@@ -157,7 +160,8 @@ module _ (limits : Limits) (states : ℕ → State) (steps : ℕ → Step) (last
       by_node (Listed ss) is e site level made = absurd (false≢true e)
 
   -- the main word
-  pub word_site : (t : ℕ) → t ≤ last → (i : Ref) (slot : Slot) → grown states t i ≡ Some slot → is_indirection slot.node ≡ true → (s.level (main_of slot.node) ≡ s.level i) × (s.path (main_of slot.node) ≡ s.path i)
+  pub word_site : (t : ℕ) → t ≤ last → (i : Ref) (slot : Slot) → grown states t i ≡ Some slot → is_indirection slot.node ≡ true →
+      (s.level (main_of slot.node) ≡ s.level i) × (s.path (main_of slot.node) ≡ s.path i)
   word_site t h i slot found link = by_node slot.node link (grown_sites t h i slot found).inside (grown_sites t h i slot found).levels.0
     where
       by_node : (n : Node) → is_indirection n ≡ true → InsideSite limits.hash s i n → NodeLevel s.level i n → (s.level (main_of n) ≡ s.level i) × (s.path (main_of n) ≡ s.path i)

@@ -108,7 +108,8 @@ module _ (s : Sites) (fits : (i : Ref) → s.path i < 2 ^ (5 * depth_at (s.level
 
   pub key_entry_site : (first : Ref → Ref) (path : List Ref) (main : Ref) (position bitmap : ℕ) (entries : ArrayVec Ref) (node : Node) → node_at state.heap (entry_at state.heap main position) ≡ node →
       S main → S (entry_at state.heap main position) → nat_lt 0 (length path) ≡ true → s.level main ≡ depth_of path + 1 → Place path main →
-      IsFlagged (record { kind = kind; node = s.node; first = first }) (depth_of path) (key_of operation.call) main position bitmap entries → L (key_after_entry state operation path main position node)
+      IsFlagged (record { kind = kind; node = s.node; first = first }) (depth_of path) (key_of operation.call) main position bitmap entries →
+      L (key_after_entry state operation path main position node)
   key_entry_site first path main position bitmap entries (Indirection generation word) e u v long level p f =
       let link = link_seen s state S N (entry_at state.heap main position) v ∙ ap is_indirection e in
       let on = down first path main position bitmap entries u level p f link in

@@ -14,10 +14,8 @@ use Rattle.proof_shape.specs.Beneath.machine_model.specs.Grown.{standing}
 use Rattle.proof_shape.specs.Beneath.proof_memory.specs.Wants.{is_indirection, AllHold, node_wants, AMain, Is, Holds}
 use Rattle.proof_shape.specs.Beneath.proof_memory.specs.Laws.{IsInUse}
 use Rattle.proof_shape.specs.Beneath.proof_memory.proofs.Claims.Uses.{safe_of}
-use Rattle.proof_shape.specs.Beneath.proof_memory.proofs.Heap.Under.{node_under, prev_under}
 use Rattle.proof_shape.specs.Beneath.proof_memory.proofs.Safety.AtEachTime.{safe_at}
 use Rattle.proof_shape.specs.Beneath.proof_memory.proofs.Safety.AtTimes.{kind_at}
-use Rattle.proof_shape.specs.Beneath.proof_memory.proofs.Heap.Moves.{grown_in_use}
 use Rattle.proof_shape.specs.Beneath.proof_memory.proofs.Levels.States.{heaped_in_use}
 use Rattle.proof_shape.specs.Sites.Nodes.{steps_of}
 use Rattle.proof_shape.specs.Sites.Lines.{Sites, sites_of}
@@ -31,6 +29,7 @@ use Rattle.proof_shape.proofs.Sites.Grown.{CountsFor, word_site, counts_by}
 use Rattle.proof_shape.proofs.Sites.At.{ways_have_sites, way_stands}
 use Rattle.proof_shape.proofs.Sites.Roots.{word_root}
 use Rattle.proof_shape.proofs.Sites.Fixed.{keys_fit}
+use Rattle.proof_shape.specs.Beneath.machine_model.proofs.Grown.{node_standing, prev_standing, grown_in_use}
 
 -- at a time of a run
 module _ (limits : Limits) (states : ℕ → State) (steps : ℕ → Step) (last : ℕ) (run : IsRun limits states last) (takes : TakesSteps states steps last) (keys : StepsFit steps last) where
@@ -40,7 +39,8 @@ module _ (limits : Limits) (states : ℕ → State) (steps : ℕ → Step) (last
   abbrev AtSite : Ref → Ref → Type 0
   AtSite r q = (s.level r ≡ s.level q) × (s.path r ≡ s.path q)
 
-  main_sites : (t : ℕ) → t ≤ last → (i : Ref) (slot : Slot) (g : ℕ) (w : Ref) → standing (states t).heap i ≡ Some slot → slot.node ≡ Indirection g w → AtSite w i × AtSite (logical_main (states t).heap i) i
+  main_sites : (t : ℕ) → t ≤ last → (i : Ref) (slot : Slot) (g : ℕ) (w : Ref) → standing (states t).heap i ≡ Some slot → slot.node ≡ Indirection g w →
+      AtSite w i × AtSite (logical_main (states t).heap i) i
   main_sites t h i slot g w found is = (word, subst (λ m. AtSite m i) (sym logical_is) (counted.level, counted.path))
     where
       site : AtSite (main_of slot.node) i
@@ -50,7 +50,7 @@ module _ (limits : Limits) (states : ℕ → State) (steps : ℕ → Step) (last
       word = subst (λ n. AtSite (main_of n) i) is site
 
       node : node_at (states t).heap i ≡ Indirection g w
-      node = node_under (states t).heap i slot found ∙ is
+      node = node_standing (states t).heap i slot found ∙ is
 
       its : Holds (IsInUse (states t).heap) (states t).heap (Is w AMain)
       its = (subst (λ n. AllHold (IsInUse (states t).heap) (states t).heap (node_wants n)) node ((heaped_in_use (states t) (safe_at limits states last run t h)).inside i (slot, found))).0
@@ -59,14 +59,15 @@ module _ (limits : Limits) (states : ℕ → State) (steps : ℕ → Step) (last
       made = safe_of its
 
       logical_is : logical_main (states t).heap i ≡ logical w made.0.prev
-      logical_is = ap (λ m. logical m (prev_at (states t).heap m)) (ap main_of node) ∙ ap (logical w) (prev_under (states t).heap w made.0 made.1)
+      logical_is = ap (λ m. logical m (prev_at (states t).heap m)) (ap main_of node) ∙ ap (logical w) (prev_standing (states t).heap w made.0 made.1)
 
       counted : CountsFor limits states steps last run takes keys t i (logical w made.0.prev)
       counted = counts_by limits states steps last run takes keys t h i w made.0 word.1 word.0 (kind_at states t w AMain its) (grown_in_use states t w made.0 made.1)
 
   root_sites : (t : ℕ) → t ≤ last → (handle : ℕ) (root : Root) → root_at (states t) handle ≡ Some root → (s.level (root_of root.word) ≡ 1) × (s.path (root_of root.word) ≡ 0)
   root_sites t h handle root at =
-      let level = word_root s.level root.word ((levels_there limits states steps last run takes t h).0.words handle root at) in (level, root_path s (paths_fit states steps last) (root_of root.word) level)
+      let level = word_root s.level root.word ((levels_there limits states steps last run takes t h).0.words handle root at) in
+      (level, root_path s (paths_fit states steps last) (root_of root.word) level)
 
 pub mains_share_sites : MainsShareSites
 mains_share_sites limits steps ok fit =
@@ -86,7 +87,8 @@ paths_are_short limits steps actor operation ok fit is =
     let last = last_of limits steps in
     let running = ap (λ x. operation_of x actor) (run_ends limits steps) ∙ is in (
       (ways_have_sites limits states (steps_of limits steps) last (run_is limits steps ok) (takes_steps limits steps) (keys_fit limits steps fit) last (omega arith) actor operation running).0,
-      λ d within. let both = way_stands limits states (steps_of limits steps) last (run_is limits steps ok) (takes_steps limits steps) (keys_fit limits steps fit) last (omega arith) actor operation running d within in
+      λ d within. let both = way_stands limits states (steps_of limits steps) last (run_is limits steps ok) (takes_steps limits steps)
+          (keys_fit limits steps fit) last (omega arith) actor operation running d within in
           let next : d + 1 ≡ suc d = omega arith in
           (both.0 ∙ next, both.1),
     )

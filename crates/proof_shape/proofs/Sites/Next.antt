@@ -56,11 +56,13 @@ use Rattle.proof_shape.proofs.Sites.Seen.{Sees, AfterSite, read_next, pushed_sit
 use Rattle.proof_shape.proofs.Sites.Made.{AtSite}
 use Rattle.proof_shape.proofs.Sites.Key.{key_read_site, key_main_site, key_entry_site, listed_site, sibling_site}
 use Rattle.proof_shape.proofs.Sites.Build.{build_next}
-use Rattle.proof_shape.proofs.Sites.Repair.{GivesLevel, more_left, renew_entry_site, renew_read_site, link_by, clean_read_site, clean_main_site, clean_entry_site, child_site, clean_tomb_site, renewed_by, cleaned_by}
+use Rattle.proof_shape.proofs.Sites.Repair.{GivesLevel, more_left, renew_entry_site, renew_read_site, link_by, clean_read_site, clean_main_site, clean_entry_site, child_site}
+use Rattle.proof_shape.proofs.Sites.Repair.{clean_tomb_site, renewed_by, cleaned_by}
 use Rattle.proof_shape.proofs.Sites.Climb.{SwappedSite, PurposePath, publish_site, deciding_site, check_site, line_swap_site, climb_read_site, climb_main_site, climb_root_site, climbed_by}
 use Rattle.proof_shape.proofs.Sites.Acts.{root_path}
 
-module _ (s : Sites) (fits : (i : Ref) → s.path i < 2 ^ (5 * depth_at (s.level i))) (state : State) (operation : Operation) (S : Ref → Type 0) (H : Heaped S state.heap) (N : Sees s state S) (first : Ref → Ref) where
+module _ (s : Sites) (fits : (i : Ref) → s.path i < 2 ^ (5 * depth_at (s.level i))) (state : State) (operation : Operation) (S : Ref → Type 0)
+    (H : Heaped S state.heap) (N : Sees s state S) (first : Ref → Ref) where
   abbrev kind : HashKind
   kind = state.limits.hash
 
@@ -139,7 +141,8 @@ module _ (s : Sites) (fits : (i : Ref) → s.path i < 2 ^ (5 * depth_at (s.level
 
   -- ---- SWAP
 
-  reads : (i : Ref) (l : ReadLine) → AllHold S state.heap (read_wants i l) → ReadSite kind s i l → AfterSite s state S N i (read_after state.heap operation.access (word_at state (handle_of operation.call)) i l)
+  reads : (i : Ref) (l : ReadLine) → AllHold S state.heap (read_wants i l) → ReadSite kind s i l →
+      AfterSite s state S N i (read_after state.heap operation.access (word_at state (handle_of operation.call)) i l)
   reads i l h e = read_next s state S N operation.access (word_at state (handle_of operation.call)) i l h e
 
   swap_next : (w : Swap) (l : SwapLine) → AllHold S state.heap (swap_line_wants w.indirection l) → SwapSite kind s w.indirection w.replaced w.fresh → SwapLineSite kind s w.indirection l →
@@ -158,7 +161,8 @@ module _ (s : Sites) (fits : (i : Ref) → s.path i < 2 ^ (5 * depth_at (s.level
 
   -- what the step makes stands at its site
   abbrev pub Made : Line → Type 0
-  Made l = (node : SlotNode) (made : Ref) → made_node state (line_action state operation l) ≡ Some node → next_ref state.heap ≡ Some made → AtSite s state operation l made × (bare (s.node made) ≡ bare node)
+  Made l = (node : SlotNode) (made : Ref) → made_node state (line_action state operation l) ≡ Some node → next_ref state.heap ≡ Some made →
+      AtSite s state operation l made × (bare (s.node made) ≡ bare node)
 
   build_at : (l : BuildLine) → Made (line.Build l) → (made : Ref) → next_ref state.heap ≡ Some made → AtSite s state operation (line.Build l) made
   build_at (build.Single path main where_ former) m made n = (m _ made refl n).0
@@ -180,24 +184,29 @@ module _ (s : Sites) (fits : (i : Ref) → s.path i < 2 ^ (5 * depth_at (s.level
         key_entry_site s fits state operation S N first path main position b es (node_at state.heap (entry_at state.heap main position)) refl (safe_of h.1.1.0)
         ((at_position S state.heap AnEntry position (branch_entries S state.heap H h.1.1.0) h.1.1.1.0).0) (fact_of h.1.0) e.1 p f
     line_next (line.Key (key.Listed path main position)) h e p knows m = listed_site s fits state operation S N path main position (node_at state.heap (entry_at state.heap main position)) p
-    line_next (line.Key (key.Sibling path main position former)) h e p knows m = sibling_site s fits state operation S N path main position former _ (node_at state.heap (entry_at state.heap main (1 - position))) p
+    line_next (line.Key (key.Sibling path main position former)) h e p knows m =
+        sibling_site s fits state operation S N path main position former _ (node_at state.heap (entry_at state.heap main (1 - position))) p
     line_next (line.Build l) h e p knows m = build_next s fits state operation S N l h e p (build_at l m)
     line_next (line.Swap why w) h e p knows m =
         let its = first_hold S state.heap (swap_wants w) (purpose_wants why) h in
-        line_swap_site s fits state operation S N why w _ (safe_of its.1.1.0) e.0.1 (purpose_path why (last_hold S state.heap (swap_wants w) (purpose_wants why) h) e.2) p.0 (swap_next w w.line its.1.1.1 p.0 p.1) p.2
+        line_swap_site s fits state operation S N why w _ (safe_of its.1.1.0) e.0.1
+        (purpose_path why (last_hold S state.heap (swap_wants w) (purpose_wants why) h) e.2) p.0 (swap_next w w.line its.1.1.1 p.0 p.1) p.2
     line_next (line.Renew (renew.Entry path main done)) h e p knows m =
-        renew_entry_site s fits state operation S N path main done (node_at state.heap _) refl (safe_of h.1.1.0) ((at_position S state.heap AnEntry (length done) (branch_entries S state.heap H h.1.1.0) h.1.1.1.1.0).0)
+        renew_entry_site s fits state operation S N path main done (node_at state.heap _) refl (safe_of h.1.1.0)
+        ((at_position S state.heap AnEntry (length done) (branch_entries S state.heap H h.1.1.0) h.1.1.1.1.0).0)
         (more_left s fits state operation S N main done (safe_of h.1.1.0) (meets_of h.1.1.1.1.0)) p
     line_next (line.Renew (renew.Read path main done r)) h e p knows m = renew_read_site s fits state operation S N path main done r.indirection _ p.0 p.1 (reads r.indirection r.line h.1.1.1.1.1 p.2)
     line_next (line.Renew (renew.Link path main done child)) h e p knows m =
-        link_by s fits state operation S N path main done (safe_of h.1.1.0) (meets_of h.1.1.0) (more_left s fits state operation S N main done (safe_of h.1.1.0) (meets_of h.1.1.1.1.0)) p.0 p.1.1 e.0.0.1
+        link_by s fits state operation S N path main done (safe_of h.1.1.0) (meets_of h.1.1.0)
+        (more_left s fits state operation S N main done (safe_of h.1.1.0) (meets_of h.1.1.1.1.0)) p.0 p.1.1 e.0.0.1
         (λ made n. let its = m _ made refl n in (its.0.0, its.0.1, its.1)) (next_ref state.heap) refl
     line_next (line.Renew (renew.Branch path main done)) h e p knows m =
         renewed_by s fits state operation S N path main p.0 (fact_of h.1.0) (λ made n. on_way (depth_of path) made (m _ made refl n).0.1) (next_ref state.heap) refl
     line_next (line.Clean (clean.Read path r)) h e p knows m = clean_read_site s fits state operation S N path r.indirection _ p.0 p.1 (reads r.indirection r.line h.1.1 p.2)
     line_next (line.Clean (clean.Main path main)) h e p knows m = clean_main_site s fits state operation S N path main (node_at state.heap main) p
     line_next (line.Clean (clean.Entry path main done)) h e p knows m =
-        clean_entry_site s fits state operation S N path main done (node_at state.heap _) refl (safe_of h.1.1.0) ((at_position S state.heap AnEntry (length done) (branch_entries S state.heap H h.1.1.0) h.1.1.1.1.0).0)
+        clean_entry_site s fits state operation S N path main done (node_at state.heap _) refl (safe_of h.1.1.0)
+        ((at_position S state.heap AnEntry (length done) (branch_entries S state.heap H h.1.1.0) h.1.1.1.1.0).0)
         (more_left s fits state operation S N main done (safe_of h.1.1.0) (meets_of h.1.1.1.1.0)) p
     line_next (line.Clean (clean.Child path main done r)) h e p knows m =
         child_site s fits state operation S N path main done r.indirection _ p.0 p.1 (reads r.indirection r.line h.1.1.1.1.1 p.2)

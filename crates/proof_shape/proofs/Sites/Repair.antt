@@ -1,5 +1,6 @@
 -- Sites in RENEW and CLEAN: the entries that are done fit, so what is made of them has its shape.
-use Rattle.std.proofs.Common.{◌≡◌, ℕ, suc, ◌+◌, ◌*◌, ◌^◌, ◌<◌, ◌≤◌, ◌&&◌, Bool, true, nat_lt, nat_eq, List, [], ◌∷◌, ◌++◌, All, length, slice_index_or, Option, Some, None, refl, sym, ap, subst, ◌∙◌, ltb-true, arith}
+use Rattle.std.proofs.Common.{◌≡◌, ℕ, suc, ◌+◌, ◌*◌, ◌^◌, ◌<◌, ◌≤◌, ◌&&◌, Bool, true, nat_lt, nat_eq, List, [], ◌∷◌, ◌++◌, All, length, slice_index_or, Option, Some, None, refl}
+use Rattle.std.proofs.Common.{sym, ap, subst, ◌∙◌, ltb-true, arith}
 use Rattle.std.specs.Cmp.Lexicographic.{pointwise}
 use Rattle.std.proofs.lemmas.Bool.{false≢true, cond_both, and_parts}
 use Rattle.std.proofs.lemmas.List.Elements.{All-head}
@@ -22,7 +23,8 @@ use Rattle.proof_shape.specs.Beneath.machine_model.specs.States.{State}
 use Rattle.proof_shape.specs.Beneath.machine_model.specs.Paths.{depth_of, hash_in, is_start, is_below_root}
 use Rattle.proof_shape.specs.Beneath.machine_model.specs.Reading.{at_indirection}
 use Rattle.proof_shape.specs.Beneath.machine_model.specs.Renewing.{next_entry, renew_after_entry, renew_after_read, renew_after_link, renew_after_branch}
-use Rattle.proof_shape.specs.Beneath.machine_model.specs.Cleaning.{clean_next, is_single, leaves_single, clean_after_read, clean_after_main, clean_after_entry, after_child, clean_after_tomb, clean_after_contracted}
+use Rattle.proof_shape.specs.Beneath.machine_model.specs.Cleaning.{clean_next, is_single, leaves_single, clean_after_read, clean_after_main, clean_after_entry, after_child}
+use Rattle.proof_shape.specs.Beneath.machine_model.specs.Cleaning.{clean_after_tomb, clean_after_contracted}
 use Rattle.proof_shape.specs.Beneath.proof_memory.specs.Wants.{ABranch, AnEntry, meets, is_indirection, is_branch}
 use Rattle.proof_shape.specs.Beneath.proof_memory.proofs.Claims.Uses.{Meets}
 use Rattle.proof_shape.specs.Beneath.proof_contents.specs.Tries.{IsShaped}
@@ -59,7 +61,8 @@ module _ (s : Sites) (fits : (i : Ref) → s.path i < 2 ^ (5 * depth_at (s.level
   next_is main done u = ap (λ es. slice_index_or es (length done) no_ref) (entries_seen s state S N main u)
 
   pub more_left : (main : Ref) (done : List Ref) → S main → nat_lt (length done) (length (entries_of (node_at state.heap main))) ≡ true → length done < length (entries_of (s.node main))
-  more_left main done u e = let lt : length done < length (entries_of (node_at state.heap main)) = ltb-true (length done) _ e in subst (λ es. length done < length es) (entries_seen s state S N main u) lt
+  more_left main done u e =
+      let lt : length done < length (entries_of (node_at state.heap main)) = ltb-true (length done) _ e in subst (λ es. length done < length es) (entries_seen s state S N main u) lt
 
   branch_is : (n : Node) → is_branch n ≡ true → (b : ℕ) × (es : ArrayVec Ref) × (n ≡ Branch b es)
   branch_is (Branch b es) e = (b, es, refl)
@@ -102,15 +105,18 @@ module _ (s : Sites) (fits : (i : Ref) → s.path i < 2 ^ (5 * depth_at (s.level
           let here : entry ≡ slice_index_or es.items (length done) no_ref = ap (λ n. slice_index_or (entries_of n) (length done) no_ref) node_is in
           let deeper : depth_at (s.level entry) ≡ suc (depth_at (s.level main)) =
           subst (λ x. depth_at (s.level x) ≡ suc (depth_at (s.level main))) (sym here)
-          (entry_deeper kind s fits main b es (branch_seen s state S N main b es u node_is) (length done) (subst (λ n. length done < length (entries_of n)) node_is lt) (subst (λ x. is_indirection (s.node x) ≡ true) here link)) in
+          (entry_deeper kind s fits main b es (branch_seen s state S N main b es u node_is) (length done)
+          (subst (λ n. length done < length (entries_of n)) node_is lt) (subst (λ x. is_indirection (s.node x) ≡ true) here link)) in
           let deep : depth_at (depth_of path + 2) ≡ depth_at (s.level entry) = omega (arith, deeper, level) in
           let led : s.path made ≡ s.path entry =
-          path_made ∙ ap (λ x. path_to (s.path x) (depth_at (depth_of path + 2))) (next_is main done u) ∙ ap (path_to (s.path entry)) deep ∙ path_again (s.path entry) (depth_at (s.level entry)) (fits entry) in
+          path_made ∙ ap (λ x. path_to (s.path x) (depth_at (depth_of path + 2))) (next_is main done u) ∙ ap (path_to (s.path entry)) deep
+          ∙ path_again (s.path entry) (depth_at (s.level entry)) (fits entry) in
           record { deep = ap depth_at level_made ∙ deep; led = led; newer = omega (arith, no_generation kind s entry) }
 
   pub link_by : (path : List Ref) (main : Ref) (done : List Ref) → S main → meets ABranch (node_at state.heap main) ≡ true → length done < length (entries_of (s.node main)) → Done path main done →
       is_indirection (s.node (entry_in kind s main (length done))) ≡ true → s.level main ≡ depth_of path + 1 →
-      ((made : Ref) → next_ref state.heap ≡ Some made → (s.level made ≡ depth_of path + 2) × (s.path made ≡ path_to (s.path (next_entry state main done)) (depth_at (depth_of path + 2))) × (bare (s.node made) ≡ Indirection 0 no_ref)) →
+      ((made : Ref) → next_ref state.heap ≡ Some made → (s.level made ≡ depth_of path + 2)
+      × (s.path made ≡ path_to (s.path (next_entry state main done)) (depth_at (depth_of path + 2))) × (bare (s.node made) ≡ Indirection 0 no_ref)) →
       (o : Option Ref) → next_ref state.heap ≡ o → L (renew_after_link state path main done o)
   link_by path main done u is lt d link level m None e = tt
   link_by path main done u is lt d link level m (Some made) e =
@@ -142,7 +148,8 @@ module _ (s : Sites) (fits : (i : Ref) → s.path i < 2 ^ (5 * depth_at (s.level
   single_is r (Single k v) e u is = (k, v, N.same r u ∙ ap bare e)
   single_is r n e u is = absurd (false≢true is)
 
-  pub left_alone : (path : List Ref) (done : List Ref) → All (Meets S state.heap AnEntry) done → (single : Ref) → (is_below_root path && leaves_single state done) ≡ true → done ≡ single ∷ [] → IsSingle (trie_at kind s) single
+  pub left_alone : (path : List Ref) (done : List Ref) → All (Meets S state.heap AnEntry) done → (single : Ref) →
+      (is_below_root path && leaves_single state done) ≡ true → done ≡ single ∷ [] → IsSingle (trie_at kind s) single
   left_alone path done all single may is =
       let leaves : leaves_single state (single ∷ []) ≡ true = subst (λ es. leaves_single state es ≡ true) is (and_parts (is_below_root path) (leaves_single state done) may).1 in
       let safe : Meets S state.heap AnEntry single = All-head (Meets S state.heap AnEntry) single [] (subst (All (Meets S state.heap AnEntry)) is all) in
@@ -150,7 +157,8 @@ module _ (s : Sites) (fits : (i : Ref) → s.path i < 2 ^ (5 * depth_at (s.level
 
   -- ---- CLEAN
 
-  pub clean_read_site : (path : List Ref) (i : Ref) (a : After ReadLine Ref) → PathSite kind s hash path → IsOnWay kind s hash (depth_of path) i → AfterSite s state S N i a → L (clean_after_read path (at_indirection i a))
+  pub clean_read_site : (path : List Ref) (i : Ref) (a : After ReadLine Ref) → PathSite kind s hash path → IsOnWay kind s hash (depth_of path) i →
+      AfterSite s state S N i a → L (clean_after_read path (at_indirection i a))
   clean_read_site path i (Goes l) p e h = (p, e, h)
   clean_read_site path i (Gives main) p e h = (p, h ∙ e)
 
@@ -173,20 +181,23 @@ module _ (s : Sites) (fits : (i : Ref) → s.path i < 2 ^ (5 * depth_at (s.level
   GivesLevel i (Goes l) = Unit {0}
   GivesLevel i (Gives main) = s.level main ≡ s.level i
 
-  pub child_site : (path : List Ref) (main : Ref) (done : List Ref) (i : Ref) (a : After ReadLine Ref) → Done path main done → NextSite kind s main done i → AfterSite s state S N i a → GivesLevel i a →
+  pub child_site : (path : List Ref) (main : Ref) (done : List Ref) (i : Ref) (a : After ReadLine Ref) → Done path main done → NextSite kind s main done i →
+      AfterSite s state S N i a → GivesLevel i a →
       L (after_child path main done (at_indirection i a))
   child_site path main done i (Goes l) d next h g = (d, next, h)
   child_site path main done i (Gives child) d next h g =
       (d, (refl, subst (λ x. is_indirection (s.node x) ≡ true) next.0 next.1), h ∙ ap s.path next.0, g ∙ ap s.level next.0)
 
   -- a tomb's single fits in the place of the indirection over it
-  single_fits : (main child single entry : Ref) → S child → node_at state.heap child ≡ Tomb single → is_indirection (s.node entry) ≡ true → s.path child ≡ s.path entry → s.level child ≡ s.level entry →
+  single_fits : (main child single entry : Ref) → S child → node_at state.heap child ≡ Tomb single → is_indirection (s.node entry) ≡ true →
+      s.path child ≡ s.path entry → s.level child ≡ s.level entry →
       Fits (trie_at kind s) main entry single
   single_fits main child single entry u e link led level =
       let t = tomb_shape (trie_at kind s) child (Tomb single) single (subst (InsideSite kind s child) e (N.inside child u)) refl in
       becomes_single 0 t.key t.value no_ref (bare_link_node s entry link) t.is (ap (λ l. path_to (hash_of kind t.key) (depth_at l)) (sym level) ∙ t.led ∙ led)
 
-  pub clean_tomb_site : (path : List Ref) (main : Ref) (done : List Ref) (child : Ref) (node : Node) → node_at state.heap child ≡ node → S main → S child → length done < length (entries_of (s.node main)) →
+  pub clean_tomb_site : (path : List Ref) (main : Ref) (done : List Ref) (child : Ref) (node : Node) → node_at state.heap child ≡ node → S main → S child →
+      length done < length (entries_of (s.node main)) →
       LineSite kind s hash (line.Clean (clean.Tomb path main done child)) → L (clean_after_tomb state path main done node)
   clean_tomb_site path main done child (Tomb single) e u v lt (d, next, led, level) =
       clean_next_site path main (done ++ single ∷ [])

@@ -11,7 +11,7 @@ use Rattle.proof_shape.specs.Beneath.machine_model.specs.declared.steps.Step.{St
 use Rattle.proof_shape.specs.Beneath.machine_model.specs.States.{State, root_of}
 use Rattle.proof_shape.specs.Beneath.machine_model.specs.Times.{IsRun}
 use Rattle.proof_shape.specs.Beneath.proof_memory.specs.Levels.{WordLevel}
-use Rattle.proof_shape.specs.Beneath.proof_contents.specs.Runs.{root_among, root_until, or_before}
+use Rattle.proof_shape.specs.Beneath.proof_contents.specs.Runs.{root_among, root_until, or_other}
 use Rattle.proof_shape.specs.Sites.Lines.{Sites, sites_of}
 use Rattle.proof_shape.specs.Sites.At.{TakesSteps}
 use Rattle.proof_shape.proofs.Sites.Given.{levels_there}
@@ -22,7 +22,7 @@ root_found heap g (None ∷ roots) r e = let (k, root, at, is) = root_found heap
 root_found heap g (Some root ∷ roots) r e = by_test (root_found heap g roots r) (generation_at heap (root_of root.word) == g) e
   where
     by_test : (root_among heap g roots ≡ Some r → (k : ℕ) × (root : Root) × (get_or roots k None ≡ Some root) × (root_of root.word ≡ r)) → (b : Bool) →
-        or_before (cond b (Some (root_of root.word)) None) (root_among heap g roots) ≡ Some r → (k : ℕ) × (q : Root) × (get_or (Some root ∷ roots) k None ≡ Some q) × (root_of q.word ≡ r)
+        or_other (cond b (Some (root_of root.word)) None) (root_among heap g roots) ≡ Some r → (k : ℕ) × (q : Root) × (get_or (Some root ∷ roots) k None ≡ Some q) × (root_of q.word ≡ r)
     by_test rest true e = (zero, root, refl, same_Some _ _ e)
     by_test rest false e = let (k, q, at, is) = rest e in (suc k, q, at, is)
 
@@ -44,6 +44,7 @@ module _ (limits : Limits) (states : ℕ → State) (steps : ℕ → Step) (last
   level_of_root zero h g r e = root_stood zero h g r e
   level_of_root (suc t) h g r e = by_first (level_of_root t (omega arith) g r) (root_until states g t) refl e
     where
-      by_first : (root_until states g t ≡ Some r → s.level r ≡ 1) → (o : Option Ref) → root_until states g t ≡ o → or_before o (root_among (states (suc t)).heap g (states (suc t)).roots) ≡ Some r → s.level r ≡ 1
+      by_first : (root_until states g t ≡ Some r → s.level r ≡ 1) → (o : Option Ref) → root_until states g t ≡ o →
+          or_other o (root_among (states (suc t)).heap g (states (suc t)).roots) ≡ Some r → s.level r ≡ 1
       by_first rest None is e = root_stood (suc t) h g r e
       by_first rest (Some q) is e = rest (is ∙ e)

@@ -22,7 +22,7 @@ use Rattle.proof_shape.specs.Beneath.proof_memory.proofs.Claims.Nodes.{branch_en
 use Rattle.proof_shape.specs.Beneath.proof_memory.proofs.Safety.AtEachTime.{safe_at}
 use Rattle.proof_shape.specs.Beneath.proof_memory.proofs.Safety.AtTimes.{line_finds, limits_at}
 use Rattle.proof_shape.specs.Beneath.proof_memory.proofs.Safety.First.{first_stands}
-use Rattle.proof_shape.specs.Beneath.proof_memory.proofs.Heap.Moves.{grown_in_use, grown_stays}
+use Rattle.proof_shape.specs.Beneath.proof_memory.proofs.Heap.Moves.{grown_stays}
 use Rattle.proof_shape.specs.Beneath.proof_memory.specs.Levels.{made_level}
 use Rattle.proof_shape.specs.Beneath.proof_memory.proofs.Levels.States.{heaped_in_use}
 use Rattle.proof_shape.specs.Beneath.proof_memory.specs.Making.{made_by, made_now, level_now, level_by, if_made}
@@ -38,6 +38,7 @@ use Rattle.proof_shape.proofs.Sites.Ways.{path_fits}
 use Rattle.proof_shape.proofs.Sites.Given.{path_given, path_stays, gives_level, levels_there, root_old, branch_old}
 use Rattle.proof_shape.proofs.Sites.Acts.{roots_alike}
 use Rattle.proof_shape.proofs.Sites.States.{HasSites, AreBare, GivesPath, sites_after}
+use Rattle.proof_shape.specs.Beneath.machine_model.proofs.Grown.{grown_in_use}
 
 pub bare_main : (m : Ref) (n : Node) → bare (with_main_word m n) ≡ bare n
 bare_main m (Indirection g w) = refl
@@ -51,7 +52,8 @@ pub paths_fit : (states : ℕ → State) (steps : ℕ → Step) (t : ℕ) (i : R
 unfolding level_until path_until
 paths_fit states steps zero i = omega arith
 paths_fit states steps (suc t) i =
-    both (is_number i (made_now (states t) (steps t))) _ _ (level_now (states t) (steps t)) (level_until states steps t i) (path_fits (leads_now (states t) (path_until states steps t) (steps t)) (depth_at (level_now (states t) (steps t)))) (paths_fit states steps t i)
+    both (is_number i (made_now (states t) (steps t))) _ _ (level_now (states t) (steps t)) (level_until states steps t i)
+    (path_fits (leads_now (states t) (path_until states steps t) (steps t)) (depth_at (level_now (states t) (steps t)))) (paths_fit states steps t i)
   where
     both : (b : Bool) (p q l m : ℕ) → p < 2 ^ (5 * depth_at l) → q < 2 ^ (5 * depth_at m) → cond b p q < 2 ^ (5 * depth_at (cond b l m))
     both true p q l m x y = x
@@ -70,7 +72,8 @@ module _ (limits : Limits) (states : ℕ → State) (steps : ℕ → Step) (last
   same_leads : (t : ℕ) → t ≤ last → (operation : Operation) (l : Line) → AllHold (IsInUse (states t).heap) (states t).heap (line_wants (states t).limits.hash operation.call operation.access l) →
       leads_by (states t) operation (path_until states steps t) l ≡ leads_by (states t) operation s.path l
   same_leads t h operation (line.Renew (renew.Link path main done child)) w =
-      let used = (at_position (IsInUse (states t).heap) (states t).heap AnEntry (length done) (branch_entries (IsInUse (states t).heap) (states t).heap (heaped_in_use (states t) (safe_at limits states last run t h)) w.1.1.0) w.1.1.1.1.0).0 in
+      let used = (at_position (IsInUse (states t).heap) (states t).heap AnEntry (length done)
+      (branch_entries (IsInUse (states t).heap) (states t).heap (heaped_in_use (states t) (safe_at limits states last run t h)) w.1.1.0) w.1.1.1.1.0).0 in
       sym (path_stays limits states steps last run takes t last h (omega arith) (next_entry (states t) main done) used.0 (grown_in_use states t (next_entry (states t) main done) used.0 used.1))
   same_leads t h operation (line.Renew (renew.Entry path main done)) w = refl
   same_leads t h operation (line.Renew (renew.Read path main done r)) w = refl
@@ -80,8 +83,10 @@ module _ (limits : Limits) (states : ℕ → State) (steps : ℕ → Step) (last
   gives_path : (t : ℕ) → t < last → GivesPath s (states t) (steps t)
   gives_path t h actor operation node made is running n e =
       path_given limits states steps last run takes t h made (ap (made_now (states t)) is ∙ ap (made_by (states t)) running ∙ ap (λ x. if_made x (next_ref (states t).heap)) n ∙ e)
-      ∙ ap₂ (λ p l. path_to p (depth_at l)) (ap (leads_now (states t) (path_until states steps t)) is ∙ ap (leads_of (states t) (path_until states steps t)) running) (ap (level_now (states t)) is ∙ ap level_by running)
-      ∙ ap (λ p. path_to p (depth_at (made_level operation.line))) (same_leads t (omega arith) operation operation.line (line_finds (states t) (safe_at limits states last run t (omega arith)) actor operation running))
+      ∙ ap₂ (λ p l. path_to p (depth_at l))
+      (ap (leads_now (states t) (path_until states steps t)) is ∙ ap (leads_of (states t) (path_until states steps t)) running) (ap (level_now (states t)) is ∙ ap level_by running)
+      ∙ ap (λ p. path_to p (depth_at (made_level operation.line)))
+      (same_leads t (omega arith) operation operation.line (line_finds (states t) (safe_at limits states last run t (omega arith)) actor operation running))
 
   first_sites : HasSites limits.hash s (first_state limits)
   unfolding first_state
@@ -91,7 +96,8 @@ module _ (limits : Limits) (states : ℕ → State) (steps : ℕ → Step) (last
       let fits = paths_fit states steps last in
       let here : depth_at (s.level (ref_to 1 0)) ≡ 0 = ap depth_at branch in
       record {
-        nodes = first_stands (λ r slot. InsideSite limits.hash s r slot.node × PrevSite limits.hash s r slot.prev) limits.slots run.limits_ok.0 run.limits_ok.1 (λ birth. (roots_alike s fits (ref_to 1 0) (ref_to 2 1) branch root, tt))
+        nodes = first_stands (λ r slot. InsideSite limits.hash s r slot.node × PrevSite limits.hash s r slot.prev) limits.slots run.limits_ok.0 run.limits_ok.1
+            (λ birth. (roots_alike s fits (ref_to 1 0) (ref_to 2 1) branch root, tt))
             (λ birth. (empty_shaped (trie_at limits.hash s) fits (ref_to 1 0) (omega (arith, here, deep_low limits.hash)), tt));
         lines = λ k operation found. absurd (none_found limits.actors k operation found);
       }
@@ -106,6 +112,8 @@ module _ (limits : Limits) (states : ℕ → State) (steps : ℕ → Step) (last
         let same : (states t).limits ≡ limits = limits_at limits states last run t (omega arith) in
         let hash = ap (λ (l : Limits). l.hash) same in
         subst (λ k. HasSites k s (states (suc t))) hash
-        (sites_after s (paths_fit states steps last) (first_main states last) (states t) I levels shapes (subst (λ k. HasSites k s (states t)) (sym hash) (sites_there t (omega arith))) (are_bare t (omega arith))
-        (λ actor operation e. subst (λ k. KnowsLine (record { kind = k; node = s.node; first = first_main states last }) operation.call operation.line) (sym hash) (knows_at limits states last run t (omega arith) actor operation e))
+        (sites_after s (paths_fit states steps last) (first_main states last) (states t) I levels shapes
+        (subst (λ k. HasSites k s (states t)) (sym hash) (sites_there t (omega arith))) (are_bare t (omega arith))
+        (λ actor operation e. subst (λ k. KnowsLine (record { kind = k; node = s.node; first = first_main states last }) operation.call operation.line) (sym hash)
+        (knows_at limits states last run t (omega arith) actor operation e))
         (steps t) o (states (suc t)) m (keys t (omega arith)) (gives_level limits states steps last run takes t (omega arith)) (gives_path t (omega arith)) (are_bare (suc t) h))

@@ -29,7 +29,7 @@ use Rattle.proof_shape.specs.Beneath.machine_model.specs.Moves.{Moves, GoesOn, b
 use Rattle.proof_shape.specs.Beneath.machine_model.proofs.Actors.{IsOf, is_of, mark_one, mark_only, marks_in, marks_by, of_others, of_itself, of_begin, of_end}
 use Rattle.proof_shape.specs.Beneath.machine_model.specs.Grown.{standing}
 use Rattle.proof_shape.specs.Beneath.proof_memory.specs.Laws.{IsInUse}
-use Rattle.proof_shape.specs.Beneath.proof_memory.proofs.Heap.Under.{node_under, prev_under, fresh_slot, taken_all}
+use Rattle.proof_shape.specs.Beneath.proof_memory.proofs.Heap.Under.{fresh_slot, taken_all}
 use Rattle.proof_shape.specs.Beneath.proof_memory.proofs.Safety.EachStep.{at_place}
 use Rattle.proof_shape.specs.Beneath.proof_memory.proofs.Safety.Base.{goes_no_end}
 use Rattle.proof_shape.specs.Beneath.proof_memory.specs.Making.{made_node}
@@ -49,6 +49,7 @@ use Rattle.proof_shape.proofs.Sites.Made.{AtSite, ActionSite}
 use Rattle.proof_shape.proofs.Sites.Born.{IsBorn, born}
 use Rattle.proof_shape.proofs.Sites.Acts.{line_acts}
 use Rattle.proof_shape.proofs.Sites.Next.{line_next}
+use Rattle.proof_shape.specs.Beneath.machine_model.proofs.Grown.{node_standing, prev_standing}
 
 -- Nodes, and those of lines, stand at their sites; keys of calls have 64 bits.
 pub record HasSites (kind : HashKind) (s : Sites) (state : State) : Type 0 where
@@ -125,9 +126,11 @@ module _ (kind : HashKind) (s : Sites) where
 
 -- ---- each step
 
-module _ (s : Sites) (fits : (i : Ref) → s.path i < 2 ^ (5 * depth_at (s.level i))) (first : Ref → Ref) (state : State) (I : IsSafe state) (levels : HasLevels s.level state) (shapes : HasShapes s.level state)
+module _ (s : Sites) (fits : (i : Ref) → s.path i < 2 ^ (5 * depth_at (s.level i))) (first : Ref → Ref) (state : State) (I : IsSafe state)
+    (levels : HasLevels s.level state) (shapes : HasShapes s.level state)
     (h : HasSites state.limits.hash s state) (bares : AreBare s state)
-    (knows : (actor : ℕ) (operation : Operation) → operation_of state actor ≡ Some operation → KnowsLine (record { kind = state.limits.hash; node = s.node; first = first }) operation.call operation.line) where
+    (knows : (actor : ℕ) (operation : Operation) → operation_of state actor ≡ Some operation →
+    KnowsLine (record { kind = state.limits.hash; node = s.node; first = first }) operation.call operation.line) where
   abbrev kind : HashKind
   kind = state.limits.hash
 
@@ -136,28 +139,31 @@ module _ (s : Sites) (fits : (i : Ref) → s.path i < 2 ^ (5 * depth_at (s.level
 
   pub sees : Sees s state S
   sees = record {
-    same = λ r u. bares r u.0 u.1 ∙ ap bare (sym (node_under state.heap r u.0 u.1));
-    inside = λ r u. subst (InsideSite kind s r) (sym (node_under state.heap r u.0 u.1)) ((h.nodes r u.0 u.1).0);
-    before = λ r u. subst (PrevSite kind s r) (sym (prev_under state.heap r u.0 u.1)) ((h.nodes r u.0 u.1).1);
+    same = λ r u. bares r u.0 u.1 ∙ ap bare (sym (node_standing state.heap r u.0 u.1));
+    inside = λ r u. subst (InsideSite kind s r) (sym (node_standing state.heap r u.0 u.1)) ((h.nodes r u.0 u.1).0);
+    before = λ r u. subst (PrevSite kind s r) (sym (prev_standing state.heap r u.0 u.1)) ((h.nodes r u.0 u.1).1);
     levels = level_under s.level state I levels;
   }
 
   acts_site : (actor : ℕ) (operation : Operation) → operation_of state actor ≡ Some operation → ActionSite kind s (AtSite s state operation operation.line) (action_of state operation)
   acts_site actor operation e =
       let (k, found) = of_actor state (λ k operation. get_or state.actors k None ≡ Some operation) (λ k operation e. e) actor operation e in
-      line_acts s fits state operation S sees first (h.lines k operation found).1 operation.line (line_finds state I actor operation e) (levels.lines k operation found) (shapes.lines k operation found)
+      line_acts s fits state operation S sees first (h.lines k operation found).1 operation.line (line_finds state I actor operation e)
+      (levels.lines k operation found) (shapes.lines k operation found)
       (h.lines k operation found).0 (knows actor operation e)
 
   -- ---- what is made
 
-  module _ (actor : ℕ) (operation : Operation) (is : operation_of state actor ≡ Some operation) (gives_level : GivesLevel s.level state (step.Go actor)) (gives_path : GivesPath s state (step.Go actor)) where
+  module _ (actor : ℕ) (operation : Operation) (is : operation_of state actor ≡ Some operation) (gives_level : GivesLevel s.level state (step.Go actor))
+      (gives_path : GivesPath s state (step.Go actor)) where
     made_at : (node : Node) (made : Ref) → made_node state (action_of state operation) ≡ Some node → next_ref state.heap ≡ Some made → AtSite s state operation operation.line made
     made_at node made a e = (gives_level actor operation node made refl is a e, gives_path actor operation node made refl is a e)
 
     stood : (node : Node) (made : Ref) → made_node state (action_of state operation) ≡ Some node → next_ref state.heap ≡ Some made →
         standing (settled state (gone state actor operation)).heap made ≡ Some (fresh_slot state.heap node)
     stood node made a e =
-        ap (λ heap. standing heap made) (made_heap _ (handle_of operation.call) (action_of state operation) node made a e) ∙ (taken_all state.limits.slots state.heap (I.sound.heap) (I.small) node made e).0
+        ap (λ heap. standing heap made) (made_heap _ (handle_of operation.call) (action_of state operation) node made a e)
+        ∙ (taken_all state.limits.slots state.heap (I.sound.heap) (I.small) node made e).0
 
   fresh_after : (x : Step) (o : Outcome) (after : State) → Moves state x o after → GivesLevel s.level state x → GivesPath s state x → (node : Node) (made : Ref) → next_ref state.heap ≡ Some made →
       standing state.heap made ≡ None → standing after.heap made ≡ Some (fresh_slot state.heap node) → InsideSite kind s made node
@@ -180,11 +186,11 @@ module _ (s : Sites) (fits : (i : Ref) → s.path i < 2 ^ (5 * depth_at (s.level
 
   -- ---- lines
 
-  abbrev Stands : Operation → Type 0
-  Stands operation = LineSite kind s (hash_of kind (key_of operation.call)) operation.line × (key_of operation.call < 2 ^ 64)
+  abbrev OperationSite : Operation → Type 0
+  OperationSite operation = LineSite kind s (hash_of kind (key_of operation.call)) operation.line × (key_of operation.call < 2 ^ 64)
 
-  marked_site : (m : Option ℕ) (operation : Operation) → Stands operation → Stands (mark_one m operation)
-  marked_site m operation l = subst Stands (sym (mark_only m operation)) l
+  marked_site : (m : Option ℕ) (operation : Operation) → OperationSite operation → OperationSite (mark_one m operation)
+  marked_site m operation l = subst OperationSite (sym (mark_only m operation)) l
 
   first_site : (call : Call) (hash : ℕ) → LineSite kind s hash (first_line call)
   first_site (Close x) hash = tt
@@ -195,18 +201,20 @@ module _ (s : Sites) (fits : (i : Ref) → s.path i < 2 ^ (5 * depth_at (s.level
   word_by None handle e is = absurd (false≢true is)
   word_by (Some root) handle e is = levels.words handle root e
 
-  lines_after : (x : Step) (o : Outcome) (after : State) → Moves state x o after → FitsKey x → GivesLevel s.level state x → GivesPath s state x → AreBare s after → (k : ℕ) → Dec (IsOf (suc k) x) → (found : Operation) →
-      get_or after.actors k None ≡ Some found → Stands found
+  lines_after : (x : Step) (o : Outcome) (after : State) → Moves state x o after → FitsKey x → GivesLevel s.level state x → GivesPath s state x → AreBare s after →
+      (k : ℕ) → Dec (IsOf (suc k) x) → (found : Operation) →
+      get_or after.actors k None ≡ Some found → OperationSite found
   lines_after x o after m key gives paths bare_after k (no other) found at_k =
       let (was, at_was, same) = of_others state x o after m k other found at_k in
-      subst Stands (sym same) (marked_site (marks_in state x) was (h.lines k was at_was))
+      subst OperationSite (sym same) (marked_site (marks_in state x) was (h.lines k was at_was))
   lines_after x o after (Begins {actor} {call} d) key gives paths bare_after k (yes own) found at_k =
-      subst Stands (sym (of_begin state actor call (begun_operation state call) k own found at_k)) (first_site call (hash_of kind (key_of call)), key)
+      subst OperationSite (sym (of_begin state actor call (begun_operation state call) k own found at_k)) (first_site call (hash_of kind (key_of call)), key)
   lines_after x o after (Goes {actor} {operation} d is a g) key gives paths bare_after k (yes own) found at_k =
       let at_was = at_place state actor k operation own is in
       let goes_on : GoesOn (action_of state operation) = rw a g in
-      let is_open : is_some (root_at state (handle_of operation.call)) ≡ true = elim (or_cases _ _ (I.handles k operation at_was)) [ inl ends ↦ absurd (goes_no_end state operation operation.line goes_on ends) | inr opened ↦ opened ] in
-      subst Stands (sym (of_itself state actor operation k own found at_k))
+      let is_open : is_some (root_at state (handle_of operation.call)) ≡ true =
+      elim (or_cases _ _ (I.handles k operation at_was)) [ inl ends ↦ absurd (goes_no_end state operation operation.line goes_on ends) | inr opened ↦ opened ] in
+      subst OperationSite (sym (of_itself state actor operation k own found at_k))
       (marked_site (marks_by state (Some operation)) (operation_after state operation) (
         line_next s fits state operation S (heaped_in_use state I) sees first (word_by (root_at state (handle_of operation.call)) (handle_of operation.call) refl is_open) operation.line
             (line_finds state I actor operation is) (levels.lines k operation at_was) (h.lines k operation at_was).0 (knows actor operation is)
@@ -216,7 +224,8 @@ module _ (s : Sites) (fits : (i : Ref) → s.path i < 2 ^ (5 * depth_at (s.level
   lines_after x o after (Ends {actor} d is a) key gives paths bare_after k (yes own) found at_k = absurd (of_end state actor k own found at_k)
   lines_after x o after (Sweeps spent) key gives paths bare_after k (yes own) found at_k = absurd own
 
-  pub sites_after : (x : Step) (o : Outcome) (after : State) → Moves state x o after → FitsKey x → GivesLevel s.level state x → GivesPath s state x → AreBare s after → HasSites state.limits.hash s after
+  pub sites_after : (x : Step) (o : Outcome) (after : State) → Moves state x o after → FitsKey x → GivesLevel s.level state x → GivesPath s state x →
+      AreBare s after → HasSites state.limits.hash s after
   sites_after x o after m key gives paths bare_after = record {
     nodes = nodes_after x o after m gives paths;
     lines = λ k. lines_after x o after m key gives paths bare_after k (is_of (suc k) x);

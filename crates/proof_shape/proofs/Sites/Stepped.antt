@@ -9,9 +9,9 @@ use Rattle.proof_shape.specs.Beneath.machine_model.specs.Machine.{Answer, next, 
 use Rattle.proof_shape.specs.Beneath.machine_model.proofs.Moves.{moves}
 use Rattle.proof_shape.specs.Beneath.machine_model.specs.Moves.{Moves, MovesIfTaken}
 use Rattle.proof_shape.specs.Beneath.machine_model.specs.Times.{states_from, states_of, last_of}
-use Rattle.proof_shape.specs.Beneath.proof_commits.proofs.Words.InHeap.{states_at_zero}
 use Rattle.proof_shape.specs.Sites.Nodes.{steps_of}
 use Rattle.proof_shape.specs.Sites.At.{TakesSteps}
+use Rattle.proof_shape.specs.Beneath.machine_model.proofs.Times.{states_from-zero}
 
 abbrev MovesAt : State → Step → State → Type 0
 MovesAt state s after = (o : Outcome) × Moves state s o after
@@ -21,7 +21,7 @@ LeadsOn state steps = (t : ℕ) → t < length steps → MovesAt (states_from st
 
 in_front : (state : State) (s : Step) (steps : List Step) → MovesAt state s (next_state state s) → LeadsOn (next_state state s) steps → LeadsOn state (s ∷ steps)
 unfolding states_from
-in_front state s steps m rest zero h = subst (MovesAt state s) (sym (states_at_zero (next_state state s) steps)) m
+in_front state s steps m rest zero h = subst (MovesAt state s) (sym (states_from-zero (next_state state s) steps)) m
 in_front state s steps m rest (suc t) h = rest t (omega arith)
 
 leads_to : (state : State) (s : Step) (after : State) (steps : List Step) → after ≡ next_state state s → MovesAt state s after → LeadsOn after steps → LeadsOn state (s ∷ steps)

@@ -25,7 +25,7 @@ use Rattle.proof_shape.specs.Beneath.machine_model.specs.Grown.{node_under}
 use Rattle.proof_shape.specs.Beneath.proof_commits.specs.Laws.{IsInSwap}
 use Rattle.proof_shape.specs.Beneath.proof_contents.specs.Lines.Changes.{KnowsSwap}
 use Rattle.proof_shape.specs.Beneath.proof_contents.specs.Lines.Repairs.{IsRepaired}
-use Rattle.proof_shape.specs.Beneath.proof_contents.specs.Runs.{main_at}
+use Rattle.proof_shape.specs.Beneath.proof_contents.specs.Runs.{counting_main}
 use Rattle.proof_shape.specs.Lines.Given.{GaveBelow, Was}
 use Rattle.proof_shape.specs.Lines.Climbing.{IsClimbed}
 use Rattle.proof_shape.specs.Lines.Knowing.{known_with, first_main, SwapsAt}
@@ -40,7 +40,7 @@ made_with states last start t i = first_main states last i
 
 -- those that they have at that time: the main nodes by which a generation's content is found before it
 abbrev pub assigned_at : (ℕ → State) → ℕ → Firsts
-assigned_at states last start t i = if generation_of (node_under states last i) == start then main_at states last t i else main_at states last last i
+assigned_at states last start t i = if generation_of (node_under states last i) == start then counting_main states last t i else counting_main states last last i
 
 -- what the owner of a fresh node knows of it, just before step t, which commits it
 abbrev pub KnowsFresh : Limits → (ℕ → State) → ℕ → Firsts → (t actor start : ℕ) → Operation → Ref → Ref → Purpose → Type 0
@@ -64,10 +64,10 @@ pub record OwnCommit (limits : Limits) (states : ℕ → State) (last : ℕ) (fi
   pub replaced : Ref
   pub fresh : Ref
   -- the main node of the indirection is changed, and no other
-  pub before : main_at states last t indirection ≡ replaced
-  pub after : main_at states last (suc t) indirection ≡ fresh
+  pub before : counting_main states last t indirection ≡ replaced
+  pub after : counting_main states last (suc t) indirection ≡ fresh
   pub differ : fresh ≢ replaced
-  pub others : (j : Ref) → j ≢ indirection → main_at states last (suc t) j ≡ main_at states last t j
+  pub others : (j : Ref) → j ≢ indirection → counting_main states last (suc t) j ≡ counting_main states last t j
   -- who takes the step
   pub taker : ℕ
   pub takes : s ≡ step.Go taker
@@ -98,7 +98,7 @@ pub data CommitsNone (state : State) : Step → Type 0 where
   sweeps : CommitsNone state step.Sweep
 
 pub data MainStep (limits : Limits) (states : ℕ → State) (last : ℕ) (firsts : Firsts) (t : ℕ) (s : Step) : Type 0 where
-  stays : CommitsNone (states t) s → ((i : Ref) → main_at states last (suc t) i ≡ main_at states last t i) → MainStep limits states last firsts t s
+  stays : CommitsNone (states t) s → ((i : Ref) → counting_main states last (suc t) i ≡ counting_main states last t i) → MainStep limits states last firsts t s
   changes : OwnCommit limits states last firsts t s → MainStep limits states last firsts t s
 
 -- a step leaves all main nodes and commits nothing, or it commits one fresh node

@@ -17,7 +17,7 @@ use Rattle.proof_shape.specs.Beneath.proof_commits.specs.Protocol.{Reads}
 use Rattle.proof_shape.specs.Beneath.proof_commits.specs.Stages.{stage_of}
 use Rattle.proof_shape.specs.Beneath.proof_commits.specs.Words.{words_of}
 use Rattle.proof_shape.specs.Beneath.proof_commits.specs.Moments.{IsMoment}
-use Rattle.proof_shape.specs.Beneath.proof_contents.specs.Runs.{main_at}
+use Rattle.proof_shape.specs.Beneath.proof_contents.specs.Runs.{counting_main}
 use Rattle.proof_shape.specs.Beneath.proof_contents.specs.Lines.Repairs.{ReadsBelow}
 
 -- the actor's operation of this id stands on this line of a READ of the indirection
@@ -56,7 +56,7 @@ pub record Gave (states : ℕ → State) (last t actor id : ℕ) (i m : Ref) : T
   pub gave : IsReading (states at) actor id i line
   pub gives : read_after (states at).heap gave.operation.access (word_at (states at) (handle_of gave.operation.call)) i line ≡ Gives m
   pub is_moment : IsMoment (words_of states last (λ g. None)) i m from moment at
-  pub is : main_at states last (suc moment) i ≡ m
+  pub is : counting_main states last (suc moment) i ≡ m
 
 -- A READ of a repair gave it, in the try in which the operation's root has this generation.
 pub record GaveBelow (states : ℕ → State) (last t actor id start : ℕ) (i m : Ref) : Type 0 where
@@ -77,4 +77,4 @@ pub record GaveBelow (states : ℕ → State) (last t actor id start : ℕ) (i m
 
 -- before step t it was once the main node of the indirection
 abbrev pub Was : (ℕ → State) → ℕ → ℕ → Ref → Ref → Type 0
-Was states last t i m = (u : ℕ) × (u ≤ t) × (main_at states last u i ≡ m)
+Was states last t i m = (u : ℕ) × (u ≤ t) × (counting_main states last u i ≡ m)

@@ -12,7 +12,7 @@ use Rattle.proof_shape.specs.Beneath.machine_model.specs.Paths.{current, above}
 use Rattle.proof_shape.specs.Beneath.machine_model.specs.Grown.{node_under}
 use Rattle.proof_shape.specs.Beneath.proof_contents.specs.Lines.Changes.{Known, KnowsLine}
 use Rattle.proof_shape.specs.Beneath.proof_contents.specs.Lines.Repairs.{KnowsRepair}
-use Rattle.proof_shape.specs.Beneath.proof_contents.specs.Runs.{main_at}
+use Rattle.proof_shape.specs.Beneath.proof_contents.specs.Runs.{counting_main}
 use Rattle.proof_shape.specs.Lines.Given.{GaveBelow, Was}
 use Rattle.proof_shape.specs.Lines.Climbing.{KnowsClimbing}
 
@@ -22,7 +22,7 @@ known_with limits states last first = record { kind = limits.hash; node = node_u
 
 -- the main node with which an indirection is made: that at time 0, as it looks from there
 abbrev pub first_main : (ℕ → State) → ℕ → Ref → Ref
-first_main states last i = main_at states last 0 i
+first_main states last i = counting_main states last 0 i
 
 -- of each running operation at each time
 abbrev pub OfEachAt : (ℕ → State) → ℕ → (ℕ → ℕ → Operation → Type 0) → Type 0

@@ -51,8 +51,8 @@ use Rattle.proof_shape.proofs.Lines.Places.{FitsCall, settled_at, places_at}
 use Rattle.proof_shape.proofs.Runs.Seen.{keyed_get, fits_at}
 use Rattle.proof_updates.specs.Beneath.proof_generations.specs.Falling.{GivenForEver}
 use Rattle.proof_order.proofs.Phases.Closers.{still_placed}
-use Rattle.proof_updates.specs.Taken.{RootsAreKept}
-use Rattle.proof_updates.proofs.Placed.Behind.{is_right, Behind, IfEnds, is_still, plain_behind, climbing_behind, still_behind, root_plain, build_plain, renew_plain, clean_plain, key_still, climb_climbs}
+use Rattle.proof_updates.proofs.Placed.Behind.{is_right, Behind, IfEnds, is_still, plain_behind, climbing_behind, still_behind, root_plain, build_plain, renew_plain, clean_plain}
+use Rattle.proof_updates.proofs.Placed.Behind.{key_still, climb_climbs}
 use Rattle.proof_updates.proofs.Placed.Copy.{copy_behind}
 use Rattle.proof_updates.proofs.Tries.EachOperation.{OwnStep}
 use Rattle.proof_updates.proofs.Routes.Each.{has_route}
@@ -62,6 +62,7 @@ use Rattle.proof_updates.proofs.Routes.Known.{LineRoute}
 use Rattle.proof_updates.proofs.Placed.Swap.{swap_behind}
 use Rattle.proof_updates.proofs.Answers.Walk.{goes_at, Walks as Walks', walk_right}
 use Rattle.proof_updates.proofs.Answers.WalkSteps.{below, KnowsWalk}
+use Rattle.proof_shape.proofs.Held.Commits.{fresh_commits_at}
 
 -- ---- what is right, and what a walk knows, by the fields of an operation
 
@@ -84,7 +85,6 @@ pub record IsAnswering (states : ℕ → State) (trie : Trie) (t k : ℕ) (opera
       standing (states t) (handle_of operation.call) ≡ Some (ReadOnly, h) → h ≡ g
 
 module _ (limits : Limits) (states : ℕ → State) (last : ℕ) (depth path : Ref → ℕ) (run : IsRun limits states last) (ok : IsTrie (trie_of limits states last depth path))
-    (all : CommitsAt limits states last (assigned_at states last)) (final : GivenForEver states last) (roots : RootsAreKept states last)
     (fits : (t : ℕ) → t ≤ last → (k : ℕ) (operation : Operation) → Runs (states t) k operation → key_of operation.call < 2 ^ 64) where
   abbrev trie : Trie
   trie = trie_of limits states last depth path
@@ -143,11 +143,13 @@ module _ (limits : Limits) (states : ℕ → State) (last : ℕ) (depth path : R
       gets : operation.access ≡ ReadOnly → IsGet operation.call
       gets a = keyed_get operation.call keyed (fits_at limits states last run t (omega arith) (suc k) operation own.runs a)
 
-      ends : EndsRight state operation (node_under states last) (first_main states last) (λ answer. AnswersSo trie operation.access (begun.0) operation.moment operation.call answer) (key_after state operation l)
+      ends : EndsRight state operation (node_under states last) (first_main states last)
+          (λ answer. AnswersSo trie operation.access (begun.0) operation.moment operation.call answer) (key_after state operation l)
       ends =
-          key_right limits states last depth path run ok t lt (suc k) operation (goes_at states t k operation own) begun.0 (keyed_so operation.call keyed) (fits t (omega arith) k operation own.runs) gets l e
+          key_right limits states last depth path run ok t lt (suc k) operation (goes_at states t k operation own) begun.0 (keyed_so operation.call keyed)
+          (fits t (omega arith) k operation own.runs) gets l e
           (subst (λ x. LineRoute trie operation.access begun.0 (key_of operation.call) t operation.read_at operation.moment x) e
-          (has_route limits states last depth path run ok final roots t (omega arith) k operation own.runs begun.0 begun.1))
+          (has_route limits states last depth path run ok t (omega arith) k operation own.runs begun.0 begun.1))
           (subst (λ x. KnowsLine (known_with limits states last (first_main states last)) operation.call x) e (knows_at limits states last run t (omega arith) (suc k) operation own.runs))
 
       generation_is : generation_after state operation ≡ Some begun.0
@@ -156,7 +158,8 @@ module _ (limits : Limits) (states : ℕ → State) (last : ℕ) (depth path : R
       right_so : operation.moment ≡ moment_after state operation → (answer : Reply) → AnswersSo trie operation.access begun.0 operation.moment operation.call answer → Right answer
       right_so moment answer h = by_access operation.access refl h
         where
-          by_access : (a : Access) → operation.access ≡ a → AnswersSo trie a begun.0 operation.moment operation.call answer → RightAt states trie (suc t) a next.generation next.moment operation.call answer
+          by_access : (a : Access) → operation.access ≡ a → AnswersSo trie a begun.0 operation.moment operation.call answer →
+              RightAt states trie (suc t) a next.generation next.moment operation.call answer
           by_access Writable is h = (begun.0, generation_is, subst (λ mu. AnswersSo trie Writable begun.0 mu operation.call answer) moment h)
           by_access ReadOnly is h = λ g e'.
               subst (λ x. AnswersSo trie ReadOnly x next.moment operation.call answer) (sym (before.its no_close is begun.0 begun.1 g (stood is g e'))) h
@@ -200,12 +203,12 @@ module _ (limits : Limits) (states : ℕ → State) (last : ℕ) (depth path : R
     walk_on l e (read_only, walks, knows) = by_line (walk_after state operation l) (walk_walking state operation l) each
       where
         each : (g : ℕ) (stands : standing state (handle_of operation.call) ≡ Some (ReadOnly, g)) →
-            Walks' limits states last depth path run ok final roots t k lt operation own read_only walks g next.moment stands (walk_after state operation l)
-        each g stands = walk_right limits states last depth path run ok final roots t k lt operation own read_only walks g next.moment stands l e (knows g stands)
+            Walks' limits states last depth path run ok t k lt operation own read_only walks g next.moment stands (walk_after state operation l)
+        each g stands = walk_right limits states last depth path run ok t k lt operation own read_only walks g next.moment stands l e (knows g stands)
 
         by_line : (x : Line) → is_walking x ≡ true →
             ((g : ℕ) (stands : standing state (handle_of operation.call) ≡ Some (ReadOnly, g)) →
-            Walks' limits states last depth path run ok final roots t k lt operation own read_only walks g next.moment stands x) → On x
+            Walks' limits states last depth path run ok t k lt operation own read_only walks g next.moment stands x) → On x
         by_line (line.Walk x) w h = (read_only, walks, λ g e'. h g (stood read_only g e'))
         by_line (line.End answer) w h =
             is_right (subst (λ a. RightAt states trie (suc t) a next.generation next.moment operation.call answer) (sym read_only) (λ g e'. h g (stood read_only g e')))
@@ -222,14 +225,16 @@ module _ (limits : Limits) (states : ℕ → State) (last : ℕ) (depth path : R
     -- ---- all lines
 
     line_on : (l : Line) → operation.line ≡ l →
-        Behind states t operation.id (RightAt states trie t operation.access operation.generation operation.moment operation.call) (WalksAt states trie t operation.access operation.call) l → On (line_after state operation l)
+        Behind states t operation.id (RightAt states trie t operation.access operation.generation operation.moment operation.call)
+        (WalksAt states trie t operation.access operation.call) l → On (line_after state operation l)
     line_on (line.Root l) e h = plain_behind states (suc t) operation.id Right Walks _ (root_plain state operation l)
     line_on (line.Key l) e h = key_on l e
     line_on (line.Build l) e h = plain_behind states (suc t) operation.id Right Walks _ (build_plain state operation l)
-    line_on (line.Swap why x) e h = swap_behind limits states last run all t k lt operation own Right Walks why x e (swap_before why x h)
+    line_on (line.Swap why x) e h = swap_behind limits states last run t k lt operation own Right Walks why x e (swap_before why x h)
       where
         swap_before : (why : Purpose) (x : Swap) →
-            Behind states t operation.id (RightAt states trie t operation.access operation.generation operation.moment operation.call) (WalksAt states trie t operation.access operation.call) (line.Swap why x) →
+            Behind states t operation.id (RightAt states trie t operation.access operation.generation operation.moment operation.call)
+            (WalksAt states trie t operation.access operation.call) (line.Swap why x) →
             Behind states t operation.id Right Walks (line.Swap why x)
         swap_before (purpose.Update path former) x h = h
         swap_before (purpose.Renew path) x h = h

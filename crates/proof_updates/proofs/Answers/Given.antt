@@ -17,12 +17,11 @@ use Rattle.proof_updates.specs.Beneath.proof_commits.specs.Protocol.{Reads}
 use Rattle.proof_updates.specs.Beneath.proof_commits.proofs.Course.Finals.{link_stays}
 use Rattle.proof_updates.specs.Beneath.proof_commits.specs.Stages.{stage_of}
 use Rattle.proof_updates.specs.Beneath.proof_commits.proofs.Known.Given.{Known}
-use Rattle.proof_updates.specs.Beneath.proof_commits.proofs.Known.Layers.{known_of_memory}
-use Rattle.proof_updates.specs.Beneath.proof_commits.proofs.Known.Memory.{memory}
+use Rattle.proof_updates.specs.Beneath.proof_commits.proofs.Known.Acts.{known_run}
 use Rattle.proof_updates.specs.Beneath.proof_commits.proofs.Words.Along.{protocol}
 use Rattle.proof_updates.specs.Beneath.proof_commits.proofs.Course.Moments.{moment_at}
-use Rattle.proof_updates.specs.Beneath.proof_contents.specs.Runs.{main_at}
-use Rattle.proof_updates.specs.Beneath.proof_contents.proofs.Values.Runs.{main_at-made}
+use Rattle.proof_updates.specs.Beneath.proof_contents.specs.Runs.{counting_main}
+use Rattle.proof_updates.specs.Beneath.proof_contents.proofs.Values.Runs.{counting_main-made}
 use Rattle.proof_updates.proofs.Tries.EachOperation.{OwnStep}
 use Rattle.proof_updates.specs.Beneath.proof_commits.proofs.Words.OfRuns.{link_made}
 use Rattle.proof_updates.specs.Beneath.proof_generations.proofs.Falling.ReadsGive.{gone_is}
@@ -32,13 +31,13 @@ own_after states t k operation own = gone_is (states t) (suc k) own.outcome (sta
 
 module _ (limits : Limits) (states : ℕ → State) (last : ℕ) (run : IsRun limits states last) where
   abbrev known : Known limits states last
-  known = known_of_memory limits states last (memory limits states last run)
+  known = known_run limits states last run
 
   -- it counts from a step on which is no later than the moment, and the moment no later than now
   pub record GivenAt (t : ℕ) (operation : Operation) (i m : Ref) : Type 0 where
     pub from : read_at_after (states t) operation ≤ moment_after (states t) operation
     pub past : moment_after (states t) operation ≤ t
-    pub is : main_at states last (suc (moment_after (states t) operation)) i ≡ m
+    pub is : counting_main states last (suc (moment_after (states t) operation)) i ≡ m
 
   pub given_at : (t k : ℕ) → t < last → (operation : Operation) → OwnStep states t k operation → (i : Ref) (x : ReadLine) → stage_of operation.line ≡ Reads i x → (m : Ref) →
       read_after (states t).heap operation.access (word_at (states t) (handle_of operation.call)) i x ≡ Gives m → GivenAt t operation i m
@@ -51,5 +50,5 @@ module _ (limits : Limits) (states : ℕ → State) (last : ℕ) (run : IsRun li
       record {
         from = moment.from;
         past = moment.past;
-        is = main_at-made states last (suc mu) i made ∙ moment.is;
+        is = counting_main-made states last (suc mu) i made ∙ moment.is;
       }

@@ -112,7 +112,8 @@ module _ (limits : Limits) (states : ℕ → State) (last : ℕ) (depth path : R
   Right answer = AnswersSo trie operation.access g operation.moment operation.call answer
 
   abbrev pub Ends : Line → Type 0
-  Ends l = EndsRight (states t) operation (node_under states last) (first_main states last) (λ answer. AnswersSo (trie_of limits states last depth path) operation.access g operation.moment operation.call answer) l
+  Ends l = EndsRight (states t) operation (node_under states last) (first_main states last)
+      (λ answer. AnswersSo (trie_of limits states last depth path) operation.access g operation.moment operation.call answer) l
 
   same_hash : (states t).limits.hash ≡ trie.kind
   same_hash = ap (λ (l : Limits). l.hash) (limits_at limits states last run t (omega arith))
@@ -172,7 +173,8 @@ module _ (limits : Limits) (states : ℕ → State) (last : ℕ) (depth path : R
       let seen = sees limits states last run t (omega arith) operation main ABranch branch_main (claims limits states last run t lt actor operation go _ e).1.1.0 in
       let stands = no_tomb main (Branch b es) f.is (λ single bad. let wrong : Branch b es ≡ Tomb single = bad in cc) in
       entry_ends (states t) operation node first Right main seen p (rights p main at stands) position b es
-      (λ k v is. single_seen limits states last run t (omega arith) (entry_at (states t).heap main position) (looks limits states last run t lt actor operation go _ e (entry_at (states t).heap main position) refl) k v is)
+      (λ k v is. single_seen limits states last run t (omega arith) (entry_at (states t).heap main position)
+      (looks limits states last run t lt actor operation go _ e (entry_at (states t).heap main position) refl) k v is)
       (subst (λ (k : Known). IsFlagged k (depth_of p) (key_of operation.call) main position b es) (sym (same_known limits states last run t lt actor operation go)) f)
       (node_at (states t).heap (entry_at (states t).heap main position)) refl
 
@@ -189,7 +191,8 @@ module _ (limits : Limits) (states : ℕ → State) (last : ℕ) (depth path : R
 
       single : SeesSingle (states t) operation node first main position
       single k v is =
-          single_seen limits states last run t (omega arith) (entry_at (states t).heap main position) (looks limits states last run t lt actor operation go _ e (entry_at (states t).heap main position) refl) k v is
+          single_seen limits states last run t (omega arith) (entry_at (states t).heap main position)
+          (looks limits states last run t lt actor operation go _ e (entry_at (states t).heap main position) refl) k v is
 
       not_tombed : (s : Ref) → node main ≡ Tomb s → operation.access ≡ Writable → ⊥
       not_tombed s is w = true≢false (sym (ap (meets AList) (sym (seen.main_is ∙ is)) ∙ ap (λ a. meets (listed a) (node_at (states t).heap main)) (sym w) ∙ meets_of claim))

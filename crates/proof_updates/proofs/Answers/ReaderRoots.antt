@@ -24,10 +24,10 @@ use Rattle.proof_updates.specs.Beneath.proof_memory.proofs.Safety.AtEachTime.{sa
 use Rattle.proof_updates.specs.Beneath.proof_generations.proofs.Roots.Along.{ordered_at, read_only_plain}
 use Rattle.proof_order.specs.Facts.{Runs, standing, standing_of}
 use Rattle.proof_order.proofs.Phases.Standing.{read_only_stays}
-use Rattle.proof_updates.specs.Beneath.proof_contents.specs.Runs.{root_at as root_of_generation}
-use Rattle.proof_shape.proofs.Runs.Nodes.{nodes_stay}
-use Rattle.proof_updates.specs.Taken.{RootsAreKept}
+use Rattle.proof_updates.specs.Beneath.proof_contents.specs.Runs.{root_of_generation}
 use Rattle.proof_updates.proofs.Tries.Seen.{seen_link}
+use Rattle.proof_order.proofs.Openings.ClosedRoots.{root_is}
+use Rattle.proof_updates.specs.Beneath.proof_generations.proofs.Falling.Nodes.{nodes_stay}
 
 -- an open handle with this standing
 pub record StandsOn (state : State) (handle : ℕ) (access : Access) (g : ℕ) : Type 0 where
@@ -73,8 +73,8 @@ module _ (limits : Limits) (states : ℕ → State) (last : ℕ) (run : IsRun li
     pub word : Ref
     pub node : node_under states last (root_of (word_at (states t) handle)) ≡ Indirection generation word
 
-  pub root_stands : RootsAreKept states last → (t handle g : ℕ) → t ≤ last → standing (states t) handle ≡ Some (ReadOnly, g) → IsRoot t handle g
-  root_stands roots t handle g within e =
+  pub root_stands : (t handle g : ℕ) → t ≤ last → standing (states t) handle ≡ Some (ReadOnly, g) → IsRoot t handle g
+  root_stands t handle g within e =
       record { is = is_root; generation = linked.0; word = linked.1; node = linked.2 }
     where
       on : StandsOn (states t) handle ReadOnly g
@@ -84,7 +84,7 @@ module _ (limits : Limits) (states : ℕ → State) (last : ℕ) (run : IsRun li
       word_is = ap word_of on.is_open
 
       is_root : root_of_generation states last g ≡ root_of (word_at (states t) handle)
-      is_root = ap (root_of_generation states last) (sym on.its) ∙ roots t handle on.root within on.is_open ∙ ap root_of (sym word_is)
+      is_root = ap (root_of_generation states last) (sym on.its) ∙ root_is limits states last run t handle on.root within on.is_open ∙ ap root_of (sym word_is)
 
       plain : on.root.word ≡ Plain (root_of on.root.word)
       plain = read_only_plain (states t) (safe_at limits states last run t within) (ordered_at limits states last run t within) handle on.root on.is_open on.kind
@@ -95,7 +95,8 @@ module _ (limits : Limits) (states : ℕ → State) (last : ℕ) (run : IsRun li
       linked : (h : ℕ) × (w : Ref) × (node_under states last (root_of (word_at (states t) handle)) ≡ Indirection h w)
       linked = by_node (node_at (states t).heap (root_of on.root.word)) refl (meets_of used)
         where
-          by_node : (n : Node) → node_at (states t).heap (root_of on.root.word) ≡ n → meets AnIndirection n ≡ true → (h : ℕ) × (w : Ref) × (node_under states last (root_of (word_at (states t) handle)) ≡ Indirection h w)
+          by_node : (n : Node) → node_at (states t).heap (root_of on.root.word) ≡ n → meets AnIndirection n ≡ true →
+              (h : ℕ) × (w : Ref) × (node_under states last (root_of (word_at (states t) handle)) ≡ Indirection h w)
           by_node (Indirection h w) found m =
               let link = seen_link states last (nodes_stay limits states last run) t within (root_of on.root.word) (safe_of used) h w found in
               (h, link.0, ap (λ x. node_under states last (root_of x)) word_is ∙ link.1)

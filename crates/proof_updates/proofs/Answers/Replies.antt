@@ -36,19 +36,19 @@ use Rattle.proof_order.proofs.Places.Elements.{among_right}
 use Rattle.proof_updates.specs.Beneath.proof_generations.proofs.Handles.Running.{place_of_actor}
 use Rattle.proof_order.specs.Times.{Since, IsWithin, has_read}
 use Rattle.proof_order.proofs.Phases.Steps.{is_placed_so}
-use Rattle.proof_order.proofs.Phases.Placed.{end_line}
 use Rattle.proof_order.proofs.Phases.Since.{run_since}
 use Rattle.proof_order.proofs.Phases.Standing.{rooted_at_moments, read_only_stands}
 use Rattle.proof_shape.specs.Lines.Commits.{CommitsAt, assigned_at}
 use Rattle.proof_updates.specs.Beneath.proof_generations.specs.Falling.{GivenForEver}
 use Rattle.proof_order.proofs.Phases.Closers.{still_placed}
-use Rattle.proof_updates.specs.Taken.{RootsAreKept}
 use Rattle.proof_updates.specs.Updates.{RepliesRight}
 use Rattle.proof_updates.proofs.Answers.Each.{RightAt, WalksAt, IsAnswering, answering_goes}
 use Rattle.proof_updates.proofs.Placed.Behind.{EndsSo, refused, has_place, is_right, Behind, later_behind}
 use Rattle.proof_updates.proofs.Tries.EachOperation.{each_operation}
 use Rattle.proof_updates.proofs.Answers.ReaderRoots.{stood_before}
 use Rattle.proof_updates.proofs.Placed.Swap.{none_next}
+use Rattle.proof_updates.specs.Beneath.proof_commits.proofs.Lines.Reads.{only_end}
+use Rattle.proof_shape.proofs.Held.Commits.{fresh_commits_at}
 
 -- ---- a begin
 
@@ -68,7 +68,6 @@ close_places state actor (Close handle) e =
 close_places state actor call e = absurd (true≢false (sym e))
 
 module _ (limits : Limits) (states : ℕ → State) (last : ℕ) (depth path : Ref → ℕ) (run : IsRun limits states last) (ok : IsTrie (trie_of limits states last depth path))
-    (all : CommitsAt limits states last (assigned_at states last)) (final : GivenForEver states last) (roots : RootsAreKept states last)
     (fits : (t : ℕ) → t ≤ last → (k : ℕ) (operation : Operation) → Runs (states t) k operation → key_of operation.call < 2 ^ 64) where
   abbrev trie : Trie
   trie = trie_of limits states last depth path
@@ -108,8 +107,9 @@ module _ (limits : Limits) (states : ℕ → State) (last : ℕ) (depth path : R
 
       line_later : (l : Line) → operation.line ≡ l →
           Behind states t operation.id (RightAt states trie t operation.access operation.generation operation.moment operation.call) (WalksAt states trie t operation.access operation.call) l →
-          Behind states (suc t) operation.id (RightAt states trie (suc t) operation.access operation.generation operation.moment operation.call) (WalksAt states trie (suc t) operation.access operation.call) l
-      line_later (line.Swap (purpose.Update path former) x) e h = none_next limits states last run all t k lt operation runs s o m path former x e h
+          Behind states (suc t) operation.id (RightAt states trie (suc t) operation.access operation.generation operation.moment operation.call)
+          (WalksAt states trie (suc t) operation.access operation.call) l
+      line_later (line.Swap (purpose.Update path former) x) e h = none_next limits states last run t k lt operation runs s o m path former x e h
       line_later (line.Swap (purpose.Renew path) x) e h = tt
       line_later (line.Swap purpose.Clean x) e h = tt
       line_later (line.Swap (purpose.Climb c) x) e h = keeps_place h
@@ -145,7 +145,7 @@ module _ (limits : Limits) (states : ℕ → State) (last : ℕ) (depth path : R
   answering_at =
       each_operation limits states last run (λ t k operation. IsAnswering states trie t k operation)
       (λ t k operation b h. record { closes = h.closes; behind = h.behind; its = h.its }) answering_begins rests
-      (λ t k lt operation own h. answering_goes limits states last depth path run ok all final roots fits t k lt operation own h)
+      (λ t k lt operation own h. answering_goes limits states last depth path run ok fits t k lt operation own h)
 
   -- ---- the end
 
@@ -156,13 +156,15 @@ module _ (limits : Limits) (states : ℕ → State) (last : ℕ) (depth path : R
     since : Since states t k operation
     since = run_since limits states last run t k operation within runs
 
-    replied : is_close operation.call ≡ false → RightAt states trie t operation.access operation.generation operation.moment operation.call answer → Replied limits states last (content trie) operation answer
+    replied : is_close operation.call ≡ false → RightAt states trie t operation.access operation.generation operation.moment operation.call answer →
+        Replied limits states last (content trie) operation answer
     replied no_close h = by_access operation.access refl h
       where
         moment : IsWithin states since.at t operation.moment
         moment = (since.reads no_close).moment (ap has_read e)
 
-        by_access : (a : Access) → operation.access ≡ a → RightAt states trie t a operation.generation operation.moment operation.call answer → Replied limits states last (content trie) operation answer
+        by_access : (a : Access) → operation.access ≡ a → RightAt states trie t a operation.generation operation.moment operation.call answer →
+            Replied limits states last (content trie) operation answer
         by_access Writable is (g, generation, right) =
             on_writable g is generation (rooted_at_moments limits states last run t k operation g within runs is generation (ap has_read e)) moment.closes_none right
         by_access ReadOnly is right =
@@ -180,10 +182,12 @@ module _ (limits : Limits) (states : ℕ → State) (last : ℕ) (depth path : R
     right_reply : answer ≢ reply.NoSlots → is_placed (states t) operation.id ≡ false → Replied limits states last (content trie) operation answer
     right_reply other unplaced =
         by_ending
-        (subst (λ l. Behind states t operation.id (RightAt states trie t operation.access operation.generation operation.moment operation.call) (WalksAt states trie t operation.access operation.call) l) e
+        (subst (λ l. Behind states t operation.id (RightAt states trie t operation.access operation.generation operation.moment operation.call)
+        (WalksAt states trie t operation.access operation.call) l) e
         ((answering_at t within k operation runs).behind (no_close_unplaced unplaced)))
       where
-        by_ending : EndsSo states t operation.id (RightAt states trie t operation.access operation.generation operation.moment operation.call) answer → Replied limits states last (content trie) operation answer
+        by_ending : EndsSo states t operation.id (RightAt states trie t operation.access operation.generation operation.moment operation.call) answer →
+            Replied limits states last (content trie) operation answer
         by_ending (refused is) = absurd (other is)
         by_ending (has_place is) = absurd (true≢false (sym is ∙ unplaced))
         by_ending (is_right h) = replied (no_close_unplaced unplaced) h
@@ -191,4 +195,4 @@ module _ (limits : Limits) (states : ℕ → State) (last : ℕ) (depth path : R
   pub replies_right : RepliesRight limits states last (trie_of limits states last depth path)
   replies_right t actor operation answer o lt m is does other unplaced =
       let place = place_of_actor (states t) actor operation is in
-      right_reply t place.0 lt operation place.2 answer (end_line (states t) operation operation.line answer does) other unplaced
+      right_reply t place.0 lt operation place.2 answer (only_end (states t) operation operation.line answer does) other unplaced

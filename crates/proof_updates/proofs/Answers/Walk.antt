@@ -38,17 +38,17 @@ use Rattle.proof_updates.specs.Beneath.proof_contents.proofs.Pairs.Walks.{walk_s
 use Rattle.proof_updates.specs.Beneath.proof_commits.proofs.Course.OfLists.{given_read}
 use Rattle.proof_order.specs.Facts.{standing}
 use Rattle.proof_shape.proofs.Runs.EachAt.{GoesAt}
-use Rattle.proof_shape.proofs.Runs.Nodes.{nodes_stay}
 use Rattle.proof_shape.proofs.Runs.Seen.{main_seen, single_seen}
 use Rattle.proof_shape.proofs.Lines.Key.{claims, looks}
 use Rattle.proof_updates.specs.Beneath.proof_generations.specs.Falling.{GivesAt, GivenForEver}
-use Rattle.proof_updates.specs.Taken.{RootsAreKept}
 use Rattle.proof_updates.proofs.Tries.EachOperation.{OwnStep}
 use Rattle.proof_updates.proofs.Answers.Given.{given_at, own_after}
 use Rattle.proof_updates.proofs.Answers.Key.{AnswersSo}
 use Rattle.proof_updates.proofs.Answers.ReaderRoots.{IsRoot, root_stands}
 use Rattle.proof_updates.proofs.Tries.Seen.{seen_link}
 use Rattle.proof_updates.proofs.Answers.WalkSteps.{below, below_main, walked_right, KnowsWalk}
+use Rattle.proof_updates.specs.Beneath.proof_generations.proofs.Falling.Final.{given_for_ever}
+use Rattle.proof_updates.specs.Beneath.proof_generations.proofs.Falling.Nodes.{nodes_stay}
 
 -- a step of an operation that goes on, in the words of the lines
 pub goes_at : (states : ℕ → State) (t k : ℕ) (operation : Operation) → OwnStep states t k operation → GoesAt states t (suc k) operation
@@ -64,7 +64,7 @@ read_link S heap i (read.Decide m p told) h = h.0
 read_link S heap i (read.Restore m p) h = h.0
 
 module _ (limits : Limits) (states : ℕ → State) (last : ℕ) (depth path : Ref → ℕ) (run : IsRun limits states last) (ok : IsTrie (trie_of limits states last depth path))
-    (final : GivenForEver states last) (roots : RootsAreKept states last) (t k : ℕ) (lt : t < last) (operation : Operation) (own : OwnStep states t k operation)
+    (t k : ℕ) (lt : t < last) (operation : Operation) (own : OwnStep states t k operation)
     (read_only : operation.access ≡ ReadOnly) (walks : needs_read_only operation.call ≡ true) (g mu : ℕ) (stands : standing (states t) (handle_of operation.call) ≡ Some (ReadOnly, g)) where
   abbrev trie : Trie
   trie = trie_of limits states last depth path
@@ -79,7 +79,7 @@ module _ (limits : Limits) (states : ℕ → State) (last : ℕ) (depth path : R
   go = goes_at states t k operation own
 
   root : IsRoot limits states last run t (handle_of operation.call) g
-  root = root_stands limits states last run roots t (handle_of operation.call) g (omega arith) stands
+  root = root_stands limits states last run t (handle_of operation.call) g (omega arith) stands
 
   pub right : (taken : Pairs) → taken ≡ all → Right (walked_reply operation.call taken)
   right taken whole = walked_right trie ok g root.generation mu root.word (ap trie.node root.is ∙ root.node) operation.call walks taken whole
@@ -104,7 +104,7 @@ module _ (limits : Limits) (states : ℕ → State) (last : ℕ) (depth path : R
         } in
         let past = (given_at limits states last run t k lt operation own r.indirection r.line (ap stage_of e) main
         (given_read r.indirection (read_after (states t).heap operation.access (word_at (states t) (handle_of operation.call)) r.indirection r.line) main gives)).past in
-        final t lt (suc k) operation r.indirection main at (inl read_only) last (omega arith) (omega arith)
+        given_for_ever limits states last run t lt (suc k) operation r.indirection main at (inl read_only) last (omega arith) (omega arith)
 
     link : (h : ℕ) × (w : Ref) × (node_under states last r.indirection ≡ Indirection h w)
     link = by_node (node_at (states t).heap r.indirection) refl (meets_of used)

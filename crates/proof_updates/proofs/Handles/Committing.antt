@@ -30,7 +30,7 @@ module _ (limits : Limits) (states : ℕ → State) (last : ℕ) (t : ℕ) (s : 
       by_step x (goes actor operation runs nothing) = ap (committed_of (states t)) runs ∙ nothing
       by_step x sweeps = refl
 
-  own_committed : (own : Own) → committed_by_step (states t) s ≡ Some own.fresh
+  pub own_committed : (own : Own) → committed_by_step (states t) s ≡ Some own.fresh
   own_committed own = ap (committed_by_step (states t)) own.takes ∙ ap (committed_of (states t)) own.decides ∙ own.commits
 
   -- the owner's SWAP
@@ -75,8 +75,10 @@ module _ (limits : Limits) (states : ℕ → State) (last : ℕ) (t : ℕ) (s : 
 
       same_actor : u.actor ≡ own.actor
       same_actor =
-          own.alone u.actor u.operation u.swap.indirection u.swap.replaced u.swap.line u.runs
-          (purpose.Update u.path former, u.swaps ∙ ap (λ f. line.Swap (purpose.Update u.path former) (record { indirection = u.swap.indirection; replaced = u.swap.replaced; fresh = f; line = u.swap.line })) same_fresh)
+          own.alone u.actor u.operation u.swap.indirection u.swap.replaced u.swap.line u.runs (
+            purpose.Update u.path former,
+            u.swaps ∙ ap (λ f. line.Swap (purpose.Update u.path former) (record { indirection = u.swap.indirection; replaced = u.swap.replaced; fresh = f; line = u.swap.line })) same_fresh,
+          )
 
       same_owner : own.owner ≡ u.operation
       same_owner = same_Some _ _ (sym own.runs ∙ ap (operation_of (states t)) (sym same_actor) ∙ u.runs)

@@ -24,7 +24,8 @@ module _ (node : Ref → Node) (hash : ℕ → ℕ) (key : ℕ) where
   -- nodes without generations and words find the same
   pub bare_says : (flag : ℕ) (n : Node) → look_in (λ r. bare (node r)) flag key (bare n) ≡ look_in node flag key n
   bare_says flag (Branch bitmap entries) =
-      ap (λ f. cond (has_flag bitmap flag) f Absent) (bare_look key (slice_index_or entries.items (position_of flag bitmap) no_ref) (node (slice_index_or entries.items (position_of flag bitmap) no_ref)))
+      ap (λ f. cond (has_flag bitmap flag) f Absent)
+      (bare_look key (slice_index_or entries.items (position_of flag bitmap) no_ref) (node (slice_index_or entries.items (position_of flag bitmap) no_ref)))
   bare_says flag (Tomb single) = bare_look key single (node single)
   bare_says flag (Listed singles) = bare_among node key singles.items
   bare_says flag (Indirection generation word) = refl

@@ -25,8 +25,8 @@ use Rattle.proof_shape.specs.Sites.Nodes.{depth_of_run, path_of_run}
 use Rattle.proof_shape.specs.Sites.At.{TakesSteps, StepsFit}
 use Rattle.proof_shape.proofs.Shaped.Trie.{runs_have_shape}
 use Rattle.proof_updates.proofs.Tries.Does.{own_does}
-use Rattle.proof_updates.proofs.Tries.Taken.{repairs_are_known, sites_of_updates}
-use Rattle.proof_updates.proofs.Tries.Whole as whole
+use Rattle.proof_updates.proofs.Tries.Commits.{repairs_are_known, sites_of_updates}
+use Rattle.proof_updates.proofs.Tries.OfRuns as whole
 use Rattle.proof_updates.specs.Touching.{Reaches}
 use Rattle.proof_updates.proofs.Handles.Reaching.{reach_from}
 use Rattle.proof_updates.proofs.Handles.Showing.{root_deep, root_link, content_shown}
@@ -79,8 +79,8 @@ module _ (limits : Limits) (states : ℕ → State) (steps : ℕ → Step) (t : 
         by_step (stays none same) = nothing_below trie ok t refl same r key
         by_step (changes own) =
             by_own own
-            (own_does limits states (suc t) (depth_of_run states steps (suc t)) (path_of_run states steps (suc t)) run all (swaps_in_own_generation limits states (suc t) run)
-            (repairs_are_known limits states (suc t) run) (sites_of_updates limits states (suc t) run steps takes keys) t s (omega arith) own)
+            (own_does limits states (suc t) (depth_of_run states steps (suc t)) (path_of_run states steps (suc t)) run
+            (sites_of_updates limits states (suc t) run steps takes keys) t s (omega arith) own)
 
     -- a handle over a root with these values has this content behind the step
     pub content_later : (other : ℕ) (now : Root) → root_at (states (suc t)) other ≡ Some now →

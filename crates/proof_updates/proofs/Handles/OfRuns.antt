@@ -17,7 +17,7 @@ use Rattle.proof_order.specs.Openings.{Brings}
 use Rattle.proof_order.proofs.Openings.Brings.{swaps_bring}
 use Rattle.proof_shape.specs.Shaped.{trie_of_run}
 use Rattle.proof_shape.specs.Sites.At.{TakesSteps, StepsFit}
-use Rattle.proof_updates.specs.Laws.Handles.{Holds, UntouchedStay, UpdatesChange, RepairsStay, ClearsEmpty, ClosesTake, OpenedCopy}
+use Rattle.proof_updates.specs.Laws.Handles.{HandleHolds, UntouchedStay, UpdatesChange, RepairsStay, ClearsEmpty, ClosesTake, OpenedCopy}
 use Rattle.proof_updates.specs.Touching.{CarriesOutCall, Touches, updates, clears, closes}
 use Rattle.proof_updates.proofs.Handles.Committing.{commits_own, owned, no_owner, no_repair, begins_none, carries_nothing}
 use Rattle.proof_updates.proofs.Handles.Kept.{main_step, values_stay, content_later}
@@ -43,10 +43,10 @@ module _ (limits : Limits) (states : ℕ → State) (steps : ℕ → Step) (t : 
 
   -- ---- handles that aren't touched
 
-  stays : (handle : ℕ) (access : Access) (pairs : List (ℕ × ℕ)) → Holds (states t) handle access pairs → ¬ Touches (states t) s handle → Holds (states (suc t)) handle access pairs
+  stays : (handle : ℕ) (access : Access) (pairs : List (ℕ × ℕ)) → HandleHolds (states t) handle access pairs → ¬ Touches (states t) s handle → HandleHolds (states (suc t)) handle access pairs
   stays handle access pairs holds untouched = by_root (handle_step limits states (suc t) run t (omega arith) s o m handle holds.root holds.is_open)
     where
-      by_root : HandleStep limits states (suc t) run t (omega arith) s o m handle holds.root → Holds (states (suc t)) handle access pairs
+      by_root : HandleStep limits states (suc t) run t (omega arith) s o m handle holds.root → HandleHolds (states (suc t)) handle access pairs
       by_root (keeps stands) = record {
         root = stands.root;
         is_open = stands.is_open;
@@ -62,8 +62,10 @@ module _ (limits : Limits) (states : ℕ → State) (steps : ℕ → Step) (t : 
         is_open = stands.is_open;
         kind = stands.kind ∙ holds.kind;
         content = copies limits states steps t run takes keys s o m handle offer carries offer.successor
-            (copied_root limits states steps t run takes keys s o m handle offer carries (its_call limits states steps t run takes keys s o m handle offer carries) (brings limits states steps t run takes keys s o m handle offer carries)
-            (λ e. untouched (clears offer.opens (subst (λ c. CarriesOutCall (states t) s c offer.opens) e (carries_call limits states steps t run takes keys s o m handle offer carries offer.opens refl)))))
+            (copied_root limits states steps t run takes keys s o m handle offer carries (its_call limits states steps t run takes keys s o m handle offer carries)
+            (brings limits states steps t run takes keys s o m handle offer carries)
+            (λ e. untouched
+            (clears offer.opens (subst (λ c. CarriesOutCall (states t) s c offer.opens) e (carries_call limits states steps t run takes keys s o m handle offer carries offer.opens refl)))))
             handle stands.root stands.is_open stands.over ∙ holds.content;
       }
       by_root (is_closed actor e gone) = absurd (untouched (closes actor e))
@@ -92,7 +94,7 @@ module _ (limits : Limits) (states : ℕ → State) (steps : ℕ → Step) (t : 
       let done = update_changes limits states steps t run takes keys s o m handle holds.root holds.is_open i call former reach u in
       let turned = done.2 in (
         done.0,
-        subst (λ a. Holds (states (suc t)) handle a done.0) holds.kind done.1,
+        subst (λ a. HandleHolds (states (suc t)) handle a done.0) holds.kind done.1,
         record {
           before = turned.before;
           after = turned.after;
@@ -114,7 +116,9 @@ module _ (limits : Limits) (states : ℕ → State) (steps : ℕ → Step) (t : 
   empties handle opens c = cleared limits states steps t run takes keys s o m c.handle c.offer c.carries (Clear handle) (brought (Clear handle) opens c) handle refl
 
   copy : OpenedCopy limits (states t) s (states (suc t))
-  copy handle root shut now = by_call (copied limits states steps t run takes keys s o m it.on it.offer it.carries (its_call limits states steps t run takes keys s o m it.on it.offer it.carries) (brings limits states steps t run takes keys s o m it.on it.offer it.carries) handle it.number it.now)
+  copy handle root shut now =
+      by_call (copied limits states steps t run takes keys s o m it.on it.offer it.carries
+      (its_call limits states steps t run takes keys s o m it.on it.offer it.carries) (brings limits states steps t run takes keys s o m it.on it.offer it.carries) handle it.number it.now)
     where
       it : IsOpened limits states (suc t) run t (omega arith) s o m handle
       it = opened_step limits states (suc t) run t (omega arith) s o m handle root shut now
@@ -123,8 +127,8 @@ module _ (limits : Limits) (states : ℕ → State) (steps : ℕ → Step) (t : 
       calls = carries_call limits states steps t run takes keys s o m it.on it.offer it.carries (Some handle) it.number
 
       by_call : Copied limits states steps t run takes keys s o m it.on it.offer it.carries handle (its_call limits states steps t run takes keys s o m it.on it.offer it.carries) →
-          (copied : ℕ) × ((CarriesOutCall (states t) s (Snapshot copied) (Some handle) × Holds (states (suc t)) handle Writable (content_at (states t) copied))
-          ⊎ (CarriesOutCall (states t) s (Freeze copied) (Some handle) × Holds (states (suc t)) handle ReadOnly (content_at (states t) copied)))
+          (copied : ℕ) × ((CarriesOutCall (states t) s (Snapshot copied) (Some handle) × HandleHolds (states (suc t)) handle Writable (content_at (states t) copied))
+          ⊎ (CarriesOutCall (states t) s (Freeze copied) (Some handle) × HandleHolds (states (suc t)) handle ReadOnly (content_at (states t) copied)))
       by_call (by_snapshot e holds) = (it.on, inl (subst (λ c. CarriesOutCall (states t) s c (Some handle)) e calls, holds))
       by_call (by_freeze e holds) = (it.on, inr (subst (λ c. CarriesOutCall (states t) s c (Some handle)) e calls, holds))
 

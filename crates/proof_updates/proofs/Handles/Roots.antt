@@ -98,7 +98,8 @@ module _ (limits : Limits) (states : ℕ → State) (last : ℕ) (run : IsRun li
     -- it keeps its root
     keeps : StandsOver (states (suc t)) handle root.access (root_of root.word) → HandleStep handle root
     -- its root is swapped for the new one of an offer
-    changes_root : (offer : Descriptor) → CarriesOut (states t) s handle offer → root_of root.word ≡ offer.root → StandsOver (states (suc t)) handle root.access offer.successor → HandleStep handle root
+    changes_root : (offer : Descriptor) → CarriesOut (states t) s handle offer → root_of root.word ≡ offer.root →
+        StandsOver (states (suc t)) handle root.access offer.successor → HandleStep handle root
     -- it is closed
     is_closed : (actor : ℕ) → s ≡ step.Begin actor (Close handle) → root_at (states (suc t)) handle ≡ None → HandleStep handle root
 
@@ -139,7 +140,8 @@ module _ (limits : Limits) (states : ℕ → State) (last : ℕ) (run : IsRun li
                 over = refl;
               })
           by_handle (no apart) =
-              handle_keeps handle root is (ap footing_of (elsewhere (states t) (states (suc t)) on offer roots handle apart (λ n e same. none-some root (sym (free n e) ∙ ap (root_at (states t)) (sym same) ∙ is))))
+              handle_keeps handle root is
+              (ap footing_of (elsewhere (states t) (states (suc t)) on offer roots handle apart (λ n e same. none-some root (sym (free n e) ∙ ap (root_at (states t)) (sym same) ∙ is))))
 
   -- ---- of the handle whose root is swapped
 

@@ -20,10 +20,8 @@ use Rattle.proof_updates.specs.Beneath.proof_memory.proofs.Safety.AtEachTime.{sa
 use Rattle.proof_updates.specs.Beneath.proof_memory.proofs.Claims.Uses.{safe_of, meets_of}
 use Rattle.proof_updates.specs.Beneath.proof_memory.proofs.Safety.States.{IsSafe}
 use Rattle.proof_updates.specs.Beneath.proof_memory.proofs.Safety.Standing.{in_any_slot}
-use Rattle.proof_updates.specs.Beneath.proof_memory.proofs.Heap.Under as Under
-use Rattle.proof_updates.specs.Beneath.proof_memory.proofs.Heap.Moves.{grown_in_use}
 use Rattle.proof_updates.specs.Beneath.proof_contents.specs.Pairs.{pairs_of, pairs_from}
-use Rattle.proof_updates.specs.Beneath.proof_contents.specs.Runs.{main_at}
+use Rattle.proof_updates.specs.Beneath.proof_contents.specs.Runs.{counting_main}
 use Rattle.proof_updates.specs.Beneath.proof_contents.specs.Steps.{IsTrie}
 use Rattle.proof_updates.specs.Beneath.proof_contents.specs.Tries.{Trie, content, map_of, most_levels}
 use Rattle.proof_updates.specs.Beneath.proof_contents.proofs.Pairs.Heap.{flat_map-same, entry_refs}
@@ -32,7 +30,6 @@ use Rattle.proof_updates.specs.Beneath.proof_contents.proofs.Values.Found.{assig
 use Rattle.proof_updates.specs.Beneath.proof_contents.proofs.Values.Contents.{map_of-same}
 use Rattle.proof_updates.specs.Beneath.proof_generations.proofs.Lines.ReaderKnows.{indirection_is}
 use Rattle.proof_order.proofs.Openings.ClosedRoots.{main_there}
-use Rattle.proof_order.proofs.Openings.InUse.{nodes_stay}
 use Rattle.proof_order.proofs.Openings.RootsFollow.{logical_in_use}
 use Rattle.proof_shape.specs.Sites.Lines.{bare, sites_of}
 use Rattle.proof_shape.specs.Shaped.{HasShape, trie_of_run}
@@ -48,6 +45,8 @@ use Rattle.proof_shape.proofs.Sites.Acts.{root_path}
 use Rattle.proof_shape.proofs.Sites.Runs.{paths_fit, bare_main}
 use Rattle.proof_updates.proofs.Handles.Finding.{found_alike}
 use Rattle.proof_updates.proofs.Handles.Values.{value_below}
+use Rattle.proof_updates.specs.Beneath.machine_model.proofs.Grown.{grown_in_use, node_standing, standing_parts}
+use Rattle.proof_updates.specs.Beneath.proof_generations.proofs.Falling.Nodes.{nodes_stay}
 
 -- ---- nodes whose generations and words don't count
 
@@ -74,12 +73,12 @@ module _ (limits : Limits) (states : ℕ → State) (steps : ℕ → Step) (last
   pub node_same : (r : Ref) → IsInUse heap r → bare (node_at heap r) ≡ bare (node_under states last r)
   node_same r used =
       let now = nodes_stay limits states last run t last within (omega arith) r used.0 (grown_in_use states t r used.0 used.1) in
-      ap bare (Under.node_under heap r used.0 used.1) ∙ sym (ap (λ o. bare (node_of o)) now.1 ∙ ap bare now.2.1 ∙ bare_main now.2.0 used.0.node)
+      ap bare (node_standing heap r used.0 used.1) ∙ sym (ap (λ o. bare (node_of o)) now.1 ∙ ap bare now.2.1 ∙ bare_main now.2.0 used.0.node)
 
   pub link_same : (r : Ref) → IsInUse heap r → is_indirection (node_at heap r) ≡ is_indirection (node_under states last r)
   link_same r used = sym (bare_link (node_at heap r)) ∙ ap is_indirection (node_same r used) ∙ bare_link (node_under states last r)
 
-  pub main_same : (r : Ref) → IsInUse heap r → is_indirection (node_under states last r) ≡ true → logical_main heap r ≡ main_at states last t r
+  pub main_same : (r : Ref) → IsInUse heap r → is_indirection (node_under states last r) ≡ true → logical_main heap r ≡ counting_main states last t r
   main_same r used link = main_there limits states last run t r within used link
 
   pub main_used : (r : Ref) → IsInUse heap r → is_indirection (node_under states last r) ≡ true → IsInUse heap (logical_main heap r)
@@ -87,33 +86,33 @@ module _ (limits : Limits) (states : ℕ → State) (steps : ℕ → Step) (last
 
   -- the entries of a main node
   pub entries_same : (r : Ref) → IsInUse heap r → is_indirection (node_under states last r) ≡ true →
-      entries_of (node_at heap (logical_main heap r)) ≡ entries_of (node_under states last (main_at states last t r))
+      entries_of (node_at heap (logical_main heap r)) ≡ entries_of (node_under states last (counting_main states last t r))
   entries_same r used link =
       sym (bare_entries (node_at heap (logical_main heap r))) ∙ ap entries_of (node_same (logical_main heap r) (main_used r used link))
       ∙ bare_entries (node_under states last (logical_main heap r)) ∙ ap (λ m. entries_of (node_under states last m)) (main_same r used link)
 
   pub entry_used : (m q : Ref) → IsInUse heap m → Contains (entries_of (node_at heap m)) q → IsInUse heap q
   entry_used m q (slot, found) c =
-      let stored_there = (Under.standing_parts heap m slot found).0 in
-      let inside : Contains (refs_of_node slot.node) q = entry_refs slot.node q (subst (λ n. Contains (entries_of n) q) (Under.node_under heap m slot found) c) in
+      let stored_there = (standing_parts heap m slot found).0 in
+      let inside : Contains (refs_of_node slot.node) q = entry_refs slot.node q (subst (λ n. Contains (entries_of n) q) (node_standing heap m slot found) c) in
       in_any_slot (states t) safe m q (subst (λ o. Contains (refs_of_slot o) q) (sym stored_there) (Contains-append_left (refs_of_node slot.node) (refs_of_prev slot.prev) q inside))
 
   -- ---- the pairs below
 
-  pairs_shown : (levels : ℕ) (r : Ref) → IsInUse heap r → pairs_below levels heap r ≡ pairs_from (node_under states last) (main_at states last t) levels r
+  pairs_shown : (levels : ℕ) (r : Ref) → IsInUse heap r → pairs_below levels heap r ≡ pairs_from (node_under states last) (counting_main states last t) levels r
   unfolding pairs_below pairs_from
   pairs_shown zero r used = refl
   pairs_shown (suc levels) r used =
       sym (bare_pairs_at (pairs_below levels heap) heap r (node_at heap r)) ∙ ap (pairs_at (pairs_below levels heap) heap r) (node_same r used)
       ∙ bare_pairs_at (pairs_below levels heap) heap r (node_under states last r) ∙ by_node (λ q. pairs_shown levels q) (node_under states last r) refl
     where
-      by_node : ((q : Ref) → IsInUse heap q → pairs_below levels heap q ≡ pairs_from (node_under states last) (main_at states last t) levels q) → (n : Node) → node_under states last r ≡ n →
-          pairs_at (pairs_below levels heap) heap r n ≡ pairs_of (pairs_from (node_under states last) (main_at states last t) levels) (node_under states last) (main_at states last t) r n
+      by_node : ((q : Ref) → IsInUse heap q → pairs_below levels heap q ≡ pairs_from (node_under states last) (counting_main states last t) levels q) → (n : Node) → node_under states last r ≡ n →
+          pairs_at (pairs_below levels heap) heap r n ≡ pairs_of (pairs_from (node_under states last) (counting_main states last t) levels) (node_under states last) (counting_main states last t) r n
       by_node rest (Indirection g w) is =
           let link : is_indirection (node_under states last r) ≡ true = ap is_indirection is in
-          flat_map-same (pairs_below levels heap) (pairs_from (node_under states last) (main_at states last t) levels) (entries_of (node_at heap (logical_main heap r)))
+          flat_map-same (pairs_below levels heap) (pairs_from (node_under states last) (counting_main states last t) levels) (entries_of (node_at heap (logical_main heap r)))
           (λ q c. rest q (entry_used (logical_main heap r) q (main_used r used link) c))
-          ∙ ap (flat_map (pairs_from (node_under states last) (main_at states last t) levels)) (entries_same r used link)
+          ∙ ap (flat_map (pairs_from (node_under states last) (counting_main states last t) levels)) (entries_same r used link)
       by_node rest (Single k v) is = refl
       by_node rest (Branch b es) is = refl
       by_node rest (Tomb s) is = refl
@@ -145,7 +144,7 @@ module _ (limits : Limits) (states : ℕ → State) (steps : ℕ → Step) (last
 
     -- the trie at this time, with this root alone
     abbrev pub now : Trie
-    now = record trie { last = 0; main = λ n. main_at states last t; root = λ g. r }
+    now = record trie { last = 0; main = λ n. counting_main states last t; root = λ g. r }
 
     pub is_trie_now : IsTrie now
     is_trie_now = record {
@@ -153,7 +152,7 @@ module _ (limits : Limits) (states : ℕ → State) (steps : ℕ → Step) (last
       root_depth = λ g. root_deep;
       root_path = λ g. root_led;
       path_fits = shape.path_fits;
-      shaped = λ n i le. same_shape trie 0 (λ n. main_at states last t) (λ g. r) i _ (shape.shaped t i within);
+      shaped = λ n i le. same_shape trie 0 (λ n. counting_main states last t) (λ g. r) i _ (shape.shaped t i within);
       does = λ n lt. absurd (omega (arith, lt));
     }
 
@@ -164,5 +163,6 @@ module _ (limits : Limits) (states : ℕ → State) (steps : ℕ → Step) (last
     pub content_shown : content_at (states t) handle ≡ entries (map_of trie.keys (value_below trie t r))
     content_shown =
         ap (λ o. by_key (pairs_below most_levels heap (root_of (word_of o)))) at ∙ ap by_key (pairs_shown most_levels r root_used)
-        ∙ reached_entries now is_trie_now 0 (indirection_is (node_under states last r) root_link).0 (indirection_is (node_under states last r) root_link).1 (indirection_is (node_under states last r) root_link).2
+        ∙ reached_entries now is_trie_now 0 (indirection_is (node_under states last r) root_link).0 (indirection_is (node_under states last r) root_link).1
+        (indirection_is (node_under states last r) root_link).2
         ∙ ap entries content_now

@@ -19,7 +19,7 @@ use Rattle.proof_updates.specs.Beneath.machine_model.specs.Moves.{Moves}
 use Rattle.proof_updates.specs.Beneath.machine_model.specs.Times.{IsRun}
 use Rattle.proof_updates.specs.Beneath.nodes.specs.Levels.{flag_of}
 use Rattle.proof_updates.specs.Beneath.proof_contents.specs.Nodes.Looking.{value_by, value_in, find_at}
-use Rattle.proof_updates.specs.Beneath.proof_contents.specs.Runs.{main_at}
+use Rattle.proof_updates.specs.Beneath.proof_contents.specs.Runs.{counting_main}
 use Rattle.proof_updates.specs.Beneath.proof_contents.specs.Tries.{Trie, map_of, put_value}
 use Rattle.proof_updates.specs.Beneath.proof_contents.proofs.Changes.Openings.{empty_says}
 use Rattle.proof_updates.specs.Beneath.proof_contents.proofs.Values.Found.{found_below}
@@ -30,7 +30,7 @@ use Rattle.proof_order.proofs.Openings.Carried as Carried
 use Rattle.proof_order.proofs.Openings.NoLateCommit.{no_late_commit}
 use Rattle.proof_order.proofs.Openings.SwapState.{offerer, offers}
 use Rattle.proof_shape.specs.Sites.At.{TakesSteps, StepsFit}
-use Rattle.proof_updates.specs.Laws.Handles.{Holds}
+use Rattle.proof_updates.specs.Laws.Handles.{HandleHolds}
 use Rattle.proof_updates.specs.Touching.{CarriesOutCall}
 use Rattle.proof_updates.proofs.Handles.Committing.{carries_nothing}
 use Rattle.proof_updates.proofs.Handles.Kept.{trie, values_stay, content_later}
@@ -94,19 +94,19 @@ module _ (limits : Limits) (states : ℕ → State) (steps : ℕ → Step) (t : 
       values_stay limits states steps t run takes keys s o m on old.root old.is_open
       (λ own path former e reach. carries_nothing limits states (suc t) t s on offer carries own)
 
-  one_main : (a b : Ref) (key : ℕ) → main_at states (suc t) (suc t) a ≡ main_at states (suc t) (suc t) b → value_below T (suc t) a key ≡ value_below T (suc t) b key
+  one_main : (a b : Ref) (key : ℕ) → counting_main states (suc t) (suc t) a ≡ counting_main states (suc t) (suc t) b → value_below T (suc t) a key ≡ value_below T (suc t) b key
   one_main a b key same =
       found_below T (T.main (suc t)) key 14 0 a ∙ ap (λ q. value_in T.node (T.main (suc t)) (hash_of T.kind) key 14 0 (T.node q)) same ∙ sym (found_below T (T.main (suc t)) key 14 0 b)
 
   -- a root over the expected node has the old root's values
-  over_old : (r : Ref) → main_at states (suc t) (suc t) r ≡ offer.expected → (key : ℕ) → value_below T (suc t) r key ≡ value_below T t (root_of old.root.word) key
+  over_old : (r : Ref) → counting_main states (suc t) (suc t) r ≡ offer.expected → (key : ℕ) → value_below T (suc t) r key ≡ value_below T t (root_of old.root.word) key
   over_old r main key =
       one_main r (root_of old.root.word) key
-      (main ∙ sym (no_late_commit limits states (suc t) run t on offer swap (suc t) (omega arith) (omega arith)) ∙ ap (main_at states (suc t) (suc t)) (sym (ap root_of old.word)))
+      (main ∙ sym (no_late_commit limits states (suc t) run t on offer swap (suc t) (omega arith) (omega arith)) ∙ ap (counting_main states (suc t) (suc t)) (sym (ap root_of old.word)))
       ∙ old_stays key
 
   -- so a handle over it has the content of the handle copied
-  pub copies : (r : Ref) → main_at states (suc t) (suc t) r ≡ offer.expected → (handle : ℕ) (now : Root) → root_at (states (suc t)) handle ≡ Some now → root_of now.word ≡ r →
+  pub copies : (r : Ref) → counting_main states (suc t) (suc t) r ≡ offer.expected → (handle : ℕ) (now : Root) → root_at (states (suc t)) handle ≡ Some now → root_of now.word ≡ r →
       content_at (states (suc t)) handle ≡ content_at (states t) on
   copies r main handle now at over =
       content_later limits states steps t run takes keys s o m on old.root old.is_open handle now at
@@ -114,16 +114,16 @@ module _ (limits : Limits) (states : ℕ → State) (steps : ℕ → Step) (t : 
 
   -- ---- by the call
 
-  pub copied_root : (call : Call) → Brings states (suc t) t on offer call → (call ≡ Clear on → ⊥) → main_at states (suc t) (suc t) offer.successor ≡ offer.expected
+  pub copied_root : (call : Call) → Brings states (suc t) t on offer call → (call ≡ Clear on → ⊥) → counting_main states (suc t) (suc t) offer.successor ≡ offer.expected
   copied_root call (clears opens new empty) other = absurd (other refl)
   copied_root call (snapshots n second opens is first main copy its) other = main
   copied_root call (freezes n opens none first main) other = main
 
-  pub cleared : (call : Call) → Brings states (suc t) t on offer call → (handle : ℕ) → call ≡ Clear handle → Holds (states (suc t)) handle Writable []
+  pub cleared : (call : Call) → Brings states (suc t) t on offer call → (handle : ℕ) → call ≡ Clear handle → HandleHolds (states (suc t)) handle Writable []
   cleared call (clears opens new empty) handle e =
       let same : on ≡ handle = cc e in
       let stands = new_root limits states (suc t) run t (omega arith) s o m on offer carries in
-      subst (λ h. Holds (states (suc t)) h Writable []) same (record {
+      subst (λ h. HandleHolds (states (suc t)) h Writable []) same (record {
         root = stands.root;
         is_open = stands.is_open;
         kind = stands.kind;
@@ -141,10 +141,11 @@ module _ (limits : Limits) (states : ℕ → State) (steps : ℕ → Step) (t : 
 
   -- what is opened is a copy
   pub data Copied (handle : ℕ) (call : Call) : Type 0 where
-    by_snapshot : call ≡ Snapshot on → Holds (states (suc t)) handle Writable (content_at (states t) on) → Copied handle call
-    by_freeze : call ≡ Freeze on → Holds (states (suc t)) handle ReadOnly (content_at (states t) on) → Copied handle call
+    by_snapshot : call ≡ Snapshot on → HandleHolds (states (suc t)) handle Writable (content_at (states t) on) → Copied handle call
+    by_freeze : call ≡ Freeze on → HandleHolds (states (suc t)) handle ReadOnly (content_at (states t) on) → Copied handle call
 
-  pub copied : (call : Call) → Brings states (suc t) t on offer call → (handle : ℕ) → offer.opens ≡ Some handle → root_at (states (suc t)) handle ≡ Some (opened_root offer offer.second) → Copied handle call
+  pub copied : (call : Call) → Brings states (suc t) t on offer call → (handle : ℕ) → offer.opens ≡ Some handle →
+      root_at (states (suc t)) handle ≡ Some (opened_root offer offer.second) → Copied handle call
   copied call (clears opens new empty) handle e now = absurd (none-some handle (sym opens ∙ e))
   copied call (snapshots n second opens is first main copy its) handle e now =
       let at = now ∙ ap (λ x. Some (opened_root offer x)) is in

@@ -15,7 +15,8 @@ use Rattle.proof_updates.specs.Beneath.proof_contents.specs.Nodes.Looking.{find_
 use Rattle.proof_updates.specs.Beneath.machine_model.specs.Calls.{key_of, changed_reply}
 use Rattle.proof_updates.specs.Beneath.proof_contents.specs.Effects.{act_in}
 use Rattle.proof_updates.specs.Beneath.proof_contents.specs.Tries.{Trie, generation, node_in, assigned, value_at, content, map_of, IsShaped, most_levels}
-use Rattle.proof_updates.specs.Beneath.proof_contents.specs.Steps.{IsTrie, Updates, Does, an_update, IsOwnUpdate, branch_inserts, branch_updates, branch_removes, branch_entombs, goes_beside, list_inserts, list_updates, list_removes, list_entombs}
+use Rattle.proof_updates.specs.Beneath.proof_contents.specs.Steps.{IsTrie, Updates, Does, an_update, IsOwnUpdate, branch_inserts, branch_updates, branch_removes, branch_entombs}
+use Rattle.proof_updates.specs.Beneath.proof_contents.specs.Steps.{goes_beside, list_inserts, list_updates, list_removes, list_entombs}
 use Rattle.proof_updates.specs.Beneath.proof_contents.proofs.Changes.Generations.{update_acts}
 use Rattle.proof_updates.specs.Beneath.proof_contents.proofs.Values.Paths.{on-path}
 use Rattle.proof_updates.specs.Beneath.proof_contents.proofs.Values.Found.{assigned-own, assigned-last}
@@ -70,7 +71,8 @@ module _ (trie : Trie) (t : ℕ) (end : trie.last ≡ suc t) (root : Ref) where
       (same_chain g h other key _ single levels (suc (trie.depth i)) link chain) (ap bare n)
   same_update g h i key old new former' now' (list_inserts value singles single o room none is n) =
       list_inserts value singles single (ap bare o) room (bare_among trie.node key singles.items ∙ none) (ap bare is) (ap bare n)
-  same_update g h i key old new former' now' (list_updates p former value singles single o lt was is n) = list_updates p former value singles single (ap bare o) lt (ap bare was) (ap bare is) (ap bare n)
+  same_update g h i key old new former' now' (list_updates p former value singles single o lt was is n) =
+      list_updates p former value singles single (ap bare o) lt (ap bare was) (ap bare is) (ap bare n)
   same_update g h i key old new former' now' (list_removes p former singles o lt was n) = list_removes p former singles (ap bare o) lt (ap bare was) (ap bare n)
   same_update g h i key old new former' now' (list_entombs p former singles o two_ lt was n) = list_entombs p former singles (ap bare o) two_ lt (ap bare was) (ap bare n)
 

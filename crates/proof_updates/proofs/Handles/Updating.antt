@@ -29,8 +29,8 @@ use Rattle.proof_shape.specs.Lines.Commits.{MainStep, stays, changes, assigned_a
 use Rattle.proof_updates.specs.Beneath.proof_generations.proofs.Lines.ReaderKnows.{indirection_is}
 use Rattle.proof_shape.specs.Sites.At.{TakesSteps, StepsFit}
 use Rattle.proof_shape.proofs.Shaped.Trie.{bare_runs_have_shape}
-use Rattle.proof_updates.proofs.Tries.Whole as whole
-use Rattle.proof_updates.specs.Laws.Handles.{Holds, Turns}
+use Rattle.proof_updates.proofs.Tries.OfRuns as whole
+use Rattle.proof_updates.specs.Laws.Handles.{HandleHolds, Turns}
 use Rattle.proof_updates.specs.Touching.{Reaches, CommitsUpdate}
 use Rattle.proof_updates.proofs.Handles.Committing.{no_update, owned, IsOwn, carries_nothing}
 use Rattle.proof_updates.proofs.Handles.Kept.{trie, Own, ok, main_step}
@@ -81,7 +81,9 @@ module _ (limits : Limits) (states : ℕ → State) (steps : ℕ → Step) (t : 
 
     own_acts : (own : Mine) → IsOwn limits states (suc t) t s own i call former →
         change_in (hash_of limits.hash) call (map_of T.keys (value_below T t r)) ≡ Some (changed_reply call former, map_of T.keys (value_below T (suc t) r))
-    own_acts own w = subst (λ c. change_in (hash_of limits.hash) c before ≡ Some (changed_reply c former, after)) w.call_is (sym (acts_changes (hash_of limits.hash) own.owner.call former u.now before u.asks) ∙ acted)
+    own_acts own w =
+        subst (λ c. change_in (hash_of limits.hash) c before ≡ Some (changed_reply c former, after)) w.call_is
+        (sym (acts_changes (hash_of limits.hash) own.owner.call former u.now before u.asks) ∙ acted)
       where
         before : KeyMap
         before = map_of T.keys (value_below T t r)
@@ -105,7 +107,7 @@ module _ (limits : Limits) (states : ℕ → State) (steps : ℕ → Step) (t : 
 
     -- the handle keeps its root, and its pairs are those that the call makes of the earlier ones
     pub update_changes : CommitsUpdate (states t) s i call former →
-        (later : List (ℕ × ℕ)) × Holds (states (suc t)) handle root.access later × Turns (hash_of limits.hash) call former (entries (map_of T.keys (value_below T t r))) later
+        (later : List (ℕ × ℕ)) × HandleHolds (states (suc t)) handle root.access later × Turns (hash_of limits.hash) call former (entries (map_of T.keys (value_below T t r))) later
     update_changes u = by_step (main_step limits states steps t run takes keys s o m)
       where
         by_root : (own : Mine) → HandleStep limits states (suc t) run t (omega arith) s o m handle root → StandsOver (states (suc t)) handle root.access r
@@ -114,7 +116,7 @@ module _ (limits : Limits) (states : ℕ → State) (steps : ℕ → Step) (t : 
         by_root own (is_closed actor e gone) = absurd (let both = sym e ∙ own.takes in let wrong : ⊥ = cc both in wrong)
 
         by_step : MainStep limits states (suc t) (assigned_at states (suc t)) t s →
-            (later : List (ℕ × ℕ)) × Holds (states (suc t)) handle root.access later × Turns (hash_of limits.hash) call former (entries (map_of T.keys (value_below T t r))) later
+            (later : List (ℕ × ℕ)) × HandleHolds (states (suc t)) handle root.access later × Turns (hash_of limits.hash) call former (entries (map_of T.keys (value_below T t r))) later
         by_step (stays none same) = absurd (no_update limits states (suc t) t s none i call former u)
         by_step (changes own) =
             let stands = by_root own (handle_step limits states (suc t) run t (omega arith) s o m handle root at) in (

@@ -18,6 +18,7 @@ use Rattle.proof_updates.specs.Beneath.proof_contents.specs.Steps.{LeavesOthers}
 use Rattle.proof_updates.specs.Beneath.proof_contents.proofs.Values.Found.{value_by-same, found_below, found_nothing}
 use Rattle.proof_updates.specs.Beneath.proof_contents.proofs.Shapes.Nodes.{below_is, single_ends, singles_end, leads, leads_below}
 use Rattle.proof_updates.specs.Beneath.proof_contents.proofs.Values.Parting.{parted}
+use Rattle.proof_updates.specs.Beneath.machine_model.proofs.Basics.{only_one}
 
 -- the reference is reached from a root, through the main nodes before step t
 pub data From (trie : Trie) (t : ℕ) (root : Ref) : Ref → Type 0 where
@@ -56,10 +57,6 @@ no_link_listed : (node : Ref → Node) (singles : List Ref) (entry word : Ref) (
 no_link_listed node [] entry word g are (n, lt, e) is = absurd (omega arith)
 no_link_listed node (s ∷ singles) entry word g are (zero, lt, e) is = no_single are.0.key are.0.value g word (sym are.0.is ∙ ap node e ∙ is)
 no_link_listed node (s ∷ singles) entry word g are (suc n, lt, e) is = no_link_listed node singles entry word g are.1 (n, omega arith, e) is
-
-only_one : (single entry : Ref) → Contains (single ∷ []) entry → single ≡ entry
-only_one single entry (zero, lt, e) = e
-only_one single entry (suc n, lt, e) = absurd (omega arith)
 
 -- ---- to a key
 

@@ -68,7 +68,8 @@ module _ (limits : Limits) (states : ℕ → State) (last : ℕ) (run : IsRun li
     complete_on (Gives false) is = by_mark operation.is_marked refl
       where
         by_mark : (b : Bool) → operation.is_marked ≡ b → On (cond b (line.End (copied_reply operation.call operation.opens)) new_try)
-        by_mark true marked = has_place (still_placed state (step.Go (suc k)) own.outcome (states (suc t)) own.moves operation.id (marked_placed limits states last run t (omega arith) k operation own.runs marked))
+        by_mark true marked =
+            has_place (still_placed state (step.Go (suc k)) own.outcome (states (suc t)) own.moves operation.id (marked_placed limits states last run t (omega arith) k operation own.runs marked))
         by_mark false unmarked = tt
 
   pub copy_behind : (l : CopyLine) → operation.line ≡ line.Copy l → On (copy_after state operation l)

@@ -23,7 +23,7 @@ use Rattle.proof_updates.specs.Beneath.proof_commits.proofs.Course.Finals.{link_
 use Rattle.proof_updates.specs.Beneath.proof_commits.proofs.Course.Mains.{main_decided}
 use Rattle.proof_updates.specs.Beneath.proof_commits.specs.Stages.{stage_of, stage_of_actor}
 use Rattle.proof_updates.specs.Beneath.proof_commits.proofs.Words.Along.{protocol}
-use Rattle.proof_updates.specs.Beneath.proof_contents.specs.Runs.{main_at}
+use Rattle.proof_updates.specs.Beneath.proof_contents.specs.Runs.{counting_main}
 use Rattle.proof_order.specs.Facts.{Runs, entered_by_step}
 use Rattle.proof_order.proofs.Places.Elements.{Among, among_right}
 use Rattle.proof_order.proofs.Places.Origins.{place_says}
@@ -32,9 +32,10 @@ use Rattle.proof_order.proofs.Offers.Honest.{honest}
 use Rattle.proof_order.proofs.Offers.Standing.{offers_at}
 use Rattle.proof_order.proofs.Phases.Steps.{is_placed_so}
 use Rattle.proof_shape.specs.Lines.Commits.{MainStep, stays, changes as changes_main, CommitsAt, assigned_at, places_for}
-use Rattle.proof_shape.proofs.Runs.Nodes.{known_run}
 use Rattle.proof_shape.proofs.Commits.Was.{main_linked, commit_is}
 use Rattle.proof_updates.proofs.Tries.Facts.{own_enters}
+use Rattle.proof_updates.specs.Beneath.proof_commits.proofs.Known.Acts.{known_run}
+use Rattle.proof_shape.proofs.Held.Commits.{fresh_commits_at}
 
 -- whom a step enters among others has a place behind it
 entered_placed : (limits : Limits) (states : ℕ → State) (last : ℕ) → IsRun limits states last → (t : ℕ) → t < last → (s : Step) (o : Outcome) → Moves (states t) s o (states (suc t)) →
@@ -47,13 +48,14 @@ entered_placed limits states last run t lt s o m operation enters = by_changes (
     by_changes : Changes (states t) s (states (suc t)) → is_placed (states (suc t)) operation.id ≡ true
     by_changes (quiet places closings footing) =
         is_placed_so (states (suc t)) (place_of (states t) operation t false)
-        (subst (λ l. Among (place_of (states t) operation t false) l) (sym (places ∙ ap (λ l. (states t).places ++ l) enters)) (among_right (states t).places (place_of (states t) operation t false ∷ []) _ (inl refl)))
+        (subst (λ l. Among (place_of (states t) operation t false) l) (sym (places ∙ ap (λ l. (states t).places ++ l) enters))
+        (among_right (states t).places (place_of (states t) operation t false ∷ []) _ (inl refl)))
         operation.id (place_says (closing_for (states t) operation operation.access) t operation.id false).2
     by_changes (ends actor ending answer is runs does none places closings footing) = absurd (not_none none)
     by_changes (closes actor handle root is found none places closings gone footing) = absurd (not_none none)
     by_changes (swaps handle offer carries none places closings roots heap) = absurd (not_none none)
 
-module _ (limits : Limits) (states : ℕ → State) (last : ℕ) (run : IsRun limits states last) (all : CommitsAt limits states last (assigned_at states last)) where
+module _ (limits : Limits) (states : ℕ → State) (last : ℕ) (run : IsRun limits states last) where
   abbrev p : Protocol
   p = protocol limits states last (known_run limits states last run)
 
@@ -65,7 +67,7 @@ module _ (limits : Limits) (states : ℕ → State) (last : ℕ) (run : IsRun li
 
     module _ (q : Ref) (commit : CommitsNode p.words t f q) where
       -- the node becomes the main node of its indirection, which it wasn't before
-      becomes_main : main_at states last (suc t) i ≡ f
+      becomes_main : counting_main states last (suc t) i ≡ f
       becomes_main = commit_is limits states last run t lt (suc k) i a f l stage_is q commit
 
       link : p.words.link t i ≡ true
@@ -73,13 +75,13 @@ module _ (limits : Limits) (states : ℕ → State) (last : ℕ) (run : IsRun li
           let stood = (subst (λ x. Staged p.words t (suc k) x) stage_is ((sound_at p t (omega arith)).staged (suc k))).1 in
           link_stays p i stood.at t stood.past (omega arith) stood.link
 
-      was_no_main : main_at states last t i ≡ f → ⊥
+      was_no_main : counting_main states last t i ≡ f → ⊥
       was_no_main same =
           let decided = main_decided p.words t (sound_at p t (omega arith)).words i link in
           none≢pending decided.none (ap (p.words.prev t) (sym (main_linked limits states last run t i link) ∙ same) ∙ commit.was)
 
       enters : entered_by_step (states t) s ≡ place_of (states t) operation t false ∷ []
-      enters = by_step (all t lt s o m)
+      enters = by_step (fresh_commits_at limits states last run t lt s o m)
         where
           by_step : MainStep limits states last (assigned_at states last) t s → entered_by_step (states t) s ≡ place_of (states t) operation t false ∷ []
           by_step (stays none same) = absurd (was_no_main (sym (same i) ∙ becomes_main))
@@ -102,7 +104,7 @@ module _ (limits : Limits) (states : ℕ → State) (last : ℕ) (run : IsRun li
 
               by_test : (b : Bool) → (i == own.indirection) ≡ b → entered_by_step (states t) s ≡ place_of (states t) operation t false ∷ []
               by_test true e =
-                  let same : own.fresh ≡ f = sym own.after ∙ ap (main_at states last (suc t)) (sym (eqb-true i own.indirection e)) ∙ becomes_main in
+                  let same : own.fresh ≡ f = sym own.after ∙ ap (counting_main states last (suc t)) (sym (eqb-true i own.indirection e)) ∙ becomes_main in
                   own_enters limits states last t s own ∙ ap (λ w. places_for (states t) own.owner t w) (why same) ∙ ap (λ x. place_of (states t) x t false ∷ []) (owner same)
               by_test false e = absurd (was_no_main (sym (own.others i (differ i own.indirection e)) ∙ becomes_main))
 

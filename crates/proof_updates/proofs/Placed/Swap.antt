@@ -32,32 +32,34 @@ use Rattle.proof_updates.specs.Beneath.machine_model.specs.Moves.{Moves}
 use Rattle.proof_updates.specs.Beneath.machine_model.specs.Times.{IsRun}
 use Rattle.proof_updates.specs.Beneath.machine_model.specs.Grown.{grown, prev_word}
 use Rattle.proof_updates.specs.Beneath.proof_commits.specs.Protocol.{Protocol}
-use Rattle.proof_updates.specs.Beneath.proof_commits.proofs.Words.Stood.{none≢pending, none≢failed}
+use Rattle.proof_updates.specs.Beneath.proof_commits.proofs.Words.Stood.{none≢pending}
 use Rattle.proof_updates.specs.Beneath.proof_commits.proofs.Words.Effects.{GoesOn, StaysPending, GetsCommitted, GetsFailed, goes_on}
 use Rattle.proof_updates.specs.Beneath.proof_commits.proofs.Course.Swaps.{checked}
 use Rattle.proof_updates.specs.Beneath.proof_commits.proofs.Known.Sounds.{sound_at}
 use Rattle.proof_updates.specs.Beneath.proof_commits.proofs.Course.Finals.{effect, failed_final}
 use Rattle.proof_updates.specs.Beneath.proof_commits.specs.Stages.{stage_of, stage_of_actor}
 use Rattle.proof_updates.specs.Beneath.proof_commits.proofs.Known.Given.{ActsOn, Either, GrownSwaps, GrownStays}
-use Rattle.proof_updates.specs.Beneath.proof_commits.proofs.Known.Layers.{memory_acts}
-use Rattle.proof_updates.specs.Beneath.proof_commits.proofs.Known.Memory.{memory}
+use Rattle.proof_updates.specs.Beneath.proof_commits.proofs.Known.Acts.{acts_at}
 use Rattle.proof_updates.specs.Beneath.proof_commits.proofs.Words.Along.{protocol}
 use Rattle.proof_updates.specs.Beneath.proof_commits.proofs.Words.OfRuns.{slot_prev}
 use Rattle.proof_order.specs.Facts.{Runs}
 use Rattle.proof_order.specs.Phases.{IsPublished}
 use Rattle.proof_order.proofs.Phases.Published.{seen}
 use Rattle.proof_shape.specs.Lines.Commits.{CommitsAt, assigned_at}
-use Rattle.proof_shape.proofs.Runs.Nodes.{known_run}
 use Rattle.proof_order.proofs.Phases.Closers.{still_placed}
 use Rattle.proof_updates.proofs.Placed.Behind.{Behind, climbing_behind, update_climbs, climbed_climbs}
 use Rattle.proof_updates.proofs.Tries.EachOperation.{OwnStep}
 use Rattle.proof_updates.proofs.Placed.Own.{commit_places}
+use Rattle.proof_updates.specs.Beneath.proof_commits.proofs.Known.Acts.{known_run}
+use Rattle.proof_updates.specs.Beneath.machine_model.proofs.Basics.{none≢failed}
+use Rattle.proof_shape.proofs.Held.Commits.{fresh_commits_at}
 
-module _ (limits : Limits) (states : ℕ → State) (last : ℕ) (run : IsRun limits states last) (all : CommitsAt limits states last (assigned_at states last)) where
+module _ (limits : Limits) (states : ℕ → State) (last : ℕ) (run : IsRun limits states last) where
   abbrev p : Protocol
   p = protocol limits states last (known_run limits states last run)
 
-  module _ (t k : ℕ) (lt : t < last) (operation : Operation) (runs : Runs (states t) k operation) (s : Step) (o : Outcome) (m : Moves (states t) s o (states (suc t))) (path : List Ref) (former : Option ℕ)
+  module _ (t k : ℕ) (lt : t < last) (operation : Operation) (runs : Runs (states t) k operation) (s : Step) (o : Outcome)
+      (m : Moves (states t) s o (states (suc t))) (path : List Ref) (former : Option ℕ)
       (x : Swap) (at : operation.line ≡ line.Swap (purpose.Update path former) x)
       (before : IsPublished x.line → prev_word states t x.fresh ≡ prev.None → is_placed (states t) operation.id ≡ true) where
     -- a node that is committed now
@@ -68,7 +70,7 @@ module _ (limits : Limits) (states : ℕ → State) (last : ℕ) (run : IsRun li
         by_fate : GoesOn p.words t x.fresh q → is_placed (states (suc t)) operation.id ≡ true
         by_fate (StaysPending still) = absurd (none≢pending none still)
         by_fate (GetsCommitted commit) =
-            commit_places limits states last run all t k lt s o m operation runs path former x.indirection x.replaced x.fresh l
+            commit_places limits states last run t k lt s o m operation runs path former x.indirection x.replaced x.fresh l
             (at ∙ ap (λ y. line.Swap (purpose.Update path former) (record { indirection = x.indirection; replaced = x.replaced; fresh = x.fresh; line = y })) e) q commit
         by_fate (GetsFailed fails) = absurd (none≢failed none fails.prev.here)
 
@@ -80,7 +82,8 @@ module _ (limits : Limits) (states : ℕ → State) (last : ℕ) (run : IsRun li
         by_line q pending (swap.Deciding l) e h = deciding_next l e q pending none
         by_line q pending swap.Check e h =
             absurd (checked p.words t (suc k) (sound_at p t (omega arith)) x.indirection x.replaced x.fresh
-            (ap stage_of_actor runs ∙ ap stage_of at ∙ ap (λ y. stage_of (line.Swap (purpose.Update path former) (record { indirection = x.indirection; replaced = x.replaced; fresh = x.fresh; line = y }))) e) q pending)
+            (ap stage_of_actor runs ∙ ap stage_of at
+            ∙ ap (λ y. stage_of (line.Swap (purpose.Update path former) (record { indirection = x.indirection; replaced = x.replaced; fresh = x.fresh; line = y }))) e) q pending)
 
         by_word : (v : Prev) → prev_word states t x.fresh ≡ v → is_placed (states (suc t)) operation.id ≡ true
         by_word prev.None e = still_placed (states t) s o (states (suc t)) m operation.id (before published e)
@@ -106,9 +109,10 @@ module _ (limits : Limits) (states : ℕ → State) (last : ℕ) (run : IsRun li
       publishes : x.line ≡ swap.Publish → (main_at (states t).heap x.indirection == x.replaced) ≡ true → prev_word states (suc t) x.fresh ≡ prev.Pending x.replaced
       publishes e there =
           let does : action_of (states t) operation ≡ act.Publish x.indirection x.replaced x.fresh =
-          ap (line_action (states t) operation) at ∙ ap (λ y. line_action (states t) operation (line.Swap (purpose.Update path former) (record { indirection = x.indirection; replaced = x.replaced; fresh = x.fresh; line = y }))) e in
+          ap (line_action (states t) operation) at
+          ∙ ap (λ y. line_action (states t) operation (line.Swap (purpose.Update path former) (record { indirection = x.indirection; replaced = x.replaced; fresh = x.fresh; line = y }))) e in
           let acts : ActsOn states t (act.Publish x.indirection x.replaced x.fresh) =
-          subst (ActsOn states t) does (memory_acts limits states last (memory limits states last run) t lt (suc k) own.outcome own.moves operation own.runs) in
+          subst (ActsOn states t) does (acts_at limits states last run t lt (suc k) own.outcome own.moves operation own.runs) in
           let written : GrownSwaps states t x.indirection x.replaced x.fresh =
           subst (λ b. Either b (GrownSwaps states t x.indirection x.replaced x.fresh) (GrownStays states t)) there acts.2 in
           ap prev_of written.prev ∙ slot_prev (prev.Pending x.replaced) (grown states t x.fresh) acts.1.made
@@ -140,7 +144,8 @@ module _ (limits : Limits) (states : ℕ → State) (last : ℕ) (run : IsRun li
           by_line swap.Check e = checked_on e (prev_at (states t).heap x.fresh) refl
 
     -- of any other
-    other_on : (why : Purpose) (x : Swap) → Behind states t operation.id Right Walks (line.Swap why x) → ((path : List Ref) (former : Option ℕ) → why ≡ purpose.Update path former → ⊥) → (out : After Swap Bool) →
+    other_on : (why : Purpose) (x : Swap) → Behind states t operation.id Right Walks (line.Swap why x) →
+        ((path : List Ref) (former : Option ℕ) → why ≡ purpose.Update path former → ⊥) → (out : After Swap Bool) →
         On (after_swap (states t) operation why x out)
     other_on (purpose.Update path former) x h not out = absurd (not path former refl)
     other_on (purpose.Renew path) x h not (Goes y) = tt

@@ -41,9 +41,7 @@ use Rattle.proof_updates.specs.Beneath.proof_contents.specs.Tries.{Trie, generat
 use Rattle.proof_updates.specs.Beneath.proof_contents.specs.Steps.{IsTrie}
 use Rattle.proof_updates.specs.Beneath.proof_contents.specs.Runs.{trie_of}
 use Rattle.proof_updates.specs.Beneath.proof_generations.proofs.Roots.Rooted.{root_given}
-use Rattle.proof_shape.proofs.Runs.Nodes.{nodes_stay}
 use Rattle.proof_updates.specs.Beneath.proof_generations.specs.Falling.{GivenForEver}
-use Rattle.proof_updates.specs.Taken.{RootsAreKept}
 use Rattle.proof_updates.proofs.Tries.EachOperation.{OwnStep, each_operation}
 use Rattle.proof_updates.proofs.Tries.Seen.{seen_link}
 use Rattle.proof_updates.proofs.Routes.Known.{IsAt, KeyRoute, LineRoute, route_later, route_root}
@@ -51,6 +49,8 @@ use Rattle.proof_updates.proofs.Routes.Key.{main_on, entry_on, listed_on, siblin
 use Rattle.proof_updates.proofs.Routes.Lines.{clean_on, climb_on, copy_on, walk_on, build_on, renew_on, swap_on}
 use Rattle.proof_updates.proofs.Routes.Reads.{read_on, leads_there}
 use Rattle.proof_updates.proofs.Routes.Times.{later}
+use Rattle.proof_order.proofs.Openings.ClosedRoots.{root_is}
+use Rattle.proof_updates.specs.Beneath.proof_generations.proofs.Falling.Nodes.{nodes_stay}
 
 -- a SWAP's path is no matter of moments
 swap_route : (trie : Trie) (access : Access) (g q t b mu c nu : ℕ) (why : Purpose) (s : Swap) → LineRoute trie access g q t b mu (line.Swap why s) → LineRoute trie access g q t c nu (line.Swap why s)
@@ -59,8 +59,7 @@ swap_route trie access g q t b mu c nu (purpose.Renew p) s h = h
 swap_route trie access g q t b mu c nu purpose.Clean s h = tt
 swap_route trie access g q t b mu c nu (purpose.Climb x) s h = tt
 
-module _ (limits : Limits) (states : ℕ → State) (last : ℕ) (depth path : Ref → ℕ) (run : IsRun limits states last) (ok : IsTrie (trie_of limits states last depth path))
-    (final : GivenForEver states last) (roots : RootsAreKept states last) where
+module _ (limits : Limits) (states : ℕ → State) (last : ℕ) (depth path : Ref → ℕ) (run : IsRun limits states last) (ok : IsTrie (trie_of limits states last depth path)) where
   abbrev trie : Trie
   trie = trie_of limits states last depth path
 
@@ -90,9 +89,10 @@ module _ (limits : Limits) (states : ℕ → State) (last : ℕ) (depth path : R
       plain : (open_root.0).word ≡ Plain r
       plain = sym (ap word_of open_root.1) ∙ root_given state operation l r gives
 
-      root_is : trie.root g ≡ r
-      root_is =
-          ap trie.root (sym (ap (λ w. generation_at state.heap (root_of w)) plain ∙ its)) ∙ roots t (handle_of operation.call) open_root.0 within open_root.1 ∙ ap root_of plain
+      its_root : trie.root g ≡ r
+      its_root =
+          ap trie.root (sym (ap (λ w. generation_at state.heap (root_of w)) plain ∙ its)) ∙ root_is limits states last run t
+          (handle_of operation.call) open_root.0 within open_root.1 ∙ ap root_of plain
 
       root_used : Holds (IsInUse state.heap) state.heap (Is r AnIndirection)
       root_used =
@@ -113,7 +113,7 @@ module _ (limits : Limits) (states : ℕ → State) (last : ℕ) (depth path : R
       from_root_on (Clear h) = tt
       from_root_on (Snapshot h) = tt
       from_root_on (Freeze h) = tt
-      from_root_on call = (route_root trie A g Q (suc t) r root_is generation_is, refl)
+      from_root_on call = (route_root trie A g Q (suc t) r its_root generation_is, refl)
 
     root_on : (l : RootLine) → operation.line ≡ line.Root l → (after : After RootLine Ref) → root_after state.heap operation.access (word_at state (handle_of operation.call)) l ≡ after →
         given_root state after operation.generation ≡ Some g → On (after_root operation after)
@@ -132,18 +132,19 @@ module _ (limits : Limits) (states : ℕ → State) (last : ℕ) (depth path : R
         subst (λ mu. IsAt trie A g Q (suc t) mu p main) (same_moment l e none) (record { past = omega (arith, at.past); route = at.route; given = at.given })
 
     key_on : (l : KeyLine) → operation.line ≡ line.Key l → operation.generation ≡ Some g → KeyRoute trie A g Q t operation.read_at operation.moment l → On (key_after state operation l)
-    key_on (key.Read p r) e begun h = read_on limits states last depth path run ok final roots t k lt operation own g p r e h (read_step state operation r) refl
+    key_on (key.Read p r) e begun h = read_on limits states last depth path run ok t k lt operation own g p r e h (read_step state operation r) refl
     key_on (key.Main p main) e begun h =
         main_on trie ok g state operation t (read_at_after state operation) (moment_after state operation) lt p main (at_next (line.Key (key.Main p main)) e refl p main h) (node_at state.heap main)
     key_on (key.Entry p main position) e begun h =
         entry_on trie ok g state operation t (read_at_after state operation) (moment_after state operation) lt p main (at_next (line.Key (key.Entry p main position)) e refl p main h) position
         (node_at state.heap (entry_at state.heap main position))
-        (λ generation w is passes. leads_there limits states last depth path run ok final roots t k lt operation own g p main position e generation w is passes begun)
+        (λ generation w is passes. leads_there limits states last depth path run ok t k lt operation own g p main position e generation w is passes begun)
     key_on (key.Listed p main position) e begun h =
         listed_on trie ok g state operation t (read_at_after state operation) (moment_after state operation) lt p main (at_next (line.Key (key.Listed p main position)) e refl p main h) position
         (node_at state.heap (entry_at state.heap main position))
     key_on (key.Sibling p main position former) e begun h =
-        sibling_on trie ok g state operation t (read_at_after state operation) (moment_after state operation) lt p main (at_next (line.Key (key.Sibling p main position former)) e refl p main h) position former
+        sibling_on trie ok g state operation t (read_at_after state operation) (moment_after state operation) lt p main
+        (at_next (line.Key (key.Sibling p main position former)) e refl p main h) position former
         (entry_at state.heap main (1 - position)) (node_at state.heap (entry_at state.heap main (1 - position)))
 
     -- ---- all lines
@@ -154,7 +155,9 @@ module _ (limits : Limits) (states : ℕ → State) (last : ℕ) (depth path : R
     line_on (line.Key l) e begun h = key_on l e begun (h begun)
     line_on (line.Build l) e begun h = build_on trie A g Q t _ _ state operation l (route_later trie A g Q t (suc t) _ (omega arith) (h begun))
     line_on (line.Swap why s) e begun h =
-        swap_on trie A g Q t (read_at_after state operation) (moment_after state operation) state operation why s (swap_after state.heap operation.access (word_at state (handle_of operation.call)) s) (swap_route trie A g Q t operation.read_at operation.moment (read_at_after state operation) (moment_after state operation) why s (h begun))
+        swap_on trie A g Q t (read_at_after state operation) (moment_after state operation) state operation why s
+        (swap_after state.heap operation.access (word_at state (handle_of operation.call)) s)
+        (swap_route trie A g Q t operation.read_at operation.moment (read_at_after state operation) (moment_after state operation) why s (h begun))
     line_on (line.Renew l) e begun h = renew_on trie A g Q t _ _ state operation l (route_later trie A g Q t (suc t) _ (omega arith) (h begun))
     line_on (line.Clean l) e begun h = clean_on trie A g Q t _ _ state operation l
     line_on (line.Climb l) e begun h = climb_on trie A g Q t _ _ state operation l

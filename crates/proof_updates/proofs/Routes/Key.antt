@@ -27,7 +27,8 @@ use Rattle.proof_updates.specs.Beneath.machine_model.specs.Paths as path
 use Rattle.proof_updates.specs.Beneath.machine_model.specs.Paths.{is_below_root, above, current}
 use Rattle.proof_updates.specs.Beneath.machine_model.specs.Reading.{reading}
 use Rattle.proof_updates.specs.Beneath.machine_model.specs.Renewing.{renew_next}
-use Rattle.proof_updates.specs.Beneath.machine_model.specs.Finding.{going_down, absent, absent_beside, absent_listed, removing, found_so, found, after_tomb, key_after_main, is_passable, key_after_entry, after_listed, after_sibling}
+use Rattle.proof_updates.specs.Beneath.machine_model.specs.Finding.{going_down, absent, absent_beside, absent_listed, removing, found_so, found, after_tomb, key_after_main}
+use Rattle.proof_updates.specs.Beneath.machine_model.specs.Finding.{is_passable, key_after_entry, after_listed, after_sibling}
 use Rattle.proof_updates.specs.Beneath.proof_contents.specs.Nodes.Looking.{Below}
 use Rattle.proof_updates.specs.Beneath.proof_contents.specs.Nodes.Changing.{look}
 use Rattle.proof_updates.specs.Beneath.proof_contents.specs.Tries.{Trie}
@@ -78,7 +79,8 @@ module _ (trie : Trie) (ok : IsTrie trie) (g : ℕ) (state : State) (operation :
         by_test false = there
     removing_on position v (Listed ss) = by_test (length ss.items == 2)
       where
-        by_test : (c : Bool) → On (cond c (line.Build (build.Main p main (change.Entomb (entry_at state.heap main (1 - position))) (Some v))) (line.Build (build.Main p main (change.Remove position) (Some v))))
+        by_test : (c : Bool) →
+            On (cond c (line.Build (build.Main p main (change.Entomb (entry_at state.heap main (1 - position))) (Some v))) (line.Build (build.Main p main (change.Remove position) (Some v))))
         by_test true = there
         by_test false = there
     removing_on position v (Indirection h w) = tt
@@ -153,7 +155,8 @@ module _ (trie : Trie) (ok : IsTrie trie) (g : ℕ) (state : State) (operation :
         by_more false = absent_listed_on (length (entries_of (node_at state.heap main)))
 
         by_test : (c : Bool) → On (cond c (found state operation p main position v)
-            (cond (nat_lt (position + 1) (length (entries_of (node_at state.heap main)))) (line.Key (key.Listed p main (position + 1))) (absent_listed operation p main (length (entries_of (node_at state.heap main))))))
+            (cond (nat_lt (position + 1) (length (entries_of (node_at state.heap main)))) (line.Key (key.Listed p main (position + 1)))
+            (absent_listed operation p main (length (entries_of (node_at state.heap main))))))
         by_test true = found_on position v
         by_test false = by_more (nat_lt (position + 1) (length (entries_of (node_at state.heap main))))
     listed_on position (Indirection h w) = tt

@@ -28,9 +28,9 @@ use Rattle.proof_updates.specs.Beneath.proof_generations.specs.Falling.{renew_pa
 
 -- ---- of one indirection, as far as it is known up to time b
 
-abbrev pub Stands : Trie → Access → ℕ → ℕ → ℕ → ℕ → Ref → Type 0
-Stands trie Writable g q b depth i = (once : ℕ) × (once ≤ b) × On trie once g q depth i
-Stands trie ReadOnly g q b depth i = IsReached trie g q depth i
+abbrev pub IsOnRoute : Trie → Access → ℕ → ℕ → ℕ → ℕ → Ref → Type 0
+IsOnRoute trie Writable g q b depth i = (once : ℕ) × (once ≤ b) × On trie once g q depth i
+IsOnRoute trie ReadOnly g q b depth i = IsReached trie g q depth i
 
 -- the main node of an indirection: just behind the moment, or in the end
 abbrev pub IsGiven : Trie → Access → ℕ → Ref → Ref → Type 0
@@ -42,11 +42,11 @@ abbrev pub IsOf : Trie → Access → ℕ → Ref → Type 0
 IsOf trie Writable g i = generation trie i ≡ g
 IsOf trie ReadOnly g i = Unit {0}
 
-pub stands_later : (trie : Trie) (access : Access) (g q b c depth : ℕ) (i : Ref) → b ≤ c → Stands trie access g q b depth i → Stands trie access g q c depth i
+pub stands_later : (trie : Trie) (access : Access) (g q b c depth : ℕ) (i : Ref) → b ≤ c → IsOnRoute trie access g q b depth i → IsOnRoute trie access g q c depth i
 stands_later trie Writable g q b c depth i le s = (s.0, omega (arith, s.1), s.2)
 stands_later trie ReadOnly g q b c depth i le s = s
 
-pub stands_root : (trie : Trie) (access : Access) (g q b : ℕ) (r : Ref) → trie.root g ≡ r → generation trie r ≡ g → Stands trie access g q b 0 r
+pub stands_root : (trie : Trie) (access : Access) (g q b : ℕ) (r : Ref) → trie.root g ≡ r → generation trie r ≡ g → IsOnRoute trie access g q b 0 r
 stands_root trie Writable g q b r is own = (zero, omega arith, subst (λ i. On trie 0 g q 0 i) is (at_root (ap (generation trie) is ∙ own)))
 stands_root trie ReadOnly g q b r is own = subst (λ i. IsReached trie g q 0 i) is root_is
 
@@ -54,7 +54,7 @@ stands_root trie ReadOnly g q b r is own = subst (λ i. IsReached trie g q 0 i) 
 
 pub record Route (trie : Trie) (access : Access) (g q b : ℕ) (p : List Ref) : Type 0 where
   pub filled : 0 < length p
-  pub each : (d : ℕ) → d < length p → Stands trie access g q b d (slice_index_or p d no_ref)
+  pub each : (d : ℕ) → d < length p → IsOnRoute trie access g q b d (slice_index_or p d no_ref)
 
 pub route_later : (trie : Trie) (access : Access) (g q b c : ℕ) (p : List Ref) → b ≤ c → Route trie access g q b p → Route trie access g q c p
 route_later trie access g q b c p le r = record {
@@ -65,12 +65,12 @@ route_later trie access g q b c p le r = record {
 pub route_root : (trie : Trie) (access : Access) (g q b : ℕ) (r : Ref) → trie.root g ≡ r → generation trie r ≡ g → Route trie access g q b (r ∷ [])
 route_root trie access g q b r is own = record { filled = omega arith; each = λ d lt. by_place d lt }
   where
-    by_place : (d : ℕ) → d < 1 → Stands trie access g q b d (slice_index_or (r ∷ []) d no_ref)
+    by_place : (d : ℕ) → d < 1 → IsOnRoute trie access g q b d (slice_index_or (r ∷ []) d no_ref)
     by_place zero lt = stands_root trie access g q b r is own
     by_place (suc d) lt = absurd (omega arith)
 
 -- the last indirection
-pub route_end : (trie : Trie) (access : Access) (g q b : ℕ) (p : List Ref) → Route trie access g q b p → Stands trie access g q b (length p - 1) (current p)
+pub route_end : (trie : Trie) (access : Access) (g q b : ℕ) (p : List Ref) → Route trie access g q b p → IsOnRoute trie access g q b (length p - 1) (current p)
 route_end trie access g q b p r = r.each (length p - 1) (omega (arith, r.filled))
 
 pub current-append : (p : List Ref) (r : Ref) → current (p ++ r ∷ []) ≡ r
@@ -79,17 +79,17 @@ current-append p r =
     ap (λ d. slice_index_or (p ++ r ∷ []) d no_ref) n ∙ get_or-append_seam p r [] no_ref
 
 -- one indirection more
-pub route_append : (trie : Trie) (access : Access) (g q b : ℕ) (p : List Ref) (r : Ref) → Route trie access g q b p → Stands trie access g q b (length p) r → Route trie access g q b (p ++ r ∷ [])
+pub route_append : (trie : Trie) (access : Access) (g q b : ℕ) (p : List Ref) (r : Ref) → Route trie access g q b p → IsOnRoute trie access g q b (length p) r → Route trie access g q b (p ++ r ∷ [])
 route_append trie access g q b p r route below = record { filled = omega (arith, length-append p (r ∷ [])); each = λ d lt. by_place d lt (d == length p) refl }
   where
-    by_place : (d : ℕ) → d < length (p ++ r ∷ []) → (t : Bool) → (d == length p) ≡ t → Stands trie access g q b d (slice_index_or (p ++ r ∷ []) d no_ref)
+    by_place : (d : ℕ) → d < length (p ++ r ∷ []) → (t : Bool) → (d == length p) ≡ t → IsOnRoute trie access g q b d (slice_index_or (p ++ r ∷ []) d no_ref)
     by_place d lt true e =
         let at = eqb-true d (length p) e in
         let here : slice_index_or (p ++ r ∷ []) d no_ref ≡ r = ap (λ n. slice_index_or (p ++ r ∷ []) n no_ref) at ∙ get_or-append_seam p r [] no_ref in
-        subst (λ i. Stands trie access g q b d i) (sym here) (subst (λ n. Stands trie access g q b n r) (sym at) below)
+        subst (λ i. IsOnRoute trie access g q b d i) (sym here) (subst (λ n. IsOnRoute trie access g q b n r) (sym at) below)
     by_place d lt false e =
         let inside : d < length p = omega (arith, differ d (length p) e, length-append p (r ∷ [])) in
-        subst (λ i. Stands trie access g q b d i) (sym (get_or_append_left p (r ∷ []) no_ref d inside)) (route.each d inside)
+        subst (λ i. IsOnRoute trie access g q b d i) (sym (get_or_append_left p (r ∷ []) no_ref d inside)) (route.each d inside)
 
 -- ---- one step down
 
@@ -106,7 +106,7 @@ module _ (trie : Trie) (ok : IsTrie trie) (g q mu : ℕ) (within : suc mu ≤ tr
       }
 
   goes_down : (access : Access) (p : List Ref) (main below : Ref) → Route trie access g q (suc mu) p → IsGiven trie access mu (current p) main →
-      look trie.node (hash_of trie.kind) (length p - 1) q (trie.node main) ≡ Below below → IsOf trie access g below → Stands trie access g q (suc mu) (suc (length p - 1)) below
+      look trie.node (hash_of trie.kind) (length p - 1) q (trie.node main) ≡ Below below → IsOf trie access g below → IsOnRoute trie access g q (suc mu) (suc (length p - 1)) below
   goes_down Writable p main below r given led own =
       let at = route_end trie Writable g q (suc mu) p r in
       let deep = on-depth trie ok at.0 g q (length p - 1) (current p) (omega (arith, at.1)) at.2 in (
@@ -124,7 +124,7 @@ module _ (trie : Trie) (ok : IsTrie trie) (g q mu : ℕ) (within : suc mu ≤ tr
       look trie.node (hash_of trie.kind) (length p - 1) q (trie.node main) ≡ Below below → IsOf trie access g below → Route trie access g q (suc mu) (p ++ below ∷ [])
   route_down access p main below r given led own =
       let deeper : suc (length p - 1) ≡ length p = omega (arith, r.filled) in
-      route_append trie access g q (suc mu) p below r (subst (λ d. Stands trie access g q (suc mu) d below) deeper (goes_down access p main below r given led own))
+      route_append trie access g q (suc mu) p below r (subst (λ d. IsOnRoute trie access g q (suc mu) d below) deeper (goes_down access p main below r given led own))
 
 -- ---- lines
 

@@ -25,7 +25,6 @@ use Rattle.proof_updates.specs.Beneath.proof_contents.specs.Steps.{IsTrie, Looks
 use Rattle.proof_updates.specs.Beneath.proof_contents.specs.Runs.{trie_of}
 use Rattle.proof_updates.specs.Beneath.proof_contents.specs.Lines.Changes.{main_of_key}
 use Rattle.proof_updates.specs.Beneath.proof_generations.specs.Falling.{GivenForEver}
-use Rattle.proof_updates.specs.Taken.{RootsAreKept}
 use Rattle.proof_updates.specs.Updates.{PathsLie, KeysLook}
 use Rattle.proof_updates.specs.Paths.{LiesOn, path_of}
 use Rattle.proof_updates.proofs.Routes.Known.{Route, IsAt, KeyRoute, LineRoute, since, route_later, looks_at}
@@ -42,8 +41,7 @@ since_past : (t read_at : ℕ) (l : ReadLine) → (read_counts l ≡ true → re
 since_past t read_at read.Main before = omega arith
 since_past t read_at l before = omega (arith, before refl)
 
-module _ (limits : Limits) (states : ℕ → State) (last : ℕ) (depth path : Ref → ℕ) (run : IsRun limits states last) (ok : IsTrie (trie_of limits states last depth path))
-    (final : GivenForEver states last) (roots : RootsAreKept states last) where
+module _ (limits : Limits) (states : ℕ → State) (last : ℕ) (depth path : Ref → ℕ) (run : IsRun limits states last) (ok : IsTrie (trie_of limits states last depth path)) where
   abbrev trie : Trie
   trie = trie_of limits states last depth path
 
@@ -54,7 +52,7 @@ module _ (limits : Limits) (states : ℕ → State) (last : ℕ) (depth path : R
     route : LineRoute trie Writable g q t operation.read_at operation.moment operation.line
     route =
         subst (λ a. LineRoute trie a g q t operation.read_at operation.moment operation.line) writable
-        (has_route limits states last depth path run ok final roots t within k operation runs g begun)
+        (has_route limits states last depth path run ok t within k operation runs g begun)
 
     read_past : counts operation.line ≡ true → operation.read_at < t
     read_past e = (((run_since limits states last run t k operation within runs).tries g begun).reads.read_at e).past

@@ -47,19 +47,18 @@ use Rattle.proof_updates.specs.Beneath.proof_memory.proofs.Claims.Nodes.{branch_
 use Rattle.proof_updates.specs.Beneath.proof_commits.proofs.Course.OfLists.{given_read}
 use Rattle.proof_shape.specs.Lines.Knowing.{known_with, first_main}
 use Rattle.proof_shape.proofs.Lines.Knows.{knows_at}
-use Rattle.proof_shape.proofs.Runs.Nodes.{nodes_stay}
 use Rattle.proof_updates.specs.Beneath.proof_generations.specs.Falling.{GivesAt, GivenForEver}
-use Rattle.proof_updates.specs.Taken.{RootsAreKept}
 use Rattle.proof_updates.proofs.Tries.EachOperation.{OwnStep}
 use Rattle.proof_updates.proofs.Answers.Given.{GivenAt, given_at}
 use Rattle.proof_updates.proofs.Tries.Seen.{seen_link, seen_main}
 use Rattle.proof_updates.proofs.Routes.Times.{counts_since, since_next}
 use Rattle.proof_updates.proofs.Routes.Known.{IsGiven, IsOf, since, KeyRoute, LineRoute, route_later}
+use Rattle.proof_updates.specs.Beneath.proof_generations.proofs.Falling.Final.{given_for_ever}
+use Rattle.proof_updates.specs.Beneath.proof_generations.proofs.Falling.Nodes.{nodes_stay}
 
 -- ---- its own step
 
-module _ (limits : Limits) (states : ℕ → State) (last : ℕ) (depth path : Ref → ℕ) (run : IsRun limits states last) (ok : IsTrie (trie_of limits states last depth path))
-    (final : GivenForEver states last) (roots : RootsAreKept states last) where
+module _ (limits : Limits) (states : ℕ → State) (last : ℕ) (depth path : Ref → ℕ) (run : IsRun limits states last) (ok : IsTrie (trie_of limits states last depth path)) where
   abbrev trie : Trie
   trie = trie_of limits states last depth path
 
@@ -124,7 +123,8 @@ module _ (limits : Limits) (states : ℕ → State) (last : ℕ) (depth path : R
         where
           by_access : (a : Access) → operation.access ≡ a → IsGiven trie a mu r.indirection m
           by_access Writable is = (given m gives).is
-          by_access ReadOnly is = final t lt (suc k) operation r.indirection m (gives_at m gives) (inl is) last (let past = (given m gives).past in omega arith) (omega arith)
+          by_access ReadOnly is =
+              given_for_ever limits states last run t lt (suc k) operation r.indirection m (gives_at m gives) (inl is) last (let past = (given m gives).past in omega arith) (omega arith)
 
       pub read_on : (after : After Read Ref) → read_step state operation r ≡ after → On (key_after_read p after)
       read_on (Goes next) e' =
@@ -146,7 +146,8 @@ module _ (limits : Limits) (states : ℕ → State) (last : ℕ) (depth path : R
     module _ (p : List Ref) (main : Ref) (position : ℕ) (e : operation.line ≡ line.Key (key.Entry p main position)) where
       main_used : Holds (IsInUse state.heap) state.heap (Is main ABranch)
       main_used =
-          let wants = subst (λ l. AllHold (IsInUse state.heap) state.heap (line_wants limits.hash operation.call operation.access l)) e (line_at limits states last run t within (suc k) operation own.runs) in
+          let wants = subst (λ l. AllHold (IsInUse state.heap) state.heap (line_wants limits.hash operation.call operation.access l)) e
+          (line_at limits states last run t within (suc k) operation own.runs) in
           wants.1.1.0
 
       main_is : trie.node main ≡ node_at state.heap main

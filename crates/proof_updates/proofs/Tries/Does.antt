@@ -24,19 +24,22 @@ use Rattle.proof_updates.specs.Beneath.machine_model.specs.Times.{turns}
 use Rattle.proof_updates.specs.Beneath.machine_model.specs.Times.{IsRun, Turn}
 use Rattle.proof_updates.specs.Beneath.proof_contents.specs.Tries.{Trie, generation, node_in, assigned}
 use Rattle.proof_updates.specs.Beneath.proof_contents.specs.Steps.{IsRepair, Does, nothing, a_repair, an_update}
-use Rattle.proof_updates.specs.Beneath.proof_contents.specs.Runs.{main_at, trie_of}
+use Rattle.proof_updates.specs.Beneath.proof_contents.specs.Runs.{counting_main, trie_of}
 use Rattle.proof_updates.specs.Beneath.proof_contents.specs.Lines.Changes.{Known, Absence, no_flag, not_listed, Presence, in_branch, in_list, IsOther, of_branch, of_list, KnowsChange, KnowsSwap}
 use Rattle.proof_updates.specs.Beneath.proof_contents.specs.Lines.Repairs.{IsRepaired}
 use Rattle.proof_updates.specs.Beneath.proof_contents.proofs.Lines.Updates.{MakesUpdate, makes_update, known_in}
-use Rattle.proof_updates.specs.Beneath.proof_contents.proofs.Lines.Repair.{Stands}
+use Rattle.proof_updates.specs.Beneath.proof_contents.proofs.Lines.Repair.{StaysGiven}
 use Rattle.proof_shape.specs.Lines.Given.{Was}
 use Rattle.proof_shape.specs.Lines.Knowing.{known_with, first_main}
 use Rattle.proof_shape.specs.Lines.Climbing.{IsClimbed}
 use Rattle.proof_shape.specs.Lines.Commits.{OwnCommit, MainStep, stays, changes, CommitsAt, KnowsFresh, assigned_at}
 use Rattle.proof_updates.specs.Beneath.proof_generations.specs.Falling.{SwapsInOwnGeneration, WasGiven}
-use Rattle.proof_updates.specs.Taken.{IsRepairing, RepairsAreKnown, SitesOfUpdates}
+use Rattle.proof_updates.specs.Commits.{IsRepairing, SitesOfUpdates}
 use Rattle.proof_updates.specs.Updates.{StepsDo}
 use Rattle.proof_updates.proofs.Tries.Repairing.{TombsLast, repairs, climbs}
+use Rattle.proof_shape.proofs.Held.Commits.{fresh_commits_at}
+use Rattle.proof_updates.specs.Beneath.proof_generations.proofs.Falling.OwnSwaps.{swaps_in_own_generation}
+use Rattle.proof_updates.proofs.Tries.Commits.{repairs_are_known}
 
 -- ---- what is replaced is no tomb
 
@@ -85,7 +88,7 @@ module _ (limits : Limits) (states : ℕ → State) (last : ℕ) (depth path : R
       by_purpose purpose.Clean knows = repaired_apart _ _ knows
       by_purpose (purpose.Climb c) knows = let bad : Branch knows.parent.bitmap knows.parent.entries ≡ Tomb single = sym knows.parent.branch.is ∙ tomb in cc
 
-  module _ (run : IsRun limits states last) (all : CommitsAt limits states last (assigned_at states last)) where
+  module _ (run : IsRun limits states last) where
     pub record StepAt (t : ℕ) : Type 0 where
       pub step : Step
       pub outcome : Outcome
@@ -96,30 +99,30 @@ module _ (limits : Limits) (states : ℕ → State) (last : ℕ) (depth path : R
     step_at t lt = by_turn (run.turn t lt)
       where
         by_turn : Turn (states t) (states (suc t)) → StepAt t
-        by_turn (turns s o m) = record { step = s; outcome = o; moves = m; does = all t lt s o m }
+        by_turn (turns s o m) = record { step = s; outcome = o; moves = m; does = fresh_commits_at limits states last run t lt s o m }
 
     -- ---- tombs last
 
-    tomb_next : (t : ℕ) (i single : Ref) → t < last → node_in trie t i ≡ Tomb single → main_at states last (suc t) i ≡ main_at states last t i
+    tomb_next : (t : ℕ) (i single : Ref) → t < last → node_in trie t i ≡ Tomb single → counting_main states last (suc t) i ≡ counting_main states last t i
     tomb_next t i single lt tomb = by_step (step_at t lt).step (step_at t lt).does
       where
-        by_step : (s : Step) → MainStep limits states last (assigned_at states last) t s → main_at states last (suc t) i ≡ main_at states last t i
+        by_step : (s : Step) → MainStep limits states last (assigned_at states last) t s → counting_main states last (suc t) i ≡ counting_main states last t i
         by_step s (stays none same) = same i
         by_step s (changes own) = by_test (i == own.indirection) refl
           where
-            by_test : (b : Bool) → (i == own.indirection) ≡ b → main_at states last (suc t) i ≡ main_at states last t i
+            by_test : (b : Bool) → (i == own.indirection) ≡ b → counting_main states last (suc t) i ≡ counting_main states last t i
             by_test true e =
                 absurd (replaced_apart t s own single
-                (ap (node_under states last) (sym own.before ∙ ap (main_at states last t) (sym (eqb-true i own.indirection e))) ∙ tomb))
+                (ap (node_under states last) (sym own.before ∙ ap (counting_main states last t) (sym (eqb-true i own.indirection e))) ∙ tomb))
             by_test false e = own.others i (differ i own.indirection e)
 
     pub tombs_last : TombsLast trie
-    tombs_last t zero i single le within tomb = ap (λ n. main_at states last n i) (omega arith)
+    tombs_last t zero i single le within tomb = ap (λ n. counting_main states last n i) (omega arith)
     tombs_last t (suc u) i single le within tomb = by_time (tombs_last t u i single) (t == suc u) refl
       where
-        by_time : (t ≤ u → u ≤ last → node_in trie t i ≡ Tomb single → main_at states last u i ≡ main_at states last t i) → (b : Bool) → (t == suc u) ≡ b →
-            main_at states last (suc u) i ≡ main_at states last t i
-        by_time rest true same = ap (λ n. main_at states last n i) (sym (eqb-true t (suc u) same))
+        by_time : (t ≤ u → u ≤ last → node_in trie t i ≡ Tomb single → counting_main states last u i ≡ counting_main states last t i) → (b : Bool) → (t == suc u) ≡ b →
+            counting_main states last (suc u) i ≡ counting_main states last t i
+        by_time rest true same = ap (λ n. counting_main states last n i) (sym (eqb-true t (suc u) same))
         by_time rest false apart =
             let before = differ t (suc u) apart in
             let same = rest (omega arith) (omega arith) tomb in
@@ -127,10 +130,10 @@ module _ (limits : Limits) (states : ℕ → State) (last : ℕ) (depth path : R
 
     -- ---- each step
 
-    module _ (swaps : SwapsInOwnGeneration states last) (given : RepairsAreKnown limits states last) (sites : SitesOfUpdates limits states last depth) where
+    module _ (sites : SitesOfUpdates limits states last depth) where
       module _ (t : ℕ) (s : Step) (lt : t < last) (own : Own t s) where
         pub start_is : own.start ≡ generation trie own.indirection
-        start_is = same_Some _ _ (sym own.generation ∙ (swaps t (omega arith) own.actor own.owner own.runs own.why _ own.swaps).1)
+        start_is = same_Some _ _ (sym own.generation ∙ (swaps_in_own_generation limits states last run t (omega arith) own.actor own.owner own.runs own.why _ own.swaps).1)
 
         was : trie.node own.replaced ≡ node_in trie t own.indirection
         was = ap trie.node (sym own.before)
@@ -148,21 +151,21 @@ module _ (limits : Limits) (states : ℕ → State) (last : ℕ) (depth path : R
             (subst₂ (λ old new. IsRepair trie own.start t old new) was is r)
 
         -- an indirection of the owner's generation has the main node that it has
-        own_main : (r word : Ref) → trie.node r ≡ Indirection own.start word → main_at states last t r ≡ assigned_at states last own.start t r
+        own_main : (r word : Ref) → trie.node r ≡ Indirection own.start word → counting_main states last t r ≡ assigned_at states last own.start t r
         own_main r word e =
-            ap (λ b. cond b (main_at states last t r) (main_at states last last r))
+            ap (λ b. cond b (counting_main states last t r) (counting_main states last last r))
             (sym (ap (λ n. generation_of n == own.start) e ∙ eq-eqb own.start own.start refl))
 
         final : (entry child word : Ref) (h : ℕ) → trie.node entry ≡ Indirection h word → h ≢ own.start → WasGiven states last own.start t entry child → trie.main last entry ≡ child
         final entry child word h e apart gave = gave.1 (λ same. apart (ap generation_of (sym e) ∙ same))
 
-        stands : Stands trie (WasGiven states last own.start t) own.start t
+        stands : StaysGiven trie (WasGiven states last own.start t) own.start t
         stands = record { final = final; once = λ entry child gave. gave.0 }
 
         done : IsRepairing own.why → Repaired
         done why =
             repaired (repairs trie (tombs_last) own.start t (omega arith) (assigned_at states last own.start t) (WasGiven states last own.start t) stands own.replaced own.fresh
-            (given t s lt own why) (λ n h word word' e apart new. own_main _ word' new))
+            (repairs_are_known limits states last run t s lt own why) (λ n h word word' e apart new. own_main _ word' new))
 
         climbed : (c : Climb) → IsClimbed (known_with limits states last (first_main states last)) (Was states last t) own.owner.call c own.replaced own.fresh → Repaired
         climbed c k =

@@ -26,10 +26,12 @@ use Rattle.proof_updates.specs.Beneath.proof_generations.specs.Falling.{SwapsInO
 use Rattle.proof_order.specs.Phases.{OwnUpdate}
 use Rattle.proof_order.proofs.Phases.OwnUpdates.{own_updates_enter}
 use Rattle.proof_shape.specs.Shaped.{HasShape}
-use Rattle.proof_updates.specs.Taken.{RepairsAreKnown, SitesOfUpdates, RootsAreKept}
+use Rattle.proof_updates.specs.Commits.{SitesOfUpdates}
 use Rattle.proof_updates.specs.Updates.{StepsKeep, UpdatesFollow}
 use Rattle.proof_updates.proofs.Tries.Does.{own_does}
 use Rattle.proof_updates.proofs.Tries.Updates.{trie_ok, updates_act}
+use Rattle.proof_updates.proofs.Handles.Committing.{own_committed}
+use Rattle.proof_shape.proofs.Held.Commits.{fresh_commits_at}
 
 module _ (limits : Limits) (states : ℕ → State) (last : ℕ) (t : ℕ) (s : Step) where
   abbrev Own : Type 0
@@ -43,11 +45,8 @@ module _ (limits : Limits) (states : ℕ → State) (last : ℕ) (t : ℕ) (s : 
       by_step x (goes actor operation runs nothing) = ap (entered (states t)) (ap (committed_of (states t)) runs ∙ nothing)
       by_step x sweeps = refl
 
-  committed_is : (own : Own) → committed_by_step (states t) s ≡ Some own.fresh
-  committed_is own = ap (committed_by_step (states t)) own.takes ∙ ap (committed_of (states t)) own.decides ∙ own.commits
-
   pub own_enters : (own : Own) → entered_by_step (states t) s ≡ places_for (states t) own.owner t own.why
-  own_enters own = ap (entered (states t)) (committed_is own) ∙ own.enters
+  own_enters own = ap (entered (states t)) (own_committed limits states last t s own) ∙ own.enters
 
   nobody_enters : (own : Own) → entered_by_step (states t) s ≡ [] → (p : List Ref) (former : Option ℕ) → own.why ≡ purpose.Update p former → ⊥
   nobody_enters own none p former e = by_places (sym none ∙ own_enters own ∙ ap (places_for (states t) own.owner t) e)
@@ -55,38 +54,39 @@ module _ (limits : Limits) (states : ℕ → State) (last : ℕ) (t : ℕ) (s : 
       by_places : {place : Place} → [] ≡ place ∷ [] → ⊥
       by_places bad = cc
 
-module _ (limits : Limits) (states : ℕ → State) (last : ℕ) (depth path : Ref → ℕ) (run : IsRun limits states last) (all : CommitsAt limits states last (assigned_at states last))
-    (swaps : SwapsInOwnGeneration states last) (given : RepairsAreKnown limits states last) (sites : SitesOfUpdates limits states last depth)
+module _ (limits : Limits) (states : ℕ → State) (last : ℕ) (depth path : Ref → ℕ) (run : IsRun limits states last)
+    (sites : SitesOfUpdates limits states last depth)
     (shape : HasShape (trie_of limits states last depth path)) where
   abbrev trie : Trie
   trie = trie_of limits states last depth path
 
   ok : IsTrie (trie_of limits states last depth path)
-  ok = trie_ok limits states last depth path run all swaps given sites shape
+  ok = trie_ok limits states last depth path run sites shape
 
   -- a step that commits no own update
   pub steps_keep : StepsKeep states last (trie_of limits states last depth path)
-  steps_keep t s o lt m none g = by_step (all t lt s o m)
+  steps_keep t s o lt m none g = by_step (fresh_commits_at limits states last run t lt s o m)
     where
       by_step : MainStep limits states last (assigned_at states last) t s → content trie g (suc t) ≡ content trie g t
       by_step (stays nothing same) = nothing_still trie ok t g lt same
-      by_step (changes own) = by_kind (own_does limits states last depth path run all swaps given sites t s lt own)
+      by_step (changes own) = by_kind (own_does limits states last depth path run sites t s lt own)
         where
           by_kind : ((p : List Ref) × (former : Option ℕ) × (own.why ≡ purpose.Update p former))
               ⊎ IsRepair trie (generation trie own.indirection) t (node_in trie t own.indirection) (node_in trie (suc t) own.indirection) → content trie g (suc t) ≡ content trie g t
           by_kind (inl (p, former, e)) = absurd (nobody_enters limits states last t s own none p former e)
           by_kind (inr r) = repair_still trie ok t g own.indirection lt own.others r
 
-  module _ (final : GivenForEver states last) (roots : RootsAreKept states last)
-      (fits : (t : ℕ) → t ≤ last → (k : ℕ) (operation : Operation) → Runs (states t) k operation → key_of operation.call < 2 ^ 64) where
+  module _ (fits : (t : ℕ) → t ≤ last → (k : ℕ) (operation : Operation) → Runs (states t) k operation → key_of operation.call < 2 ^ 64) where
     module _ (t : ℕ) (s : Step) (lt : t < last) (u : OwnUpdate states last t s) (own : OwnCommit limits states last (assigned_at states last) t s) where
       same_fresh : u.its.fresh ≡ own.fresh
-      same_fresh = same_Some _ _ (sym u.commits ∙ committed_is limits states last t s own)
+      same_fresh = same_Some _ _ (sym u.commits ∙ own_committed limits states last t s own)
 
       same_actor : suc u.k ≡ own.actor
       same_actor =
-          own.alone (suc u.k) u.owner u.its.indirection u.its.replaced u.its.line u.runs
-          (purpose.Update u.path u.former, u.at ∙ ap (λ f. line.Swap (purpose.Update u.path u.former) (record { indirection = u.its.indirection; replaced = u.its.replaced; fresh = f; line = u.its.line })) same_fresh)
+          own.alone (suc u.k) u.owner u.its.indirection u.its.replaced u.its.line u.runs (
+            purpose.Update u.path u.former,
+            u.at ∙ ap (λ f. line.Swap (purpose.Update u.path u.former) (record { indirection = u.its.indirection; replaced = u.its.replaced; fresh = f; line = u.its.line })) same_fresh,
+          )
 
       same_owner : own.owner ≡ u.owner
       same_owner = same_Some _ _ (sym own.runs ∙ ap (operation_of (states t)) (sym same_actor) ∙ u.runs)
@@ -96,13 +96,14 @@ module _ (limits : Limits) (states : ℕ → State) (last : ℕ) (depth path : R
 
       same_why : own.why ≡ purpose.Update u.path u.former
       same_why =
-          let same : line.Swap own.why (record { indirection = own.indirection; replaced = own.replaced; fresh = own.fresh; line = swap.Deciding own.deciding }) ≡ line.Swap (purpose.Update u.path u.former) u.its =
+          let same : line.Swap own.why (record { indirection = own.indirection; replaced = own.replaced; fresh = own.fresh; line = swap.Deciding own.deciding })
+          ≡ line.Swap (purpose.Update u.path u.former) u.its =
           sym own.swaps ∙ ap (λ (x : Operation). x.line) same_owner ∙ u.at in
           cc
 
       update_is : entered_by_step (states t) s ≢ [] → Update limits states last (content trie) t (entered_by_step (states t) s)
       update_is some =
-          let act = updates_act limits states last depth path run all swaps given sites shape final roots fits t s lt own u.path u.former same_why in
+          let act = updates_act limits states last depth path run sites shape fits t s lt own u.path u.former same_why in
           record {
             k = u.k;
             owner = u.owner;
@@ -114,14 +115,15 @@ module _ (limits : Limits) (states : ℕ → State) (last : ℕ) (depth path : R
             enters = u.enters;
             unplaced = u.unplaced;
             answer = changed_reply u.owner.call u.former;
-            acts = subst₂ (λ (x : Operation) g. act_in (hash_of limits.hash) Writable x.call (content trie g t) ≡ Some (changed_reply x.call u.former, content trie g (suc t))) same_owner same_start act.0;
+            acts = subst₂
+                (λ (x : Operation) g. act_in (hash_of limits.hash) Writable x.call (content trie g t) ≡ Some (changed_reply x.call u.former, content trie g (suc t))) same_owner same_start act.0;
             agrees = u.agrees;
             still = λ other stood apart. act.1 other (λ same. apart (same ∙ same_start));
           }
 
     -- a step that commits one
     pub updates_follow : UpdatesFollow limits states last (trie_of limits states last depth path)
-    updates_follow t s o lt m some = by_step (all t lt s o m)
+    updates_follow t s o lt m some = by_step (fresh_commits_at limits states last run t lt s o m)
       where
         by_step : MainStep limits states last (assigned_at states last) t s → Update limits states last (content trie) t (entered_by_step (states t) s)
         by_step (stays nothing same) = absurd (some (none_enters limits states last t s nothing))

@@ -13,7 +13,7 @@ use Rattle.proof_shape.proofs.Sites.Fixed.{keys_fit}
 use Rattle.proof_shape.proofs.Sites.Stepped.{takes_steps}
 use Rattle.proof_updates.specs.Updates.{StepsDo, PathsLie, KeysLook, StepsKeep, UpdatesFollow, RepliesRight}
 use Rattle.proof_updates.specs.Laws.Tries.{OfEachRun, EachStepDoes, OthersKeepContents, UpdatesLeadOn, PathsLieOnKeys, EndsAreSeen, RepliesAreRight}
-use Rattle.proof_updates.proofs.Tries.Whole as whole
+use Rattle.proof_updates.proofs.Tries.OfRuns as whole
 
 of_each_run : (Law : Limits → (ℕ → State) → ℕ → Trie → Type 0) →
     ((limits : Limits) (states : ℕ → State) (steps : ℕ → Step) (last : ℕ) → IsRun limits states last → TakesSteps states steps last → StepsFit steps last →

@@ -12,7 +12,7 @@ use Rattle.proof_updates.specs.Beneath.proof_contents.proofs.Nodes.Branches.{dif
 use Rattle.proof_updates.specs.Beneath.proof_contents.specs.Tries.{Trie, generation, node_in}
 use Rattle.proof_updates.specs.Beneath.proof_contents.specs.Steps.{Stays, kept, renewed_by, untombed, IsRepair, refills, entombs}
 use Rattle.proof_updates.specs.Beneath.proof_contents.specs.Lines.Repairs.{IsDone, keeps, renews, cleans, IsRepaired}
-use Rattle.proof_updates.specs.Beneath.proof_contents.proofs.Lines.Repair.{Stands, HasFresh}
+use Rattle.proof_updates.specs.Beneath.proof_contents.proofs.Lines.Repair.{StaysGiven, HasFresh}
 
 -- where an indirection's main node is a tomb it stays so
 abbrev pub TombsLast : Trie → Type 0
@@ -45,7 +45,7 @@ module _ (trie : Trie) (lasts : TombsLast trie) (g t : ℕ) (within : t ≤ trie
   stays_repair b bitmap entries others old new o n count stays = refills bitmap entries others o n count stays
 
   -- RENEW and CLEAN
-  pub repairs : (first : Ref → Ref) (Gave : Ref → Ref → Type 0) → Stands trie Gave g t → (replaced fresh : Ref) → (knows : IsRepaired trie.node first Gave g replaced fresh) →
+  pub repairs : (first : Ref → Ref) (Gave : Ref → Ref → Type 0) → StaysGiven trie Gave g t → (replaced fresh : Ref) → (knows : IsRepaired trie.node first Gave g replaced fresh) →
       HasFresh trie first g t knows.2 knows.0 → IsRepair trie g t (trie.node replaced) (trie.node fresh)
   repairs first Gave stands replaced fresh (done, bitmap, entries, are, all, (b, made)) news =
       stays_repair b bitmap entries done (trie.node replaced) (trie.node fresh) are.is made all

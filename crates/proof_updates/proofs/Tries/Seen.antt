@@ -9,9 +9,9 @@ use Rattle.proof_updates.specs.Beneath.machine_model.specs.Grown.{grown, node_un
 use Rattle.proof_updates.specs.Beneath.proof_memory.specs.Wants.{meets, AMain}
 use Rattle.proof_updates.specs.Beneath.proof_memory.specs.Laws.{IsInUse}
 use Rattle.proof_updates.specs.Beneath.proof_memory.proofs.Safety.AtTimes.{node_found}
-use Rattle.proof_updates.specs.Beneath.proof_memory.proofs.Heap.Moves.{grown_in_use}
 use Rattle.proof_updates.specs.Beneath.proof_contents.specs.Grows.{NodesStay}
 use Rattle.proof_updates.specs.Beneath.proof_contents.proofs.Values.Started.{node_stays, indirection_stays}
+use Rattle.proof_updates.specs.Beneath.machine_model.proofs.Grown.{grown_in_use}
 
 module _ (states : ℕ → State) (last : ℕ) (stay : NodesStay states last) (t : ℕ) (within : t ≤ last) (r : Ref) (used : IsInUse (states t).heap r) where
   slot_is : grown states t r ≡ Some used.0

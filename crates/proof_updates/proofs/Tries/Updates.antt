@@ -24,7 +24,7 @@ use Rattle.proof_shape.specs.Lines.Knowing.{SwapsAt}
 use Rattle.proof_shape.specs.Lines.Commits.{OwnCommit, CommitsAt, KnowsFresh, assigned_at}
 use Rattle.proof_updates.specs.Beneath.proof_generations.specs.Falling.{SwapsInOwnGeneration, GivenForEver}
 use Rattle.proof_shape.specs.Shaped.{HasShape}
-use Rattle.proof_updates.specs.Taken.{RepairsAreKnown, SitesOfUpdates, RootsAreKept}
+use Rattle.proof_updates.specs.Commits.{SitesOfUpdates}
 use Rattle.proof_updates.specs.Updates.{UpdatesAt, UpdatesAct}
 use Rattle.proof_updates.proofs.Tries.Does.{start_is, made, steps_do}
 use Rattle.proof_updates.proofs.Routes.Known.{Route, LineRoute, route_end}
@@ -32,8 +32,8 @@ use Rattle.proof_updates.proofs.Routes.Each.{has_route}
 
 -- ---- own updates
 
-module _ (limits : Limits) (states : ℕ → State) (last : ℕ) (depth path : Ref → ℕ) (run : IsRun limits states last) (all : CommitsAt limits states last (assigned_at states last))
-    (swaps : SwapsInOwnGeneration states last) (given : RepairsAreKnown limits states last) (sites : SitesOfUpdates limits states last depth)
+module _ (limits : Limits) (states : ℕ → State) (last : ℕ) (depth path : Ref → ℕ) (run : IsRun limits states last)
+    (sites : SitesOfUpdates limits states last depth)
     (shape : HasShape (trie_of limits states last depth path)) where
   abbrev trie : Trie
   trie = trie_of limits states last depth path
@@ -46,11 +46,10 @@ module _ (limits : Limits) (states : ℕ → State) (last : ℕ) (depth path : R
     root_path = shape.root_path;
     path_fits = shape.path_fits;
     shaped = shape.shaped;
-    does = steps_do limits states last depth path run all swaps given sites;
+    does = steps_do limits states last depth path run sites;
   }
 
-  module _ (final : GivenForEver states last) (roots : RootsAreKept states last)
-      (fits : (t : ℕ) → t ≤ last → (k : ℕ) (operation : Operation) → Runs (states t) k operation → key_of operation.call < 2 ^ 64) where
+  module _ (fits : (t : ℕ) → t ≤ last → (k : ℕ) (operation : Operation) → Runs (states t) k operation → key_of operation.call < 2 ^ 64) where
     module _ (t : ℕ) (s : Step) (lt : t < last) (own : OwnCommit limits states last (assigned_at states last) t s) (p : List Ref) (former : Option ℕ) (e : own.why ≡ purpose.Update p former) where
       place : (k : ℕ) × (own.actor ≡ suc k) × Runs (states t) k own.owner
       place = place_of_actor (states t) own.actor own.owner own.runs
@@ -60,7 +59,7 @@ module _ (limits : Limits) (states : ℕ → State) (last : ℕ) (depth path : R
 
       route : Route trie Writable own.start (key_of own.owner.call) t p
       route =
-          let h = has_route limits states last depth path run trie_ok final roots t (omega arith) place.0 own.owner place.2 own.start own.generation in
+          let h = has_route limits states last depth path run trie_ok t (omega arith) place.0 own.owner place.2 own.start own.generation in
           subst (λ a. Route trie a own.start (key_of own.owner.call) t p) own.writable
           (subst (λ why. LineRoute trie own.owner.access own.start (key_of own.owner.call) t own.owner.read_at own.owner.moment (line.Swap why its)) e
           (subst (λ l. LineRoute trie own.owner.access own.start (key_of own.owner.call) t own.owner.read_at own.owner.moment l) own.swaps h))
@@ -81,7 +80,7 @@ module _ (limits : Limits) (states : ℕ → State) (last : ℕ) (depth path : R
       pub update_at : Updates trie t own.start own.owner.call former
       update_at =
           let known = subst (λ why. KnowsFresh limits states last (assigned_at states last) t own.actor own.start own.owner own.replaced own.fresh why) e own.knows in
-          let u = made limits states last depth path run all swaps given sites t s lt own p former e known in
+          let u = made limits states last depth path run sites t s lt own p former e known in
           record {
             indirection = own.indirection;
             once = on.0;
@@ -91,7 +90,7 @@ module _ (limits : Limits) (states : ℕ → State) (last : ℕ) (depth path : R
             now = u.now;
             asks = u.asks;
             updates = subst (λ g. IsOwnUpdate trie g t own.indirection (key_of own.owner.call) (node_in trie t own.indirection) (node_in trie (suc t) own.indirection) former u.now)
-                (sym (start_is limits states last depth path run all swaps given sites t s lt own)) u.updates;
+                (sym (start_is limits states last depth path run sites t s lt own)) u.updates;
             fits = fits t (omega arith) place.0 own.owner place.2;
           }
 

@@ -28,7 +28,7 @@ OfEachStep Law =
     next (run limits steps) s ≡ Ok (outcome, after) → Law limits (run limits steps) s after
 
 -- the handle is open, of this kind, and these are the pairs of its map, by rising key
-pub record Holds (state : State) (handle : ℕ) (access : Access) (pairs : List (ℕ × ℕ)) : Type 0 where
+pub record HandleHolds (state : State) (handle : ℕ) (access : Access) (pairs : List (ℕ × ℕ)) : Type 0 where
   pub root : Root
   pub is_open : root_at state handle ≡ Some root
   pub kind : root.access ≡ access
@@ -45,22 +45,22 @@ pub record Turns (hash : ℕ → ℕ) (call : Call) (former : Option ℕ) (earli
 -- a handle that the step doesn't touch stays open, of its kind, and keeps its content
 abbrev pub UntouchedStay : Limits → State → Step → State → Type 0
 UntouchedStay limits before s after =
-    (handle : ℕ) (access : Access) (pairs : List (ℕ × ℕ)) → Holds before handle access pairs → ¬ Touches before s handle → Holds after handle access pairs
+    (handle : ℕ) (access : Access) (pairs : List (ℕ × ℕ)) → HandleHolds before handle access pairs → ¬ Touches before s handle → HandleHolds after handle access pairs
 
 -- the commit of an operation's own update does that call's change to the content of each handle that reaches its indirection
 abbrev pub UpdatesChange : Limits → State → Step → State → Type 0
 UpdatesChange limits before s after =
-    (handle : ℕ) (access : Access) (pairs : List (ℕ × ℕ)) (i : Ref) (call : Call) (former : Option ℕ) → Holds before handle access pairs → CommitsUpdate before s i call former →
-    Reaches before handle i → (later : List (ℕ × ℕ)) × Holds after handle access later × Turns (hash_of limits.hash) call former pairs later
+    (handle : ℕ) (access : Access) (pairs : List (ℕ × ℕ)) (i : Ref) (call : Call) (former : Option ℕ) → HandleHolds before handle access pairs → CommitsUpdate before s i call former →
+    Reaches before handle i → (later : List (ℕ × ℕ)) × HandleHolds after handle access later × Turns (hash_of limits.hash) call former pairs later
 
 -- the commit of a node made by renewing, cleaning or climbing leaves all handles and their contents alone
 abbrev pub RepairsStay : Limits → State → Step → State → Type 0
 RepairsStay limits before s after =
-    (handle : ℕ) (access : Access) (pairs : List (ℕ × ℕ)) → Holds before handle access pairs → CommitsRepair before s → Holds after handle access pairs
+    (handle : ℕ) (access : Access) (pairs : List (ℕ × ℕ)) → HandleHolds before handle access pairs → CommitsRepair before s → HandleHolds after handle access pairs
 
 -- a clear that is carried out leaves its handle empty
 abbrev pub ClearsEmpty : Limits → State → Step → State → Type 0
-ClearsEmpty limits before s after = (handle : ℕ) (opens : Option ℕ) → CarriesOutCall before s (Clear handle) opens → Holds after handle Writable []
+ClearsEmpty limits before s after = (handle : ℕ) (opens : Option ℕ) → CarriesOutCall before s (Clear handle) opens → HandleHolds after handle Writable []
 
 -- a close takes its handle away
 abbrev pub ClosesTake : Limits → State → Step → State → Type 0
@@ -70,5 +70,5 @@ ClosesTake limits before s after = (actor handle : ℕ) → s ≡ step.Begin act
 abbrev pub OpenedCopy : Limits → State → Step → State → Type 0
 OpenedCopy limits before s after =
     (handle : ℕ) (root : Root) → root_at before handle ≡ None → root_at after handle ≡ Some root →
-    (copied : ℕ) × ((CarriesOutCall before s (Snapshot copied) (Some handle) × Holds after handle Writable (content_at before copied))
-    ⊎ (CarriesOutCall before s (Freeze copied) (Some handle) × Holds after handle ReadOnly (content_at before copied)))
+    (copied : ℕ) × ((CarriesOutCall before s (Snapshot copied) (Some handle) × HandleHolds after handle Writable (content_at before copied))
+    ⊎ (CarriesOutCall before s (Freeze copied) (Some handle) × HandleHolds after handle ReadOnly (content_at before copied)))

@@ -1,5 +1,6 @@
 use Rattle.ctrie_base.specs.declared.hashes.HashKind.TheVariants.{Low, Fold, Wide, Block}
-use Rattle.ctrie_base.specs.Hashes.{HashesFit, low_hash-lt, fold_hash-lt, block_hash-lt}
+use Rattle.ctrie_base.specs.Hashes.{HashesFit}
+use Rattle.ctrie_base.proofs.Fits.{low_hash-lt, fold_hash-lt, block_hash-lt}
 use Rattle.ctrie_base.proofs.hashes.hash_fits.Goals as goal
 
 hashes_fit : HashesFit

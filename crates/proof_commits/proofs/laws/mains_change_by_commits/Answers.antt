@@ -1,6 +1,5 @@
 use Rattle.proof_commits.proofs.Course.OfLists.{mains_change_by_commits as law}
-use Rattle.proof_commits.proofs.Known.Memory.{memory_of_runs}
 use Rattle.proof_commits.proofs.laws.mains_change_by_commits.Goals as goal
 
 pub returns : goal.returns
-returns c = law memory_of_runs
+returns c = law

@@ -1,6 +1,5 @@
 use Rattle.proof_commits.proofs.Course.OfLists.{law_replaced_for_good as law}
-use Rattle.proof_commits.proofs.Known.Memory.{memory_of_runs}
 use Rattle.proof_commits.proofs.laws.replaced_for_good.Goals as goal
 
 pub returns : goal.returns
-returns c = law memory_of_runs
+returns c = law

@@ -1,10 +1,11 @@
 use Rattle.machine_model.specs.Machine.{run}
-use Rattle.proof_memory.proofs.Safety.AtEachTime.{safe_along, limits_along}
+use Rattle.proof_memory.proofs.Safety.AtEachTime.{safe_along}
 use Rattle.proof_memory.proofs.Safety.AtTimes.{line_finds_in, action_finds}
 use Rattle.proof_memory.proofs.Safety.Steps.{of_actor}
 use Rattle.proof_memory.proofs.Safety.Base.{HasHandle}
 use Rattle.proof_memory.proofs.Safety.Started.{KnowsRoot}
 use Rattle.proof_memory.proofs.laws.each_lookup_finds.Goals as goal
+use Rattle.machine_model.proofs.Along.{limits_along}
 
 pub returns-clause-lines : goal.returns-clause-lines
 returns-clause-lines c limits steps actor operation ok e =

@@ -1,6 +1,6 @@
 use Rattle.proof_commits.proofs.Course.OfLists.{late_once as law}
-use Rattle.proof_generations.proofs.Falling.KnownRoots.{layers_of_runs}
+use Rattle.proof_generations.proofs.Falling.KnownRoots.{roots_of_runs}
 use Rattle.proof_generations.proofs.laws.falling.late_once.Goals as goal
 
 pub returns : goal.returns
-returns c = law layers_of_runs
+returns c = law roots_of_runs

@@ -1,5 +1,4 @@
--- What is taken of the layers below beside the laws that they state: what a repair was given, at which depth a change is swapped
--- in, and that a generation has one root.
+-- What is known of a node that its owner commits: what a repair was given, and at which depth a change is swapped in.
 use Rattle.std.specs.Prelude.{◌≡◌, ℕ, ◌<◌, ◌≤◌, List, Option, Some}
 use Rattle.proof_updates.specs.Beneath.slot_arena.specs.declared.refs.Ref.{Ref}
 use Rattle.proof_updates.specs.Beneath.machine_model.specs.declared.lines.Purpose.{Purpose}
@@ -11,7 +10,7 @@ use Rattle.proof_updates.specs.Beneath.machine_model.specs.Paths.{depth_of}
 use Rattle.proof_updates.specs.Beneath.machine_model.specs.States.{State, root_at, root_of}
 use Rattle.proof_updates.specs.Beneath.machine_model.specs.Grown.{node_under}
 use Rattle.proof_updates.specs.Beneath.proof_contents.specs.Lines.Repairs.{IsRepaired}
-use Rattle.proof_updates.specs.Beneath.proof_contents.specs.Runs.{root_at as root_of_generation}
+use Rattle.proof_updates.specs.Beneath.proof_contents.specs.Runs.{root_of_generation}
 use Rattle.proof_updates.specs.Beneath.proof_generations.specs.Laws.Roots.{root_generation}
 use Rattle.proof_shape.specs.Lines.Commits.{OwnCommit, assigned_at}
 use Rattle.proof_updates.specs.Beneath.proof_generations.specs.Falling.{WasGiven}
@@ -33,8 +32,3 @@ abbrev pub SitesOfUpdates : Limits → (ℕ → State) → ℕ → (Ref → ℕ)
 SitesOfUpdates limits states last depth =
     (t : ℕ) (s : Step) → t < last → (own : OwnCommit limits states last (assigned_at states last) t s) → (path : List Ref) (former : Option ℕ) → own.why ≡ purpose.Update path former →
     (depth own.indirection ≡ depth_of path) × (depth own.indirection ≤ 13)
-
--- each handle's root is the one of its generation
-abbrev pub RootsAreKept : (ℕ → State) → ℕ → Type 0
-RootsAreKept states last =
-    (t handle : ℕ) (root : Root) → t ≤ last → root_at (states t) handle ≡ Some root → root_of_generation states last (root_generation (states t) root) ≡ root_of root.word

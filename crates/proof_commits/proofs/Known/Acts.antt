@@ -1,4 +1,4 @@
--- What other layers give, in their own words: and that the words of the heap that only grows are then known.
+-- What the action of an operation finds and does in the heap that only grows: so what is known of a run.
 use Rattle.std.proofs.Common.{◌≡◌, ℕ, suc, ◌<◌, ◌≤◌, Bool, true, false, ◌==◌, List, Option, Some, None, option_map, refl, sym, ◌∙◌, ap, subst, arith}
 use Rattle.std.specs.Prelude.{is_some}
 use Rattle.std.proofs.lemmas.Bool.{true≢false}
@@ -32,70 +32,13 @@ use Rattle.proof_commits.specs.Beneath.machine_model.specs.Moves.{Moves, begun_o
 use Rattle.proof_commits.specs.Beneath.machine_model.specs.Times.{IsRun}
 use Rattle.proof_commits.specs.Beneath.machine_model.specs.Grown.{standing, or_before, grown}
 use Rattle.proof_commits.specs.Beneath.machine_model.proofs.HeapMoves.{begin_heap, aborted_heap, offered_heap, completed_heap}
-use Rattle.proof_commits.proofs.Known.Given.{GrownStays, GrownChanges, GrownSwaps, FindsMain, FindsPrev, Either, Decided, Taken, ActsOn, IsNoGo, BuildsFrom, HasSolid, Known}
-use Rattle.proof_commits.proofs.Words.InHeap.{grown_standing, node_standing, prev_standing}
-use Rattle.proof_commits.proofs.Words.FromHeap.{main_here, main_other, prev_here, prev_other, freed_before}
+use Rattle.proof_commits.proofs.Known.Given.{GrownStays, GrownChanges, GrownSwaps, FindsMain, FindsPrev, Either, Decided, Taken, ActsOn, IsNoGo, RootsAreOpen, Known}
+use Rattle.proof_memory.proofs.Heap.Under.{main_here, main_other, prev_here, prev_other, freed_before}
+use Rattle.proof_commits.proofs.Known.Claims.{HasLink, HasMain, Finds, Draws, finds, draws, built_from, mains_stand}
 use Rattle.proof_memory.specs.Wants.{is_indirection}
 use Rattle.proof_memory.proofs.Heap.Under.{none_taken}
 use Rattle.proof_memory.proofs.Heap.Moves.{grown_same}
-
--- ---- what memory gives
-
--- an indirection stands under the reference
-pub record HasLink (state : State) (i : Ref) : Type 0 where
-  pub slot : Slot
-  pub stands : standing state.heap i ≡ Some slot
-  pub link : is_indirection slot.node ≡ true
-
--- what stands there isn't one
-pub record HasMain (state : State) (m : Ref) : Type 0 where
-  pub slot : Slot
-  pub stands : standing state.heap m ≡ Some slot
-  pub no_link : is_indirection slot.node ≡ false
-
--- the words that an action reads or writes are there
-abbrev pub Finds : State → Action → Type 0
-Finds state (act.ReadMain i) = HasLink state i
-Finds state (act.ReadPrev m) = HasMain state m
-Finds state (act.Publish i a f) = HasLink state i × HasMain state f
-Finds state (act.Restore i m p) = HasLink state i
-Finds state (act.Decide i m p told) = HasLink state i × HasMain state m
-Finds state action = Unit {0}
-
--- the reference that is drawn for a node was never drawn before, and what stands under any other stays
-pub record Draws (states : ℕ → State) (t : ℕ) (node : Node) (n : Ref) : Type 0 where
-  pub new : grown states t n ≡ None
-  pub birth : ℕ
-  pub here : standing (taken (states t).heap node) n ≡ Some (record { birth = birth; node = node; prev = over.None })
-  pub elsewhere : (q : Ref) → (q ≡ n → ⊥) → standing (taken (states t).heap node) q ≡ standing (states t).heap q
-
--- ---- what other layers give of a run
-
--- memory
-pub record Memory (limits : Limits) (states : ℕ → State) (last : ℕ) : Type 0 where
-  pub run : IsRun limits states last
-  -- what the action of a running operation reads or writes stands under its reference, and is what it is taken for
-  pub finds : (t : ℕ) → t < last → (actor : ℕ) (operation : Operation) → operation_of (states t) actor ≡ Some operation → Finds (states t) (action_of (states t) operation)
-  -- references are drawn once
-  pub draws : (t : ℕ) → t < last → (node : Node) (n : Ref) → next_ref (states t).heap ≡ Some n → Draws states t node n
-  -- what is to be replaced is a branch or a list
-  pub built_from : (t : ℕ) → t < last → (actor : ℕ) (operation : Operation) → operation_of (states t) actor ≡ Some operation → (main : Ref) →
-      BuildsFrom operation.line main → HasSolid (states t) main
-  -- the main word of an indirection in use names what is in use
-  pub mains_stand : (t : ℕ) → t ≤ last → (i : Ref) (slot : Slot) → standing (states t).heap i ≡ Some slot → is_indirection slot.node ≡ true →
-      (main : Slot) × (standing (states t).heap (main_of slot.node) ≡ Some main)
-
--- roots: where a READ on a writable handle asks for the root, and finds it with no offer, the root's generation wasn't closed before
-abbrev pub RootsAreOpen : (ℕ → State) → ℕ → (ℕ → Option ℕ) → Type 0
-RootsAreOpen states last closing =
-    (t : ℕ) → t < last → (actor : ℕ) (operation : Operation) → operation_of (states t) actor ≡ Some operation → (i main previous : Ref) →
-    read_of operation.line ≡ Some (record { indirection = i; line = read.AskRoot main previous }) → operation.access ≡ Writable → (r : Ref) →
-    word_at (states t) (handle_of operation.call) ≡ Plain r → (c : ℕ) → closing (generation_at (states t).heap r) ≡ Some c → t ≤ c
-
--- all of it
-pub record OtherLayers (limits : Limits) (states : ℕ → State) (last : ℕ) : Type 0 where
-  pub memory : Memory limits states last
-  pub roots : RootsAreOpen states last (λ g. closed_at (states last) g)
+use Rattle.proof_commits.specs.Beneath.machine_model.proofs.Grown.{grown_in_use, node_grown, prev_grown}
 
 -- ---- what a step leaves
 
@@ -121,7 +64,7 @@ module _ (states : ℕ → State) (t : ℕ) where
       grown states (suc t) q ≡ grown states t q
   unfolding grown
   stays_by q None e h = ap (λ x. or_before x (grown states t q)) e
-  stays_by q (Some slot) e h = ap (λ x. or_before x (grown states t q)) e ∙ sym (grown_standing states t q slot (h slot refl))
+  stays_by q (Some slot) e h = ap (λ x. or_before x (grown states t q)) e ∙ sym (grown_in_use states t q slot (h slot refl))
 
   -- what stands there stays in the heap that only grows
   stays_fewer : Fewer (states t).heap (states (suc t)).heap → GrownStays states t
@@ -133,19 +76,19 @@ module _ (states : ℕ → State) (t : ℕ) where
   becomes_at : (q : Ref) (was now : Slot) (change : Slot → Slot) → standing (states t).heap q ≡ Some was → standing (states (suc t)).heap q ≡ Some now → now ≡ change was →
       grown states (suc t) q ≡ option_map change (grown states t q)
   becomes_at q was now change before after is =
-      grown_standing states (suc t) q now after ∙ ap (λ (x : Slot). Some x) is ∙ sym (ap (option_map change) (grown_standing states t q was before))
+      grown_in_use states (suc t) q now after ∙ ap (λ (x : Slot). Some x) is ∙ sym (ap (option_map change) (grown_in_use states t q was before))
 
   finds_main : (i : Ref) → HasLink (states t) i → FindsMain states t i
   finds_main i h = record {
-    link = ap (λ o. is_indirection (node_of o)) (grown_standing states t i h.slot h.stands) ∙ h.link;
-    main = ap main_of (node_standing states t i h.slot h.stands);
+    link = ap (λ o. is_indirection (node_of o)) (grown_in_use states t i h.slot h.stands) ∙ h.link;
+    main = ap main_of (node_grown states t i h.slot h.stands);
   }
 
   finds_prev : (m : Ref) → HasMain (states t) m → FindsPrev states t m
   finds_prev m h = record {
-    made = ap is_some (grown_standing states t m h.slot h.stands);
-    no_link = ap (λ o. is_indirection (node_of o)) (grown_standing states t m h.slot h.stands) ∙ h.no_link;
-    prev = prev_standing states t m h.slot h.stands;
+    made = ap is_some (grown_in_use states t m h.slot h.stands);
+    no_link = ap (λ o. is_indirection (node_of o)) (grown_in_use states t m h.slot h.stands) ∙ h.no_link;
+    prev = prev_grown states t m h.slot h.stands;
   }
 
   -- ---- writes
@@ -155,14 +98,14 @@ module _ (states : ℕ → State) (t : ℕ) where
 
   main_written : (i x : Ref) → HasLink (states t) i → (states (suc t)).heap ≡ with_main H i x → GrownChanges states t (main_changed x) i
   main_written i x h e = record {
-    here = becomes_at i h.slot (main_changed x h.slot) (main_changed x) h.stands (ap (λ y. standing y i) e ∙ main_here H x i h.slot h.stands) refl;
-    elsewhere = λ q other. grown_same states t q (ap (λ y. standing y q) e ∙ main_other H x i h.slot h.stands q other);
+    here = becomes_at i h.slot (main_changed x h.slot) (main_changed x) h.stands (ap (λ y. standing y i) e ∙ main_here H i x h.slot h.stands) refl;
+    elsewhere = λ q other. grown_same states t q (ap (λ y. standing y q) e ∙ main_other H i x h.slot h.stands q other);
   }
 
   prev_written : (m : Ref) (v : Prev) → HasMain (states t) m → (states (suc t)).heap ≡ with_prev H m v → GrownChanges states t (prev_changed v) m
   prev_written m v h e = record {
-    here = becomes_at m h.slot (prev_changed v h.slot) (prev_changed v) h.stands (ap (λ y. standing y m) e ∙ prev_here H v m h.slot h.stands) refl;
-    elsewhere = λ q other. grown_same states t q (ap (λ y. standing y q) e ∙ prev_other H v m h.slot h.stands q other);
+    here = becomes_at m h.slot (prev_changed v h.slot) (prev_changed v) h.stands (ap (λ y. standing y m) e ∙ prev_here H m v h.slot h.stands) refl;
+    elsewhere = λ q other. grown_same states t q (ap (λ y. standing y q) e ∙ prev_other H m v h.slot h.stands q other);
   }
 
   -- an indirection isn't a main node
@@ -174,13 +117,13 @@ module _ (states : ℕ → State) (t : ℕ) where
   swap_written : (i a f : Ref) → HasLink (states t) i → HasMain (states t) f → (states (suc t)).heap ≡ with_prev (with_main H i f) f (over.Pending a) → GrownSwaps states t i a f
   swap_written i a f h g e =
       let apart = differ i f h g in
-      let fresh = main_other H f i h.slot h.stands f (λ same. apart (sym same)) ∙ g.stands in
-      let after = λ (q : Ref) (other : q ≡ f → ⊥). ap (λ y. standing y q) e ∙ prev_other (with_main H i f) (over.Pending a) f g.slot fresh q other in
+      let fresh = main_other H i f h.slot h.stands f (λ same. apart (sym same)) ∙ g.stands in
+      let after = λ (q : Ref) (other : q ≡ f → ⊥). ap (λ y. standing y q) e ∙ prev_other (with_main H i f) f (over.Pending a) g.slot fresh q other in
       record {
-        main = becomes_at i h.slot (main_changed f h.slot) (main_changed f) h.stands (after i apart ∙ main_here H f i h.slot h.stands) refl;
+        main = becomes_at i h.slot (main_changed f h.slot) (main_changed f) h.stands (after i apart ∙ main_here H i f h.slot h.stands) refl;
         prev = becomes_at f g.slot (prev_changed (over.Pending a) g.slot) (prev_changed (over.Pending a)) g.stands
-            (ap (λ y. standing y f) e ∙ prev_here (with_main H i f) (over.Pending a) f g.slot fresh) refl;
-        elsewhere = λ q x y. grown_same states t q (after q y ∙ main_other H f i h.slot h.stands q x);
+            (ap (λ y. standing y f) e ∙ prev_here (with_main H i f) f (over.Pending a) g.slot fresh) refl;
+        elsewhere = λ q x y. grown_same states t q (after q y ∙ main_other H i f h.slot h.stands q x);
       }
 
   swap_by : (i a f : Ref) → HasLink (states t) i → HasMain (states t) f → (b : Bool) →
@@ -199,13 +142,13 @@ module _ (states : ℕ → State) (t : ℕ) where
   decide_by m p h (Overtaken licensed) e = stays_same e
 
   take_by : (node : Node) → ((n : Ref) → next_ref H ≡ Some n → Draws states t node n) → (o : Option Ref) → next_ref H ≡ o → (states (suc t)).heap ≡ taken H node → Taken states t node o
-  take_by node draws None is e = stays_same (e ∙ none_taken H node is)
-  take_by node draws (Some n) is e =
-      let d = draws n is in
+  take_by node drawn None is e = stays_same (e ∙ none_taken H node is)
+  take_by node drawn (Some n) is e =
+      let d = drawn n is in
       record {
         new = d.new;
         birth = d.birth;
-        here = grown_standing states (suc t) n _ (ap (λ y. standing y n) e ∙ d.here);
+        here = grown_in_use states (suc t) n _ (ap (λ y. standing y n) e ∙ d.here);
         elsewhere = λ q other. grown_same states t q (ap (λ y. standing y q) e ∙ d.elsewhere q other);
       }
 
@@ -219,31 +162,31 @@ module _ (states : ℕ → State) (t : ℕ) where
 
   acts_by : ((node : Node) (n : Ref) → next_ref H ≡ Some n → Draws states t node n) → (X : State) → X.heap ≡ H → X.generations ≡ (states t).generations → (handle : ℕ) →
       (a : Action) → Finds (states t) a → (states (suc t)).heap ≡ (acted X handle a).heap → ActsOn states t a
-  acts_by draws X heap gens handle act.ReadRoot f e = stays_same (e ∙ heap)
-  acts_by draws X heap gens handle (act.Abort offer) f e = stays_same (e ∙ aborted_heap X handle offer ∙ heap)
-  acts_by draws X heap gens handle (act.Offer offer) f e = stays_same (e ∙ offered_heap X handle offer ∙ heap)
-  acts_by draws X heap gens handle (act.Complete offer main) f e = stays_same (e ∙ completed_heap X handle offer main ∙ heap)
-  acts_by draws X heap gens handle (act.ReadMain i) f e = (finds_main i f, stays_same (e ∙ heap))
-  acts_by draws X heap gens handle (act.ReadPrev m) f e = (finds_prev m f, stays_same (e ∙ heap))
-  acts_by draws X heap gens handle (act.Publish i a x) f e = (
+  acts_by drawn X heap gens handle act.ReadRoot f e = stays_same (e ∙ heap)
+  acts_by drawn X heap gens handle (act.Abort offer) f e = stays_same (e ∙ aborted_heap X handle offer ∙ heap)
+  acts_by drawn X heap gens handle (act.Offer offer) f e = stays_same (e ∙ offered_heap X handle offer ∙ heap)
+  acts_by drawn X heap gens handle (act.Complete offer main) f e = stays_same (e ∙ completed_heap X handle offer main ∙ heap)
+  acts_by drawn X heap gens handle (act.ReadMain i) f e = (finds_main i f, stays_same (e ∙ heap))
+  acts_by drawn X heap gens handle (act.ReadPrev m) f e = (finds_prev m f, stays_same (e ∙ heap))
+  acts_by drawn X heap gens handle (act.Publish i a x) f e = (
     finds_main i f.0,
     finds_prev x f.1,
     swap_by i a x f.0 f.1 (main_at H i == a) (e ∙ ap (λ y. if_changed (main_at y i == a) (with_prev (with_main y i x) x (over.Pending a)) y) heap),
   )
-  acts_by draws X heap gens handle (act.Restore i m p) f e =
+  acts_by drawn X heap gens handle (act.Restore i m p) f e =
       (finds_main i f, restore_by i p f (main_at H i == m) (e ∙ ap (λ y. if_changed (main_at y i == m) (with_main y i p) y) heap))
-  acts_by draws X heap gens handle (act.Decide i m p told) f e = (
+  acts_by drawn X heap gens handle (act.Decide i m p told) f e = (
     finds_main i f.0,
     finds_prev m f.1,
-    ap generation_of (node_standing states t i f.0.slot f.0.stands),
+    ap generation_of (node_grown states t i f.0.slot f.0.stands),
     decide_by m p f.1 (verdict H i m p told) (e ∙ ap (λ y. decided y m p (verdict y i m p told)) heap),
   )
-  acts_by draws X heap gens handle (act.Look r) f e = stays_same (e ∙ heap)
-  acts_by draws X heap gens handle (act.Make node) f e = take_by node (draws node) (next_ref H) refl (e ∙ ap (λ y. taken y node) heap)
-  acts_by draws X heap gens handle (act.MakeRoot main) f e =
-      take_by (Indirection (states t).generations main) (draws _) (next_ref H) refl
+  acts_by drawn X heap gens handle (act.Look r) f e = stays_same (e ∙ heap)
+  acts_by drawn X heap gens handle (act.Make node) f e = take_by node (drawn node) (next_ref H) refl (e ∙ ap (λ y. taken y node) heap)
+  acts_by drawn X heap gens handle (act.MakeRoot main) f e =
+      take_by (Indirection (states t).generations main) (drawn _) (next_ref H) refl
       (root_by X heap gens main (next_ref H) refl (e ∙ ap (λ y. (new_root_taken X main (next_ref y)).heap) heap))
-  acts_by draws X heap gens handle (act.End answer) f e = stays_same (e ∙ heap)
+  acts_by drawn X heap gens handle (act.End answer) f e = stays_same (e ∙ heap)
 
 -- the heap after a step of an operation
 record HeapAfter (before after : State) (operation : Operation) : Type 0 where
@@ -260,33 +203,31 @@ heap_after before actor o after (Ends {operation = x} {answer} d is a) operation
     subst (λ y. HeapAfter before after y) (same_Some _ _ (sym is ∙ runs))
     (record { state = before; heap = refl; generations = refl; is = ap (λ y. (acted before (handle_of x.call) y).heap) (sym a) })
 
--- then the words are known
-module _ (limits : Limits) (states : ℕ → State) (last : ℕ) (memory : Memory limits states last) where
-  pub memory_acts : (t : ℕ) → t < last → (actor : ℕ) (o : Outcome) → Moves (states t) (step.Go actor) o (states (suc t)) → (operation : Operation) →
+-- at a time of a run
+module _ (limits : Limits) (states : ℕ → State) (last : ℕ) (run : IsRun limits states last) where
+  pub acts_at : (t : ℕ) → t < last → (actor : ℕ) (o : Outcome) → Moves (states t) (step.Go actor) o (states (suc t)) → (operation : Operation) →
       operation_of (states t) actor ≡ Some operation → ActsOn states t (action_of (states t) operation)
-  memory_acts t h actor o m operation runs =
+  acts_at t h actor o m operation runs =
       let after = heap_after (states t) actor o (states (suc t)) m operation runs in
-      acts_by states t (memory.draws t h) after.state after.heap after.generations (handle_of operation.call) (action_of (states t) operation) (memory.finds t h actor operation runs) after.is
+      acts_by states t (draws limits states last run t h) after.state after.heap after.generations (handle_of operation.call) (action_of (states t) operation)
+      (finds limits states last run t h actor operation runs) after.is
 
-  pub memory_stays : (t : ℕ) → t < last → (s : Step) (o : Outcome) → Moves (states t) s o (states (suc t)) → IsNoGo s → GrownStays states t
-  memory_stays t h s o m n = stays_fewer states t (fewer (states t) s o (states (suc t)) m n)
+  pub stays_at : (t : ℕ) → t < last → (s : Step) (o : Outcome) → Moves (states t) s o (states (suc t)) → IsNoGo s → GrownStays states t
+  stays_at t h s o m n = stays_fewer states t (fewer (states t) s o (states (suc t)) m n)
 
   -- as far as closings are told
   abbrev pub known_by : (closing : ℕ → Option ℕ) → RootsAreOpen states last closing → Known limits states last
   known_by closing roots = record {
-    run = memory.run;
+    run = run;
     closing = closing;
-    acts = memory_acts;
-    stays = memory_stays;
-    built_from = memory.built_from;
-    mains_stand = memory.mains_stand;
+    acts = acts_at;
+    stays = stays_at;
+    built_from = built_from limits states last run;
+    mains_stand = mains_stand limits states last run;
     open_root = roots;
   }
 
--- from memory alone nothing is told of closings
-abbrev pub known_of_memory : (limits : Limits) (states : ℕ → State) (last : ℕ) → Memory limits states last → Known limits states last
-known_of_memory limits states last memory =
-    known_by limits states last memory (λ g. None) (λ t h actor operation runs i main previous asks writable r plain c closed. absurd (none-some c closed))
-
-abbrev pub known : (limits : Limits) (states : ℕ → State) (last : ℕ) → OtherLayers limits states last → Known limits states last
-known limits states last layers = known_by limits states last layers.memory (λ g. closed_at (states last) g) layers.roots
+-- where nothing is told of closings
+abbrev pub known_run : (limits : Limits) (states : ℕ → State) (last : ℕ) → IsRun limits states last → Known limits states last
+known_run limits states last run =
+    known_by limits states last run (λ g. None) (λ t h actor operation runs i main previous asks writable r plain c closed. absurd (none-some c closed))

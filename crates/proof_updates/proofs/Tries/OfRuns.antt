@@ -1,4 +1,4 @@
--- What is shown of contents over a run whose keys have 64 bits, put together with the layers below.
+-- The laws of contents over a run whose keys have 64 bits.
 use Rattle.std.specs.Prelude.{ℕ, ◌<◌, ◌≤◌, ◌^◌}
 use Rattle.proof_updates.specs.Beneath.slot_arena.specs.declared.refs.Ref.{Ref}
 use Rattle.proof_updates.specs.Beneath.machine_model.specs.declared.operations.Operation.{Operation}
@@ -9,8 +9,6 @@ use Rattle.proof_updates.specs.Beneath.machine_model.specs.States.{State}
 use Rattle.proof_updates.specs.Beneath.machine_model.specs.Times.{IsRun}
 use Rattle.proof_updates.specs.Beneath.proof_contents.specs.Steps.{IsTrie}
 use Rattle.proof_updates.specs.Beneath.proof_generations.specs.Running.{Runs}
-use Rattle.proof_shape.specs.Lines.Commits.{CommitsAt, assigned_at}
-use Rattle.proof_shape.proofs.Held.Commits.{fresh_commits_at}
 use Rattle.proof_updates.specs.Beneath.proof_generations.specs.Falling.{SwapsInOwnGeneration, GivenForEver}
 use Rattle.proof_updates.specs.Beneath.proof_generations.proofs.Falling.Final.{given_for_ever}
 use Rattle.proof_updates.specs.Beneath.proof_generations.proofs.Falling.OwnSwaps.{swaps_in_own_generation}
@@ -18,9 +16,9 @@ use Rattle.proof_shape.specs.Sites.Nodes.{depth_of_run, path_of_run}
 use Rattle.proof_shape.specs.Sites.At.{TakesSteps, StepsFit}
 use Rattle.proof_shape.specs.Shaped.{HasShape, trie_of_run}
 use Rattle.proof_shape.proofs.Shaped.Trie.{runs_have_shape}
-use Rattle.proof_updates.specs.Taken.{RepairsAreKnown, SitesOfUpdates, RootsAreKept}
+use Rattle.proof_updates.specs.Commits.{SitesOfUpdates}
 use Rattle.proof_updates.specs.Updates as law
-use Rattle.proof_updates.proofs.Tries.Taken.{repairs_are_known, roots_are_kept, sites_of_updates, keys_of_operations}
+use Rattle.proof_updates.proofs.Tries.Commits.{sites_of_updates, keys_of_operations}
 use Rattle.proof_updates.proofs.Tries.Updates.{trie_ok}
 use Rattle.proof_updates.proofs.Tries.Updates as updates
 use Rattle.proof_updates.proofs.Tries.Facts as facts
@@ -34,48 +32,33 @@ module _ (limits : Limits) (states : ℕ → State) (steps : ℕ → Step) (last
   abbrev path : Ref → ℕ
   path = path_of_run states steps last
 
-  commits : CommitsAt limits states last (assigned_at states last)
-  commits = fresh_commits_at limits states last run
-
-  swaps : SwapsInOwnGeneration states last
-  swaps = swaps_in_own_generation limits states last run
-
-  given : RepairsAreKnown limits states last
-  given = repairs_are_known limits states last run
-
   sites : SitesOfUpdates limits states last (depth_of_run states steps last)
   sites = sites_of_updates limits states last run steps takes keys
 
   shape : HasShape (trie_of_run limits states steps last)
   shape = runs_have_shape limits states steps last run takes keys
 
-  final : GivenForEver states last
-  final = given_for_ever limits states last run
-
-  roots : RootsAreKept states last
-  roots = roots_are_kept limits states last run
-
   fits : (t : ℕ) → t ≤ last → (k : ℕ) (operation : Operation) → Runs (states t) k operation → key_of operation.call < 2 ^ 64
   fits = keys_of_operations limits states last run steps takes keys
 
   -- the trie is as contents ask for it: each step leaves the main nodes, repairs one, or updates a key in one
   pub is_trie : IsTrie (trie_of_run limits states steps last)
-  is_trie = trie_ok limits states last depth path run commits swaps given sites shape
+  is_trie = trie_ok limits states last depth path run sites shape
 
   pub paths_lie : law.PathsLie states last (trie_of_run limits states steps last)
-  paths_lie = paths.paths_lie limits states last depth path run is_trie final roots
+  paths_lie = paths.paths_lie limits states last depth path run is_trie
 
   pub keys_look : law.KeysLook states last (trie_of_run limits states steps last)
-  keys_look = paths.keys_look limits states last depth path run is_trie final roots
+  keys_look = paths.keys_look limits states last depth path run is_trie
 
   pub updates_at : law.UpdatesAt limits states last (trie_of_run limits states steps last)
-  updates_at = updates.updates_at limits states last depth path run commits swaps given sites shape final roots fits
+  updates_at = updates.updates_at limits states last depth path run sites shape fits
 
   pub steps_keep : law.StepsKeep states last (trie_of_run limits states steps last)
-  steps_keep = facts.steps_keep limits states last depth path run commits swaps given sites shape
+  steps_keep = facts.steps_keep limits states last depth path run sites shape
 
   pub updates_follow : law.UpdatesFollow limits states last (trie_of_run limits states steps last)
-  updates_follow = facts.updates_follow limits states last depth path run commits swaps given sites shape final roots fits
+  updates_follow = facts.updates_follow limits states last depth path run sites shape fits
 
   pub replies_right : law.RepliesRight limits states last (trie_of_run limits states steps last)
-  replies_right = replies.replies_right limits states last depth path run is_trie commits final roots fits
+  replies_right = replies.replies_right limits states last depth path run is_trie fits

@@ -1,4 +1,4 @@
--- What the layers below show, in the words in which it is taken here.
+-- What is known of a node that its owner commits: what a repair was given, at which depth a change is swapped in; and that keys have 64 bits.
 use Rattle.std.specs.Prelude.{ℕ, suc, ◌<◌, ◌≤◌, ◌^◌}
 use Rattle.std.proofs.Common.{refl, ap, arith, ◌∙◌}
 use Rattle.proof_updates.specs.Beneath.slot_arena.specs.declared.refs.Ref.{Ref}
@@ -28,7 +28,7 @@ use Rattle.proof_order.proofs.Openings.RootOf.{roots_are_one}
 use Rattle.proof_shape.specs.Sites.Nodes.{depth_of_run}
 use Rattle.proof_shape.specs.Sites.At.{TakesSteps, StepsFit}
 use Rattle.proof_shape.proofs.Sites.At.{lines_have_sites, updates_have_sites}
-use Rattle.proof_updates.specs.Taken.{IsRepairing, RepairsAreKnown, SitesOfUpdates, RootsAreKept}
+use Rattle.proof_updates.specs.Commits.{IsRepairing, RepairsAreKnown, SitesOfUpdates}
 
 -- ---- repairs
 
@@ -77,12 +77,6 @@ module _ (limits : Limits) (states : ℕ → State) (last : ℕ) (run : IsRun li
           (line.Swap purpose.Clean (record { indirection = own.indirection; replaced = own.replaced; fresh = own.fresh; line = swap.Check })) k
       by (purpose.Update path former) r k = absurd r
       by (purpose.Climb c) r k = absurd r
-
-  -- ---- roots
-
-  pub roots_are_kept : RootsAreKept states last
-  roots_are_kept t handle root within e =
-      (roots_are_one limits states last run t handle (root_of root.word) (root_generation (states t) root) within (record { root = root; is_open = e; is = refl; its = refl })).0
 
   -- ---- sites
 
