@@ -1,5 +1,5 @@
 -- An operation that goes on alone ends, by the law.
-use Rattle.std.proofs.Common.{◌≡◌, ℕ, zero, suc, ◌+◌, ◌<◌, List, ◌∷◌, [], ◌++◌, replicate, Option, Some, None, Result, Ok, Err, inl, inr, refl, sym, ap, subst, ◌∙◌, append_assoc, arith}
+use Rattle.std.proofs.Common.{◌≡◌, ℕ, zero, suc, ◌+◌, ◌<◌, ◌≤◌, List, ◌∷◌, [], ◌++◌, replicate, Option, Some, None, Result, Ok, Err, OnOk, inl, inr, refl, sym, ap, subst, ◌∙◌, append_assoc, arith}
 use Rattle.std.proofs.lemmas.List.{append-nil, replicate-append-replicate}
 use Rattle.ctrie_base.specs.declared.refusals.Refusal.{Refusal}
 use Rattle.ctrie_base.specs.declared.refusals.Refusal.TheVariants as refuse
@@ -12,21 +12,22 @@ use Rattle.machine_model.specs.declared.steps.Outcome.{Outcome}
 use Rattle.machine_model.specs.declared.steps.Outcome.TheVariants as outcome
 use Rattle.machine_model.specs.Keys.{FitsKey, KeysFit}
 use Rattle.machine_model.proofs.Moves.{moved}
-use Rattle.machine_model.specs.Moves.{begun_operation}
+use Rattle.machine_model.specs.Acting.{ended as ended_state}
+use Rattle.machine_model.specs.Moves.{Moves, Begins, Goes, Ends, Sweeps, begun_operation}
 use Rattle.machine_model.specs.Counting.{settled}
 use Rattle.machine_model.specs.Going.{go_limit}
 use Rattle.machine_model.specs.Machine.{AreLimits, next, begin_denial, begin_unless, with_begin}
 use Rattle.machine_model.specs.States.{State, operation_of}
-use Rattle.step_machine.specs.Beneath.proof_commits.proofs.Known.StepsAt.{begin_own}
+use Rattle.step_machine.specs.Beneath.proof_commits.proofs.Known.StepsAt.{begin_own, end_own}
 use Rattle.step_machine.specs.Beneath.proof_order.proofs.Views.Unconditional.{books_of}
 use Rattle.step_machine.specs.Beneath.proof_order.proofs.History.Recalling.{begin_event}
 use Rattle.std.proofs.lemmas.List.Elements.{All-push}
 use Rattle.std.proofs.lemmas.Option.{none-some}
 use Rattle.step_machine.proofs.Telling.{stepped, begun_runs}
-use Rattle.proof_obstruction_free.specs.Laws.{EachStepLeadsToItsEnd, GoesOnAt, RunsAlone, most_steps_alone}
-use Rattle.step_machine.specs.Machines.{Taken, state_of, with_step}
+use Rattle.proof_obstruction_free.specs.Laws.{EachStepLeadsToItsEnd, EndsAt, GoesOnAt, RunsAlone, most_steps_alone}
+use Rattle.step_machine.specs.Machines.{Taken, state_of, with_step, Applied}
 use Rattle.step_machine.specs.Callers.{going_on, Resumes, Completes, CompletesUnless}
-use Rattle.step_machine.specs.Ending.{IsSure, IsAnswer}
+use Rattle.step_machine.specs.Ending.{EndsIfSure, EndsIn, IsAnswer, IsNearer, IsSure}
 use Rattle.step_machine.proofs.Going.{goes, ends}
 
 -- one step more of the same
@@ -34,6 +35,18 @@ more : (n : ℕ) (s : Step) (xs : List Step) → (xs ++ replicate n s) ++ s ∷ 
 more n s xs =
     let one : n + 1 ≡ suc n = omega arith in
     append_assoc xs (replicate n s) (s ∷ []) ∙ ap (λ l. xs ++ l) (replicate-append-replicate n 1 s ∙ ap (λ m. replicate m s) one)
+
+-- the actor runs nothing behind the end of its operation
+idle_by : (state : State) (s : Step) (o : Outcome) (after : State) → Moves state s o after → (actor id : ℕ) (answer : Reply) → s ≡ step.Go actor → o ≡ outcome.Ended id answer →
+    operation_of after actor ≡ None
+idle_by state s o after (Begins d) actor id answer is told = cc is
+idle_by state s o after (Sweeps d) actor id answer is told = cc is
+idle_by state s o after (Goes d found a g) actor id answer is told = cc told
+idle_by state s o after (Ends {actor = who} {operation} {answer = said} d found a) actor id answer is told =
+    let whose : who ≡ actor = cc is in subst (λ a. operation_of (settled state (ended_state state who operation said)) a ≡ None) whose (end_own state who operation said)
+
+idle_behind : (state : State) (actor id : ℕ) (answer : Reply) (after : State) → next state (step.Go actor) ≡ Ok (outcome.Ended id answer, after) → operation_of after actor ≡ None
+idle_behind state actor id answer after e = idle_by state (step.Go actor) _ after (moved state (step.Go actor) _ after e) actor id answer refl refl
 
 module _ (machine : Taken) (actor : ℕ) where
   -- the machine after so many steps of this actor
@@ -56,6 +69,16 @@ module _ (machine : Taken) (actor : ℕ) where
       subst (λ m. going_on m actor machine ≡ (Ok None, after (suc n))) one
       (goes n actor (outcome.Went kind) machine (after n) (after (suc n)) (going n (λ k h. on k (omega (arith, h)))) (one_more n, step) (λ id answer e. cc e))
 
+  -- behind so many of the steps that go on, so many are left up to the one that ends the operation
+  left : (m k n id : ℕ) → k + m ≡ n → ((j : ℕ) → j < n → GoesOnAt machine.limits machine.steps actor j) → EndsAt machine.limits machine.steps actor id n → EndsIn (suc m) actor (after k)
+  unfolding EndsIn
+  left zero k n id sum on last =
+      let at_end : k ≡ n = omega (arith, sum) in
+      subst (λ j. EndsIn 1 actor (after j)) (sym at_end)
+      (rw last.1 refl, subst (λ m. operation_of (state_of m) actor ≡ None) (one_more n) (idle_behind (state_of (after n)) actor id last.0 (state_of (after (suc n))) last.1))
+  left (suc m) k n id sum on last =
+      (rw (on k (omega (arith, sum))).1 refl, subst (EndsIn (suc m) actor) (one_more k) (left m (suc k) n id (omega (arith, sum)) on last))
+
   module _ (law : EachStepLeadsToItsEnd) (sizes : AreLimits machine.limits) (keys : KeysFit machine.steps) (operation : Operation)
       (runs : operation_of (state_of machine) actor ≡ Some operation) (sure : IsSure (state_of machine) operation.call most_steps_alone) where
     -- the steps come to the end
@@ -65,6 +88,13 @@ module _ (machine : Taken) (actor : ℕ) where
         let (n, few, on, last) = law machine.limits machine.steps actor operation facts in
         let within : n < go_limit = omega (arith, few) in
         (last.0, after (suc n), ends n actor operation.id last.0 (outcome.Ended operation.id last.0) machine (after n) (after (suc n)) within (going n on) refl (one_more n, last.1))
+
+    -- and none of them is denied
+    pub ends_in : (n : ℕ) × (n ≤ most_steps_alone) × EndsIn n actor machine
+    ends_in =
+        let facts : RunsAlone machine.limits machine.steps actor operation = record { limits_ok = sizes; keys_fit = keys; runs = runs; call = sure.0; left = sure.1 } in
+        let (n, few, on, last) = law machine.limits machine.steps actor operation facts in
+        (suc n, omega (arith, few), subst (EndsIn (suc n) actor) begins (left n 0 n operation.id (omega arith) on last))
 
     -- so that is what they come to
     must_be : (result : Result (Option Reply) Refusal) (to : Taken) → going_on go_limit actor machine ≡ (result, to) → (answer : Reply) × (result ≡ Ok (Some answer))
@@ -129,3 +159,16 @@ module _ (law : EachStepLeadsToItsEnd) (before after : Taken) (actor : ℕ) (cal
 
   pub completed : (result : Result (Option Reply) Refusal) → Completes result before actor call after → IsAnswer (begin_denial (state_of before) actor call) result
   completed result c = by_denial (begin_denial (state_of before) actor call) refl result c
+
+-- ---- a step of it
+
+pub ends_if_sure : EachStepLeadsToItsEnd → (machine : Taken) → AreLimits machine.limits → KeysFit machine.steps → (actor : ℕ) → EndsIfSure machine actor
+ends_if_sure law machine sizes keys actor operation runs sure = ends_in machine actor law sizes keys operation runs sure
+
+pub is_nearer : (before : Taken) (s : Step) (after : Taken) → after ≡ with_step before s → IsNearer before s after
+unfolding EndsIn
+is_nearer before s after is actor n own ends = subst (EndsIn n actor) (sym (is ∙ ap (with_step before) own)) ends.1
+
+pub if_nearer : (result : Result Outcome Refusal) (before : Taken) (s : Step) (after : Taken) → Applied result before s after → OnOk result (IsNearer before s after)
+if_nearer (Ok o) before s after is = is_nearer before s after is.0
+if_nearer (Err why) before s after is = tt

@@ -1,28 +1,32 @@
 -- The legal order of a machine, from the laws.
-use Rattle.std.specs.Prelude.{◌≡◌, ℕ, List, ◌++◌, Option, Some, None, Result, Ok, Err, IfOk, OnOk, IsSome, Vec, false}
+use Rattle.std.specs.Prelude.{◌≡◌, ℕ, List, ◌++◌, Option, Some, None, option_map, Result, Ok, Err, IfOk, IfErr, Vec, false}
 use Rattle.std.specs.FinMap as map
-use Rattle.std.proofs.Common.{refl, sym, ap, subst, ◌∙◌, inl, inr}
+use Rattle.std.proofs.Common.{refl, sym, ap, subst, ◌∙◌, inl, inr, arith}
 use Rattle.std.specs.declared.alloc.Global.{Global}
 use Rattle.ctrie_base.specs.Hashes.{hash_of}
 use Rattle.ctrie_base.specs.declared.refusals.Refusal.{Refusal}
+use Rattle.ctrie_base.specs.declared.refusals.Refusal.TheVariants.{NoHandle}
+use Rattle.history.specs.declared.calls.Access.TheVariants.{Writable}
 use Rattle.history.specs.declared.calls.Call.{Call}
 use Rattle.history.specs.declared.replies.Reply.{Reply}
-use Rattle.history.specs.Worlds.{HandleMap}
-use Rattle.history.specs.Orders.{IsLegal}
+use Rattle.history.specs.Worlds.{HandleState, HandleMap}
+use Rattle.history.specs.Orders.{Explains}
 use Rattle.machine_model.specs.declared.roots.Root.{Root}
+use Rattle.machine_model.specs.declared.steps.Limits.{Limits}
 use Rattle.machine_model.specs.declared.steps.Step.TheVariants as step
 use Rattle.machine_model.specs.States.{State, root_at}
 use Rattle.machine_model.specs.Orders.{order_of}
 use Rattle.machine_model.specs.Contents.{content_at}
 use Rattle.machine_model.specs.Keys.{KeysFit}
-use Rattle.machine_model.specs.Machine.{AreLimits, next, begin_denial, begin_unless, is_busy, run}
+use Rattle.machine_model.specs.Machine.{AreLimits, next, access_of, begin_denial, begin_unless, is_access, is_busy, run}
+use Rattle.machine_model.specs.Refusing.{RefusesContent}
 use Rattle.step_machine.specs.Beneath.proof_order.specs.Laws.Orders.{Names, ShowsContents, IsExplained}
 use Rattle.proof_linearizable.specs.Laws.{AloneItActs, RanAlone, Does}
 use Rattle.step_machine.specs.Machines.{Taken, state_of, with_step}
 use Rattle.step_machine.specs.Callers.{Resumes, Completes, CompletesUnless}
 use Rattle.step_machine.specs.declared.records.Record.{Record}
 use Rattle.step_machine.specs.Records.{IsRecordOf}
-use Rattle.step_machine.specs.Legality.{IsLegalFor, IsLegalRecord, IsInOrder, ActedAlone}
+use Rattle.step_machine.specs.Legality.{IsLegalFor, IsLegalRecord, LeadsToContents, InOrder, IsInOrder, writable_in, ActedAlone}
 use Rattle.step_machine.proofs.Telling.{Tells, tells}
 
 module _ (machine : Taken) (explained : IsExplained machine.limits (state_of machine)) where
@@ -33,24 +37,49 @@ module _ (machine : Taken) (explained : IsExplained machine.limits (state_of mac
   if_legal (Ok order) is = legal order.items is
   if_legal (Err why) is = tt
 
-  in_order : (handle : ℕ) (pairs : List (ℕ × ℕ)) (o : Option Root) → root_at (state_of machine) handle ≡ o → IsSome o → pairs ≡ content_at (state_of machine) handle → IsInOrder machine handle pairs
-  in_order handle pairs None is_open some is = cc some
-  in_order handle pairs (Some root) is_open some is =
-      let (world, explains, shows) = explained in
-      let (m, at, same) = subst (λ o. Names o (content_at (state_of machine) handle) (map.get world handle)) is_open (shows handle) in
-      (world, explains, (root.access, m, at, same ∙ sym is))
+  pub if_leads : (result : Result (Vec ℕ Global) Refusal) → IfOk result (λ order. order.items ≡ order_of (state_of machine)) → IfOk result (λ order. LeadsToContents machine order.items)
+  if_leads (Ok order) is = subst (LeadsToContents machine) (sym is) explained
+  if_leads (Err why) is = tt
 
   pub if_in_order : (handle : ℕ) (result : Result (Vec (ℕ × ℕ) Global) Refusal) → IfOk result (λ pairs. pairs.items ≡ content_at (state_of machine) handle) →
-      OnOk result (IsSome (root_at (state_of machine) handle)) → IfOk result (λ pairs. IsInOrder machine handle pairs.items)
-  if_in_order handle (Ok pairs) is is_open = in_order handle pairs.items (root_at (state_of machine) handle) refl is_open is
-  if_in_order handle (Err why) is is_open = tt
+      IfOk result (λ pairs. IsInOrder machine handle pairs.items)
+  if_in_order handle (Ok pairs) is = subst (IsInOrder machine handle) (sym is) (explained.0, explained.1, explained.2 handle)
+  if_in_order handle (Err why) is = tt
+
+  -- a handle that isn't open isn't in the world
+  closed : (handle : ℕ) → root_at (state_of machine) handle ≡ None → InOrder machine (λ world. map.get world handle ≡ None)
+  closed handle is =
+      let (world, explains, shows) = explained in
+      (world, explains, subst (λ o. Names o (content_at (state_of machine) handle) (map.get world handle)) is (shows handle))
+
+  closed_by : (handle : ℕ) (why : Refusal) → RefusesContent (state_of machine) handle why → why ≡ NoHandle → InOrder machine (λ world. map.get world handle ≡ None)
+  closed_by handle why (inl none) is = closed handle none.0
+  closed_by handle why (inr lacking) is = let other = lacking.1 in absurd (grind (arith, other, is))
+
+  pub if_closed : {A : Type 0} (handle : ℕ) (result : Result A Refusal) → IfErr result (λ why. RefusesContent (state_of machine) handle why) →
+      IfErr result (λ why. why ≡ NoHandle → InOrder machine (λ world. map.get world handle ≡ None))
+  if_closed handle (Ok pairs) why = tt
+  if_closed handle (Err refusal) why = closed_by handle refusal why
+
+  -- it is writable there where it is here
+  writable_by : (o : Option Root) (pairs : List (ℕ × ℕ)) (shown : Option HandleState) → Names o pairs shown →
+      option_map (λ access. is_access Writable (Some access)) (access_of o) ≡ option_map (λ s. is_access Writable (Some s.access)) shown
+  writable_by None pairs shown names = rw names refl
+  writable_by (Some root) pairs shown (m, is, same) = rw is refl
+
+  pub kind_in_order : (handle : ℕ) → InOrder machine (λ world. option_map (λ access. is_access Writable (Some access)) (access_of (root_at (state_of machine) handle)) ≡ writable_in world handle)
+  kind_in_order handle =
+      let (world, explains, shows) = explained in
+      (world, explains, writable_by (root_at (state_of machine) handle) (content_at (state_of machine) handle) (map.get world handle) (shows handle))
 
 -- ---- a record
 
 record_legal : (machine : Taken) → IsExplained machine.limits (state_of machine) → (made : Record) → IsRecordOf machine made → IsLegalRecord made
-record_legal machine explained made is =
-    subst (λ sizes. IsLegal (hash_of sizes.hash) made.events.items made.order.items) (sym is.sizes)
-    (subst (λ events. IsLegal (hash_of machine.limits.hash) events made.order.items) (sym is.history) (legal machine explained made.order.items is.order))
+record_legal machine (world, explains, shows) made is =
+    let by_hash = subst (λ (sizes : Limits). Explains (hash_of sizes.hash) (state_of machine).events (order_of (state_of machine)) world) (sym is.sizes) explains in
+    let by_events = subst (λ events. Explains (hash_of made.limits.hash) events (order_of (state_of machine)) world) (sym is.history) by_hash in
+    let by_order = subst (λ order. Explains (hash_of made.limits.hash) made.events.items order world) (sym is.order) by_events in
+    (world, by_order, subst (λ steps. ShowsContents world (run made.limits steps)) (sym is.path) (subst (λ (sizes : Limits). ShowsContents world (run sizes machine.steps)) (sym is.sizes) shows))
 
 pub if_record_legal : (machine : Taken) → IsExplained machine.limits (state_of machine) → (result : Result Record Refusal) → IfOk result (IsRecordOf machine) → IfOk result IsLegalRecord
 if_record_legal machine explained (Ok made) is = record_legal machine explained made is

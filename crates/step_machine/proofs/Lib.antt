@@ -8,3 +8,4 @@ pub mod Reclaiming
 pub mod Telling
 pub mod Legality
 pub mod Ending
+pub mod Applying

@@ -1,14 +1,16 @@
--- Calls that are sure to end where their actor alone takes steps.
-use Rattle.std.specs.Prelude.{◌≡◌, ℕ, ◌+◌, ◌≤◌, ◌⊎◌, Option, Some, None, Result, Ok, Err}
+-- Operations and calls that are sure to end where their actor alone takes steps.
+use Rattle.std.specs.Prelude.{◌≡◌, ℕ, zero, suc, ◌+◌, ◌≤◌, ◌⊎◌, Option, Some, None, Result, Ok, Err}
 use Rattle.ctrie_base.specs.declared.refusals.Refusal.{Refusal}
 use Rattle.ctrie_base.specs.declared.refusals.Refusal.TheVariants.{Memory}
 use Rattle.history.specs.declared.calls.Call.{Call}
 use Rattle.history.specs.declared.replies.Reply.{Reply}
 use Rattle.machine_model.specs.declared.operations.Operation.{Operation}
+use Rattle.machine_model.specs.declared.steps.Step.{Step}
+use Rattle.machine_model.specs.declared.steps.Step.TheVariants.{Go}
 use Rattle.machine_model.specs.Machine.{begin_denial}
 use Rattle.machine_model.specs.States.{State, operation_of, step_limit}
 use Rattle.proof_obstruction_free.specs.Laws.{IsOnKeyOrRoot, most_steps_alone}
-use Rattle.step_machine.specs.Machines.{Taken, state_of}
+use Rattle.step_machine.specs.Machines.{Taken, state_of, with_step, IsTaken}
 
 -- a call on one key, a snapshot, a freeze or a clear, while so many steps are left
 abbrev pub IsSure : State → Call → ℕ → Type 0
@@ -28,3 +30,20 @@ CompletesIfSure machine actor call result = IsSure (state_of machine) call (1 + 
 abbrev pub ResumesIfSure : Taken → ℕ → Result (Option Reply) Refusal → Type 0
 ResumesIfSure machine actor result =
     (operation : Operation) → operation_of (state_of machine) actor ≡ Some operation → IsSure (state_of machine) operation.call most_steps_alone → IsAnswer None result
+
+-- ---- step by step
+
+-- so many steps of the actor alone, none of which is denied, end its operation
+unfoldable pub EndsIn : ℕ → ℕ → Taken → Type 0
+EndsIn zero actor machine = operation_of (state_of machine) actor ≡ None
+EndsIn (suc n) actor machine = IsTaken (state_of machine) (Go actor) × EndsIn n actor (with_step machine (Go actor))
+
+-- an operation that is sure to end does so in so many steps of its actor alone: 3,962 at most
+abbrev pub EndsIfSure : Taken → ℕ → Type 0
+EndsIfSure machine actor =
+    (operation : Operation) → operation_of (state_of machine) actor ≡ Some operation → IsSure (state_of machine) operation.call most_steps_alone →
+    (n : ℕ) × (n ≤ most_steps_alone) × EndsIn n actor machine
+
+-- once the actor has taken one of them, it is one less
+abbrev pub IsNearer : Taken → Step → Taken → Type 0
+IsNearer before step after = (actor n : ℕ) → step ≡ Go actor → EndsIn (suc n) actor before → EndsIn n actor after
