@@ -45,7 +45,7 @@ idle_by state s o after (Goes d found a g) actor id answer is told = cc told
 idle_by state s o after (Ends {actor = who} {operation} {answer = said} d found a) actor id answer is told =
     let whose : who ≡ actor = cc is in subst (λ a. operation_of (settled state (ended_state state who operation said)) a ≡ None) whose (end_own state who operation said)
 
-idle_behind : (state : State) (actor id : ℕ) (answer : Reply) (after : State) → next state (step.Go actor) ≡ Ok (outcome.Ended id answer, after) → operation_of after actor ≡ None
+pub idle_behind : (state : State) (actor id : ℕ) (answer : Reply) (after : State) → next state (step.Go actor) ≡ Ok (outcome.Ended id answer, after) → operation_of after actor ≡ None
 idle_behind state actor id answer after e = idle_by state (step.Go actor) _ after (moved state (step.Go actor) _ after e) actor id answer refl refl
 
 module _ (machine : Taken) (actor : ℕ) where

@@ -9,3 +9,4 @@ pub mod Telling
 pub mod Legality
 pub mod Ending
 pub mod Applying
+pub mod Resting

@@ -1,5 +1,5 @@
 -- The legal order, of a machine at any time, and what a call does that runs alone.
-use Rattle.std.specs.Prelude.{ℕ, Bool, List, Option, Some, option_map, Result, Ok}
+use Rattle.std.specs.Prelude.{◌≡◌, ℕ, Bool, false, List, Option, Some, None, option_map, Result, Ok}
 use Rattle.std.specs.FinMap as map
 use Rattle.ctrie_base.specs.Hashes.{hash_of}
 use Rattle.ctrie_base.specs.declared.refusals.Refusal.{Refusal}
@@ -8,13 +8,15 @@ use Rattle.history.specs.declared.calls.Call.{Call}
 use Rattle.history.specs.declared.replies.Reply.{Reply}
 use Rattle.history.specs.Worlds.{HandleMap}
 use Rattle.history.specs.Orders.{Explains, IsLegal}
-use Rattle.machine_model.specs.Machine.{run, is_access}
+use Rattle.machine_model.specs.declared.steps.Step.TheVariants.{Begin}
+use Rattle.machine_model.specs.Machine.{run, is_access, is_busy}
 use Rattle.machine_model.specs.Orders.{order_of}
 use Rattle.machine_model.specs.States.{root_at}
 use Rattle.step_machine.specs.Beneath.proof_order.specs.Laws.Orders.{Names, ShowsContents}
 use Rattle.proof_linearizable.specs.Laws.{Does}
 use Rattle.step_machine.specs.declared.records.Record.{Record}
-use Rattle.step_machine.specs.Machines.{Taken, state_of}
+use Rattle.step_machine.specs.Machines.{Taken, state_of, with_step}
+use Rattle.step_machine.specs.Callers.{going_on}
 
 -- the order is legal for what the machine has recorded
 abbrev pub IsLegalFor : Taken → List ℕ → Type 0
@@ -49,3 +51,12 @@ ActedAlone (Ok (Some answer)) before call after =
     (id : ℕ) × (opens : Option ℕ) × (world next : HandleMap) × ShowsContents world (state_of before) × ShowsContents next (state_of after)
     × Does (hash_of before.limits.hash) (state_of before) (state_of after) id call opens answer world next
 ActedAlone result before call after = Unit {0}
+
+-- the call began where the earlier machine was at rest, and since then only its actor has taken steps, which haven't ended it
+abbrev pub WentAlone : Taken → ℕ → Call → Taken → Type 0
+WentAlone before actor call machine = (is_busy (state_of before) ≡ false) × ((n : ℕ) × (going_on n actor (with_step before (Begin actor call)) ≡ (Ok None, machine)))
+
+-- where there is an answer, nothing runs any more
+abbrev pub RestsIfAnswered : Result (Option Reply) Refusal → Taken → Type 0
+RestsIfAnswered (Ok (Some answer)) after = is_busy (state_of after) ≡ false
+RestsIfAnswered result after = Unit {0}

@@ -1,11 +1,14 @@
 use Rattle.step_machine.proofs.Ending.{completed}
-use Rattle.step_machine.proofs.Legality.{acted}
+use Rattle.step_machine.proofs.Legality.{acted, rests}
 use Rattle.step_machine.proofs.machine.Machine.complete.Goals as goal
 
 pub returns-clause-alone : goal.returns-clause-alone
 returns-clause-alone c rest =
-    acted c.alone_it_acts.ensures c.args.self.now c.begin_and_go-result.new.self c.args.actor c.args.call c.limits.ensures.in_range c.steps-2.ensures.keys rest
+    acted c.args.self.now c.begin_and_go-result.new.self c.args.actor c.args.call rest c.alone_it_acts.ensures c.limits-2.ensures.in_range c.steps-2.ensures.keys
     c.begin_and_go-result.result c.begin_and_go-result.ensures
+
+pub returns-clause-rests : goal.returns-clause-rests
+returns-clause-rests c rest = rests c.args.self.now c.begin_and_go-result.new.self c.args.actor c.args.call rest c.begin_and_go-result.result c.begin_and_go-result.ensures
 
 pub returns-clause-ends : goal.returns-clause-ends
 returns-clause-ends c sure =
