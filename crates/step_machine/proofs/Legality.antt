@@ -87,7 +87,7 @@ record_legal machine (world, explains, shows) made is =
     let by_order = subst (λ order. Explains (hash_of made.limits.hash) made.events.items order world) (sym is.order) by_events in
     (world, by_order, subst (λ steps. ShowsContents world (run made.limits steps)) (sym is.path) (subst (λ (sizes : Limits). ShowsContents world (run sizes machine.steps)) (sym is.sizes) shows))
 
-pub if_record_legal : (machine : Taken) → IsExplained machine.limits (state_of machine) → (result : Result Record Refusal) → IfOk result (IsRecordOf machine) → IfOk result IsLegalRecord
+pub if_record_legal : {E : Type 0} (machine : Taken) → IsExplained machine.limits (state_of machine) → (result : Result Record E) → IfOk result (IsRecordOf machine) → IfOk result IsLegalRecord
 if_record_legal machine explained (Ok made) is = record_legal machine explained made is
 if_record_legal machine explained (Err why) is = tt
 
