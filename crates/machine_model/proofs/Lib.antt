@@ -13,3 +13,4 @@ pub mod Rest
 pub mod InUse
 pub mod Slots
 pub mod Times
+pub mod Taking

@@ -4,3 +4,4 @@ pub mod Actors
 pub mod Lists
 pub mod Alone
 pub mod Bounds
+pub mod Closes

@@ -12,3 +12,4 @@ pub mod Climb
 pub mod Copy
 pub mod Reader
 pub mod Inherited
+pub mod Slots
