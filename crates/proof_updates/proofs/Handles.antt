@@ -11,3 +11,4 @@ pub mod Updating
 pub mod Swapping
 pub mod OfRuns
 pub mod OfLists
+pub mod Looked
