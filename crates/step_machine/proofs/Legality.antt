@@ -1,6 +1,7 @@
 -- The legal order of a machine, from the laws.
-use Rattle.std.specs.Prelude.{◌≡◌, ℕ, ◌+◌, List, ◌++◌, Option, Some, None, option_map, Result, Ok, Err, IfOk, IfErr, Vec, false}
+use Rattle.std.specs.Prelude.{◌≡◌, ℕ, ◌+◌, List, ◌++◌, Option, Some, None, option_map, Result, Ok, Err, IfOk, IfErr, OnOk, IsSome, Vec, false}
 use Rattle.std.specs.FinMap as map
+use Rattle.std.specs.Ordering.{nat_cmp}
 use Rattle.std.proofs.Common.{refl, sym, ap, subst, ◌∙◌, inl, inr, arith}
 use Rattle.std.proofs.lemmas.Option.{same_Some}
 use Rattle.std.specs.declared.alloc.Global.{Global}
@@ -30,7 +31,7 @@ use Rattle.step_machine.specs.Machines.{Taken, state_of, with_step}
 use Rattle.step_machine.specs.Callers.{going_on, Resumes, Completes, CompletesUnless}
 use Rattle.step_machine.specs.declared.records.Record.{Record}
 use Rattle.step_machine.specs.Records.{IsRecordOf}
-use Rattle.step_machine.specs.Legality.{IsLegalFor, IsLegalRecord, LeadsToContents, InOrder, IsInOrder, writable_in, ActedAlone, RestsIfAnswered, WentAlone}
+use Rattle.step_machine.specs.Legality.{IsLegalFor, IsLegalRecord, LeadsToContents, HasInOrder, InOrder, IsInOrder, writable_in, ActedAlone, RestsIfAnswered, WentAlone}
 use Rattle.step_machine.proofs.Going.{going-append}
 use Rattle.step_machine.proofs.Resting.{OnlyRuns, leads_to_rest, only_at_rest, still_only, unanswered_at_rest}
 use Rattle.step_machine.proofs.Telling.{Tells, stepped, tells}
@@ -66,6 +67,23 @@ module _ (machine : Taken) (explained : IsExplained machine.limits (state_of mac
       IfErr result (λ why. why ≡ NoHandle → InOrder machine (λ world. map.get world handle ≡ None))
   if_closed handle (Ok pairs) why = tt
   if_closed handle (Err refusal) why = closed_by handle refusal why
+
+  -- its map there has the values that it has here
+  value_by : (key : ℕ) (o : Option Root) (pairs : List (ℕ × ℕ)) (shown : Option HandleState) → IsSome o → Names o pairs shown →
+      (it : HandleState) × (shown ≡ Some it) × (map.find nat_cmp key pairs ≡ map.get it.pairs key)
+  value_by key None pairs shown some names = cc some
+  value_by key (Some root) pairs shown some (m, is, same) =
+      (record { access = root.access; pairs = m }, is, ap (map.find nat_cmp key) (sym same) ∙ sym (map.get-entries m key))
+
+  has_in_order : (handle key : ℕ) → IsSome (root_at (state_of machine) handle) → HasInOrder machine handle key (map.find nat_cmp key (content_at (state_of machine) handle))
+  has_in_order handle key is_open =
+      let (world, explains, shows) = explained in
+      (world, explains, value_by key (root_at (state_of machine) handle) (content_at (state_of machine) handle) (map.get world handle) is_open (shows handle))
+
+  pub if_has : (handle key : ℕ) (result : Result (Option ℕ) Refusal) → IfOk result (λ value. value ≡ map.find nat_cmp key (content_at (state_of machine) handle)) →
+      OnOk result (IsSome (root_at (state_of machine) handle)) → IfOk result (HasInOrder machine handle key)
+  if_has handle key (Ok value) is is_open = subst (HasInOrder machine handle key) (sym is) (has_in_order handle key is_open)
+  if_has handle key (Err why) is is_open = tt
 
   -- it is writable there where it is here
   writable_by : (o : Option Root) (pairs : List (ℕ × ℕ)) (shown : Option HandleState) → Names o pairs shown →

@@ -10,3 +10,4 @@ pub mod Legality
 pub mod Ending
 pub mod Applying
 pub mod Resting
+pub mod Looking

@@ -6,7 +6,7 @@ use Rattle.ctrie_base.specs.declared.refusals.Refusal.{Refusal}
 use Rattle.history.specs.declared.calls.Access.TheVariants.{Writable}
 use Rattle.history.specs.declared.calls.Call.{Call}
 use Rattle.history.specs.declared.replies.Reply.{Reply}
-use Rattle.history.specs.Worlds.{HandleMap}
+use Rattle.history.specs.Worlds.{HandleState, HandleMap}
 use Rattle.history.specs.Orders.{Explains, IsLegal}
 use Rattle.machine_model.specs.declared.steps.Step.TheVariants.{Begin}
 use Rattle.machine_model.specs.Machine.{run, is_access, is_busy}
@@ -39,6 +39,11 @@ InOrder machine Fact = (world : HandleMap) × Explains (hash_of machine.limits.h
 -- there the handle names a map of the machine's kind with these pairs, or nothing where it isn't open
 abbrev pub IsInOrder : Taken → ℕ → List (ℕ × ℕ) → Type 0
 IsInOrder machine handle pairs = InOrder machine (λ world. Names (root_at (state_of machine) handle) pairs (map.get world handle))
+
+-- there the handle names a map with this value of the key, or none
+abbrev pub HasInOrder : Taken → ℕ → ℕ → Option ℕ → Type 0
+HasInOrder machine handle key value =
+    InOrder machine (λ world. (shown : HandleState) × (map.get world handle ≡ Some shown) × (value ≡ map.get shown.pairs key))
 
 -- whether the map that a handle names in a world is writable
 abbrev pub writable_in : HandleMap → ℕ → Option Bool

@@ -10,7 +10,7 @@ ghost use Rattle.step_machine.specs.Callers.{Stepped, Resumes, Completes, Reclai
 ghost use Rattle.machine_model.specs.Machine.{is_busy};
 ghost use Rattle.step_machine.specs.Reclaiming.{UsesReached, LooksSame};
 ghost use Rattle.step_machine.specs.Legality.{ActedAlone, RestsIfAnswered, WentAlone};
-ghost use Rattle.step_machine.specs.Ending.{CompletesIfSure, ResumesIfSure};
+ghost use Rattle.step_machine.specs.Ending.{CompletesIfSure, IsSpared, ResumesIfSure};
 
 use crate::machine::Machine;
 use ctrie_base::Refusal;
@@ -22,16 +22,18 @@ pub const GO_LIMIT: u32 = 16_384;
 
 impl Machine {
     /// Begins the call and takes steps of it until it ends; none where 16,384 steps didn't end it, which
-    /// happens to no call on one key, snapshot, freeze or clear while enough steps are left. What denies the
+    /// happens to no call but entries and count while enough steps are left. What denies the
     /// begin is answered, and nothing has changed then. After `Memory` or `Spent` the steps taken so far stand:
     /// an operation that began still runs. `Memory` is answered only where nothing denies the next step. From
     /// rest, an operation that ends enters the order last, and the contents change by its call, with its
-    /// reply; where it is refused for want of slots, neither changes. The machine is at rest again then.
+    /// reply; where it is refused for want of slots, neither changes. The machine is at rest again then. Nor is a
+    /// call that is sure to end refused so where 3,962 slots are free.
     pub fn complete(&mut self, actor: u8, call: Call) -> Result<Option<Reply>, Refusal>
         ensures steps { Completes result self.old actor call self.new }
         ensures alone { is_busy (state_of self.old) ≡ false → ActedAlone result self.old call self.new }
         ensures rests { is_busy (state_of self.old) ≡ false → RestsIfAnswered result self.new }
         ensures ends { CompletesIfSure self.old actor call result }
+        ensures spare { IsSpared self.old call result }
     {
         let _ = self.limits();
         let _ = self.steps();
@@ -41,6 +43,8 @@ impl Machine {
         let _ = self.steps();
         proof_linearizable::alone_it_acts();
         proof_obstruction_free::each_step_leads_to_its_end();
+        proof_obstruction_free::closes_end();
+        proof_obstruction_free::enough_slots();
         result
     }
 
@@ -54,7 +58,7 @@ impl Machine {
     }
 
     /// Takes steps of the actor's operation until it ends; none where 16,384 steps didn't end it, which
-    /// happens to no call on one key, snapshot, freeze or clear while enough steps are left. `NoActor` and
+    /// happens to no call but entries and count while enough steps are left. `NoActor` and
     /// `Idle` where it runs none. After `Memory` or `Spent` the steps taken so far stand, and the operation
     /// still runs. `Memory` is answered only where nothing denies the next step. Where its actor alone has
     /// taken steps since it began at rest, an answer is as if `complete` had given it.
@@ -71,6 +75,7 @@ impl Machine {
         let _ = self.steps();
         proof_linearizable::alone_it_acts();
         proof_obstruction_free::each_step_leads_to_its_end();
+        proof_obstruction_free::closes_end();
         result
     }
 

@@ -2,21 +2,24 @@
 
 ghost use Rattle.std.specs.Prelude.{◌≡◌, ◌≢◌, ◌+◌, ℕ, length, None, option_map, Some, Ok, IsSome, IfOk, IfErr, OnOk, IsOkUnless};
 ghost use Rattle.std.specs.FinMap as map;
+ghost use Rattle.std.specs.Ordering.{nat_cmp};
+ghost use Rattle.ctrie_base.specs.Hashes.{hash_of};
 ghost use Rattle.ctrie_base.specs.declared.kinds.Kind.TheVariants.{Make};
 ghost use Rattle.history.specs.declared.calls.Access.TheVariants.{ReadOnly};
 ghost use Rattle.history.specs.declared.replies.Reply.TheVariants.{NoSlots};
 ghost use Rattle.machine_model.specs.declared.operations.Operation.{Operation};
-ghost use Rattle.machine_model.specs.States.{root_at, operation_of};
-ghost use Rattle.step_machine.specs.Beneath.slot_arena.specs.Heaps.{in_use};
+ghost use Rattle.machine_model.specs.States.{root_at, root_of, word_at, operation_of};
+ghost use Rattle.step_machine.specs.Beneath.slot_arena.specs.Heaps.{in_use, logical_main, node_at};
 ghost use Rattle.machine_model.specs.Orders.{order_of};
-ghost use Rattle.machine_model.specs.Contents.{content_at};
+ghost use Rattle.machine_model.specs.Contents.{content_at, most_levels};
+ghost use Rattle.step_machine.specs.Beneath.proof_contents.specs.Nodes.Looking.{find_at};
 ghost use Rattle.machine_model.specs.Keys.{KeysFit};
 ghost use Rattle.machine_model.specs.Machine.{AreLimits, denial_of, is_running, is_busy, runs_on, next_kind, handles_taken, is_access, access_of};
 ghost use Rattle.machine_model.specs.Refusing.{RefusesLimits, RefusesContent};
 ghost use Rattle.step_machine.specs.Machines.{Taken, fresh, state_of, AreTaken, Applied, FoundNoSlot};
 ghost use Rattle.step_machine.specs.Contents.{ChangesContents};
 ghost use Rattle.step_machine.specs.Ending.{EndsIfSure, IsNearer};
-ghost use Rattle.step_machine.specs.Legality.{IsLegalFor, LeadsToContents, InOrder, IsInOrder, writable_in};
+ghost use Rattle.step_machine.specs.Legality.{IsLegalFor, LeadsToContents, HasInOrder, InOrder, IsInOrder, writable_in};
 ghost use Rattle.step_machine.specs.Memory.{UsesWhatItNames, FreesLate, DrawsNew};
 
 use ctrie_base::{Kind, Refusal};
@@ -91,6 +94,7 @@ impl Machine {
         proof_memory::freed_when_zero_for_two_epochs();
         proof_updates::contents_of_handles();
         proof_obstruction_free::each_step_leads_to_its_end();
+        proof_obstruction_free::closes_end();
         result
     }
 
@@ -177,6 +181,39 @@ impl Machine {
         ensures refused { IfErr result (λ refusal. RefusesContent (state_of self.now) handle refusal) }
     {
         Ok(self.plain.content(handle)?.into_vec())
+    }
+
+    /// The value of a key in a handle's map, as `content` and the world to which the order leads have it. It takes
+    /// neither a step nor memory. `NoHandle` exactly where the handle isn't open; there is no other refusal.
+    pub fn value_at(&self, handle: u16, key: u64) -> Result<Option<u64>, Refusal>
+        ensures value { IfOk result (λ value. value ≡ map.find nat_cmp key (content_at (state_of self.now) handle)) }
+        ensures in_order { IfOk result (λ value. HasInOrder self.now handle key value) }
+        ensures open { OnOk result (IsSome (root_at (state_of self.now) handle)) }
+        ensures refused { IfErr result (λ refusal. (root_at (state_of self.now) handle ≡ None) × (refusal ≡ Refusal.NoHandle)) }
+    {
+        self.explained();
+        self.found_at(handle, key)
+    }
+
+    /// The value, without what the order says of it.
+    fn found_at(&self, handle: u16, key: u64) -> Result<Option<u64>, Refusal>
+        ensures value { IfOk result (λ value. value ≡ map.find nat_cmp key (content_at (state_of self.now) handle)) }
+        ensures open { OnOk result (IsSome (root_at (state_of self.now) handle)) }
+        ensures refused { IfErr result (λ refusal. (root_at (state_of self.now) handle ≡ None) × (refusal ≡ Refusal.NoHandle)) }
+    {
+        let _ = self.limits();
+        let _ = self.steps();
+        proof_updates::found_along_hashes();
+        self.looked_up(handle, key)
+    }
+
+    /// What is found along the key's hash.
+    fn looked_up(&self, handle: u16, key: u64) -> Result<Option<u64>, Refusal>
+        ensures found { IfOk result (λ value. value ≡ find_at (node_at (state_of self.now).heap) (logical_main (state_of self.now).heap) (hash_of (state_of self.now).limits.hash) key most_levels 0 (root_of (word_at (state_of self.now) handle))) }
+        ensures open { OnOk result (IsSome (root_at (state_of self.now) handle)) }
+        ensures refused { IfErr result (λ refusal. (root_at (state_of self.now) handle ≡ None) × (refusal ≡ Refusal.NoHandle)) }
+    {
+        self.plain.value_at(handle, key)
     }
 
     /// The kind of the next step of the actor's operation; none where none runs. An operation on a read-only

@@ -19,7 +19,7 @@ returns-clause-contents c =
     c.limits.ensures.in_range c.steps.ensures.keys c.take_step-result.ensures
 
 pub returns-clause-ends : goal.returns-clause-ends
-returns-clause-ends c = ends_if_sure c.each_step_leads_to_its_end.ensures c.take_step-result.new.self c.limits-2.ensures.in_range c.steps.ensures.keys
+returns-clause-ends c = ends_if_sure c.each_step_leads_to_its_end.ensures c.closes_end.ensures c.take_step-result.new.self c.limits-2.ensures.in_range c.steps.ensures.keys
 
 pub returns-clause-nearer : goal.returns-clause-nearer
 returns-clause-nearer c = if_nearer c.take_step-result.result c.args.self.now c.args.step c.take_step-result.new.self c.take_step-result.ensures

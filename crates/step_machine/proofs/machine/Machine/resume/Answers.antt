@@ -12,5 +12,5 @@ returns-clause-rests c before call went = rests_again before c.args.self.now c.g
 
 pub returns-clause-ends : goal.returns-clause-ends
 returns-clause-ends c operation runs sure =
-    ended c.args.self.now c.args.actor c.each_step_leads_to_its_end.ensures c.limits.ensures.in_range c.steps.ensures.keys operation runs sure c.go_on-result.result c.go_on-result.new.self
+    ended c.args.self.now c.args.actor c.each_step_leads_to_its_end.ensures c.closes_end.ensures c.limits.ensures.in_range c.steps.ensures.keys operation runs sure c.go_on-result.result c.go_on-result.new.self
     c.go_on-result.ensures
