@@ -9,12 +9,16 @@ use lib.ListN.{get_elem?}
 use Rattle.atomic_table.specs.Table.{Me, Joins, Final, Seen}
 use Rattle.ctrie_base.specs.Hashes.{hash_of}
 use Rattle.history.specs.declared.events.Event.{Event}
-use Rattle.history.specs.Orders.{IsLegal}
+use Rattle.history.specs.Orders.{Explains}
+use Rattle.history.specs.Worlds.{HandleMap}
 use Rattle.machine_model.specs.declared.steps.Limits.{Limits}
+use Rattle.machine_model.specs.declared.steps.Step.{Step}
+use Rattle.machine_model.specs.Machine.{run}
+use Rattle.lock_runner.specs.Beneath.proof_order.specs.Laws.Orders.{ShowsContents}
 use Rattle.step_machine.specs.Machines.{Taken, state_of, AreTaken}
 use Rattle.step_machine.specs.declared.records.Record.{Record}
 use Rattle.step_machine.specs.Records.{IsRecordOf}
-use Rattle.step_machine.specs.Legality.{IsLegalFor, IsLegalRecord}
+use Rattle.step_machine.specs.Legality.{IsLegalRecord, LeadsToContents}
 use Rattle.lock_runner.specs.declared.finishing.Unfinished.{Unfinished}
 use Rattle.lock_runner.specs.declared.finishing.Unfinished.TheVariants.{Missing, Memory}
 use Rattle.actor_history.specs.Answers.{AreAnswersOf}
@@ -124,11 +128,15 @@ gathers runner terms id me seats yielded ws xs machine sizes number whole is tol
 
 -- ---- the record
 
--- its order is legal for its history, as that of the machine is
-pub still_legal : (machine : Taken) (limits : Limits) (events : List Event) (order : List ℕ) → limits ≡ machine.limits → events ≡ (state_of machine).events → IsLegalFor machine order →
-    IsLegal (hash_of limits.hash) events order
-still_legal machine limits events order sizes history legal =
-    subst (λ (l : Limits). IsLegal (hash_of l.hash) events order) (sym sizes) (subst (λ es. IsLegal (hash_of machine.limits.hash) es order) (sym history) legal)
+-- its order is legal for its history and leads to its contents, as that of the machine does
+pub still_legal : (machine : Taken) (limits : Limits) (steps : List Step) (events : List Event) (order : List ℕ) → limits ≡ machine.limits → steps ≡ machine.steps →
+    events ≡ (state_of machine).events → LeadsToContents machine order →
+    (world : HandleMap) × Explains (hash_of limits.hash) events order world × ShowsContents world (run limits steps)
+still_legal machine limits steps events order sizes path history (world, explains, shows) = (
+  world,
+  subst (λ (l : Limits). Explains (hash_of l.hash) events order world) (sym sizes) (subst (λ es. Explains (hash_of machine.limits.hash) es order world) (sym history) explains),
+  subst (λ xs. ShowsContents world (run limits xs)) (sym path) (subst (λ (l : Limits). ShowsContents world (run l machine.steps)) (sym sizes) shows),
+)
 
 -- the machine that the record tells of is the one
 told_machine : (machine : Taken) (made : Record) → IsRecordOf machine made → machine ≡ recorded made

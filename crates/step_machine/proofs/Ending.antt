@@ -59,7 +59,7 @@ pub idle_behind : (state : State) (actor id : ℕ) (answer : Reply) (after : Sta
 idle_behind state actor id answer after e = idle_by state (step.Go actor) _ after (moved state (step.Go actor) _ after e) actor id answer refl refl
 
 -- a call that is sure to end
-bounded : (call : Call) → IsBounded call → IsOnKeyOrRoot call ⊎ (is_close call ≡ true)
+pub bounded : (call : Call) → IsBounded call → IsOnKeyOrRoot call ⊎ (is_close call ≡ true)
 bounded (Close h) b = inr refl
 bounded (Entries h) b = absurd b
 bounded (Count h) b = absurd b
