@@ -29,3 +29,4 @@ pub mod Times
 pub mod Grown
 pub mod Numbered
 pub mod Basics
+pub mod Taking

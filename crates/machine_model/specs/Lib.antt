@@ -27,3 +27,4 @@ pub mod Laws
 pub mod Grown
 pub mod Moves
 pub mod Times
+pub mod Taking

@@ -1,6 +1,7 @@
 //! Laws of the definition, for every list of steps.
 
 ghost use Rattle.machine_model.specs.Laws.{SlotsAddUp, RefusedForWantAlone, ReadersMakeNothing, TakenStepsSuffice};
+ghost use Rattle.machine_model.specs.Taking.{OneSlotAStep};
 
 /// A law: the slots in use and the free ones are all slots.
 pub fn slots_add_up()
@@ -21,4 +22,9 @@ pub fn readers_make_nothing()
 /// A law: denied steps can be left out of a run.
 pub fn taken_steps_suffice()
     ensures { TakenStepsSuffice }
+{}
+
+/// A law: a step takes one free slot at most, and takes one only where it makes a node.
+pub fn one_slot_a_step()
+    ensures { OneSlotAStep }
 {}

@@ -27,7 +27,10 @@ pub use building::{BuildLine, Change, Site};
 pub use copying::CopyLine;
 pub use finding::{KeyLine, WhenFound};
 pub use heaps::{Closing, Commit};
-pub use laws::{readers_make_nothing, refused_for_want_alone, slots_add_up, taken_steps_suffice};
+pub use laws::{
+    one_slot_a_step, readers_make_nothing, refused_for_want_alone, slots_add_up,
+    taken_steps_suffice,
+};
 pub use lines::{Line, Purpose};
 pub use operations::Operation;
 pub use reading::{After, Read, ReadLine, Swap, SwapLine};

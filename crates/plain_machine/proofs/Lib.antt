@@ -6,3 +6,4 @@ pub mod Bounded
 pub mod Steps
 pub mod Gathering
 pub mod Apart
+pub mod Looking

@@ -13,7 +13,7 @@ use slot_arena::{Node, Ref, Slot};
 use std::alloc::AllocError;
 
 /// A root, 13 levels of indirections below it, and the singles.
-const MOST_LEVELS: u32 = 15;
+pub const MOST_LEVELS: u32 = 15;
 
 /// What the handle's map holds, by rising key.
 pub fn content_of(parts: &Parts, handle: u16) -> Result<Pairs, AllocError>

@@ -5,6 +5,7 @@ mod actors;
 mod beginning;
 mod contents;
 mod denials;
+mod finding;
 mod handles;
 mod limbo;
 mod machine;

@@ -24,3 +24,4 @@ pub mod Lines
 pub mod Safety
 pub mod Limbo
 pub mod Levels
+pub mod Holding

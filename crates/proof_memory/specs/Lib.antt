@@ -3,3 +3,4 @@ pub mod Wants
 pub mod Laws
 pub mod Levels
 pub mod Making
+pub mod Holding

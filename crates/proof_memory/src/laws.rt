@@ -1,5 +1,6 @@
 //! Laws of memory, for every list of steps.
 
+ghost use Rattle.proof_memory.specs.Holding.{LinesLive, PrivatesOnce, SizesStay};
 ghost use Rattle.proof_memory.specs.Laws.{HeldInUse, StandingInUse, DrawnOnce, OneNodeForEver, LinesFind, NodesFind, RootsFind, NeverImpossible, LimboIsExact, LimboIsRecent};
 ghost use Rattle.proof_memory.specs.Laws.{FreedLate, SweepLeaves, Reclaimed};
 
@@ -51,4 +52,20 @@ pub fn sweep_leaves()
 /// A law: where no operation runs and limbo is empty, the slots in use are exactly the reachable ones.
 pub fn reclaimed()
     ensures { Reclaimed }
+{}
+
+/// A law: no reference stands twice in a private list.
+pub fn privates_once()
+    ensures { PrivatesOnce }
+{}
+
+/// A law: there are as many handle numbers and actors as at first.
+pub fn sizes_stay()
+    ensures { SizesStay }
+{}
+
+/// A law: each reference of a running operation's next action names a slot in use, of the kind that the action takes
+/// it for.
+pub fn lines_live()
+    ensures { LinesLive }
 {}

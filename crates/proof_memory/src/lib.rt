@@ -10,5 +10,6 @@ mod laws;
 
 pub use laws::{
     births_never_repeat, each_lookup_finds, freed_when_zero_for_two_epochs, limbo_is_right,
-    never_impossible, reclaimed, references_in_use, sweep_leaves,
+    lines_live, never_impossible, privates_once, reclaimed, references_in_use, sizes_stay,
+    sweep_leaves,
 };

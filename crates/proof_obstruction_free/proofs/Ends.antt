@@ -5,3 +5,4 @@ pub mod Actors
 pub mod Lists
 pub mod Alone
 pub mod Bounds
+pub mod Closes

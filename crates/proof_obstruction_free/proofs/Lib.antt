@@ -20,3 +20,4 @@ pub mod Climb
 pub mod Copy
 pub mod Reader
 pub mod Inherited
+pub mod Slots

@@ -13,3 +13,5 @@ pub mod Readers
 pub mod ReadLaws
 pub mod SwapEnds
 pub mod Inherited
+pub mod Slots
+pub mod Closes

@@ -11,3 +11,4 @@ pub mod Candidates
 pub mod HaveBegun
 pub mod Copies
 pub mod Answering
+pub mod PlacesPast

@@ -1,3 +1,4 @@
 -- The laws as statements: of the order (Orders), and of root swaps (Openings).
 pub mod Orders
 pub mod Openings
+pub mod Past

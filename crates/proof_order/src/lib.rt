@@ -13,6 +13,6 @@ pub use laws::openings::{
     closed_roots_stay, closings_differ, handles_rise, new_roots_follow, one_root,
 };
 pub use laws::orders::{
-    answered_are_ordered, histories_well_formed, legal_by_facts, ordered_have_begun, places_stay,
-    rising_sorts,
+    answered_are_ordered, histories_well_formed, legal_by_facts, ordered_have_begun, places_past,
+    places_stay, rising_sorts,
 };

@@ -12,3 +12,4 @@ pub mod Updating
 pub mod Swapping
 pub mod OfRuns
 pub mod OfLists
+pub mod Looked

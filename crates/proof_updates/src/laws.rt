@@ -2,3 +2,4 @@
 
 pub mod handles;
 pub mod tries;
+pub mod values;

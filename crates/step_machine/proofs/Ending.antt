@@ -1,10 +1,16 @@
 -- An operation that goes on alone ends, by the law.
-use Rattle.std.proofs.Common.{◌≡◌, ℕ, zero, suc, ◌+◌, ◌<◌, List, ◌∷◌, [], ◌++◌, replicate, Option, Some, None, Result, Ok, Err, inl, inr, refl, sym, ap, subst, ◌∙◌, append_assoc, arith}
+use Rattle.std.specs.Prelude.{◌≢◌, ◌⊎◌, true, length}
+use Rattle.std.proofs.Common.{◌≡◌, ℕ, zero, suc, ◌+◌, ◌<◌, ◌≤◌, List, ◌∷◌, [], ◌++◌, replicate, Option, Some, None, Result, Ok, Err, OnOk, inl, inr, refl, sym, ap, subst, ◌∙◌, append_assoc, arith}
 use Rattle.std.proofs.lemmas.List.{append-nil, replicate-append-replicate}
 use Rattle.ctrie_base.specs.declared.refusals.Refusal.{Refusal}
 use Rattle.ctrie_base.specs.declared.refusals.Refusal.TheVariants as refuse
 use Rattle.history.specs.declared.calls.Call.{Call}
+use Rattle.history.specs.declared.calls.Call.TheVariants.{Close, Entries, Count}
 use Rattle.history.specs.declared.replies.Reply.{Reply}
+use Rattle.history.specs.declared.replies.Reply.TheVariants.{Closed, NoSlots}
+use Rattle.machine_model.specs.Calls.{is_close}
+use Rattle.machine_model.specs.Operations.{first_line}
+use Rattle.machine_model.specs.declared.lines.Line.TheVariants as line
 use Rattle.machine_model.specs.declared.operations.Operation.{Operation}
 use Rattle.machine_model.specs.declared.steps.Step.{Step}
 use Rattle.machine_model.specs.declared.steps.Step.TheVariants as step
@@ -12,21 +18,26 @@ use Rattle.machine_model.specs.declared.steps.Outcome.{Outcome}
 use Rattle.machine_model.specs.declared.steps.Outcome.TheVariants as outcome
 use Rattle.machine_model.specs.Keys.{FitsKey, KeysFit}
 use Rattle.machine_model.proofs.Moves.{moved}
-use Rattle.machine_model.specs.Moves.{begun_operation}
+use Rattle.machine_model.specs.Acting.{ended as ended_state}
+use Rattle.machine_model.specs.Moves.{Moves, Begins, Goes, Ends, Sweeps, begun_operation}
 use Rattle.machine_model.specs.Counting.{settled}
 use Rattle.machine_model.specs.Going.{go_limit}
-use Rattle.machine_model.specs.Machine.{AreLimits, next, begin_denial, begin_unless, with_begin}
+use Rattle.machine_model.specs.Machine.{AreLimits, Answer, next, begin_denial, begin_unless, with_begin}
 use Rattle.machine_model.specs.States.{State, operation_of}
-use Rattle.step_machine.specs.Beneath.proof_commits.proofs.Known.StepsAt.{begin_own}
+use Rattle.step_machine.specs.Beneath.proof_commits.proofs.Known.StepsAt.{begin_own, end_own}
+use Rattle.machine_model.proofs.HeapMoves.{begin_heap}
+use Rattle.machine_model.proofs.Refusals.{IsRefusal, first_refusal}
 use Rattle.step_machine.specs.Beneath.proof_order.proofs.Views.Unconditional.{books_of}
 use Rattle.step_machine.specs.Beneath.proof_order.proofs.History.Recalling.{begin_event}
 use Rattle.std.proofs.lemmas.List.Elements.{All-push}
 use Rattle.std.proofs.lemmas.Option.{none-some}
-use Rattle.step_machine.proofs.Telling.{stepped, begun_runs}
-use Rattle.proof_obstruction_free.specs.Laws.{EachStepLeadsToItsEnd, GoesOnAt, RunsAlone, most_steps_alone}
-use Rattle.step_machine.specs.Machines.{Taken, state_of, with_step}
-use Rattle.step_machine.specs.Callers.{going_on, Resumes, Completes, CompletesUnless}
-use Rattle.step_machine.specs.Ending.{IsSure, IsAnswer}
+use Rattle.step_machine.proofs.Telling.{answered_parts, begun_runs, denied_parts, stepped, unanswered}
+use Rattle.proof_obstruction_free.specs.Closes.{ClosesEnd}
+use Rattle.proof_obstruction_free.specs.Laws.{EachStepLeadsToItsEnd, EndsAt, GoesOnAt, IsOnKeyOrRoot, RunsAlone, alone_after, most_steps_alone}
+use Rattle.proof_obstruction_free.specs.Slots.{EnoughSlots}
+use Rattle.step_machine.specs.Machines.{Taken, state_of, with_step, Applied}
+use Rattle.step_machine.specs.Callers.{after_go, going_on, Resumes, Completes, CompletesUnless}
+use Rattle.step_machine.specs.Ending.{EndsIfSure, EndsIn, IsAnswer, IsBounded, IsNearer, IsSure, enough_slots}
 use Rattle.step_machine.proofs.Going.{goes, ends}
 
 -- one step more of the same
@@ -34,6 +45,25 @@ more : (n : ℕ) (s : Step) (xs : List Step) → (xs ++ replicate n s) ++ s ∷ 
 more n s xs =
     let one : n + 1 ≡ suc n = omega arith in
     append_assoc xs (replicate n s) (s ∷ []) ∙ ap (λ l. xs ++ l) (replicate-append-replicate n 1 s ∙ ap (λ m. replicate m s) one)
+
+-- the actor runs nothing behind the end of its operation
+idle_by : (state : State) (s : Step) (o : Outcome) (after : State) → Moves state s o after → (actor id : ℕ) (answer : Reply) → s ≡ step.Go actor → o ≡ outcome.Ended id answer →
+    operation_of after actor ≡ None
+idle_by state s o after (Begins d) actor id answer is told = cc is
+idle_by state s o after (Sweeps d) actor id answer is told = cc is
+idle_by state s o after (Goes d found a g) actor id answer is told = cc told
+idle_by state s o after (Ends {actor = who} {operation} {answer = said} d found a) actor id answer is told =
+    let whose : who ≡ actor = cc is in subst (λ a. operation_of (settled state (ended_state state who operation said)) a ≡ None) whose (end_own state who operation said)
+
+pub idle_behind : (state : State) (actor id : ℕ) (answer : Reply) (after : State) → next state (step.Go actor) ≡ Ok (outcome.Ended id answer, after) → operation_of after actor ≡ None
+idle_behind state actor id answer after e = idle_by state (step.Go actor) _ after (moved state (step.Go actor) _ after e) actor id answer refl refl
+
+-- a call that is sure to end
+pub bounded : (call : Call) → IsBounded call → IsOnKeyOrRoot call ⊎ (is_close call ≡ true)
+bounded (Close h) b = inr refl
+bounded (Entries h) b = absurd b
+bounded (Count h) b = absurd b
+bounded call b = inl tt
 
 module _ (machine : Taken) (actor : ℕ) where
   -- the machine after so many steps of this actor
@@ -56,15 +86,85 @@ module _ (machine : Taken) (actor : ℕ) where
       subst (λ m. going_on m actor machine ≡ (Ok None, after (suc n))) one
       (goes n actor (outcome.Went kind) machine (after n) (after (suc n)) (going n (λ k h. on k (omega (arith, h)))) (one_more n, step) (λ id answer e. cc e))
 
-  module _ (law : EachStepLeadsToItsEnd) (sizes : AreLimits machine.limits) (keys : KeysFit machine.steps) (operation : Operation)
+  -- behind so many of the steps that go on, so many are left up to the one that ends the operation
+  left : (m k n id : ℕ) → k + m ≡ n → ((j : ℕ) → j < n → GoesOnAt machine.limits machine.steps actor j) → EndsAt machine.limits machine.steps actor id n → EndsIn (suc m) actor (after k)
+  unfolding EndsIn
+  left zero k n id sum on last =
+      let at_end : k ≡ n = omega (arith, sum) in
+      subst (λ j. EndsIn 1 actor (after j)) (sym at_end)
+      (rw last.1 refl, subst (λ m. operation_of (state_of m) actor ≡ None) (one_more n) (idle_behind (state_of (after n)) actor id last.0 (state_of (after (suc n))) last.1))
+  left (suc m) k n id sum on last =
+      (rw (on k (omega (arith, sum))).1 refl, subst (EndsIn (suc m) actor) (one_more k) (left m (suc k) n id (omega (arith, sum)) on last))
+
+  -- an answer to a run of these is that of one of them
+  told_at : (n k : ℕ) (answer : Reply) (last : Taken) → going_on n actor (after k) ≡ (Ok (Some answer), last) →
+      (j : ℕ) × (id : ℕ) × (state : State) × (next (state_of (after j)) (step.Go actor) ≡ Ok (outcome.Ended id answer, state))
+  unfolding going_on
+  told_at zero k answer last goes = absurd (unanswered answer (after k) last goes)
+  told_at (suc n) k answer last goes =
+      by_reply n k answer last (λ e. told_at n (suc k) answer last (subst (λ m. going_on n actor m ≡ (Ok (Some answer), last)) (sym (one_more k)) e))
+      (next (state_of (after k)) (step.Go actor)) refl goes
+    where
+      by_reply : (n k : ℕ) (answer : Reply) (last : Taken) → (going_on n actor (with_step (after k) (step.Go actor)) ≡ (Ok (Some answer), last) →
+          (j : ℕ) × (id : ℕ) × (state : State) × (next (state_of (after j)) (step.Go actor) ≡ Ok (outcome.Ended id answer, state))) → (reply : Answer) → next (state_of (after k)) (step.Go actor) ≡ reply →
+          after_go (going_on n actor) (after k) actor reply ≡ (Ok (Some answer), last) →
+          (j : ℕ) × (id : ℕ) × (state : State) × (next (state_of (after j)) (step.Go actor) ≡ Ok (outcome.Ended id answer, state))
+      by_reply n k answer last more (Err why) is goes = absurd (denied_parts why answer (after k) last goes)
+      by_reply n k answer last more (Ok (outcome.Ended id said, state)) is goes =
+          let (same, to) = answered_parts said answer (with_step (after k) (step.Go actor)) last goes in
+          (k, id, state, is ∙ ap (λ a. Ok (outcome.Ended id a, state)) same)
+      by_reply n k answer last more (Ok (outcome.Began id, state)) is goes = more goes
+      by_reply n k answer last more (Ok (outcome.Went kind, state)) is goes = more goes
+      by_reply n k answer last more (Ok (outcome.Swept done, state)) is goes = more goes
+
+  -- where the next step tells that it is closed, that is what is told
+  closed_told : (n id : ℕ) (last : Taken) (state : State) → next (state_of machine) (step.Go actor) ≡ Ok (outcome.Ended id Closed, state) →
+      going_on n actor machine ≡ (Ok (Some NoSlots), last) → ⊥
+  unfolding going_on
+  closed_told zero id last state e goes = unanswered NoSlots machine last goes
+  closed_told (suc n) id last state e goes =
+      let (told, to) = answered_parts Closed NoSlots (with_step machine (step.Go actor)) last (sym (ap (after_go (going_on n actor) machine actor) e) ∙ goes) in cc told
+
+  module _ (law : EachStepLeadsToItsEnd) (closes : ClosesEnd) (sizes : AreLimits machine.limits) (keys : KeysFit machine.steps) (operation : Operation)
       (runs : operation_of (state_of machine) actor ≡ Some operation) (sure : IsSure (state_of machine) operation.call most_steps_alone) where
+    abbrev LeadsToEnd : Type 0
+    LeadsToEnd =
+        (n : ℕ) × (n < most_steps_alone) × ((k : ℕ) → k < n → GoesOnAt machine.limits machine.steps actor k) × EndsAt machine.limits machine.steps actor operation.id n
+
+    alone_facts : IsOnKeyOrRoot operation.call → RunsAlone machine.limits machine.steps actor operation
+    alone_facts call = record { limits_ok = sizes; keys_fit = keys; runs = runs; call = call; left = sure.1 }
+
+    -- each of its steps goes on, and the last one ends it
+    leads : IsOnKeyOrRoot operation.call ⊎ (is_close operation.call ≡ true) → LeadsToEnd
+    leads (inl call) = law machine.limits machine.steps actor operation (alone_facts call)
+    leads (inr closing) =
+        let ends_now = (closes machine.limits machine.steps actor operation runs closing (omega (arith, sure.1))).0 in
+        (0, omega arith, (λ k below. absurd (omega (arith, below))), (Closed, subst (λ m. next (state_of m) (step.Go actor) ≡ Ok (outcome.Ended operation.id Closed, alone_after machine.limits machine.steps actor 1)) (sym begins) ends_now))
+
     -- the steps come to the end
     answered : (answer : Reply) × (last : Taken) × (going_on go_limit actor machine ≡ (Ok (Some answer), last))
     answered =
-        let facts : RunsAlone machine.limits machine.steps actor operation = record { limits_ok = sizes; keys_fit = keys; runs = runs; call = sure.0; left = sure.1 } in
-        let (n, few, on, last) = law machine.limits machine.steps actor operation facts in
+        let (n, few, on, last) = leads (bounded operation.call sure.0) in
         let within : n < go_limit = omega (arith, few) in
         (last.0, after (suc n), ends n actor operation.id last.0 (outcome.Ended operation.id last.0) machine (after n) (after (suc n)) within (going n on) refl (one_more n, last.1))
+
+    -- and none of them is denied
+    pub ends_in : (n : ℕ) × (n ≤ most_steps_alone) × EndsIn n actor machine
+    ends_in =
+        let (n, few, on, last) = leads (bounded operation.call sure.0) in
+        (suc n, omega (arith, few), subst (EndsIn (suc n) actor) begins (left n 0 n operation.id (omega arith) on last))
+
+    -- where enough slots are free none of them is refused for want of slots
+    not_refused : EnoughSlots → operation.line ≢ line.End NoSlots → enough_slots ≤ length (state_of machine).heap.free → IsOnKeyOrRoot operation.call ⊎ (is_close operation.call ≡ true) → (n : ℕ) (last : Taken) →
+        going_on n actor machine ≡ (Ok (Some NoSlots), last) → ⊥
+    not_refused spare stands free (inl call) n last goes =
+        let (j, id, state, e) = told_at n 0 NoSlots last (subst (λ m. going_on n actor m ≡ (Ok (Some NoSlots), last)) (sym begins) goes) in
+        spare machine.limits machine.steps actor operation (alone_facts call) stands free j id NoSlots state e refl
+    not_refused spare stands free (inr closing) n last goes =
+        closed_told n operation.id last (alone_after machine.limits machine.steps actor 1) (closes machine.limits machine.steps actor operation runs closing (omega (arith, sure.1))).0 goes
+
+    pub spared : EnoughSlots → operation.line ≢ line.End NoSlots → enough_slots ≤ length (state_of machine).heap.free → (n : ℕ) (last : Taken) → going_on n actor machine ≡ (Ok (Some NoSlots), last) → ⊥
+    spared spare stands free = not_refused spare stands free (bounded operation.call sure.0)
 
     -- so that is what they come to
     must_be : (result : Result (Option Reply) Refusal) (to : Taken) → going_on go_limit actor machine ≡ (result, to) → (answer : Reply) × (result ≡ Ok (Some answer))
@@ -117,15 +217,51 @@ module _ (before : Taken) (actor : ℕ) (call : Call) (d : begin_denial (state_o
       let later : (state_of middle).steps ≡ (state_of before).steps + 1 = ap (λ (s : State). s.steps) led_so in
       (sure.0, omega (arith, later, sure.1))
 
-module _ (law : EachStepLeadsToItsEnd) (before after : Taken) (actor : ℕ) (call : Call) (sizes : AreLimits before.limits) (keys : KeysFit before.steps)
+module _ (law : EachStepLeadsToItsEnd) (closes : ClosesEnd) (before after : Taken) (actor : ℕ) (call : Call) (sizes : AreLimits before.limits) (keys : KeysFit before.steps)
     (fits : FitsKey (step.Begin actor call)) (sure : IsSure (state_of before) call (1 + most_steps_alone)) where
   by_denial : (denial : Option Refusal) → begin_denial (state_of before) actor call ≡ denial → (result : Result (Option Reply) Refusal) → CompletesUnless denial result before actor call after →
       IsAnswer denial result
   by_denial (Some why) d result c = rw c.0 (inl refl)
   by_denial None d result (inl memory) = rw memory.0 (inr refl)
   by_denial None d result (inr goes) =
-      ended (middle before actor call d) actor law sizes (All-push FitsKey before.steps (step.Begin actor call) keys fits) (begun_operation (state_of before) call)
+      ended (middle before actor call d) actor law closes sizes (All-push FitsKey before.steps (step.Begin actor call) keys fits) (begun_operation (state_of before) call)
       (begun_runs_on before actor call d) (sure_behind before actor call d most_steps_alone sure) result after goes
 
   pub completed : (result : Result (Option Reply) Refusal) → Completes result before actor call after → IsAnswer (begin_denial (state_of before) actor call) result
   completed result c = by_denial (begin_denial (state_of before) actor call) refl result c
+
+-- ---- enough slots
+
+module _ (law : EachStepLeadsToItsEnd) (closes : ClosesEnd) (spare : EnoughSlots) (before : Taken) (actor : ℕ) (call : Call) (sizes : AreLimits before.limits) (keys : KeysFit before.steps)
+    (fits : FitsKey (step.Begin actor call)) (sure : IsSure (state_of before) call (1 + most_steps_alone)) (free : enough_slots ≤ length (state_of before).heap.free) where
+  -- the first line of a call refuses nothing
+  first_stands : first_line call ≢ line.End NoSlots
+  first_stands is = first_refusal call (subst IsRefusal (sym is) tt)
+
+  -- behind its begin a call isn't refused for want of slots
+  pub spared_behind : (d : begin_denial (state_of before) actor call ≡ None) (n : ℕ) (last : Taken) → going_on n actor (middle before actor call d) ≡ (Ok (Some NoSlots), last) → ⊥
+  spared_behind d =
+      spared (middle before actor call d) actor law closes sizes (All-push FitsKey before.steps (step.Begin actor call) keys fits) (begun_operation (state_of before) call)
+      (begun_runs_on before actor call d) (sure_behind before actor call d most_steps_alone sure) spare first_stands
+      (subst (λ h. enough_slots ≤ length h.free) (sym (ap (λ (s : State). s.heap) (led_so before actor call d) ∙ begin_heap (state_of before) actor call (begun_operation (state_of before) call))) free)
+
+  spares_by : (after : Taken) (denial : Option Refusal) → begin_denial (state_of before) actor call ≡ denial → CompletesUnless denial (Ok (Some NoSlots)) before actor call after → ⊥
+  spares_by after (Some why) d c = cc c.0
+  spares_by after None d (inl memory) = cc memory.0
+  spares_by after None d (inr goes) = spared_behind d go_limit after goes
+
+  pub spares : (after : Taken) (result : Result (Option Reply) Refusal) → Completes result before actor call after → result ≢ Ok (Some NoSlots)
+  spares after result c is = spares_by after (begin_denial (state_of before) actor call) refl (subst (λ r. Completes r before actor call after) is c)
+
+-- ---- a step of it
+
+pub ends_if_sure : EachStepLeadsToItsEnd → ClosesEnd → (machine : Taken) → AreLimits machine.limits → KeysFit machine.steps → (actor : ℕ) → EndsIfSure machine actor
+ends_if_sure law closes machine sizes keys actor operation runs sure = ends_in machine actor law closes sizes keys operation runs sure
+
+pub is_nearer : (before : Taken) (s : Step) (after : Taken) → after ≡ with_step before s → IsNearer before s after
+unfolding EndsIn
+is_nearer before s after is actor n own ends = subst (EndsIn n actor) (sym (is ∙ ap (with_step before) own)) ends.1
+
+pub if_nearer : (result : Result Outcome Refusal) (before : Taken) (s : Step) (after : Taken) → Applied result before s after → OnOk result (IsNearer before s after)
+if_nearer (Ok o) before s after is = is_nearer before s after is.0
+if_nearer (Err why) before s after is = tt

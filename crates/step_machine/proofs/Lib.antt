@@ -8,3 +8,6 @@ pub mod Reclaiming
 pub mod Telling
 pub mod Legality
 pub mod Ending
+pub mod Applying
+pub mod Resting
+pub mod Looking

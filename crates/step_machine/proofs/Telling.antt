@@ -31,7 +31,6 @@ use Rattle.step_machine.specs.Beneath.proof_order.proofs.History.Growing.{ended_
 use Rattle.step_machine.specs.Beneath.proof_order.proofs.Views.Unconditional.{books_of}
 use Rattle.step_machine.specs.Beneath.proof_order.proofs.History.Recalling.{end_event, begin_event}
 use Rattle.step_machine.specs.Machines.{Taken, state_of, with_step}
-use Rattle.machine_model.specs.Going.{go_limit}
 use Rattle.step_machine.specs.Callers.{Going, after_outcome, after_go, going_on}
 
 -- a machine after more steps, and what they tell
@@ -66,13 +65,13 @@ runs_further state s o after m quiet actor operation runs =
       | inr goes ↦ (goes.0, ap (operation_of after) own ∙ goes.1, goes.2.id)
     ]
 
-answered_parts : (a b : Reply) (x y : Taken) → ◌≡◌ {A = Going} (Ok (Some a), x) (Ok (Some b), y) → (a ≡ b) × (x ≡ y)
+pub answered_parts : (a b : Reply) (x y : Taken) → ◌≡◌ {A = Going} (Ok (Some a), x) (Ok (Some b), y) → (a ≡ b) × (x ≡ y)
 answered_parts a b x y e = (let first = ap (λ (g : Going). g.0) e in cc, ap (λ (g : Going). g.1) e)
 
-unanswered : (a : Reply) (x y : Taken) → ◌≡◌ {A = Going} (Ok None, x) (Ok (Some a), y) → ⊥
+pub unanswered : (a : Reply) (x y : Taken) → ◌≡◌ {A = Going} (Ok None, x) (Ok (Some a), y) → ⊥
 unanswered a x y e = let first = ap (λ (g : Going). g.0) e in cc first
 
-denied_parts : (why : Refusal) (a : Reply) (x y : Taken) → ◌≡◌ {A = Going} (Err why, x) (Ok (Some a), y) → ⊥
+pub denied_parts : (why : Refusal) (a : Reply) (x y : Taken) → ◌≡◌ {A = Going} (Err why, x) (Ok (Some a), y) → ⊥
 denied_parts why a x y e = let first = ap (λ (g : Going). g.0) e in cc first
 
 -- a call that goes on to its end tells that end alone
@@ -141,9 +140,9 @@ begun_runs state after actor call opens before books told =
     get_at_end (y ∷ xs) x = get_at_end xs x
 
 -- so it tells these two
-pub tells : (before after : Taken) (actor : ℕ) (call : Call) (answer : Reply) → going_on go_limit actor (with_step before (step.Begin actor call)) ≡ (Ok (Some answer), after) →
+pub tells : (n : ℕ) (before after : Taken) (actor : ℕ) (call : Call) (answer : Reply) → going_on n actor (with_step before (step.Begin actor call)) ≡ (Ok (Some answer), after) →
     (o : Outcome) (state : State) → next (state_of before) (step.Begin actor call) ≡ Ok (o, state) → Tells before after actor call answer
-tells before after actor call answer goes o state e =
+tells n before after actor call answer goes o state e =
     let middle = with_step before (step.Begin actor call) in
     let led : state_of middle ≡ state = stepped before (step.Begin actor call) o state e in
     let opens = (begun_operation (state_of before) call).opens in
@@ -154,5 +153,5 @@ tells before after actor call answer goes o state e =
       id = begun (state_of before).events;
       opens = opens;
       led = led_on before middle after (step.Begin actor call) (Begin (begun (state_of before).events) actor call opens ∷ []) (End (begun (state_of before).events) answer ∷ []) refl told
-          (subst (λ id. Led middle after (End id answer ∷ [])) same (told_going go_limit actor middle after answer operation runs goes));
+          (subst (λ id. Led middle after (End id answer ∷ [])) same (told_going n actor middle after answer operation runs goes));
     }

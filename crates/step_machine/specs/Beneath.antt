@@ -1,5 +1,6 @@
 -- What lies below this crate, named through the nearest crates alone: crates.txt lists only these, since the toolchain goes along each of its paths.
 pub use Rattle.proof_linearizable.specs.Beneath.slot_arena as slot_arena
+pub use Rattle.proof_linearizable.specs.Beneath.proof_contents as proof_contents
 pub use Rattle.proof_linearizable.specs.Beneath.proof_commits as proof_commits
 pub use Rattle.proof_linearizable.specs.Beneath.proof_generations as proof_generations
 pub use Rattle.proof_linearizable.specs.Beneath.proof_order as proof_order

@@ -1,18 +1,28 @@
--- Calls that are sure to end where their actor alone takes steps.
-use Rattle.std.specs.Prelude.{◌≡◌, ℕ, ◌+◌, ◌≤◌, ◌⊎◌, Option, Some, None, Result, Ok, Err}
+-- Operations and calls that are sure to end where their actor alone takes steps.
+use Rattle.std.specs.Prelude.{◌≡◌, ◌≢◌, ℕ, zero, suc, ◌+◌, ◌≤◌, ◌⊎◌, length, Option, Some, None, Result, Ok, Err}
 use Rattle.ctrie_base.specs.declared.refusals.Refusal.{Refusal}
 use Rattle.ctrie_base.specs.declared.refusals.Refusal.TheVariants.{Memory}
 use Rattle.history.specs.declared.calls.Call.{Call}
+use Rattle.history.specs.declared.calls.Call.TheVariants.{Entries, Count}
 use Rattle.history.specs.declared.replies.Reply.{Reply}
+use Rattle.history.specs.declared.replies.Reply.TheVariants.{NoSlots}
 use Rattle.machine_model.specs.declared.operations.Operation.{Operation}
+use Rattle.machine_model.specs.declared.steps.Step.{Step}
+use Rattle.machine_model.specs.declared.steps.Step.TheVariants.{Go}
 use Rattle.machine_model.specs.Machine.{begin_denial}
 use Rattle.machine_model.specs.States.{State, operation_of, step_limit}
-use Rattle.proof_obstruction_free.specs.Laws.{IsOnKeyOrRoot, most_steps_alone}
-use Rattle.step_machine.specs.Machines.{Taken, state_of}
+use Rattle.proof_obstruction_free.specs.Laws.{most_steps_alone}
+use Rattle.step_machine.specs.Machines.{Taken, state_of, with_step, IsTaken}
 
--- a call on one key, a snapshot, a freeze or a clear, while so many steps are left
+-- any call but entries and count
+abbrev pub IsBounded : Call → Type 0
+IsBounded (Entries h) = ⊥
+IsBounded (Count h) = ⊥
+IsBounded call = Unit {0}
+
+-- such a call, while so many steps are left
 abbrev pub IsSure : State → Call → ℕ → Type 0
-IsSure state call steps = IsOnKeyOrRoot call × (state.steps + steps ≤ step_limit)
+IsSure state call steps = IsBounded call × (state.steps + steps ≤ step_limit)
 
 -- There is a reply, or a refusal: why the begin is denied, or want of memory. It isn't answered that the operation still runs.
 abbrev pub IsAnswer : Option Refusal → Result (Option Reply) Refusal → Type 0
@@ -28,3 +38,30 @@ CompletesIfSure machine actor call result = IsSure (state_of machine) call (1 + 
 abbrev pub ResumesIfSure : Taken → ℕ → Result (Option Reply) Refusal → Type 0
 ResumesIfSure machine actor result =
     (operation : Operation) → operation_of (state_of machine) actor ≡ Some operation → IsSure (state_of machine) operation.call most_steps_alone → IsAnswer None result
+
+-- ---- slots
+
+-- so many free slots are enough for an operation whose actor alone takes steps
+abbrev pub enough_slots : ℕ
+enough_slots = most_steps_alone
+
+-- a call that is sure to end isn't refused for want of slots where so many are free
+abbrev pub IsSpared : Taken → Call → Result (Option Reply) Refusal → Type 0
+IsSpared machine call result = IsSure (state_of machine) call (1 + most_steps_alone) → enough_slots ≤ length (state_of machine).heap.free → result ≢ Ok (Some NoSlots)
+
+-- ---- step by step
+
+-- so many steps of the actor alone, none of which is denied, end its operation
+unfoldable pub EndsIn : ℕ → ℕ → Taken → Type 0
+EndsIn zero actor machine = operation_of (state_of machine) actor ≡ None
+EndsIn (suc n) actor machine = IsTaken (state_of machine) (Go actor) × EndsIn n actor (with_step machine (Go actor))
+
+-- an operation that is sure to end does so in so many steps of its actor alone: 3,962 at most
+abbrev pub EndsIfSure : Taken → ℕ → Type 0
+EndsIfSure machine actor =
+    (operation : Operation) → operation_of (state_of machine) actor ≡ Some operation → IsSure (state_of machine) operation.call most_steps_alone →
+    (n : ℕ) × (n ≤ most_steps_alone) × EndsIn n actor machine
+
+-- once the actor has taken one of them, it is one less
+abbrev pub IsNearer : Taken → Step → Taken → Type 0
+IsNearer before step after = (actor n : ℕ) → step ≡ Go actor → EndsIn (suc n) actor before → EndsIn n actor after

@@ -5,3 +5,5 @@ pub mod Records
 pub mod Reclaiming
 pub mod Legality
 pub mod Ending
+pub mod Memory
+pub mod Contents

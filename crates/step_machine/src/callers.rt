@@ -4,12 +4,13 @@ ghost use Rattle.std.specs.Prelude.{◌≡◌, false, List, [], ◌∷◌, ◌++
 ghost use Rattle.machine_model.specs.declared.steps.Limits.{Limits};
 ghost use Rattle.machine_model.specs.declared.steps.Step.{Step};
 ghost use Rattle.step_machine.specs.Records.{IsAfter};
-ghost use Rattle.step_machine.specs.Machines.{state_of};
+ghost use Rattle.history.specs.declared.calls.Call.{Call};
+ghost use Rattle.step_machine.specs.Machines.{Taken, state_of};
 ghost use Rattle.step_machine.specs.Callers.{Stepped, Resumes, Completes, Reclaims};
 ghost use Rattle.machine_model.specs.Machine.{is_busy};
 ghost use Rattle.step_machine.specs.Reclaiming.{UsesReached, LooksSame};
-ghost use Rattle.step_machine.specs.Legality.{ActedAlone};
-ghost use Rattle.step_machine.specs.Ending.{CompletesIfSure, ResumesIfSure};
+ghost use Rattle.step_machine.specs.Legality.{ActedAlone, RestsIfAnswered, WentAlone};
+ghost use Rattle.step_machine.specs.Ending.{CompletesIfSure, IsSpared, ResumesIfSure};
 
 use crate::machine::Machine;
 use ctrie_base::Refusal;
@@ -21,23 +22,29 @@ pub const GO_LIMIT: u32 = 16_384;
 
 impl Machine {
     /// Begins the call and takes steps of it until it ends; none where 16,384 steps didn't end it, which
-    /// happens to no call on one key, snapshot, freeze or clear while enough steps are left. What denies the
+    /// happens to no call but entries and count while enough steps are left. What denies the
     /// begin is answered, and nothing has changed then. After `Memory` or `Spent` the steps taken so far stand:
     /// an operation that began still runs. `Memory` is answered only where nothing denies the next step. From
     /// rest, an operation that ends enters the order last, and the contents change by its call, with its
-    /// reply; where it is refused for want of slots, neither changes.
+    /// reply; where it is refused for want of slots, neither changes. The machine is at rest again then. Nor is a
+    /// call that is sure to end refused so where 3,962 slots are free.
     pub fn complete(&mut self, actor: u8, call: Call) -> Result<Option<Reply>, Refusal>
         ensures steps { Completes result self.old actor call self.new }
         ensures alone { is_busy (state_of self.old) ≡ false → ActedAlone result self.old call self.new }
+        ensures rests { is_busy (state_of self.old) ≡ false → RestsIfAnswered result self.new }
         ensures ends { CompletesIfSure self.old actor call result }
+        ensures spare { IsSpared self.old call result }
     {
         let _ = self.limits();
         let _ = self.steps();
         Self::fits(Step::Begin { actor, call });
         let result = self.begin_and_go(actor, call);
+        let _ = self.limits();
         let _ = self.steps();
         proof_linearizable::alone_it_acts();
         proof_obstruction_free::each_step_leads_to_its_end();
+        proof_obstruction_free::closes_end();
+        proof_obstruction_free::enough_slots();
         result
     }
 
@@ -51,17 +58,24 @@ impl Machine {
     }
 
     /// Takes steps of the actor's operation until it ends; none where 16,384 steps didn't end it, which
-    /// happens to no call on one key, snapshot, freeze or clear while enough steps are left. `NoActor` and
+    /// happens to no call but entries and count while enough steps are left. `NoActor` and
     /// `Idle` where it runs none. After `Memory` or `Spent` the steps taken so far stand, and the operation
-    /// still runs. `Memory` is answered only where nothing denies the next step.
+    /// still runs. `Memory` is answered only where nothing denies the next step. Where its actor alone has
+    /// taken steps since it began at rest, an answer is as if `complete` had given it.
     pub fn resume(&mut self, actor: u8) -> Result<Option<Reply>, Refusal>
         ensures steps { Resumes result self.old actor self.new }
+        ensures alone { (before : Taken) (call : Call) → WentAlone before actor call self.old → ActedAlone result before call self.new }
+        ensures rests { (before : Taken) (call : Call) → WentAlone before actor call self.old → RestsIfAnswered result self.new }
         ensures ends { ResumesIfSure self.old actor result }
     {
         let _ = self.limits();
         let _ = self.steps();
         let result = self.go_on(actor);
+        let _ = self.limits();
+        let _ = self.steps();
+        proof_linearizable::alone_it_acts();
         proof_obstruction_free::each_step_leads_to_its_end();
+        proof_obstruction_free::closes_end();
         result
     }
 

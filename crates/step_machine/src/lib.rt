@@ -2,6 +2,7 @@
 #![tactic(auto)]
 
 mod callers;
+mod laws;
 mod machine;
 mod records;
 

@@ -1,20 +1,26 @@
 //! A machine and its steps.
 
-ghost use Rattle.std.specs.Prelude.{◌≡◌, ◌≢◌, ◌+◌, ℕ, length, option_map, Some, Ok, IsSome, IfOk, IfErr, OnOk, IsOkUnless};
+ghost use Rattle.std.specs.Prelude.{◌≡◌, ◌≢◌, ◌+◌, ℕ, length, None, option_map, Some, Ok, IsSome, IfOk, IfErr, OnOk, IsOkUnless};
+ghost use Rattle.std.specs.FinMap as map;
+ghost use Rattle.std.specs.Ordering.{nat_cmp};
+ghost use Rattle.ctrie_base.specs.Hashes.{hash_of};
 ghost use Rattle.ctrie_base.specs.declared.kinds.Kind.TheVariants.{Make};
 ghost use Rattle.history.specs.declared.calls.Access.TheVariants.{ReadOnly};
 ghost use Rattle.history.specs.declared.replies.Reply.TheVariants.{NoSlots};
 ghost use Rattle.machine_model.specs.declared.operations.Operation.{Operation};
-ghost use Rattle.machine_model.specs.States.{root_at, operation_of};
-ghost use Rattle.step_machine.specs.Beneath.slot_arena.specs.Heaps.{in_use};
+ghost use Rattle.machine_model.specs.States.{root_at, root_of, word_at, operation_of};
+ghost use Rattle.step_machine.specs.Beneath.slot_arena.specs.Heaps.{in_use, logical_main, node_at};
 ghost use Rattle.machine_model.specs.Orders.{order_of};
-ghost use Rattle.machine_model.specs.Contents.{content_at};
-ghost use Rattle.machine_model.specs.Keys.{FitsKey, KeysFit};
+ghost use Rattle.machine_model.specs.Contents.{content_at, most_levels};
+ghost use Rattle.step_machine.specs.Beneath.proof_contents.specs.Nodes.Looking.{find_at};
+ghost use Rattle.machine_model.specs.Keys.{KeysFit};
 ghost use Rattle.machine_model.specs.Machine.{AreLimits, denial_of, is_running, is_busy, runs_on, next_kind, handles_taken, is_access, access_of};
 ghost use Rattle.machine_model.specs.Refusing.{RefusesLimits, RefusesContent};
 ghost use Rattle.step_machine.specs.Machines.{Taken, fresh, state_of, AreTaken, Applied, FoundNoSlot};
-ghost use Rattle.step_machine.specs.Beneath.proof_order.specs.Laws.Orders.{IsExplained};
-ghost use Rattle.step_machine.specs.Legality.{IsLegalFor, IsInOrder};
+ghost use Rattle.step_machine.specs.Contents.{ChangesContents};
+ghost use Rattle.step_machine.specs.Ending.{EndsIfSure, IsNearer};
+ghost use Rattle.step_machine.specs.Legality.{IsLegalFor, LeadsToContents, HasInOrder, InOrder, IsInOrder, writable_in};
+ghost use Rattle.step_machine.specs.Memory.{UsesWhatItNames, FreesLate, DrawsNew};
 
 use ctrie_base::{Kind, Refusal};
 use history::{Access, Event};
@@ -63,10 +69,39 @@ impl Machine {
     /// Takes a step. Where it is refused, for want of memory too, nothing has changed; `Memory` is answered
     /// only where nothing else denies the step. A reply `NoSlots` comes only where the actor's step before
     /// was to make a node, and no slot was free before it.
-    #[tactic(auto, using(crate::proofs::Steps::kept_limits, crate::proofs::Steps::next_run, crate::proofs::Steps::holds_after, crate::proofs::Denials::wanting_applied, crate::proofs::Denials::refused_applied))]
+    ///
+    /// What the step takes for granted is in use (`used`). It frees a slot only where nothing has referred to
+    /// it for two epochs (`frees`), and makes one under a reference that never was in use (`draws`). `contents`
+    /// says what it does to the content of each open handle. An operation on one key, a snapshot, a freeze, a
+    /// clear or a close ends within 3,962 steps of its actor alone, while so many are left (`ends`); each one
+    /// that is taken leaves one less (`nearer`).
     pub fn apply(&mut self, step: Step) -> Result<Outcome, Refusal>
         ensures applied { Applied result self.old step self.new }
         ensures want { (actor id : ℕ) → step ≡ Step.Go actor → result ≡ Ok (Outcome.Ended id NoSlots) → FoundNoSlot self.old actor id }
+        ensures used { UsesWhatItNames self.old }
+        ensures frees { FreesLate self.old step self.new }
+        ensures draws { DrawsNew self.old self.new }
+        ensures contents { OnOk result (ChangesContents self.old step self.new) }
+        ensures ends { (actor : ℕ) → EndsIfSure self.new actor }
+        ensures nearer { OnOk result (IsNearer self.old step self.new) }
+    {
+        let _ = self.limits();
+        let result = self.take_step(step);
+        let _ = self.limits();
+        let _ = self.steps();
+        machine_model::refused_for_want_alone();
+        proof_memory::references_in_use();
+        proof_memory::freed_when_zero_for_two_epochs();
+        proof_updates::contents_of_handles();
+        proof_obstruction_free::each_step_leads_to_its_end();
+        proof_obstruction_free::closes_end();
+        result
+    }
+
+    /// The same, without what the laws say of it.
+    #[tactic(auto, using(crate::proofs::Steps::kept_limits, crate::proofs::Steps::next_run, crate::proofs::Steps::holds_after, crate::proofs::Denials::wanting_applied, crate::proofs::Denials::refused_applied))]
+    fn take_step(&mut self, step: Step) -> Result<Outcome, Refusal>
+        ensures { Applied result self.old step self.new }
     {
         // The room is taken first, so that a step that was taken can be recorded.
         if self.steps.reserve(1).is_err() {
@@ -75,26 +110,7 @@ impl Machine {
         let outcome = self.plain.apply(step)?;
         let _ = self.steps.push(step);
         Machine::fits(step);
-        machine_model::refused_for_want_alone();
         Ok(outcome)
-    }
-
-    /// The order explains the history, and leads to the contents.
-    pub(crate) fn explained(&self)
-        ensures { IsExplained self.now.limits (state_of self.now) }
-    {
-        let _ = self.steps();
-        let _ = self.limits();
-        proof_linearizable::every_order_is_legal();
-    }
-
-    /// The key of a step has 64 bits, since it is one of the program's.
-    pub(crate) fn fits(step: Step)
-        ensures { FitsKey step }
-    {
-        if let Step::Begin { call, .. } = step {
-            let _ = plain_machine::key_of(call);
-        }
     }
 
     /// Why a step is denied, if it is: what `apply` answers, but for want of memory.
@@ -124,10 +140,12 @@ impl Machine {
     }
 
     /// The ids of the operations in the order that explains their replies, by rising place: it is legal for
-    /// what `events` gives. Only `Memory` is refused.
+    /// what `events` gives, and leads to a world that has just the open handles, each of its kind and with its
+    /// content. Only `Memory` is refused.
     pub fn order(&self) -> Result<Vec<u64>, Refusal>
         ensures order { IfOk result (λ order. order.items ≡ order_of (state_of self.now)) }
         ensures legal { IfOk result (λ order. IsLegalFor self.now order.items) }
+        ensures leads { IfOk result (λ order. LeadsToContents self.now order.items) }
         ensures only_memory { IsOkUnless result Refusal.Memory }
     {
         self.explained();
@@ -142,11 +160,13 @@ impl Machine {
         self.plain.order()
     }
 
-    /// The content of a handle's map, by rising key: that of the handle's map in the world to which the order
-    /// leads. `NoHandle` exactly where it isn't open, and else only `Memory`.
+    /// The content of a handle's map, by rising key: in the world to which the order leads the handle names just
+    /// that map, of the machine's kind. `NoHandle` exactly where it isn't open, and then it isn't in that world;
+    /// else only `Memory`.
     pub fn content(&self, handle: u16) -> Result<Vec<(u64, u64)>, Refusal>
         ensures pairs { IfOk result (λ pairs. pairs.items ≡ content_at (state_of self.now) handle) }
         ensures in_order { IfOk result (λ pairs. IsInOrder self.now handle pairs.items) }
+        ensures closed { IfErr result (λ refusal. refusal ≡ Refusal.NoHandle → InOrder self.now (λ world. map.get world handle ≡ None)) }
         ensures open { OnOk result (IsSome (root_at (state_of self.now) handle)) }
         ensures refused { IfErr result (λ refusal. RefusesContent (state_of self.now) handle refusal) }
     {
@@ -161,6 +181,39 @@ impl Machine {
         ensures refused { IfErr result (λ refusal. RefusesContent (state_of self.now) handle refusal) }
     {
         Ok(self.plain.content(handle)?.into_vec())
+    }
+
+    /// The value of a key in a handle's map, as `content` and the world to which the order leads have it. It takes
+    /// neither a step nor memory. `NoHandle` exactly where the handle isn't open; there is no other refusal.
+    pub fn value_at(&self, handle: u16, key: u64) -> Result<Option<u64>, Refusal>
+        ensures value { IfOk result (λ value. value ≡ map.find nat_cmp key (content_at (state_of self.now) handle)) }
+        ensures in_order { IfOk result (λ value. HasInOrder self.now handle key value) }
+        ensures open { OnOk result (IsSome (root_at (state_of self.now) handle)) }
+        ensures refused { IfErr result (λ refusal. (root_at (state_of self.now) handle ≡ None) × (refusal ≡ Refusal.NoHandle)) }
+    {
+        self.explained();
+        self.found_at(handle, key)
+    }
+
+    /// The value, without what the order says of it.
+    fn found_at(&self, handle: u16, key: u64) -> Result<Option<u64>, Refusal>
+        ensures value { IfOk result (λ value. value ≡ map.find nat_cmp key (content_at (state_of self.now) handle)) }
+        ensures open { OnOk result (IsSome (root_at (state_of self.now) handle)) }
+        ensures refused { IfErr result (λ refusal. (root_at (state_of self.now) handle ≡ None) × (refusal ≡ Refusal.NoHandle)) }
+    {
+        let _ = self.limits();
+        let _ = self.steps();
+        proof_updates::found_along_hashes();
+        self.looked_up(handle, key)
+    }
+
+    /// What is found along the key's hash.
+    fn looked_up(&self, handle: u16, key: u64) -> Result<Option<u64>, Refusal>
+        ensures found { IfOk result (λ value. value ≡ find_at (node_at (state_of self.now).heap) (logical_main (state_of self.now).heap) (hash_of (state_of self.now).limits.hash) key most_levels 0 (root_of (word_at (state_of self.now) handle))) }
+        ensures open { OnOk result (IsSome (root_at (state_of self.now) handle)) }
+        ensures refused { IfErr result (λ refusal. (root_at (state_of self.now) handle ≡ None) × (refusal ≡ Refusal.NoHandle)) }
+    {
+        self.plain.value_at(handle, key)
     }
 
     /// The kind of the next step of the actor's operation; none where none runs. An operation on a read-only
@@ -195,8 +248,17 @@ impl Machine {
         self.plain.runs_on(handle)
     }
 
-    /// Whether the handle is writable; none where it isn't open.
+    /// Whether the handle is writable, as in the world to which the order leads; none where it isn't open.
     pub fn is_writable(&self, handle: u16) -> Option<bool>
+        ensures kind { result ≡ option_map (λ access. is_access Access.Writable (Some access)) (access_of (root_at (state_of self.now) handle)) }
+        ensures in_order { InOrder self.now (λ world. result ≡ writable_in world handle) }
+    {
+        self.explained();
+        self.has_writable(handle)
+    }
+
+    /// Whether it is, without what the laws say of it.
+    fn has_writable(&self, handle: u16) -> Option<bool>
         ensures { result ≡ option_map (λ access. is_access Access.Writable (Some access)) (access_of (root_at (state_of self.now) handle)) }
     {
         self.plain.is_writable(handle)

@@ -161,7 +161,7 @@ module _ (limits : Limits) (steps : List Step) (actor : ℕ) (operation : Operat
 
   -- ---- after its end
 
-  abbrev RestsAt : ℕ → Type 0
+  abbrev pub RestsAt : ℕ → Type 0
   RestsAt n = operation_of (after n) actor ≡ None
 
   rest_by : (state : State) (denial : Option Refusal) → operation_of state actor ≡ None → state_after state (go_unless state actor denial) ≡ state
@@ -172,7 +172,7 @@ module _ (limits : Limits) (steps : List Step) (actor : ℕ) (operation : Operat
   unfolding next
   rests state idle = rest_by state (go_denial state actor) idle
 
-  stays : (n k : ℕ) → RestsAt n → after (n + k) ≡ after n
+  pub stays : (n k : ℕ) → RestsAt n → after (n + k) ≡ after n
   stays n zero idle = let none : n + 0 ≡ n = omega arith in ap after none
   stays n (suc k) idle =
       let before = stays n k idle in

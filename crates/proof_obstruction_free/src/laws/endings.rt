@@ -1,6 +1,7 @@
 //! Laws of operations that alone take steps, for every list of steps whose keys have 64 bits.
 
 ghost use Rattle.proof_obstruction_free.specs.Laws.{AloneItEnds, EachStepLeadsToItsEnd};
+ghost use Rattle.proof_obstruction_free.specs.Slots.{EnoughSlots, MakesAtMost};
 
 /// A law: an operation on one key, a snapshot, a freeze or a clear whose actor alone takes steps has ended after 3,962
 /// of them, whatever others left behind.
@@ -11,4 +12,11 @@ pub fn alone_it_ends()
 /// A law: until then none of its steps is denied; each goes on, and one of the first 3,962 ends it.
 pub fn each_step_leads_to_its_end()
     ensures { EachStepLeadsToItsEnd }
+{}
+
+/// A law: an operation on one key, a snapshot, a freeze or a clear whose actor alone takes steps makes 3,962 nodes at
+/// most (`makes`); so where as many slots are free it isn't refused for want of slots (`spare`).
+pub fn enough_slots()
+    ensures makes { MakesAtMost }
+    ensures spare { EnoughSlots }
 {}

@@ -1,6 +1,7 @@
 //! Laws of the small machines of an operation whose actor alone takes steps.
 
 ghost use Rattle.proof_obstruction_free.specs.Alone.{Lone};
+ghost use Rattle.proof_obstruction_free.specs.Closes.{ClosesEnd};
 ghost use Rattle.proof_obstruction_free.specs.Copies.{CopiesEnd, CopiesEndFirst};
 ghost use Rattle.proof_obstruction_free.specs.ReadLaws.{AloneReadEnds, AloneReadGoesToItsEnd};
 ghost use Rattle.proof_obstruction_free.specs.Readers.{ReadersEnd};
@@ -33,4 +34,9 @@ pub fn copies_end()
 /// A law: a call on one key of a read-only handle has ended after 166 steps of its actor alone, from wherever it stands.
 pub fn readers_end()
     ensures { ReadersEnd }
+{}
+
+/// A law: a close has ended after one step of its actor from its begin.
+pub fn closes_end()
+    ensures { ClosesEnd }
 {}

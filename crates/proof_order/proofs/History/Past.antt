@@ -162,7 +162,7 @@ newly_closed state s o after (Goes {actor} {operation} d is b g) c a = closings_
 newly_closed state s o after (Ends d is b) c a = inl a
 newly_closed state s o after (Sweeps spent) c a = inl a
 
-past_kept : IsKept Past
+pub past_kept : IsKept Past
 past_kept state s o after m past =
     let n = steps_counted state s o after m in
     record {
@@ -171,7 +171,7 @@ past_kept state s o after m past =
       operations = operations_past state s o after m past;
     }
 
-first_past : (limits : Limits) → Past (first_state limits)
+pub first_past : (limits : Limits) → Past (first_state limits)
 unfolding first_state
 first_past limits = record {
   commits = λ c a. absurd a;

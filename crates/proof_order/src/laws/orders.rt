@@ -1,6 +1,7 @@
 //! Laws of the order, for every list of steps.
 
 ghost use Rattle.proof_order.specs.Laws.Orders.{LegalByFacts, HistoriesWellFormed, AnsweredAreOrdered, OrderedHaveBegun, PlacesStay, RisingSorts};
+ghost use Rattle.proof_order.specs.Laws.Past.{PlacesPast};
 
 /// A law: from the facts about the contents of generations it follows that the order is legal, and leads
 /// to a world that shows the machine's contents.
@@ -31,4 +32,9 @@ pub fn places_stay()
 /// A law: the rising places are the places, each as often as before, and sorted.
 pub fn rising_sorts()
     ensures { RisingSorts }
+{}
+
+/// A law: each place and each closing names a step that was taken.
+pub fn places_past()
+    ensures { PlacesPast }
 {}

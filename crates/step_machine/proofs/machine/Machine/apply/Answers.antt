@@ -1,10 +1,25 @@
-use Rattle.std.proofs.Common.{arith}
-use Rattle.step_machine.proofs.Steps.{holds_after}
+use Rattle.step_machine.proofs.Applying.{uses_what_it_names, frees_late, draws_new, if_changes}
+use Rattle.step_machine.proofs.Ending.{ends_if_sure, if_nearer}
 use Rattle.step_machine.proofs.machine.Machine.apply.Goals as goal
 
-pub invariant_of-self-2 : goal.invariant_of-self-2
-invariant_of-self-2 c =
-    holds_after c.self.inside.plain c.apply.new.self c.self.inside.steps.items c.push.new.self.items c.args.step c.in_ok-outcome.outcome
-    (grind (arith, c.apply.ensures, c.in_ok-outcome.is, c.in_ok-outcome.was, c.in_ok-outcome.ensures, c.branch-outcome.ensures))
-    (grind (arith, c.push.ensures, c.reserve.ensures, c.is_err.ensures, c.if-is_err.false))
-    c.self.invariant.0 c.self.invariant.1 c.self.invariant.2 c.self.invariant.3 c.fits.ensures
+pub returns-clause-used : goal.returns-clause-used
+returns-clause-used c = uses_what_it_names c.references_in_use.ensures.held c.references_in_use.ensures.standing c.args.self.now c.limits.ensures.in_range
+
+pub returns-clause-frees : goal.returns-clause-frees
+returns-clause-frees c =
+    frees_late c.freed_when_zero_for_two_epochs.ensures c.take_step-result.result c.args.self.now c.args.step c.take_step-result.new.self c.limits.ensures.in_range c.take_step-result.ensures
+
+pub returns-clause-draws : goal.returns-clause-draws
+returns-clause-draws c = draws_new c.take_step-result.result c.args.self.now c.args.step c.take_step-result.new.self c.limits.ensures.in_range c.take_step-result.ensures
+
+pub returns-clause-contents : goal.returns-clause-contents
+returns-clause-contents c =
+    let laws = c.contents_of_handles.ensures in
+    if_changes laws.stay laws.updates laws.repairs laws.clears laws.closes laws.opens c.take_step-result.result c.args.self.now c.args.step c.take_step-result.new.self
+    c.limits.ensures.in_range c.steps.ensures.keys c.take_step-result.ensures
+
+pub returns-clause-ends : goal.returns-clause-ends
+returns-clause-ends c = ends_if_sure c.each_step_leads_to_its_end.ensures c.closes_end.ensures c.take_step-result.new.self c.limits-2.ensures.in_range c.steps.ensures.keys
+
+pub returns-clause-nearer : goal.returns-clause-nearer
+returns-clause-nearer c = if_nearer c.take_step-result.result c.args.self.now c.args.step c.take_step-result.new.self c.take_step-result.ensures

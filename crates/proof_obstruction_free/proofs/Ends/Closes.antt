@@ -1,0 +1,86 @@
+-- A close ends with the step after its begin.
+use Rattle.std.proofs.Common.{◌≡◌, ℕ, true, List, Some, Ok, refl, sym, ap, ◌∙◌, subst}
+use Rattle.std.proofs.lemmas.Bool.{false≢true}
+use Rattle.std.proofs.lemmas.Option.{same_Some}
+use Rattle.proof_obstruction_free.specs.Beneath.ctrie_base.specs.declared.kinds.Kind.{Kind}
+use Rattle.proof_obstruction_free.specs.Beneath.history.specs.declared.calls.Call.{Call}
+use Rattle.proof_obstruction_free.specs.Beneath.history.specs.declared.calls.Call.TheVariants.{Close}
+use Rattle.proof_obstruction_free.specs.Beneath.history.specs.declared.replies.Reply.{Reply}
+use Rattle.proof_obstruction_free.specs.Beneath.history.specs.declared.replies.Reply.TheVariants.{Closed}
+use Rattle.proof_obstruction_free.specs.Beneath.machine_model.specs.declared.actions.Action.TheVariants as act
+use Rattle.proof_obstruction_free.specs.Beneath.machine_model.specs.declared.lines.Line.TheVariants as line
+use Rattle.proof_obstruction_free.specs.Beneath.machine_model.specs.declared.operations.Operation.{Operation}
+use Rattle.proof_obstruction_free.specs.Beneath.machine_model.specs.declared.steps.Limits.{Limits}
+use Rattle.proof_obstruction_free.specs.Beneath.machine_model.specs.declared.steps.Outcome.TheVariants.{Ended, Went}
+use Rattle.proof_obstruction_free.specs.Beneath.machine_model.specs.declared.steps.Step.{Step}
+use Rattle.proof_obstruction_free.specs.Beneath.machine_model.specs.declared.steps.Step.TheVariants as step
+use Rattle.proof_obstruction_free.specs.Beneath.machine_model.specs.Calls.{is_close}
+use Rattle.proof_obstruction_free.specs.Beneath.machine_model.specs.Machine.{next, next_state, run}
+use Rattle.proof_obstruction_free.specs.Beneath.machine_model.specs.Moves.{Moves, Goes, GoesOn}
+use Rattle.proof_obstruction_free.specs.Beneath.machine_model.specs.Operations.{action_of, first_line, line_action}
+use Rattle.proof_obstruction_free.specs.Beneath.machine_model.specs.States.{State, operation_of}
+use Rattle.proof_obstruction_free.specs.Beneath.machine_model.proofs.Actors.{mark_only}
+use Rattle.proof_obstruction_free.specs.Beneath.machine_model.proofs.EachOperation.{OfEach, of_each_along, of_running}
+use Rattle.proof_obstruction_free.specs.Beneath.machine_model.proofs.Moves.{ending, moved}
+use Rattle.proof_obstruction_free.specs.Closes.{ClosesEnd}
+use Rattle.proof_obstruction_free.specs.Laws.{HasEnded, alone_after}
+use Rattle.proof_obstruction_free.proofs.Ends.Actors.{is_one}
+use Rattle.proof_obstruction_free.proofs.Ends.Lists.{none_more, one_more}
+use Rattle.proof_obstruction_free.proofs.Ends.Steps.{Last, Leads, Steps, allowed, steps_alone}
+
+-- a close stands on its end
+abbrev Closes : State → Operation → Type 0
+Closes state operation = is_close operation.call ≡ true → operation.line ≡ line.End Closed
+
+begun_closes : (call : Call) → is_close call ≡ true → first_line call ≡ line.End Closed
+begun_closes (Close h) e = refl
+begun_closes call e = absurd (false≢true e)
+
+no_step : (state : State) (operation : Operation) → operation.line ≡ line.End Closed → GoesOn (action_of state operation) → ⊥
+no_step state operation e g = subst GoesOn (ap (line_action state operation) e) g
+
+each_closes : (limits : Limits) (steps : List Step) → OfEach Closes (run limits steps)
+each_closes limits =
+    of_each_along limits Closes (λ steps actor call d e. begun_closes call e)
+    (λ steps actor operation found g h. rw (mark_only _ _) (λ e. absurd (no_step (run limits steps) operation (h e) g)))
+    (λ steps s o after m k other operation found h. rw (mark_only _ operation) h)
+
+goes_on : (state : State) (actor : ℕ) (kind : Kind) (after : State) → Moves state (step.Go actor) (Went kind) after →
+    (operation : Operation) × (operation_of state actor ≡ Some operation) × GoesOn (action_of state operation)
+goes_on state actor kind after (Goes {operation} d is a g) = (operation, is, rw a g)
+
+module _ (limits : Limits) (steps : List Step) (actor : ℕ) (operation : Operation) (runs : operation_of (run limits steps) actor ≡ Some operation) (closes : is_close operation.call ≡ true) where
+  abbrev now : State
+  now = run limits steps
+
+  abbrev later : State
+  later = next_state now (step.Go actor)
+
+  there : operation.line ≡ line.End Closed
+  there = of_running Closes now (each_closes limits steps) actor operation runs closes
+
+  after_one : alone_after limits steps actor 1 ≡ later
+  after_one = one_more limits steps actor 0 ∙ ap (λ x. next_state x (step.Go actor)) (none_more limits steps actor)
+
+  its_answer : (answer : Reply) → next now (step.Go actor) ≡ Ok (Ended operation.id answer, later) → answer ≡ Closed
+  its_answer answer e =
+      let (found, at, same, is, d) = ending now actor operation.id answer later (moved now (step.Go actor) (Ended operation.id answer) later e) in
+      let one = same_Some operation found (sym runs ∙ at) in
+      let ends : act.End answer ≡ act.End Closed = sym is ∙ ap (action_of now) (sym one) ∙ ap (line_action now operation) there in
+      cc ends
+
+  by : Steps now actor operation → (next now (step.Go actor) ≡ Ok (Ended operation.id Closed, alone_after limits steps actor 1)) × HasEnded (alone_after limits steps actor 1) actor operation.id
+  by (Leads kind e found at id) =
+      let (was, is, g) = goes_on now actor kind later (moved now (step.Go actor) (Went kind) later e) in
+      let one = same_Some operation was (sym runs ∙ is) in
+      absurd (no_step now was (ap (λ (o : Operation). o.line) (sym one) ∙ there) g)
+  by (Last answer e idle told) =
+      let same = its_answer answer e in (
+        e ∙ ap (λ r. Ok (Ended operation.id r, later)) same ∙ ap (λ x. Ok (Ended operation.id Closed, x)) (sym after_one),
+        subst (λ x. HasEnded x actor operation.id) (sym after_one) (record { idle = idle; answer = answer; told = told }),
+      )
+
+pub closes_end : ClosesEnd
+closes_end limits steps actor operation runs closes left =
+    by limits steps actor operation runs closes
+    (steps_alone (run limits steps) actor operation (allowed (run limits steps) actor operation (is_one limits steps actor operation runs) runs left) runs)

@@ -1,0 +1,3 @@
+-- How many slots an operation takes where its actor alone takes steps.
+pub mod Free
+pub mod Few

@@ -1,0 +1,45 @@
+-- How many slots an operation takes where its actor alone takes steps.
+use Rattle.std.specs.Prelude.{◌≡◌, ◌≢◌, ℕ, zero, suc, ◌+◌, ◌≤◌, Bool, true, false, if◌then◌else◌, List, length, Option, Some, Ok}
+use Rattle.proof_obstruction_free.specs.Beneath.ctrie_base.specs.declared.kinds.Kind.{Kind}
+use Rattle.proof_obstruction_free.specs.Beneath.ctrie_base.specs.declared.kinds.Kind.TheVariants.{Make}
+use Rattle.proof_obstruction_free.specs.Beneath.history.specs.declared.replies.Reply.{Reply}
+use Rattle.proof_obstruction_free.specs.Beneath.history.specs.declared.replies.Reply.TheVariants.{NoSlots}
+use Rattle.proof_obstruction_free.specs.Beneath.machine_model.specs.declared.lines.Line.TheVariants.{End}
+use Rattle.proof_obstruction_free.specs.Beneath.machine_model.specs.declared.operations.Operation.{Operation}
+use Rattle.proof_obstruction_free.specs.Beneath.machine_model.specs.declared.steps.Limits.{Limits}
+use Rattle.proof_obstruction_free.specs.Beneath.machine_model.specs.declared.steps.Outcome.TheVariants.{Ended}
+use Rattle.proof_obstruction_free.specs.Beneath.machine_model.specs.declared.steps.Step.{Step}
+use Rattle.proof_obstruction_free.specs.Beneath.machine_model.specs.declared.steps.Step.TheVariants.{Go}
+use Rattle.proof_obstruction_free.specs.Beneath.machine_model.specs.Machine.{next, next_kind, run}
+use Rattle.proof_obstruction_free.specs.Beneath.machine_model.specs.States.{State}
+use Rattle.proof_obstruction_free.specs.Laws.{RunsAlone, alone_after, most_steps_alone}
+
+-- ---- makes
+
+abbrev pub is_make : Option Kind → Bool
+is_make (Some Make) = true
+is_make kind = false
+
+-- the next step of the actor's operation, if one runs, is to make a node
+abbrev pub makes_next : State → ℕ → Bool
+makes_next state actor = is_make (next_kind state actor)
+
+-- how many of so many steps of this actor alone are to make a node
+unfoldable pub makes_alone : Limits → List Step → ℕ → ℕ → ℕ
+makes_alone limits steps actor zero = 0
+makes_alone limits steps actor (suc n) = makes_alone limits steps actor n + (if makes_next (alone_after limits steps actor n) actor then 1 else 0)
+
+-- ---- enough slots
+
+-- an operation whose actor alone takes steps makes no more nodes than it takes steps, until it has ended
+abbrev pub MakesAtMost : Type 0
+MakesAtMost =
+    (limits : Limits) (steps : List Step) (actor : ℕ) (operation : Operation) → RunsAlone limits steps actor operation → (n : ℕ) →
+    makes_alone limits steps actor n ≤ most_steps_alone
+
+-- so where as many slots are free, and it isn't refused already, it isn't refused for want of slots
+abbrev pub EnoughSlots : Type 0
+EnoughSlots =
+    (limits : Limits) (steps : List Step) (actor : ℕ) (operation : Operation) → RunsAlone limits steps actor operation → operation.line ≢ End NoSlots →
+    most_steps_alone ≤ length (run limits steps).heap.free →
+    (n id : ℕ) (answer : Reply) (after : State) → next (alone_after limits steps actor n) (Go actor) ≡ Ok (Ended id answer, after) → answer ≢ NoSlots
