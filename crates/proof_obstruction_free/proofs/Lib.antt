@@ -13,3 +13,4 @@ pub mod Copy
 pub mod Reader
 pub mod Inherited
 pub mod Slots
+pub mod Programs
