@@ -5,3 +5,4 @@ pub mod Trie
 pub mod KeysOnce
 pub mod OfLists
 pub mod Roots
+pub mod Agreeing
