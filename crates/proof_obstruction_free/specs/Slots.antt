@@ -12,6 +12,8 @@ use Rattle.proof_obstruction_free.specs.Beneath.machine_model.specs.declared.ste
 use Rattle.proof_obstruction_free.specs.Beneath.machine_model.specs.declared.steps.Step.TheVariants.{Go}
 use Rattle.proof_obstruction_free.specs.Beneath.machine_model.specs.Machine.{next, next_kind, run}
 use Rattle.proof_obstruction_free.specs.Beneath.machine_model.specs.States.{State}
+use Rattle.proof_obstruction_free.specs.Beneath.machine_model.specs.Lines.{new_try}
+use Rattle.proof_obstruction_free.specs.Copies.{IsCopying}
 use Rattle.proof_obstruction_free.specs.Laws.{RunsAlone, alone_after, most_steps_alone}
 
 -- ---- makes
@@ -42,4 +44,21 @@ abbrev pub EnoughSlots : Type 0
 EnoughSlots =
     (limits : Limits) (steps : List Step) (actor : ℕ) (operation : Operation) → RunsAlone limits steps actor operation → operation.line ≢ End NoSlots →
     most_steps_alone ≤ length (run limits steps).heap.free →
+    (n id : ℕ) (answer : Reply) (after : State) → next (alone_after limits steps actor n) (Go actor) ≡ Ok (Ended id answer, after) → answer ≢ NoSlots
+
+-- ---- a snapshot, a freeze or a clear
+
+-- the most steps, and so the most nodes that such a call makes, from where a try begins: from its begin too
+abbrev pub most_steps_of_copies : ℕ
+most_steps_of_copies = 23
+
+abbrev pub CopiesMakeFew : Type 0
+CopiesMakeFew =
+    (limits : Limits) (steps : List Step) (actor : ℕ) (operation : Operation) → RunsAlone limits steps actor operation → IsCopying operation.call → operation.line ≡ new_try →
+    (n : ℕ) → makes_alone limits steps actor n ≤ most_steps_of_copies
+
+abbrev pub EnoughForCopies : Type 0
+EnoughForCopies =
+    (limits : Limits) (steps : List Step) (actor : ℕ) (operation : Operation) → RunsAlone limits steps actor operation → IsCopying operation.call → operation.line ≡ new_try →
+    most_steps_of_copies ≤ length (run limits steps).heap.free →
     (n id : ℕ) (answer : Reply) (after : State) → next (alone_after limits steps actor n) (Go actor) ≡ Ok (Ended id answer, after) → answer ≢ NoSlots
