@@ -6,3 +6,4 @@ pub mod KeysOnce
 pub mod OfLists
 pub mod Roots
 pub mod Agreeing
+pub mod Looking
