@@ -14,3 +14,4 @@ pub mod InUse
 pub mod Slots
 pub mod Times
 pub mod Taking
+pub mod Spared
