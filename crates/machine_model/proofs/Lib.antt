@@ -30,3 +30,4 @@ pub mod Grown
 pub mod Numbered
 pub mod Basics
 pub mod Taking
+pub mod Spared

@@ -150,11 +150,11 @@ begun_on_read_only : (state : State) (actor : ℕ) (call : Call) → begin_denia
 begun_on_read_only state actor call d a = grind arith
 
 -- an operation that begins is a reader if its handle is read-only
-begun_reads : (state : State) (actor : ℕ) (call : Call) → begin_denial state actor call ≡ None → ReadsIfReadOnly (begun_operation state call)
+pub begun_reads : (state : State) (actor : ℕ) (call : Call) → begin_denial state actor call ≡ None → ReadsIfReadOnly (begun_operation state call)
 begun_reads state actor call d a = (begun_on_read_only state actor call d a, first_readers call)
 
 -- and stays one after its step
-gone_reads : (state : State) (operation : Operation) → ReadsIfReadOnly operation → ReadsIfReadOnly (operation_after state operation)
+pub gone_reads : (state : State) (operation : Operation) → ReadsIfReadOnly operation → ReadsIfReadOnly (operation_after state operation)
 gone_reads state operation h a = let (n, r) = h a in (n, readers state operation operation.line a n r)
 
 -- and with a mark

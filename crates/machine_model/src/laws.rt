@@ -1,7 +1,7 @@
 //! Laws of the definition, for every list of steps.
 
 ghost use Rattle.machine_model.specs.Laws.{SlotsAddUp, RefusedForWantAlone, ReadersMakeNothing, TakenStepsSuffice};
-ghost use Rattle.machine_model.specs.Taking.{OneSlotAStep};
+ghost use Rattle.machine_model.specs.Taking.{OneSlotAStep, ReadersNeverRefused};
 
 /// A law: the slots in use and the free ones are all slots.
 pub fn slots_add_up()
@@ -27,4 +27,9 @@ pub fn taken_steps_suffice()
 /// A law: a step takes one free slot at most, and takes one only where it makes a node.
 pub fn one_slot_a_step()
     ensures { OneSlotAStep }
+{}
+
+/// A law: an operation on a read-only handle is never refused for want of slots.
+pub fn readers_never_refused()
+    ensures { ReadersNeverRefused }
 {}

@@ -28,8 +28,8 @@ pub use copying::CopyLine;
 pub use finding::{KeyLine, WhenFound};
 pub use heaps::{Closing, Commit};
 pub use laws::{
-    one_slot_a_step, readers_make_nothing, refused_for_want_alone, slots_add_up,
-    taken_steps_suffice,
+    one_slot_a_step, readers_make_nothing, readers_never_refused, refused_for_want_alone,
+    slots_add_up, taken_steps_suffice,
 };
 pub use lines::{Line, Purpose};
 pub use operations::Operation;

@@ -21,3 +21,4 @@ pub mod Copy
 pub mod Reader
 pub mod Inherited
 pub mod Slots
+pub mod Programs

@@ -1,3 +1,4 @@
 -- How many slots an operation takes where its actor alone takes steps.
 pub mod Free
 pub mod Few
+pub mod AtBegin

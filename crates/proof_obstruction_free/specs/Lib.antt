@@ -15,3 +15,4 @@ pub mod SwapEnds
 pub mod Inherited
 pub mod Slots
 pub mod Closes
+pub mod ProgramEnds

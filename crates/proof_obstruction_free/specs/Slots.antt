@@ -1,7 +1,8 @@
 -- How many slots an operation takes where its actor alone takes steps.
-use Rattle.std.specs.Prelude.{◌≡◌, ◌≢◌, ℕ, zero, suc, ◌+◌, ◌≤◌, Bool, true, false, if◌then◌else◌, List, length, Option, Some, Ok}
+use Rattle.std.specs.Prelude.{◌≡◌, ◌≢◌, ℕ, zero, suc, ◌+◌, ◌≤◌, Bool, true, false, if◌then◌else◌, List, [], ◌∷◌, ◌++◌, length, Option, Some, None, Ok}
 use Rattle.proof_obstruction_free.specs.Beneath.ctrie_base.specs.declared.kinds.Kind.{Kind}
 use Rattle.proof_obstruction_free.specs.Beneath.ctrie_base.specs.declared.kinds.Kind.TheVariants.{Make}
+use Rattle.proof_obstruction_free.specs.Beneath.history.specs.declared.calls.Call.{Call}
 use Rattle.proof_obstruction_free.specs.Beneath.history.specs.declared.replies.Reply.{Reply}
 use Rattle.proof_obstruction_free.specs.Beneath.history.specs.declared.replies.Reply.TheVariants.{NoSlots}
 use Rattle.proof_obstruction_free.specs.Beneath.machine_model.specs.declared.lines.Line.TheVariants.{End}
@@ -9,9 +10,11 @@ use Rattle.proof_obstruction_free.specs.Beneath.machine_model.specs.declared.ope
 use Rattle.proof_obstruction_free.specs.Beneath.machine_model.specs.declared.steps.Limits.{Limits}
 use Rattle.proof_obstruction_free.specs.Beneath.machine_model.specs.declared.steps.Outcome.TheVariants.{Ended}
 use Rattle.proof_obstruction_free.specs.Beneath.machine_model.specs.declared.steps.Step.{Step}
-use Rattle.proof_obstruction_free.specs.Beneath.machine_model.specs.declared.steps.Step.TheVariants.{Go}
+use Rattle.proof_obstruction_free.specs.Beneath.machine_model.specs.declared.steps.Step.TheVariants.{Begin, Go}
 use Rattle.proof_obstruction_free.specs.Beneath.machine_model.specs.Machine.{next, next_kind, run}
-use Rattle.proof_obstruction_free.specs.Beneath.machine_model.specs.States.{State}
+use Rattle.proof_obstruction_free.specs.Beneath.machine_model.specs.States.{State, operation_of}
+use Rattle.proof_obstruction_free.specs.Beneath.machine_model.specs.Lines.{new_try}
+use Rattle.proof_obstruction_free.specs.Copies.{IsCopying}
 use Rattle.proof_obstruction_free.specs.Laws.{RunsAlone, alone_after, most_steps_alone}
 
 -- ---- makes
@@ -43,3 +46,33 @@ EnoughSlots =
     (limits : Limits) (steps : List Step) (actor : ℕ) (operation : Operation) → RunsAlone limits steps actor operation → operation.line ≢ End NoSlots →
     most_steps_alone ≤ length (run limits steps).heap.free →
     (n id : ℕ) (answer : Reply) (after : State) → next (alone_after limits steps actor n) (Go actor) ≡ Ok (Ended id answer, after) → answer ≢ NoSlots
+
+-- the same of a call that begins where as many slots are free
+abbrev pub EnoughAtBegin : Type 0
+EnoughAtBegin =
+    (limits : Limits) (steps : List Step) (actor : ℕ) (call : Call) (operation : Operation) → operation_of (run limits steps) actor ≡ None →
+    RunsAlone limits (steps ++ Begin actor call ∷ []) actor operation → most_steps_alone ≤ length (run limits steps).heap.free →
+    (n id : ℕ) (answer : Reply) (after : State) → next (alone_after limits (steps ++ Begin actor call ∷ []) actor n) (Go actor) ≡ Ok (Ended id answer, after) → answer ≢ NoSlots
+
+-- ---- a snapshot, a freeze or a clear
+
+-- the most steps, and so the most nodes that such a call makes, from where a try begins: from its begin too
+abbrev pub most_steps_of_copies : ℕ
+most_steps_of_copies = 23
+
+abbrev pub CopiesMakeFew : Type 0
+CopiesMakeFew =
+    (limits : Limits) (steps : List Step) (actor : ℕ) (operation : Operation) → RunsAlone limits steps actor operation → IsCopying operation.call → operation.line ≡ new_try →
+    (n : ℕ) → makes_alone limits steps actor n ≤ most_steps_of_copies
+
+abbrev pub EnoughForCopies : Type 0
+EnoughForCopies =
+    (limits : Limits) (steps : List Step) (actor : ℕ) (operation : Operation) → RunsAlone limits steps actor operation → IsCopying operation.call → operation.line ≡ new_try →
+    most_steps_of_copies ≤ length (run limits steps).heap.free →
+    (n id : ℕ) (answer : Reply) (after : State) → next (alone_after limits steps actor n) (Go actor) ≡ Ok (Ended id answer, after) → answer ≢ NoSlots
+
+abbrev pub CopiesEnoughAtBegin : Type 0
+CopiesEnoughAtBegin =
+    (limits : Limits) (steps : List Step) (actor : ℕ) (call : Call) (operation : Operation) → operation_of (run limits steps) actor ≡ None →
+    RunsAlone limits (steps ++ Begin actor call ∷ []) actor operation → IsCopying call → most_steps_of_copies ≤ length (run limits steps).heap.free →
+    (n id : ℕ) (answer : Reply) (after : State) → next (alone_after limits (steps ++ Begin actor call ∷ []) actor n) (Go actor) ≡ Ok (Ended id answer, after) → answer ≢ NoSlots

@@ -8,5 +8,10 @@
 
 mod laws;
 
-pub use laws::endings::{alone_it_ends, each_step_leads_to_its_end, enough_slots};
-pub use laws::programs::{closes_end, copies_end, readers_end, reads_end, roots_end, swaps_end};
+pub use laws::endings::{
+    alone_it_ends, each_step_leads_to_its_end, enough_slots, enough_slots_for_copies,
+};
+pub use laws::programs::{
+    cleans_end, climbs_end, closes_end, completes_end, copies_end, readers_end, reads_end,
+    renews_end, roots_end, swaps_end,
+};

@@ -6,3 +6,5 @@ pub mod Trie
 pub mod KeysOnce
 pub mod OfLists
 pub mod Roots
+pub mod Agreeing
+pub mod Looking

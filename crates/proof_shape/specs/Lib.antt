@@ -3,3 +3,4 @@ pub mod Lines
 pub mod Sites
 pub mod Shaped
 pub mod Laws
+pub mod Agreeing

@@ -1,5 +1,6 @@
 //! Laws of the trie's shape, for every list of steps whose keys have 64 bits.
 
+ghost use Rattle.proof_shape.specs.Agreeing.{ContentsAgree, LookingFinds};
 ghost use Rattle.proof_shape.specs.Laws.{BranchesAreExact, BranchesBelowRoots, ListsAreCrowds, MainsShareSites, NoKeyTwice, PathsAreShort, RootsHaveBranches, SitesAreFixed};
 
 /// A law: an indirection and a main node keep their level and the part of a hash that leads to them for life
@@ -38,4 +39,16 @@ pub fn roots_have_branches()
 /// A law: in what a handle reaches no key stands twice, and nothing lies deeper than 15 levels.
 pub fn no_key_twice()
     ensures { NoKeyTwice }
+{}
+
+/// A law: wherever nodes stand at their places, what is found along a key's hash is what all pairs that are reached
+/// have of it.
+pub fn contents_agree()
+    ensures { ContentsAgree }
+{}
+
+/// A law: in each state that is reached, the value of a key in a handle's content is what is found along its hash
+/// from the handle's root.
+pub fn looking_finds()
+    ensures { LookingFinds }
 {}

@@ -10,6 +10,6 @@
 mod laws;
 
 pub use laws::{
-    branches_are_exact, branches_below_roots, lists_are_crowds, no_key_twice, paths_are_short,
-    roots_have_branches, sites_are_fixed,
+    branches_are_exact, branches_below_roots, contents_agree, lists_are_crowds, looking_finds,
+    no_key_twice, paths_are_short, roots_have_branches, sites_are_fixed,
 };

@@ -47,11 +47,11 @@ module _ (states : ℕ → State) (last : ℕ) (reaches : ReachesInUse (states l
   abbrev heap : Heap
   heap = (states last).heap
 
-  abbrev Reached : Ref → Type 0
+  abbrev pub Reached : Ref → Type 0
   Reached r = IsReached (states last) r
 
   -- the node and the prev word of what is reached
-  node_is : (r : Ref) → Reached r → node_at heap r ≡ node_under states last r
+  pub node_is : (r : Ref) → Reached r → node_at heap r ≡ node_under states last r
   unfolding node_at
   node_is r reached =
       let s = reaches r reached in
@@ -64,7 +64,7 @@ module _ (states : ℕ → State) (last : ℕ) (reaches : ReachesInUse (states l
       prev_grown states last r s.0 s.1
 
   -- references in a slot that is reached are reached
-  of_node : (r q : Ref) → Reached r → Contains (refs_of_node (node_at heap r)) q → Reached q
+  pub of_node : (r q : Ref) → Reached r → Contains (refs_of_node (node_at heap r)) q → Reached q
   unfolding node_at
   of_node r q reached c =
       let s = reaches r reached in
@@ -81,7 +81,7 @@ module _ (states : ℕ → State) (last : ℕ) (reaches : ReachesInUse (states l
       (Contains-append_right (refs_of_node s.0.node) (refs_of_prev s.0.prev) q (subst (λ o. Contains (refs_of_prev (prev_of o)) q) at c)))
 
   -- the logical main node of an indirection that is reached
-  logical_reached : (r : Ref) (g : ℕ) (m : Ref) → Reached r → node_at heap r ≡ Indirection g m → Reached (logical_main heap r)
+  pub logical_reached : (r : Ref) (g : ℕ) (m : Ref) → Reached r → node_at heap r ≡ Indirection g m → Reached (logical_main heap r)
   logical_reached r g m reached is = subst (λ n. Reached (logical n (prev_at heap n))) (sym (ap main_of is)) (by_prev (prev_at heap m) refl)
     where
       main_reached : Reached m
@@ -92,7 +92,7 @@ module _ (states : ℕ → State) (last : ℕ) (reaches : ReachesInUse (states l
       by_prev (prev.Pending p) e = of_prev m p main_reached (subst (λ w. Contains (refs_of_prev w) p) (sym e) (0, omega arith, refl))
       by_prev (prev.Failed p) e = of_prev m p main_reached (subst (λ w. Contains (refs_of_prev w) p) (sym e) (0, omega arith, refl))
 
-  logical_is : (r : Ref) (g : ℕ) (m : Ref) → Reached r → node_at heap r ≡ Indirection g m → logical_main heap r ≡ main_before states last r
+  pub logical_is : (r : Ref) (g : ℕ) (m : Ref) → Reached r → node_at heap r ≡ Indirection g m → logical_main heap r ≡ main_before states last r
   logical_is r g m reached is =
       let main_reached : Reached m = of_node r m reached (subst (λ n. Contains (refs_of_node n) m) (sym is) (0, omega arith, refl)) in
       let words : main_at heap r ≡ main_word states last r = ap main_of (node_is r reached) in

@@ -54,10 +54,10 @@ module _ (trie : Trie) (ok : IsTrie trie) where
   -- ---- what is reached below an indirection
 
   -- all keys have its path, none stands twice, and each is found with its value
-  record Shows (levels : ℕ) (i : Ref) (ps : Pairs) : Type 0 where
-    found : (q : ℕ) → found_in q ps ≡ find_at trie.node last_main (hash_of trie.kind) q levels (trie.depth i) i
-    apart : AreApart ps
-    led : EachKey (λ k. hash_of trie.kind k % 2 ^ (5 * trie.depth i) ≡ trie.path i) ps
+  pub record Shows (levels : ℕ) (i : Ref) (ps : Pairs) : Type 0 where
+    pub found : (q : ℕ) → found_in q ps ≡ find_at trie.node last_main (hash_of trie.kind) q levels (trie.depth i) i
+    pub apart : AreApart ps
+    pub led : EachKey (λ k. hash_of trie.kind k % 2 ^ (5 * trie.depth i) ≡ trie.path i) ps
 
   abbrev below_of : ℕ → ℕ → ℕ → Ref → Option ℕ
   below_of q levels depth = find_at trie.node last_main (hash_of trie.kind) q levels depth
@@ -118,7 +118,7 @@ module _ (trie : Trie) (ok : IsTrie trie) where
       (listed_each levels (λ k. k ≢ are.0.key) singles are.1 (λ k v e. later_apart s singles k v are.0 e), listed_apart levels singles are.1)
 
   -- every indirection shows what is found below it
-  shows : (levels : ℕ) (i : Ref) (g : ℕ) (word : Ref) → levels + trie.depth i ≡ most_levels → trie.depth i ≤ 13 → trie.node i ≡ Indirection g word → Shows levels i (reach levels i)
+  pub shows : (levels : ℕ) (i : Ref) (g : ℕ) (word : Ref) → levels + trie.depth i ≡ most_levels → trie.depth i ≤ 13 → trie.node i ≡ Indirection g word → Shows levels i (reach levels i)
   shows zero i g word sum deep is = absurd (omega arith)
   shows (suc zero) i g word sum deep is = absurd (omega arith)
   shows (suc (suc levels)) i g word sum deep is = by_shape (λ child h w. shows (suc levels) child h w) (ok.shaped trie.last i (omega arith))

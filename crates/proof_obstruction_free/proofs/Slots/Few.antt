@@ -1,5 +1,5 @@
 -- An operation makes no more nodes than it takes steps.
-use Rattle.std.proofs.Common.{◌≡◌, ℕ, zero, suc, ◌+◌, ◌-◌, ◌≤◌, Bool, true, false, List, None, option_map, inl, inr, sym, ap, ◌∙◌, arith}
+use Rattle.std.proofs.Common.{◌≡◌, ℕ, zero, suc, ◌+◌, ◌-◌, ◌≤◌, Bool, true, false, List, None, option_map, inl, inr, sym, subst, ap, ◌∙◌, arith}
 use Rattle.std.proofs.lemmas.Bool.{cases_lt}
 use Rattle.std.proofs.lemmas.Option.{same_Some}
 use Rattle.proof_obstruction_free.specs.Beneath.machine_model.specs.declared.operations.Operation.{Operation}
@@ -8,8 +8,12 @@ use Rattle.proof_obstruction_free.specs.Beneath.machine_model.specs.declared.ste
 use Rattle.proof_obstruction_free.specs.Beneath.machine_model.specs.Operations.{action_of, kind_of}
 use Rattle.proof_obstruction_free.specs.Beneath.machine_model.specs.States.{State, operation_of}
 use Rattle.proof_obstruction_free.specs.Laws.{RunsAlone, alone_after, most_steps_alone}
-use Rattle.proof_obstruction_free.specs.Slots.{EnoughSlots, MakesAtMost, is_make, makes_next}
+use Rattle.proof_obstruction_free.specs.Slots.{CopiesMakeFew, EnoughForCopies, EnoughSlots, MakesAtMost, is_make, makes_next, most_steps_of_copies}
+use Rattle.proof_obstruction_free.specs.Beneath.machine_model.specs.Lines.{new_try}
+use Rattle.proof_obstruction_free.specs.Beneath.machine_model.specs.declared.lines.Line.{Line}
+use Rattle.proof_obstruction_free.specs.Beneath.machine_model.proofs.Refusals.{IsRefusal}
 use Rattle.proof_obstruction_free.proofs.Ends.Alone.{stays}
+use Rattle.proof_obstruction_free.proofs.Ends.Bounds.{copies_end_first}
 use Rattle.proof_obstruction_free.proofs.Inherited.EndsAll.{alone_it_ends}
 use Rattle.proof_obstruction_free.proofs.Slots.Free.{bit, made, not_for_want, one_made, none_made, refused_there}
 
@@ -60,3 +64,19 @@ pub enough_slots : EnoughSlots
 enough_slots limits steps actor operation r other room =
     not_for_want limits steps actor most_steps_alone (makes_at_most limits steps actor operation r) room
     (λ found at refused. other (ap (λ (o : Operation). o.line) (same_Some operation found (sym r.runs ∙ at)) ∙ refused_there found.line refused))
+
+-- ---- a snapshot, a freeze or a clear
+
+pub copies_make_few : CopiesMakeFew
+copies_make_few limits steps actor operation r copies at =
+    few_at_end limits steps actor operation r most_steps_of_copies most_steps_of_copies ((copies_end_first limits steps actor operation r copies at).idle)
+    (λ n within. let low = made_steps limits steps actor n in omega (arith, low, within))
+
+-- where a try begins nothing is refused
+no_refusal : (l : Line) → l ≡ new_try → IsRefusal l → ⊥
+no_refusal l at refused = subst IsRefusal at refused
+
+pub enough_for_copies : EnoughForCopies
+enough_for_copies limits steps actor operation r copies at room =
+    not_for_want limits steps actor most_steps_of_copies (copies_make_few limits steps actor operation r copies at) room
+    (λ found there refused. no_refusal found.line (ap (λ (o : Operation). o.line) (sym (same_Some operation found (sym r.runs ∙ there))) ∙ at) refused)

@@ -1,7 +1,7 @@
 //! Laws of operations that alone take steps, for every list of steps whose keys have 64 bits.
 
 ghost use Rattle.proof_obstruction_free.specs.Laws.{AloneItEnds, EachStepLeadsToItsEnd};
-ghost use Rattle.proof_obstruction_free.specs.Slots.{EnoughSlots, MakesAtMost};
+ghost use Rattle.proof_obstruction_free.specs.Slots.{CopiesEnoughAtBegin, CopiesMakeFew, EnoughAtBegin, EnoughForCopies, EnoughSlots, MakesAtMost};
 
 /// A law: an operation on one key, a snapshot, a freeze or a clear whose actor alone takes steps has ended after 3,962
 /// of them, whatever others left behind.
@@ -15,8 +15,17 @@ pub fn each_step_leads_to_its_end()
 {}
 
 /// A law: an operation on one key, a snapshot, a freeze or a clear whose actor alone takes steps makes 3,962 nodes at
-/// most (`makes`); so where as many slots are free it isn't refused for want of slots (`spare`).
+/// most (`makes`); so where as many slots are free, or were when it began, it isn't refused for want of slots (`spare`, `begun`).
 pub fn enough_slots()
     ensures makes { MakesAtMost }
     ensures spare { EnoughSlots }
+    ensures begun { EnoughAtBegin }
+{}
+
+/// A law: a snapshot, a freeze or a clear makes 23 nodes at most from its begin (`makes`); so where as many slots are free
+/// it isn't refused for want of slots (`spare`, `begun`).
+pub fn enough_slots_for_copies()
+    ensures makes { CopiesMakeFew }
+    ensures spare { EnoughForCopies }
+    ensures begun { CopiesEnoughAtBegin }
 {}

@@ -66,40 +66,40 @@ same_shape trie last main root i n (branch b es places is has shallow in_place l
 same_shape trie last main root i n (list ss is are most deep one_hash) = list ss is are most deep one_hash
 same_shape trie last main root i n (tomb t k v is own led) = tomb t k v is own led
 
-reaches_in_use : (state : State) → IsSafe state → ReachesInUse state
+pub reaches_in_use : (state : State) → IsSafe state → ReachesInUse state
 reaches_in_use state I r (from_root handle q within) = in_root state I handle q within
 reaches_in_use state I r (from_slot p q reached within) = in_any_slot state I p q within
 
 module _ (limits : Limits) (states : ℕ → State) (steps : ℕ → Step) (last : ℕ) (run : IsRun limits states last) (takes : TakesSteps states steps last) (keys : StepsFit steps last)
     (handle : ℕ) (root : Root) (at : handle_at (states last) handle ≡ Some root) where
-  abbrev s : Sites
+  abbrev pub s : Sites
   s = sites_of states steps last
 
-  abbrev r : Ref
+  abbrev pub r : Ref
   r = root_of root.word
 
   shape : HasShape (bare_trie_of_run limits states steps last)
   shape = bare_runs_have_shape limits states steps last run takes keys
 
-  I : IsSafe (states last)
+  pub I : IsSafe (states last)
   I = safe_at limits states last run last (omega arith)
 
   -- the trie in the end, with this root alone
-  abbrev trie : Trie
+  abbrev pub trie : Trie
   trie = record (bare_trie_of_run limits states steps last) { last = 0; main = λ t i. counting_main states last last i; root = λ g. r }
 
-  level_is : s.level r ≡ 1
+  pub level_is : s.level r ≡ 1
   level_is = word_root s.level root.word ((levels_there limits states steps last run takes last (omega arith)).0.words handle root at)
 
-  link : is_indirection (node_under states last r) ≡ true
+  pub link : is_indirection (node_under states last r) ≡ true
   link =
       let (slot, found, is) = kind_at states last r AnIndirection (root_wanted (IsInUse (states last).heap) (states last).heap root.word (I.words handle root at)) in
       ap (λ o. is_indirection (node_of o)) found ∙ is
 
-  depth_is : trie.depth r ≡ 0
+  pub depth_is : trie.depth r ≡ 0
   depth_is = ap (λ b. cond b (depth_at (level_until states steps last r)) 0) link ∙ ap depth_at level_is
 
-  ok : IsTrie trie
+  pub ok : IsTrie trie
   ok = record {
     has_key = shape.has_key;
     root_depth = λ g. depth_is;
@@ -109,7 +109,7 @@ module _ (limits : Limits) (states : ℕ → State) (steps : ℕ → Step) (last
     does = λ t lt. absurd (omega (arith, lt));
   }
 
-  reached : (levels : ℕ) → pairs_below levels (states last).heap r ≡ pairs_from trie.node (λ i. counting_main states last last i) levels r
+  pub reached : (levels : ℕ) → pairs_below levels (states last).heap r ≡ pairs_from trie.node (λ i. counting_main states last last i) levels r
   reached levels =
       pairs_are states last (reaches_in_use (states last) I) levels r (from_root handle r (subst (λ o. Contains (refs_of_root o) r) (sym at) (word_has root.word)))
       ∙ sym (bare_pairs (node_under states last) (λ i. counting_main states last last i) levels r)
