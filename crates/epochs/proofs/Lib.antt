@@ -11,3 +11,4 @@ pub mod Staying
 pub mod Naming
 pub mod Settled
 pub mod Forgetting
+pub mod Recents

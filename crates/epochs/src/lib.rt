@@ -1,6 +1,8 @@
 //! Which slots may be freed, and when: limbo, epochs and the sweep.
 #![tactic(auto)]
 
+mod advancing;
+mod fresh;
 mod heap;
 mod laws;
 mod limbo;

@@ -8,13 +8,15 @@ mod links;
 mod lists;
 mod nodes;
 mod refs;
+mod remarks;
 mod tally;
 
 pub use arena::Arena;
-pub use links::Links;
+pub use links::{Flags, Links};
 pub use lists::Refs;
 pub use nodes::{Node, Prev, Slot};
 pub use refs::Ref;
+pub use remarks::Remarks;
 
 #[cfg(test)]
 mod tests;

@@ -1,13 +1,12 @@
-use Rattle.std.proofs.Common.{◌≡◌, ◌+◌, ℕ, ◌<◌, ◌≤◌, ◌^◌, true, [], ◌∷◌, length, All, refl, sym, ap, ◌∙◌, subst, arith}
+use Rattle.std.proofs.Common.{◌≡◌, ◌+◌, ℕ, ◌<◌, ◌≤◌, ◌^◌, true, [], ◌∷◌, length, All, refl, sym, ap, subst, arith}
 use Rattle.slot_arena.specs.declared.refs.Ref.{Ref}
 use Rattle.slot_arena.specs.Refs.{slot_of}
 use Rattle.slot_arena.specs.Times.{times}
 use Rattle.slot_arena.specs.Tallies.{naming}
 use Rattle.slot_arena.specs.Arenas.{Contents, NotesWaiting}
-use Rattle.slot_arena.specs.Kept.{live, found, IsKept}
+use Rattle.slot_arena.specs.Kept.{live, IsKept}
 use Rattle.slot_arena.proofs.Times.{times-cons}
 use Rattle.slot_arena.proofs.Live.{live_within}
-use Rattle.slot_arena.proofs.Exact.{count_found}
 use Rattle.slot_arena.proofs.Changed.{counts_small}
 use Rattle.slot_arena.proofs.Waiting.{notes_waiting}
 use Rattle.slot_arena.proofs.Reading.{live_inside}

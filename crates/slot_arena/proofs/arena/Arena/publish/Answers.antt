@@ -1,16 +1,14 @@
-use Rattle.std.proofs.Common.{◌≡◌, ℕ, ◌+◌, ◌<◌, ◌≤◌, true, List, [], ◌∷◌, length, get_or, set, slice_index, All, Option, None, is_some, sym, ap, ◌∙◌, subst, arith, rules, tests}
+use Rattle.std.proofs.Common.{◌≡◌, ◌+◌, ◌<◌, true, List, [], length, get_or, set, slice_index, All, Option, None, is_some, sym, ap, ◌∙◌, subst, arith, rules, tests}
 use Rattle.std.specs.Prelude.{option_map}
 use Rattle.std.proofs.lemmas.List.{length-set}
 use Rattle.slot_arena.specs.declared.refs.Ref.{Ref}
-use Rattle.slot_arena.specs.declared.nodes.Prev.{Prev}
 use Rattle.slot_arena.specs.declared.nodes.Prev.TheVariants as prev
 use Rattle.slot_arena.specs.declared.nodes.Slot.{Slot}
 use Rattle.slot_arena.specs.Refs.{slot_of}
 use Rattle.slot_arena.specs.Heaps.{Heap, node_of, prev_of, main_of, main_changed, prev_changed, refs_of_prev, with_main}
-use Rattle.slot_arena.specs.Times.{times}
 use Rattle.slot_arena.specs.Tallies.{naming}
 use Rattle.slot_arena.specs.Arenas.{Contents, NotesWaiting, is_indirection}
-use Rattle.slot_arena.specs.Kept.{live, found, IsKept}
+use Rattle.slot_arena.specs.Kept.{live, IsKept}
 use Rattle.slot_arena.proofs.Live.{live_within, all_within}
 use Rattle.slot_arena.proofs.Exact.{part_live, part_counted}
 use Rattle.slot_arena.proofs.Changed.{counts_small}
@@ -20,7 +18,7 @@ use Rattle.slot_arena.proofs.Waiting.{born, notes_waiting}
 use Rattle.slot_arena.proofs.Marks.{zeros_trans}
 use Rattle.slot_arena.proofs.Words.{prev_part, born_main, born_prev, live_main, live_prev}
 use Rattle.slot_arena.proofs.Publishes.{publish_kept}
-use Rattle.slot_arena.proofs.Reading.{live_inside, live_seen, live_is, node_seen, used_seen, main_seen, prev_put_seen}
+use Rattle.slot_arena.proofs.Reading.{live_inside, live_is, node_seen, used_seen, main_seen, prev_put_seen}
 use Rattle.slot_arena.proofs.arena.Arena.publish.Goals as goal
 
 pub prev-was-requires : goal.prev-was-requires
