@@ -4,7 +4,7 @@ use Rattle.std.proofs.lemmas.Option.{same_Some}
 use Rattle.slot_arena.specs.declared.refs.Ref.{Ref}
 use Rattle.slot_arena.specs.Refs.{slot_of}
 use Rattle.slot_arena.specs.Heaps.{Heap, freed}
-use Rattle.slot_arena.specs.Times.{times, other_slots}
+use Rattle.slot_arena.specs.Times.{times}
 use Rattle.slot_arena.specs.Arenas.{Contents, waiting}
 use Rattle.epochs.specs.Rings.{Bags, Ringed, all_of, turned}
 use Rattle.epochs.specs.Memories.{Memory, Lists, IsMemory, IsRecent, limbo_of, reclaimer_of}
