@@ -31,10 +31,14 @@ module _ (pins : List (Option ℕ)) (epoch cursor : ℕ) (recent : (actor : ℕ)
       go : (b : Bool) → is_passed epoch (get_or pins (cursor - 1) None) ≡ b → (o : Option ℕ) → get_or pins actor None ≡ o → IsRecent epoch (actor + 1 < cursor) o → IsRecent epoch (actor + 1 < cursor + cond b 1 0) o
       go b told None is was = tt
       go false told (Some recorded) is (le, near, same) = (le, near, λ below. same (omega arith))
-      go true told (Some recorded) is (le, near, same) = (le, near, λ below. elim (cases_lt (actor + 1) cursor) [
-        | inl before ↦ same before
-        | inr behind ↦ at_cursor recorded told is (omega arith)
-      ])
+      go true told (Some recorded) is (le, near, same) = (
+        le,
+        near,
+        λ below. elim (cases_lt (actor + 1) cursor) [
+          | inl before ↦ same before
+          | inr behind ↦ at_cursor recorded told is (omega arith)
+        ],
+      )
 
   -- the oldest bag's slots became zero in an older epoch than any that was recorded
   pub first_older : (bags : Bags) (r : Ref) (rest : List Ref) → bags.oldest ≡ r ∷ rest → 2 ≤ epoch → All (λ entry. All (IsOlder entry.epoch) pins) (take 1 (limbo_of epoch bags))

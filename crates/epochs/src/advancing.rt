@@ -11,7 +11,12 @@ use ctrie_base::Ticks;
 use slot_arena::Arena;
 
 /// Reads the record of the actor at the cursor, or lets the epoch grow where all actors were passed.
-pub(crate) fn advance(bags: &mut Ring, epoch: &mut u64, cursor: &mut u8, pins: &[Option<u64>]) -> Swept
+pub(crate) fn advance(
+    bags: &mut Ring,
+    epoch: &mut u64,
+    cursor: &mut u8,
+    pins: &[Option<u64>],
+) -> Swept
     requires empty { bags.old.bags.oldest ≡ [] }
     requires started { (1 ≤ cursor.old) × (cursor.old ≤ length pins.now + 1) }
     requires few { length pins.now ≤ 64 }

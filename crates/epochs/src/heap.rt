@@ -58,12 +58,11 @@ impl Model for Heap {
     } };
 
     ghost invariant = { λ h.
-      IsMemory h.arena h.bags.bags h.epoch h.cursor h.pins.items
-      × (h.fresh.refs ≡ [])
-      × (length h.arena.heap.slots ≤ h.fresh.room)
-      × (h.ticks.count ≡ h.arena.ticks + h.bags.ticks + h.fresh.ticks)
-      × (length h.remarks.owners ≡ length h.arena.heap.slots)
-    };
+        IsMemory h.arena h.bags.bags h.epoch h.cursor h.pins.items
+        × (h.fresh.refs ≡ [])
+        × (length h.arena.heap.slots ≤ h.fresh.room)
+        × (h.ticks.count ≡ h.arena.ticks + h.bags.ticks + h.fresh.ticks)
+        × (length h.remarks.owners ≡ length h.arena.heap.slots) };
 }
 
 impl Heap {

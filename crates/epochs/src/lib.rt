@@ -12,6 +12,3 @@ mod settling;
 pub use heap::Heap;
 pub use laws::{counts_alone, freed_leaves};
 pub use limbo::{Swept, Zeroed};
-
-#[cfg(test)]
-mod tests;

@@ -239,7 +239,7 @@ fn hold_and_release_four(heap: &mut Heap, refs: &[Ref], from: usize) -> bool
 }
 
 /// Holds a slot, where few are held.
-#[tactic(auto, using(crate::proofs::Few::times_le))]
+#[tactic(auto, using(slot_arena::proofs::Times::times_le))]
 fn hold(heap: &mut Heap, at: Ref)
     requires live { IsLive heap.old.heap at }
     requires few { length heap.old.outside ≤ 3 }

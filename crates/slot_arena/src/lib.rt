@@ -17,6 +17,3 @@ pub use lists::Refs;
 pub use nodes::{Node, Prev, Slot};
 pub use refs::Ref;
 pub use remarks::Remarks;
-
-#[cfg(test)]
-mod tests;
