@@ -12,3 +12,4 @@ pub mod Naming
 pub mod Settled
 pub mod Forgetting
 pub mod Recents
+pub mod Running

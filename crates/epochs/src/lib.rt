@@ -10,5 +10,5 @@ mod ring;
 mod settling;
 
 pub use heap::Heap;
-pub use laws::{counts_alone, freed_leaves};
+pub use laws::{counts_alone, freed_leaves, running_keeps};
 pub use limbo::{Swept, Zeroed};

@@ -88,8 +88,8 @@ pub notes_waiting : (a b : Contents) (counts counts' : List ℕ) (free free' : C
     ((k : ℕ) → times k b.noted ≡ 0 → born (get_or a.heap.slots k None) ≡ born (get_or b.heap.slots k None)) → NotesWaiting a b
 notes_waiting a b counts counts' free free' used used' kept kept' zeros same =
     notes_by a b counts counts' free free' used used' kept kept' (λ k none.
-      let step = zeros k none in
-      (step.0, ap (λ o. waits_by k o (slice_index counts k == 0)) (same k none) ∙ ap (waits_by k (born (get_or b.heap.slots k None))) step.1))
+    let step = zeros k none in
+    (step.0, ap (λ o. waits_by k o (slice_index counts k == 0)) (same k none) ∙ ap (waits_by k (born (get_or b.heap.slots k None))) step.1))
 
 -- what is live and unreferred waits
 pub zero_waits : (arena : Contents) (r : Ref) → IsLive arena.heap r → (count_of arena.heap arena.outside r == 0) ≡ true → waiting arena (slot_of r) ≡ Some r

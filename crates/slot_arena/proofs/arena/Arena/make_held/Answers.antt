@@ -79,19 +79,19 @@ returns-clause-noted c =
     subst (λ (a : Contents). NotesWaiting a now) c.self.view_is
     (notes_by was now c.self.inside.tally.counts c.begin.new.self.counts c.self.inside.free c.take.new.self c.self.inside.used (c.self.inside.used + 1) c.self.invariant (invariant_of-self-2 c)
     (λ k none.
-      let step = c.raise_all.ensures.noted k (sym (ap (λ (t : Tally). times k t.noted) c.begin.ensures) ∙ none) in (
-        step.0,
-        elim (cases_eq k at) [
-          | inl same ↦
-              ap (λ o. waits_by k (born o) (slice_index c.self.inside.tally.counts k == 0)) (ap (λ i. get_or c.self.inside.cells i None) same ∙ empty)
-              ∙ sym (waits_not k (born (get_or c.fill.new.self k None)) (slice_index c.begin.new.self.counts k)
-              (ap (λ cs. slice_index cs k) counts_are ∙ ap (slice_index (set c.raise_all.new.self.counts at 1)) same ∙ get_or-set_same c.raise_all.new.self.counts at 1 0 below))
-          | inr other ↦
-              ap (λ o. waits_by k o (slice_index c.self.inside.tally.counts k == 0)) (born_set c.self.inside.cells at k _ other ∙ sym (ap (λ s. born (get_or s k None)) c.fill.ensures))
-              ∙ ap (waits_by k (born (get_or c.fill.new.self k None)))
-              (step.1 ∙ sym (ap (λ n. n == 0) (ap (λ cs. slice_index cs k) counts_are ∙ get_or-set_other c.raise_all.new.self.counts at k 1 0 other)))
-        ],
-      )))
+    let step = c.raise_all.ensures.noted k (sym (ap (λ (t : Tally). times k t.noted) c.begin.ensures) ∙ none) in (
+      step.0,
+      elim (cases_eq k at) [
+        | inl same ↦
+            ap (λ o. waits_by k (born o) (slice_index c.self.inside.tally.counts k == 0)) (ap (λ i. get_or c.self.inside.cells i None) same ∙ empty)
+            ∙ sym (waits_not k (born (get_or c.fill.new.self k None)) (slice_index c.begin.new.self.counts k)
+            (ap (λ cs. slice_index cs k) counts_are ∙ ap (slice_index (set c.raise_all.new.self.counts at 1)) same ∙ get_or-set_same c.raise_all.new.self.counts at 1 0 below))
+        | inr other ↦
+            ap (λ o. waits_by k o (slice_index c.self.inside.tally.counts k == 0)) (born_set c.self.inside.cells at k _ other ∙ sym (ap (λ s. born (get_or s k None)) c.fill.ensures))
+            ∙ ap (waits_by k (born (get_or c.fill.new.self k None)))
+            (step.1 ∙ sym (ap (λ n. n == 0) (ap (λ cs. slice_index cs k) counts_are ∙ get_or-set_other c.raise_all.new.self.counts at k 1 0 other)))
+      ],
+    )))
   where
     waits_not : (k : ℕ) (o : Option ℕ) (n : ℕ) → n ≡ 1 → waits_by k o (n == 0) ≡ None
     waits_not k None n e = refl

@@ -62,7 +62,7 @@ lower_all-requires-clause-some c i =
       naming-cons i to [],
       ap (naming i) refs_are,
       part_counted c.self.inside.cells c.self.inside.tally.counts c.self.inside.outside.items c.self.invariant.exact c.self.invariant.few (refs_of_prev (prev_of (get_or c.self.inside.cells (slot_of to) None)))
-      (prev_part c.self.inside.cells c.self.inside.tally.counts c.self.inside.free c.self.inside.used c.self.inside.outside.items c.self.invariant to has) i,
+          (prev_part c.self.inside.cells c.self.inside.tally.counts c.self.inside.free c.self.inside.used c.self.inside.outside.items c.self.invariant to has) i,
     )
 
 pub set_main-requires : goal.set_main-requires
