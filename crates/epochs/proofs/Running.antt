@@ -1,20 +1,19 @@
 -- What was referred to while an operation ran isn't freed while it runs.
-use Rattle.std.proofs.Common.{◌≡◌, ℕ, zero, suc, ◌+◌, ◌-◌, ◌<◌, ◌≤◌, ◌==◌, ◌&&◌, not, nat_le, Bool, true, false, cond, List, [], ◌∷◌, ◌++◌, map, filter, length, take, drop, get_or, All, Option, Some, None, refl, sym, ap, ◌∙◌, subst, inl, inr, ◌⊎◌, arith, eqb-true}
+use Rattle.std.proofs.Common.{◌≡◌, ℕ, zero, suc, ◌+◌, ◌-◌, ◌<◌, ◌≤◌, ◌&&◌, not, nat_le, Bool, true, false, cond, List, map, filter, length, take, get_or, All, Option, Some, None, refl, sym, ap, ◌∙◌, subst, inl, inr, arith, eqb-true}
 use Rattle.std.proofs.lemmas.Bool.{cases_lt, false≢true}
 use Rattle.std.proofs.lemmas.List.{get_or_past}
 use Rattle.std.proofs.lemmas.Option.{none-some}
-use Rattle.std.proofs.lemmas.List.Elements.{All-nil, All-cons, All-append, All-weaker, All-take, All-drop, All-map, All-filter, filter_passes}
+use Rattle.std.proofs.lemmas.List.Elements.{All-append, All-weaker, All-take, All-drop, All-map, All-filter, filter_passes}
 use Rattle.std.specs.Prelude.{slice_index_or}
 use Rattle.slot_arena.specs.declared.refs.Ref.{Ref}
 use Rattle.slot_arena.specs.Heaps.{Heap, in_use}
 use Rattle.slot_arena.specs.Counts.{count_of}
 use Rattle.slot_arena.specs.Times.{times}
 use Rattle.epochs.specs.declared.limbo.Zeroed.{Zeroed}
-use Rattle.epochs.specs.declared.limbo.Swept.{Swept}
-use Rattle.epochs.specs.Limbo.{is_zero, is_in, is_in_use, by_birth, newly_zero, limbo_after}
+use Rattle.epochs.specs.Limbo.{is_zero, is_in, is_in_use, newly_zero, limbo_after}
 use Rattle.epochs.specs.Sweeping.{Reclaimer, ripe, scanned, advanced, is_passed, sweep_by, swept_once, IsOlder}
 use Rattle.epochs.specs.Memories.{Memory, reclaimer_of, freed_by, staying}
-use Rattle.epochs.specs.Laws.{Stays, Settles, Sweeps, IsCall, IsSettled, RunningKeeps}
+use Rattle.epochs.specs.Laws.{IsCall, RunningKeeps}
 use Rattle.epochs.proofs.Listing.{all_members}
 use Rattle.epochs.proofs.Rising.{times-by_birth, filter_in}
 
