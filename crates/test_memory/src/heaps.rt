@@ -65,7 +65,9 @@ fn hold(heap: &mut Heap, at: Ref)
 }
 
 /// A step of the sweep, where all is settled.
-fn sweep(rt: &impl Abort, heap: &mut Heap) -> Swept {
+fn sweep(rt: &impl Abort, heap: &mut Heap) -> Swept
+    ensures { length heap.new.pins ≡ length heap.old.pins }
+{
     heap.settle();
     assert!(rt; heap.epoch() < 4);
     heap.sweep()
