@@ -54,7 +54,7 @@ fn add_single(arena: &mut Arena, refs: &mut Vec<Ref>, key: u32) -> Result<(), Re
     if arena.births() >= MOST_BIRTHS {
         return Ok(());
     }
-    if let Some(at) = arena.make(single(key)) {
+    if let Some(at) = arena.make_held(single(key)) {
         refs.push(at)?;
     }
     Ok(())
@@ -85,9 +85,10 @@ fn make_and_free_one(arena: &mut Arena, refs: &[Ref], from: usize) -> bool
     if arena.births() >= MOST_BIRTHS || refs.len() < ENTRIES || refs.len() - ENTRIES < from {
         return false;
     }
-    let Some(at) = arena.make(branch(&refs[from..from + ENTRIES])) else {
+    let Some(at) = arena.make_held(branch(&refs[from..from + ENTRIES])) else {
         return false;
     };
+    arena.release(at);
     if arena.count(at) != 0 {
         return false;
     }

@@ -1,6 +1,6 @@
 //! A heap at work.
 
-ghost use Rattle.std.specs.Prelude.{◌≡◌, ◌∷◌, List, drop, IfOk, OnOk, IfSome, if◌then◌else◌};
+ghost use Rattle.std.specs.Prelude.{◌≡◌, ◌∷◌, ◌≤◌, [], List, length, IfOk, OnOk, IfSome};
 ghost use Rattle.slot_arena.specs.declared.refs.Ref.{Ref};
 ghost use Rattle.slot_arena.specs.Arenas.{AreLive, IsLive};
 
@@ -10,12 +10,10 @@ use epochs::Heap;
 use slot_arena::{Node, Ref};
 use std::alloc::Global;
 
-/// More references from outside than these are never held to one slot here.
-const MOST_HELD: u64 = 1 << 20;
-
-/// A heap of so many slots with singles in all but a few, settled, and the references to them.
+/// A heap of so many slots with singles in all but a few, all of them in limbo, and the references to them.
 pub(crate) fn new_heap(alloc: Global, slots: u32) -> Result<(Heap, Vec<Ref>), Refusal>
-    ensures { IfOk result (λ made. AreLive made.0.heap made.1.items) }
+    ensures live { IfOk result (λ made. AreLive made.0.heap made.1.items) }
+    ensures free { IfOk result (λ made. made.0.outside ≡ []) }
 {
     let mut heap = Heap::new(alloc, slots, 1)?;
     let mut refs = Vec::new(alloc);
@@ -26,15 +24,18 @@ pub(crate) fn new_heap(alloc: Global, slots: u32) -> Result<(Heap, Vec<Ref>), Re
     Ok((heap, refs))
 }
 
-/// Makes a single more, where there is a slot for it.
+/// Makes a single more, where there is a slot for it, and lets it go.
 fn add_single(heap: &mut Heap, refs: &mut Vec<Ref>, key: u32) -> Result<(), Refusal>
-    requires { AreLive heap.old.heap refs.old.items }
-    ensures { OnOk result (AreLive heap.new.heap refs.new.items) }
+    requires live { AreLive heap.old.heap refs.old.items }
+    requires free { heap.old.outside ≡ [] }
+    ensures live { OnOk result (AreLive heap.new.heap refs.new.items) }
+    ensures free { OnOk result (heap.new.outside ≡ []) }
 {
     if heap.births() >= MOST_BIRTHS {
         return Ok(());
     }
-    if let Some(at) = heap.make(single(key)) {
+    if let Some(at) = heap.make_held(single(key)) {
+        heap.release(at);
         refs.push(at)?;
     }
     Ok(())
@@ -69,10 +70,36 @@ fn key_of(heap: &Heap, refs: &[Ref], index: usize) -> u64
     }
 }
 
+/// The same by looks that ask for nothing.
+pub(crate) fn look_stored(heap: &Heap, refs: &[Ref], count: u32) -> u64 {
+    let mut sum = 0u64;
+    let mut from = 0;
+    for _ in 0..count {
+        if from >= refs.len() {
+            from = 0;
+        }
+        sum = sum.wrapping_add(stored_key_of(heap, refs, from));
+        from += 1;
+    }
+    sum
+}
+
+/// The key of the single that is stored where this reference leads.
+fn stored_key_of(heap: &Heap, refs: &[Ref], index: usize) -> u64 {
+    if index >= refs.len() {
+        return 0;
+    }
+    match heap.stored_node(refs[index]) {
+        Some(Node::Single { key, .. }) => *key,
+        _ => 0,
+    }
+}
+
 /// Swaps the main word of an indirection, so many times, to one reference after the other. Whether all
 /// was done.
 pub(crate) fn swap(heap: &mut Heap, refs: &[Ref], count: u32) -> bool
     requires { AreLive heap.old.heap refs.now }
+    ensures { AreLive heap.new.heap refs.now }
 {
     let Some(indirection) = new_indirection(heap, refs) else {
         return false;
@@ -98,7 +125,7 @@ fn new_indirection(heap: &mut Heap, refs: &[Ref]) -> Option<Ref>
     if heap.births() >= MOST_BIRTHS || refs.is_empty() {
         return None;
     }
-    heap.make(Node::Indirection {
+    heap.make_held(Node::Indirection {
         generation: 0,
         main: refs[0],
     })
@@ -121,9 +148,47 @@ fn swap_one(heap: &mut Heap, indirection: Ref, refs: &[Ref], index: usize) -> bo
     heap.swap_main(indirection, from, refs[index])
 }
 
+/// Publishes in an indirection so many times, one reference after the other. Whether all was done.
+pub(crate) fn publish(heap: &mut Heap, refs: &[Ref], count: u32) -> bool
+    requires { AreLive heap.old.heap refs.now }
+    ensures { AreLive heap.new.heap refs.now }
+{
+    let Some(indirection) = new_indirection(heap, refs) else {
+        return false;
+    };
+    let mut all = true;
+    let mut from = 0;
+    for _ in 0..count {
+        if from >= refs.len() {
+            from = 0;
+        }
+        all &= publish_one(heap, indirection, refs, from);
+        from += 1;
+    }
+    all
+}
+
+/// Publishes there once, this reference.
+fn publish_one(heap: &mut Heap, indirection: Ref, refs: &[Ref], index: usize) -> bool
+    requires indirection { IsLive heap.old.heap indirection }
+    requires live { AreLive heap.old.heap refs.now }
+    ensures indirection { IsLive heap.new.heap indirection }
+    ensures live { AreLive heap.new.heap refs.now }
+{
+    if index >= refs.len() {
+        return false;
+    }
+    let from = match heap.look(indirection) {
+        Node::Indirection { main, .. } => *main,
+        _ => return false,
+    };
+    heap.publish(indirection, from, refs[index])
+}
+
 /// Settles so many times with nothing to settle.
 pub(crate) fn settle(heap: &mut Heap, count: u32)
-    ensures { heap.new.heap ≡ heap.old.heap }
+    ensures heap { heap.new.heap ≡ heap.old.heap }
+    ensures outside { heap.new.outside ≡ heap.old.outside }
 {
     for _ in 0..count {
         heap.settle();
@@ -133,7 +198,8 @@ pub(crate) fn settle(heap: &mut Heap, count: u32)
 /// So many times: holds four slots and settles, so that they leave limbo, and releases them and settles,
 /// so that they enter it again. Whether all was done.
 pub(crate) fn hold_and_release(heap: &mut Heap, refs: &[Ref], count: u32) -> bool
-    requires { AreLive heap.old.heap refs.now }
+    requires live { AreLive heap.old.heap refs.now }
+    requires free { heap.old.outside ≡ [] }
     ensures { AreLive heap.new.heap refs.now }
 {
     let mut all = true;
@@ -150,52 +216,35 @@ pub(crate) fn hold_and_release(heap: &mut Heap, refs: &[Ref], count: u32) -> boo
 
 /// The same once, with the four from this one on.
 fn hold_and_release_four(heap: &mut Heap, refs: &[Ref], from: usize) -> bool
-    requires { AreLive heap.old.heap refs.now }
-    ensures { AreLive heap.new.heap refs.now }
+    requires live { AreLive heap.old.heap refs.now }
+    requires free { heap.old.outside ≡ [] }
+    ensures live { AreLive heap.new.heap refs.now }
+    ensures free { heap.new.outside ≡ [] }
 {
     if refs.len() < 4 || refs.len() - 4 < from {
         return false;
     }
     let (a, b, c, d) = (refs[from], refs[from + 1], refs[from + 2], refs[from + 3]);
-    if !hold(heap, a) {
-        return false;
-    }
-    if !hold(heap, b) {
-        return false;
-    }
-    if !hold(heap, c) {
-        return false;
-    }
-    if !hold(heap, d) {
-        return false;
-    }
+    hold(heap, a);
+    hold(heap, b);
+    hold(heap, c);
+    hold(heap, d);
     heap.settle();
-    release(heap, d);
-    release(heap, c);
-    release(heap, b);
-    release(heap, a);
+    heap.release(d);
+    heap.release(c);
+    heap.release(b);
+    heap.release(a);
     heap.settle();
     true
 }
 
-/// Holds a slot, unless it is held too often.
-fn hold(heap: &mut Heap, at: Ref) -> bool
-    requires { IsLive heap.old.heap at }
+/// Holds a slot, where few are held.
+#[tactic(auto, using(slot_arena::proofs::Times::times_le))]
+fn hold(heap: &mut Heap, at: Ref)
+    requires live { IsLive heap.old.heap at }
+    requires few { length heap.old.outside ≤ 3 }
     ensures heap { heap.new.heap ≡ heap.old.heap }
-    ensures outside { heap.new.outside ≡ (if result then at ∷ heap.old.outside else heap.old.outside) }
+    ensures outside { heap.new.outside ≡ at ∷ heap.old.outside }
 {
-    if heap.count(at) >= MOST_HELD {
-        return false;
-    }
     heap.hold(at);
-    true
-}
-
-/// Releases the slot that was held last.
-fn release(heap: &mut Heap, at: Ref)
-    requires { (rest : List Ref) × (heap.old.outside ≡ at ∷ rest) }
-    ensures heap { heap.new.heap ≡ heap.old.heap }
-    ensures outside { heap.new.outside ≡ drop 1 heap.old.outside }
-{
-    heap.release(at);
 }

@@ -3,10 +3,11 @@
 //! `bench_heap COUNT EVERY SLOTS` writes how many nanoseconds each of these takes: a changed branch of 16
 //! entries; a place, where every so many places a generation is closed, and a place in the order; in an
 //! arena and a heap of so many slots, all but a few of them in use, a branch of 16 entries made and
-//! freed, a look, a swap of a main word, and a settling. Without words few are done, and just written
+//! freed, a look, a swap of a main word, a main node published, and a settling. Without words few are done, and just written
 //! that they were.
 #![tactic(auto)]
 
+ghost use Rattle.std.specs.Prelude.{◌≡◌, []};
 ghost use Rattle.slot_arena.specs.Arenas.{AreLive};
 
 mod arenas;
@@ -16,7 +17,7 @@ mod placing;
 
 use crate::arenas::{make_and_free, new_arena};
 use crate::builders::branches;
-use crate::heaps::{hold_and_release, look, new_heap, settle, swap};
+use crate::heaps::{hold_and_release, look, look_stored, new_heap, publish, settle, swap};
 use crate::placing::places;
 use ctrie_base::Refusal;
 use epochs::Heap;
@@ -94,12 +95,16 @@ fn measure_looks<R: Clock + Print>(rt: &R, heap: &Heap, refs: &[Ref], count: u32
     let start = Instant::now(rt).ok();
     let sum = look(heap, refs, count);
     tell(rt, "a look at one of all slots", start, count);
-    let _ = println!(rt; "({few_sum}, {sum})");
+    let start = Instant::now(rt).ok();
+    let stored_sum = look_stored(heap, few, count);
+    tell(rt, "a look that asks for nothing", start, count);
+    let _ = println!(rt; "({few_sum}, {sum}, {stored_sum})");
 }
 
 /// The figures of what changes a heap.
 fn measure_changes<R: Clock + Print>(rt: &R, heap: &mut Heap, refs: &[Ref], count: u32)
-    requires { AreLive heap.old.heap refs.now }
+    requires live { AreLive heap.old.heap refs.now }
+    requires free { heap.old.outside ≡ [] }
 {
     let start = Instant::now(rt).ok();
     let settled = hold_and_release(heap, refs, count);
@@ -110,7 +115,10 @@ fn measure_changes<R: Clock + Print>(rt: &R, heap: &mut Heap, refs: &[Ref], coun
     let start = Instant::now(rt).ok();
     let swapped = swap(heap, refs, count);
     tell(rt, "a swap of a main word", start, count);
-    let _ = println!(rt; "({settled}, {swapped})");
+    let start = Instant::now(rt).ok();
+    let published = publish(heap, refs, count);
+    tell(rt, "a main node published", start, count);
+    let _ = println!(rt; "({settled}, {swapped}, {published})");
 }
 
 /// All figures, one after the other.
@@ -154,8 +162,9 @@ fn small_heap<R: Print + AllocGlobal>(rt: &R) -> Result<(), Refusal> {
     let settled = hold_and_release(&mut heap, refs.as_slice(), 100);
     settle(&mut heap, 100);
     let swapped = swap(&mut heap, refs.as_slice(), 100);
+    let published = publish(&mut heap, refs.as_slice(), 100);
     let _ = println!(rt;
-        "branches made and freed: {made}, looks with the sum {sum}, slots settled: {settled}, words swapped: {swapped}"
+        "branches made and freed: {made}, looks with the sum {sum}, slots settled: {settled}, words swapped: {swapped}, nodes published: {published}"
     );
     Ok(())
 }

@@ -11,3 +11,5 @@ pub mod Staying
 pub mod Naming
 pub mod Settled
 pub mod Forgetting
+pub mod Recents
+pub mod Running

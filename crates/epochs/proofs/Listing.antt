@@ -1,5 +1,5 @@
 -- The bags list what waits, whatever the arena's calls do.
-use Rattle.std.proofs.Common.{◌≡◌, ℕ, ◌+◌, ◌<◌, ◌≤◌, ◌==◌, not, Bool, true, false, cond, List, [], ◌∷◌, length, get_or, All, Some, None, refl, sym, ap, ◌∙◌, subst, inl, inr, arith, eqb-true}
+use Rattle.std.proofs.Common.{◌≡◌, ℕ, ◌+◌, ◌<◌, ◌≤◌, ◌==◌, not, Bool, true, false, cond, List, [], ◌∷◌, length, get_or, All, Option, Some, None, refl, sym, ap, ◌∙◌, subst, inl, inr, arith, eqb-true}
 use Rattle.std.proofs.lemmas.Bool.{eqb-false}
 use Rattle.slot_arena.specs.declared.nodes.Prev.TheVariants as prev
 use Rattle.std.proofs.lemmas.Bool.{cases_eq}
@@ -23,7 +23,7 @@ use Rattle.epochs.specs.Rings.{Bags, all_of}
 use Rattle.epochs.specs.Memories.{Lists, IsMemory}
 use Rattle.epochs.specs.Settling.{bags_after}
 use Rattle.epochs.proofs.Bags.{other_slots-all}
-use Rattle.epochs.proofs.Sifting.{member_live}
+use Rattle.epochs.proofs.Sifting.{member_live, waiting_same}
 
 -- ---- the number of slots stays
 
@@ -45,6 +45,9 @@ length-with_prev heap r p = length-set heap.slots (slot_of r) (option_map (prev_
 
 pub length-freed : (heap : Heap) (r : Ref) → length (freed heap r).slots ≡ length heap.slots
 length-freed heap r = ap (λ (h : Heap). length h.slots) (freed_seen heap r) ∙ length-set heap.slots (slot_of r) None
+
+pub live_slot : (heap : Heap) (r : Ref) → IsLive heap r → slot_of r < length heap.slots
+live_slot heap r has = live_within heap.slots r (live_seen heap r has)
 
 -- ---- members
 
@@ -101,9 +104,26 @@ lists_kept a b bags lists size stay notes = record {
   listed = λ r is none. let step = notes (slot_of r) none in lists.listed r (step.1 ∙ is) step.0;
 }
 
-pub memory_kept : (a b : Contents) (bags : Bags) (epoch cursor actors : ℕ) → IsMemory a bags epoch cursor actors → Lists b bags → IsMemory b bags epoch cursor actors
-memory_kept a b bags epoch cursor actors memory lists =
-    record { lists = lists; oldest_first = memory.oldest_first; middle_next = memory.middle_next; started = memory.started; passed = memory.passed; few = memory.few }
+pub memory_kept : (a b : Contents) (bags : Bags) (epoch cursor : ℕ) (pins : List (Option ℕ)) → IsMemory a bags epoch cursor pins → Lists b bags → IsMemory b bags epoch cursor pins
+memory_kept a b bags epoch cursor pins memory lists = record {
+  lists = lists;
+  oldest_first = memory.oldest_first;
+  middle_next = memory.middle_next;
+  started = memory.started;
+  passed = memory.passed;
+  few = memory.few;
+  recent = memory.recent;
+}
+
+-- only what the arena holds matters
+pub lists_same : (a b : Contents) (bags : Bags) → b.heap ≡ a.heap → b.outside ≡ a.outside → b.noted ≡ a.noted → Lists a bags → Lists b bags
+lists_same a b bags heap outside noted lists = record {
+  sizes = lists.sizes ∙ sym (ap (λ (h : Heap). length h.slots) heap);
+  live = subst (λ (h : Heap). AreLive h (all_of bags)) (sym heap) lists.live;
+  single = lists.single;
+  waits = λ r some none. waiting_same b a (slot_of r) heap outside ∙ lists.waits r some (sym (ap (times (slot_of r)) noted) ∙ none);
+  listed = λ r is none. lists.listed r (sym (waiting_same b a (slot_of r) heap outside) ∙ is) (sym (ap (times (slot_of r)) noted) ∙ none);
+}
 
 -- a slot out of limbo is freed
 pub lists_freed : (a b : Contents) (bags : Bags) (at : Ref) → Lists a bags → 0 < times at (all_of bags) → b.heap ≡ freed a.heap at →

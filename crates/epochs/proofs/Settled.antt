@@ -1,10 +1,10 @@
 -- Limbo after a settling is the definition's.
 use Rattle.std.proofs.Common.{◌≡◌, ℕ, suc, ◌+◌, ◌-◌, ◌<◌, ◌≤◌, ◌^◌, ◌==◌, ◌&&◌, not, nat_lt, Bool, true, false, cond, List, [], ◌∷◌, ◌++◌, length, filter, All, Some, refl, sym, ap, ◌∙◌, subst, inl, inr, arith}
 use Rattle.std.specs.List.Sorted.{IsPermutation}
-use Rattle.std.proofs.lemmas.List.Sorted.{sum_by-IsPermutation}
+use Rattle.std.proofs.lemmas.List.Sorted.{IsPermutation-refl, sum_by-IsPermutation}
 use Rattle.std.proofs.lemmas.Bool.{ltb-false}
 use Rattle.std.proofs.lemmas.Bool.{cases_lt, false≢true}
-use Rattle.std.proofs.lemmas.List.{append_assoc, length-append, map-append}
+use Rattle.std.proofs.lemmas.List.{append_assoc, append-nil, length-append, map-append}
 use Rattle.std.proofs.lemmas.List.Elements.{All-weaker, filter-append}
 use Rattle.slot_arena.specs.declared.refs.Ref.{Ref}
 use Rattle.slot_arena.specs.Refs.{slot_of}
@@ -23,7 +23,7 @@ use Rattle.epochs.specs.Rings.{Bags, all_of}
 use Rattle.epochs.specs.Memories.{Lists, limbo_of, zeroed_at, staying}
 use Rattle.epochs.specs.Settling.{IsSifted}
 use Rattle.epochs.proofs.Filters.{times-le-naming}
-use Rattle.epochs.proofs.Sifting.{waiting_same, member_live, in_oldest, in_middle, in_present}
+use Rattle.epochs.proofs.Sifting.{Sifting, sifting_begun, sifting_ended, waiting_same, member_live, in_oldest, in_middle, in_present}
 use Rattle.epochs.proofs.Listing.{all_members}
 use Rattle.epochs.proofs.Rising.{IsSortedRefs, rising_sorted, rising_same, rising_by_birth, times-by_birth, filter_in, filter_there, filter_le}
 use Rattle.epochs.proofs.InUse.{in_use_once, in_use_live, live_in_use}
@@ -225,3 +225,19 @@ module _
 
     pub no_more : length (all_of now) ≤ length (all_of bags)
     no_more = omega (arith, ap length all_now, length_filter (λ r. is_zero arena.heap arena.outside r) (all_of bags))
+
+-- where nothing is noted, all is settled
+module _ (arena : Contents) (bags : Bags) (lists : Lists arena bags) (none : arena.noted ≡ []) (small : length arena.heap.slots ≤ 2 ^ 16) (epoch : ℕ) where
+  nothing_new : IsSifted arena bags bags []
+  nothing_new = sifting_ended arena bags lists bags [] (subst (λ ns. Sifting arena bags ns bags []) none (sifting_begun arena bags lists))
+
+  rises : IsSortedRefs []
+  rises = λ k d low within. absurd (omega arith)
+
+  pub settled_already : limbo_of epoch bags ≡ limbo_after arena.heap arena.outside epoch (limbo_of epoch bags)
+  settled_already =
+      ap (λ rs. zeroed_at (epoch - 2) bags.oldest ++ zeroed_at (epoch - 1) bags.middle ++ zeroed_at epoch rs) (sym (append-nil bags.present))
+      ∙ settled arena bags bags [] [] lists nothing_new (IsPermutation-refl []) rises small epoch
+
+  pub stays_already : length (staying arena.heap arena.outside (limbo_of epoch bags)) ≡ length (all_of bags)
+  stays_already = (length_settled arena bags bags [] [] lists nothing_new (IsPermutation-refl []) rises small epoch).0

@@ -1,5 +1,5 @@
 -- What a contract sees of a heap whose slots are reclaimed by epochs.
-use Rattle.std.specs.Prelude.{◌≡◌, ℕ, ◌+◌, ◌-◌, ◌<◌, ◌≤◌, ◌&&◌, List, [], ◌++◌, map, filter, length, replicate, Option, None, Some}
+use Rattle.std.specs.Prelude.{◌≡◌, ℕ, ⊤, ◌+◌, ◌-◌, ◌<◌, ◌≤◌, ◌&&◌, List, [], ◌++◌, map, filter, length, replicate, slice_index_or, slice_set, Option, None, Some}
 use Rattle.slot_arena.specs.declared.refs.Ref.{Ref}
 use Rattle.slot_arena.specs.Refs.{slot_of}
 use Rattle.slot_arena.specs.Heaps.{Heap}
@@ -22,9 +22,12 @@ pub record Memory : Type 0 where
   pub cursor : ℕ
   -- the epochs that the actors have recorded
   pub pins : List (Option ℕ)
+  -- the actor and the step that were set beside each slot
+  pub owners : List ℕ
+  pub commits : List ℕ
   -- the slots that the next settling looks at
   pub noted : List ℕ
-  -- how many steps on links were taken
+  -- how often a link, a flag, a count, a note or an entry of a list was looked at
   pub ticks : ℕ
 
 -- what the sweep works on
@@ -35,13 +38,22 @@ reclaimer_of memory = record { heap = memory.heap; limbo = memory.limbo; epoch =
 abbrev pub KeepsEpochs : Memory → Memory → Type 0
 KeepsEpochs before after = (after.limbo ≡ before.limbo) × (after.epoch ≡ before.epoch) × (after.cursor ≡ before.cursor) × (after.pins ≡ before.pins)
 
+-- what was set beside the slots is as before
+abbrev pub KeepsRemarks : Memory → Memory → Type 0
+KeepsRemarks before after = (after.owners ≡ before.owners) × (after.commits ≡ before.commits)
+
+-- what was set beside the slot, if one was taken, is taken back
+abbrev pub cleared : Option Ref → List ℕ → List ℕ
+cleared None words = words
+cleared (Some r) words = slice_set words (slot_of r) 0
+
 -- as many slots and actors as there may be
 abbrev pub AreSizes : ℕ → ℕ → Type 0
 AreSizes slots actors = AreSlots slots × (1 ≤ actors) × (actors ≤ 64)
 
--- all slots are free, and no actor has recorded an epoch
+-- all slots are free, and no actor has recorded an epoch; the links were written
 abbrev pub new_memory : ℕ → ℕ → Memory
-new_memory slots actors = record { heap = (new_arena slots).heap; outside = []; limbo = []; epoch = 0; cursor = 1; pins = replicate actors None; noted = []; ticks = 0 }
+new_memory slots actors = record { heap = (new_arena slots).heap; outside = []; limbo = []; epoch = 0; cursor = 1; pins = replicate actors None; owners = replicate slots 0; commits = replicate slots 0; noted = []; ticks = slots + 6 }
 
 -- a bag whose slots became zero in this epoch
 abbrev pub zeroed_at : ℕ → List Ref → List Zeroed
@@ -69,11 +81,17 @@ pub record Lists (arena : Contents) (bags : Bags) : Type 0 where
   pub waits : (r : Ref) → 0 < times r (all_of bags) → times (slot_of r) arena.noted ≡ 0 → waiting arena (slot_of r) ≡ Some r
   pub listed : (r : Ref) → waiting arena (slot_of r) ≡ Some r → times (slot_of r) arena.noted ≡ 0 → 0 < times r (all_of bags)
 
-pub record IsMemory (arena : Contents) (bags : Bags) (epoch cursor actors : ℕ) : Type 0 where
+-- an actor's record is of the present epoch or the one before, and of the present one where the sweep has passed the actor in it
+abbrev pub IsRecent : ℕ → Type 0 → Option ℕ → Type 0
+IsRecent epoch passed None = ⊤
+IsRecent epoch passed (Some recorded) = (recorded ≤ epoch) × (epoch ≤ recorded + 1) × (passed → recorded ≡ epoch)
+
+pub record IsMemory (arena : Contents) (bags : Bags) (epoch cursor : ℕ) (pins : List (Option ℕ)) : Type 0 where
   pub lists : Lists arena bags
   -- three bags are enough: the epoch grows only where the oldest one is empty
   pub oldest_first : 0 < length bags.oldest → 2 ≤ epoch
   pub middle_next : 0 < length bags.middle → 1 ≤ epoch
   pub started : 1 ≤ cursor
-  pub passed : cursor ≤ actors + 1
-  pub few : actors ≤ 64
+  pub passed : cursor ≤ length pins + 1
+  pub few : length pins ≤ 64
+  pub recent : (actor : ℕ) → IsRecent epoch (actor + 1 < cursor) (slice_index_or pins actor None)

@@ -12,6 +12,11 @@ pub record Bags : Type 0 where
   -- slots are below this number
   pub size : ℕ
 
+-- the bags, and how often a link or a flag of theirs was read or written
+pub record Ringed : Type 0 where
+  pub bags : Bags
+  pub ticks : ℕ
+
 -- all of them, the oldest first
 abbrev pub all_of : Bags → List Ref
 all_of bags = bags.oldest ++ bags.middle ++ bags.present

@@ -8,6 +8,12 @@ use Rattle.slot_arena.specs.Arenas.{Contents, waiting}
 use Rattle.epochs.specs.Limbo.{is_zero}
 use Rattle.epochs.specs.Rings.{Bags, all_of}
 
+-- the new ones, for how many there is room, and how often one was looked at
+pub record Listed : Type 0 where
+  pub refs : List Ref
+  pub room : ℕ
+  pub ticks : ℕ
+
 -- the slot waits, and stood in no bag
 abbrev pub IsFresh : Contents → Bags → Ref → Type 0
 IsFresh arena bags r = (waiting arena (slot_of r) ≡ Some r) × (naming (slot_of r) (all_of bags) ≡ 0)

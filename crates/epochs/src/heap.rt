@@ -1,20 +1,23 @@
 //! The arena with limbo, epochs and the sweep.
 
-ghost use Rattle.std.specs.Prelude.{◌≡◌, ℕ, ◌+◌, ◌-◌, ◌*◌, ◌<◌, ◌≤◌, ◌^◌, ◌==◌, ◌∷◌, [], List, length, drop, true, false, IsTrue, ◌↔◌, IfSome, Some, None, slice_set, slice_index_or, IfOk, IfErr, ◌⊎◌, if◌then◌else◌};
-ghost use Rattle.slot_arena.specs.Heaps.{node_at, prev_at, main_at, refs_of_node, refs_of_prev, next_ref, in_use, taken, with_main, with_prev};
+ghost use Rattle.std.specs.Prelude.{◌≡◌, ℕ, ◌+◌, ◌-◌, ◌*◌, ◌<◌, ◌≤◌, ◌^◌, ◌==◌, ◌∷◌, ◌++◌, [], List, length, take, drop, option_map, All, slice_index, true, false, IsTrue, ◌↔◌, IfSome, Some, None, slice_set, slice_index_or, IfOk, IfErr, ◌⊎◌, if◌then◌else◌};
+ghost use Rattle.slot_arena.specs.Heaps.{node_at, prev_at, main_at, refs_of_node, refs_of_prev, refs_of_option, stored, next_ref, in_use, taken, with_main, with_prev};
 ghost use Rattle.slot_arena.specs.Counts.{count_of};
 ghost use Rattle.slot_arena.specs.Times.{times, without};
+ghost use Rattle.slot_arena.specs.Ticking.{TakesUpTo};
+ghost use Rattle.slot_arena.specs.Refs.{slot_of};
 ghost use Rattle.slot_arena.specs.Arenas.{IsLive, AreLive, is_live, is_indirection, is_main_node};
-ghost use Rattle.epochs.specs.Sweeping.{swept_once, is_passed};
-ghost use Rattle.epochs.specs.Rings.{turned};
-ghost use Rattle.epochs.specs.Memories.{reclaimer_of, KeepsEpochs, AreSizes, new_memory, freed_by, staying};
+ghost use Rattle.epochs.specs.Sweeping.{swept_once, IsOlder};
+ghost use Rattle.epochs.specs.Memories.{reclaimer_of, KeepsEpochs, KeepsRemarks, cleared, AreSizes, new_memory, freed_by, staying};
 ghost use Rattle.epochs.specs.Limbo.{limbo_after, newly_zero};
 
+use crate::advancing::{advance, ticks_of};
+use crate::fresh::Fresh;
 use crate::limbo::Swept;
 use crate::ring::Ring;
 use crate::settling::{enter_all, sift};
 use ctrie_base::{Refusal, Ticks};
-use slot_arena::{Arena, Node, Prev, Ref};
+use slot_arena::{Arena, Node, Prev, Ref, Remarks};
 use std::alloc::Global;
 use std::marker::Model;
 
@@ -25,24 +28,41 @@ pub struct Heap {
     arena: Arena,
     bags: Ring,
     /// Room for the slots that come into limbo in one step.
-    fresh: Vec<Ref>,
+    fresh: Fresh,
     epoch: u64,
     /// The actor whose record is read next, from 1.
     cursor: u8,
     pins: Vec<Option<u64>>,
-    links: Ticks,
+    remarks: Remarks,
+    /// Those of the arena, the bags and the new ones.
     ticks: Ticks,
 }
 
 impl Model for Heap {
-    ghost use Rattle.std.specs.Prelude.{◌≡◌, ◌+◌, ◌≤◌, [], length, vec_capacity};
+    ghost use Rattle.std.specs.Prelude.{◌≡◌, ◌+◌, ◌≤◌, [], length};
     ghost use Rattle.epochs.specs.Memories.{Memory, IsMemory, limbo_of};
 
     ghost Value = { Memory };
 
-    ghost view = { λ h. record { heap = h.arena.heap; outside = h.arena.outside; limbo = limbo_of h.epoch h.bags; epoch = h.epoch; cursor = h.cursor; pins = h.pins.items; noted = h.arena.noted; ticks = h.ticks.count } };
+    ghost view = { λ h. record {
+      heap = h.arena.heap;
+      outside = h.arena.outside;
+      limbo = limbo_of h.epoch h.bags.bags;
+      epoch = h.epoch;
+      cursor = h.cursor;
+      pins = h.pins.items;
+      owners = h.remarks.owners;
+      commits = h.remarks.commits;
+      noted = h.arena.noted;
+      ticks = h.ticks.count;
+    } };
 
-    ghost invariant = { λ h. IsMemory h.arena h.bags h.epoch h.cursor (length h.pins.items) × (h.fresh.items ≡ []) × (length h.arena.heap.slots ≤ vec_capacity h.fresh) × (h.ticks.count ≡ h.arena.ticks + h.links.count) };
+    ghost invariant = { λ h.
+        IsMemory h.arena h.bags.bags h.epoch h.cursor h.pins.items
+        × (h.fresh.refs ≡ [])
+        × (length h.arena.heap.slots ≤ h.fresh.room)
+        × (h.ticks.count ≡ h.arena.ticks + h.bags.ticks + h.fresh.ticks)
+        × (length h.remarks.owners ≡ length h.arena.heap.slots) };
 }
 
 impl Heap {
@@ -56,21 +76,23 @@ impl Heap {
             return Err(Refusal::BadLimits);
         }
         let arena = Arena::new(alloc, slots)?;
-        let links = Ticks::new();
+        let bags = Ring::new(alloc, slots)?;
+        let fresh = Fresh::new(alloc, slots as usize)?;
         Ok(Heap {
-            bags: Ring::new(alloc, slots)?,
-            fresh: Vec::with_capacity(alloc, slots as usize)?,
+            ticks: ticks_of(&arena, &bags, &fresh),
             epoch: 0,
             cursor: 1,
             pins: vec![in alloc; None; actors as usize]?,
-            ticks: Ticks::sum(arena.ticks(), &links),
+            remarks: Remarks::new(alloc, slots as usize)?,
             arena,
-            links,
+            bags,
+            fresh,
         })
     }
 
-    /// Takes the first free slot for a node, under a new birth; None where no slot is free.
-    pub fn make(&mut self, node: Node) -> Option<Ref>
+    /// Takes the first free slot for a node, under a new birth, and holds it: it has one reference from
+    /// outside, no owner and no commit; None where no slot is free.
+    pub fn make_held(&mut self, node: Node) -> Option<Ref>
         requires births { self.old.heap.births + 1 < 2 ^ 48 }
         requires live { AreLive self.old.heap (refs_of_node node) }
         ensures made { result ≡ next_ref self.old.heap }
@@ -78,14 +100,18 @@ impl Heap {
         ensures fresh { IfSome result (λ r. is_live self.old.heap r ≡ false) }
         ensures stay { (q : Ref) → IsLive self.old.heap q → IsLive self.new.heap q }
         ensures heap { self.new.heap ≡ taken self.old.heap node }
-        ensures outside { self.new.outside ≡ self.old.outside }
+        ensures outside { self.new.outside ≡ refs_of_option result ++ self.old.outside }
         ensures epochs { KeepsEpochs self.old self.new }
-        ensures few { length self.new.noted ≤ length self.old.noted + 33 }
-        ensures ticks { self.new.ticks ≤ self.old.ticks + 12 }
-        ensures rising { self.old.ticks ≤ self.new.ticks }
+        ensures owners { self.new.owners ≡ cleared result self.old.owners }
+        ensures commits { self.new.commits ≡ cleared result self.old.commits }
+        ensures few { length self.new.noted ≤ length self.old.noted + 32 }
+        ensures ticks { TakesUpTo 36 self.old.ticks self.new.ticks }
     {
-        let made = self.arena.make(node);
-        self.ticks = Ticks::sum(self.arena.ticks(), &self.links);
+        let made = self.arena.make_held(node);
+        self.ticks = ticks_of(&self.arena, &self.bags, &self.fresh);
+        if let Some(at) = made {
+            self.remarks.clear(at.slot());
+        }
         made
     }
 
@@ -95,6 +121,20 @@ impl Heap {
         ensures { result.now ≡ node_at self.now.heap at }
     {
         self.arena.look(at)
+    }
+
+    /// The node that stands in the slot, whatever its birth, if the slot is in use.
+    pub fn stored_node(&self, at: Ref) -> Option<&Node>
+        ensures { option_map (λ node. node.now) result ≡ option_map (λ slot. slot.node) (stored self.now.heap at) }
+    {
+        self.arena.stored_node(at)
+    }
+
+    /// The `prev` word that stands in the slot, whatever its birth; None where the slot isn't in use.
+    pub fn stored_prev(&self, at: Ref) -> Prev
+        ensures { result ≡ prev_at self.now.heap at }
+    {
+        self.arena.stored_prev(at)
     }
 
     /// The main word of an indirection.
@@ -125,10 +165,13 @@ impl Heap {
         ensures outside { self.new.outside ≡ self.old.outside }
         ensures stay { (q : Ref) → is_live self.new.heap q ≡ is_live self.old.heap q }
         ensures epochs { KeepsEpochs self.old self.new }
+        ensures remarks { KeepsRemarks self.old self.new }
         ensures few { length self.new.noted ≤ length self.old.noted + 2 }
-        ensures ticks { self.new.ticks ≡ self.old.ticks }
+        ensures ticks { TakesUpTo 2 self.old.ticks self.new.ticks }
     {
-        self.arena.swap_main(at, from, to)
+        let swapped = self.arena.swap_main(at, from, to);
+        self.ticks = ticks_of(&self.arena, &self.bags, &self.fresh);
+        swapped
     }
 
     /// Where the `prev` word of a main node is `from` it becomes `to`. Tells whether it was.
@@ -141,23 +184,82 @@ impl Heap {
         ensures outside { self.new.outside ≡ self.old.outside }
         ensures stay { (q : Ref) → is_live self.new.heap q ≡ is_live self.old.heap q }
         ensures epochs { KeepsEpochs self.old self.new }
+        ensures remarks { KeepsRemarks self.old self.new }
         ensures few { length self.new.noted ≤ length self.old.noted + 2 }
-        ensures ticks { self.new.ticks ≡ self.old.ticks }
+        ensures ticks { TakesUpTo 2 self.old.ticks self.new.ticks }
     {
-        self.arena.swap_prev(at, from, to)
+        let swapped = self.arena.swap_prev(at, from, to);
+        self.ticks = ticks_of(&self.arena, &self.bags, &self.fresh);
+        swapped
+    }
+
+    /// Where the main word of an indirection is `from`, it becomes `to`, whose `prev` word becomes pending
+    /// over `from`. Tells whether it was.
+    pub fn publish(&mut self, at: Ref, from: Ref, to: Ref) -> bool
+        requires live { IsLive self.old.heap at }
+        requires kind { is_indirection (node_at self.old.heap at) ≡ true }
+        requires new_live { IsLive self.old.heap to }
+        ensures was { result ≡ (main_at self.old.heap at == from) }
+        ensures heap { self.new.heap ≡ (if result then with_prev (with_main self.old.heap at to) to (Prev.Pending from) else self.old.heap) }
+        ensures outside { self.new.outside ≡ self.old.outside }
+        ensures stay { (q : Ref) → is_live self.new.heap q ≡ is_live self.old.heap q }
+        ensures epochs { KeepsEpochs self.old self.new }
+        ensures remarks { KeepsRemarks self.old self.new }
+        ensures few { length self.new.noted ≤ length self.old.noted + 2 }
+        ensures ticks { TakesUpTo 2 self.old.ticks self.new.ticks }
+    {
+        let swapped = self.arena.publish(at, from, to);
+        self.ticks = ticks_of(&self.arena, &self.bags, &self.fresh);
+        swapped
+    }
+
+    /// The actor that was set beside a slot in use, 0 where none was.
+    pub fn owner(&self, at: Ref) -> u8
+        requires { IsLive self.now.heap at }
+        ensures { result ≡ slice_index self.now.owners (slot_of at) }
+    {
+        self.remarks.owner(at.slot())
+    }
+
+    /// Sets an actor beside a slot in use.
+    pub fn set_owner(&mut self, at: Ref, actor: u8)
+        requires { IsLive self.old.heap at }
+        ensures same { self.new ≡ record self.old { owners = slice_set self.old.owners (slot_of at) actor } }
+        ensures set { slice_index self.new.owners (slot_of at) ≡ actor }
+    {
+        self.remarks.set_owner(at.slot(), actor);
+    }
+
+    /// The step that was set beside a slot in use, 0 where none was.
+    pub fn commit(&self, at: Ref) -> u64
+        requires { IsLive self.now.heap at }
+        ensures { result ≡ slice_index self.now.commits (slot_of at) }
+    {
+        self.remarks.commit(at.slot())
+    }
+
+    /// Sets a step beside a slot in use.
+    pub fn set_commit(&mut self, at: Ref, step: u64)
+        requires { IsLive self.old.heap at }
+        ensures same { self.new ≡ record self.old { commits = slice_set self.old.commits (slot_of at) step } }
+        ensures set { slice_index self.new.commits (slot_of at) ≡ step }
+    {
+        self.remarks.set_commit(at.slot(), step);
     }
 
     /// One reference from outside the slots more.
     pub fn hold(&mut self, at: Ref)
         requires live { IsLive self.old.heap at }
-        requires room { count_of self.old.heap self.old.outside at < 2 ^ 31 }
+        requires room { times at self.old.outside < 2 ^ 31 }
         ensures heap { self.new.heap ≡ self.old.heap }
         ensures outside { self.new.outside ≡ at ∷ self.old.outside }
         ensures epochs { KeepsEpochs self.old self.new }
+        ensures remarks { KeepsRemarks self.old self.new }
         ensures few { length self.new.noted ≤ length self.old.noted + 1 }
-        ensures ticks { self.new.ticks ≡ self.old.ticks }
+        ensures ticks { self.new.ticks ≡ self.old.ticks + 1 }
     {
         self.arena.hold(at);
+        self.ticks = ticks_of(&self.arena, &self.bags, &self.fresh);
     }
 
     /// One reference from outside the slots less.
@@ -166,10 +268,12 @@ impl Heap {
         ensures heap { self.new.heap ≡ self.old.heap }
         ensures outside { self.new.outside ≡ without at self.old.outside }
         ensures epochs { KeepsEpochs self.old self.new }
+        ensures remarks { KeepsRemarks self.old self.new }
         ensures few { length self.new.noted ≤ length self.old.noted + 1 }
-        ensures ticks { self.new.ticks ≡ self.old.ticks }
+        ensures ticks { self.new.ticks ≡ self.old.ticks + 1 }
     {
         self.arena.release(at);
+        self.ticks = ticks_of(&self.arena, &self.bags, &self.fresh);
     }
 
     /// The actor records the present epoch.
@@ -189,68 +293,62 @@ impl Heap {
     }
 
     /// Ends a step: slots that are referred to leave limbo, and those to which nothing refers any more
-    /// enter it, by rising birth, with the present epoch.
+    /// enter it, by rising birth, with the present epoch. It looks at the noted slots alone: that takes 3
+    /// ticks for each, and at most 12 for each that enters or leaves limbo.
     pub fn settle(&mut self)
         ensures limbo { self.new.limbo ≡ limbo_after self.old.heap self.old.outside self.old.epoch self.old.limbo }
         ensures settled { self.new.noted ≡ [] }
         ensures heap { self.new.heap ≡ self.old.heap }
         ensures outside { self.new.outside ≡ self.old.outside }
         ensures epochs { (self.new.epoch ≡ self.old.epoch) × (self.new.cursor ≡ self.old.cursor) × (self.new.pins ≡ self.old.pins) }
-        ensures ticks { self.new.ticks + 12 * length (staying self.old.heap self.old.outside self.old.limbo) ≤ self.old.ticks + 12 * length self.old.limbo + 12 * length (newly_zero self.old.heap self.old.outside self.old.limbo) }
+        ensures remarks { KeepsRemarks self.old self.new }
+        ensures ticks { self.new.ticks + 12 * length (staying self.old.heap self.old.outside self.old.limbo) ≤ self.old.ticks + 3 * length self.old.noted + 12 * length self.old.limbo + 12 * length (newly_zero self.old.heap self.old.outside self.old.limbo) }
         ensures rising { self.old.ticks ≤ self.new.ticks }
     {
         prove!(self.arena.len() <= 65536);
-        sift(
-            &mut self.arena,
-            &mut self.bags,
-            &mut self.fresh,
-            &mut self.links,
-        );
-        self.fresh.sort_unstable();
-        enter_all(&mut self.bags, self.fresh.as_slice(), &mut self.links);
+        if self.arena.noted_len() == 0 {
+            return;
+        }
+        sift(&mut self.arena, &mut self.bags, &mut self.fresh);
+        self.fresh.sort();
+        enter_all(&mut self.bags, &mut self.fresh);
         self.fresh.clear();
-        self.ticks = Ticks::sum(self.arena.ticks(), &self.links);
+        self.ticks = ticks_of(&self.arena, &self.bags, &self.fresh);
     }
 
     /// A step of the sweep, where all is settled. What it frees leaves limbo at once; what is referred to
-    /// stays.
+    /// stays. What it frees was in limbo before each running operation began: in an older epoch than any
+    /// that an actor has recorded.
     pub fn sweep(&mut self) -> Swept
         requires settled { self.old.noted ≡ [] }
         requires room { self.old.epoch < 2 ^ 48 }
         ensures swept { (result, record { heap = self.new.heap; limbo = self.old.limbo; epoch = self.new.epoch; cursor = self.new.cursor }) ≡ swept_once self.old.pins (reclaimer_of self.old) }
         ensures limbo { self.new.limbo ≡ drop (freed_by result) self.old.limbo }
+        ensures older { All (λ entry. All (IsOlder entry.epoch) self.old.pins) (take (freed_by result) self.old.limbo) }
         ensures stay { (q : Ref) → IsLive self.old.heap q → 0 < count_of self.old.heap self.old.outside q → IsLive self.new.heap q }
         ensures outside { self.new.outside ≡ self.old.outside }
         ensures pins { self.new.pins ≡ self.old.pins }
+        ensures remarks { KeepsRemarks self.old self.new }
         ensures few { length self.new.noted ≤ 34 }
-        ensures ticks { self.new.ticks ≤ self.old.ticks + 12 }
-        ensures rising { self.old.ticks ≤ self.new.ticks }
+        ensures ticks { TakesUpTo 44 self.old.ticks self.new.ticks }
     {
-        let Some(slot) = self.bags.first(&mut self.links) else {
+        let Some(slot) = self.bags.first() else {
             let swept = advance(
                 &mut self.bags,
                 &mut self.epoch,
                 &mut self.cursor,
                 self.pins.as_slice(),
             );
-            self.ticks = Ticks::sum(self.arena.ticks(), &self.links);
+            self.ticks = ticks_of(&self.arena, &self.bags, &self.fresh);
             return swept;
         };
         let Some(at) = self.arena.waiting(slot) else {
             unreachable!()
         };
-        self.bags.leave(slot, &mut self.links);
+        self.bags.leave(slot);
         self.arena.free(at);
-        self.ticks = Ticks::sum(self.arena.ticks(), &self.links);
+        self.ticks = ticks_of(&self.arena, &self.bags, &self.fresh);
         Swept::Freed
-    }
-
-    /// How many references there are to a slot, from slots in use and from outside.
-    pub fn count(&self, at: Ref) -> u64
-        requires { IsLive self.now.heap at }
-        ensures { result ≡ count_of self.now.heap self.now.outside at }
-    {
-        self.arena.count(at)
     }
 
     /// How many slots are free.
@@ -288,35 +386,10 @@ impl Heap {
         self.epoch
     }
 
-    /// The steps that were taken on links.
+    /// How often a link, a flag, a count, a note or an entry of a list was looked at.
     pub fn ticks(&self) -> &Ticks
         ensures { result.now.count ≡ self.now.ticks }
     {
         &self.ticks
     }
-}
-
-/// Reads the record of the actor at the cursor, or lets the epoch grow where all actors were passed.
-fn advance(bags: &mut Ring, epoch: &mut u64, cursor: &mut u8, pins: &[Option<u64>]) -> Swept
-    requires empty { bags.old.oldest ≡ [] }
-    requires started { (1 ≤ cursor.old) × (cursor.old ≤ length pins.now + 1) }
-    requires few { length pins.now ≤ 64 }
-    requires room { epoch.old < 2 ^ 48 }
-    ensures scanned { cursor.old ≤ length pins.now → (let passed = is_passed epoch.old (slice_index_or pins.now (cursor.old - 1) None) in (result ≡ Swept.Scanned passed) × (cursor.new ≡ cursor.old + (if passed then 1 else 0)) × (epoch.new ≡ epoch.old) × (bags.new ≡ bags.old)) }
-    ensures advanced { length pins.now < cursor.old → (result ≡ Swept.Advanced (epoch.old + 1)) × (cursor.new ≡ 1) × (epoch.new ≡ epoch.old + 1) × (bags.new ≡ turned bags.old) }
-{
-    if *cursor as usize > pins.len() {
-        bags.turn();
-        *epoch += 1;
-        *cursor = 1;
-        return Swept::Advanced(*epoch);
-    }
-    let passed = match pins[*cursor as usize - 1] {
-        None => true,
-        Some(recorded) => recorded == *epoch,
-    };
-    if passed {
-        *cursor += 1;
-    }
-    Swept::Scanned { passed }
 }

@@ -1,6 +1,8 @@
 //! Which slots may be freed, and when: limbo, epochs and the sweep.
 #![tactic(auto)]
 
+mod advancing;
+mod fresh;
 mod heap;
 mod laws;
 mod limbo;
@@ -8,8 +10,5 @@ mod ring;
 mod settling;
 
 pub use heap::Heap;
-pub use laws::{counts_alone, freed_leaves};
+pub use laws::{counts_alone, freed_leaves, running_keeps};
 pub use limbo::{Swept, Zeroed};
-
-#[cfg(test)]
-mod tests;

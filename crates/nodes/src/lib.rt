@@ -15,6 +15,3 @@ pub use entries::{MOST_ENTRIES, has_room};
 pub use levels::{flag_of, has_flag, index_in, list_depth, parting, position_of};
 pub use lists::{list_inserted, list_removed, list_updated};
 pub use pairs::{dual, rung};
-
-#[cfg(test)]
-mod tests;

@@ -7,6 +7,3 @@ mod segment;
 
 pub use place::Place;
 pub use places::Places;
-
-#[cfg(test)]
-mod tests;

@@ -14,5 +14,6 @@ pub mod Holds
 pub mod Frees
 pub mod Reading
 pub mod Words
+pub mod Publishes
 pub mod Starts
 pub mod InUse

@@ -16,7 +16,14 @@ use Rattle.slot_arena.specs.Chains.{Chain}
 use Rattle.slot_arena.specs.Arenas.{has_birth}
 use Rattle.slot_arena.specs.Kept.{live, found, counted, IsKept}
 use Rattle.slot_arena.proofs.Times.{once_same, times-cons, times-append}
-use Rattle.slot_arena.proofs.Live.{unnamed}
+use Rattle.slot_arena.proofs.Live.{unnamed, live_ref, slot_of_ref}
+use Rattle.slot_arena.proofs.Exact.{exact_live}
+use Rattle.slot_arena.proofs.Namings.{naming-cons, raised_at}
+use Rattle.slot_arena.proofs.Holds.{hold_kept, held_more}
+use Rattle.slot_arena.proofs.Times.{once}
+use Rattle.std.proofs.lemmas.List.{get_or-set_same}
+use Rattle.slot_arena.specs.Refs.{ref_to}
+use Rattle.std.proofs.lemmas.List.Elements.{All-cons}
 use Rattle.slot_arena.proofs.Changed.{found_set, live_there, dead_stays, exact_same, counted_none}
 use Rattle.slot_arena.proofs.Written.{used_set, each_set, not_used}
 
@@ -80,3 +87,35 @@ module _
       born = each_set (λ i o. birth_of_slot o < 2 ^ 48) slots k made within fits (λ i other. kept.born i);
       held = kept.held;
     }
+
+    -- and held, its count is one
+    abbrev held : Ref
+    held = ref_to birth k
+
+    small : k < 2 ^ 16
+    small = let is = kept.few in omega (arith, within)
+
+    held_live : live (set slots k made) held ≡ true
+    held_live = live_ref (set slots k made) k (record { birth = birth; node = node; prev = prev.None }) (get_or-set_same slots k made None within) small
+
+    unheld : times held outside ≡ 0
+    unheld = omega (arith, exact_live (set slots k made) counts' outside make_kept.exact held held_live, ap (slice_index counts') (slot_of_ref birth k small), zero_there)
+
+    one_more : (i : ℕ) → slice_index (set counts' k 1) i + naming i [] ≡ slice_index counts' i + naming i (held ∷ [])
+    one_more i =
+        let is = kept.sizes in
+        let below : k < length counts' = omega (arith, sizes, within) in
+        omega (
+          arith,
+          raised_at counts' k i below,
+          ap (λ n. slice_index (set counts' k (n + 1)) i) zero_there,
+          naming-cons i held [],
+          ap (once i) (slot_of_ref birth k small),
+        )
+
+    pub make_held_kept : IsKept (set slots k made) (set counts' k 1) free' (used + 1) (held ∷ outside)
+    make_held_kept =
+        hold_kept (set slots k made) counts' (set counts' k 1) free' (used + 1) outside (held ∷ outside) (held ∷ []) [] make_kept
+        (λ r. omega (arith, times-cons r held outside, times-cons r held [])) (length-set counts' k 1) one_more
+        (All-cons (λ (q : Ref). live (set slots k made) q ≡ true) held [] held_live (All-nil (λ (q : Ref). live (set slots k made) q ≡ true)))
+        (λ q. omega arith) (λ r. held_more outside held r make_kept.held (omega (arith, unheld)))

@@ -81,9 +81,9 @@ zeros_trans a b c first second slot free =
     let later = second slot free in let sooner = first slot later.0 in (sooner.0, sooner.1 ∙ later.1)
 
 -- a count that is written has its slot noted, or is zero where it was
-pub zeros_written : (a b : Tally) (k v : ℕ) (counts noted : List ℕ) → NotesZeros a b → b.counts ≡ a.counts → counts ≡ set a.counts k v → noted ≡ b.noted → k < length a.counts →
-    (0 < times k b.noted) ⊎ ((slice_index a.counts k == 0) ≡ (v == 0)) → NotesZeros a (record { counts = counts; noted = noted })
-zeros_written a b k v counts noted before same is notes within why slot free = elim (cases_eq slot k) [
+pub zeros_written : (a b : Tally) (k v : ℕ) (counts noted : List ℕ) (ticks : ℕ) → NotesZeros a b → b.counts ≡ a.counts → counts ≡ set a.counts k v → noted ≡ b.noted → k < length a.counts →
+    (0 < times k b.noted) ⊎ ((slice_index a.counts k == 0) ≡ (v == 0)) → NotesZeros a (record { counts = counts; noted = noted; ticks = ticks })
+zeros_written a b k v counts noted ticks before same is notes within why slot free = elim (cases_eq slot k) [
   | inl here ↦ (
     was.0,
     elim why [

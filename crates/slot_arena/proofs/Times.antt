@@ -1,6 +1,6 @@
 -- How often a number stands in a list.
-use Rattle.std.proofs.Common.{◌≡◌, ℕ, ◌+◌, ◌<◌, ◌==◌, Bool, true, false, cond, List, [], ◌∷◌, ◌++◌, refl, ap, arith, eq-eqb, eqb-true}
-use Rattle.std.proofs.lemmas.List.Sums.{sum_by-cons, sum_by-append, sum_by_push}
+use Rattle.std.proofs.Common.{◌≡◌, ℕ, ◌+◌, ◌<◌, ◌≤◌, ◌==◌, Bool, true, false, cond, List, [], ◌∷◌, ◌++◌, length, refl, ap, arith, eq-eqb, eqb-true}
+use Rattle.std.proofs.lemmas.List.Sums.{sum_by-cons, sum_by-append, sum_by_push, count_by-le-length}
 use Rattle.std.proofs.lemmas.Bool.Decides.{nat_tests}
 use Rattle.slot_arena.specs.Times.{times, without}
 
@@ -26,6 +26,10 @@ times-append n xs ys = sum_by-append (λ x. cond (x == n) 1 0) xs ys
 
 pub times_push : (n m : ℕ) (ms : List ℕ) → times n (ms ++ m ∷ []) ≡ times n ms + once n m
 times_push n m ms = sum_by_push (λ x. cond (x == n) 1 0) ms m
+
+-- a number stands in a list at most as often as there are items
+pub times_le : (n : ℕ) (ms : List ℕ) → times n ms ≤ length ms
+times_le n ms = count_by-le-length (λ m. m == n) ms
 
 -- taking out what stands there takes it out once, and nothing else
 without_step : (n m x : ℕ) (ms : List ℕ) (b : Bool) → (x == m) ≡ b → (0 < times m ms → times n (without m ms) + once n m ≡ times n ms) → 0 < times m (x ∷ ms) →

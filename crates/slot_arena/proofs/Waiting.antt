@@ -24,7 +24,7 @@ abbrev pub born : Option Slot → Option ℕ
 born None = None
 born (Some slot) = Some slot.birth
 
-abbrev waits_by : ℕ → Option ℕ → Bool → Option Ref
+abbrev pub waits_by : ℕ → Option ℕ → Bool → Option Ref
 waits_by k None test = None
 waits_by k (Some birth) test = cond test (Some (ref_to birth k)) None
 
@@ -69,19 +69,27 @@ module _ (heap : Heap) (counts : List ℕ) (free : Chain) (used : ℕ) (outside 
       elsewhere (inl unborn) = ap (waiting_in heap outside k) (none unborn)
       elsewhere (inr referred) = waiting_is (get_or heap.slots k None) refl ∙ by_count (get_or heap.slots k None) referred
 
+-- what waits by births and counts before waits by them afterwards, where it isn't noted
+pub notes_by : (a b : Contents) (counts counts' : List ℕ) (free free' : Chain) (used used' : ℕ) →
+    IsKept a.heap.slots counts free used a.outside → IsKept b.heap.slots counts' free' used' b.outside →
+    ((k : ℕ) → times k b.noted ≡ 0 → (times k a.noted ≡ 0) ×
+    (waits_by k (born (get_or a.heap.slots k None)) (slice_index counts k == 0) ≡ waits_by k (born (get_or b.heap.slots k None)) (slice_index counts' k == 0))) → NotesWaiting a b
+notes_by a b counts counts' free free' used used' kept kept' each k none =
+    let step = each k none in (
+      step.0,
+      waiting_is a.heap counts free used a.outside kept k (get_or a.heap.slots k None) refl ∙ step.1
+          ∙ sym (waiting_is b.heap counts' free' used' b.outside kept' k (get_or b.heap.slots k None) refl),
+    )
+
 -- zeros that are noted are noted as waiting, where slots come into use and go out of it noted
 pub notes_waiting : (a b : Contents) (counts counts' : List ℕ) (free free' : Chain) (used used' : ℕ) →
     IsKept a.heap.slots counts free used a.outside → IsKept b.heap.slots counts' free' used' b.outside →
-    NotesZeros (record { counts = counts; noted = a.noted }) (record { counts = counts'; noted = b.noted }) →
+    NotesZeros (record { counts = counts; noted = a.noted; ticks = 0 }) (record { counts = counts'; noted = b.noted; ticks = 0 }) →
     ((k : ℕ) → times k b.noted ≡ 0 → born (get_or a.heap.slots k None) ≡ born (get_or b.heap.slots k None)) → NotesWaiting a b
-notes_waiting a b counts counts' free free' used used' kept kept' zeros same k none =
-    let step = zeros k none in (
-      step.0,
-      waiting_is a.heap counts free used a.outside kept k (get_or a.heap.slots k None) refl
-          ∙ ap (λ o. waits_by k o (slice_index counts k == 0)) (same k none)
-          ∙ ap (waits_by k (born (get_or b.heap.slots k None))) step.1
-          ∙ sym (waiting_is b.heap counts' free' used' b.outside kept' k (get_or b.heap.slots k None) refl),
-    )
+notes_waiting a b counts counts' free free' used used' kept kept' zeros same =
+    notes_by a b counts counts' free free' used used' kept kept' (λ k none.
+    let step = zeros k none in
+    (step.0, ap (λ o. waits_by k o (slice_index counts k == 0)) (same k none) ∙ ap (waits_by k (born (get_or b.heap.slots k None))) step.1))
 
 -- what is live and unreferred waits
 pub zero_waits : (arena : Contents) (r : Ref) → IsLive arena.heap r → (count_of arena.heap arena.outside r == 0) ≡ true → waiting arena (slot_of r) ≡ Some r

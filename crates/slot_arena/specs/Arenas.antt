@@ -16,7 +16,7 @@ pub record Contents : Type 0 where
   pub outside : List Ref
   -- the slots that are noted: those that came into use or went out of it, or whose count reached or left zero
   pub noted : List ℕ
-  -- how many steps on links were taken
+  -- how often a link of the free slots, a count or a note was looked at
   pub ticks : ℕ
 
 -- the slot is in use under this birth
@@ -65,4 +65,4 @@ AreSlots slots = (2 ≤ slots) × (slots ≤ 65536)
 
 -- an arena of so many slots, all free
 abbrev pub new_arena : ℕ → Contents
-new_arena slots = record { heap = record { slots = replicate slots None; free = range_with_len 0 slots; births = 0 }; outside = []; noted = []; ticks = 0 }
+new_arena slots = record { heap = record { slots = replicate slots None; free = range_with_len 0 slots; births = 0 }; outside = []; noted = []; ticks = slots }

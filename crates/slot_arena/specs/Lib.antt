@@ -4,6 +4,7 @@ pub mod Counts
 pub mod Times
 pub mod Tallies
 pub mod Chains
+pub mod Ticking
 pub mod Cells
 pub mod Arenas
 pub mod Kept

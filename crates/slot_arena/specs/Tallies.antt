@@ -9,6 +9,8 @@ pub record Tally : Type 0 where
   pub counts : List ℕ
   -- the slots that are noted
   pub noted : List ℕ
+  -- how often a slot was looked at
+  pub ticks : ℕ
 
 -- how many of the references name the slot
 abbrev pub naming : ℕ → List Ref → ℕ

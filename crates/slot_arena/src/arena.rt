@@ -1,16 +1,17 @@
 //! The arena: slots, counts of references, free slots.
 
-ghost use Rattle.std.specs.Prelude.{◌≡◌, ℕ, ◌+◌, ◌<◌, ◌≤◌, ◌^◌, ◌==◌, ◌∷◌, ◌++◌, [], length, true, false, IsTrue, MatchOption, ◌↔◌, IfSome, IfOk, IfErr, ◌⊎◌, if◌then◌else◌};
+ghost use Rattle.std.specs.Prelude.{◌≡◌, ℕ, ◌+◌, ◌<◌, ◌≤◌, ◌^◌, ◌==◌, ◌∷◌, ◌++◌, [], length, true, false, IsTrue, option_map, MatchOption, ◌↔◌, IfSome, IfOk, IfErr, ◌⊎◌, if◌then◌else◌};
 ghost use Rattle.slot_arena.specs.Refs.{slot_of};
-ghost use Rattle.slot_arena.specs.Heaps.{node_at, prev_at, main_at, refs_of_node, refs_of_prev, next_ref, in_use, taken, with_main, with_prev, freed};
+ghost use Rattle.slot_arena.specs.Heaps.{node_at, prev_at, main_at, refs_of_node, refs_of_prev, refs_of_option, stored, next_ref, in_use, taken, with_main, with_prev, freed};
 ghost use Rattle.slot_arena.specs.Counts.{count_of};
 ghost use Rattle.slot_arena.specs.Times.{times, without};
+ghost use Rattle.slot_arena.specs.Ticking.{TakesUpTo};
 ghost use Rattle.slot_arena.specs.Arenas.{IsLive, AreLive, is_live, waiting, is_indirection, is_main_node, NotesWaiting};
 ghost use Rattle.slot_arena.specs.Arenas.{new_arena, AreSlots};
 
 use crate::cells::Cells;
 use crate::free_slots::FreeSlots;
-use crate::nodes::{Node, Prev};
+use crate::nodes::{Node, Prev, refs_of, refs_of_prev};
 use crate::refs::Ref;
 use crate::tally::Tally;
 use ctrie_base::{Change, Refusal, Ticks, Trace};
@@ -22,7 +23,8 @@ use std::slice::from_ref;
 /// that names a slot in use.
 ///
 /// A call notes few slots (clauses `few`): its own, the one of a `prev` word, and those that a node names,
-/// which are at most 32.
+/// which are at most 32. It looks at few links, counts and notes (clauses `ticks`), however many slots there
+/// are. A look at what stands in a slot counts none.
 #[derive(Drop)]
 pub struct Arena {
     cells: Cells,
@@ -31,16 +33,16 @@ pub struct Arena {
     births: u64,
     used: u32,
     outside: Trace<Ref>,
-    ticks: Ticks,
 }
 
 impl Model for Arena {
+    ghost use Rattle.std.specs.Prelude.{◌+◌};
     ghost use Rattle.slot_arena.specs.Arenas.{Contents};
     ghost use Rattle.slot_arena.specs.Kept.{IsKept};
 
     ghost Value = { Contents };
 
-    ghost view = { λ a. record { heap = record { slots = a.cells; free = a.free.slots; births = a.births }; outside = a.outside.items; noted = a.tally.noted; ticks = a.ticks.count } };
+    ghost view = { λ a. record { heap = record { slots = a.cells; free = a.free.slots; births = a.births }; outside = a.outside.items; noted = a.tally.noted; ticks = a.free.ticks + a.tally.ticks } };
 
     ghost invariant = { λ a. IsKept a.cells a.tally.counts a.free a.used a.outside.items };
 }
@@ -61,32 +63,33 @@ impl Arena {
             births: 0,
             used: 0,
             outside: Trace::new(),
-            ticks: Ticks::new(),
         })
     }
 
-    /// Takes the first free slot for a node, under a new birth; None where no slot is free.
-    pub fn make(&mut self, node: Node) -> Option<Ref>
+    /// Takes the first free slot for a node, under a new birth, and holds it: it has one reference from
+    /// outside; None where no slot is free.
+    pub fn make_held(&mut self, node: Node) -> Option<Ref>
         requires births { self.old.heap.births + 1 < 2 ^ 48 }
         requires live { AreLive self.old.heap (refs_of_node node) }
         ensures made { result ≡ next_ref self.old.heap }
         ensures heap { self.new.heap ≡ taken self.old.heap node }
-        ensures outside { self.new.outside ≡ self.old.outside }
+        ensures outside { self.new.outside ≡ refs_of_option result ++ self.old.outside }
         ensures lives { IfSome result (IsLive self.new.heap) }
         ensures fresh { IfSome result (λ r. is_live self.old.heap r ≡ false) }
         ensures stay { (q : Ref) → IsLive self.old.heap q → IsLive self.new.heap q }
         ensures noted { NotesWaiting self.old self.new }
-        ensures few { length self.new.noted ≤ length self.old.noted + 33 }
-        ensures ticks { self.new.ticks ≤ self.old.ticks + 3 }
-        ensures rising { self.old.ticks ≤ self.new.ticks }
+        ensures few { length self.new.noted ≤ length self.old.noted + 32 }
+        ensures ticks { TakesUpTo 36 self.old.ticks self.new.ticks }
     {
-        let slot = self.free.take(&mut self.ticks)?;
-        self.tally.note(slot);
+        let slot = self.free.take()?;
         self.tally.raise_all(refs_of(&node));
+        self.tally.begin(slot);
         self.births += 1;
         self.used += 1;
         self.cells.fill(slot, self.births, node);
-        Some(Ref::new(self.births, slot))
+        let made = Ref::new(self.births, slot);
+        self.outside = self.outside.with_first(&made);
+        Some(made)
     }
 
     /// The node.
@@ -95,6 +98,22 @@ impl Arena {
         ensures { result.now ≡ node_at self.now.heap at }
     {
         self.cells.node(at.slot())
+    }
+
+    /// The node that stands in the slot, whatever its birth, if the slot is in use.
+    #[tactic(auto, unfolding(crate::specs::Heaps::stored))]
+    pub fn stored_node(&self, at: Ref) -> Option<&Node>
+        ensures { option_map (λ node. node.now) result ≡ option_map (λ slot. slot.node) (stored self.now.heap at) }
+    {
+        self.cells.stored_node(at.slot())
+    }
+
+    /// The `prev` word that stands in the slot, whatever its birth; None where the slot isn't in use.
+    #[tactic(auto, unfolding(crate::specs::Heaps::prev_at, crate::specs::Heaps::stored))]
+    pub fn stored_prev(&self, at: Ref) -> Prev
+        ensures { result ≡ prev_at self.now.heap at }
+    {
+        self.cells.stored_prev(at.slot())
     }
 
     /// The main word of an indirection.
@@ -129,7 +148,7 @@ impl Arena {
         ensures stay { (q : Ref) → is_live self.new.heap q ≡ is_live self.old.heap q }
         ensures noted { NotesWaiting self.old self.new }
         ensures few { length self.new.noted ≤ length self.old.noted + 2 }
-        ensures ticks { self.new.ticks ≡ self.old.ticks }
+        ensures ticks { TakesUpTo 2 self.old.ticks self.new.ticks }
     {
         if self.main(at) != from {
             return false;
@@ -151,7 +170,7 @@ impl Arena {
         ensures stay { (q : Ref) → is_live self.new.heap q ≡ is_live self.old.heap q }
         ensures noted { NotesWaiting self.old self.new }
         ensures few { length self.new.noted ≤ length self.old.noted + 2 }
-        ensures ticks { self.new.ticks ≡ self.old.ticks }
+        ensures ticks { TakesUpTo 2 self.old.ticks self.new.ticks }
     {
         if self.prev(at) != from {
             return false;
@@ -162,15 +181,40 @@ impl Arena {
         true
     }
 
+    /// Where the main word of an indirection is `from`, it becomes `to`, whose `prev` word becomes pending
+    /// over `from`. Tells whether it was.
+    pub fn publish(&mut self, at: Ref, from: Ref, to: Ref) -> bool
+        requires live { IsLive self.old.heap at }
+        requires kind { is_indirection (node_at self.old.heap at) ≡ true }
+        requires new_live { IsLive self.old.heap to }
+        ensures was { result ≡ (main_at self.old.heap at == from) }
+        ensures heap { self.new.heap ≡ (if result then with_prev (with_main self.old.heap at to) to (Prev.Pending from) else self.old.heap) }
+        ensures outside { self.new.outside ≡ self.old.outside }
+        ensures stay { (q : Ref) → is_live self.new.heap q ≡ is_live self.old.heap q }
+        ensures noted { NotesWaiting self.old self.new }
+        ensures few { length self.new.noted ≤ length self.old.noted + 2 }
+        ensures ticks { TakesUpTo 2 self.old.ticks self.new.ticks }
+    {
+        if self.main(at) != from {
+            return false;
+        }
+        let was = self.cells.prev(to.slot());
+        self.tally.raise(to.slot());
+        self.tally.lower_all(refs_of_prev(&was));
+        self.cells.set_main(at.slot(), to);
+        self.cells.set_prev(to.slot(), Prev::Pending(from));
+        true
+    }
+
     /// One reference from outside the slots more.
     pub fn hold(&mut self, at: Ref)
         requires live { IsLive self.old.heap at }
-        requires room { count_of self.old.heap self.old.outside at < 2 ^ 31 }
+        requires room { times at self.old.outside < 2 ^ 31 }
         ensures heap { self.new.heap ≡ self.old.heap }
         ensures outside { self.new.outside ≡ at ∷ self.old.outside }
         ensures noted { NotesWaiting self.old self.new }
         ensures few { length self.new.noted ≤ length self.old.noted + 1 }
-        ensures ticks { self.new.ticks ≡ self.old.ticks }
+        ensures ticks { self.new.ticks ≡ self.old.ticks + 1 }
     {
         self.tally.raise_all(from_ref(&at));
         self.outside = self.outside.with_first(&at);
@@ -183,7 +227,7 @@ impl Arena {
         ensures outside { self.new.outside ≡ without at self.old.outside }
         ensures noted { NotesWaiting self.old self.new }
         ensures few { length self.new.noted ≤ length self.old.noted + 1 }
-        ensures ticks { self.new.ticks ≡ self.old.ticks }
+        ensures ticks { self.new.ticks ≡ self.old.ticks + 1 }
     {
         self.tally.lower_all(from_ref(&at));
         self.outside = Trace::changed::<Ref, TakenOut>(&self.outside, &at);
@@ -198,7 +242,7 @@ impl Arena {
         ensures stay { (q : Ref) → (q ≡ at → ⊥) → IsLive self.old.heap q → IsLive self.new.heap q }
         ensures noted { NotesWaiting self.old self.new }
         ensures few { length self.new.noted ≤ length self.old.noted + 34 }
-        ensures ticks { self.new.ticks ≡ self.old.ticks + 3 }
+        ensures ticks { TakesUpTo 37 self.old.ticks self.new.ticks }
     {
         let slot = at.slot();
         let prev = self.cells.prev(slot);
@@ -207,13 +251,14 @@ impl Arena {
         self.tally.note(slot);
         self.cells.clear(slot);
         self.used -= 1;
-        self.free.put(slot, &mut self.ticks);
+        self.free.put(slot);
     }
 
     /// How many references there are to a slot, from slots in use and from outside.
-    pub fn count(&self, at: Ref) -> u64
-        requires { IsLive self.now.heap at }
-        ensures { result ≡ count_of self.now.heap self.now.outside at }
+    pub fn count(&mut self, at: Ref) -> u64
+        requires { IsLive self.old.heap at }
+        ensures count { result ≡ count_of self.old.heap self.old.outside at }
+        ensures same { self.new ≡ record self.old { ticks = self.old.ticks + 1 } }
     {
         self.tally.count(at.slot()) as u64
     }
@@ -232,23 +277,24 @@ impl Arena {
         ensures heap { self.new.heap ≡ self.old.heap }
         ensures outside { self.new.outside ≡ self.old.outside }
         ensures noted { MatchOption result ((self.old.noted ≡ []) × (self.new.noted ≡ [])) (λ slot. (self.old.noted ≡ self.new.noted ++ slot ∷ []) × (times slot self.new.noted ≡ 0) × (slot < length self.new.heap.slots)) }
-        ensures ticks { self.new.ticks ≡ self.old.ticks }
+        ensures ticks { self.new.ticks ≡ self.old.ticks + 1 }
     {
         self.tally.take_noted()
     }
 
     /// The reference to a slot, where it is in use and nothing refers to it.
-    pub fn waiting(&self, slot: u16) -> Option<Ref>
-        requires { slot < length self.now.heap.slots }
-        ensures waiting { result ≡ waiting self.now slot }
-        ensures live { IfSome result (λ r. (slot_of r ≡ slot) × IsLive self.now.heap r) }
+    pub fn waiting(&mut self, slot: u16) -> Option<Ref>
+        requires { slot < length self.old.heap.slots }
+        ensures waiting { result ≡ waiting self.old slot }
+        ensures live { IfSome result (λ r. (slot_of r ≡ slot) × IsLive self.old.heap r) }
+        ensures same { self.new ≡ record self.old { ticks = self.old.ticks + 1 } }
     {
+        let count = self.tally.count(slot);
         let birth = self.cells.birth(slot);
-        if birth != 0 && self.tally.count(slot) == 0 {
-            Some(Ref::new(birth, slot))
-        } else {
-            None
+        if birth == 0 || count != 0 {
+            return None;
         }
+        Some(Ref::new(birth, slot))
     }
 
     /// How many slots there are.
@@ -281,11 +327,11 @@ impl Arena {
         self.births
     }
 
-    /// The steps that were taken on links.
-    pub fn ticks(&self) -> &Ticks
-        ensures { result.now.count ≡ self.now.ticks }
+    /// How often a link of the free slots, a count or a note was looked at.
+    pub fn ticks(&self) -> Ticks
+        ensures { result.count ≡ self.now.ticks }
     {
-        &self.ticks
+        Ticks::sum(self.free.ticks(), self.tally.ticks())
     }
 }
 
@@ -296,29 +342,4 @@ impl Change<Ref, Ref> for TakenOut {
     ghost use Rattle.slot_arena.specs.Times.{without};
 
     ghost after = { λ refs one. without one refs };
-}
-
-/// The references that stand in a node.
-fn refs_of(node: &Node) -> &[Ref]
-    ensures refs { result.now ≡ refs_of_node node.now }
-    ensures few { length result.now ≤ 32 }
-{
-    match node {
-        Node::Indirection { main, .. } => from_ref(main),
-        Node::Branch { entries, .. } => entries.as_slice(),
-        Node::Single { .. } => &[],
-        Node::Tomb { single } => from_ref(single),
-        Node::List { singles } => singles.as_slice(),
-    }
-}
-
-/// The reference that stands in a `prev` word.
-fn refs_of_prev(prev: &Prev) -> &[Ref]
-    ensures { result.now ≡ refs_of_prev prev.now }
-{
-    match prev {
-        Prev::None => &[],
-        Prev::Pending(main) => from_ref(main),
-        Prev::Failed(main) => from_ref(main),
-    }
 }

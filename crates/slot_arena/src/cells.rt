@@ -1,6 +1,6 @@
 //! What stands in the slots.
 
-ghost use Rattle.std.specs.Prelude.{◌≡◌, ◌<◌, length, replicate, slice_index_or, slice_set, option_map, IsSome, Some, None, IfOk};
+ghost use Rattle.std.specs.Prelude.{◌≡◌, ◌<◌, length, replicate, slice_index_or, slice_set, option_map, is_some, IsSome, Some, None, IfOk};
 ghost use Rattle.slot_arena.specs.Heaps.{node_of, prev_of, with_main_word, main_changed, prev_changed};
 ghost use Rattle.slot_arena.specs.Cells.{birth_of_slot};
 
@@ -72,6 +72,38 @@ impl Cells {
         ensures { result ≡ prev_of (slice_index_or self.now slot None) }
     {
         self.prevs[slot as usize]
+    }
+
+    /// The node that stands in a slot, if it is in use.
+    pub(crate) fn stored_node(&self, slot: u16) -> Option<&Node>
+        ensures { option_map (λ node. node.now) result ≡ option_map (λ slot. slot.node) (slice_index_or self.now slot None) }
+    {
+        if self.is_used(slot) {
+            Some(self.node(slot))
+        } else {
+            None
+        }
+    }
+
+    /// The `prev` word that stands in a slot; None where it isn't in use.
+    pub(crate) fn stored_prev(&self, slot: u16) -> Prev
+        ensures { result ≡ prev_of (slice_index_or self.now slot None) }
+    {
+        if self.is_used(slot) {
+            self.prev(slot)
+        } else {
+            Prev::None
+        }
+    }
+
+    /// Whether there is such a slot, and it is in use.
+    fn is_used(&self, slot: u16) -> bool
+        ensures { result ≡ is_some (slice_index_or self.now slot None) }
+    {
+        if slot as usize >= self.len() {
+            return false;
+        }
+        self.birth(slot) != 0
     }
 
     /// Puts a node into a slot, under a birth.

@@ -3,6 +3,7 @@
 ghost use Rattle.std.specs.Prelude.{◌≡◌, ℕ, ◌+◌, ◌<◌, ◌≤◌, [], ◌∷◌, IfOk, MatchOption};
 ghost use Rattle.std.specs.List.{range_with_len};
 ghost use Rattle.slot_arena.specs.Times.{times};
+ghost use Rattle.slot_arena.specs.Ticking.{TakesUpTo};
 
 use crate::links::Links;
 use ctrie_base::{Change, Ticks, Trace};
@@ -24,21 +25,20 @@ impl Model for FreeSlots {
 
     ghost Value = { Chain };
 
-    ghost view = { λ f. record { slots = f.slots.items; size = f.end } };
+    ghost view = { λ f. record { slots = f.slots.items; size = f.end; ticks = f.links.ticks } };
 
-    ghost invariant = { λ f. LeadsTo f.links f.end f.end f.slots.items × (length f.links ≡ f.end + 1) × (f.end ≤ 65536) };
+    ghost invariant = { λ f. LeadsTo f.links.words f.end f.end f.slots.items × (length f.links.words ≡ f.end + 1) × (f.end ≤ 65536) };
 }
 
 impl FreeSlots {
     /// The slots from 0 on, so many.
     pub(crate) fn new(alloc: Global, slots: u32) -> Result<FreeSlots, AllocError>
         requires { slots ≤ 65536 }
-        ensures { IfOk result (λ free. free ≡ record { slots = range_with_len 0 slots; size = slots }) }
+        ensures { IfOk result (λ free. free ≡ record { slots = range_with_len 0 slots; size = slots; ticks = slots }) }
     {
-        let mut ticks = Ticks::new();
         let mut links = Links::new(alloc, slots as usize + 1)?;
         for slot in 0..slots {
-            links.write(slot as usize, slot + 1, &mut ticks);
+            links.write(slot as usize, slot + 1);
         }
         Ok(FreeSlots {
             links,
@@ -48,36 +48,42 @@ impl FreeSlots {
     }
 
     /// Takes the first one.
-    pub(crate) fn take(&mut self, ticks: &mut Ticks) -> Option<u16>
+    pub(crate) fn take(&mut self) -> Option<u16>
         ensures slots { MatchOption result ((self.old.slots ≡ []) × (self.new.slots ≡ [])) (λ slot. (self.old.slots ≡ slot ∷ self.new.slots) × (slot < self.old.size) × (times slot self.new.slots ≡ 0)) }
         ensures size { self.new.size ≡ self.old.size }
-        ensures ticks { ticks.new.count ≤ ticks.old.count + 3 }
-        ensures rising { ticks.old.count ≤ ticks.new.count }
+        ensures ticks { TakesUpTo 3 self.old.ticks self.new.ticks }
     {
         let end = self.end as usize;
-        let first = self.links.read(end, ticks);
+        let first = self.links.read(end);
         if first == self.end {
             return None;
         }
-        let next = self.links.read(first as usize, ticks);
-        self.links.write(end, next, ticks);
+        let next = self.links.read(first as usize);
+        self.links.write(end, next);
         self.slots = self.slots.rest();
         Some(first as u16)
     }
 
     /// Puts a slot in front.
-    pub(crate) fn put(&mut self, slot: u16, ticks: &mut Ticks)
+    pub(crate) fn put(&mut self, slot: u16)
         requires within { slot < self.old.size }
         requires apart { times slot self.old.slots ≡ 0 }
         ensures slots { self.new.slots ≡ slot ∷ self.old.slots }
         ensures size { self.new.size ≡ self.old.size }
-        ensures ticks { ticks.new.count ≡ ticks.old.count + 3 }
+        ensures ticks { self.new.ticks ≡ self.old.ticks + 3 }
     {
         let end = self.end as usize;
-        let first = self.links.read(end, ticks);
-        self.links.write(slot as usize, first, ticks);
-        self.links.write(end, slot as u32, ticks);
+        let first = self.links.read(end);
+        self.links.write(slot as usize, first);
+        self.links.write(end, slot as u32);
         self.slots = self.slots.with_first(&slot);
+    }
+
+    /// How often a link was read or written.
+    pub(crate) fn ticks(&self) -> &Ticks
+        ensures { result.now.count ≡ self.now.ticks }
+    {
+        self.links.ticks()
     }
 }
 

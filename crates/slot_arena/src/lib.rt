@@ -8,13 +8,12 @@ mod links;
 mod lists;
 mod nodes;
 mod refs;
+mod remarks;
 mod tally;
 
 pub use arena::Arena;
-pub use links::Links;
+pub use links::{Flags, Links};
 pub use lists::Refs;
 pub use nodes::{Node, Prev, Slot};
 pub use refs::Ref;
-
-#[cfg(test)]
-mod tests;
+pub use remarks::Remarks;

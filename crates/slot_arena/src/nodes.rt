@@ -1,7 +1,11 @@
 //! What a slot holds.
 
+ghost use Rattle.std.specs.Prelude.{◌≡◌, ◌≤◌, length};
+ghost use Rattle.slot_arena.specs.Heaps.{refs_of_node, refs_of_prev};
+
 use crate::refs::Ref;
 use arrayvec::ArrayVec;
+use std::slice::from_ref;
 
 /// What a slot holds. All but the main word of an indirection stays as it was made.
 #[derive(Debug, Drop)]
@@ -50,4 +54,29 @@ pub struct Slot {
     pub node: Node,
     /// The `prev` word of a main node.
     pub prev: Prev,
+}
+
+/// The references that stand in a node.
+pub(crate) fn refs_of(node: &Node) -> &[Ref]
+    ensures refs { result.now ≡ refs_of_node node.now }
+    ensures few { length result.now ≤ 32 }
+{
+    match node {
+        Node::Indirection { main, .. } => from_ref(main),
+        Node::Branch { entries, .. } => entries.as_slice(),
+        Node::Single { .. } => &[],
+        Node::Tomb { single } => from_ref(single),
+        Node::List { singles } => singles.as_slice(),
+    }
+}
+
+/// The reference that stands in a `prev` word.
+pub(crate) fn refs_of_prev(prev: &Prev) -> &[Ref]
+    ensures { result.now ≡ refs_of_prev prev.now }
+{
+    match prev {
+        Prev::None => &[],
+        Prev::Pending(main) => from_ref(main),
+        Prev::Failed(main) => from_ref(main),
+    }
 }

@@ -1,6 +1,6 @@
 //! References to slots.
 
-ghost use Rattle.std.specs.Prelude.{◌≡◌, ◌/◌, ◌%◌, ◌^◌, ◌<◌};
+ghost use Rattle.std.specs.Prelude.{◌≡◌, ◌^◌, ◌<◌};
 ghost use Rattle.slot_arena.specs.Refs.{ref_to, slot_of, birth_of};
 
 use std::marker::Model;
@@ -10,25 +10,20 @@ use std::marker::Model;
 /// reference names no slot, since births begin at 1. It takes eight bytes.
 #[derive(Clone, Copy, Debug, Default, PartialEq, Eq, PartialOrd, Ord)]
 pub struct Ref {
-    /// The upper 32 of the birth's 48 bits.
-    birth_high: u32,
-    birth_low: u16,
-    slot: u16,
+    /// The birth above the slot's 16 bits: so references are compared and copied as one number.
+    word: u64,
 }
 
 const _: () = prove!(size_of::<Ref>() == 8);
 
 impl Model for Ref {
-    ghost use Rattle.std.specs.Prelude.{ℕ, ◌+◌, ◌*◌, ◌<◌, ◌^◌, ◌/◌, ◌%◌};
-    ghost use Rattle.slot_arena.specs.Refs.{ref_to, slot_of, birth_of};
+    ghost use Rattle.std.specs.Prelude.{ℕ};
 
     ghost Value = { ℕ };
 
-    ghost view = { λ r. ref_to (r.birth_high * 2 ^ 16 + r.birth_low) r.slot };
+    ghost view = { λ r. r.word };
 
-    ghost invariant = { λ r. (r.birth_low < 2 ^ 16) × (r.slot < 2 ^ 16) };
-
-    ghost inverse = { λ n. record { birth_high = birth_of n / 2 ^ 16; birth_low = birth_of n % 2 ^ 16; slot = slot_of n } };
+    ghost inverse = { λ n. record { word = n } };
 }
 
 impl Ref {
@@ -38,9 +33,7 @@ impl Ref {
         ensures { result ≡ ref_to birth slot }
     {
         Ref {
-            birth_high: (birth / 65536) as u32,
-            birth_low: (birth % 65536) as u16,
-            slot,
+            word: birth * 65536 + u64::from(slot),
         }
     }
 
@@ -48,13 +41,13 @@ impl Ref {
     pub fn slot(self) -> u16
         ensures { result ≡ slot_of self }
     {
-        self.slot
+        (self.word % 65536) as u16
     }
 
     /// The birth of what the slot holds, from 1; 0 where it names no slot.
     pub fn birth(self) -> u64
         ensures { result ≡ birth_of self }
     {
-        u64::from(self.birth_high) * 65536 + u64::from(self.birth_low)
+        self.word / 65536
     }
 }

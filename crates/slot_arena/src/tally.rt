@@ -6,16 +6,19 @@ ghost use Rattle.slot_arena.specs.Times.{times};
 ghost use Rattle.slot_arena.specs.Tallies.{naming, NotesZeros};
 
 use crate::refs::Ref;
+use ctrie_base::Ticks;
 use std::alloc::{AllocError, Global};
 use std::marker::Model;
 
-/// How many references each slot has, and the slots whose count reached or left zero, each once.
+/// How many references each slot has, and the slots whose count reached or left zero, each once. A call
+/// looks at one slot, and counts one tick of its own; one that is given references, one for each.
 #[derive(Drop)]
 pub(crate) struct Tally {
     counts: Vec<u32>,
     noted: Vec<u16>,
     /// Whether the slot is noted, by slot: so the list never lacks room.
     is_noted: Vec<bool>,
+    ticks: Ticks,
 }
 
 impl Model for Tally {
@@ -24,7 +27,7 @@ impl Model for Tally {
 
     ghost Value = { Tallied };
 
-    ghost view = { λ t. record { counts = t.counts.items; noted = t.noted.items } };
+    ghost view = { λ t. record { counts = t.counts.items; noted = t.noted.items; ticks = t.ticks.count } };
 
     ghost invariant = { λ t. AreMarks t.noted.items t.is_noted.items × (length t.is_noted.items ≡ length t.counts.items) × (length t.counts.items ≤ vec_capacity t.noted) };
 }
@@ -32,21 +35,33 @@ impl Model for Tally {
 impl Tally {
     /// So many slots, none with a reference.
     pub(crate) fn new(alloc: Global, slots: usize) -> Result<Tally, AllocError>
-        ensures { IfOk result (λ tally. tally ≡ record { counts = replicate slots 0; noted = [] }) }
+        ensures { IfOk result (λ tally. tally ≡ record { counts = replicate slots 0; noted = []; ticks = 0 }) }
     {
         Ok(Tally {
             counts: vec![in alloc; 0; slots]?,
             noted: Vec::with_capacity(alloc, slots)?,
             is_noted: vec![in alloc; false; slots]?,
+            ticks: Ticks::new(),
         })
     }
 
     /// The count of a slot.
-    pub(crate) fn count(&self, slot: u16) -> u32
-        requires { slot < length self.now.counts }
-        ensures { result ≡ slice_index self.now.counts slot }
+    pub(crate) fn count(&mut self, slot: u16) -> u32
+        requires { slot < length self.old.counts }
+        ensures count { result ≡ slice_index self.old.counts slot }
+        ensures same { self.new ≡ record self.old { ticks = self.old.ticks + 1 } }
     {
+        self.ticks.add();
         self.counts[slot as usize]
+    }
+
+    /// Gives a slot without references its first one, which isn't noted.
+    pub(crate) fn begin(&mut self, slot: u16)
+        requires { slot < length self.old.counts }
+        ensures { self.new ≡ record self.old { counts = slice_set self.old.counts slot 1; ticks = self.old.ticks + 1 } }
+    {
+        self.ticks.add();
+        self.counts[slot as usize] = 1;
     }
 
     /// Notes a slot.
@@ -56,6 +71,20 @@ impl Tally {
         ensures noted { 0 < times slot self.new.noted }
         ensures others { NotesZeros self.old self.new }
         ensures few { length self.new.noted ≤ length self.old.noted + 1 }
+        ensures ticks { self.new.ticks ≡ self.old.ticks + 1 }
+    {
+        self.enlist(slot);
+        self.ticks.add();
+    }
+
+    /// Lists a slot among the noted ones.
+    fn enlist(&mut self, slot: u16)
+        requires { slot < length self.old.counts }
+        ensures counts { self.new.counts ≡ self.old.counts }
+        ensures noted { 0 < times slot self.new.noted }
+        ensures others { NotesZeros self.old self.new }
+        ensures few { length self.new.noted ≤ length self.old.noted + 1 }
+        ensures ticks { self.new.ticks ≡ self.old.ticks }
     {
         if !self.is_noted[slot as usize] {
             self.is_noted[slot as usize] = true;
@@ -76,7 +105,9 @@ impl Tally {
     pub(crate) fn take_noted(&mut self) -> Option<u16>
         ensures counts { self.new.counts ≡ self.old.counts }
         ensures noted { MatchOption result ((self.old.noted ≡ []) × (self.new.noted ≡ [])) (λ slot. (self.old.noted ≡ self.new.noted ++ slot ∷ []) × (times slot self.new.noted ≡ 0) × (slot < length self.new.counts)) }
+        ensures ticks { self.new.ticks ≡ self.old.ticks + 1 }
     {
+        self.ticks.add();
         let slot = self.noted.pop()?;
         self.is_noted[slot as usize] = false;
         Some(slot)
@@ -89,11 +120,13 @@ impl Tally {
         ensures counts { self.new.counts ≡ slice_set self.old.counts slot (slice_index self.old.counts slot + 1) }
         ensures noted { NotesZeros self.old self.new }
         ensures few { length self.new.noted ≤ length self.old.noted + 1 }
+        ensures ticks { self.new.ticks ≡ self.old.ticks + 1 }
     {
         if self.counts[slot as usize] == 0 {
-            self.note(slot);
+            self.enlist(slot);
         }
         self.counts[slot as usize] += 1;
+        self.ticks.add();
     }
 
     /// Counts one reference less to a slot.
@@ -103,11 +136,13 @@ impl Tally {
         ensures counts { self.new.counts ≡ slice_set self.old.counts slot (slice_index self.old.counts slot - 1) }
         ensures noted { NotesZeros self.old self.new }
         ensures few { length self.new.noted ≤ length self.old.noted + 1 }
+        ensures ticks { self.new.ticks ≡ self.old.ticks + 1 }
     {
         if self.counts[slot as usize] == 1 {
-            self.note(slot);
+            self.enlist(slot);
         }
         self.counts[slot as usize] -= 1;
+        self.ticks.add();
     }
 
     /// Counts each of these references one more to the slot that it names.
@@ -118,6 +153,7 @@ impl Tally {
         ensures counts { (slot : ℕ) → slice_index self.new.counts slot ≡ slice_index self.old.counts slot + naming slot refs.now }
         ensures noted { NotesZeros self.old self.new }
         ensures few { length self.new.noted ≤ length self.old.noted + length refs.now }
+        ensures ticks { self.new.ticks ≡ self.old.ticks + length refs.now }
     {
         for one in refs {
             self.raise(one.slot());
@@ -132,9 +168,17 @@ impl Tally {
         ensures counts { (slot : ℕ) → slice_index self.new.counts slot + naming slot refs.now ≡ slice_index self.old.counts slot }
         ensures noted { NotesZeros self.old self.new }
         ensures few { length self.new.noted ≤ length self.old.noted + length refs.now }
+        ensures ticks { self.new.ticks ≡ self.old.ticks + length refs.now }
     {
         for one in refs {
             self.lower(one.slot());
         }
+    }
+
+    /// How often a slot was looked at.
+    pub(crate) fn ticks(&self) -> &Ticks
+        ensures { result.now.count ≡ self.now.ticks }
+    {
+        &self.ticks
     }
 }

@@ -1,11 +1,10 @@
 use Rattle.std.proofs.Common.{◌≡◌, ◌+◌, ◌*◌, ◌++◌, take}
 use Rattle.epochs.proofs.settling.enter_all.Given as goal
 
-abbrev pub invariant-loop-at : goal.invariant-loop-at
-invariant-loop-at l = record {
-  oldest : l.bags.oldest ≡ l.fn.bags.oldest;
-  middle : l.bags.middle ≡ l.fn.bags.middle;
-  present : l.bags.present ≡ l.fn.bags.present ++ take l.at-index l.fresh;
-  size : l.bags.size ≡ l.fn.bags.size;
-  ticks : l.links.count ≡ l.fn.links.count + 5 * l.at-index;
+abbrev pub invariant-loop-index : goal.invariant-loop-index
+invariant-loop-index l = record {
+  bags : l.bags.bags ≡ record l.fn.bags.bags { present = l.fn.bags.bags.present ++ take l.index l.fn.fresh.refs };
+  refs : l.fresh.refs ≡ l.fn.fresh.refs;
+  room : l.fresh.room ≡ l.fn.fresh.room;
+  ticks : l.bags.ticks + l.fresh.ticks ≡ l.fn.bags.ticks + l.fn.fresh.ticks + 7 * l.index;
 }

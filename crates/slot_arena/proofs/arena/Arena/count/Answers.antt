@@ -14,10 +14,10 @@ count-requires c =
     let sizes = c.self.invariant.sizes in
     omega arith
 
-pub returns : goal.returns
-returns c =
+pub returns-clause-count : goal.returns-clause-count
+returns-clause-count c =
     let slots = ap (λ (a : Contents). a.heap.slots) c.self.view_is in
     let has : live c.self.inside.cells c.args.at ≡ true = ap (λ s. live s c.args.at) slots ∙ live_seen c.args.self.now.heap c.args.at c.requires in
-    c.count.ensures ∙ ap (slice_index c.self.inside.tally.counts) c.slot.ensures
+    c.count.ensures.count ∙ ap (slice_index c.self.inside.tally.counts) c.slot.ensures
     ∙ sym (exact_live c.self.inside.cells c.self.inside.tally.counts c.self.inside.outside.items c.self.invariant.exact c.args.at has)
     ∙ ap (λ (a : Contents). found a.heap.slots a.outside c.args.at) c.self.view_is ∙ sym (count_found c.args.self.now.heap c.args.self.now.outside c.args.at)

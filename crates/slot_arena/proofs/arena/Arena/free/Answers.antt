@@ -1,4 +1,4 @@
-use Rattle.std.proofs.Common.{◌≡◌, ◌-◌, ◌<◌, ◌≤◌, true, ◌∷◌, length, get_or, set, slice_index, All, Some, None, is_some, sym, ap, ◌∙◌, subst, arith}
+use Rattle.std.proofs.Common.{◌≡◌, ◌+◌, ◌-◌, ◌<◌, ◌≤◌, true, ◌∷◌, length, get_or, set, slice_index, All, Some, None, is_some, sym, ap, ◌∙◌, subst, arith}
 use Rattle.slot_arena.specs.declared.refs.Ref.{Ref}
 use Rattle.slot_arena.specs.declared.nodes.Slot.{Slot}
 use Rattle.slot_arena.specs.Refs.{slot_of}
@@ -152,8 +152,8 @@ pub returns-clause-noted : goal.returns-clause-noted
 returns-clause-noted c =
     let slots = ap (λ (a : Contents). a.heap.slots) c.self.view_is in
     let has = live_inside _ _ c.self.view_is c.args.at c.requires.live in
-    let was : Contents = record { heap = record { slots = c.self.inside.cells; free = c.self.inside.free.slots; births = c.self.inside.births }; outside = c.self.inside.outside.items; noted = c.self.inside.tally.noted; ticks = c.self.inside.ticks.count } in
-    let now : Contents = record { heap = record { slots = c.clear.new.self; free = c.put.new.self.slots; births = c.self.inside.births }; outside = c.self.inside.outside.items; noted = c.note.new.self.noted; ticks = c.put.new.ticks.count } in
+    let was : Contents = record { heap = record { slots = c.self.inside.cells; free = c.self.inside.free.slots; births = c.self.inside.births }; outside = c.self.inside.outside.items; noted = c.self.inside.tally.noted; ticks = c.self.inside.free.ticks + c.self.inside.tally.ticks } in
+    let now : Contents = record { heap = record { slots = c.clear.new.self; free = c.put.new.self.slots; births = c.self.inside.births }; outside = c.self.inside.outside.items; noted = c.note.new.self.noted; ticks = 0 } in
     let zeros = zeros_trans c.self.inside.tally c.lower_all.new.self c.note.new.self c.lower_all.ensures.noted (zeros_trans c.lower_all.new.self c.lower_all-2.new.self c.note.new.self c.lower_all-2.ensures.noted c.note.ensures.others) in
     subst (λ (a : Contents). NotesWaiting a now) c.self.view_is
     (notes_waiting was now c.self.inside.tally.counts c.note.new.self.counts c.self.inside.free c.put.new.self c.self.inside.used (c.self.inside.used - 1) c.self.invariant (invariant_of-self c) zeros

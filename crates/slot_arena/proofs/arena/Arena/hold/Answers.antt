@@ -1,13 +1,12 @@
-use Rattle.std.proofs.Common.{◌≡◌, ℕ, ◌<◌, ◌≤◌, ◌^◌, true, [], ◌∷◌, length, All, refl, sym, ap, ◌∙◌, subst, arith}
+use Rattle.std.proofs.Common.{◌≡◌, ◌+◌, ℕ, ◌<◌, ◌≤◌, ◌^◌, true, [], ◌∷◌, length, All, refl, sym, ap, subst, arith}
 use Rattle.slot_arena.specs.declared.refs.Ref.{Ref}
 use Rattle.slot_arena.specs.Refs.{slot_of}
 use Rattle.slot_arena.specs.Times.{times}
 use Rattle.slot_arena.specs.Tallies.{naming}
 use Rattle.slot_arena.specs.Arenas.{Contents, NotesWaiting}
-use Rattle.slot_arena.specs.Kept.{live, found, IsKept}
+use Rattle.slot_arena.specs.Kept.{live, IsKept}
 use Rattle.slot_arena.proofs.Times.{times-cons}
 use Rattle.slot_arena.proofs.Live.{live_within}
-use Rattle.slot_arena.proofs.Exact.{count_found}
 use Rattle.slot_arena.proofs.Changed.{counts_small}
 use Rattle.slot_arena.proofs.Waiting.{notes_waiting}
 use Rattle.slot_arena.proofs.Reading.{live_inside}
@@ -32,9 +31,8 @@ invariant_of-self c =
     let at : Ref = c.args.at in
     let has = live_inside _ _ c.self.view_is c.args.at c.requires.live in
     let kept = c.self.invariant in
-    let counted : found c.self.inside.cells c.self.inside.outside.items at < 2 ^ 31 =
-    subst (λ n. n < 2 ^ 31) (count_found c.args.self.now.heap c.args.self.now.outside at ∙ sym (ap (λ (a : Contents). found a.heap.slots a.outside at) c.self.view_is)) c.requires.room in
-    let held : (r : ℕ) → times r (at ∷ c.self.inside.outside.items) ≤ 2 ^ 31 = λ r. held_more c.self.inside.outside.items at r kept.held (omega arith) in
+    let few : times at c.self.inside.outside.items < 2 ^ 31 = subst (λ (a : Contents). times at a.outside < 2 ^ 31) (sym c.self.view_is) c.requires.room in
+    let held : (r : ℕ) → times r (at ∷ c.self.inside.outside.items) ≤ 2 ^ 31 = λ r. held_more c.self.inside.outside.items at r kept.held few in
     subst (λ os. IsKept c.self.inside.cells c.raise_all.new.self.counts c.self.inside.free c.self.inside.used os) (sym c.with_first-self-inside.ensures)
     (hold_kept c.self.inside.cells c.self.inside.tally.counts c.raise_all.new.self.counts c.self.inside.free c.self.inside.used c.self.inside.outside.items (at ∷ c.self.inside.outside.items) (at ∷ []) []
     kept (λ r. omega (arith, times-cons r at c.self.inside.outside.items, times-cons r at [])) c.raise_all.ensures.size
@@ -44,7 +42,7 @@ invariant_of-self c =
 
 pub returns-clause-noted : goal.returns-clause-noted
 returns-clause-noted c =
-    let now : Contents = record { heap = record { slots = c.self.inside.cells; free = c.self.inside.free.slots; births = c.self.inside.births }; outside = c.with_first-self-inside.result.items; noted = c.raise_all.new.self.noted; ticks = c.self.inside.ticks.count } in
+    let now : Contents = record { heap = record { slots = c.self.inside.cells; free = c.self.inside.free.slots; births = c.self.inside.births }; outside = c.with_first-self-inside.result.items; noted = c.raise_all.new.self.noted; ticks = c.self.inside.free.ticks + c.self.inside.tally.ticks } in
     subst (λ (a : Contents). NotesWaiting a now) c.self.view_is
-    (notes_waiting (record { heap = record { slots = c.self.inside.cells; free = c.self.inside.free.slots; births = c.self.inside.births }; outside = c.self.inside.outside.items; noted = c.self.inside.tally.noted; ticks = c.self.inside.ticks.count }) now
+    (notes_waiting (record { heap = record { slots = c.self.inside.cells; free = c.self.inside.free.slots; births = c.self.inside.births }; outside = c.self.inside.outside.items; noted = c.self.inside.tally.noted; ticks = c.self.inside.free.ticks + c.self.inside.tally.ticks }) now
     c.self.inside.tally.counts c.raise_all.new.self.counts c.self.inside.free c.self.inside.free c.self.inside.used c.self.inside.used c.self.invariant (invariant_of-self c) c.raise_all.ensures.noted (λ k none. refl))

@@ -1,4 +1,4 @@
-use Rattle.std.proofs.Common.{◌≡◌, ℕ, ◌<◌, ◌≤◌, true, [], ◌∷◌, length, slice_index, All, refl, sym, ap, subst, arith}
+use Rattle.std.proofs.Common.{◌≡◌, ◌+◌, ℕ, ◌<◌, ◌≤◌, true, [], ◌∷◌, length, slice_index, All, refl, sym, ap, subst, arith}
 use Rattle.slot_arena.specs.declared.refs.Ref.{Ref}
 use Rattle.slot_arena.specs.Refs.{slot_of}
 use Rattle.slot_arena.specs.Times.{times, without}
@@ -39,7 +39,7 @@ invariant_of-self c =
 
 pub returns-clause-noted : goal.returns-clause-noted
 returns-clause-noted c =
-    let now : Contents = record { heap = record { slots = c.self.inside.cells; free = c.self.inside.free.slots; births = c.self.inside.births }; outside = c.changed-self-inside.result.items; noted = c.lower_all.new.self.noted; ticks = c.self.inside.ticks.count } in
+    let now : Contents = record { heap = record { slots = c.self.inside.cells; free = c.self.inside.free.slots; births = c.self.inside.births }; outside = c.changed-self-inside.result.items; noted = c.lower_all.new.self.noted; ticks = c.self.inside.free.ticks + c.self.inside.tally.ticks } in
     subst (λ (a : Contents). NotesWaiting a now) c.self.view_is
-    (notes_waiting (record { heap = record { slots = c.self.inside.cells; free = c.self.inside.free.slots; births = c.self.inside.births }; outside = c.self.inside.outside.items; noted = c.self.inside.tally.noted; ticks = c.self.inside.ticks.count }) now
+    (notes_waiting (record { heap = record { slots = c.self.inside.cells; free = c.self.inside.free.slots; births = c.self.inside.births }; outside = c.self.inside.outside.items; noted = c.self.inside.tally.noted; ticks = c.self.inside.free.ticks + c.self.inside.tally.ticks }) now
     c.self.inside.tally.counts c.lower_all.new.self.counts c.self.inside.free c.self.inside.free c.self.inside.used c.self.inside.used c.self.invariant (invariant_of-self c) c.lower_all.ensures.noted (λ k none. refl))

@@ -1,4 +1,4 @@
-use Rattle.std.proofs.Common.{◌≡◌, ◌<◌, ◌≤◌, true, length, get_or, set, All, None, sym, ap, ◌∙◌, subst, arith}
+use Rattle.std.proofs.Common.{◌≡◌, ◌+◌, ◌<◌, ◌≤◌, true, length, get_or, set, All, None, sym, ap, ◌∙◌, subst, arith}
 use Rattle.slot_arena.specs.declared.refs.Ref.{Ref}
 use Rattle.slot_arena.specs.Refs.{slot_of}
 use Rattle.slot_arena.specs.Heaps.{prev_of, refs_of_prev}
@@ -89,8 +89,8 @@ returns-clause-noted c =
     let slots = ap (λ (a : Contents). a.heap.slots) c.self.view_is in
     let at : Ref = c.args.at in
     let has = live_inside _ _ c.self.view_is c.args.at c.requires.live in
-    let was : Contents = record { heap = record { slots = c.self.inside.cells; free = c.self.inside.free.slots; births = c.self.inside.births }; outside = c.self.inside.outside.items; noted = c.self.inside.tally.noted; ticks = c.self.inside.ticks.count } in
-    let now : Contents = record { heap = record { slots = c.set_prev.new.self; free = c.self.inside.free.slots; births = c.self.inside.births }; outside = c.self.inside.outside.items; noted = c.lower_all.new.self.noted; ticks = c.self.inside.ticks.count } in
+    let was : Contents = record { heap = record { slots = c.self.inside.cells; free = c.self.inside.free.slots; births = c.self.inside.births }; outside = c.self.inside.outside.items; noted = c.self.inside.tally.noted; ticks = c.self.inside.free.ticks + c.self.inside.tally.ticks } in
+    let now : Contents = record { heap = record { slots = c.set_prev.new.self; free = c.self.inside.free.slots; births = c.self.inside.births }; outside = c.self.inside.outside.items; noted = c.lower_all.new.self.noted; ticks = c.self.inside.free.ticks + c.self.inside.tally.ticks } in
     let zeros = zeros_trans c.self.inside.tally c.raise_all.new.self c.lower_all.new.self c.raise_all.ensures.noted c.lower_all.ensures.noted in
     subst (λ (a : Contents). NotesWaiting a now) c.self.view_is
     (notes_waiting was now c.self.inside.tally.counts c.lower_all.new.self.counts c.self.inside.free c.self.inside.free c.self.inside.used c.self.inside.used c.self.invariant (invariant_of-self c) zeros

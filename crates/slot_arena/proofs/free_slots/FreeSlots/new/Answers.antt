@@ -5,7 +5,7 @@ use Rattle.slot_arena.proofs.free_slots.FreeSlots.new.Goals as goal
 
 pub invariant_of-result : goal.invariant_of-result
 invariant_of-result c =
-    let links : List ℕ = c.loop-slot.links in
+    let links : List ℕ = c.loop-slot.links.words in
     let n : ℕ = c.args.slots in (
       subst (LeadsTo links n n) (sym c.changed.ensures) (range_leads links n n 0 n (λ k below. c.loop-slot.invariant.linked k (omega arith)) c.loop-slot.invariant.end (omega arith)),
       c.loop-slot.invariant.size,

@@ -7,7 +7,7 @@ use Rattle.slot_arena.proofs.free_slots.FreeSlots.put.Goals as goal
 
 pub invariant_of-self : goal.invariant_of-self
 invariant_of-self c =
-    let links : List ℕ = c.self.inside.links in
+    let links : List ℕ = c.self.inside.links.words in
     let end : ℕ = c.self.inside.end in
     let slot : ℕ = c.args.slot in
     let slots : List ℕ = c.self.inside.slots.items in
@@ -17,7 +17,8 @@ invariant_of-self c =
     let made : LeadsTo (set (set links slot first) end slot) end end (slot ∷ slots) =
     subst (λ f. LeadsTo (set (set links slot f) end slot) end end (slot ∷ slots)) (sym c.read-first.ensures.link)
     (chain_put links end slot slots c.self.invariant.0 (omega arith) (omega arith) (ap (times slot) slots_are ∙ c.requires.apart)) in
-    let links_are : c.write-2.new.self ≡ set (set links slot first) end slot = c.write-2.ensures.links ∙ ap (λ ls. set ls end slot) c.write.ensures.links in (
+    let links_are : c.write-2.new.self.words ≡ set (set links slot first) end slot =
+    c.write-2.ensures.words ∙ ap (λ ls. set ls end slot) (c.write.ensures.words ∙ ap (λ ls. set ls slot first) c.read-first.ensures.words) in (
       subst (λ ls. LeadsTo ls end end c.with_first-self-inside.result.items) (sym links_are) (subst (LeadsTo (set (set links slot first) end slot) end end) (sym c.with_first-self-inside.ensures) made),
       omega (arith, ap length links_are, length-set (set links slot first) end slot, length-set links slot first),
       omega arith,

@@ -45,5 +45,6 @@ loop-one-preserved c =
         ap (once slot) c.slot.ensures,
       );
       noted = zeros_trans c.args.self.now c.loop-one.self c.lower.new.self c.loop-one.invariant.noted c.lower.ensures.noted;
+      ticks = omega (arith, c.loop-one.invariant.ticks, c.lower.ensures.ticks);
       few = omega (arith, c.loop-one.invariant.few, c.lower.ensures.few);
     }

@@ -22,5 +22,6 @@ loop-one-preserved c =
         ap (once slot) c.slot.ensures,
       );
       noted = zeros_trans c.args.self.now c.loop-one.self c.raise.new.self c.loop-one.invariant.noted c.raise.ensures.noted;
+      ticks = omega (arith, c.loop-one.invariant.ticks, c.raise.ensures.ticks);
       few = omega (arith, c.loop-one.invariant.few, c.raise.ensures.few);
     }

@@ -7,5 +7,6 @@ invariant-loop-one l = record {
   size : length l.self.counts ≡ length l.fn.self.counts;
   counts : (slot : ℕ) → slice_index l.self.counts slot ≡ slice_index l.fn.self.counts slot + naming slot (take l.one-index l.refs);
   noted : NotesZeros l.fn.self l.self;
+  ticks : l.self.ticks ≡ l.fn.self.ticks + l.one-index;
   few : length l.self.noted ≤ length l.fn.self.noted + l.one-index;
 }

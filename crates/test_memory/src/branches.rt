@@ -1,11 +1,11 @@
 //! Nodes against values written by hand.
 
-use crate::{
+use ctrie_base::HashKind;
+use nodes::{
     compressed, contracted, dual, flag_of, has_flag, has_room, index_in, inserted, list_depth,
     list_inserted, list_removed, list_updated, parting, position_of, removed, renewed, rung,
     updated,
 };
-use ctrie_base::HashKind;
 use slot_arena::{Node, Ref};
 
 /// Three references that differ.

@@ -1,61 +1,73 @@
 //! A slot's way through limbo, against numbers worked by hand.
 
-ghost use Rattle.std.specs.Prelude.{◌≡◌};
+ghost use Rattle.std.specs.Prelude.{◌≡◌, ◌≤◌, ◌∷◌, length};
 ghost use Rattle.slot_arena.specs.Heaps.{refs_of_node};
 ghost use Rattle.slot_arena.specs.Arenas.{AreLive, IsLive};
 
-use crate::{Heap, Swept};
 use ctrie_base::Refusal;
+use epochs::{Heap, Swept};
 use slot_arena::{Node, Prev, Ref};
 use std::process::Abort;
 use std::test::Fail;
 
-/// A slot with this node.
+/// A slot with this node, held.
 fn made(rt: &impl Abort, heap: &mut Heap, node: Node) -> Ref
     requires { AreLive heap.old.heap (refs_of_node node) }
     ensures live { IsLive heap.new.heap result }
     ensures stay { (q : Ref) → IsLive heap.old.heap q → IsLive heap.new.heap q }
+    ensures held { heap.new.outside ≡ result ∷ heap.old.outside }
 {
     assert!(rt; heap.births() < 4);
-    heap.make(node).expect(rt, "a slot is free")
+    heap.make_held(node).expect(rt, "a slot is free")
 }
 
-/// A slot with a single of this value, under key 7.
-fn single(rt: &impl Abort, heap: &mut Heap, value: u64) -> Ref
-    ensures { IsLive heap.new.heap result }
+/// A slot with a single, held.
+fn single(rt: &impl Abort, heap: &mut Heap) -> Ref
+    ensures live { IsLive heap.new.heap result }
+    ensures held { heap.new.outside ≡ result ∷ heap.old.outside }
 {
-    made(rt, heap, Node::Single { key: 7, value })
+    made(rt, heap, Node::Single { key: 7, value: 70 })
 }
 
-/// A single, and a tomb of it.
-fn leaf_and_tomb(rt: &impl Abort, heap: &mut Heap) -> (Ref, Ref)
-    ensures leaf { IsLive heap.new.heap result.0 }
-    ensures tomb { IsLive heap.new.heap result.1 }
-{
-    let leaf = single(rt, heap, 1);
-    let tomb = made(rt, heap, Node::Tomb { single: leaf });
-    (leaf, tomb)
+/// A slot with a single, let go.
+fn dropped(rt: &impl Abort, heap: &mut Heap) {
+    let at = single(rt, heap);
+    heap.release(at);
 }
 
-/// A single, and an indirection to it.
-fn leaf_and_above(rt: &impl Abort, heap: &mut Heap) -> (Ref, Ref)
-    ensures leaf { IsLive heap.new.heap result.0 }
+/// A tomb, and an indirection to it.
+fn tomb_and_above(rt: &impl Abort, heap: &mut Heap) -> (Ref, Ref)
+    ensures tomb { IsLive heap.new.heap result.0 }
     ensures above { IsLive heap.new.heap result.1 }
 {
-    let leaf = single(rt, heap, 1);
+    let leaf = single(rt, heap);
+    let tomb = made(rt, heap, Node::Tomb { single: leaf });
     let above = made(
         rt,
         heap,
         Node::Indirection {
             generation: 7,
-            main: leaf,
+            main: tomb,
         },
     );
-    (leaf, above)
+    (tomb, above)
+}
+
+/// Holds a slot once more, where few are held.
+#[tactic(auto, using(slot_arena::proofs::Times::times_le))]
+fn hold(heap: &mut Heap, at: Ref)
+    requires live { IsLive heap.old.heap at }
+    requires few { length heap.old.outside ≤ 3 }
+    ensures heap { heap.new.heap ≡ heap.old.heap }
+    ensures outside { heap.new.outside ≡ at ∷ heap.old.outside }
+{
+    heap.hold(at);
 }
 
 /// A step of the sweep, where all is settled.
-fn sweep(rt: &impl Abort, heap: &mut Heap) -> Swept {
+fn sweep(rt: &impl Abort, heap: &mut Heap) -> Swept
+    ensures { length heap.new.pins ≡ length heap.old.pins }
+{
     heap.settle();
     assert!(rt; heap.epoch() < 4);
     heap.sweep()
@@ -64,7 +76,7 @@ fn sweep(rt: &impl Abort, heap: &mut Heap) -> Swept {
 #[test]
 fn enters_limbo(rt: HostRuntime) -> Result<(), Fail> {
     let mut heap = Heap::new(rt.alloc(), 4, 1)?;
-    let _made = single(&rt, &mut heap, 70);
+    dropped(&rt, &mut heap);
     heap.settle();
     assert_eq!(rt; heap.limbo_len(), 1);
     assert_eq!(rt; heap.used(), 1);
@@ -74,7 +86,7 @@ fn enters_limbo(rt: HostRuntime) -> Result<(), Fail> {
 #[test]
 fn frees_after_two_epochs(rt: HostRuntime) -> Result<(), Fail> {
     let mut heap = Heap::new(rt.alloc(), 4, 1)?;
-    let _made = single(&rt, &mut heap, 70);
+    dropped(&rt, &mut heap);
     for epoch in 0..2u64 {
         assert_eq!(rt; sweep(&rt, &mut heap), Swept::Scanned { passed: true });
         assert_eq!(rt; sweep(&rt, &mut heap), Swept::Advanced(epoch + 1));
@@ -94,16 +106,7 @@ fn holds_back_by_pins(rt: HostRuntime) -> Result<(), Fail> {
     assert_eq!(rt; sweep(&rt, &mut heap), Swept::Scanned { passed: true });
     assert_eq!(rt; sweep(&rt, &mut heap), Swept::Advanced(1));
     assert_eq!(rt; sweep(&rt, &mut heap), Swept::Scanned { passed: false });
-    Ok(())
-}
-
-#[test]
-fn gives_pins_up(rt: HostRuntime) -> Result<(), Fail> {
-    let mut heap = Heap::new(rt.alloc(), 4, 1)?;
-    heap.pin(1);
     heap.unpin(1);
-    assert_eq!(rt; sweep(&rt, &mut heap), Swept::Scanned { passed: true });
-    assert_eq!(rt; sweep(&rt, &mut heap), Swept::Advanced(1));
     assert_eq!(rt; sweep(&rt, &mut heap), Swept::Scanned { passed: true });
     Ok(())
 }
@@ -111,9 +114,9 @@ fn gives_pins_up(rt: HostRuntime) -> Result<(), Fail> {
 #[test]
 fn holds_back_by_references(rt: HostRuntime) -> Result<(), Fail> {
     let mut heap = Heap::new(rt.alloc(), 4, 1)?;
-    let leaf = single(&rt, &mut heap, 1);
-    assert!(rt; heap.count(leaf) == 0);
-    heap.hold(leaf);
+    let leaf = single(&rt, &mut heap);
+    hold(&mut heap, leaf);
+    heap.release(leaf);
     heap.settle();
     assert_eq!(rt; heap.limbo_len(), 0);
     heap.release(leaf);
@@ -123,29 +126,53 @@ fn holds_back_by_references(rt: HostRuntime) -> Result<(), Fail> {
 }
 
 #[test]
-fn swaps_main_words(rt: HostRuntime) -> Result<(), Fail> {
+fn swaps_words(rt: HostRuntime) -> Result<(), Fail> {
     let mut heap = Heap::new(rt.alloc(), 4, 1)?;
-    let (leaf, above) = leaf_and_above(&rt, &mut heap);
+    let (tomb, above) = tomb_and_above(&rt, &mut heap);
     assert!(rt; matches!(heap.look(above), Node::Indirection { generation: 7, .. }));
-    assert!(rt; heap.main(above) == leaf, "as it was made");
-    assert!(rt; heap.swap_main(above, leaf, above), "it was the leaf");
-    heap.settle();
-    assert_eq!(rt; heap.limbo_len(), 1);
+    assert!(rt; heap.main(above) == tomb, "as it was made");
+    assert!(rt; heap.swap_main(above, tomb, above), "it was the tomb");
     Ok(())
 }
 
 #[test]
 fn swaps_prev_words(rt: HostRuntime) -> Result<(), Fail> {
     let mut heap = Heap::new(rt.alloc(), 4, 1)?;
-    let (leaf, tomb) = leaf_and_tomb(&rt, &mut heap);
+    let (tomb, above) = tomb_and_above(&rt, &mut heap);
     assert!(rt; matches!(heap.look(tomb), Node::Tomb { .. }));
     assert!(rt; heap.prev(tomb) == Prev::None, "decided");
     assert!(rt;
-        heap.swap_prev(tomb, Prev::None, Prev::Failed(leaf)),
+        heap.swap_prev(tomb, Prev::None, Prev::Failed(above)),
         "it was none"
     );
-    heap.settle();
-    assert_eq!(rt; heap.limbo_len(), 1);
+    assert!(rt; heap.stored_prev(tomb) == Prev::Failed(above), "failed");
+    Ok(())
+}
+
+#[test]
+fn publishes_main_nodes(rt: HostRuntime) -> Result<(), Fail> {
+    let mut heap = Heap::new(rt.alloc(), 4, 1)?;
+    let (tomb, above) = tomb_and_above(&rt, &mut heap);
+    assert!(rt; matches!(heap.look(above), Node::Indirection { generation: 7, .. }));
+    assert!(rt; heap.publish(above, tomb, tomb), "it was the tomb");
+    assert!(rt; heap.stored_prev(tomb) == Prev::Pending(tomb), "pending");
+    assert!(rt;
+        matches!(heap.stored_node(tomb), Some(Node::Tomb { .. })),
+        "the node is as before"
+    );
+    Ok(())
+}
+
+#[test]
+fn remarks_on_slots(rt: HostRuntime) -> Result<(), Fail> {
+    let mut heap = Heap::new(rt.alloc(), 4, 1)?;
+    let leaf = single(&rt, &mut heap);
+    assert_eq!(rt; heap.owner(leaf), 0);
+    assert_eq!(rt; heap.commit(leaf), 0);
+    heap.set_owner(leaf, 3);
+    heap.set_commit(leaf, 1 << 40);
+    assert_eq!(rt; heap.owner(leaf), 3);
+    assert_eq!(rt; heap.commit(leaf), 1 << 40);
     Ok(())
 }
 

@@ -1,16 +1,17 @@
-use Rattle.std.proofs.Common.{◌≡◌, ℕ, ◌+◌, ◌<◌, ◌^◌, true, length, get_or, set, slice_index, All, Some, None, sym, ap, ◌∙◌, subst, arith, eq-eqb}
+use Rattle.std.proofs.Common.{◌≡◌, ℕ, ◌+◌, ◌<◌, ◌==◌, ◌^◌, ◌∷◌, true, length, get_or, set, slice_index, All, Option, Some, None, refl, sym, ap, ◌∙◌, subst, inl, inr, arith, eq-eqb}
+use Rattle.std.proofs.lemmas.Bool.{cases_eq}
+use Rattle.std.proofs.lemmas.List.{get_or-set_same, get_or-set_other}
 use Rattle.slot_arena.specs.Refs.{ref_to, slot_of, birth_of}
 use Rattle.slot_arena.specs.Heaps.{Heap, refs_of_node}
 use Rattle.slot_arena.specs.Times.{times}
-use Rattle.slot_arena.specs.Tallies.{naming}
+use Rattle.slot_arena.specs.Tallies.{Tally, naming}
 use Rattle.slot_arena.specs.Arenas.{Contents, IsLive, NotesWaiting}
 use Rattle.slot_arena.specs.Kept.{live, IsKept}
 use Rattle.slot_arena.proofs.Live.{all_within}
 use Rattle.slot_arena.proofs.Changed.{counts_small}
-use Rattle.slot_arena.proofs.Waiting.{born, notes_waiting}
+use Rattle.slot_arena.proofs.Waiting.{born, waits_by, notes_by}
 use Rattle.slot_arena.proofs.Reading.{live_seen, all_seen, taken_none, taken_first}
-use Rattle.slot_arena.proofs.Marks.{zeros_trans}
-use Rattle.slot_arena.proofs.Makes.{make_kept, first_unused}
+use Rattle.slot_arena.proofs.Makes.{make_held_kept, first_unused}
 use Rattle.slot_arena.proofs.Written.{born_set, live_stays}
 use Rattle.slot_arena.proofs.Reading.{live_shown}
 use Rattle.slot_arena.proofs.Changed.{live_here}
@@ -18,7 +19,7 @@ use Rattle.slot_arena.proofs.Live.{slot_of_ref, birth_of_ref}
 use Rattle.slot_arena.specs.declared.nodes.Prev.TheVariants as prev
 use Rattle.slot_arena.specs.Arenas.{has_birth}
 use Rattle.slot_arena.proofs.Reading.{live_is}
-use Rattle.slot_arena.proofs.arena.Arena.make.Goals as goal
+use Rattle.slot_arena.proofs.arena.Arena.make_held.Goals as goal
 
 pub returns-in_err-slot-clause-heap : goal.returns-in_err-slot-clause-heap
 returns-in_err-slot-clause-heap c =
@@ -31,28 +32,30 @@ pub raise_all-requires-clause-within : goal.raise_all-requires-clause-within
 raise_all-requires-clause-within c =
     let slots = ap (λ (a : Contents). a.heap.slots) c.self.view_is in
     let all : All (λ q. live c.self.inside.cells q ≡ true) (refs_of_node c.args.node) = subst (λ s. All (λ q. live s q ≡ true) (refs_of_node c.args.node)) (sym slots) (all_seen c.args.self.now.heap (refs_of_node c.args.node) c.requires.live) in
-    subst (λ rs. All (λ r. slot_of r < length c.note.new.self.counts) rs) (sym c.refs_of.ensures.refs)
-    (all_within c.self.inside.cells (length c.note.new.self.counts) (refs_of_node c.args.node) (sym (ap length c.note.ensures.counts ∙ c.self.invariant.sizes)) all)
+    subst (λ rs. All (λ r. slot_of r < length c.self.inside.tally.counts) rs) (sym c.refs_of.ensures.refs)
+    (all_within c.self.inside.cells (length c.self.inside.tally.counts) (refs_of_node c.args.node) (sym c.self.invariant.sizes) all)
 
 pub raise_all-requires-clause-room : goal.raise_all-requires-clause-room
 raise_all-requires-clause-room c slot =
     omega (
       arith,
       c.refs_of.ensures.few,
-      ap (λ cs. slice_index cs slot) c.note.ensures.counts,
       counts_small c.self.inside.cells c.self.inside.tally.counts c.self.inside.free c.self.inside.used c.self.inside.outside.items c.self.invariant slot,
     )
 
 pub invariant_of-self-2 : goal.invariant_of-self-2
 invariant_of-self-2 c =
     let slots = ap (λ (a : Contents). a.heap.slots) c.self.view_is in
+    let births = ap (λ (a : Contents). a.heap.births) c.self.view_is in
     let all : All (λ q. live c.self.inside.cells q ≡ true) (refs_of_node c.args.node) = subst (λ s. All (λ q. live s q ≡ true) (refs_of_node c.args.node)) (sym slots) (all_seen c.args.self.now.heap (refs_of_node c.args.node) c.requires.live) in
-    subst (λ s. IsKept s c.raise_all.new.self.counts c.take.new.self (c.self.inside.used + 1) c.self.inside.outside.items) (sym c.fill.ensures)
-    (make_kept c.self.inside.cells c.self.inside.tally.counts c.raise_all.new.self.counts c.self.inside.free c.take.new.self c.self.inside.used c.self.inside.outside.items c.self.invariant
+    subst (λ s. IsKept s c.begin.new.self.counts c.take.new.self (c.self.inside.used + 1) c.with_first-self-inside.result.items) (sym c.fill.ensures)
+    (subst (λ cs. IsKept (set c.self.inside.cells c.in_ok-slot.slot (Some (record { birth = c.self.inside.births + 1; node = c.args.node; prev = prev.None }))) cs c.take.new.self (c.self.inside.used + 1) c.with_first-self-inside.result.items) (sym (ap (λ (t : Tally). t.counts) c.begin.ensures))
+    (subst (IsKept (set c.self.inside.cells c.in_ok-slot.slot (Some (record { birth = c.self.inside.births + 1; node = c.args.node; prev = prev.None }))) (set c.raise_all.new.self.counts c.in_ok-slot.slot 1) c.take.new.self (c.self.inside.used + 1)) (sym (c.with_first-self-inside.ensures ∙ ap (λ r. r ∷ c.self.inside.outside.items) c.new-made.ensures))
+    (make_held_kept c.self.inside.cells c.self.inside.tally.counts c.raise_all.new.self.counts c.self.inside.free c.take.new.self c.self.inside.used c.self.inside.outside.items c.self.invariant
     c.in_ok-slot.slot (c.self.inside.births + 1) c.args.node c.in_ok-slot.ensures.slots.0 c.in_ok-slot.ensures.size c.in_ok-slot.ensures.slots.1 c.in_ok-slot.ensures.slots.2
-    (c.raise_all.ensures.size ∙ ap length c.note.ensures.counts)
-    (λ i. omega (arith, c.raise_all.ensures.counts i, ap (λ cs. slice_index cs i) c.note.ensures.counts, ap (naming i) c.refs_of.ensures.refs))
-    all (omega (arith, c.refs_of.ensures.few, ap length c.refs_of.ensures.refs)) (let births = ap (λ (a : Contents). a.heap.births) c.self.view_is in omega (arith, c.requires.births)))
+    c.raise_all.ensures.size
+    (λ i. omega (arith, c.raise_all.ensures.counts i, ap (naming i) c.refs_of.ensures.refs))
+    all (omega (arith, c.refs_of.ensures.few, ap length c.refs_of.ensures.refs)) (omega (arith, c.requires.births)))))
 
 pub returns-clause-heap : goal.returns-clause-heap
 returns-clause-heap c =
@@ -66,13 +69,33 @@ returns-clause-heap c =
 
 pub returns-clause-noted : goal.returns-clause-noted
 returns-clause-noted c =
-    let was : Contents = record { heap = record { slots = c.self.inside.cells; free = c.self.inside.free.slots; births = c.self.inside.births }; outside = c.self.inside.outside.items; noted = c.self.inside.tally.noted; ticks = c.self.inside.ticks.count } in
-    let now : Contents = record { heap = record { slots = c.fill.new.self; free = c.take.new.self.slots; births = c.self.inside.births + 1 }; outside = c.self.inside.outside.items; noted = c.raise_all.new.self.noted; ticks = c.take.new.ticks.count } in
-    let zeros = zeros_trans c.self.inside.tally c.note.new.self c.raise_all.new.self c.note.ensures.others c.raise_all.ensures.noted in
+    let at : ℕ = c.in_ok-slot.slot in
+    let was : Contents = record { heap = record { slots = c.self.inside.cells; free = c.self.inside.free.slots; births = c.self.inside.births }; outside = c.self.inside.outside.items; noted = c.self.inside.tally.noted; ticks = c.self.inside.free.ticks + c.self.inside.tally.ticks } in
+    let now : Contents = record { heap = record { slots = c.fill.new.self; free = c.take.new.self.slots; births = c.self.inside.births + 1 }; outside = c.with_first-self-inside.result.items; noted = c.begin.new.self.noted; ticks = 0 } in
+    let empty = first_unused c.self.inside.cells c.self.inside.tally.counts c.self.inside.free c.self.inside.used c.self.inside.outside.items c.self.invariant at c.take.new.self.slots c.in_ok-slot.ensures.slots.0 in
+    let counts_are = ap (λ (t : Tally). t.counts) c.begin.ensures in
+    let sizes = c.raise_all.ensures.size ∙ c.self.invariant.sizes in
+    let below : at < length c.raise_all.new.self.counts = let is = c.self.invariant.chained in let least = c.in_ok-slot.ensures.slots.1 in omega arith in
     subst (λ (a : Contents). NotesWaiting a now) c.self.view_is
-    (notes_waiting was now c.self.inside.tally.counts c.raise_all.new.self.counts c.self.inside.free c.take.new.self c.self.inside.used (c.self.inside.used + 1) c.self.invariant (invariant_of-self-2 c) zeros
-    (λ k none. born_set c.self.inside.cells c.in_ok-slot.slot k _ (λ same. let step = (c.raise_all.ensures.noted k none).0 in let there = c.note.ensures.noted in omega (arith, ap (λ i. times i c.note.new.self.noted) same))
-    ∙ sym (ap (λ s. born (get_or s k None)) c.fill.ensures)))
+    (notes_by was now c.self.inside.tally.counts c.begin.new.self.counts c.self.inside.free c.take.new.self c.self.inside.used (c.self.inside.used + 1) c.self.invariant (invariant_of-self-2 c)
+    (λ k none.
+    let step = c.raise_all.ensures.noted k (sym (ap (λ (t : Tally). times k t.noted) c.begin.ensures) ∙ none) in (
+      step.0,
+      elim (cases_eq k at) [
+        | inl same ↦
+            ap (λ o. waits_by k (born o) (slice_index c.self.inside.tally.counts k == 0)) (ap (λ i. get_or c.self.inside.cells i None) same ∙ empty)
+            ∙ sym (waits_not k (born (get_or c.fill.new.self k None)) (slice_index c.begin.new.self.counts k)
+            (ap (λ cs. slice_index cs k) counts_are ∙ ap (slice_index (set c.raise_all.new.self.counts at 1)) same ∙ get_or-set_same c.raise_all.new.self.counts at 1 0 below))
+        | inr other ↦
+            ap (λ o. waits_by k o (slice_index c.self.inside.tally.counts k == 0)) (born_set c.self.inside.cells at k _ other ∙ sym (ap (λ s. born (get_or s k None)) c.fill.ensures))
+            ∙ ap (waits_by k (born (get_or c.fill.new.self k None)))
+            (step.1 ∙ sym (ap (λ n. n == 0) (ap (λ cs. slice_index cs k) counts_are ∙ get_or-set_other c.raise_all.new.self.counts at k 1 0 other)))
+      ],
+    )))
+  where
+    waits_not : (k : ℕ) (o : Option ℕ) (n : ℕ) → n ≡ 1 → waits_by k o (n == 0) ≡ None
+    waits_not k None n e = refl
+    waits_not k (Some birth) n e = ap (λ m. waits_by k (Some birth) (m == 0)) e
 
 pub returns-clause-stay : goal.returns-clause-stay
 returns-clause-stay c q has =
@@ -91,8 +114,8 @@ returns-clause-lives c =
     let b : ℕ = c.self.inside.births + 1 in
     let small : k < 2 ^ 16 = let few = c.self.invariant.few in let is = c.self.invariant.chained in let below = c.in_ok-slot.ensures.slots.1 in omega arith in
     let within : k < length c.self.inside.cells = let is = c.self.invariant.chained in let below = c.in_ok-slot.ensures.slots.1 in omega arith in
-    live_shown (record { slots = c.fill.new.self; free = c.take.new.self.slots; births = b }) c.new.result
-    (ap (λ r. live c.fill.new.self r) c.new.ensures ∙ ap (λ s. live s (ref_to b k)) c.fill.ensures
+    live_shown (record { slots = c.fill.new.self; free = c.take.new.self.slots; births = b }) c.new-made.result
+    (ap (λ r. live c.fill.new.self r) c.new-made.ensures ∙ ap (λ s. live s (ref_to b k)) c.fill.ensures
     ∙ live_here c.self.inside.cells k (Some (record { birth = b; node = c.args.node; prev = prev.None })) (ref_to b k) within (slot_of_ref b k small)
     ∙ eq-eqb b (birth_of (ref_to b k)) (sym (birth_of_ref b k small)))
 
@@ -102,5 +125,5 @@ returns-clause-fresh c =
     let b : ℕ = c.self.inside.births + 1 in
     let small : k < 2 ^ 16 = let few = c.self.invariant.few in let is = c.self.invariant.chained in let below = c.in_ok-slot.ensures.slots.1 in omega arith in
     let empty = first_unused c.self.inside.cells c.self.inside.tally.counts c.self.inside.free c.self.inside.used c.self.inside.outside.items c.self.invariant k c.take.new.self.slots c.in_ok-slot.ensures.slots.0 in
-    live_is c.args.self.now.heap c.new.result ∙ ap (λ (a : Contents). live a.heap.slots c.new.result) (sym c.self.view_is) ∙ ap (live c.self.inside.cells) c.new.ensures
+    live_is c.args.self.now.heap c.new-made.result ∙ ap (λ (a : Contents). live a.heap.slots c.new-made.result) (sym c.self.view_is) ∙ ap (live c.self.inside.cells) c.new-made.ensures
     ∙ ap (λ i. has_birth (birth_of (ref_to b k)) (get_or c.self.inside.cells i None)) (slot_of_ref b k small) ∙ ap (has_birth (birth_of (ref_to b k))) empty

@@ -2,7 +2,7 @@
 
 ghost use Rattle.std.specs.Prelude.{◌≡◌};
 
-use crate::{Place, Places};
+use places::{Place, Places};
 use std::test::Fail;
 
 /// The place of what changed something and isn't late.
