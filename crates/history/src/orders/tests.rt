@@ -1,5 +1,6 @@
 use super::*;
 use crate::calls::Call;
+use crate::faults::Obstacle;
 use std::test::Fail;
 
 const PUT: Call = Call::Put {
@@ -108,6 +109,29 @@ fn a_freeze_during_a_put(rt: HostRuntime) -> Result<(), Fail> {
     assert!(rt; !judged(&rt, &events, &[0, 1, 3, 4, 2, 5])?);
     assert!(rt; !judged(&rt, &events, &[0, 1, 3, 4, 2, 5, 6, 6])?);
     assert!(rt; !judged(&rt, &events, &[0, 1, 3, 4, 2, 5, 7])?);
+    Ok(())
+}
+
+#[test]
+fn tells_the_first_fault(rt: HostRuntime) -> Result<(), Fail> {
+    let events = [
+        begin(0, 1, PUT),
+        end(0, Reply::Found(None)),
+        begin(1, 1, get(3, 1)),
+        end(1, Reply::Found(Some(10))),
+    ];
+    let late = first_fault(rt.alloc(), &events, &[0, 1, 1], HashKind::Low)?;
+    assert!(rt;
+        matches!(
+            late,
+            Some(OrderFault::NoEffect {
+                id: 1,
+                obstacle: Obstacle::NotOpen { handle: 3 }
+            })
+        )
+    );
+    let missing = first_fault(rt.alloc(), &events, &[], HashKind::Low)?;
+    assert!(rt; matches!(missing, Some(OrderFault::Missing { id: 0 })));
     Ok(())
 }
 
