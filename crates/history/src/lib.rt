@@ -18,5 +18,5 @@ pub use events::Event;
 pub use faults::{Obstacle, OrderFault};
 pub use orders::{first_fault, is_order, leads_to_one_world};
 pub use replies::{Pairs, Reply};
-pub use tables::{Row, Table};
+pub use tables::{Row, Table, reply_at};
 pub use worlds::{World, reply_of};

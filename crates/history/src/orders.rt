@@ -16,7 +16,7 @@ use crate::events::Event;
 use crate::faults::OrderFault;
 use crate::obstacles::obstacle_to;
 use crate::replies::Reply;
-use crate::tables::{Row, Table};
+use crate::tables::{Row, Table, reply_at};
 use crate::worlds::{World, reply_of};
 use ctrie_base::{HashKind, Refusal};
 use std::alloc::Global;
@@ -232,16 +232,6 @@ fn begun_at(events: &[Event], place: usize) -> Option<u64>
     match events.get(place)? {
         Event::Begin { id, .. } => Some(*id),
         Event::End { .. } => None,
-    }
-}
-
-/// The reply that the history has at this place, if there is a place.
-fn reply_at(events: &[Event], end: Option<usize>) -> Option<&Reply>
-    ensures { option_copied result ≡ recorded events.now end }
-{
-    match events.get(end?)? {
-        Event::End { reply, .. } => Some(reply),
-        Event::Begin { .. } => None,
     }
 }
 

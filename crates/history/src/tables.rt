@@ -1,14 +1,16 @@
 //! A table of a history's operations by their ids.
 
 ghost use Rattle.std.specs.Prelude.{◌≡◌, ◌↔◌, ◌<◌, List, [], length, None, IsTrue, IsSomeAnd, IfOk, IsOkUnless, MatchResult, slice_get};
+ghost use Rattle.std.specs.Option.{option_copied};
 ghost use Rattle.history.specs.declared.replies.Reply.{Reply};
 ghost use Rattle.history.specs.declared.events.Event.{Event};
 ghost use Rattle.history.specs.Histories.{OpensRightly};
 ghost use Rattle.history.specs.Faults.{IsFirstWrong};
-ghost use Rattle.history.specs.Tables.{Records, Notes};
+ghost use Rattle.history.specs.Tables.{Records, Notes, recorded};
 
 use crate::calls::Call;
 use crate::events::Event;
+use crate::replies::Reply;
 use ctrie_base::Refusal;
 use std::alloc::Global;
 
@@ -145,5 +147,15 @@ fn opens_rightly(call: &Call, opens: Option<u16>) -> bool
     match call {
         Call::Snapshot { .. } | Call::Freeze { .. } => opens.is_some(),
         _ => opens.is_none(),
+    }
+}
+
+/// The reply that the history has at this place, if there is a place.
+pub fn reply_at(events: &[Event], end: Option<usize>) -> Option<&Reply>
+    ensures { option_copied result ≡ recorded events.now end }
+{
+    match events.get(end?)? {
+        Event::End { reply, .. } => Some(reply),
+        Event::Begin { .. } => None,
     }
 }
