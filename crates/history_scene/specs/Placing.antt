@@ -9,7 +9,7 @@ use Rattle.history.specs.Orders.{OrderedAt}
 use Rattle.history.specs.Tables.{recorded}
 use Rattle.history_scene.specs.declared.stands.Place.{Place}
 use Rattle.history_scene.specs.declared.scenes.Stand.{Stand}
-use Rattle.history_scene.specs.Stands.{StandsFirst, IsLatestBegin, IsSwapAnswered, IsLate, swaps_root, not_behind}
+use Rattle.history_scene.specs.Stands.{StandsFirst, IsLatestBegin, IsSwapAnswered, IsLate, swaps_root, before_end}
 
 -- where the operation stands in the first so many places of the order, if it does
 abbrev pub IsPlaced : List Event → List ℕ → ℕ → ℕ → Option Place → Type 0
@@ -74,4 +74,4 @@ swap_end history row = end_of_swap (swaps_root row.call) (recorded history row.e
 -- how an operation stands in the order, by its place, the lateness of all places, and its end
 abbrev pub stand_of : Option Place → List Bool → Option ℕ → Option Stand
 stand_of None late end = None
-stand_of (Some p) late end = Some (record { place = p.place; moment = not_behind end p.latest; is_late = unwrap_or (slice_get late p.place) false })
+stand_of (Some p) late end = Some (record { place = p.place; moment = before_end end p.latest; is_late = unwrap_or (slice_get late p.place) false })

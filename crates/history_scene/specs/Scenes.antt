@@ -35,6 +35,7 @@ pub record IsBar (history : List Event) (order : List ℕ) (fault : Option Order
   pub operation : Operation
   pub answer : Option Reply
   pub shows : bar.id ≡ id
+  pub actor : bar.actor ≡ operation.actor
   pub begins : BeginsAt history bar.from id operation
   pub ends : Ends history id bar.to answer
   pub lane : bar.lane ≡ lane_of history operation.actor

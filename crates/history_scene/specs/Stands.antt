@@ -1,5 +1,5 @@
 -- How an operation stands in an order.
-use Rattle.std.specs.Prelude.{◌≡◌, ◌≢◌, ◌↔◌, ℕ, ◌<◌, ◌≤◌, min, Bool, true, false, IsTrue, List, Option, Some, None}
+use Rattle.std.specs.Prelude.{◌≡◌, ◌≢◌, ◌↔◌, ℕ, ◌<◌, ◌≤◌, ◌-◌, min, Bool, true, false, IsTrue, List, Option, Some, None}
 use Rattle.history.specs.declared.calls.Call.{Call}
 use Rattle.history.specs.declared.calls.Call.TheVariants.{Clear, Snapshot, Freeze}
 use Rattle.history.specs.declared.replies.Reply.{Reply}
@@ -19,10 +19,10 @@ pub record IsLatestBegin (history : List Event) (order : List ℕ) (place latest
   pub begins : (i id : ℕ) × (operation : Operation) × (i ≤ place) × OrderedAt order i id × BeginsAt history latest id operation
   pub last : (i id at : ℕ) (operation : Operation) → i ≤ place → OrderedAt order i id → BeginsAt history at id operation → at ≤ latest
 
--- the last event, but not behind the operation's end
-abbrev pub not_behind : Option ℕ → ℕ → ℕ
-not_behind None latest = latest
-not_behind (Some end) latest = min latest end
+-- the event, but one before the operation's end
+abbrev pub before_end : Option ℕ → ℕ → ℕ
+before_end None event = event
+before_end (Some end) event = min event (end - 1)
 
 -- whether a call takes a copy of the map or empties it, by one swap of its root
 abbrev pub swaps_root : Call → Bool
@@ -48,5 +48,5 @@ abbrev pub IsStand : List Event → List ℕ → ℕ → Option ℕ → Option S
 IsStand history order id end None = ¬ IsAmong order id
 IsStand history order id end (Some stand) =
     StandsFirst order id stand.place
-    × ((latest : ℕ) × IsLatestBegin history order stand.place latest × (stand.moment ≡ not_behind end latest))
+    × ((latest : ℕ) × IsLatestBegin history order stand.place latest × (stand.moment ≡ before_end end latest))
     × (IsTrue stand.is_late ↔ IsLate history order stand.place id)

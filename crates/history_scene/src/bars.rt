@@ -7,7 +7,7 @@ ghost use Rattle.history_text.specs.Texts.{call_text, reply_text, opens_words, b
 ghost use Rattle.history.specs.declared.events.Event.{Event};
 ghost use Rattle.history.specs.Tables.{Records, IsRowOf};
 ghost use Rattle.history_scene.specs.Lanes.{lane_of};
-ghost use Rattle.history_scene.specs.Stands.{IsStand, not_behind};
+ghost use Rattle.history_scene.specs.Stands.{IsStand, before_end};
 ghost use Rattle.history_scene.specs.Placing.{stand_of};
 ghost use Rattle.history_scene.specs.Scenes.{IsBar, AreBars, IsLaneTable, text_in};
 
@@ -64,6 +64,7 @@ fn bar_of(
     let reply = reply_label(alloc, answer)?;
     Ok(Bar {
         id,
+        actor: row.actor,
         lane,
         from: row.begin,
         to: row.end,
@@ -105,17 +106,17 @@ fn stand_of(place: Option<Place>, late: &[bool], end: Option<usize>) -> Option<S
     let Place { place, latest } = place?;
     Some(Stand {
         place,
-        moment: not_behind(end, latest),
+        moment: before_end(end, latest),
         is_late: late.get(place).copied().unwrap_or(false),
     })
 }
 
-/// This place, or the end if that comes first.
-fn not_behind(end: Option<usize>, place: usize) -> usize
-    ensures { result ≡ not_behind end place }
+/// This event, or the one before the end if that comes first.
+fn before_end(end: Option<usize>, event: usize) -> usize
+    ensures { result ≡ before_end end event }
 {
     match end {
-        Some(end) => place.min(end),
-        None => place,
+        Some(end) => event.min(end.saturating_sub(1)),
+        None => event,
     }
 }

@@ -36,6 +36,8 @@ pub struct Scene {
 pub struct Bar {
     /// Which operation it is.
     pub id: u64,
+    /// Whose it is.
+    pub actor: u8,
     /// Its actor's lane, counted from the top.
     pub lane: usize,
     /// The event that begins it.
@@ -57,8 +59,8 @@ pub struct Bar {
 pub struct Stand {
     /// Its first place, counted from 0.
     pub place: usize,
-    /// The last event that begins one of the operations up to that place, but none behind its own end: a
-    /// moment at which it may have taken effect.
+    /// The last event that begins one of the operations up to that place, but one before its own end: behind
+    /// it the operation may have taken effect.
     pub moment: usize,
     /// Whether it stands before a snapshot, a freeze or a clear that was answered before it ended.
     pub is_late: bool,

@@ -10,6 +10,7 @@ returns-clause-bar c = λ order is lane stand.
       operation = operation_of c.args.row.now;
       answer = recorded c.args.events.now c.args.row.now.end;
       shows = refl;
+      actor = refl;
       begins = is.begins;
       ends = row_ends c.args.events.now c.args.id c.args.row.now is;
       lane = lane;
