@@ -9,3 +9,6 @@ mod marks;
 mod style;
 
 pub use document::SceneSvg;
+
+#[cfg(test)]
+mod tests;
