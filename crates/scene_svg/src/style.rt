@@ -20,7 +20,7 @@ text{fill:#1b1f24}
 .wrong path{fill:#bd4b00;stroke:#5e2500;stroke-width:2.5}
 .wrong text{fill:#ffffff}
 .reason{fill:#a84300;font-weight:bold}
-path{fill-opacity:.88}
+g path{fill-opacity:.88}
 @media (prefers-color-scheme:dark){
 text{fill:#e8eaed}
 .ground{fill:#15181c}
