@@ -34,7 +34,7 @@ leads_of_explains hash history order world explains = record {
 }
 
 -- an operation that is recalled is the one that begins
-same_calls : (history : List Event) (id : ℕ) (one : Answered) (call : Call) (opens : Option ℕ) → IsWellFormed history → Recalls history id one → Calls history id call opens
+pub same_calls : (history : List Event) (id : ℕ) (one : Answered) (call : Call) (opens : Option ℕ) → IsWellFormed history → Recalls history id one → Calls history id call opens
     → (one.call ≡ call) × (one.opens ≡ opens)
 same_calls history id one call opens well recalls calls =
     let x : Operation = recalls.0.1 in
@@ -54,7 +54,7 @@ same_effects hash history id world one call opens well recalls calls =
     ap (λ c. effect hash world c one.opens) same.0 ∙ ap (λ h. effect hash world call h) same.1
 
 -- an operation that may stand behind these isn't wrong there
-not_wrong : (hash : ℕ → ℕ) (history : List Event) (ids : List ℕ) (id : ℕ) (world next : HandleMap) (fault : OrderFault) → IsWellFormed history → MayStand hash history ids id world next
+pub not_wrong : (hash : ℕ → ℕ) (history : List Event) (ids : List ℕ) (id : ℕ) (world next : HandleMap) (fault : OrderFault) → IsWellFormed history → MayStand hash history ids id world next
     → ¬ IsWrongBehind hash history ids id world fault
 not_wrong hash history ids id world next (WrongEvent place) well stands wrong = wrong
 not_wrong hash history ids id world next (NotBegun x) well stands wrong = wrong.1 stands.has_begun

@@ -11,3 +11,4 @@ pub mod Standing
 pub mod Hindering
 pub mod Marking
 pub mod Legal
+pub mod OneFault

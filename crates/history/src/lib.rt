@@ -16,7 +16,7 @@ mod worlds;
 pub use calls::{Access, Call};
 pub use events::Event;
 pub use faults::{Obstacle, OrderFault};
-pub use orders::{first_fault, is_order, leads_to_one_world};
+pub use orders::{first_fault, has_one_first_fault, is_order, leads_to_one_world};
 pub use replies::{Pairs, Reply};
 pub use tables::{Row, Table, reply_at};
 pub use worlds::{World, reply_of};

@@ -10,7 +10,7 @@ ghost use Rattle.history.specs.Orders.{IsLegal};
 ghost use Rattle.history.specs.Tables.{Records, IsRowOf, recorded};
 ghost use Rattle.history.specs.Faults.{IsFirstFault};
 ghost use Rattle.history.specs.Replays.{Marks, Takes, Places, Judges, FindsUnmarked, IsAnswer, Trails, Differs, begun_at};
-ghost use Rattle.history.specs.Laws.{LeadsToOneWorld};
+ghost use Rattle.history.specs.Laws.{LeadsToOneWorld, HasOneFirstFault};
 
 use crate::events::Event;
 use crate::faults::OrderFault;
@@ -62,6 +62,11 @@ pub fn first_fault(
 /// A law: an order leads to at most one world.
 pub fn leads_to_one_world()
     ensures { LeadsToOneWorld }
+{}
+
+/// A law: an order has at most one first fault.
+pub fn has_one_first_fault()
+    ensures { HasOneFirstFault }
 {}
 
 /// What is left of an order's beginning once it is replayed.

@@ -155,6 +155,7 @@ fn ill_formed_histories(rt: HostRuntime) -> Result<(), Fail> {
 }
 
 #[test]
-fn the_law(_rt: HostRuntime) {
+fn the_laws(_rt: HostRuntime) {
     leads_to_one_world();
+    has_one_first_fault();
 }
