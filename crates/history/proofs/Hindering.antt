@@ -74,7 +74,8 @@ no_read_only world h does some names none =
     false≢true (subst P (sym (ap (λ (o : Option KeyMap). option_and_then does o) there) ∙ none) (some names.0))
 
 -- a copy may lack its new number alone
-numbered : (o : Option HandleState) (n : ℕ) (world : HandleMap) (access : Access) (m : KeyMap) → (if◌then◌else◌ {A = Option (Reply × HandleMap)} (is_some o) None (Some (reply.Opened n, naming world n access m))) ≡ None → IsSome o
+numbered : (o : Option HandleState) (n : ℕ) (world : HandleMap) (access : Access) (m : KeyMap)
+    → (if◌then◌else◌ {A = Option (Reply × HandleMap)} (is_some o) None (Some (reply.Opened n, naming world n access m))) ≡ None → IsSome o
 numbered None n world access m none = let wrong : ⊥ = cc none in absurd wrong
 numbered (Some s) n world access m none = refl
 

@@ -47,7 +47,8 @@ same_calls history id one call opens well recalls calls =
     (sym recalls.0.3 ∙ same_call, sym recalls.0.4 ∙ same_opens)
 
 -- the effect of what is recalled is that of what begins
-same_effects : (hash : ℕ → ℕ) (history : List Event) (id : ℕ) (world : HandleMap) (one : Answered) (call : Call) (opens : Option ℕ) → IsWellFormed history → Recalls history id one → Calls history id call opens
+same_effects : (hash : ℕ → ℕ) (history : List Event) (id : ℕ) (world : HandleMap) (one : Answered) (call : Call) (opens : Option ℕ) → IsWellFormed history → Recalls history id one
+    → Calls history id call opens
     → effect hash world one.call one.opens ≡ effect hash world call opens
 same_effects hash history id world one call opens well recalls calls =
     let same = same_calls history id one call opens well recalls calls in
@@ -117,7 +118,8 @@ none_if_legal hash history order None judged = (λ none. judged, λ legal. refl)
 none_if_legal hash history order (Some fault) judged = (λ none. absurd (true≢false none), λ legal. absurd (not_legal hash history order fault judged legal))
 
 -- an operation that is missing has no mark
-unmarked_of_missing : (history : List Event) (order : List ℕ) (table : Table) (taken : List Bool) (latest id : ℕ) → Records history table → Marks history order taken latest → IsMissing history order id
+unmarked_of_missing : (history : List Event) (order : List ℕ) (table : Table) (taken : List Bool) (latest id : ℕ) → Records history table → Marks history order taken latest
+    → IsMissing history order id
     → IsUnmarked history table taken id
 unmarked_of_missing history order table taken latest id known marks missing =
     let answer : Reply = missing.0.0 in
@@ -135,7 +137,8 @@ unmarked_of_missing history order table taken latest id known marks missing =
     (row.0, row.1, unmarked, subst P (sym told) missing.0.2)
 
 -- an operation with an answer and no mark is missing
-missing_of_unmarked : (history : List Event) (order : List ℕ) (table : Table) (taken : List Bool) (latest id : ℕ) → Records history table → Marks history order taken latest → IsUnmarked history table taken id
+missing_of_unmarked : (history : List Event) (order : List ℕ) (table : Table) (taken : List Bool) (latest id : ℕ) → Records history table → Marks history order taken latest
+    → IsUnmarked history table taken id
     → IsMissing history order id
 missing_of_unmarked history order table taken latest id known marks unmarked =
     let row = unmarked.0 in

@@ -295,13 +295,15 @@ not_within hash history order fault q world well wrong lt leads =
     not_wrong hash history (take p (take q order)) id wrong.2 stands.0 fault well stands.1 here
 
 -- no operation is wrong in an order that leads to a world
-not_in_whole : (hash : ℕ → ℕ) (history : List Event) (order : List ℕ) (fault : OrderFault) (world : HandleMap) → IsWellFormed history → IsWrongAt hash history order fault → ¬ LeadsTo hash history order world
+not_in_whole : (hash : ℕ → ℕ) (history : List Event) (order : List ℕ) (fault : OrderFault) (world : HandleMap) → IsWellFormed history → IsWrongAt hash history order fault
+    → ¬ LeadsTo hash history order world
 not_in_whole hash history order fault world well wrong leads =
     let stands = must_stand hash history order wrong.0 wrong.1 wrong.2 world well wrong.4 leads wrong.3 in
     not_wrong hash history (take wrong.0 order) wrong.1 wrong.2 stands.0 fault well stands.1 wrong.5
 
 -- two faults at one place are one
-same_place : (hash : ℕ → ℕ) (history : List Event) (order : List ℕ) (f g : OrderFault) → IsWellFormed history → (a : IsWrongAt hash history order f) (b : IsWrongAt hash history order g) → a.0 ≡ b.0 → f ≡ g
+same_place : (hash : ℕ → ℕ) (history : List Event) (order : List ℕ) (f g : OrderFault) → IsWellFormed history → (a : IsWrongAt hash history order f) (b : IsWrongAt hash history order g)
+    → a.0 ≡ b.0 → f ≡ g
 same_place hash history order f g well a b same =
     let id : b.1 ≡ a.1 = same_Some b.1 a.1 (sym b.3 ∙ ap (slice_get order) (sym same) ∙ a.3) in
     let leads : LeadsTo hash history (take a.0 order) b.2 = subst (λ p. LeadsTo hash history (take p order) b.2) (sym same) b.4 in

@@ -33,7 +33,8 @@ ended_of_recorded history id row answer is told = elim (option_cases row.end) [
 ]
 
 -- an operation that has ended ended before this place
-pub ended_before : (history : List Event) (id : ℕ) (row : Row) (end latest : ℕ) (answer : Reply) → IsRowOf history id row → EndsAt history end id answer → end < latest → IsSomeAnd row.end (λ e. e < latest)
+pub ended_before : (history : List Event) (id : ℕ) (row : Row) (end latest : ℕ) (answer : Reply) → IsRowOf history id row → EndsAt history end id answer → end < latest
+    → IsSomeAnd row.end (λ e. e < latest)
 ended_before history id row end latest answer is at lt =
     let P : Option ℕ → Type 0 = λ o. IsSomeAnd o (λ e. e < latest) in
     subst P (sym (is.ends_once end answer at)) lt
@@ -75,7 +76,8 @@ ended_late history ids id row taken latest other well is marks late begun =
           elim marks.met [
             | inl zero_latest ↦ absurd (omega arith)
             | inr met ↦
-                let same : met.1 ≡ other = ap id_begun (same_Some (Begin met.1 (met.2).actor (met.2).call (met.2).opens) (Begin other (begins.0).actor (begins.0).call (begins.0).opens) (sym met.4 ∙ begins.1)) in (
+                let same : met.1 ≡ other = ap id_begun (same_Some (Begin met.1 (met.2).actor (met.2).call (met.2).opens) (Begin other (begins.0).actor (begins.0).call (begins.0).opens)
+                (sym met.4 ∙ begins.1)) in (
                   (some.0, latest, end.0, begins.0, end.1, begins.1, lt),
                   record {
                     among = (met.0, subst (λ j. OrderedAt ids met.0 j) same met.3);

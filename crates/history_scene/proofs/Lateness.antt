@@ -1,5 +1,6 @@
 -- Which operations are late, going through the order from its end.
-use Rattle.std.proofs.Common.{◌≡◌, ◌≢◌, ◌↔◌, ℕ, ◌+◌, ◌<◌, ◌≤◌, min, Bool, true, false, IsTrue, nat_lt, ◌⊎◌, inl, inr, List, length, set, Option, Some, None, slice_get, refl, sym, ap, ◌∙◌, subst, arith}
+use Rattle.std.proofs.Common.{◌≡◌, ◌≢◌, ◌↔◌, ℕ, ◌+◌, ◌<◌, ◌≤◌, min, Bool, true, false, IsTrue, nat_lt, ◌⊎◌, inl, inr, List, length, set, Option, Some, None, slice_get, refl, sym, ap, ◌∙◌, subst}
+use Rattle.std.proofs.Common.{arith}
 use Rattle.std.proofs.lemmas.Bool.{cases_order, cases_lt, true≢false, false≢true}
 use Rattle.std.proofs.lemmas.Option.{slice_get_within, same_Some}
 use Rattle.history.specs.declared.calls.Call.{Call}
@@ -84,7 +85,8 @@ from_here n i le = elim (cases_order i n) [
 ]
 
 -- the earliest with a place more whose operation is no answered swap
-pub earliest_same : (history : List Event) (order : List ℕ) (n id : ℕ) (earliest : Option ℕ) → OrderedAt order n id → ((end : ℕ) → ¬ IsSwapAnswered history id end) → IsEarliest history order (n + 1) earliest
+pub earliest_same : (history : List Event) (order : List ℕ) (n id : ℕ) (earliest : Option ℕ) → OrderedAt order n id → ((end : ℕ) → ¬ IsSwapAnswered history id end)
+    → IsEarliest history order (n + 1) earliest
     → IsEarliest history order n earliest
 earliest_same history order n id None at no_swap is = λ i other end le at_i swaps. elim (from_here n i le) [
   | inl same ↦ no_swap end (subst (λ k. IsSwapAnswered history k end) (sym (same_id order i n id other at at_i same)) swaps)
@@ -151,7 +153,16 @@ late_row : (history : List Event) (order : List ℕ) (n id : ℕ) (row : Row) (e
     → IsTrue (is_behind earliest ends) ↔ IsLate history order n id
 late_row history order n id row None ends is end before = (λ wrong. absurd (false≢true wrong), λ late. absurd (before late.0 late.1 late.2 (omega (arith, late.3)) late.4 late.5))
 late_row history order n id row (Some first) None is end before = (
-  λ _. (before.0.0, before.0.1, first, omega (arith, before.0.2), before.0.3, before.0.4, λ last answer ended. let some : row.end ≡ Some last = is.ends_once last answer ended in let wrong : ⊥ = cc (some, end) in absurd wrong),
+  λ _. (
+    before.0.0,
+    before.0.1,
+    first,
+    omega (arith, before.0.2),
+    before.0.3,
+    before.0.4,
+    λ last answer ended. let some : row.end ≡ Some last = is.ends_once last answer ended in
+        let wrong : ⊥ = cc (some, end) in absurd wrong,
+  ),
   λ _. refl,
 )
 late_row history order n id row (Some first) (Some mine) is end before = (

@@ -25,7 +25,8 @@ returns c =
     let here = c.handle_of-handle.ensures in
     let names : Names world (handle_of call) access = subst (λ h. Names world h access) here (named world c.handle_of-handle.result access (sym c.access.ensures ∙ c.in-Some.is)) in
     let fits : mismatch (needed_access call) access (handle_of call) ≡ None =
-    ap (λ h. mismatch (needed_access call) access h) (sym here) ∙ ap (λ needed. mismatch needed access c.handle_of-handle.result) (sym c.needed_access.ensures) ∙ sym c.mismatch.ensures ∙ c.in_default-mismatch.is in
+    ap (λ h. mismatch (needed_access call) access h) (sym here) ∙ ap (λ needed. mismatch needed access c.handle_of-handle.result) (sym c.needed_access.ensures) ∙ sym c.mismatch.ensures
+    ∙ c.in_default-mismatch.is in
     let taken : IsTaken world call c.args.opens = all_else c.requires.no_effect.0 world call c.args.opens access c.requires.opens_rightly names fits c.requires.no_effect.1 in
     let number : taken.0 ≡ c.in-Some-opens.handle = same_Some taken.0 c.in-Some-opens.handle (sym taken.1 ∙ c.in-Some-opens.is) in
     (c.in-Some-opens.is, taken.2, subst (λ n. IsSome (map.get world n)) number taken.3)

@@ -36,7 +36,8 @@ loop-id-preserved c =
     let stands = rw (all, c.deref.ensures.value) at c.stand_of-stand.ensures in
     let is = c.requires.records.row_of n row here in
     let begun : HasBegun history n = (row.begin, operation_of row, is.begins) in
-    let stand = stand_is history order n row.end c.index.result.now c.in_ok-late.late.items begun (c.in_ok-places.ensures.placed history c.requires.records n c.index.result.now placed) c.in_ok-late.ensures.late size in
+    let stand = stand_is history order n row.end c.index.result.now c.in_ok-late.late.items begun
+    (c.in_ok-places.ensures.placed history c.requires.records n c.index.result.now placed) c.in_ok-late.ensures.late size in
     let S : Option Stand → Type 0 = λ o. IsStand history order n row.end o in
     let new = bar is lane (subst S (sym stands) stand) in
     let more = bars_more history order (option_copied c.args.fault) c.loop-id.bars.items n c.in_ok-bar_of.field-0 so_far.0 so_far.1 new in

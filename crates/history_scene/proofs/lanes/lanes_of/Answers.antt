@@ -17,7 +17,8 @@ loop-actor-preserved c =
     let counted = c.len.ensures in
     let count : c.len.result ≡ length (workers_below history actor) = omega (arith, c.loop-actor.actors.ok.0) in
     let lanes = lane_noted history c.loop-actor.lanes actor c.len.result count (omega arith) so_far.2 in
-    let tested : get_or c.workers-works.result actor false ≡ works history actor = get_or_from_slice_get c.workers-works.result actor (works history actor) false (c.workers-works.ensures.each actor (omega arith)) in
+    let tested : get_or c.workers-works.result actor false ≡ works history actor = get_or_from_slice_get c.workers-works.result actor (works history actor) false
+    (c.workers-works.ensures.each actor (omega arith)) in
     let P : Bool → Type 0 = λ b. c.if-works-actor.actors.items ≡ workers_below history actor ++ (if b then actor ∷ [] else []) in
     let actors : P (works history actor) = elim c.if-works-actor.branch [
       | then-works-actor+in_ok-push w ↦

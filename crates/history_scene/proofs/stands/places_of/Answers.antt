@@ -21,7 +21,8 @@ loop-place-preserved c =
           let places = c.loop-place.places.items in
           let latest : c.match-row.latest ≡ max c.loop-place.latest row.begin = w.latest-is ∙ w.max-latest.ensures ∙ larger c.loop-place.latest row.begin in
           let p : Place = record { place = n; latest = max c.loop-place.latest row.begin } in
-          let items : c.match-row.places.items ≡ noted places id p = ap (λ (v : _). v.items) w.places-is ∙ w.note.ensures ∙ ap (λ l. noted places id (record { place = n; latest = l })) (w.max-latest.ensures ∙ larger c.loop-place.latest row.begin) in
+          let items : c.match-row.places.items ≡ noted places id p = ap (λ (v : _). v.items) w.places-is ∙ w.note.ensures
+          ∙ ap (λ l. noted places id (record { place = n; latest = l })) (w.max-latest.ensures ∙ larger c.loop-place.latest row.begin) in
           let there : slice_get rows id ≡ Some row = sym c.row.ensures ∙ w.in-Some.is in (
             ap length items ∙ length_noted places id p ∙ so_far.0,
             λ history known.
@@ -32,6 +33,7 @@ loop-place-preserved c =
           let there : slice_get rows id ≡ None = sym c.row.ensures ∙ w.in_default.is in
           rw (w.places-is, w.latest-is) (
             so_far.0,
-            λ history known. placed_skip history order n id c.loop-place.latest c.loop-place.places.items rows c.args.table.now.running known at there so_far.0 (so_far.1 history known).0 (so_far.1 history known).1,
+            λ history known. placed_skip history order n id c.loop-place.latest c.loop-place.places.items rows c.args.table.now.running known at there so_far.0 (so_far.1 history known).0
+                (so_far.1 history known).1,
           )
     ]
