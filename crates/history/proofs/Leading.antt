@@ -7,7 +7,7 @@ use Rattle.history.specs.Worlds.{HandleMap, first_world}
 use Rattle.history.specs.Effects.{Effect}
 use Rattle.history.specs.Histories.{HasBegun, HasEnded, IsWellFormed}
 use Rattle.history.specs.Orders.{OrderedAt, IsBefore, Answered, Recalls, RecallsEach, Replays}
-use Rattle.history.specs.Replays.{LeadsTo, MayStand}
+use Rattle.history.specs.Beginnings.{LeadsTo, MayStand}
 use Rattle.history.proofs.Places.{at_cases, at_take}
 use Rattle.history.proofs.OneWorld.{one_world}
 

@@ -8,5 +8,7 @@ pub mod Noting
 pub mod OneWorld
 pub mod Leading
 pub mod Standing
+pub mod Hindering
 pub mod Marking
 pub mod Legal
+pub mod OneFault

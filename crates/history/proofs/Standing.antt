@@ -1,19 +1,21 @@
 -- Which operation may stand next in an order, by its row.
-use Rattle.std.proofs.Common.{◌≡◌, ℕ, ◌<◌, inl, inr, Bool, true, false, List, length, Option, Some, None, slice_get, option_and_then, IsSomeAnd, refl, sym, ap, ◌∙◌, subst, arith}
+use Rattle.std.proofs.Common.{◌≡◌, ℕ, ◌<◌, inl, inr, Bool, true, false, List, Option, Some, None, slice_get, option_and_then, IsSome, IsSomeAnd, refl, sym, ap, ◌∙◌, subst, arith}
 use Rattle.std.proofs.lemmas.Option.{same_Some}
 use Rattle.history.specs.declared.replies.Reply.{Reply}
 use Rattle.history.specs.declared.replies.Reply.TheVariants.{NoSlots}
 use Rattle.history.specs.declared.events.Event.{Event}
-use Rattle.history.specs.declared.events.Event.TheVariants.{Begin}
+use Rattle.history.specs.declared.events.Event.TheVariants.{Begin, End}
 use Rattle.history.specs.declared.tables.Row.{Row}
 use Rattle.history.specs.Worlds.{HandleMap}
 use Rattle.history.specs.Effects.{effect, answer_in}
-use Rattle.history.specs.Histories.{Operation, BeginsAt, EndsAt, HasEnded}
-use Rattle.history.specs.Orders.{Answered, Recalls}
+use Rattle.history.specs.Histories.{Operation, EndsAt, HasBegun, HasEnded, OpensRightly, begun, IsWellFormed}
+use Rattle.history.specs.Orders.{OrderedAt, IsBefore, Answered}
 use Rattle.history.specs.Tables.{IsRowOf, AreRecords, operation_of, reply_in, recorded}
-use Rattle.history.specs.Replays.{MayStand, Marks, Agrees}
+use Rattle.history.specs.Beginnings.{MayStand}
+use Rattle.history.specs.Faults.{IsAmong, BeganLast, IsInTime}
+use Rattle.history.specs.Replays.{Marks, Agrees, begun_in, begun_at}
 use Rattle.history.proofs.Places.{at_within, option_cases}
-use Rattle.history.proofs.OneWorld.{same_effect}
+use Rattle.history.proofs.Begins.{begins_once}
 
 -- the recorded reply of an operation that ended
 pub recorded_of_ended : (history : List Event) (id : ℕ) (row : Row) (answer : Reply) → IsRowOf history id row → HasEnded history id answer → recorded history row.end ≡ Some answer
@@ -31,106 +33,104 @@ ended_of_recorded history id row answer is told = elim (option_cases row.end) [
 ]
 
 -- an operation that has ended ended before this place
-pub ended_before : (history : List Event) (id : ℕ) (row : Row) (end latest : ℕ) (answer : Reply) → IsRowOf history id row → EndsAt history end id answer → end < latest → IsSomeAnd row.end (λ e. e < latest)
+pub ended_before : (history : List Event) (id : ℕ) (row : Row) (end latest : ℕ) (answer : Reply) → IsRowOf history id row → EndsAt history end id answer → end < latest
+    → IsSomeAnd row.end (λ e. e < latest)
 ended_before history id row end latest answer is at lt =
     let P : Option ℕ → Type 0 = λ o. IsSomeAnd o (λ e. e < latest) in
     subst P (sym (is.ends_once end answer at)) lt
 
--- what is recalled of an operation is what its row says
-recalled_row : (history : List Event) (id : ℕ) (row : Row) (one : Answered) → IsRowOf history id row → Recalls history id one → (one.call ≡ row.call) × (one.opens ≡ row.opens)
-recalled_row history id row one is recalls =
-    let place = recalls.0.0 in
-    let operation : Operation = recalls.0.1 in
-    let here : place ≡ row.begin = is.begins_once place operation recalls.0.2 in
-    let begins : BeginsAt history place id (operation_of row) = subst (λ p. BeginsAt history p id (operation_of row)) (sym here) is.begins in
-    let events : Begin id operation.actor operation.call operation.opens ≡ Begin id row.actor row.call row.opens = cc (begins, recalls.0.2) in
-    let calls : operation.call ≡ row.call = cc events in
-    let opens : operation.opens ≡ row.opens = cc events in
-    (sym recalls.0.3 ∙ calls, sym recalls.0.4 ∙ opens)
+-- no place is below the first
+no_end_below : (o : Option ℕ) (latest : ℕ) → latest ≡ 0 → ¬ IsSomeAnd o (λ end. end < latest)
+no_end_below None latest zero_latest late = late
+no_end_below (Some end) latest zero_latest late = omega (arith, late, zero_latest)
 
--- all tests pass: the operation may stand next
-pub may_stand : (hash : ℕ → ℕ) (history : List Event) (ids : List ℕ) (id : ℕ) (world next : HandleMap) (row : Row) (taken : List Bool) (latest : ℕ) (reply : Reply)
-    → IsRowOf history id row → Marks history ids taken latest → id < length taken → ¬ (slice_get taken id ≡ Some true) → ¬ (recorded history row.end ≡ Some NoSlots)
-    → ¬ (IsSomeAnd row.end (λ end. end < latest)) → effect hash world row.call row.opens ≡ Some (reply, next) → Agrees (recorded history row.end) reply
-    → MayStand hash history ids id world next
-may_stand hash history ids id world next row taken latest reply is marks within is_new not_refused in_time leads agrees =
+abbrev id_begun : Event → ℕ
+id_begun (Begin id actor call opens) = id
+id_begun (End id answer) = id
+
+-- the operation that begins at a place
+begin_in : (o : Option Event) (id : ℕ) → option_and_then begun_in o ≡ Some id → (operation : Operation) × (o ≡ Some (Begin id operation.actor operation.call operation.opens))
+begin_in None id is = let wrong : ⊥ = cc is in absurd wrong
+begin_in (Some (Begin x actor call opens)) id is = (record { actor = actor; call = call; opens = opens }, ap (λ (j : ℕ). Some (Begin j actor call opens)) (same_Some x id is))
+begin_in (Some (End x answer)) id is = let wrong : ⊥ = cc is in absurd wrong
+
+-- an operation that isn't marked doesn't stand there
+pub not_among : (history : List Event) (ids : List ℕ) (id : ℕ) (taken : List Bool) (latest : ℕ) → Marks history ids taken latest → id < begun history → ¬ (slice_get taken id ≡ Some true)
+    → ¬ IsAmong ids id
+not_among history ids id taken latest marks below unmarked among =
+    let size = marks.size in
+    let mark = at_within taken id (omega arith) in
+    elim mark.0 as (λ b. slice_get taken id ≡ Some b → ⊥) [ true ↦ unmarked | false ↦ λ at. marks.unmarked id at among.0 among.1 ] mark.1
+
+-- an operation that ended before the latest begin of those that stand there
+pub ended_late : (history : List Event) (ids : List ℕ) (id : ℕ) (row : Row) (taken : List Bool) (latest other : ℕ) → IsWellFormed history → IsRowOf history id row → Marks history ids taken latest
+    → IsSomeAnd row.end (λ end. end < latest) → begun_at history latest ≡ Some other → IsBefore history id other × BeganLast history ids other
+ended_late history ids id row taken latest other well is marks late begun =
+    let P : Option ℕ → Type 0 = λ o. IsSomeAnd o (λ e. e < latest) in
+    let begins = begin_in (slice_get history latest) other begun in
+    elim (option_cases row.end) [
+      | inl none ↦ let nothing : P None = subst P none late in absurd nothing
+      | inr some ↦
+          let lt : some.0 < latest = subst P some.1 late in
+          let end = is.ends some.0 some.1 in
+          elim marks.met [
+            | inl zero_latest ↦ absurd (omega arith)
+            | inr met ↦
+                let same : met.1 ≡ other = ap id_begun (same_Some (Begin met.1 (met.2).actor (met.2).call (met.2).opens) (Begin other (begins.0).actor (begins.0).call (begins.0).opens)
+                (sym met.4 ∙ begins.1)) in (
+                  (some.0, latest, end.0, begins.0, end.1, begins.1, lt),
+                  record {
+                    among = (met.0, subst (λ j. OrderedAt ids met.0 j) same met.3);
+                    last = λ i x p q one two at begins_p begins_q.
+                        let here = begins_once history p latest other one begins.0 well begins_p begins.1 in
+                        let below = marks.above i x q two at begins_q in
+                        omega arith;
+                  },
+                )
+          ]
+    ]
+
+-- an operation that hadn't ended before the latest of these begins
+pub in_time : (history : List Event) (ids : List ℕ) (id : ℕ) (row : Row) (taken : List Bool) (latest : ℕ) → IsRowOf history id row → Marks history ids taken latest → id < begun history
+    → ¬ (slice_get taken id ≡ Some true) → ¬ (recorded history row.end ≡ Some NoSlots) → (IsSome (begun_at history latest) → ¬ IsSomeAnd row.end (λ end. end < latest)) → IsInTime history ids id
+in_time history ids id row taken latest is marks below is_new not_refused punctual =
+    let never : ¬ IsSomeAnd row.end (λ end. end < latest) = λ late. elim marks.met [
+      | inl zero_latest ↦ no_end_below row.end latest zero_latest late
+      | inr met ↦
+          let begins : begun_at history latest ≡ Some met.1 = ap (λ (o : Option Event). option_and_then begun_in o) met.4 in
+          let P : Option ℕ → Type 0 = λ o. IsSome o in
+          punctual (subst P (sym begins) refl) late
+    ] in
+    record {
+      is_new = not_among history ids id taken latest marks below is_new;
+      not_refused = λ ended. not_refused (recorded_of_ended history id row NoSlots is ended);
+      on_time = λ i other at before.
+          let above = marks.above i other before.1 before.3 at before.5 in
+          never (ended_before history id row before.0 latest before.2 is before.4 (omega (arith, before.6)));
+    }
+
+-- an operation in time whose call has an effect that agrees with what was told may stand next
+pub may_stand : (hash : ℕ → ℕ) (history : List Event) (ids : List ℕ) (id : ℕ) (world next : HandleMap) (row : Row) (reply : Reply) → IsRowOf history id row → IsInTime history ids id
+    → effect hash world row.call row.opens ≡ Some (reply, next) → Agrees (recorded history row.end) reply → MayStand hash history ids id world next
+may_stand hash history ids id world next row reply is timed leads agrees =
     let one : Answered = record { call = row.call; opens = row.opens; answer = reply } in
     let tells : (answer : Reply) → HasEnded history id answer → reply ≡ answer = λ answer ended.
     let told : Option Reply → Type 0 = λ o. Agrees o reply in
     subst told (recorded_of_ended history id row answer is ended) agrees in
     record {
-      is_new = λ i at.
-          let mark = at_within taken id within in
-          elim mark.0 as (λ b. slice_get taken id ≡ Some b → ⊥) [ true ↦ is_new | false ↦ λ unmarked. marks.unmarked id unmarked i at ] mark.1;
+      is_new = λ i at. timed.is_new (i, at);
       has_begun = (row.begin, operation_of row, is.begins);
-      not_refused = λ ended. not_refused (recorded_of_ended history id row NoSlots is ended);
-      on_time = λ i other at before.
-          let above = marks.above i other before.1 before.3 at before.5 in
-          in_time (ended_before history id row before.0 latest before.2 is before.4 (omega (arith, before.6)));
+      not_refused = timed.not_refused;
+      on_time = timed.on_time;
       answered = (one, ((row.begin, operation_of row, is.begins, refl, refl), tells), leads);
     }
 
--- an operation that hasn't begun
-pub not_begun : (hash : ℕ → ℕ) (history : List Event) (ids : List ℕ) (id : ℕ) (world next : HandleMap) (rows : List Row) (running : List (Option ℕ)) → AreRecords history rows running
-    → slice_get rows id ≡ None → ¬ MayStand hash history ids id world next
-not_begun hash history ids id world next rows running known none stands =
-    let row = at_within rows id (known.has_row id stands.has_begun) in
+-- an operation that has no row hasn't begun
+pub not_begun : (history : List Event) (id : ℕ) (rows : List Row) (running : List (Option ℕ)) → AreRecords history rows running → slice_get rows id ≡ None → ¬ HasBegun history id
+not_begun history id rows running known none begun =
+    let row = at_within rows id (known.has_row id begun) in
     let wrong : ⊥ = cc (row.1, none) in
     wrong
-
--- an operation that stands there already
-pub not_twice : (hash : ℕ → ℕ) (history : List Event) (ids : List ℕ) (id : ℕ) (world next : HandleMap) (taken : List Bool) (latest : ℕ) → Marks history ids taken latest
-    → slice_get taken id ≡ Some true → ¬ MayStand hash history ids id world next
-not_twice hash history ids id world next taken latest marks marked stands =
-    let place = marks.marked id marked in
-    stands.is_new place.0 place.1
-
--- an operation that was refused for want of slots
-pub not_refused : (hash : ℕ → ℕ) (history : List Event) (ids : List ℕ) (id : ℕ) (world next : HandleMap) (row : Row) → IsRowOf history id row → recorded history row.end ≡ Some NoSlots
-    → ¬ MayStand hash history ids id world next
-not_refused hash history ids id world next row is told stands = stands.not_refused (ended_of_recorded history id row NoSlots is told)
-
--- an operation that ended before one that stands there began
-pub not_late : (hash : ℕ → ℕ) (history : List Event) (ids : List ℕ) (id : ℕ) (world next : HandleMap) (row : Row) (taken : List Bool) (latest : ℕ) → IsRowOf history id row → Marks history ids taken latest
-    → IsSomeAnd row.end (λ end. end < latest) → ¬ MayStand hash history ids id world next
-not_late hash history ids id world next row taken latest is marks late stands =
-    let P : Option ℕ → Type 0 = λ o. IsSomeAnd o (λ e. e < latest) in
-    elim (option_cases row.end) [
-      | inl none ↦ let nothing : P None = subst P none late in nothing
-      | inr some ↦
-          let lt : some.0 < latest = subst P some.1 late in
-          let end = is.ends some.0 some.1 in
-          elim marks.met [
-            | inl zero_latest ↦ omega arith
-            | inr met ↦ stands.on_time met.0 met.1 met.3 (some.0, latest, end.0, met.2, end.1, met.4, lt)
-          ]
-    ]
-
--- an operation whose call has no effect
-pub no_effect : (hash : ℕ → ℕ) (history : List Event) (ids : List ℕ) (id : ℕ) (world next : HandleMap) (row : Row) → IsRowOf history id row → effect hash world row.call row.opens ≡ None
-    → ¬ MayStand hash history ids id world next
-no_effect hash history ids id world next row is none stands =
-    let one : Answered = stands.answered.0 in
-    let says = recalled_row history id row one is stands.answered.1 in
-    let moved : effect hash world one.call one.opens ≡ effect hash world row.call row.opens = ap (λ call. effect hash world call one.opens) says.0 ∙ ap (λ h. effect hash world row.call h) says.1 in
-    let wrong : ⊥ = cc (moved, none, stands.answered.2) in
-    wrong
-
--- an operation that was told another reply
-pub disagrees : (hash : ℕ → ℕ) (history : List Event) (ids : List ℕ) (id : ℕ) (world next : HandleMap) (row : Row) (reply : Reply) (other : HandleMap) → IsRowOf history id row
-    → effect hash world row.call row.opens ≡ Some (reply, other) → ¬ Agrees (recorded history row.end) reply → ¬ MayStand hash history ids id world next
-disagrees hash history ids id world next row reply other is leads differs stands =
-    let one : Answered = stands.answered.0 in
-    let says = recalled_row history id row one is stands.answered.1 in
-    let by_row : Answered = record { call = row.call; opens = row.opens; answer = reply } in
-    let same = same_effect hash world next other one by_row says.0 says.1 stands.answered.2 leads in
-    let P : Option Reply → Type 0 = λ o. Agrees o reply in
-    elim (option_cases (recorded history row.end)) [
-      | inl none ↦ differs (subst P (sym none) tt)
-      | inr told ↦
-          let ended : HasEnded history id told.0 = ended_of_recorded history id row told.0 is told.1 in
-          differs (subst P (sym told.1) (sym same.0 ∙ stands.answered.1.1 told.0 ended))
-    ]
 
 -- where there is a reply, the call has that effect
 pub effect_of_answer : (world next : HandleMap) (e : Option (Reply × HandleMap)) (told : Option Reply) (reply : Reply) → told ≡ Some reply → (told, next) ≡ answer_in world e → e ≡ Some (reply, next)
@@ -144,3 +144,12 @@ effect_of_answer world next (Some e) told reply some is =
 pub no_effect_of_answer : (world next : HandleMap) (e : Option (Reply × HandleMap)) (told : Option Reply) → told ≡ None → (told, next) ≡ answer_in world e → e ≡ None
 no_effect_of_answer world next None told none is = refl
 no_effect_of_answer world next (Some e) told none is = let wrong : ⊥ = cc (none, ap (λ (p : Option Reply × HandleMap). p.0) is) in absurd wrong
+
+-- and the world is as it was
+pub same_of_no_answer : (world next : HandleMap) (e : Option (Reply × HandleMap)) (told : Option Reply) → told ≡ None → (told, next) ≡ answer_in world e → next ≡ world
+same_of_no_answer world next None told none is = ap (λ (p : Option Reply × HandleMap). p.1) is
+same_of_no_answer world next (Some e) told none is = let wrong : ⊥ = cc (none, ap (λ (p : Option Reply × HandleMap). p.0) is) in absurd wrong
+
+-- a begin opens a handle as its call wants it
+pub opens_rightly : (history : List Event) (id : ℕ) (row : Row) → IsWellFormed history → IsRowOf history id row → OpensRightly row.call row.opens
+opens_rightly history id row well is = (well row.begin (Begin id row.actor row.call row.opens) is.begins).1

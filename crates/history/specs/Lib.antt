@@ -6,5 +6,8 @@ pub mod Changes
 pub mod Histories
 pub mod Orders
 pub mod Tables
+pub mod Beginnings
+pub mod Faults
+pub mod Obstacles
 pub mod Replays
 pub mod Laws

@@ -1,13 +1,16 @@
 //! A table of a history's operations by their ids.
 
-ghost use Rattle.std.specs.Prelude.{◌≡◌, ◌↔◌, ◌<◌, List, [], length, None, IsTrue, IsSomeAnd, IfOk, IsOkUnless, MatchOption, slice_get};
+ghost use Rattle.std.specs.Prelude.{◌≡◌, ◌↔◌, ◌<◌, List, [], length, None, IsTrue, IsSomeAnd, IfOk, IsOkUnless, MatchResult, slice_get};
+ghost use Rattle.std.specs.Option.{option_copied};
 ghost use Rattle.history.specs.declared.replies.Reply.{Reply};
 ghost use Rattle.history.specs.declared.events.Event.{Event};
-ghost use Rattle.history.specs.Histories.{OpensRightly, IsWellFormed};
-ghost use Rattle.history.specs.Tables.{Records, Notes};
+ghost use Rattle.history.specs.Histories.{OpensRightly};
+ghost use Rattle.history.specs.Faults.{IsFirstWrong};
+ghost use Rattle.history.specs.Tables.{Records, Notes, recorded};
 
 use crate::calls::Call;
 use crate::events::Event;
+use crate::replies::Reply;
 use ctrie_base::Refusal;
 use std::alloc::Global;
 
@@ -40,18 +43,19 @@ pub struct Table {
 }
 
 impl Table {
-    /// The table of a history; none where the history isn't well formed.
-    pub fn of(alloc: Global, events: &[Event]) -> Result<Option<Table>, Refusal>
-        ensures found { IfOk result (λ found. MatchOption found (¬ IsWellFormed events.now) (λ table. Records events.now table)) }
+    /// The table of a history; or the place of the first event that may not come there.
+    pub fn of(alloc: Global, events: &[Event]) -> Result<Result<Table, usize>, Refusal>
+        ensures found { IfOk result
+            (λ found. MatchResult found (λ table. Records events.now table) (λ place. IsFirstWrong events.now place)) }
         ensures only_memory { IsOkUnless result Refusal.Memory }
     {
         let mut table = Table::new(alloc);
         for (place, event) in events.iter().enumerate() {
             if !table.note(place, event)? {
-                return Ok(None);
+                return Ok(Err(place));
             }
         }
-        Ok(Some(table))
+        Ok(Ok(table))
     }
 
     /// What the table says of the operation, if it has begun.
@@ -143,5 +147,15 @@ fn opens_rightly(call: &Call, opens: Option<u16>) -> bool
     match call {
         Call::Snapshot { .. } | Call::Freeze { .. } => opens.is_some(),
         _ => opens.is_none(),
+    }
+}
+
+/// The reply that the history has at this place, if there is a place.
+pub fn reply_at(events: &[Event], end: Option<usize>) -> Option<&Reply>
+    ensures { option_copied result ≡ recorded events.now end }
+{
+    match events.get(end?)? {
+        Event::End { reply, .. } => Some(reply),
+        Event::Begin { .. } => None,
     }
 }

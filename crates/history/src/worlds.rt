@@ -52,6 +52,14 @@ impl World {
         self.handles.get(&handle)
     }
 
+    /// Whether the map of a handle that is there may be changed.
+    pub fn access(&self, handle: u16) -> Option<Access>
+        ensures { result ≡ option_and_then (λ s. Some s.access) (map.get self.now handle) }
+    {
+        let state = self.find(handle)?;
+        Some(state.access())
+    }
+
     /// The map of a handle that is there and may be changed.
     fn writable(&self, handle: u16) -> Option<&Content>
         ensures { option_copied result ≡ writable_map_of self.now handle }

@@ -1,4 +1,5 @@
 pub mod Texts
+pub mod FaultTexts
 pub mod Words
 pub mod Names
 pub mod Lines

@@ -36,9 +36,9 @@ impl fmt::Display for EventText<'_> {
     }
 }
 
-// The handle that a snapshot or a freeze opens, behind the call.
+/// The handle that a call opens as the end of its text, as ` as 1`; nothing where it opens none.
 #[derive(Clone, Copy)]
-struct OpensText(Option<u16>);
+pub struct OpensText(pub Option<u16>);
 
 impl fmt::Display for OpensText {
     ghost output = { λ t. Some (behind_spaces (opens_words t.0)) };

@@ -4,6 +4,7 @@
 mod call_text;
 mod call_words;
 mod event_text;
+mod fault_text;
 mod fitting;
 mod lines;
 mod log;
@@ -15,7 +16,8 @@ mod words;
 
 pub use call_text::CallText;
 pub use call_words::{call_of, opens};
-pub use event_text::{EventText, OrderText};
+pub use event_text::{EventText, OpensText, OrderText};
+pub use fault_text::FaultText;
 pub use fitting::events_fit;
 pub use lines::header_of;
 pub use names::CallName;

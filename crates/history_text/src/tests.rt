@@ -1,5 +1,6 @@
 use super::*;
 use ctrie_base::{HashKind, Refusal};
+use history::first_fault;
 use std::alloc::Global;
 use std::test::Fail;
 
@@ -115,6 +116,54 @@ fn tells_the_first_fault(rt: HostRuntime) {
         let told = read_history(rt.alloc(), text).err();
         assert!(rt; told == Some(Told::Line(line, refusal)), "{told:?}");
     }
+}
+
+// The second report of README, with its order, and what is wrong with other orders.
+const LATE_PUT: &[u8] =
+    b"hash low\nbegin 0 1 put 0 1 10\nend 0 none\nbegin 1 1 put 0 33 330\nend 1 none\nbegin 2 1 put 0 65 650\nbegin 3 2 freeze 0 as 1\nend 3 handle 1\nend 2 none\nbegin 4 1 get 1 65\nend 4 some 650\nbegin 5 1 get 0 65\nend 5 some 650\nbegin 6 1 get 3 65\nend 6 none\nbegin 7 1 put 1 5 50\nend 7 no-slots\nbegin 8 1 put 1 5 50\nbegin 9 2 freeze 0 as 1\nbegin 10 3 count 0\norder\n";
+
+const WRONG: [(&[u64], &str); 10] = [
+    (&[0, 1, 2, 3, 4, 5, 1], "operation 1 stands twice"),
+    (&[0, 11], "operation 11 has not begun"),
+    (&[0, 7], "operation 7 was refused for want of slots"),
+    (&[0, 1, 2, 3, 4], "operation 5 was answered and is missing"),
+    (
+        &[0, 2, 1],
+        "operation 1 ended before operation 2 began, and stands behind it",
+    ),
+    (
+        &[0, 1, 3, 2, 4],
+        "operation 4, get 1 65, was answered some 650; the maps before it give none",
+    ),
+    (
+        &[0, 1, 2, 3, 4, 5, 6],
+        "operation 6 has no effect there: handle 3 isn't open",
+    ),
+    (
+        &[0, 1, 2, 3, 8],
+        "operation 8 has no effect there: handle 1 is read-only",
+    ),
+    (
+        &[0, 1, 2, 3, 9],
+        "operation 9 has no effect there: handle 1 is open already",
+    ),
+    (
+        &[0, 1, 2, 3, 10],
+        "operation 10 has no effect there: handle 0 isn't read-only",
+    ),
+];
+
+#[test]
+fn tells_why_an_order_is_not_legal(rt: HostRuntime) -> Result<(), Fail> {
+    let given = read_history(rt.alloc(), LATE_PUT)
+        .ok()
+        .ok_or("it has no fault")?;
+    for (order, words) in WRONG {
+        let fault = first_fault(rt.alloc(), &given.events, order, given.hash)?.ok_or(words)?;
+        let text = format!(in rt.alloc(); "{}", FaultText(&fault))?;
+        assert!(rt; text.as_str() == words, "{}", text);
+    }
+    Ok(())
 }
 
 #[test]

@@ -1,5 +1,6 @@
 use super::*;
 use crate::calls::Call;
+use crate::faults::Obstacle;
 use std::test::Fail;
 
 const PUT: Call = Call::Put {
@@ -112,6 +113,29 @@ fn a_freeze_during_a_put(rt: HostRuntime) -> Result<(), Fail> {
 }
 
 #[test]
+fn tells_the_first_fault(rt: HostRuntime) -> Result<(), Fail> {
+    let events = [
+        begin(0, 1, PUT),
+        end(0, Reply::Found(None)),
+        begin(1, 1, get(3, 1)),
+        end(1, Reply::Found(Some(10))),
+    ];
+    let late = first_fault(rt.alloc(), &events, &[0, 1, 1], HashKind::Low)?;
+    assert!(rt;
+        matches!(
+            late,
+            Some(OrderFault::NoEffect {
+                id: 1,
+                obstacle: Obstacle::NotOpen { handle: 3 }
+            })
+        )
+    );
+    let missing = first_fault(rt.alloc(), &events, &[], HashKind::Low)?;
+    assert!(rt; matches!(missing, Some(OrderFault::Missing { id: 0 })));
+    Ok(())
+}
+
+#[test]
 fn ill_formed_histories(rt: HostRuntime) -> Result<(), Fail> {
     let wrong_id = [begin(1, 1, GET)];
     assert!(rt; !judged(&rt, &wrong_id, &[])?);
@@ -131,6 +155,7 @@ fn ill_formed_histories(rt: HostRuntime) -> Result<(), Fail> {
 }
 
 #[test]
-fn the_law(_rt: HostRuntime) {
+fn the_laws(_rt: HostRuntime) {
     leads_to_one_world();
+    has_one_first_fault();
 }

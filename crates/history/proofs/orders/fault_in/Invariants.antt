@@ -1,7 +1,8 @@
 use Rattle.std.proofs.Common.{take}
 use Rattle.ctrie_base.specs.Hashes.{hash_of}
-use Rattle.history.specs.Replays.{Marks, LeadsTo}
-use Rattle.history.proofs.orders.replayed.Given as goal
+use Rattle.history.specs.Beginnings.{LeadsTo}
+use Rattle.history.specs.Replays.{Marks}
+use Rattle.history.proofs.orders.fault_in.Given as goal
 
 abbrev pub invariant-loop-id : goal.invariant-loop-id
 invariant-loop-id l =

@@ -2,7 +2,7 @@ use Rattle.std.proofs.Common.{◌≡◌, ◌<◌, ℕ, Some, false, slice_get}
 use Rattle.history.specs.declared.tables.Row.{Row}
 use Rattle.history.specs.Tables.{recorded}
 use Rattle.history.specs.Replays.{IsAnswer}
-use Rattle.history.proofs.orders.has_answered.Given as goal
+use Rattle.history.proofs.orders.first_missing.Given as goal
 
 abbrev pub invariant-loop-id : goal.invariant-loop-id
 invariant-loop-id l =

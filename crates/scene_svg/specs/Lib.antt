@@ -1,0 +1,5 @@
+pub mod Geometry
+pub mod Escapes
+pub mod Marks
+pub mod Bars
+pub mod Documents

@@ -1,0 +1,14 @@
+//! The text of a scene as an SVG 1.1 document.
+#![tactic(auto)]
+
+mod bars;
+mod document;
+mod escape;
+mod geometry;
+mod marks;
+mod style;
+
+pub use document::SceneSvg;
+
+#[cfg(test)]
+mod tests;

@@ -1,0 +1,51 @@
+//! The texts that are the same in each document: colours, and what they mean.
+
+/// How the shapes are painted, on a light and on a dark ground. The colours differ in lightness too, so that
+/// people who confuse red and green tell them apart.
+pub const STYLE: &str = "<style>
+svg{font-family:'DejaVu Sans Mono',Menlo,Consolas,monospace;font-size:11px}
+text{fill:#1b1f24}
+.ground{fill:#ffffff}
+.head{font-size:15px;font-weight:bold}
+.time{fill:#7d848d;font-size:9px;text-anchor:middle}
+.mark{stroke:#eceff2}
+.lane{stroke:#d5dae0}
+.actor,.number{font-weight:bold}
+.late{fill:#8a2f8f;font-style:italic}
+.order{fill:none;stroke:#59636e;stroke-width:1.3;stroke-linejoin:round}
+.plain path{fill:#d5e8f6;stroke:#0072b2}
+.copy path{fill:#fdf0b0;stroke:#a87f00}
+.refused path{fill:#e4e4e4;stroke:#8f8f8f}
+.refused text{fill:#5c5c5c}
+.wrong path{fill:#bd4b00;stroke:#5e2500;stroke-width:2.5}
+.wrong text{fill:#ffffff}
+.reason{fill:#a84300;font-weight:bold}
+g path{fill-opacity:.88}
+@media (prefers-color-scheme:dark){
+text{fill:#e8eaed}
+.ground{fill:#15181c}
+.time{fill:#8b939c}
+.mark{stroke:#23282e}
+.lane{stroke:#39414a}
+.late{fill:#e29ae6}
+.order{stroke:#aab3bd}
+.plain path{fill:#123a57;stroke:#56b4e9}
+.copy path{fill:#574808;stroke:#f0e442}
+.refused path{fill:#333639;stroke:#8f8f8f}
+.refused text{fill:#b4b4b4}
+.wrong path{fill:#d55e00;stroke:#ffc39b}
+.wrong text{fill:#ffffff}
+.reason{fill:#ff9d5c}
+}
+</style>
+";
+
+/// What colours and marks mean, as a list that begins at the origin.
+pub const LEGEND: &str =
+    "<g class=\"plain\"><path d=\"M0 0h26v12h-26z\"/></g><text x=\"36\" y=\"10\">an operation, from the event that begins it to the one that ends it; open at its right: it hasn't ended</text>
+<g class=\"copy\"><path d=\"M0 20h26v12h-26z\"/></g><text x=\"36\" y=\"30\">a snapshot or a freeze</text>
+<g class=\"refused\"><path d=\"M0 40h26v12h-26z\"/></g><text x=\"36\" y=\"50\">refused for want of slots</text>
+<g class=\"wrong\"><path d=\"M0 60h26v12h-26z\"/></g><text x=\"36\" y=\"70\">named by the reason why the order isn't legal</text>
+<path class=\"order\" d=\"M0 86h26\"/><text x=\"36\" y=\"90\">the order; the number at a bar's head is its place there</text>
+<text class=\"late\" y=\"110\">late</text><text x=\"36\" y=\"110\">stands before a snapshot, a freeze or a clear that was answered before it ended</text>
+";
