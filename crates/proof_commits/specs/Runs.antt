@@ -1,11 +1,8 @@
 -- Words for laws over the whole of a run.
-use Rattle.std.specs.Prelude.{◌≡◌, ℕ, true, List, length, take}
+use Rattle.std.specs.Prelude.{◌≡◌, true}
 use Rattle.proof_commits.specs.Beneath.slot_arena.specs.declared.refs.Ref.{Ref}
 use Rattle.proof_commits.specs.Beneath.slot_arena.specs.Heaps.{node_at}
-use Rattle.proof_commits.specs.Beneath.machine_model.specs.declared.steps.Limits.{Limits}
-use Rattle.proof_commits.specs.Beneath.machine_model.specs.declared.steps.Step.{Step}
 use Rattle.proof_commits.specs.Beneath.machine_model.specs.States.{State}
-use Rattle.proof_commits.specs.Beneath.machine_model.specs.Machine.{run, taken_steps}
 use Rattle.proof_memory.specs.Laws.{IsInUse}
 use Rattle.proof_memory.specs.Wants.{is_indirection}
 

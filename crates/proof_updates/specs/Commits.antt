@@ -1,17 +1,14 @@
 -- What is known of a node that its owner commits: what a repair was given, and at which depth a change is swapped in.
-use Rattle.std.specs.Prelude.{◌≡◌, ℕ, ◌<◌, ◌≤◌, List, Option, Some}
+use Rattle.std.specs.Prelude.{◌≡◌, ℕ, ◌<◌, ◌≤◌, List, Option}
 use Rattle.proof_updates.specs.Beneath.slot_arena.specs.declared.refs.Ref.{Ref}
 use Rattle.proof_updates.specs.Beneath.machine_model.specs.declared.lines.Purpose.{Purpose}
 use Rattle.proof_updates.specs.Beneath.machine_model.specs.declared.lines.Purpose.TheVariants as purpose
-use Rattle.proof_updates.specs.Beneath.machine_model.specs.declared.roots.Root.{Root}
 use Rattle.proof_updates.specs.Beneath.machine_model.specs.declared.steps.Limits.{Limits}
 use Rattle.proof_updates.specs.Beneath.machine_model.specs.declared.steps.Step.{Step}
 use Rattle.proof_updates.specs.Beneath.machine_model.specs.Paths.{depth_of}
-use Rattle.proof_updates.specs.Beneath.machine_model.specs.States.{State, root_at, root_of}
+use Rattle.proof_updates.specs.Beneath.machine_model.specs.States.{State}
 use Rattle.proof_updates.specs.Beneath.machine_model.specs.Grown.{node_under}
 use Rattle.proof_updates.specs.Beneath.proof_contents.specs.Lines.Repairs.{IsRepaired}
-use Rattle.proof_updates.specs.Beneath.proof_contents.specs.Runs.{root_of_generation}
-use Rattle.proof_updates.specs.Beneath.proof_generations.specs.Laws.Roots.{root_generation}
 use Rattle.proof_shape.specs.Lines.Commits.{OwnCommit, assigned_at}
 use Rattle.proof_updates.specs.Beneath.proof_generations.specs.Falling.{WasGiven}
 

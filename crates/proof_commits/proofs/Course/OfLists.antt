@@ -22,7 +22,7 @@ use Rattle.proof_commits.specs.Beneath.machine_model.specs.declared.steps.Step.{
 use Rattle.proof_commits.specs.Beneath.machine_model.specs.declared.steps.Step.TheVariants as step
 use Rattle.proof_commits.specs.Beneath.machine_model.specs.Calls.{handle_of}
 use Rattle.proof_commits.specs.Beneath.machine_model.specs.States.{State, operation_of, word_at, closed_at}
-use Rattle.proof_commits.specs.Beneath.machine_model.specs.Reading.{read_after, read_step, at_indirection}
+use Rattle.proof_commits.specs.Beneath.machine_model.specs.Reading.{read_after, at_indirection}
 use Rattle.proof_commits.specs.Beneath.machine_model.specs.Operations.{action_of}
 use Rattle.proof_commits.specs.Beneath.machine_model.specs.Orders.{read_at_after, moment_after}
 use Rattle.proof_commits.specs.Beneath.machine_model.specs.Acting.{gone}

@@ -1,30 +1,27 @@
 -- What the action of an operation finds and does in the heap that only grows: so what is known of a run.
-use Rattle.std.proofs.Common.{◌≡◌, ℕ, suc, ◌<◌, ◌≤◌, Bool, true, false, ◌==◌, List, Option, Some, None, option_map, refl, sym, ◌∙◌, ap, subst, arith}
+use Rattle.std.proofs.Common.{◌≡◌, ℕ, suc, ◌<◌, Bool, true, false, ◌==◌, List, Option, Some, None, option_map, refl, sym, ◌∙◌, ap, subst, arith}
 use Rattle.std.specs.Prelude.{is_some}
 use Rattle.std.proofs.lemmas.Bool.{true≢false}
 use Rattle.std.proofs.lemmas.Option.{none-some, same_Some}
-use Rattle.proof_commits.specs.Beneath.history.specs.declared.calls.Access.TheVariants.{Writable}
 use Rattle.proof_commits.specs.Beneath.slot_arena.specs.declared.refs.Ref.{Ref}
 use Rattle.proof_commits.specs.Beneath.slot_arena.specs.declared.nodes.Node.{Node}
 use Rattle.proof_commits.specs.Beneath.slot_arena.specs.declared.nodes.Node.TheVariants.{Indirection}
 use Rattle.proof_commits.specs.Beneath.slot_arena.specs.declared.nodes.Prev.{Prev}
 use Rattle.proof_commits.specs.Beneath.slot_arena.specs.declared.nodes.Prev.TheVariants as over
 use Rattle.proof_commits.specs.Beneath.slot_arena.specs.declared.nodes.Slot.{Slot}
-use Rattle.proof_commits.specs.Beneath.slot_arena.specs.Heaps.{Heap, node_of, main_of, main_at, generation_at, generation_of, main_changed, prev_changed, with_main, with_prev, taken, next_ref}
+use Rattle.proof_commits.specs.Beneath.slot_arena.specs.Heaps.{Heap, node_of, main_of, main_at, generation_of, main_changed, prev_changed, with_main, with_prev, taken, next_ref}
 use Rattle.proof_commits.specs.Beneath.epochs.specs.Sweeping.{Reclaimer, ripe, sweep_by}
 use Rattle.proof_commits.specs.Beneath.machine_model.specs.declared.actions.Action.{Action}
 use Rattle.proof_commits.specs.Beneath.machine_model.specs.declared.actions.Action.TheVariants as act
 use Rattle.proof_commits.specs.Beneath.machine_model.specs.declared.operations.Operation.{Operation}
-use Rattle.proof_commits.specs.Beneath.machine_model.specs.declared.reading.ReadLine.TheVariants as read
-use Rattle.proof_commits.specs.Beneath.machine_model.specs.declared.roots.RootWord.TheVariants.{Plain}
 use Rattle.proof_commits.specs.Beneath.machine_model.specs.declared.steps.Limits.{Limits}
 use Rattle.proof_commits.specs.Beneath.machine_model.specs.declared.steps.Outcome.{Outcome}
 use Rattle.proof_commits.specs.Beneath.machine_model.specs.declared.steps.Step.{Step}
 use Rattle.proof_commits.specs.Beneath.machine_model.specs.declared.steps.Step.TheVariants as step
 use Rattle.proof_commits.specs.Beneath.machine_model.specs.Calls.{handle_of}
-use Rattle.proof_commits.specs.Beneath.machine_model.specs.States.{State, word_at, operation_of, closed_at}
+use Rattle.proof_commits.specs.Beneath.machine_model.specs.States.{State, operation_of}
 use Rattle.proof_commits.specs.Beneath.machine_model.specs.Reading.{Verdict, Commits, Fails, Overtaken, verdict}
-use Rattle.proof_commits.specs.Beneath.machine_model.specs.Operations.{action_of, read_of}
+use Rattle.proof_commits.specs.Beneath.machine_model.specs.Operations.{action_of}
 use Rattle.proof_commits.specs.Beneath.machine_model.specs.Acting.{acted, decided, new_root_taken, if_changed}
 use Rattle.proof_commits.specs.Beneath.machine_model.specs.Machine.{reclaimer_of}
 use Rattle.proof_commits.specs.Beneath.machine_model.specs.Moves.{Begins, Goes, Ends, Sweeps}

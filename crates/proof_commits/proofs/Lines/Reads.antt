@@ -12,7 +12,6 @@ use Rattle.proof_commits.specs.Beneath.machine_model.specs.declared.reading.Swap
 use Rattle.proof_commits.specs.Beneath.machine_model.specs.declared.roots.Descriptor.{Descriptor}
 use Rattle.proof_commits.specs.Beneath.machine_model.specs.declared.roots.CompleteLine.{CompleteLine}
 use Rattle.proof_commits.specs.Beneath.machine_model.specs.declared.roots.CompleteLine.TheVariants as complete
-use Rattle.proof_commits.specs.Beneath.machine_model.specs.declared.roots.RootLine.{RootLine}
 use Rattle.proof_commits.specs.Beneath.machine_model.specs.declared.roots.RootLine.TheVariants as root
 use Rattle.proof_commits.specs.Beneath.machine_model.specs.declared.finding.KeyLine.{KeyLine}
 use Rattle.proof_commits.specs.Beneath.machine_model.specs.declared.finding.KeyLine.TheVariants as key
@@ -34,7 +33,6 @@ use Rattle.proof_commits.specs.Beneath.machine_model.specs.declared.lines.Line.{
 use Rattle.proof_commits.specs.Beneath.machine_model.specs.declared.lines.Line.TheVariants as line
 use Rattle.proof_commits.specs.Beneath.machine_model.specs.States.{State}
 use Rattle.proof_commits.specs.Beneath.machine_model.specs.Reading.{read_action}
-use Rattle.proof_commits.specs.Beneath.machine_model.specs.Swapping.{action_at}
 use Rattle.proof_commits.specs.Beneath.machine_model.specs.Operations.{line_action, read_of}
 use Rattle.proof_commits.specs.Beneath.machine_model.specs.Orders.{counted_from}
 use Rattle.proof_commits.specs.Protocol.{Stage, Rests, Reads, counts_at}

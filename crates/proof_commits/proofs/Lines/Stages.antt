@@ -1,5 +1,5 @@
 -- What an operation on a line is about with main words, and what the line remembers.
-use Rattle.std.proofs.Common.{◌≡◌, ℕ, Option, Some, None, List, arith, refl}
+use Rattle.std.proofs.Common.{◌≡◌, ℕ, List, arith, refl}
 use Rattle.proof_commits.specs.Beneath.slot_arena.specs.declared.refs.Ref.{Ref}
 use Rattle.proof_commits.specs.Beneath.machine_model.specs.declared.operations.Operation.{Operation}
 use Rattle.proof_commits.specs.Beneath.machine_model.specs.declared.reading.ReadLine.{ReadLine}
@@ -28,9 +28,8 @@ use Rattle.proof_commits.specs.Beneath.machine_model.specs.declared.walking.Walk
 use Rattle.proof_commits.specs.Beneath.machine_model.specs.declared.lines.Line.{Line}
 use Rattle.proof_commits.specs.Beneath.machine_model.specs.declared.lines.Line.TheVariants as line
 use Rattle.proof_commits.specs.Beneath.machine_model.specs.Paths.{current, above}
-use Rattle.proof_commits.specs.Protocol.{Stage, Rests, Reads, Holds, Publishes, Decides, Checks, after_read}
-use Rattle.proof_commits.specs.Stages.{stage_of_complete, stage_of_root, stage_of_swap, stage_of_key, stage_of_build, stage_of_renew, stage_of_clean, stage_of_climb, stage_of_copy}
-use Rattle.proof_commits.specs.Stages.{stage_of_walk, stage_of, stage_of_actor, from_of_actor}
+use Rattle.proof_commits.specs.Protocol.{Rests, after_read}
+use Rattle.proof_commits.specs.Stages.{stage_of}
 use Rattle.proof_commits.specs.Beneath.machine_model.specs.declared.reading.After.{After}
 use Rattle.proof_commits.specs.Beneath.machine_model.specs.Finding.{key_after_read}
 use Rattle.proof_commits.specs.Beneath.machine_model.specs.Renewing.{renew_after_read}

@@ -2,7 +2,6 @@
 use Rattle.std.proofs.Common.{◌≡◌, ℕ, suc, ◌-◌, ◌<◌, ◌≤◌, Bool, true, false, ◌==◌, List, [], ◌++◌, Option, Some, None, inl, inr, refl, sym, ◌∙◌, ap, subst, eqb-true, arith}
 use Rattle.std.proofs.lemmas.Bool.{true≢false}
 use Rattle.proof_commits.specs.Beneath.history.specs.declared.calls.Access.TheVariants.{Writable}
-use Rattle.proof_commits.specs.Beneath.history.specs.declared.calls.Call.{Call}
 use Rattle.proof_commits.specs.Beneath.slot_arena.specs.declared.refs.Ref.{Ref}
 use Rattle.proof_commits.specs.Beneath.slot_arena.specs.declared.nodes.Node.{Node}
 use Rattle.proof_commits.specs.Beneath.slot_arena.specs.declared.nodes.Prev.{Prev}
@@ -42,7 +41,7 @@ use Rattle.proof_commits.specs.Beneath.machine_model.specs.Finding.{found}
 use Rattle.proof_commits.specs.Beneath.machine_model.specs.Building.{after_single, after_link, build_if_made}
 use Rattle.proof_commits.specs.Beneath.machine_model.specs.Cleaning.{clean_after_contracted}
 use Rattle.proof_commits.specs.Beneath.machine_model.specs.Climbing.{climb_after_contracted, climb_after_root}
-use Rattle.proof_commits.specs.Beneath.machine_model.specs.Copying.{after_given, copy_if_made}
+use Rattle.proof_commits.specs.Beneath.machine_model.specs.Copying.{copy_if_made}
 use Rattle.proof_commits.specs.Beneath.machine_model.specs.Walking.{first_of, rest_of}
 use Rattle.proof_commits.specs.Beneath.machine_model.specs.Operations.{after_root}
 use Rattle.proof_commits.specs.Beneath.slot_arena.specs.Heaps.{main_at, prev_at, generation_at, node_of, main_of, next_ref}

@@ -10,7 +10,7 @@ use Rattle.proof_commits.specs.Beneath.machine_model.specs.declared.steps.Limits
 use Rattle.proof_commits.specs.Beneath.machine_model.specs.declared.steps.Step.TheVariants as step
 use Rattle.proof_commits.specs.Beneath.machine_model.specs.States.{State, operation_of, word_at}
 use Rattle.proof_commits.specs.Beneath.machine_model.specs.Reading.{read_after}
-use Rattle.proof_commits.specs.Beneath.machine_model.specs.Operations.{first_line, line_after, action_of}
+use Rattle.proof_commits.specs.Beneath.machine_model.specs.Operations.{line_after, action_of}
 use Rattle.proof_commits.specs.Beneath.machine_model.specs.Orders.{counted_from}
 use Rattle.proof_commits.specs.Beneath.machine_model.specs.Acting.{gone, operation_after}
 use Rattle.proof_commits.specs.Beneath.machine_model.specs.Counting.{settled}

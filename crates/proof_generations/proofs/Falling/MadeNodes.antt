@@ -1,8 +1,8 @@
 -- The nodes that builders make: none is an indirection, and their entries are those that they were given.
-use Rattle.std.proofs.Common.{◌≡◌, ℕ, ◌==◌, nat_lt, Bool, true, false, List, ◌∷◌, []}
+use Rattle.std.proofs.Common.{◌≡◌, ℕ, ◌==◌, Bool, true, false, List, ◌∷◌, []}
 use Rattle.std.specs.List.{All}
 use Rattle.std.proofs.lemmas.Bool.{cond_both, false≢true}
-use Rattle.std.proofs.lemmas.List.Elements.{All-append, All-take, All-set, All-cons}
+use Rattle.std.proofs.lemmas.List.Elements.{All-append, All-take, All-set}
 use Rattle.proof_generations.specs.Beneath.ctrie_base.specs.declared.hashes.HashKind.{HashKind}
 use Rattle.proof_generations.specs.Beneath.slot_arena.specs.declared.refs.Ref.{Ref}
 use Rattle.proof_generations.specs.Beneath.slot_arena.specs.declared.nodes.Node.{Node}

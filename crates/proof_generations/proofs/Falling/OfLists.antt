@@ -7,12 +7,11 @@ use Rattle.proof_generations.specs.Beneath.history.specs.declared.calls.Access.T
 use Rattle.proof_generations.specs.Beneath.machine_model.specs.declared.lines.Purpose.{Purpose}
 use Rattle.proof_generations.specs.Beneath.machine_model.specs.declared.operations.Operation.{Operation}
 use Rattle.proof_generations.specs.Beneath.machine_model.specs.declared.reading.Swap.{Swap}
-use Rattle.proof_generations.specs.Beneath.machine_model.specs.States.{root_at, operation_of, closed_at}
+use Rattle.proof_generations.specs.Beneath.machine_model.specs.States.{operation_of, closed_at}
 use Rattle.proof_generations.specs.Beneath.proof_memory.specs.Wants.{AnEntry, ASingle, line_wants, is_indirection}
 use Rattle.proof_generations.specs.Beneath.proof_memory.proofs.Safety.AtTimes.{line_finds, node_found, main_found}
 use Rattle.proof_generations.specs.Beneath.proof_memory.proofs.Claims.Uses.{Meets}
 use Rattle.proof_commits.proofs.Words.Stood.{Stood, stands_now}
-use Rattle.proof_generations.specs.Laws.Roots.{root_generation}
 use Rattle.proof_generations.specs.Falling.{WasOpened, MayStandBelow, IsIndirectionOf}
 use Rattle.proof_generations.specs.Laws.Falling.{SwapsAreOwn}
 use Rattle.proof_generations.proofs.Lines.Knows.{one_of}

@@ -14,7 +14,6 @@ use Rattle.proof_generations.specs.Beneath.machine_model.proofs.Times.{run_is, r
 use Rattle.proof_generations.specs.Beneath.machine_model.specs.Times.{IsRun, states_of, last_of}
 use Rattle.proof_commits.specs.Laws.{IsNoSwap}
 use Rattle.proof_commits.specs.Runs.{HasIndirection}
-use Rattle.proof_generations.specs.Beneath.proof_memory.specs.Laws.{IsInUse}
 use Rattle.proof_commits.proofs.Course.OfLists.{law_given_for_good}
 use Rattle.proof_commits.proofs.Lines.Swap.{reads_stage}
 use Rattle.proof_generations.specs.Falling.{ReadsClosed}

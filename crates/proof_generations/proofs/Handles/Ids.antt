@@ -1,8 +1,7 @@
 -- Ids: each is given once, in the order of begins, so no two running operations have one id.
-use Rattle.std.proofs.Common.{◌≡◌, ℕ, suc, ◌+◌, ◌<◌, ◌≤◌, [], ◌∷◌, ◌++◌, refl, sym, ap, ◌∙◌, subst, arith}
-use Rattle.std.proofs.lemmas.Bool.{cond_both}
+use Rattle.std.proofs.Common.{◌≡◌, ℕ, suc, ◌+◌, ◌<◌, ◌≤◌, refl, sym, ap, ◌∙◌, subst, arith}
 use Rattle.proof_generations.specs.Beneath.history.specs.declared.calls.Call.{Call}
-use Rattle.proof_generations.specs.Beneath.history.specs.declared.events.Event.TheVariants.{Begin, End}
+use Rattle.proof_generations.specs.Beneath.history.specs.declared.events.Event.TheVariants.{End}
 use Rattle.proof_generations.specs.Beneath.history.specs.Histories.{begun}
 use Rattle.proof_generations.specs.Beneath.history.proofs.Begins.{begun_push, begun_same}
 use Rattle.proof_generations.specs.Beneath.machine_model.specs.declared.operations.Operation.{Operation}
@@ -10,7 +9,7 @@ use Rattle.proof_generations.specs.Beneath.machine_model.specs.declared.steps.Li
 use Rattle.proof_generations.specs.Beneath.machine_model.specs.declared.steps.Outcome.{Outcome}
 use Rattle.proof_generations.specs.Beneath.machine_model.specs.declared.steps.Step.{Step}
 use Rattle.proof_generations.specs.Beneath.machine_model.specs.declared.steps.Step.TheVariants as step
-use Rattle.proof_generations.specs.Beneath.machine_model.specs.Calls.{handle_of, is_close}
+use Rattle.proof_generations.specs.Beneath.machine_model.specs.Calls.{handle_of}
 use Rattle.proof_generations.specs.Beneath.machine_model.specs.States.{State, first_state}
 use Rattle.proof_generations.specs.Beneath.machine_model.specs.Operations.{action_of}
 use Rattle.proof_generations.specs.Beneath.machine_model.specs.Acting.{operation_after, gone}

@@ -1,5 +1,5 @@
 -- Which operations run after a step, by those that ran before it.
-use Rattle.std.proofs.Common.{◌≡◌, ℕ, zero, suc, ◌-◌, ◌<◌, ◌⊎◌, inl, inr, List, set, get_or, Option, Some, None, refl, sym, ap, ◌∙◌, subst, arith, length}
+use Rattle.std.proofs.Common.{◌≡◌, ℕ, zero, suc, ◌-◌, ◌⊎◌, inl, inr, List, set, get_or, Option, Some, None, refl, sym, ap, ◌∙◌, subst, arith, length}
 use native.Mathlib.Decide.{ℕ_discrete}
 use Rattle.std.proofs.Math.ListN.{get_or-map}
 use Rattle.std.proofs.lemmas.List.{get_or-set_same, length-map}
@@ -15,7 +15,7 @@ use Rattle.proof_generations.specs.Beneath.machine_model.specs.Calls.{handle_of}
 use Rattle.proof_generations.specs.Beneath.machine_model.specs.States.{State, operation_of}
 use Rattle.proof_generations.specs.Beneath.machine_model.specs.Operations.{action_of}
 use Rattle.proof_generations.specs.Beneath.machine_model.specs.Acting.{operation_after, marked}
-use Rattle.proof_generations.specs.Beneath.machine_model.specs.Machine.{begin_denial, go_denial}
+use Rattle.proof_generations.specs.Beneath.machine_model.specs.Machine.{begin_denial}
 use Rattle.proof_generations.specs.Beneath.machine_model.specs.Moves.{Begins, Goes, Ends, Sweeps}
 use Rattle.proof_generations.specs.Beneath.machine_model.specs.Moves.{Moves, GoesOn, begun_operation}
 use Rattle.proof_generations.specs.Beneath.machine_model.proofs.Found.{found_within, found_elsewhere}

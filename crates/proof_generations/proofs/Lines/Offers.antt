@@ -1,10 +1,10 @@
 -- Which offers a line is to settle, and where it has them from.
-use Rattle.std.proofs.Common.{◌≡◌, ℕ, ◌+◌, ◌-◌, ◌==◌, ◌&&◌, ◌||◌, nat_lt, nat_le, cond, length, ◌⊎◌, inl, inr, Bool, true, false, List, Option, Some, None, refl, sym, ap, ◌∙◌, arith}
-use Rattle.std.proofs.lemmas.Option.{none-some, same_Some}
+use Rattle.std.proofs.Common.{◌≡◌, ℕ, ◌+◌, ◌-◌, ◌==◌, ◌&&◌, nat_lt, nat_le, cond, length, ◌⊎◌, Bool, true, false, List, Option, Some, None, refl, sym, ◌∙◌, arith}
+use Rattle.std.proofs.lemmas.Option.{none-some}
 use Rattle.proof_generations.specs.Beneath.history.specs.declared.calls.Access.{Access}
 use Rattle.proof_generations.specs.Beneath.history.specs.declared.calls.Access.TheVariants.{Writable, ReadOnly}
 use Rattle.proof_generations.specs.Beneath.slot_arena.specs.declared.refs.Ref.{Ref}
-use Rattle.proof_generations.specs.Beneath.slot_arena.specs.Heaps.{Heap, generation_at, node_at, entry_at, entries_of}
+use Rattle.proof_generations.specs.Beneath.slot_arena.specs.Heaps.{Heap, node_at, entry_at, entries_of}
 use Rattle.proof_generations.specs.Beneath.machine_model.specs.declared.operations.Operation.{Operation}
 use Rattle.proof_generations.specs.Beneath.machine_model.specs.declared.roots.RootWord.{RootWord}
 use Rattle.proof_generations.specs.Beneath.machine_model.specs.declared.roots.RootWord.TheVariants.{Offer}
@@ -29,8 +29,8 @@ use Rattle.proof_generations.specs.Beneath.slot_arena.specs.declared.nodes.Node.
 use Rattle.proof_generations.specs.Beneath.slot_arena.specs.declared.nodes.Node.TheVariants.{Single, Branch, Tomb}
 use Rattle.proof_generations.specs.Beneath.nodes.specs.Levels.{has_flag}
 use Rattle.proof_generations.specs.Beneath.ctrie_base.specs.Paths.{position_of}
-use Rattle.proof_generations.specs.Beneath.machine_model.specs.Paths.{current, above, is_below_root, flag_in, is_start}
-use Rattle.proof_generations.specs.Beneath.machine_model.specs.Lines.{impossible, new_try}
+use Rattle.proof_generations.specs.Beneath.machine_model.specs.Paths.{current, above, is_below_root, flag_in}
+use Rattle.proof_generations.specs.Beneath.machine_model.specs.Lines.{impossible}
 use Rattle.proof_generations.specs.Beneath.machine_model.specs.Finding.{key_after_read, key_after_entry, after_listed, after_sibling, after_tomb, absent, key_after_main, found}
 use Rattle.proof_generations.specs.Beneath.machine_model.specs.Finding.{found_so, absent_beside, absent_listed}
 use Rattle.proof_generations.specs.Beneath.machine_model.specs.declared.building.BuildLine.{BuildLine}
@@ -47,12 +47,7 @@ use Rattle.proof_generations.specs.Beneath.machine_model.specs.declared.lines.Li
 use Rattle.proof_generations.specs.Beneath.machine_model.specs.Calls.{handle_of, when_found, inserts, absent_reply, key_of}
 use Rattle.proof_generations.specs.Beneath.machine_model.specs.States.{State, word_at}
 use Rattle.proof_generations.specs.Beneath.machine_model.specs.Reading.{read_after, read_step, reading}
-use Rattle.proof_generations.specs.Beneath.machine_model.specs.Operations.{line_action, line_after, read_of, after_root, from_root}
-use Rattle.proof_generations.specs.Beneath.machine_model.specs.Swapping.{is_plain, completing, complete_after, after_root_word, after_completing, root_after}
-use Rattle.proof_generations.specs.Beneath.machine_model.specs.Copying.{copied_reply, after_offer, copy_after_complete}
-use Rattle.proof_generations.specs.Beneath.machine_model.specs.Climbing.{climbed, climbing, climb_after_root}
-use Rattle.proof_generations.specs.Beneath.machine_model.specs.declared.repairs.Climb.{Climb}
-use Rattle.proof_generations.specs.Beneath.history.specs.declared.calls.Call.{Call}
+use Rattle.proof_generations.specs.Beneath.machine_model.specs.Operations.{line_action, line_after, read_of}
 use Rattle.proof_generations.specs.Laws.Roots.{settles}
 
 -- ---- what a line is to settle

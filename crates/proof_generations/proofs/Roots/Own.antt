@@ -27,7 +27,6 @@ use Rattle.proof_generations.specs.Beneath.machine_model.specs.Acting.{opened_ro
 use Rattle.proof_generations.specs.Beneath.machine_model.specs.Moves.{Begins, Goes, Ends, Sweeps}
 use Rattle.proof_generations.specs.Beneath.machine_model.specs.Moves.{Moves}
 use Rattle.proof_generations.specs.Beneath.machine_model.proofs.Actors.{marks_in, marks_by, marks_of}
-use Rattle.proof_generations.specs.Beneath.proof_memory.proofs.Safety.Guards.{Safe}
 use Rattle.proof_generations.specs.Beneath.proof_memory.specs.Making.{made_node}
 use Rattle.proof_generations.specs.Beneath.proof_memory.proofs.Safety.States.{IsSafe}
 use Rattle.proof_generations.specs.Beneath.proof_memory.proofs.Safety.Steps.{made_fresh}
@@ -40,7 +39,7 @@ use Rattle.proof_generations.proofs.Handles.Footings.{CarriesOut, RootFrom, stoo
 use Rattle.proof_generations.proofs.Offers.Marks.{carried_stands}
 use Rattle.proof_generations.proofs.Handles.Operations.{HasHandles, Ran, ran_or_began}
 use Rattle.proof_generations.proofs.Counter.Below.{IsBelow, looked_up_below, closed_below}
-use Rattle.proof_generations.proofs.Roots.Kept.{root_kept, safe_kept, fresh_in, fresh_of, fresh_safe, fresh_from, FreshFrom, had, new, makes_first, fresh_kept}
+use Rattle.proof_generations.proofs.Roots.Kept.{root_kept, fresh_in, fresh_of, fresh_from, FreshFrom, had, new, makes_first, fresh_kept}
 use Rattle.proof_generations.proofs.Offers.Swaps.{StepKind, quiet, swaps, step_kind, Kept, closing_of, closed_in, closed_kept, closed_other, closed_last}
 use Rattle.proof_generations.specs.Beneath.machine_model.proofs.Basics.{both_kinds}
 

@@ -7,14 +7,12 @@ use Rattle.proof_generations.specs.Beneath.machine_model.specs.declared.lines.Li
 use Rattle.proof_generations.specs.Beneath.machine_model.specs.declared.lines.Purpose.{Purpose}
 use Rattle.proof_generations.specs.Beneath.machine_model.specs.declared.operations.Operation.{Operation}
 use Rattle.proof_generations.specs.Beneath.machine_model.specs.declared.reading.Swap.{Swap}
-use Rattle.proof_generations.specs.Beneath.machine_model.specs.declared.roots.Root.{Root}
 use Rattle.proof_generations.specs.Beneath.machine_model.specs.declared.steps.Limits.{Limits}
 use Rattle.proof_generations.specs.Beneath.machine_model.specs.declared.steps.Step.{Step}
-use Rattle.proof_generations.specs.Beneath.machine_model.specs.States.{State, root_at, operation_of, closed_at}
+use Rattle.proof_generations.specs.Beneath.machine_model.specs.States.{State, operation_of, closed_at}
 use Rattle.proof_generations.specs.Beneath.machine_model.specs.Machine.{AreLimits, run}
 use Rattle.proof_commits.specs.Runs.{HasIndirection}
 use Rattle.proof_commits.specs.Laws.{IsGiven, after_given}
-use Rattle.proof_generations.specs.Laws.Roots.{root_generation}
 use Rattle.proof_generations.specs.Falling.{ReadsClosed, WasOpened}
 use Rattle.proof_generations.specs.Beneath.proof_memory.specs.Wants.{is_indirection}
 use Rattle.proof_generations.specs.Beneath.machine_model.specs.Times.{states_of, last_of}

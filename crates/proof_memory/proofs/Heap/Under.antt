@@ -1,22 +1,22 @@
 -- What stands under each reference after a write, a taking and a freeing: only what is written, taken or freed changes.
-use Rattle.std.proofs.Common.{◌≡◌, ℕ, ◌+◌, ◌^◌, ◌<◌, ◌≤◌, ◌==◌, false, is_some, List, [], ◌∷◌, length, map, get_or, set, Option, Some, None, option_map, refl, sym, ap, ◌∙◌, subst}
-use Rattle.std.proofs.Common.{◌⊎◌, inl, inr, eqb-true, eq-eqb, ne_eqb, arith}
+use Rattle.std.proofs.Common.{◌≡◌, ℕ, ◌+◌, ◌^◌, ◌<◌, ◌≤◌, false, is_some, List, [], ◌∷◌, length, map, get_or, set, Option, Some, None, option_map, refl, sym, ap, ◌∙◌, subst}
+use Rattle.std.proofs.Common.{◌⊎◌, inl, inr, eq-eqb, ne_eqb, arith}
 use Rattle.std.proofs.lemmas.Bool.{cases_eq, false≢true}
 use Rattle.std.proofs.lemmas.List.{get_or-set_same, get_or-set_other, get_or-map, length-map}
-use Rattle.std.proofs.lemmas.Option.{none-some, same_Some, cond_some}
+use Rattle.std.proofs.lemmas.Option.{none-some, same_Some}
 use Rattle.proof_memory.specs.Beneath.slot_arena.specs.Refs.{ref_to, slot_of, birth_of}
 use Rattle.proof_memory.specs.Beneath.slot_arena.specs.declared.refs.Ref.{Ref}
 use Rattle.proof_memory.specs.Beneath.slot_arena.specs.declared.nodes.Node.{Node}
 use Rattle.proof_memory.specs.Beneath.slot_arena.specs.declared.nodes.Prev.{Prev}
 use Rattle.proof_memory.specs.Beneath.slot_arena.specs.declared.nodes.Prev.TheVariants as prev
 use Rattle.proof_memory.specs.Beneath.slot_arena.specs.declared.nodes.Slot.{Slot}
-use Rattle.proof_memory.specs.Beneath.slot_arena.specs.Heaps.{Heap, stored, node_at, node_of, prev_at, prev_of, written, with_main, with_prev, main_changed, prev_changed, taken}
+use Rattle.proof_memory.specs.Beneath.slot_arena.specs.Heaps.{Heap, stored, written, with_main, with_prev, main_changed, prev_changed, taken}
 use Rattle.proof_memory.specs.Beneath.slot_arena.specs.Heaps.{take_from, freed, next_ref, ref_in}
 use Rattle.machine_model.proofs.Found.{found_within, found_here}
 use Rattle.machine_model.proofs.Rest.{first_free}
 use Rattle.machine_model.proofs.Slots.{AddsUp}
 use Rattle.machine_model.specs.Grown.{of_birth, standing}
-use Rattle.machine_model.proofs.Grown.{birth_parts, standing_parts}
+use Rattle.machine_model.proofs.Grown.{standing_parts}
 
 -- a reference is its birth and its slot
 pub same_ref : (r q : Ref) → slot_of r ≡ slot_of q → birth_of r ≡ birth_of q → r ≡ q

@@ -1,5 +1,5 @@
 -- At rest, with limbo empty, the slots in use are exactly the reachable ones: on the way up levels fall, and on one level from main nodes to their indirection.
-use Rattle.std.proofs.Common.{◌≡◌, ℕ, zero, suc, ◌+◌, ◌-◌, ◌*◌, ◌^◌, ◌<◌, ◌≤◌, ◌==◌, Bool, true, false, [], ◌∷◌, Contains, refl, sym, ap, ◌∙◌, subst, inl, inr, ne_eqb, arith}
+use Rattle.std.proofs.Common.{◌≡◌, ℕ, ◌+◌, ◌-◌, ◌*◌, ◌^◌, ◌<◌, ◌≤◌, ◌==◌, Bool, true, false, [], Contains, refl, sym, ap, ◌∙◌, subst, inl, inr, ne_eqb, arith}
 use Rattle.std.proofs.lemmas.Bool.{false≢true, eqb-false}
 use Rattle.std.proofs.lemmas.List.Elements.{All-contains, Contains-append_cases}
 use Rattle.proof_memory.specs.Beneath.slot_arena.specs.Refs.{birth_of}
@@ -12,7 +12,7 @@ use Rattle.proof_memory.specs.Beneath.slot_arena.specs.Heaps.{node_at, refs_of_n
 use Rattle.machine_model.specs.States.{State}
 use Rattle.machine_model.specs.Contents.{IsReached}
 use Rattle.machine_model.specs.Machine.{is_busy}
-use Rattle.proof_memory.specs.Wants.{AMain, ASingle, is_indirection, is_main_node, meets, Is, Holds, AllHold, node_wants, prev_wants}
+use Rattle.proof_memory.specs.Wants.{AMain, ASingle, is_indirection, is_main_node, Is, Holds, AllHold, node_wants, prev_wants}
 use Rattle.proof_memory.specs.Laws.{IsInUse}
 use Rattle.proof_memory.proofs.Claims.Uses.{Meets, safe_of, meets_of, all_of, from_meets, first_hold, last_hold}
 use Rattle.proof_memory.proofs.Safety.States.{IsSafe}

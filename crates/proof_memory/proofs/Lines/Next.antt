@@ -7,14 +7,13 @@ use Rattle.proof_memory.specs.Beneath.history.specs.declared.calls.Call.{Call}
 use Rattle.proof_memory.specs.Beneath.history.specs.declared.calls.Call.TheVariants.{Snapshot}
 use Rattle.proof_memory.specs.Beneath.slot_arena.specs.declared.refs.Ref.{Ref}
 use Rattle.proof_memory.specs.Beneath.slot_arena.specs.declared.nodes.Node.{Node}
-use Rattle.proof_memory.specs.Beneath.slot_arena.specs.declared.nodes.Node.TheVariants.{Indirection, Branch, List as Listed}
+use Rattle.proof_memory.specs.Beneath.slot_arena.specs.declared.nodes.Node.TheVariants.{Branch, List as Listed}
 use Rattle.proof_memory.specs.Beneath.slot_arena.specs.Heaps.{Heap, node_at, entry_at, entries_of, next_ref}
 use Rattle.proof_memory.specs.Beneath.nodes.specs.Levels.{list_depth}
 use Rattle.proof_memory.specs.Beneath.nodes.specs.Builders.{pair, contracted}
 use Rattle.proof_memory.specs.Beneath.ctrie_base.specs.declared.hashes.HashKind.{HashKind}
 use Rattle.machine_model.specs.declared.operations.Operation.{Operation}
 use Rattle.machine_model.specs.declared.actions.Action.{Action}
-use Rattle.machine_model.specs.declared.actions.Action.TheVariants as act
 use Rattle.machine_model.specs.declared.building.BuildLine.{BuildLine}
 use Rattle.machine_model.specs.declared.building.BuildLine.TheVariants as build
 use Rattle.machine_model.specs.declared.building.Change.{Change}

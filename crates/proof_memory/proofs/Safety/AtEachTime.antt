@@ -1,11 +1,10 @@
 -- Memory is safe at each time of a run. The layers above cite `safe_at`, with the parts of IsSafe and its `heaped`, `open_word` and `step_claims`.
-use Rattle.std.proofs.Common.{◌≡◌, ℕ, ◌≤◌, List, refl, ◌∙◌}
+use Rattle.std.proofs.Common.{ℕ, ◌≤◌, List}
 use Rattle.machine_model.specs.declared.steps.Limits.{Limits}
 use Rattle.machine_model.specs.declared.steps.Step.{Step}
-use Rattle.machine_model.specs.States.{State, first_state}
+use Rattle.machine_model.specs.States.{State}
 use Rattle.machine_model.specs.Machine.{AreLimits, run, next_state}
 use Rattle.machine_model.proofs.Along.{along, kept_by_moves}
-use Rattle.machine_model.proofs.Frames.{limits_kept}
 use Rattle.machine_model.proofs.Times.{at_each_time}
 use Rattle.machine_model.specs.Times.{IsRun}
 use Rattle.proof_memory.proofs.Safety.States.{IsSafe}

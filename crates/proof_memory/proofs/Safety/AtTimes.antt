@@ -3,7 +3,7 @@
 use Rattle.std.proofs.Common.{◌≡◌, ℕ, ◌≤◌, true, Some, refl, sym, ap, ◌∙◌, subst}
 use Rattle.proof_memory.specs.Beneath.slot_arena.specs.declared.refs.Ref.{Ref}
 use Rattle.proof_memory.specs.Beneath.slot_arena.specs.declared.nodes.Slot.{Slot}
-use Rattle.proof_memory.specs.Beneath.slot_arena.specs.Heaps.{node_at, main_at, prev_at, main_of, node_of, prev_of, generation_at, generation_of}
+use Rattle.proof_memory.specs.Beneath.slot_arena.specs.Heaps.{node_at, main_at, prev_at, main_of, generation_at, generation_of}
 use Rattle.machine_model.specs.declared.operations.Operation.{Operation}
 use Rattle.machine_model.specs.declared.steps.Limits.{Limits}
 use Rattle.machine_model.specs.States.{State, first_state, operation_of}
@@ -20,7 +20,7 @@ use Rattle.proof_memory.proofs.Safety.Guards.{Safe}
 use Rattle.proof_memory.proofs.Safety.States.{IsSafe}
 use Rattle.proof_memory.proofs.Safety.Steps.{of_actor, step_claims}
 use Rattle.proof_memory.proofs.Safety.AtEachTime.{safe_at}
-use Rattle.machine_model.proofs.Grown.{node_standing, prev_standing, grown_in_use, node_grown, prev_grown}
+use Rattle.machine_model.proofs.Grown.{node_standing, grown_in_use, node_grown, prev_grown}
 
 -- ---- in one safe state
 

@@ -17,7 +17,7 @@ use Rattle.proof_obstruction_free.specs.Beneath.machine_model.specs.Operations.{
 use Rattle.proof_obstruction_free.specs.Beneath.machine_model.specs.Paths.{current, depth_of}
 use Rattle.proof_obstruction_free.specs.Beneath.machine_model.specs.Reading.{reading}
 use Rattle.proof_obstruction_free.specs.Beneath.machine_model.specs.Swapping.{swapping}
-use Rattle.proof_obstruction_free.specs.Alone.{Has, IsCurrent, IsQuiet, IsWeight, Keeps, Lone, Stands, Within, WordStays, node}
+use Rattle.proof_obstruction_free.specs.Alone.{Has, IsCurrent, IsWeight, Keeps, Lone, Stands, Within, WordStays, node}
 use Rattle.proof_obstruction_free.specs.Keys.{Chain, GoesDown, IsBottom, IsDown, IsEnd, IsOf, IsRenewed, IsRenewing, Leads, RenewsFrom, flag_at}
 use Rattle.proof_obstruction_free.specs.Machines.{HasSwapped, IsRead, Machines}
 use Rattle.proof_obstruction_free.specs.Stepping.{IsNoEnd, LeavesWords, Stepping}

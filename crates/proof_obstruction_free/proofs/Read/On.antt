@@ -1,5 +1,5 @@
 -- A READ from any of its lines, where one actor alone takes steps.
-use Rattle.std.proofs.Common.{◌≡◌, ℕ, suc, ◌+◌, ◌-◌, ◌<◌, ◌≤◌, ◌==◌, Bool, true, false, Option, Some, refl, sym, ap, ◌∙◌, subst, eqb-true, eq-eqb, arith}
+use Rattle.std.proofs.Common.{◌≡◌, ℕ, suc, ◌+◌, ◌-◌, ◌<◌, ◌≤◌, ◌==◌, Bool, true, false, Option, Some, refl, sym, ◌∙◌, subst, eqb-true, eq-eqb, arith}
 use Rattle.std.proofs.lemmas.Bool.{true≢false}
 use Rattle.proof_obstruction_free.specs.Beneath.slot_arena.specs.declared.refs.Ref.{Ref}
 use Rattle.proof_obstruction_free.specs.Beneath.slot_arena.specs.declared.nodes.Prev.{Prev}

@@ -7,18 +7,15 @@ use Rattle.proof_obstruction_free.specs.Beneath.history.specs.declared.calls.Acc
 use Rattle.proof_obstruction_free.specs.Beneath.machine_model.specs.declared.lines.Line.{Line}
 use Rattle.proof_obstruction_free.specs.Beneath.machine_model.specs.declared.reading.ReadLine.{ReadLine}
 use Rattle.proof_obstruction_free.specs.Beneath.machine_model.specs.declared.reading.ReadLine.TheVariants as read
-use Rattle.proof_obstruction_free.specs.Beneath.machine_model.specs.declared.roots.Descriptor.{Descriptor}
-use Rattle.proof_obstruction_free.specs.Beneath.machine_model.specs.declared.roots.RootWord.{RootWord}
-use Rattle.proof_obstruction_free.specs.Beneath.machine_model.specs.declared.roots.RootWord.TheVariants.{Plain, Offer}
 use Rattle.proof_obstruction_free.specs.Beneath.machine_model.specs.Reading.{verdict_by, is_licensed, is_pending, read_action, after_ask, after_decide}
 use Rattle.proof_obstruction_free.specs.Beneath.machine_model.specs.Grown.{prev_word}
 use Rattle.proof_obstruction_free.specs.Beneath.proof_commits.proofs.Lines.Read.{pending_so, not_pending_so}
-use Rattle.proof_obstruction_free.specs.Alone.{Lone, Stands, IsPlain, IsQuiet, word, generation}
+use Rattle.proof_obstruction_free.specs.Alone.{Lone, Stands, IsPlain, IsQuiet, generation}
 use Rattle.proof_obstruction_free.specs.Machines.{HoldsRead, lead}
 use Rattle.proof_obstruction_free.specs.Weighing.{Weighing}
 use Rattle.proof_obstruction_free.proofs.Step.Within.{Comes}
 use Rattle.proof_obstruction_free.proofs.Read.Lines.{on_line, asks_writable}
-use Rattle.proof_obstruction_free.proofs.Read.Step.{Counts, acting, off, same_word_at, stays, on}
+use Rattle.proof_obstruction_free.proofs.Read.Step.{Counts, acting, stays, on}
 use Rattle.proof_obstruction_free.proofs.Read.First as First
 use Rattle.proof_obstruction_free.proofs.Read.On as On
 use Rattle.proof_obstruction_free.proofs.Read.Licensed as Licensed

@@ -29,9 +29,7 @@ use Rattle.proof_obstruction_free.specs.Beneath.proof_generations.proofs.Lines.R
 use Rattle.proof_obstruction_free.specs.Beneath.proof_generations.proofs.Falling.Runs.{Ends, Shut, LateEnd}
 use Rattle.proof_obstruction_free.specs.Beneath.proof_contents.proofs.Shapes.Nodes.{list_shape}
 use Rattle.proof_obstruction_free.specs.Beneath.proof_shape.specs.Sites.Lines.{sites_of, trie_at}
-use Rattle.proof_obstruction_free.specs.Beneath.proof_shape.specs.Sites.At.{way_of}
 use Rattle.proof_obstruction_free.specs.Beneath.proof_shape.proofs.Sites.Grown.{made_shaped}
-use Rattle.proof_obstruction_free.specs.Beneath.proof_shape.proofs.Sites.At.{ways_have_sites}
 use Rattle.proof_obstruction_free.specs.Alone.{Lone, Stands, IsPlain, Within, node, word}
 use Rattle.proof_obstruction_free.specs.Keys.{IsOnKey}
 use Rattle.proof_obstruction_free.specs.Machines.{Machines, IsRead, WasRead, IsRooted}

@@ -1,5 +1,5 @@
 -- What comes after each line of a call on one key on a read-only handle.
-use Rattle.std.proofs.Common.{◌≡◌, ℕ, ◌+◌, ◌<◌, ◌==◌, ◌&&◌, true, false, List, length, Some, refl, sym, ap, ◌∙◌, subst, ltb-true, arith}
+use Rattle.std.proofs.Common.{◌≡◌, ℕ, ◌+◌, ◌<◌, ◌==◌, ◌&&◌, true, false, List, length, Some, refl, sym, ap, ◌∙◌, subst, ltb-true}
 use Rattle.std.specs.Prelude.{nat_lt, nat_le}
 use Rattle.std.proofs.lemmas.Bool.{true≢false, cond_both}
 use Rattle.proof_obstruction_free.specs.Beneath.history.specs.declared.calls.Access.TheVariants.{ReadOnly}

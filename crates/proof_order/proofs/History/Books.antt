@@ -17,7 +17,7 @@ use Rattle.proof_order.specs.Beneath.machine_model.specs.declared.steps.Step.{St
 use Rattle.proof_order.specs.Beneath.machine_model.specs.declared.steps.Step.TheVariants as step
 use Rattle.proof_order.specs.Beneath.machine_model.specs.Calls.{opens_handle}
 use Rattle.proof_order.specs.Beneath.machine_model.specs.States.{State}
-use Rattle.proof_order.specs.Beneath.machine_model.specs.Machine.{begin_denial, with_begin, least_free}
+use Rattle.proof_order.specs.Beneath.machine_model.specs.Machine.{begin_denial, least_free}
 use Rattle.proof_order.specs.Beneath.machine_model.specs.Moves.{Moves, begun_operation}
 use Rattle.proof_generations.proofs.Handles.Running.{one_at, begin_not_running}
 use Rattle.proof_order.specs.Facts.{Runs}

@@ -37,7 +37,6 @@ use Rattle.proof_order.specs.Beneath.machine_model.specs.Times.{IsRun}
 use Rattle.proof_order.specs.Beneath.proof_commits.specs.Protocol.{Words, counts_at}
 use Rattle.proof_order.specs.Beneath.proof_commits.specs.Stages.{stage_of, stage_of_complete}
 use Rattle.proof_order.specs.Beneath.proof_commits.specs.Moments.{IsMoment}
-use Rattle.proof_order.specs.Beneath.proof_commits.proofs.Known.Given.{Known}
 use Rattle.proof_order.specs.Beneath.proof_commits.specs.Words.{words_of}
 use Rattle.proof_order.specs.Beneath.proof_commits.proofs.Lines.Reads.{read_counts}
 use Rattle.proof_order.specs.Beneath.proof_commits.proofs.Course.Moments.{moment_at}

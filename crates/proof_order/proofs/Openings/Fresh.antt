@@ -14,7 +14,6 @@ use Rattle.proof_order.specs.Beneath.machine_model.specs.States.{State, operatio
 use Rattle.proof_order.specs.Beneath.machine_model.specs.Operations.{action_of, line_after}
 use Rattle.proof_order.specs.Beneath.machine_model.specs.Moves.{Begins, Goes, Ends, Sweeps}
 use Rattle.proof_order.specs.Beneath.machine_model.specs.Moves.{Moves}
-use Rattle.proof_order.specs.Beneath.proof_memory.proofs.Safety.Guards.{Safe}
 use Rattle.proof_order.specs.Beneath.proof_memory.specs.Making.{made_node}
 use Rattle.proof_order.specs.Beneath.proof_memory.specs.Laws.{IsInUse}
 use Rattle.proof_order.specs.Beneath.proof_memory.proofs.Safety.States.{IsSafe, used_of}
@@ -22,7 +21,7 @@ use Rattle.proof_order.specs.Beneath.proof_memory.proofs.Safety.Steps.{made_fres
 use Rattle.proof_generations.proofs.Handles.Running.{comes}
 use Rattle.proof_generations.specs.Running.{Runs}
 use Rattle.proof_generations.proofs.Handles.Operations.{Ran, ran_or_began}
-use Rattle.proof_generations.proofs.Roots.Kept.{safe_kept, fresh_in, fresh_safe, fresh_from, FreshFrom, had, new, makes_first, fresh_kept}
+use Rattle.proof_generations.proofs.Roots.Kept.{fresh_in, fresh_from, FreshFrom, had, new, makes_first, fresh_kept}
 use Rattle.proof_generations.proofs.Roots.Along.{IsOrdered}
 use Rattle.proof_generations.proofs.Roots.Own.{first_none}
 

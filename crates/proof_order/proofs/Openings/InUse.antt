@@ -11,8 +11,6 @@ use Rattle.proof_order.specs.Beneath.machine_model.specs.Times.{IsRun}
 use Rattle.proof_order.specs.Beneath.proof_memory.specs.Laws.{IsInUse}
 use Rattle.proof_order.specs.Beneath.proof_memory.proofs.Safety.AtEachTime.{safe_at}
 use Rattle.proof_order.specs.Beneath.proof_memory.proofs.Limbo.Ranks.{reached_in_use}
-use Rattle.proof_order.specs.Beneath.proof_memory.proofs.Heap.Moves.{grown_stays}
-use Rattle.proof_order.specs.Beneath.proof_contents.specs.Grows.{NodesStay}
 use Rattle.proof_order.specs.Beneath.proof_contents.specs.InUse.{ReachesInUse}
 use Rattle.proof_order.specs.Beneath.proof_contents.proofs.Values.Started.{node_stays}
 use Rattle.proof_order.specs.Beneath.machine_model.proofs.Grown.{grown_in_use, node_standing}

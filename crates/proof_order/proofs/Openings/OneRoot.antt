@@ -27,10 +27,9 @@ use Rattle.proof_generations.proofs.Offers.Standing.{StandsBy}
 use Rattle.proof_generations.proofs.Handles.Footings.{CarriesOut, RootFrom, stood, swapped, newly}
 use Rattle.proof_generations.proofs.Offers.Marks.{carried_stands}
 use Rattle.proof_generations.proofs.Roots.Own.{gen, its_fresh}
-use Rattle.proof_generations.proofs.Roots.Kept.{fresh_of, safe_kept, root_kept, fresh_safe, fresh_kept}
+use Rattle.proof_generations.proofs.Roots.Kept.{fresh_of, root_kept, fresh_kept}
 use Rattle.proof_generations.proofs.Roots.Along.{IsOrdered, ordered_at}
 use Rattle.proof_generations.proofs.Offers.Swaps.{StepKind, quiet, swaps, step_kind, Kept}
-use Rattle.proof_order.specs.Beneath.proof_memory.proofs.Safety.Guards.{Safe}
 use Rattle.proof_order.specs.Openings.{IsRootOf}
 use Rattle.proof_order.proofs.Openings.AlongMoves.{along_moves}
 use Rattle.proof_order.proofs.Openings.Carried.{IsOffered, offered_root}

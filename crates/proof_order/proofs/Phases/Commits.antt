@@ -1,11 +1,10 @@
 -- A step that commits a main node, by its line; and what becomes of the node.
-use Rattle.std.proofs.Common.{◌≡◌, ◌==◌, ℕ, Bool, true, false, Option, Some, None, option_map, refl, sym, ap, ◌∙◌, eqb-true}
+use Rattle.std.proofs.Common.{◌≡◌, ℕ, Option, Some, None, option_map, refl, sym, ap, ◌∙◌}
 use Rattle.std.proofs.lemmas.Option.{none-some, same_Some}
-use Rattle.proof_order.specs.Beneath.slot_arena.specs.declared.nodes.Prev.{Prev}
 use Rattle.proof_order.specs.Beneath.slot_arena.specs.declared.nodes.Prev.TheVariants as prev
 use Rattle.proof_order.specs.Beneath.slot_arena.specs.declared.nodes.Slot.{Slot}
 use Rattle.proof_order.specs.Beneath.slot_arena.specs.declared.refs.Ref.{Ref}
-use Rattle.proof_order.specs.Beneath.slot_arena.specs.Heaps.{Heap, prev_at, prev_of}
+use Rattle.proof_order.specs.Beneath.slot_arena.specs.Heaps.{Heap, prev_of}
 use Rattle.proof_order.specs.Beneath.machine_model.specs.declared.actions.Action.{Action}
 use Rattle.proof_order.specs.Beneath.machine_model.specs.declared.actions.Action.TheVariants as act
 use Rattle.proof_order.specs.Beneath.machine_model.specs.declared.copying.CopyLine.TheVariants as copy
@@ -27,7 +26,7 @@ use Rattle.proof_order.specs.Beneath.machine_model.specs.declared.roots.RootLine
 use Rattle.proof_order.specs.Beneath.machine_model.specs.declared.roots.RootLine.TheVariants as root
 use Rattle.proof_order.specs.Beneath.machine_model.specs.declared.walking.WalkLine.TheVariants as walk
 use Rattle.proof_order.specs.Beneath.machine_model.specs.States.{State}
-use Rattle.proof_order.specs.Beneath.machine_model.specs.Reading.{Verdict, Commits, Fails, Overtaken, verdict, verdict_by, is_licensed, is_pending, read_action, committed_by, committed_so}
+use Rattle.proof_order.specs.Beneath.machine_model.specs.Reading.{Verdict, Commits, Fails, Overtaken, verdict, read_action, committed_by, committed_so}
 use Rattle.proof_order.specs.Beneath.machine_model.specs.Swapping.{complete_action_at, root_action, action_at}
 use Rattle.proof_order.specs.Beneath.machine_model.specs.Operations.{line_action, read_of, completing_read, rooting_read, swapping_read}
 use Rattle.proof_order.specs.Beneath.machine_model.specs.Orders.{committed_in}

@@ -1,11 +1,8 @@
 -- Where an operation stands that has its place, along a run; and who has none: who is refused for want of slots, and whose offer is being carried out.
 use Rattle.std.proofs.Common.{◌≡◌, ℕ, suc, ◌<◌, true, false, inl, inr, Option, refl, sym, ap, ◌∙◌, subst, arith}
 use Rattle.std.proofs.lemmas.Bool.{true≢false, cases_Bool}
-use Rattle.proof_order.specs.Beneath.history.specs.declared.replies.Reply.{Reply}
 use Rattle.proof_order.specs.Beneath.history.specs.declared.replies.Reply.TheVariants as reply
-use Rattle.proof_order.specs.Beneath.machine_model.specs.declared.actions.Action.TheVariants as act
 use Rattle.proof_order.specs.Beneath.machine_model.specs.declared.copying.CopyLine.TheVariants as copy
-use Rattle.proof_order.specs.Beneath.machine_model.specs.declared.lines.Line.{Line}
 use Rattle.proof_order.specs.Beneath.machine_model.specs.declared.lines.Line.TheVariants as line
 use Rattle.proof_order.specs.Beneath.machine_model.specs.declared.operations.Operation.{Operation}
 use Rattle.proof_order.specs.Beneath.machine_model.specs.declared.roots.Complete.{Complete}
@@ -14,7 +11,6 @@ use Rattle.proof_order.specs.Beneath.machine_model.specs.declared.steps.Outcome.
 use Rattle.proof_order.specs.Beneath.machine_model.specs.declared.steps.Step.{Step}
 use Rattle.proof_order.specs.Beneath.machine_model.specs.Calls.{changed_reply}
 use Rattle.proof_order.specs.Beneath.machine_model.specs.States.{State}
-use Rattle.proof_order.specs.Beneath.machine_model.specs.Operations.{line_action}
 use Rattle.proof_order.specs.Beneath.machine_model.specs.Orders.{is_placed}
 use Rattle.proof_order.specs.Beneath.machine_model.specs.Moves.{Moves}
 use Rattle.proof_order.specs.Beneath.machine_model.proofs.Times.{along_run}

@@ -1,14 +1,14 @@
 -- A step that commits nothing leaves all main nodes; one that commits a node changes the main node of one indirection alone.
-use Rattle.std.proofs.Common.{◌≡◌, ◌≢◌, ℕ, suc, ◌<◌, ◌≤◌, ◌⊎◌, ◌==◌, Bool, true, false, Option, Some, None, is_some, option_map, find, inl, inr, refl, sym, ◌∙◌, ap, arith}
+use Rattle.std.proofs.Common.{◌≡◌, ◌≢◌, ℕ, suc, ◌<◌, ◌⊎◌, ◌==◌, Bool, true, false, Option, Some, None, is_some, option_map, find, inl, inr, refl, sym, ◌∙◌, ap, arith}
 use Rattle.std.proofs.lemmas.Bool.{cases_eq, true≢false}
 use Rattle.std.proofs.lemmas.Option.{none-some}
 use Rattle.proof_shape.specs.Beneath.slot_arena.specs.declared.refs.Ref.{Ref}
 use Rattle.proof_shape.specs.Beneath.slot_arena.specs.declared.nodes.Slot.{Slot}
-use Rattle.proof_shape.specs.Beneath.slot_arena.specs.Heaps.{node_of, prev_of, logical, no_ref}
+use Rattle.proof_shape.specs.Beneath.slot_arena.specs.Heaps.{node_of}
 use Rattle.proof_shape.specs.Beneath.machine_model.specs.declared.heaps.Commit.{Commit}
 use Rattle.proof_shape.specs.Beneath.machine_model.specs.declared.steps.Limits.{Limits}
 use Rattle.proof_shape.specs.Beneath.machine_model.specs.States.{State}
-use Rattle.proof_shape.specs.Beneath.machine_model.specs.Grown.{grown, node_under, prev_word, main_before}
+use Rattle.proof_shape.specs.Beneath.machine_model.specs.Grown.{grown, node_under, main_before}
 use Rattle.proof_shape.specs.Beneath.machine_model.specs.Times.{IsRun}
 use Rattle.proof_shape.specs.Beneath.proof_memory.proofs.Heap.Moves.{grown_stays}
 use Rattle.proof_shape.specs.Beneath.proof_commits.specs.Protocol.{CommitsNode, Protocol}
@@ -20,8 +20,6 @@ use Rattle.proof_shape.specs.Beneath.proof_commits.proofs.Words.Along.{protocol}
 use Rattle.proof_shape.specs.Beneath.proof_contents.specs.Runs.{is_made, counting_main}
 use Rattle.proof_shape.specs.Beneath.proof_contents.proofs.Values.Runs.{counting_main-stays}
 use Rattle.proof_shape.specs.Beneath.proof_memory.specs.Wants.{is_indirection}
-use Rattle.proof_shape.specs.Beneath.proof_memory.proofs.Claims.Nodes.{no_main}
-use Rattle.proof_shape.specs.Beneath.proof_memory.proofs.Heap.NoRef.{nothing_stands}
 use Rattle.proof_shape.specs.Beneath.proof_commits.proofs.Words.OfRuns.{link_kept}
 use Rattle.proof_shape.specs.Beneath.proof_commits.proofs.Known.Acts.{known_run}
 use Rattle.proof_generations.proofs.Falling.NoRef.{no_main_before}

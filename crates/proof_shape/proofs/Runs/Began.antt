@@ -1,6 +1,5 @@
 -- When a READ began, and that what it gives counts from then on.
 use Rattle.std.proofs.Common.{◌≡◌, ℕ, suc, ◌<◌, ◌≤◌, ◌==◌, Bool, true, false, cond, Option, Some, None, refl, sym, ◌∙◌, ap, subst, arith}
-use Rattle.proof_shape.specs.Beneath.history.specs.declared.calls.Call.{Call}
 use Rattle.proof_shape.specs.Beneath.slot_arena.specs.declared.refs.Ref.{Ref}
 use Rattle.proof_shape.specs.Beneath.machine_model.specs.declared.operations.Operation.{Operation}
 use Rattle.proof_shape.specs.Beneath.machine_model.specs.declared.reading.After.TheVariants.{Goes, Gives}
@@ -10,7 +9,7 @@ use Rattle.proof_shape.specs.Beneath.machine_model.specs.declared.steps.Limits.{
 use Rattle.proof_shape.specs.Beneath.machine_model.specs.Calls.{handle_of}
 use Rattle.proof_shape.specs.Beneath.machine_model.specs.States.{State, operation_of, word_at}
 use Rattle.proof_shape.specs.Beneath.machine_model.specs.Reading.{read_after}
-use Rattle.proof_shape.specs.Beneath.machine_model.specs.Operations.{first_line, line_after, action_of}
+use Rattle.proof_shape.specs.Beneath.machine_model.specs.Operations.{line_after, action_of}
 use Rattle.proof_shape.specs.Beneath.machine_model.specs.Orders.{counted_from, read_at_after, moment_after}
 use Rattle.proof_shape.specs.Beneath.machine_model.specs.Acting.{operation_after}
 use Rattle.proof_shape.specs.Beneath.machine_model.proofs.Actors.{marks_by}

@@ -18,9 +18,8 @@ use Rattle.proof_shape.specs.Beneath.machine_model.specs.Times.{IsRun}
 use Rattle.proof_shape.specs.Beneath.proof_memory.specs.Laws.{IsInUse}
 use Rattle.proof_shape.specs.Beneath.proof_memory.proofs.Heap.Moves.{grown_stays}
 use Rattle.proof_shape.specs.Beneath.proof_commits.proofs.Course.Finals.{from_time}
-use Rattle.proof_shape.specs.Beneath.proof_commits.proofs.Known.Given.{Known, ActsOn, Taken, GrownTakes}
+use Rattle.proof_shape.specs.Beneath.proof_commits.proofs.Known.Given.{ActsOn, Taken, GrownTakes}
 use Rattle.proof_shape.specs.Beneath.proof_commits.proofs.Known.Acts.{known_run}
-use Rattle.proof_shape.specs.Beneath.proof_contents.specs.Grows.{NodesStay}
 use Rattle.proof_shape.specs.Beneath.proof_contents.specs.Runs.{is_made, counting_main}
 use Rattle.proof_shape.specs.Beneath.proof_contents.proofs.Values.Runs.{counting_main-made, counting_main-unmade}
 use Rattle.proof_shape.specs.Beneath.proof_contents.proofs.Values.Started.{node_stays, indirection_stays}

@@ -45,11 +45,9 @@ use Rattle.proof_updates.specs.Beneath.proof_generations.proofs.Roots.Rooted.{ro
 use Rattle.proof_order.specs.Facts.{Runs, standing}
 use Rattle.proof_shape.specs.Lines.Knowing.{known_with, first_main, IsPlaced}
 use Rattle.proof_shape.proofs.Lines.Placed.{is_keyed, is_walking, walk_walking}
-use Rattle.proof_shape.specs.Lines.Commits.{CommitsAt, assigned_at}
 use Rattle.proof_shape.proofs.Lines.Knows.{knows_at}
 use Rattle.proof_shape.proofs.Lines.Places.{FitsCall, settled_at, places_at}
 use Rattle.proof_shape.proofs.Runs.Seen.{keyed_get, fits_at}
-use Rattle.proof_updates.specs.Beneath.proof_generations.specs.Falling.{GivenForEver}
 use Rattle.proof_order.proofs.Phases.Closers.{still_placed}
 use Rattle.proof_updates.proofs.Placed.Behind.{is_right, Behind, IfEnds, is_still, plain_behind, climbing_behind, still_behind, root_plain, build_plain, renew_plain, clean_plain}
 use Rattle.proof_updates.proofs.Placed.Behind.{key_still, climb_climbs}
@@ -62,7 +60,6 @@ use Rattle.proof_updates.proofs.Routes.Known.{LineRoute}
 use Rattle.proof_updates.proofs.Placed.Swap.{swap_behind}
 use Rattle.proof_updates.proofs.Answers.Walk.{goes_at, Walks as Walks', walk_right}
 use Rattle.proof_updates.proofs.Answers.WalkSteps.{below, KnowsWalk}
-use Rattle.proof_shape.proofs.Held.Commits.{fresh_commits_at}
 
 -- ---- what is right, and what a walk knows, by the fields of an operation
 

@@ -38,8 +38,6 @@ use Rattle.proof_order.specs.Times.{Since, IsWithin, has_read}
 use Rattle.proof_order.proofs.Phases.Steps.{is_placed_so}
 use Rattle.proof_order.proofs.Phases.Since.{run_since}
 use Rattle.proof_order.proofs.Phases.Standing.{rooted_at_moments, read_only_stands}
-use Rattle.proof_shape.specs.Lines.Commits.{CommitsAt, assigned_at}
-use Rattle.proof_updates.specs.Beneath.proof_generations.specs.Falling.{GivenForEver}
 use Rattle.proof_order.proofs.Phases.Closers.{still_placed}
 use Rattle.proof_updates.specs.Updates.{RepliesRight}
 use Rattle.proof_updates.proofs.Answers.Each.{RightAt, WalksAt, IsAnswering, answering_goes}
@@ -48,7 +46,6 @@ use Rattle.proof_updates.proofs.Tries.EachOperation.{each_operation}
 use Rattle.proof_updates.proofs.Answers.ReaderRoots.{stood_before}
 use Rattle.proof_updates.proofs.Placed.Swap.{none_next}
 use Rattle.proof_updates.specs.Beneath.proof_commits.proofs.Lines.Reads.{only_end}
-use Rattle.proof_shape.proofs.Held.Commits.{fresh_commits_at}
 
 -- ---- a begin
 

@@ -40,7 +40,7 @@ use Rattle.proof_order.specs.Facts.{standing}
 use Rattle.proof_shape.proofs.Runs.EachAt.{GoesAt}
 use Rattle.proof_shape.proofs.Runs.Seen.{main_seen, single_seen}
 use Rattle.proof_shape.proofs.Lines.Key.{claims, looks}
-use Rattle.proof_updates.specs.Beneath.proof_generations.specs.Falling.{GivesAt, GivenForEver}
+use Rattle.proof_updates.specs.Beneath.proof_generations.specs.Falling.{GivesAt}
 use Rattle.proof_updates.proofs.Tries.EachOperation.{OwnStep}
 use Rattle.proof_updates.proofs.Answers.Given.{given_at, own_after}
 use Rattle.proof_updates.proofs.Answers.Key.{AnswersSo}

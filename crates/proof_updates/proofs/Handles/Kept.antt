@@ -18,14 +18,13 @@ use Rattle.proof_updates.specs.Beneath.proof_contents.specs.Tries.{Trie, generat
 use Rattle.proof_updates.specs.Beneath.proof_contents.proofs.Values.Contents.{map_of-same}
 use Rattle.proof_shape.specs.Lines.Commits.{OwnCommit, CommitsAt, MainStep, stays, changes, assigned_at}
 use Rattle.proof_shape.proofs.Held.Commits.{fresh_commits_at}
-use Rattle.proof_updates.specs.Beneath.proof_generations.proofs.Falling.OwnSwaps.{swaps_in_own_generation}
 use Rattle.proof_updates.specs.Beneath.proof_generations.proofs.Lines.ReaderKnows.{indirection_is}
 use Rattle.proof_shape.specs.Shaped.{HasShape, trie_of_run}
 use Rattle.proof_shape.specs.Sites.Nodes.{depth_of_run, path_of_run}
 use Rattle.proof_shape.specs.Sites.At.{TakesSteps, StepsFit}
 use Rattle.proof_shape.proofs.Shaped.Trie.{runs_have_shape}
 use Rattle.proof_updates.proofs.Tries.Does.{own_does}
-use Rattle.proof_updates.proofs.Tries.Commits.{repairs_are_known, sites_of_updates}
+use Rattle.proof_updates.proofs.Tries.Commits.{sites_of_updates}
 use Rattle.proof_updates.proofs.Tries.OfRuns as whole
 use Rattle.proof_updates.specs.Touching.{Reaches}
 use Rattle.proof_updates.proofs.Handles.Reaching.{reach_from}

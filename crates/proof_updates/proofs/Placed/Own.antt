@@ -31,7 +31,7 @@ use Rattle.proof_order.proofs.Views.EachStep.{Changes, quiet, ends, closes, swap
 use Rattle.proof_order.proofs.Offers.Honest.{honest}
 use Rattle.proof_order.proofs.Offers.Standing.{offers_at}
 use Rattle.proof_order.proofs.Phases.Steps.{is_placed_so}
-use Rattle.proof_shape.specs.Lines.Commits.{MainStep, stays, changes as changes_main, CommitsAt, assigned_at, places_for}
+use Rattle.proof_shape.specs.Lines.Commits.{MainStep, stays, changes as changes_main, assigned_at, places_for}
 use Rattle.proof_shape.proofs.Commits.Was.{main_linked, commit_is}
 use Rattle.proof_updates.proofs.Tries.Facts.{own_enters}
 use Rattle.proof_updates.specs.Beneath.proof_commits.proofs.Known.Acts.{known_run}

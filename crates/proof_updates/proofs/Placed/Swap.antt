@@ -45,14 +45,12 @@ use Rattle.proof_updates.specs.Beneath.proof_commits.proofs.Words.OfRuns.{slot_p
 use Rattle.proof_order.specs.Facts.{Runs}
 use Rattle.proof_order.specs.Phases.{IsPublished}
 use Rattle.proof_order.proofs.Phases.Published.{seen}
-use Rattle.proof_shape.specs.Lines.Commits.{CommitsAt, assigned_at}
 use Rattle.proof_order.proofs.Phases.Closers.{still_placed}
 use Rattle.proof_updates.proofs.Placed.Behind.{Behind, climbing_behind, update_climbs, climbed_climbs}
 use Rattle.proof_updates.proofs.Tries.EachOperation.{OwnStep}
 use Rattle.proof_updates.proofs.Placed.Own.{commit_places}
 use Rattle.proof_updates.specs.Beneath.proof_commits.proofs.Known.Acts.{known_run}
 use Rattle.proof_updates.specs.Beneath.machine_model.proofs.Basics.{none≢failed}
-use Rattle.proof_shape.proofs.Held.Commits.{fresh_commits_at}
 
 module _ (limits : Limits) (states : ℕ → State) (last : ℕ) (run : IsRun limits states last) where
   abbrev p : Protocol

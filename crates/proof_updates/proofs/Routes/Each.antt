@@ -41,7 +41,6 @@ use Rattle.proof_updates.specs.Beneath.proof_contents.specs.Tries.{Trie, generat
 use Rattle.proof_updates.specs.Beneath.proof_contents.specs.Steps.{IsTrie}
 use Rattle.proof_updates.specs.Beneath.proof_contents.specs.Runs.{trie_of}
 use Rattle.proof_updates.specs.Beneath.proof_generations.proofs.Roots.Rooted.{root_given}
-use Rattle.proof_updates.specs.Beneath.proof_generations.specs.Falling.{GivenForEver}
 use Rattle.proof_updates.proofs.Tries.EachOperation.{OwnStep, each_operation}
 use Rattle.proof_updates.proofs.Tries.Seen.{seen_link}
 use Rattle.proof_updates.proofs.Routes.Known.{IsAt, KeyRoute, LineRoute, route_later, route_root}

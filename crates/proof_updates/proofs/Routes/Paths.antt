@@ -24,7 +24,6 @@ use Rattle.proof_updates.specs.Beneath.proof_contents.specs.Tries.{Trie}
 use Rattle.proof_updates.specs.Beneath.proof_contents.specs.Steps.{IsTrie, Looks}
 use Rattle.proof_updates.specs.Beneath.proof_contents.specs.Runs.{trie_of}
 use Rattle.proof_updates.specs.Beneath.proof_contents.specs.Lines.Changes.{main_of_key}
-use Rattle.proof_updates.specs.Beneath.proof_generations.specs.Falling.{GivenForEver}
 use Rattle.proof_updates.specs.Updates.{PathsLie, KeysLook}
 use Rattle.proof_updates.specs.Paths.{LiesOn, path_of}
 use Rattle.proof_updates.proofs.Routes.Known.{Route, IsAt, KeyRoute, LineRoute, since, route_later, looks_at}

@@ -47,7 +47,7 @@ use Rattle.proof_updates.specs.Beneath.proof_memory.proofs.Claims.Nodes.{branch_
 use Rattle.proof_updates.specs.Beneath.proof_commits.proofs.Course.OfLists.{given_read}
 use Rattle.proof_shape.specs.Lines.Knowing.{known_with, first_main}
 use Rattle.proof_shape.proofs.Lines.Knows.{knows_at}
-use Rattle.proof_updates.specs.Beneath.proof_generations.specs.Falling.{GivesAt, GivenForEver}
+use Rattle.proof_updates.specs.Beneath.proof_generations.specs.Falling.{GivesAt}
 use Rattle.proof_updates.proofs.Tries.EachOperation.{OwnStep}
 use Rattle.proof_updates.proofs.Answers.Given.{GivenAt, given_at}
 use Rattle.proof_updates.proofs.Tries.Seen.{seen_link, seen_main}

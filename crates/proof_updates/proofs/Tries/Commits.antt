@@ -1,6 +1,6 @@
 -- What is known of a node that its owner commits: what a repair was given, at which depth a change is swapped in; and that keys have 64 bits.
 use Rattle.std.specs.Prelude.{ℕ, suc, ◌<◌, ◌≤◌, ◌^◌}
-use Rattle.std.proofs.Common.{refl, ap, arith, ◌∙◌}
+use Rattle.std.proofs.Common.{ap, arith, ◌∙◌}
 use Rattle.proof_updates.specs.Beneath.slot_arena.specs.declared.refs.Ref.{Ref}
 use Rattle.proof_updates.specs.Beneath.machine_model.specs.declared.lines.Line.{Line}
 use Rattle.proof_updates.specs.Beneath.machine_model.specs.declared.lines.Line.TheVariants as line
@@ -12,19 +12,17 @@ use Rattle.proof_updates.specs.Beneath.machine_model.specs.declared.reading.Swap
 use Rattle.proof_updates.specs.Beneath.machine_model.specs.declared.steps.Limits.{Limits}
 use Rattle.proof_updates.specs.Beneath.machine_model.specs.declared.steps.Step.{Step}
 use Rattle.proof_updates.specs.Beneath.machine_model.specs.Calls.{key_of}
-use Rattle.proof_updates.specs.Beneath.machine_model.specs.States.{State, root_of}
+use Rattle.proof_updates.specs.Beneath.machine_model.specs.States.{State}
 use Rattle.proof_updates.specs.Beneath.machine_model.specs.Grown.{node_under}
 use Rattle.proof_updates.specs.Beneath.machine_model.specs.Times.{IsRun}
 use Rattle.proof_updates.specs.Beneath.proof_commits.specs.Laws.{IsNoSwap}
 use Rattle.proof_updates.specs.Beneath.proof_contents.specs.Lines.Repairs.{IsRepaired, ReadsBelow}
-use Rattle.proof_updates.specs.Beneath.proof_generations.specs.Laws.Roots.{root_generation}
 use Rattle.proof_order.specs.Facts.{Runs}
 use Rattle.proof_shape.specs.Lines.Given.{GaveBelow}
 use Rattle.proof_shape.specs.Lines.Commits.{KnowsFresh, assigned_at}
 use Rattle.proof_shape.proofs.Lines.RepairMore.{repair_more}
 use Rattle.proof_updates.specs.Beneath.proof_generations.specs.Falling.{WasGiven}
 use Rattle.proof_updates.specs.Beneath.proof_generations.proofs.Falling.Final.{repairs_are_given}
-use Rattle.proof_order.proofs.Openings.RootOf.{roots_are_one}
 use Rattle.proof_shape.specs.Sites.Nodes.{depth_of_run}
 use Rattle.proof_shape.specs.Sites.At.{TakesSteps, StepsFit}
 use Rattle.proof_shape.proofs.Sites.At.{lines_have_sites, updates_have_sites}

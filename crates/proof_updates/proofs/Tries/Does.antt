@@ -32,8 +32,8 @@ use Rattle.proof_updates.specs.Beneath.proof_contents.proofs.Lines.Repair.{Stays
 use Rattle.proof_shape.specs.Lines.Given.{Was}
 use Rattle.proof_shape.specs.Lines.Knowing.{known_with, first_main}
 use Rattle.proof_shape.specs.Lines.Climbing.{IsClimbed}
-use Rattle.proof_shape.specs.Lines.Commits.{OwnCommit, MainStep, stays, changes, CommitsAt, KnowsFresh, assigned_at}
-use Rattle.proof_updates.specs.Beneath.proof_generations.specs.Falling.{SwapsInOwnGeneration, WasGiven}
+use Rattle.proof_shape.specs.Lines.Commits.{OwnCommit, MainStep, stays, changes, KnowsFresh, assigned_at}
+use Rattle.proof_updates.specs.Beneath.proof_generations.specs.Falling.{WasGiven}
 use Rattle.proof_updates.specs.Commits.{IsRepairing, SitesOfUpdates}
 use Rattle.proof_updates.specs.Updates.{StepsDo}
 use Rattle.proof_updates.proofs.Tries.Repairing.{TombsLast, repairs, climbs}

@@ -20,9 +20,8 @@ use Rattle.proof_updates.specs.Beneath.proof_contents.specs.Tries.{Trie, generat
 use Rattle.proof_updates.specs.Beneath.proof_contents.specs.Steps.{IsRepair, IsTrie}
 use Rattle.proof_updates.specs.Beneath.proof_contents.specs.Runs.{trie_of}
 use Rattle.proof_updates.specs.Beneath.proof_contents.proofs.Changes.Generations.{nothing_still, repair_still}
-use Rattle.proof_order.specs.Facts.{act_in, Update, committed_of, committed_by_step, entered_by_step}
-use Rattle.proof_shape.specs.Lines.Commits.{OwnCommit, MainStep, stays, changes, CommitsNone, begins, goes, sweeps, CommitsAt, assigned_at, places_for}
-use Rattle.proof_updates.specs.Beneath.proof_generations.specs.Falling.{SwapsInOwnGeneration, GivenForEver}
+use Rattle.proof_order.specs.Facts.{act_in, Update, committed_of, entered_by_step}
+use Rattle.proof_shape.specs.Lines.Commits.{OwnCommit, MainStep, stays, changes, CommitsNone, begins, goes, sweeps, assigned_at, places_for}
 use Rattle.proof_order.specs.Phases.{OwnUpdate}
 use Rattle.proof_order.proofs.Phases.OwnUpdates.{own_updates_enter}
 use Rattle.proof_shape.specs.Shaped.{HasShape}

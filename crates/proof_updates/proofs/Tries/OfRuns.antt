@@ -9,9 +9,6 @@ use Rattle.proof_updates.specs.Beneath.machine_model.specs.States.{State}
 use Rattle.proof_updates.specs.Beneath.machine_model.specs.Times.{IsRun}
 use Rattle.proof_updates.specs.Beneath.proof_contents.specs.Steps.{IsTrie}
 use Rattle.proof_updates.specs.Beneath.proof_generations.specs.Running.{Runs}
-use Rattle.proof_updates.specs.Beneath.proof_generations.specs.Falling.{SwapsInOwnGeneration, GivenForEver}
-use Rattle.proof_updates.specs.Beneath.proof_generations.proofs.Falling.Final.{given_for_ever}
-use Rattle.proof_updates.specs.Beneath.proof_generations.proofs.Falling.OwnSwaps.{swaps_in_own_generation}
 use Rattle.proof_shape.specs.Sites.Nodes.{depth_of_run, path_of_run}
 use Rattle.proof_shape.specs.Sites.At.{TakesSteps, StepsFit}
 use Rattle.proof_shape.specs.Shaped.{HasShape, trie_of_run}

@@ -21,8 +21,7 @@ use Rattle.proof_updates.specs.Beneath.proof_contents.specs.Runs.{trie_of}
 use Rattle.proof_updates.specs.Beneath.proof_contents.proofs.Values.Paths.{on-depth}
 use Rattle.proof_updates.specs.Beneath.proof_contents.proofs.Changes.Generations.{update_acts, update_still}
 use Rattle.proof_shape.specs.Lines.Knowing.{SwapsAt}
-use Rattle.proof_shape.specs.Lines.Commits.{OwnCommit, CommitsAt, KnowsFresh, assigned_at}
-use Rattle.proof_updates.specs.Beneath.proof_generations.specs.Falling.{SwapsInOwnGeneration, GivenForEver}
+use Rattle.proof_shape.specs.Lines.Commits.{OwnCommit, KnowsFresh, assigned_at}
 use Rattle.proof_shape.specs.Shaped.{HasShape}
 use Rattle.proof_updates.specs.Commits.{SitesOfUpdates}
 use Rattle.proof_updates.specs.Updates.{UpdatesAt, UpdatesAct}
