@@ -3,8 +3,8 @@ use Rattle.std.proofs.Common.{◌≡◌, ℕ, List, Option, None, Some, Bool, tr
 use Rattle.std.specs.Io.KnownBytes.{Appends}
 use Rattle.ctrie_commands.specs.Written.{AppendsSuch, AppendsPartOf}
 use Rattle.ctrie_commands.specs.Verdicts.{IsVerdict, verdict_line, AppendsPart}
-use Rattle.ctrie_commands.specs.Scripts.{AppendsReportPart}
-use Rattle.ctrie_commands.specs.Threads.{AppendsThreadReportPart}
+use Rattle.ctrie_commands.specs.Scripts.{AppendsReport, AppendsReportPart}
+use Rattle.ctrie_commands.specs.Threads.{AppendsThreadReport, AppendsThreadReportPart}
 use Rattle.ctrie.specs.declared.arguments.Request.TheVariants.{Check, Run, Threads}
 use Rattle.ctrie.specs.declared.outcomes.Outcome.{Outcome}
 use Rattle.ctrie.specs.declared.outcomes.Outcome.TheVariants.{Done}
@@ -16,6 +16,16 @@ pub verdict_told : (known old new : Option (List ℕ)) (legal : Bool) (path : _)
 verdict_told None old new legal path is written = tt
 verdict_told (Some text) old new true path is written = (verdict_line true, (is, refl), written)
 verdict_told (Some text) old new false path is written = (verdict_line false, (is, refl), written)
+
+-- the report was written
+pub report_told : (known old new : Option (List ℕ)) (path : _) → IfSome known (λ text. AppendsReport old new text) → IfSome known (λ text. AppendsSuch (Tells (Run path) text Done) old new)
+report_told None old new path written = tt
+report_told (Some text) old new path (bytes, is, grown) = (bytes, is, grown)
+
+pub thread_report_told : (known old new : Option (List ℕ)) (path : _) → IfSome known (λ text. AppendsThreadReport old new text) →
+    IfSome known (λ text. AppendsSuch (Tells (Threads path) text Done) old new)
+thread_report_told None old new path written = tt
+thread_report_told (Some text) old new path (bytes, is, grown) = (bytes, is, grown)
 
 -- a beginning was written
 pub verdict_part : (known old new : Option (List ℕ)) (path : _) → IfSome known (λ text. AppendsPart old new text) →

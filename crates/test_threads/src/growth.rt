@@ -45,7 +45,12 @@ fn write<R: Wait>(rt: &R, runner: &Runner, seat: &mut Seat, calls: u64) -> Came
 }
 
 /// The record, though the order finds no memory the first time.
-fn finished(alloc: Global, runner: Runner, one: Seat, two: Seat) -> Result<Option<Record>, AllocError>
+fn finished(
+    alloc: Global,
+    runner: Runner,
+    one: Seat,
+    two: Seat,
+) -> Result<Option<Record>, AllocError>
     requires one { IsSeatOf runner one }
     requires two { IsSeatOf runner two }
 {

@@ -1,0 +1,32 @@
+-- The request is the one of the branch, and the call that was made says what tells of it.
+use Rattle.std.proofs.Common.{◌≡◌, rules}
+use Rattle.std.specs.Prelude.{Err}
+use Rattle.ctrie_commands.specs.declared.faults.Fault.TheVariants.{Line, Write}
+use Rattle.ctrie.proofs.Telling.{verdict_part, report_told, thread_report_told}
+use Rattle.ctrie.proofs.outcomes.carry_out.Goals as goal
+
+pub returns-in_err-check_history-in-Check-clause-line : goal.returns-in_err-check_history-in-Check-clause-line
+returns-in_err-check_history-in-Check-clause-line g c = λ number refusal e.
+    let same : c.check_history.result ≡ Err (Line number refusal) = search rules in
+    rw c.in-Check.is (c.check_history.ensures.line number refusal same)
+
+pub returns-in_err-check_history-in-Check-clause-part : goal.returns-in_err-check_history-in-Check-clause-part
+returns-in_err-check_history-in-Check-clause-part g c = λ e.
+    let same : c.check_history.result ≡ Err Write = search rules in
+    rw c.in-Check.is (verdict_part _ _ _ c.in-Check.field-0 (c.check_history.ensures.part same))
+
+pub returns-in_err-run_script-in-Run-clause-line : goal.returns-in_err-run_script-in-Run-clause-line
+returns-in_err-run_script-in-Run-clause-line g c = λ number refusal e.
+    let same : c.run_script.result ≡ Err (Line number refusal) = search rules in
+    rw c.in-Run.is (c.run_script.ensures.line number refusal same)
+
+pub returns-in_err-run_threads-in-Threads-clause-line : goal.returns-in_err-run_threads-in-Threads-clause-line
+returns-in_err-run_threads-in-Threads-clause-line g c = λ number refusal e.
+    let same : c.run_threads.result ≡ Err (Line number refusal) = search rules in
+    rw c.in-Threads.is (c.run_threads.ensures.line number refusal same)
+
+pub returns-in_ok-run_script-in-Run-clause-written : goal.returns-in_ok-run_script-in-Run-clause-written
+returns-in_ok-run_script-in-Run-clause-written g c = rw c.in-Run.is (report_told _ _ _ c.in-Run.field-0 c.in_ok-run_script-in-Run.ensures.written)
+
+pub returns-in_ok-run_threads-in-Threads-clause-written : goal.returns-in_ok-run_threads-in-Threads-clause-written
+returns-in_ok-run_threads-in-Threads-clause-written g c = rw c.in-Threads.is (thread_report_told _ _ _ c.in-Threads.field-0 c.in_ok-run_threads-in-Threads.ensures.written)
