@@ -1,5 +1,5 @@
 -- Lines of a script end the operations that are sure to end.
-use Rattle.std.proofs.Common.{◌≡◌, ℕ, zero, suc, ◌+◌, Bool, true, false, cond, List, [], ◌∷◌, ◌++◌, Option, Some, None, Ok, refl, sym, ap, subst, ◌∙◌, arith}
+use Rattle.std.proofs.Common.{◌≡◌, ℕ, zero, suc, ◌+◌, Bool, true, false, cond, List, [], ◌∷◌, ◌++◌, Option, Some, None, Ok, inl, inr, refl, sym, ap, subst, ◌∙◌, arith}
 use Rattle.std.specs.Prelude.{replicate}
 use Rattle.std.specs.List.{AllByRecursion}
 use Rattle.std.proofs.lemmas.List.{replicate-append-replicate}
@@ -20,10 +20,11 @@ use Rattle.machine_model.specs.Machine.{AreLimits, begin_denial, go_denial, go_o
 use Rattle.machine_model.specs.States.{State, first_state, operation_of}
 use Rattle.machine_model.proofs.Along.{run-append, run_push}
 use Rattle.machine_model.specs.Moves.{begun_operation}
-use Rattle.proof_obstruction_free.specs.Laws.{AloneItEnds, HasEnded, RunsAlone, alone_after, most_steps_alone}
+use Rattle.proof_obstruction_free.specs.Closes.{ClosesEnd}
+use Rattle.proof_obstruction_free.specs.Laws.{AloneItEnds, HasEnded, alone_after, most_steps_alone}
 use Rattle.ctrie_commands.specs.Beneath.step_machine.specs.Ending.{IsSure}
 use Rattle.ctrie_commands.specs.Beneath.step_machine.specs.Machines.{Taken, state_of}
-use Rattle.ctrie_commands.specs.Beneath.step_machine.proofs.Ending.{begun_runs_on, sure_behind}
+use Rattle.ctrie_commands.specs.Beneath.step_machine.proofs.Ending.{begun_runs_on, bounded, sure_behind}
 use Rattle.script_text.specs.declared.commands.Command.{Command}
 use Rattle.script_text.specs.declared.commands.Command.TheVariants.{Begin, Go, Until, Finish, Do, Sweep}
 use Rattle.script_text.specs.Grammar.{CommandFits}
@@ -110,29 +111,36 @@ going_alone (suc n) state actor = by_running n state actor (going_alone n (next_
 
 -- ---- it has ended
 
-module _ (law : AloneItEnds) (limits : Limits) (steps : List Step) (actor : ℕ) (operation : Operation) (facts : RunsAlone limits steps actor operation) where
+module _ (limits : Limits) (steps : List Step) (actor : ℕ) (operation : Operation) where
   -- the steps that go on to the end come to where it has ended
-  ended : HasEnded (run_from (run limits steps) (going go_limit None actor (run limits steps))) actor operation.id
-  ended =
-      let rest : ℕ = 12422 in
-      let last = alone_after limits steps actor most_steps_alone in
-      let has : HasEnded last actor operation.id = law limits steps actor operation facts in
-      let parts : replicate go_limit (step.Go actor) ≡ replicate most_steps_alone (step.Go actor) ++ replicate rest (step.Go actor) =
-      sym (replicate-append-replicate most_steps_alone rest (step.Go actor)) in
+  ended_by : (n rest : ℕ) → n + rest ≡ go_limit → HasEnded (alone_after limits steps actor n) actor operation.id →
+      HasEnded (run_from (run limits steps) (going go_limit None actor (run limits steps))) actor operation.id
+  ended_by n rest sum has =
+      let last = alone_after limits steps actor n in
+      let parts : replicate go_limit (step.Go actor) ≡ replicate n (step.Go actor) ++ replicate rest (step.Go actor) =
+      ap (λ m. replicate m (step.Go actor)) (sym sum) ∙ sym (replicate-append-replicate n rest (step.Go actor)) in
       let same : run_from (run limits steps) (going go_limit None actor (run limits steps)) ≡ last =
       going_alone go_limit (run limits steps) actor ∙ ap (run_from (run limits steps)) parts
-      ∙ run-append (run limits steps) (replicate most_steps_alone (step.Go actor)) (replicate rest (step.Go actor))
-      ∙ ap (λ s. run_from s (replicate rest (step.Go actor))) (sym (run-append (first_state limits) steps (replicate most_steps_alone (step.Go actor))))
+      ∙ run-append (run limits steps) (replicate n (step.Go actor)) (replicate rest (step.Go actor))
+      ∙ ap (λ s. run_from s (replicate rest (step.Go actor))) (sym (run-append (first_state limits) steps (replicate n (step.Go actor))))
       ∙ idle_stays rest last actor has.idle in
       subst (λ s. HasEnded s actor operation.id) (sym same) has
 
+  -- by the laws of operations that end
+  ended : AloneItEnds → ClosesEnd → AreLimits limits → KeysFit steps → operation_of (run limits steps) actor ≡ Some operation → IsSure (run limits steps) operation.call most_steps_alone →
+      HasEnded (run_from (run limits steps) (going go_limit None actor (run limits steps))) actor operation.id
+  ended law closes sizes keys runs sure = elim (bounded operation.call sure.0) [
+    | inl call ↦ ended_by most_steps_alone 12422 refl (law limits steps actor operation (record { limits_ok = sizes; keys_fit = keys; runs = runs; call = call; left = sure.1 }))
+    | inr closing ↦ ended_by 1 16383 refl (closes limits steps actor operation runs closing (omega (arith, sure.1))).1
+  ]
+
 -- ---- each line of a script
 
-module _ (law : AloneItEnds) (before : Taken) (sizes : AreLimits before.limits) (keys : KeysFit before.steps) where
+module _ (law : AloneItEnds) (closes : ClosesEnd) (before : Taken) (sizes : AreLimits before.limits) (keys : KeysFit before.steps) where
   finish_ends : (actor : ℕ) → FinishEnds (state_of before) actor (after_command (state_of before) (Finish actor))
   unfolding steps_of
   finish_ends actor operation runs sure =
-      ended law before.limits before.steps actor operation (record { limits_ok = sizes; keys_fit = keys; runs = runs; call = sure.0; left = sure.1 })
+      ended before.limits before.steps actor operation law closes sizes keys runs sure
 
   -- a begin, and the steps behind it
   begun_ends : (actor : ℕ) (call : Call) → FitsKey (step.Begin actor call) → begin_denial (state_of before) actor call ≡ None → IsSure (state_of before) call (1 + most_steps_alone) →
@@ -141,16 +149,9 @@ module _ (law : AloneItEnds) (before : Taken) (sizes : AreLimits before.limits) 
   begun_ends actor call fits d sure =
       let begins = step.Begin actor call in
       let operation = begun_operation (state_of before) call in
-      let behind = sure_behind before actor call d most_steps_alone sure in
-      let facts : RunsAlone before.limits (before.steps ++ begins ∷ []) actor operation = record {
-        limits_ok = sizes;
-        keys_fit = All-push FitsKey before.steps begins keys fits;
-        runs = begun_runs_on before actor call d;
-        call = behind.0;
-        left = behind.1;
-      } in
       subst (λ s. HasEnded (run_from s (going go_limit None actor s)) actor operation.id) (run_push (first_state before.limits) before.steps begins)
-      (ended law before.limits (before.steps ++ begins ∷ []) actor operation facts)
+      (ended before.limits (before.steps ++ begins ∷ []) actor operation law closes sizes (All-push FitsKey before.steps begins keys fits) (begun_runs_on before actor call d)
+      (sure_behind before actor call d most_steps_alone sure))
 
   do_ends : (actor : ℕ) (call : Call) → FitsKey (step.Begin actor call) → DoEnds (state_of before) actor call (after_command (state_of before) (Do actor call))
   unfolding steps_of
@@ -163,9 +164,9 @@ module _ (law : AloneItEnds) (before : Taken) (sizes : AreLimits before.limits) 
   line_ends (Do actor call) fits = do_ends actor call (call_fits actor call fits.1)
   line_ends other fits = tt
 
-pub each_line_ends : AloneItEnds → (text : List ℕ) (script : Reading) → script_of text ≡ Ok script → EachLineEnds script
-each_line_ends law text script is first rest line parts =
+pub each_line_ends : AloneItEnds → ClosesEnd → (text : List ℕ) (script : Reading) → script_of text ≡ Ok script → EachLineEnds script
+each_line_ends law closes text script is first rest line parts =
     let spelling = spelled text script is in
     let fit = first_fit first rest line (subst (AllByRecursion CommandFits) parts spelling.2) in
     let before : Taken = record { limits = script.limits; steps = all_steps (first_state script.limits) first } in
-    line_ends law before spelling.1 (all_fit first (first_state script.limits) fit.0) line fit.1
+    line_ends law closes before spelling.1 (all_fit first (first_state script.limits) fit.0) line fit.1

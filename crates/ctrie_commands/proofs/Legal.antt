@@ -24,6 +24,7 @@ use Rattle.ctrie_commands.specs.Beneath.step_machine.specs.Legality.{IsLegalFor,
 use Rattle.ctrie_commands.specs.Beneath.step_machine.specs.Records.{IsRecordOf}
 use Rattle.ctrie_commands.specs.Beneath.step_machine.specs.declared.records.Record.{Record}
 use Rattle.lock_runner.specs.Finishing.{recorded}
+use Rattle.proof_obstruction_free.specs.Closes.{ClosesEnd}
 use Rattle.proof_obstruction_free.specs.Laws.{AloneItEnds}
 use Rattle.script_text.specs.Reading.{Reading as Script, script_of}
 use Rattle.script_text.specs.Steps.{all_steps}
@@ -93,8 +94,9 @@ report_legal script machine text is fit legal same =
 
 pub record_text_legal : (hash : HashKind) (told : Record) (text : List ℕ) (denials : List (List Refusal)) → IsRecordOf (recorded told) told → IsLegalRecord told → All EventFits told.events.items →
     told.limits.hash ≡ hash → text ≡ thread_report hash (state_of (recorded told)) denials → IsLegalText text (told_in hash (state_of (recorded told)))
-record_text_legal hash told text denials its legal fit same is =
+record_text_legal hash told text denials its (world, explains, shows) fit same is =
     let state = state_of (recorded told) in
+    let legal : IsLegal (hash_of told.limits.hash) told.events.items told.order.items = (world, explains) in
     let by_hash : IsLegal (hash_of hash) told.events.items told.order.items = subst (λ h. IsLegal (hash_of h) told.events.items told.order.items) same legal in
     let by_events : IsLegal (hash_of hash) state.events told.order.items = subst (λ es. IsLegal (hash_of hash) es told.order.items) its.history by_hash in
     told_legal hash state text (thread_report hash state denials) (subst (All EventFits) its.history fit)
@@ -102,15 +104,15 @@ record_text_legal hash told text denials its legal fit same is =
 
 -- ---- what is written
 
-pub is_report : AloneItEnds → (text : List ℕ) (script : Script) (bytes : List ℕ) → script_of text ≡ Ok script → bytes ≡ report script →
+pub is_report : AloneItEnds → ClosesEnd → (text : List ℕ) (script : Script) (bytes : List ℕ) → script_of text ≡ Ok script → bytes ≡ report script →
     IsLegalText bytes (told_in script.limits.hash (last_state script)) → IsReport text bytes
-is_report law text script bytes is whole right = record {
+is_report law closes text script bytes is whole right = record {
   script = script;
   read = is;
   whole = whole;
   legal = right;
   judged = judged_legal bytes (told_in script.limits.hash (last_state script)) right (subst IsShort (sym whole) (report_short text script is));
-  ends = each_line_ends law text script is;
+  ends = each_line_ends law closes text script is;
 }
 
 pub appends_judged : (old new : Option (List ℕ)) (text bytes : List ℕ) → IsReport text bytes → Appends old new bytes → AppendsJudged old new

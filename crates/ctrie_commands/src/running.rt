@@ -22,6 +22,7 @@ fn carried_out(alloc: Global, text: &[u8]) -> Result<String, Fault>
     ensures faults { IfErr result (IsOf (script_of text.now)) }
 {
     proof_obstruction_free::alone_it_ends();
+    proof_obstruction_free::closes_end();
     let script = read_script(alloc, text)?;
     Ok(report_of(alloc, &script)?)
 }
@@ -36,7 +37,7 @@ pub fn run_script<R: Read, W: Write>(
     requires output_count { failures output.old < 2 ^ 63 }
 
     // What the reader had is a script without a fault, and just its report was written. A `finish` or `do` has
-    // ended its operation, if its call is on one key or is a snapshot, freeze or clear, while enough steps are left.
+    // ended its operation, unless its call is entries or count, while enough steps are left.
     ensures written { OnOk result (IfSome (R.remaining (inner_of input.old)) (λ text.
         AppendsReport (W.contents (inner_of output.old)) (W.contents (inner_of output.new)) text)) }
     ensures all_read { OnOk result (IsAtEnd (R.remaining (inner_of input.new))) }

@@ -1,12 +1,9 @@
 //! The value of a key, found along its hash.
 
 ghost use Rattle.std.specs.Prelude.{◌≡◌};
-ghost use Rattle.ctrie_base.specs.Hashes.{hash_of};
-ghost use Rattle.slot_arena.specs.Heaps.{node_at, logical_main};
-ghost use Rattle.machine_model.specs.Contents.{most_levels};
-ghost use Rattle.machine_model.specs.States.{root_of, word_at};
-ghost use Rattle.proof_contents.specs.Nodes.Looking.{look_at, look_among, look_in, find_at};
-ghost use Rattle.plain_machine.specs.Finding.{meant};
+ghost use Rattle.slot_arena.specs.Heaps.{node_at};
+ghost use Rattle.proof_contents.specs.Nodes.Looking.{look_at, look_among, look_in};
+ghost use Rattle.plain_machine.specs.Finding.{found_along, meant};
 ghost use Rattle.plain_state.specs.Seen.{seen};
 
 use crate::contents::MOST_LEVELS;
@@ -26,7 +23,7 @@ pub enum Found {
 
 /// The value of the key in the handle's map.
 pub fn value_of(parts: &Parts, handle: u16, key: u64) -> Option<u64>
-    ensures { result ≡ find_at (node_at (seen parts.now).heap) (logical_main (seen parts.now).heap) (hash_of (seen parts.now).limits.hash) key most_levels 0 (root_of (word_at (seen parts.now) handle)) }
+    ensures { result ≡ found_along (seen parts.now) handle key }
 {
     let hash = parts.key_hash(key);
     let mut at = root_of(parts.word(handle));

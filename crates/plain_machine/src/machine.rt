@@ -1,14 +1,13 @@
 //! The plain machine as one value.
 
 ghost use Rattle.std.specs.Prelude.{◌≡◌, length, option_map, None, Some, IsSome, IfOk, IfErr, OnOk, IsOkUnless};
-ghost use Rattle.ctrie_base.specs.Hashes.{hash_of};
-ghost use Rattle.slot_arena.specs.Heaps.{in_use, node_at, logical_main};
-ghost use Rattle.machine_model.specs.States.{first_state, root_at, root_of, word_at};
+ghost use Rattle.slot_arena.specs.Heaps.{in_use};
+ghost use Rattle.machine_model.specs.States.{first_state, root_at};
 ghost use Rattle.machine_model.specs.Orders.{order_of};
-ghost use Rattle.machine_model.specs.Contents.{content_at, most_levels};
+ghost use Rattle.machine_model.specs.Contents.{content_at};
 ghost use Rattle.machine_model.specs.Machine.{next, is_running, is_busy, next_kind, runs_on, denial_of, is_access, access_of, handles_taken, AreLimits};
-ghost use Rattle.proof_contents.specs.Nodes.Looking.{find_at};
 ghost use Rattle.plain_machine.specs.Bounds.{Applies};
+ghost use Rattle.plain_machine.specs.Finding.{found_along};
 ghost use Rattle.machine_model.specs.Refusing.{RefusesLimits, RefusesContent};
 
 use crate::actors::{is_running, runs_on};
@@ -113,7 +112,7 @@ impl Plain {
     /// The value of a key in the map of an open handle, found along its hash. `NoHandle` exactly where the
     /// handle isn't open; there is no other refusal.
     pub fn value_at(&self, handle: u16, key: u64) -> Result<Option<u64>, Refusal>
-        ensures found { IfOk result (λ value. value ≡ find_at (node_at self.now.heap) (logical_main self.now.heap) (hash_of self.now.limits.hash) key most_levels 0 (root_of (word_at self.now handle))) }
+        ensures found { IfOk result (λ value. value ≡ found_along self.now handle key) }
         ensures open { OnOk result (IsSome (root_at self.now handle)) }
         ensures refused { IfErr result (λ refusal. (root_at self.now handle ≡ None) × (refusal ≡ Refusal.NoHandle)) }
     {

@@ -97,18 +97,18 @@ module _ (machine : Taken) (actor : ℕ) where
       (rw (on k (omega (arith, sum))).1 refl, subst (EndsIn (suc m) actor) (one_more k) (left m (suc k) n id (omega (arith, sum)) on last))
 
   -- an answer to a run of these is that of one of them
-  told_at : (n k : ℕ) (answer : Reply) (last : Taken) → going_on n actor (after k) ≡ (Ok (Some answer), last) →
-      (j : ℕ) × (id : ℕ) × (state : State) × (next (state_of (after j)) (step.Go actor) ≡ Ok (outcome.Ended id answer, state))
+  abbrev ToldAt : Reply → Type 0
+  ToldAt answer = (j : ℕ) × (id : ℕ) × (state : State) × (next (state_of (after j)) (step.Go actor) ≡ Ok (outcome.Ended id answer, state))
+
+  told_at : (n k : ℕ) (answer : Reply) (last : Taken) → going_on n actor (after k) ≡ (Ok (Some answer), last) → ToldAt answer
   unfolding going_on
   told_at zero k answer last goes = absurd (unanswered answer (after k) last goes)
   told_at (suc n) k answer last goes =
       by_reply n k answer last (λ e. told_at n (suc k) answer last (subst (λ m. going_on n actor m ≡ (Ok (Some answer), last)) (sym (one_more k)) e))
       (next (state_of (after k)) (step.Go actor)) refl goes
     where
-      by_reply : (n k : ℕ) (answer : Reply) (last : Taken) → (going_on n actor (with_step (after k) (step.Go actor)) ≡ (Ok (Some answer), last) →
-          (j : ℕ) × (id : ℕ) × (state : State) × (next (state_of (after j)) (step.Go actor) ≡ Ok (outcome.Ended id answer, state))) → (reply : Answer) → next (state_of (after k)) (step.Go actor) ≡ reply →
-          after_go (going_on n actor) (after k) actor reply ≡ (Ok (Some answer), last) →
-          (j : ℕ) × (id : ℕ) × (state : State) × (next (state_of (after j)) (step.Go actor) ≡ Ok (outcome.Ended id answer, state))
+      by_reply : (n k : ℕ) (answer : Reply) (last : Taken) → (going_on n actor (with_step (after k) (step.Go actor)) ≡ (Ok (Some answer), last) → ToldAt answer) → (reply : Answer) →
+          next (state_of (after k)) (step.Go actor) ≡ reply → after_go (going_on n actor) (after k) actor reply ≡ (Ok (Some answer), last) → ToldAt answer
       by_reply n k answer last more (Err why) is goes = absurd (denied_parts why answer (after k) last goes)
       by_reply n k answer last more (Ok (outcome.Ended id said, state)) is goes =
           let (same, to) = answered_parts said answer (with_step (after k) (step.Go actor)) last goes in
@@ -139,7 +139,9 @@ module _ (machine : Taken) (actor : ℕ) where
     leads (inl call) = law machine.limits machine.steps actor operation (alone_facts call)
     leads (inr closing) =
         let ends_now = (closes machine.limits machine.steps actor operation runs closing (omega (arith, sure.1))).0 in
-        (0, omega arith, (λ k below. absurd (omega (arith, below))), (Closed, subst (λ m. next (state_of m) (step.Go actor) ≡ Ok (outcome.Ended operation.id Closed, alone_after machine.limits machine.steps actor 1)) (sym begins) ends_now))
+        let last = alone_after machine.limits machine.steps actor 1 in
+        let ends_here = subst (λ m. next (state_of m) (step.Go actor) ≡ Ok (outcome.Ended operation.id Closed, last)) (sym begins) ends_now in
+        (0, omega arith, (λ k below. absurd (omega (arith, below))), (Closed, ends_here))
 
     -- the steps come to the end
     answered : (answer : Reply) × (last : Taken) × (going_on go_limit actor machine ≡ (Ok (Some answer), last))
@@ -155,7 +157,8 @@ module _ (machine : Taken) (actor : ℕ) where
         (suc n, omega (arith, few), subst (EndsIn (suc n) actor) begins (left n 0 n operation.id (omega arith) on last))
 
     -- where enough slots are free none of them is refused for want of slots
-    not_refused : EnoughSlots → operation.line ≢ line.End NoSlots → enough_slots ≤ length (state_of machine).heap.free → IsOnKeyOrRoot operation.call ⊎ (is_close operation.call ≡ true) → (n : ℕ) (last : Taken) →
+    not_refused : EnoughSlots → operation.line ≢ line.End NoSlots → enough_slots ≤ length (state_of machine).heap.free →
+        IsOnKeyOrRoot operation.call ⊎ (is_close operation.call ≡ true) → (n : ℕ) (last : Taken) →
         going_on n actor machine ≡ (Ok (Some NoSlots), last) → ⊥
     not_refused spare stands free (inl call) n last goes =
         let (j, id, state, e) = told_at n 0 NoSlots last (subst (λ m. going_on n actor m ≡ (Ok (Some NoSlots), last)) (sym begins) goes) in
@@ -163,7 +166,8 @@ module _ (machine : Taken) (actor : ℕ) where
     not_refused spare stands free (inr closing) n last goes =
         closed_told n operation.id last (alone_after machine.limits machine.steps actor 1) (closes machine.limits machine.steps actor operation runs closing (omega (arith, sure.1))).0 goes
 
-    pub spared : EnoughSlots → operation.line ≢ line.End NoSlots → enough_slots ≤ length (state_of machine).heap.free → (n : ℕ) (last : Taken) → going_on n actor machine ≡ (Ok (Some NoSlots), last) → ⊥
+    pub spared : EnoughSlots → operation.line ≢ line.End NoSlots → enough_slots ≤ length (state_of machine).heap.free → (n : ℕ) (last : Taken) →
+        going_on n actor machine ≡ (Ok (Some NoSlots), last) → ⊥
     spared spare stands free = not_refused spare stands free (bounded operation.call sure.0)
 
     -- so that is what they come to
@@ -243,7 +247,8 @@ module _ (law : EachStepLeadsToItsEnd) (closes : ClosesEnd) (spare : EnoughSlots
   spared_behind d =
       spared (middle before actor call d) actor law closes sizes (All-push FitsKey before.steps (step.Begin actor call) keys fits) (begun_operation (state_of before) call)
       (begun_runs_on before actor call d) (sure_behind before actor call d most_steps_alone sure) spare first_stands
-      (subst (λ h. enough_slots ≤ length h.free) (sym (ap (λ (s : State). s.heap) (led_so before actor call d) ∙ begin_heap (state_of before) actor call (begun_operation (state_of before) call))) free)
+      (subst (λ h. enough_slots ≤ length h.free)
+      (sym (ap (λ (s : State). s.heap) (led_so before actor call d) ∙ begin_heap (state_of before) actor call (begun_operation (state_of before) call))) free)
 
   spares_by : (after : Taken) (denial : Option Refusal) → begin_denial (state_of before) actor call ≡ denial → CompletesUnless denial (Ok (Some NoSlots)) before actor call after → ⊥
   spares_by after (Some why) d c = cc c.0

@@ -1,16 +1,17 @@
 -- Steps of an operation, one after the other.
-use Rattle.std.specs.Prelude.{◌≡◌, ◌<◌, ◌≤◌, ◌+◌, ◌-◌, ℕ, zero, suc, Some, None, Ok, Err}
-use Rattle.std.proofs.Common.{refl, sym, ap, subst, arith, zero-add, ◌∙◌}
+use Rattle.std.specs.Prelude.{◌≡◌, ◌<◌, ◌≤◌, ◌+◌, ◌-◌, ℕ, zero, suc, List, [], ◌∷◌, ◌++◌, Option, Some, None, Result, Ok, Err}
+use Rattle.std.proofs.Common.{refl, sym, ap, subst, append-nil, append_assoc, arith, zero-add, ◌∙◌}
 use Rattle.ctrie_base.specs.declared.refusals.Refusal.{Refusal}
 use Rattle.ctrie_base.specs.declared.refusals.Refusal.TheVariants as refuse
 use Rattle.history.specs.declared.replies.Reply.{Reply}
+use Rattle.machine_model.specs.declared.steps.Step.{Step}
 use Rattle.machine_model.specs.declared.steps.Step.TheVariants.{Go}
 use Rattle.machine_model.specs.declared.steps.Outcome.{Outcome}
 use Rattle.machine_model.specs.declared.steps.Outcome.TheVariants as outcome
 use Rattle.machine_model.specs.Machine.{Answer, next, denial_of}
 use Rattle.step_machine.specs.Machines.{Taken, state_of, with_step, Applied}
 use Rattle.machine_model.specs.Going.{go_limit}
-use Rattle.step_machine.specs.Callers.{after_outcome, after_go, going_on, Resumes}
+use Rattle.step_machine.specs.Callers.{Going, after_outcome, after_go, going_on, Resumes}
 
 -- what goes on after this outcome leads on
 onwards : (k actor : ℕ) (n : ℕ) (from machine : Taken) (o : Outcome) →
@@ -78,3 +79,30 @@ goes i actor (outcome.Swept done) from machine after so step other =
 pub reached : (i actor : ℕ) (from machine : Taken) → go_limit ≤ i → i ≤ go_limit → going_on i actor from ≡ (Ok None, machine) →
     going_on go_limit actor from ≡ (Ok None, machine)
 reached i actor from machine low high so = subst (λ n. going_on n actor from ≡ (Ok None, machine)) (omega (arith, low, high)) so
+
+-- ---- what has been taken
+
+-- the machine behind it has more steps
+pub record HasMore (before after : Taken) : Type 0 where
+  pub more : List Step
+  pub steps : after.steps ≡ before.steps ++ more
+  pub limits : after.limits ≡ before.limits
+
+same_more : (machine after : Taken) → machine ≡ after → HasMore machine after
+same_more machine after is = record { more = []; steps = ap (λ (m : Taken). m.steps) (sym is) ∙ sym (append-nil machine.steps); limits = ap (λ (m : Taken). m.limits) (sym is) }
+
+one_more : (actor : ℕ) (machine after : Taken) → HasMore (with_step machine (Go actor)) after → HasMore machine after
+one_more actor machine after h = record { more = Go actor ∷ h.more; steps = h.steps ∙ append_assoc machine.steps (Go actor ∷ []) h.more; limits = h.limits }
+
+more_by : (n actor : ℕ) (machine after : Taken) (result : Result (Option Reply) Refusal) → ((m : Taken) → going_on n actor m ≡ (result, after) → HasMore m after) → (answer : Answer) →
+    after_go (going_on n actor) machine actor answer ≡ (result, after) → HasMore machine after
+more_by n actor machine after result rest (Err why) e = same_more machine after (ap (λ (g : Going). g.1) e)
+more_by n actor machine after result rest (Ok (outcome.Ended id said, state)) e = one_more actor machine after (same_more (with_step machine (Go actor)) after (ap (λ (g : Going). g.1) e))
+more_by n actor machine after result rest (Ok (outcome.Began id, state)) e = one_more actor machine after (rest (with_step machine (Go actor)) e)
+more_by n actor machine after result rest (Ok (outcome.Went kind, state)) e = one_more actor machine after (rest (with_step machine (Go actor)) e)
+more_by n actor machine after result rest (Ok (outcome.Swept done, state)) e = one_more actor machine after (rest (with_step machine (Go actor)) e)
+
+pub has_more : (n actor : ℕ) (machine after : Taken) (result : Result (Option Reply) Refusal) → going_on n actor machine ≡ (result, after) → HasMore machine after
+unfolding going_on
+has_more zero actor machine after result e = same_more machine after (ap (λ (g : Going). g.1) e)
+has_more (suc n) actor machine after result e = more_by n actor machine after result (λ m f. has_more n actor m after result f) (next (state_of machine) (Go actor)) e

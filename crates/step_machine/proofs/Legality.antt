@@ -1,8 +1,9 @@
 -- The legal order of a machine, from the laws.
-use Rattle.std.specs.Prelude.{◌≡◌, ℕ, ◌+◌, List, ◌++◌, Option, Some, None, option_map, Result, Ok, Err, IfOk, IfErr, OnOk, IsSome, Vec, false}
+use Rattle.std.specs.Prelude.{◌≡◌, ℕ, ◌+◌, List, ◌++◌, Option, Some, None, option_map, Result, Ok, Err, IfOk, IfErr, OnOk, IsSome, Vec, false, ◌≤◌, [], ◌∷◌, length}
 use Rattle.std.specs.FinMap as map
 use Rattle.std.specs.Ordering.{nat_cmp}
-use Rattle.std.proofs.Common.{refl, sym, ap, subst, ◌∙◌, inl, inr, arith}
+use Rattle.std.proofs.Common.{refl, sym, ap, subst, ◌∙◌, inl, inr, arith, get_or}
+use Rattle.std.proofs.lemmas.List.Elements.{All-contains, Contains-append_left, Contains-get_or, Contains-push}
 use Rattle.std.proofs.lemmas.Option.{same_Some}
 use Rattle.std.specs.declared.alloc.Global.{Global}
 use Rattle.ctrie_base.specs.Hashes.{hash_of}
@@ -11,16 +12,18 @@ use Rattle.ctrie_base.specs.declared.refusals.Refusal.TheVariants.{NoHandle}
 use Rattle.history.specs.declared.calls.Access.TheVariants.{Writable}
 use Rattle.history.specs.declared.calls.Call.{Call}
 use Rattle.history.specs.declared.replies.Reply.{Reply}
+use Rattle.history.specs.declared.replies.Reply.TheVariants.{NoSlots}
 use Rattle.history.specs.Worlds.{HandleState, HandleMap}
 use Rattle.history.specs.Orders.{Explains}
 use Rattle.machine_model.specs.declared.roots.Root.{Root}
 use Rattle.machine_model.specs.declared.steps.Limits.{Limits}
 use Rattle.machine_model.specs.declared.steps.Outcome.{Outcome}
+use Rattle.machine_model.specs.declared.steps.Step.{Step}
 use Rattle.machine_model.specs.declared.steps.Step.TheVariants as step
 use Rattle.machine_model.specs.States.{State, first_state, root_at}
 use Rattle.machine_model.specs.Orders.{order_of}
 use Rattle.machine_model.specs.Contents.{content_at}
-use Rattle.machine_model.specs.Keys.{KeysFit}
+use Rattle.machine_model.specs.Keys.{FitsKey, KeysFit}
 use Rattle.machine_model.specs.Machine.{AreLimits, next, access_of, begin_denial, begin_unless, is_access, is_busy, run, state_after}
 use Rattle.machine_model.specs.Going.{go_limit}
 use Rattle.machine_model.proofs.Along.{run_push}
@@ -32,7 +35,12 @@ use Rattle.step_machine.specs.Callers.{going_on, Resumes, Completes, CompletesUn
 use Rattle.step_machine.specs.declared.records.Record.{Record}
 use Rattle.step_machine.specs.Records.{IsRecordOf}
 use Rattle.step_machine.specs.Legality.{IsLegalFor, IsLegalRecord, LeadsToContents, HasInOrder, InOrder, IsInOrder, writable_in, ActedAlone, RestsIfAnswered, WentAlone}
-use Rattle.step_machine.proofs.Going.{going-append}
+use Rattle.step_machine.proofs.Going.{HasMore, going-append, has_more}
+use Rattle.step_machine.proofs.Ending.{spared_behind}
+use Rattle.step_machine.specs.Ending.{IsSpared, IsSure, enough_slots}
+use Rattle.proof_obstruction_free.specs.Closes.{ClosesEnd}
+use Rattle.proof_obstruction_free.specs.Laws.{EachStepLeadsToItsEnd, most_steps_alone}
+use Rattle.proof_obstruction_free.specs.Slots.{EnoughSlots}
 use Rattle.step_machine.proofs.Resting.{OnlyRuns, leads_to_rest, only_at_rest, still_only, unanswered_at_rest}
 use Rattle.step_machine.proofs.Telling.{Tells, stepped, tells}
 
@@ -164,7 +172,8 @@ module _ (before after : Taken) (actor : ℕ) (call : Call) (rest : is_busy (sta
     acted_by answer told =
         let led = told.led in
         let same : state_of after ≡ run before.limits (before.steps ++ led.more) = ap (λ l. run l after.steps) led.limits ∙ ap (run before.limits) led.steps in
-        let alone : RanAlone (state_of before) (run before.limits (before.steps ++ led.more)) told.id actor call told.opens answer = record { rest = rest; told = sym (ap (λ (s : State). s.events) same) ∙ led.events } in
+        let alone : RanAlone (state_of before) (run before.limits (before.steps ++ led.more)) told.id actor call told.opens answer =
+        record { rest = rest; told = sym (ap (λ (s : State). s.events) same) ∙ led.events } in
         let acts = law before.limits before.steps led.more told.id actor call told.opens answer (subst AreLimits led.limits sizes) (subst KeysFit led.steps keys) alone in
         subst (λ s. (id : ℕ) × (opens : Option ℕ) × (world next : HandleMap) × ShowsContents world (state_of before) × ShowsContents next s
         × Does (hash_of before.limits.hash) (state_of before) s id call opens answer world next) (sym same)
@@ -195,3 +204,28 @@ module _ (before machine after : Taken) (actor : ℕ) (call : Call) (went : Went
       (goes_further before after actor call went.0 went.1.0 go_limit machine answer went.1.1 goes)
   acted_again law sizes keys (Ok None) goes = tt
   acted_again law sizes keys (Err why) goes = tt
+
+  -- the steps before it are some of those behind it
+  more : (k : ℕ) (answer : Reply) → going_on k actor machine ≡ (Ok (Some answer), after) → HasMore (with_step before (step.Begin actor call)) after
+  more k answer goes =
+      has_more (went.1.0 + k) actor (with_step before (step.Begin actor call)) after (Ok (Some answer)) (goes_further before after actor call went.0 went.1.0 k machine answer went.1.1 goes)
+
+  in_front : (xs ys : List Step) → KeysFit (xs ++ ys) → KeysFit xs
+  in_front xs ys all = λ i d within. All-contains FitsKey (xs ++ ys) (get_or xs i d) all (Contains-append_left xs ys (get_or xs i d) (Contains-get_or xs i d within))
+
+  spared_by : (law : EachStepLeadsToItsEnd) (closes : ClosesEnd) (spare : EnoughSlots) → AreLimits after.limits → KeysFit after.steps → IsSure (state_of before) call (1 + most_steps_alone) →
+      enough_slots ≤ length (state_of before).heap.free → going_on go_limit actor machine ≡ (Ok (Some NoSlots), after) → (denial : Option Refusal) →
+      begin_denial (state_of before) actor call ≡ denial → ⊥
+  spared_by law closes spare sizes keys sure free goes (Some why) d =
+      not_denied before after actor call went.0 (went.1.0 + go_limit) NoSlots why d (goes_further before after actor call went.0 went.1.0 go_limit machine NoSlots went.1.1 goes)
+  spared_by law closes spare sizes keys sure free goes None d =
+      let h = more go_limit NoSlots goes in
+      let fit = in_front (before.steps ++ step.Begin actor call ∷ []) h.more (subst KeysFit h.steps keys) in
+      spared_behind law closes spare before actor call (subst AreLimits h.limits sizes) (in_front before.steps (step.Begin actor call ∷ []) fit)
+      (All-contains FitsKey (before.steps ++ step.Begin actor call ∷ []) (step.Begin actor call) fit (Contains-push before.steps (step.Begin actor call))) sure free d (went.1.0 + go_limit) after
+      (goes_further before after actor call went.0 went.1.0 go_limit machine NoSlots went.1.1 goes)
+
+  pub spares_again : EachStepLeadsToItsEnd → ClosesEnd → EnoughSlots → AreLimits after.limits → KeysFit after.steps → (result : Result (Option Reply) Refusal) → Resumes result machine actor after →
+      IsSpared before call result
+  spares_again law closes spare sizes keys result goes sure free is =
+      spared_by law closes spare sizes keys sure free (subst (λ r. Resumes r machine actor after) is goes) (begin_denial (state_of before) actor call) refl

@@ -12,6 +12,7 @@ use Rattle.machine_model.specs.Contents.{content_at, most_levels}
 use Rattle.machine_model.specs.Keys.{KeysFit}
 use Rattle.machine_model.specs.Machine.{AreLimits}
 use Rattle.machine_model.specs.States.{root_at, root_of, word_at, word_of}
+use Rattle.plain_machine.specs.Finding.{found_along}
 use Rattle.proof_updates.specs.Laws.Values.{FoundAlongHashes}
 use Rattle.step_machine.specs.Machines.{Taken, state_of}
 use Rattle.machine_model.specs.declared.steps.Limits.{Limits}
@@ -20,12 +21,13 @@ use Rattle.proof_memory.proofs.Safety.AtEachTime.{limits_along}
 module _ (law : FoundAlongHashes) (machine : Taken) (ok : AreLimits machine.limits) (keys : KeysFit machine.steps) (handle key : ℕ) where
   -- what is found there
   abbrev found : Option ℕ
-  found = find_at (node_at (state_of machine).heap) (logical_main (state_of machine).heap) (hash_of (state_of machine).limits.hash) key most_levels 0 (root_of (word_at (state_of machine) handle))
+  found = found_along (state_of machine) handle key
 
   by_root : (o : Option Root) → root_at (state_of machine) handle ≡ o → IsSome o → found ≡ map.find nat_cmp key (content_at (state_of machine) handle)
   by_root None at some = cc some
   by_root (Some root) at some =
-      ap (λ h. find_at (node_at (state_of machine).heap) (logical_main (state_of machine).heap) (hash_of h) key most_levels 0 (root_of (word_at (state_of machine) handle))) (ap (λ (l : Limits). l.hash) (limits_along machine.limits machine.steps))
+      ap (λ h. find_at (node_at (state_of machine).heap) (logical_main (state_of machine).heap) (hash_of h) key most_levels 0 (root_of (word_at (state_of machine) handle)))
+      (ap (λ (l : Limits). l.hash) (limits_along machine.limits machine.steps))
       ∙ ap (λ o. find_at (node_at (state_of machine).heap) (logical_main (state_of machine).heap) (hash_of machine.limits.hash) key most_levels 0 (root_of (word_of o))) at
       ∙ sym (law machine.limits machine.steps handle root key ok keys at)
 

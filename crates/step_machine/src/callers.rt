@@ -67,6 +67,7 @@ impl Machine {
         ensures alone { (before : Taken) (call : Call) → WentAlone before actor call self.old → ActedAlone result before call self.new }
         ensures rests { (before : Taken) (call : Call) → WentAlone before actor call self.old → RestsIfAnswered result self.new }
         ensures ends { ResumesIfSure self.old actor result }
+        ensures spare { (before : Taken) (call : Call) → WentAlone before actor call self.old → IsSpared before call result }
     {
         let _ = self.limits();
         let _ = self.steps();
@@ -76,6 +77,7 @@ impl Machine {
         proof_linearizable::alone_it_acts();
         proof_obstruction_free::each_step_leads_to_its_end();
         proof_obstruction_free::closes_end();
+        proof_obstruction_free::enough_slots();
         result
     }
 

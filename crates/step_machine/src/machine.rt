@@ -3,16 +3,15 @@
 ghost use Rattle.std.specs.Prelude.{◌≡◌, ◌≢◌, ◌+◌, ℕ, length, None, option_map, Some, Ok, IsSome, IfOk, IfErr, OnOk, IsOkUnless};
 ghost use Rattle.std.specs.FinMap as map;
 ghost use Rattle.std.specs.Ordering.{nat_cmp};
-ghost use Rattle.ctrie_base.specs.Hashes.{hash_of};
 ghost use Rattle.ctrie_base.specs.declared.kinds.Kind.TheVariants.{Make};
 ghost use Rattle.history.specs.declared.calls.Access.TheVariants.{ReadOnly};
 ghost use Rattle.history.specs.declared.replies.Reply.TheVariants.{NoSlots};
 ghost use Rattle.machine_model.specs.declared.operations.Operation.{Operation};
-ghost use Rattle.machine_model.specs.States.{root_at, root_of, word_at, operation_of};
-ghost use Rattle.step_machine.specs.Beneath.slot_arena.specs.Heaps.{in_use, logical_main, node_at};
+ghost use Rattle.machine_model.specs.States.{root_at, operation_of};
+ghost use Rattle.step_machine.specs.Beneath.slot_arena.specs.Heaps.{in_use};
 ghost use Rattle.machine_model.specs.Orders.{order_of};
-ghost use Rattle.machine_model.specs.Contents.{content_at, most_levels};
-ghost use Rattle.step_machine.specs.Beneath.proof_contents.specs.Nodes.Looking.{find_at};
+ghost use Rattle.machine_model.specs.Contents.{content_at};
+ghost use Rattle.plain_machine.specs.Finding.{found_along};
 ghost use Rattle.machine_model.specs.Keys.{KeysFit};
 ghost use Rattle.machine_model.specs.Machine.{AreLimits, denial_of, is_running, is_busy, runs_on, next_kind, handles_taken, is_access, access_of};
 ghost use Rattle.machine_model.specs.Refusing.{RefusesLimits, RefusesContent};
@@ -209,7 +208,7 @@ impl Machine {
 
     /// What is found along the key's hash.
     fn looked_up(&self, handle: u16, key: u64) -> Result<Option<u64>, Refusal>
-        ensures found { IfOk result (λ value. value ≡ find_at (node_at (state_of self.now).heap) (logical_main (state_of self.now).heap) (hash_of (state_of self.now).limits.hash) key most_levels 0 (root_of (word_at (state_of self.now) handle))) }
+        ensures found { IfOk result (λ value. value ≡ found_along (state_of self.now) handle key) }
         ensures open { OnOk result (IsSome (root_at (state_of self.now) handle)) }
         ensures refused { IfErr result (λ refusal. (root_at (state_of self.now) handle ≡ None) × (refusal ≡ Refusal.NoHandle)) }
     {

@@ -154,7 +154,8 @@ module _ (limits : Limits) (states : ℕ → State) (steps : ℕ → Step) (last
     below_among (single ∷ singles) all j e =
         by_first (λ f. below_among singles (λ r c. all r (behind single r singles c)) j f) (look_at key single (trie.node single)) refl e
       where
-        by_first : (look_among trie.node key singles ≡ Below j → IsInUse heap j × (is_indirection (trie.node j) ≡ true)) → (f : Found) → look_at key single (trie.node single) ≡ f → or_else f (look_among trie.node key singles) ≡ Below j → IsInUse heap j × (is_indirection (trie.node j) ≡ true)
+        by_first : (look_among trie.node key singles ≡ Below j → IsInUse heap j × (is_indirection (trie.node j) ≡ true)) → (f : Found) → look_at key single (trie.node single) ≡ f →
+            or_else f (look_among trie.node key singles) ≡ Below j → IsInUse heap j × (is_indirection (trie.node j) ≡ true)
         by_first rest Absent is e = rest e
         by_first rest (Has v) is bad = cc bad
         by_first rest (Below k) is down =

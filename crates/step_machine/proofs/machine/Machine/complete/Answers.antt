@@ -12,8 +12,8 @@ returns-clause-rests c rest = rests c.args.self.now c.begin_and_go-result.new.se
 
 pub returns-clause-ends : goal.returns-clause-ends
 returns-clause-ends c sure =
-    completed c.each_step_leads_to_its_end.ensures c.closes_end.ensures c.args.self.now c.begin_and_go-result.new.self c.args.actor c.args.call c.limits.ensures.in_range c.steps.ensures.keys c.fits.ensures sure
-    c.begin_and_go-result.result c.begin_and_go-result.ensures
+    completed c.each_step_leads_to_its_end.ensures c.closes_end.ensures c.args.self.now c.begin_and_go-result.new.self c.args.actor c.args.call c.limits.ensures.in_range c.steps.ensures.keys
+    c.fits.ensures sure c.begin_and_go-result.result c.begin_and_go-result.ensures
 
 pub returns-clause-spare : goal.returns-clause-spare
 returns-clause-spare c sure free =
