@@ -16,7 +16,7 @@ use Rattle.plain_machine.specs.Finding.{found_along}
 use Rattle.proof_updates.specs.Laws.Values.{FoundAlongHashes}
 use Rattle.step_machine.specs.Machines.{Taken, state_of}
 use Rattle.machine_model.specs.declared.steps.Limits.{Limits}
-use Rattle.proof_memory.proofs.Safety.AtEachTime.{limits_along}
+use Rattle.machine_model.proofs.Along.{limits_along}
 
 module _ (law : FoundAlongHashes) (machine : Taken) (ok : AreLimits machine.limits) (keys : KeysFit machine.steps) (handle key : ℕ) where
   -- what is found there

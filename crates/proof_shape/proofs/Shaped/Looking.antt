@@ -27,14 +27,14 @@ use Rattle.proof_shape.specs.Beneath.proof_contents.specs.Nodes.Looking.{Absent,
 use Rattle.proof_shape.specs.Beneath.proof_contents.specs.InUse.{ReachesInUse}
 use Rattle.proof_shape.specs.Beneath.proof_contents.specs.Pairs.{pairs_from}
 use Rattle.proof_shape.specs.Beneath.proof_memory.specs.Wants.{is_indirection}
-use Rattle.proof_shape.specs.Beneath.proof_contents.specs.Runs.{main_at}
+use Rattle.proof_shape.specs.Beneath.proof_contents.specs.Runs.{counting_main}
 use Rattle.proof_shape.specs.Beneath.proof_contents.specs.Steps.{IsTrie}
 use Rattle.proof_shape.specs.Beneath.proof_contents.specs.Tries.{IsShaped, Trie, branch, list, tomb}
 use Rattle.proof_shape.specs.Beneath.proof_contents.proofs.Nodes.Changes.{look_branch, look_place}
 use Rattle.proof_shape.specs.Beneath.proof_contents.proofs.Pairs.Heap as pairs
 use Rattle.proof_shape.specs.Beneath.proof_contents.proofs.Pairs.Lists.{by_key_found, found_in}
 use Rattle.proof_shape.specs.Beneath.proof_contents.proofs.Pairs.Shown.{shows}
-use Rattle.proof_shape.specs.Beneath.proof_contents.proofs.Values.Runs.{main_at-last}
+use Rattle.proof_shape.specs.Beneath.proof_contents.proofs.Values.Runs.{counting_main-last}
 use Rattle.proof_shape.specs.Agreeing.{LookingFinds}
 use Rattle.proof_shape.specs.Sites.At.{StepsFit, TakesSteps}
 use Rattle.proof_shape.specs.Sites.Lines.{bare}
@@ -117,7 +117,7 @@ module _ (limits : Limits) (states : ℕ → State) (steps : ℕ → Step) (last
   Reached i = IsReached (states last) i
 
   abbrev last_main : Ref → Ref
-  last_main i = main_at states last last i
+  last_main i = counting_main states last last i
 
   abbrev in_heap : ℕ → ℕ → ℕ → Ref → Option ℕ
   in_heap q levels depth i = find_at (node_at heap) (logical_main heap) (hash_of limits.hash) q levels depth i
@@ -175,7 +175,7 @@ module _ (limits : Limits) (states : ℕ → State) (steps : ℕ → Step) (last
       main_reached = pairs.logical_reached states last reaches i h w reached is
 
       under : node_at heap main ≡ node_under states last (last_main i)
-      under = node_is main main_reached ∙ ap (node_under states last) (pairs.logical_is states last reaches i h w reached is ∙ sym (main_at-last states last i))
+      under = node_is main main_reached ∙ ap (node_under states last) (pairs.logical_is states last reaches i h w reached is ∙ sym (counting_main-last states last i))
 
       entry_reached : (n : Node) → node_at heap main ≡ n → (e : Ref) → Contains (entries_of n) e → Reached e
       entry_reached n e_n e c = of_node main e main_reached (subst (λ m. Contains (entries_of m) e) (sym e_n) c)
