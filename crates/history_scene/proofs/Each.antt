@@ -1,6 +1,9 @@
 -- Each operation that has begun has exactly one bar.
 use Rattle.std.proofs.Common.{◌≡◌, ◌↔◌, ◌<◌, ◌+◌, ℕ, List, take, length, Option, Some, None, IsNone, IfSome, slice_get, inl, inr, refl, sym, ap, ◌∙◌, arith, add-one}
-use Rattle.std.proofs.lemmas.Bool.{cases_order}
+use Rattle.std.specs.Prelude.{String}
+use Rattle.std.specs.Option.{option_map}
+use Rattle.std.specs.declared.alloc.Global.{Global}
+use Rattle.std.proofs.lemmas.Bool.{cases_order, true≢false}
 use Rattle.std.proofs.lemmas.Option.{slice_get_within}
 use Rattle.std.proofs.lemmas.List.{take_all}
 use Rattle.history.specs.declared.replies.Reply.{Reply}
@@ -12,9 +15,11 @@ use Rattle.history.specs.Orders.{IsLegal}
 use Rattle.history.specs.Faults.{IsFirstFault}
 use Rattle.history.proofs.Places.{at_within, in_take}
 use Rattle.history.proofs.Begins.{begins_once, begun_more, begun_grows}
+use Rattle.history.proofs.Legal.{not_legal}
+use Rattle.history_text.specs.FaultTexts.{fault_text}
 use Rattle.history_scene.specs.declared.scenes.Bar.{Bar}
 use Rattle.history_scene.specs.declared.scenes.Scene.{Scene}
-use Rattle.history_scene.specs.Scenes.{Ends, IsBar, IsScene, Judges}
+use Rattle.history_scene.specs.Scenes.{Ends, IsBar, IsScene, Judges, text_in}
 use Rattle.history_scene.specs.Laws.{HasItsEnds, HasEachOperation}
 
 -- an operation's id is below the number of those that have begun
@@ -80,3 +85,11 @@ pub judges_of : (hash : ℕ → ℕ) (history : List Event) (order : List ℕ) (
     → Judges hash history order fault
 judges_of hash history order None exact first = exact.0 refl
 judges_of hash history order (Some fault) exact first = first
+
+-- a reason is told exactly where the order isn't legal
+pub told_unless_legal : (hash : ℕ → ℕ) (history : List Event) (order : List ℕ) (reason : Option (String Global)) (fault : Option OrderFault) → text_in reason ≡ option_map fault_text fault
+    → Judges hash history order fault → IsNone reason ↔ IsLegal hash history order
+told_unless_legal hash history order None None same judged = (λ none. judged, λ legal. refl)
+told_unless_legal hash history order None (Some fault) same judged = let wrong : ⊥ = cc same in absurd wrong
+told_unless_legal hash history order (Some text) None same judged = let wrong : ⊥ = cc same in absurd wrong
+told_unless_legal hash history order (Some text) (Some fault) same judged = (λ none. absurd (true≢false none), λ legal. absurd (not_legal hash history order fault judged legal))

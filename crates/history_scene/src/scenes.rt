@@ -1,9 +1,10 @@
 //! The scene of a history and an order.
 
-ghost use Rattle.std.specs.Prelude.{◌≡◌, IfOk, IsOkUnless};
+ghost use Rattle.std.specs.Prelude.{◌≡◌, ◌↔◌, IsNone, IfOk, IsOkUnless};
 ghost use Rattle.std.specs.Option.{option_copied, option_map};
 ghost use Rattle.ctrie_base.specs.Hashes.{hash_of};
 ghost use Rattle.history.specs.Histories.{IsWellFormed};
+ghost use Rattle.history.specs.Orders.{IsLegal};
 ghost use Rattle.history_text.specs.FaultTexts.{fault_text};
 ghost use Rattle.history_scene.specs.Scenes.{IsScene, text_in};
 ghost use Rattle.history_scene.specs.Laws.{HasEachOperation};
@@ -75,6 +76,7 @@ pub fn scene_of(
 ) -> Result<Scene, Refusal>
     requires { IsWellFormed events.now }
     ensures scene { IfOk result (λ scene. IsScene (hash_of hash) events.now order.now scene) }
+    ensures legal { IfOk result (λ scene. IsNone scene.reason ↔ IsLegal (hash_of hash) events.now order.now) }
     ensures only_memory { IsOkUnless result Refusal.Memory }
 {
     let Ok(table) = Table::of(alloc, events)? else {
