@@ -10,7 +10,8 @@ use Rattle.places.specs.declared.place.Place.{Place}
 use Rattle.places.specs.Places.{is_before, rising, ids_by_place}
 use Rattle.places.specs.Segments.{IsCut, AreCut}
 use Rattle.places.proofs.Comparing.{lower_before}
-use Rattle.places.proofs.Rising.{Rises, Alike, count_more, rising_rises, rising_counts, rising_alike, same_rising}
+use Rattle.ctrie_base.proofs.Sorting.{Alike, count_more}
+use Rattle.places.proofs.Rising.{Rises, rising_rises, rising_counts, rising_alike, same_rising}
 
 -- the place is above the closing
 abbrev pub above : ℕ → Place → Bool
