@@ -1,5 +1,5 @@
 -- What is safe for an operation: in use, and guarded, which is: wherever it stands in limbo, its count became zero in the operation's epoch or later.
-use Rattle.std.proofs.Common.{◌≡◌, ℕ, zero, suc, ◌<◌, ◌≤◌, ◌==◌, ◌&&◌, Bool, true, false, cond, not, List, [], ◌∷◌, ◌++◌, filter, flat_map, count_by, All, Contains, get_or, Option}
+use Rattle.std.proofs.Common.{◌≡◌, ℕ, zero, suc, ◌<◌, ◌≤◌, ◌==◌, ◌&&◌, Bool, true, false, cond, nat_lt, not, List, [], ◌∷◌, ◌++◌, filter, flat_map, count_by, All, Contains, get_or, Option}
 use Rattle.std.proofs.Common.{Some, None, sym, ap, ◌∙◌, subst, eq-eqb, ne_eqb, arith}
 use Rattle.std.proofs.lemmas.Bool.{and_parts, false≢true}
 use Rattle.std.proofs.lemmas.Option.{none-some}

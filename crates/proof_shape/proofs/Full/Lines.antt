@@ -44,6 +44,7 @@ use Rattle.proof_shape.specs.Beneath.machine_model.specs.Walking.{walk_after}
 use Rattle.proof_shape.specs.Beneath.machine_model.specs.Operations.{line_after, first_line}
 use Rattle.proof_shape.specs.Beneath.proof_memory.specs.Wants.{is_indirection}
 use Rattle.proof_shape.specs.Sites.Lines.{Sites, bare}
+use Rattle.proof_shape.proofs.Lines.Leads.{keeps_entries, first_leads}
 use Rattle.proof_shape.proofs.Shaped.Places.{bare_entries, bare_branch, bare_link}
 
 module _ (s : Sites) where
@@ -69,12 +70,7 @@ module _ (s : Sites) where
   FullLine l = Unit {0}
 
   -- a line that needs to know nothing of that
-  abbrev is_free : Line → Bool
-  is_free (line.Build (build.Main path main (change.Remove position) former)) = false
-  is_free (line.Renew l) = false
-  is_free l = true
-
-  pub free_full : (l : Line) → is_free l ≡ true → FullLine l
+  pub free_full : (l : Line) → keeps_entries l ≡ true → FullLine l
   free_full (line.Build (build.Main path main (change.Remove position) former)) e = absurd (false≢true e)
   free_full (line.Build (build.Main path main (change.Insert x) former)) e = tt
   free_full (line.Build (build.Main path main (change.Update position x) former)) e = tt
@@ -86,40 +82,8 @@ module _ (s : Sites) where
   free_full (line.Renew l) e = absurd (false≢true e)
   free_full l e = tt
 
-  -- ---- programs that lead to such lines alone
-
-  first_free : (call : Call) → is_free (first_line call) ≡ true
-  first_free call = grind arith
-
-  pub root_free : (state : State) (operation : Operation) (l : RootLine) → is_free (line_after state operation (line.Root l)) ≡ true
-  root_free state operation l = grind arith
-
-  pub swap_free : (state : State) (operation : Operation) (why : Purpose) (w : Swap) → is_free (line_after state operation (line.Swap why w)) ≡ true
-  swap_free state operation why w = grind arith
-
-  pub build_free : (state : State) (operation : Operation) (l : BuildLine) → is_free (build_after state operation l) ≡ true
-  build_free state operation l = grind arith
-
-  pub clean_free : (state : State) (operation : Operation) (l : CleanLine) → is_free (clean_after state operation l) ≡ true
-  clean_free state operation l = grind arith
-
-  pub climb_free : (state : State) (operation : Operation) (l : ClimbLine) → is_free (climb_after state operation l) ≡ true
-  climb_free state operation l = grind arith
-
-  pub copy_free : (state : State) (operation : Operation) (l : CopyLine) → is_free (copy_after state operation l) ≡ true
-  copy_free state operation l = grind arith
-
-  pub walk_free : (state : State) (operation : Operation) (l : WalkLine) → is_free (walk_after state operation l) ≡ true
-  walk_free state operation l = grind arith
-
-  pub key_read_free : (state : State) (operation : Operation) (path : List Ref) (r : Read) → is_free (key_after state operation (key.Read path r)) ≡ true
-  key_read_free state operation path r = grind arith
-
-  pub key_main_free : (state : State) (operation : Operation) (path : List Ref) (main : Ref) (node : Node) → is_free (key_after_main state operation path main node) ≡ true
-  key_main_free state operation path main node = grind arith
-
   pub first_full : (call : Call) → FullLine (first_line call)
-  first_full call = free_full (first_line call) (first_free call)
+  first_full call = free_full (first_line call) (first_leads call).1
 
   -- ---- KEY and RENEW, in a state that shows what stands
 
