@@ -167,17 +167,21 @@ prev_changes before seen same r to from is =
 
 -- an arena before and after the change
 module _
-    (before seen after : Contents) (same : before ≡ seen) (r : Ref) (has : live before.heap.slots r ≡ true) (change : Slot → Slot) (minus plus : List Ref)
-    (is : IsChange before.heap.slots r change minus plus) (slots_are : after.heap.slots ≡ changed_by change before.heap.slots r)
+    (before seen : Contents) (same : before ≡ seen) (r : Ref) (has : live before.heap.slots r ≡ true) (change : Slot → Slot) (minus plus : List Ref)
+    (is : IsChange before.heap.slots r change minus plus) (slots : List (Option Slot)) (slots_are : slots ≡ changed_by change before.heap.slots r)
   where
-    pub word_noted : (counts counts' : List ℕ) (free : Chain) (used : ℕ) → IsKept before.heap.slots counts free used before.outside → IsKept after.heap.slots counts' free used after.outside →
-        NotesZeros (record { counts = counts; noted = before.noted; ticks = 0 }) (record { counts = counts'; noted = after.noted; ticks = 0 }) → NotesWaiting seen after
-    word_noted counts counts' free used kept kept' zeros =
+    pub word_noted : (counts counts' : List ℕ) (free : Chain) (used : ℕ) (noted : List ℕ) (ticks : ℕ) →
+        IsKept before.heap.slots counts free used before.outside → IsKept slots counts' free used before.outside →
+        NotesZeros (record { counts = counts; noted = before.noted; ticks = 0 }) (record { counts = counts'; noted = noted; ticks = 0 }) →
+        NotesWaiting seen (record { heap = record { slots = slots; free = before.heap.free; births = before.heap.births }; outside = before.outside; noted = noted; ticks = ticks })
+    word_noted counts counts' free used noted ticks kept kept' zeros =
+        let after : Contents = record { heap = record { slots = slots; free = before.heap.free; births = before.heap.births }; outside = before.outside; noted = noted; ticks = ticks } in
         subst (λ (a : Contents). NotesWaiting a after) same
         (notes_waiting before after counts counts' free free used used kept kept' zeros
         (λ i none. born_word before.heap.slots r change minus plus is (live_within before.heap.slots r has) i ∙ sym (ap (λ s. born (get_or s i None)) slots_are)))
 
-    pub word_stays : (q : Ref) → is_live after.heap q ≡ is_live seen.heap q
+    pub word_stays : (q : Ref) → is_live (record { slots = slots; free = before.heap.free; births = before.heap.births }) q ≡ is_live seen.heap q
     word_stays q =
-        live_is after.heap q ∙ ap (λ s. live s q) slots_are ∙ live_word before.heap.slots r change minus plus is (live_within before.heap.slots r has) q
+        live_is (record { slots = slots; free = before.heap.free; births = before.heap.births }) q ∙ ap (λ s. live s q) slots_are
+        ∙ live_word before.heap.slots r change minus plus is (live_within before.heap.slots r has) q
         ∙ ap (λ (a : Contents). live a.heap.slots q) same ∙ sym (live_is seen.heap q)

@@ -19,7 +19,7 @@ use Rattle.proof_shape.specs.Beneath.machine_model.specs.States.{State}
 use Rattle.proof_shape.specs.Beneath.machine_model.specs.Paths.{is_below_root, depth_of, is_start, start_of}
 use Rattle.proof_shape.specs.Beneath.machine_model.specs.Reading.{read_step, reading}
 use Rattle.proof_shape.specs.Beneath.machine_model.specs.Renewing.{next_entry, renew_next, branch_of, renew_after, renew_after_entry, renew_after_read, renew_after_link, renew_after_branch}
-use Rattle.proof_shape.specs.Beneath.machine_model.specs.Cleaning.{cleaned, leaves_single, clean_after, clean_after_read, clean_after_main, clean_after_entry, after_child, clean_after_tomb, clean_after_contracted}
+use Rattle.proof_shape.specs.Beneath.machine_model.specs.Cleaning.{cleaned, leaves_single, clean_after, clean_next, clean_after_read, clean_after_main, clean_after_entry, after_child, clean_after_tomb, clean_after_contracted}
 use Rattle.proof_shape.specs.Beneath.machine_model.specs.Operations.{line_action, action_of, line_after}
 use Rattle.proof_shape.specs.Beneath.machine_model.specs.Grown.{node_under}
 use Rattle.proof_shape.specs.Beneath.machine_model.specs.Times.{IsRun}
@@ -37,7 +37,7 @@ use Rattle.proof_shape.proofs.Lines.Key.{claims}
 use Rattle.proof_shape.proofs.Runs.NewNodes.{read_quiet}
 use Rattle.proof_shape.proofs.Held.Fresh.{IsHeld, NewNames}
 use Rattle.proof_shape.proofs.Held.Lines.{single, AllCame, HeldClean, HeldIn, anew, HeldRenew, all_still}
-use Rattle.proof_shape.proofs.Held.Entries.{none_came, one_more, clean_next_holds, quiet_all, fresh_repair, repairs, branch_there, renew_next_holds}
+use Rattle.proof_shape.proofs.Held.Entries.{none_came, one_more, with_next, clean_next_holds, quiet_all, fresh_repair, repairs, branch_there, renew_next_holds}
 use Rattle.std.proofs.Math.Seq.{get_or-append_seam}
 use Rattle.proof_shape.specs.Beneath.machine_model.specs.declared.actions.Action.TheVariants as act
 use Rattle.proof_shape.specs.Beneath.machine_model.specs.declared.repairs.RenewLine.{RenewLine}

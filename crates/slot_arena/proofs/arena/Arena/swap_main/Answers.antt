@@ -1,4 +1,4 @@
-use Rattle.std.proofs.Common.{◌≡◌, ◌+◌, ◌<◌, ◌≤◌, true, List, [], ◌∷◌, length, get_or, set, All, Option, Some, None, sym, ap, ◌∙◌, subst, arith, rules, tests}
+use Rattle.std.proofs.Common.{◌≡◌, ◌<◌, ◌≤◌, true, List, [], ◌∷◌, length, get_or, set, All, Option, Some, None, sym, ap, ◌∙◌, subst, arith, rules, tests}
 use Rattle.std.specs.Prelude.{option_map}
 use Rattle.std.proofs.lemmas.List.Elements.{All-nil, All-cons}
 use Rattle.slot_arena.specs.declared.refs.Ref.{Ref}
@@ -49,14 +49,6 @@ set_main-requires c = omega (arith, live_within c.self.inside.cells c.args.at (l
 slots_are : (c : goal.After-set_main) → c.set_main.new.self ≡ changed_by (main_changed c.args.to) c.self.inside.cells c.args.at
 slots_are c = c.set_main.ensures ∙ ap (λ k. set c.self.inside.cells k (option_map (main_changed c.args.to) (get_or c.self.inside.cells k None))) c.slot.ensures
 
-abbrev now : goal.After-set_main → Contents
-now c = record {
-  heap = record { slots = c.set_main.new.self; free = c.self.inside.free.slots; births = c.self.inside.births };
-  outside = c.self.inside.outside.items;
-  noted = c.lower_all.new.self.noted;
-  ticks = c.self.inside.free.ticks + c.lower_all.new.self.ticks;
-}
-
 pub invariant_of-self : goal.invariant_of-self
 invariant_of-self c =
     subst (λ s. IsKept s c.lower_all.new.self.counts c.self.inside.free c.self.inside.used c.self.inside.outside.items) (sym (slots_are c))
@@ -72,7 +64,7 @@ returns-clause-heap c =
 pub returns-clause-noted : goal.returns-clause-noted
 returns-clause-noted c =
     let zeros = zeros_trans c.self.inside.tally c.raise_all.new.self c.lower_all.new.self c.raise_all.ensures.noted c.lower_all.ensures.noted in
-    word_noted _ _ (now c) c.self.view_is _ (live_inside _ _ c.self.view_is c.args.at c.requires.live) _ _ _ (changed c) (slots_are c) _ _ _ _ c.self.invariant (invariant_of-self c) zeros
+    word_noted _ _ c.self.view_is _ (live_inside _ _ c.self.view_is c.args.at c.requires.live) _ _ _ (changed c) _ (slots_are c) _ _ _ _ c.lower_all.new.self.noted 0 c.self.invariant (invariant_of-self c) zeros
 
 pub returns-clause-stay : goal.returns-clause-stay
-returns-clause-stay c = word_stays _ _ (now c) c.self.view_is _ (live_inside _ _ c.self.view_is c.args.at c.requires.live) _ _ _ (changed c) (slots_are c)
+returns-clause-stay c = word_stays _ _ c.self.view_is _ (live_inside _ _ c.self.view_is c.args.at c.requires.live) _ _ _ (changed c) _ (slots_are c)
