@@ -75,19 +75,29 @@ const NO_FORM: [&str; 9] = [
     "do 1 freeze 0 as 1",
     "do 1 freeze 0 as x",
 ];
+
 const OUT_OF_RANGE: [&str; 4] = ["go 1 0", "go 1 1000001", "go 256 1", "do 1 freeze 65536"];
 
 #[test]
 fn tells_the_first_fault(rt: HostRuntime) -> Result<(), Fail> {
     for (text, line) in HEADERS {
         let told = read_script(rt.alloc(), text).err();
-        assert!(rt; told == Some(Told::Line(line, Refusal::BadHeader)), "{told:?}");
+        assert!(rt;
+            told == Some(Told::Line(line, Refusal::BadHeader)),
+            "{told:?}"
+        );
     }
     for line in NO_FORM {
-        assert!(rt; told_behind_a_header(rt.alloc(), line)? == Some(Told::Line(6, Refusal::BadLine)), "{line}");
+        assert!(rt;
+            told_behind_a_header(rt.alloc(), line)? == Some(Told::Line(6, Refusal::BadLine)),
+            "{line}"
+        );
     }
     for line in OUT_OF_RANGE {
-        assert!(rt; told_behind_a_header(rt.alloc(), line)? == Some(Told::Line(6, Refusal::BadNumber)), "{line}");
+        assert!(rt;
+            told_behind_a_header(rt.alloc(), line)? == Some(Told::Line(6, Refusal::BadNumber)),
+            "{line}"
+        );
     }
     Ok(())
 }
