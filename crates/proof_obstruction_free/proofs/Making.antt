@@ -1,0 +1,4 @@
+-- How many nodes an operation makes where its actor alone takes steps, until something comes.
+pub mod Few
+pub mod Machines
+pub mod Renew
