@@ -2,3 +2,4 @@
 pub mod Few
 pub mod Machines
 pub mod Renew
+pub mod Clean
