@@ -3,3 +3,4 @@ pub mod Few
 pub mod Machines
 pub mod Renew
 pub mod Clean
+pub mod Down

@@ -17,6 +17,7 @@ use Rattle.proof_obstruction_free.proofs.Making.Few.{Few, bind, ended, here, map
 use Rattle.proof_obstruction_free.proofs.Making.Machines.{reads}
 use Rattle.proof_obstruction_free.proofs.Renew.Calm.{Calm}
 use Rattle.proof_obstruction_free.proofs.Renew.Lines.{Advanced, GoesOn, Looked, earlier, entry_link, entry_read, entry_reads, links, looks, renew_line}
+use Rattle.proof_obstruction_free.proofs.Renew.Nodes.{sees_more}
 use Rattle.proof_obstruction_free.proofs.Renew.Comes.{Renews, by_branch, one_more}
 
 module _ (a : Lone) (steps : Stepping a) (machines : Machines a none 7) (g : ℕ) (path : List Ref) (main : Ref) where
@@ -89,6 +90,8 @@ module _ (a : Lone) (steps : Stepping a) (machines : Machines a none 7) (g : ℕ
   goes_from (suc left) done t size s = entry_on left (goes_from left) done t size s
 
   -- from its first entry
-  pub renews_made : (t : ℕ) → Stands a t (Some g) (renew_line entries path main []) → Few a (IsRenewing a none 7 t g path main 0) (length entries + 1) t
+  pub renews_made : (t : ℕ) → Stands a t (Some g) (line.Renew (renew.Entry path main [])) → Few a (IsRenewing a none 7 t g path main 0) (length entries + 1) t
   renews_made t s =
-      map a (All [] t) (IsRenewing a none 7 t g path main 0) (length entries + 1) t (λ u past within r. r.to) (goes_from (length entries) [] t (omega arith) s)
+      let seen = sees_more a steps t s.until path main [] (steps.wants t (Some g) (line.Renew (renew.Entry path main [])) s) in
+      let stands = subst (λ b. Stands a t (Some g) (cond b (line.Renew (renew.Entry path main [])) (line.Renew (renew.Branch path main [])))) (sym (lt-ltb 0 (length entries) seen.more)) s in
+      map a (All [] t) (IsRenewing a none 7 t g path main 0) (length entries + 1) t (λ u past within r. r.to) (goes_from (length entries) [] t (omega arith) stands)
