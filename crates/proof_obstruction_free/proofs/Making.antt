@@ -4,3 +4,6 @@ pub mod Machines
 pub mod Renew
 pub mod Clean
 pub mod Down
+pub mod Climb
+pub mod Along
+pub mod Ends

@@ -20,7 +20,7 @@ use Rattle.proof_obstruction_free.specs.Keys.{Chain, IsBottom, IsDown, IsEnd, Is
 use Rattle.proof_obstruction_free.specs.Machines.{HasSwapped, IsRead, Machines}
 use Rattle.proof_obstruction_free.specs.Stepping.{Stepping}
 use Rattle.proof_obstruction_free.proofs.Climb.On.{short_way}
-use Rattle.proof_obstruction_free.proofs.Making.Few.{Few, bind, here, map, none, none_weighs, one, then, weaken}
+use Rattle.proof_obstruction_free.proofs.Making.Few.{Few, bind, here, map, none, none_weighs, one, after_none, weaken}
 use Rattle.proof_obstruction_free.proofs.Making.Machines.{reads, swaps_current}
 use Rattle.proof_obstruction_free.proofs.Making.Renew.{renews_made}
 use Rattle.proof_obstruction_free.proofs.Pass.Chains.{Leading, chain_kept, chain_later, current_later, leads_or_ends, one_main, way_apart}
@@ -72,7 +72,7 @@ module _ (a : Lone) (steps : Stepping a) (machines : Machines a none 7) (writes 
   read_main : (r : Ref) (g : ℕ) (path : List Ref) (t : ℕ) → Stands a t (Some g) (line.Key (key.Read path (reading (current path)))) → IsCurrent a t r (Some g) → Chain a t r g path →
       (Q : ℕ → Type 0) (n : ℕ) → ((u : ℕ) → (main : Ref) → t ≤ u → Keeps a t u → Main r g path main u → Few a Q n u) → Few a Q n t
   read_main r g path t s x chain Q n next =
-      then a (IsRead a none 7 t (Some g) (key_gives path) (current path)) Q n t (reads a (key_read path) (key_gives path) (current path) (key_holds_read a.own path) t (Some g) s)
+      after_none a (IsRead a none 7 t (Some g) (key_gives path) (current path)) Q n t (reads a (key_read path) (key_gives path) (current path) (key_holds_read a.own path) t (Some g) s)
       (λ u after in_time read. next u read.main after read.keeps
       (record { stands = read.stands; current_root = current_later a t u r (Some g) read.word x; chain = chain_later a t u r g path read.keeps chain; has = read.has }))
 
@@ -92,7 +92,7 @@ module _ (a : Lone) (steps : Stepping a) (machines : Machines a none 7) (writes 
     -- from the SWAP of the renewed branch
     after_swap : (t u : ℕ) → Renewal r g path main t → IsRenewing a none 7 t g path main 0 u → t ≤ u → Few a (Goes r g path) 0 u
     after_swap t u e ren after =
-        then a (HasSwapped a none 7 u (Some g) (purpose.Renew path) (current path) ren.fresh) (Goes r g path) 0 u
+        after_none a (HasSwapped a none 7 u (Some g) (purpose.Renew path) (current path) ren.fresh) (Goes r g path) 0 u
         (swaps_current a (purpose.Renew path) (current path) main ren.fresh r u (Some g) ren.stands (current_later a t u r (Some g) ren.word e.current_root) (ren.keeps (current path) main e.has))
         (λ v later in_time sw.
         let now = current_later a u v r (Some g) sw.word (current_later a t u r (Some g) ren.word e.current_root) in

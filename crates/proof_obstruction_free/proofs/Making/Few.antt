@@ -129,8 +129,8 @@ module _ (a : Lone) where
       by (inr soon) = record { at = x.at; from = x.from; until = x.until; few = omega (arith, x.few); so = inr soon }
 
   -- the first with no node made
-  pub then : (P Q : ℕ → Type 0) (n t : ℕ) → Few P 0 t → ((u : ℕ) → t ≤ u → u ≤ a.last → P u → Few Q n u) → Few Q n t
-  then P Q n t x next = weaken Q (0 + n) n t (omega arith) (bind P Q 0 n t x next)
+  pub after_none : (P Q : ℕ → Type 0) (n t : ℕ) → Few P 0 t → ((u : ℕ) → t ≤ u → u ≤ a.last → P u → Few Q n u) → Few Q n t
+  after_none P Q n t x next = weaken Q (0 + n) n t (omega arith) (bind P Q 0 n t x next)
 
   -- a step, where there is one
   step : (Q : ℕ → Type 0) (n m t : ℕ) → t ≤ a.last → (t < a.last → made a (suc t) + n ≤ made a t + m) → (t < a.last → Few Q n (suc t)) → Few Q m t
