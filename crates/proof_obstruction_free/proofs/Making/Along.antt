@@ -15,14 +15,15 @@ use Rattle.proof_obstruction_free.specs.Alone.{Has, IsCurrent, IsPlain, Keeps, L
 use Rattle.proof_obstruction_free.specs.Keys.{Ended, IsOf, IsOnKey, Leads, flag_at}
 use Rattle.proof_obstruction_free.specs.Machines.{IsRead, IsRooted, Machines}
 use Rattle.proof_obstruction_free.specs.Stepping.{Stepping}
-use Rattle.proof_obstruction_free.proofs.Making.Few.{Few, after_none, here, none, none_weighs, one}
+use Rattle.proof_obstruction_free.proofs.Making.Few.{Few, after_none, here, one}
 use Rattle.proof_obstruction_free.proofs.Making.Machines.{reads, roots_plain}
 use Rattle.proof_obstruction_free.proofs.Pass.Along.{leads_there, starts}
 use Rattle.proof_obstruction_free.proofs.Pass.Chains.{AtEnd, current_later, ended_later, one_main}
 use Rattle.proof_obstruction_free.proofs.Pass.Lines.{down_reads, goes_down, key_gives, key_holds_read, key_read, to_entry}
 use Rattle.proof_obstruction_free.proofs.Step.Within.{keeps_on, same_stays, stays_on}
+use Rattle.proof_obstruction_free.proofs.Weights.Offers.{flat, is_weight}
 
-module _ (a : Lone) (steps : Stepping a) (machines : Machines a none 7) (writes : a.own.access ≡ Writable) where
+module _ (a : Lone) (steps : Stepping a) (machines : Machines a (flat a) 7) (writes : a.own.access ≡ Writable) where
   -- ---- a level down
 
   down_along : (Q : ℕ → Type 0) (n t g : ℕ) (path : List Ref) (main below : Ref) → Stands a t (Some g) (line.Key (key.Main path main)) → Leads a (depth_of path) main below → IsOf a below g →
@@ -52,7 +53,7 @@ module _ (a : Lone) (steps : Stepping a) (machines : Machines a none 7) (writes 
     reads_on : (t : ℕ) (first : List Ref) → Stands a t (Some g) (line.Key (key.Read first (reading (current first)))) → IsCurrent a t r (Some g) → Ended a t r g path main →
         ((u : ℕ) (m : Ref) → Stands a u (Some g) (line.Key (key.Main first m)) → IsCurrent a u r (Some g) → Ended a u r g path main → Has a u (current first) m → Few a End 0 u) → Few a End 0 t
     reads_on t first s x ended next =
-        after_none a (IsRead a none 7 t (Some g) (key_gives first) (current first)) End 0 t (reads a (key_read first) (key_gives first) (current first) (key_holds_read a.own first) t (Some g) s)
+        after_none a (IsRead a (flat a) 7 t (Some g) (key_gives first) (current first)) End 0 t (reads a (key_read first) (key_gives first) (current first) (key_holds_read a.own first) t (Some g) s)
         (λ u after in_time read. next u read.main read.stands (current_later a t u r (Some g) read.word x) (ended_later a t u r g path main read.keeps ended) read.has)
 
     at_end : From []
@@ -70,7 +71,7 @@ module _ (a : Lone) (steps : Stepping a) (machines : Machines a none 7) (writes 
         Stands a t (Some g) (line.Key (key.Read first (reading (current first)))) → IsCurrent a t r (Some g) → Ended a t r g path main → Few a End 0 t
     along_one first b rest whole some further t s x ended =
         reads_on t first s x ended (λ u m now root end has.
-        let (leads, of) = leads_there a none 7 (none_weighs a) steps machines writes r g path main first b rest whole some u m end.chain has in
+        let (leads, of) = leads_there a (flat a) 7 (is_weight a) steps machines writes r g path main first b rest whole some u m end.chain has in
         down_along End 0 u g first m b now leads of (λ keeps stays below.
         further (first ++ b ∷ []) (suc (suc u)) (whole ∙ sym (append_assoc first (b ∷ []) rest)) (long (length-append first (b ∷ []))) (down_reads a (suc (suc u)) (Some g) first b below)
         (current_later a u (suc (suc u)) r (Some g) stays root) (ended_later a u (suc (suc u)) r g path main keeps end)))
@@ -92,7 +93,7 @@ module _ (a : Lone) (steps : Stepping a) (machines : Machines a none 7) (writes 
   pub along_made : IsOnKey a.own.call → (path : List Ref) (r main : Ref) (t g : ℕ) → Stands a t (Some g) new_try → IsCurrent a t r (Some g) → Ended a t r g path main →
       Few a (AtEnd a r g path main) 0 t
   along_made on path r main t g s x ended =
-      after_none a (λ u. IsRooted a none 7 t u × IsPlain a u r) (AtEnd a r g path main) 0 t (roots_plain a t (Some g) r s x.plain)
+      after_none a (λ u. IsRooted a (flat a) 7 t u × IsPlain a u r) (AtEnd a r g path main) 0 t (roots_plain a t (Some g) r s x.plain)
       (λ u after in_time (rooted, plain).
-      by_path r g path main u path refl (starts a none 7 (none_weighs a) steps machines writes on r g t u x rooted plain) (record { plain = plain; own = x.own })
+      by_path r g path main u path refl (starts a (flat a) 7 (is_weight a) steps machines writes on r g t u x rooted plain) (record { plain = plain; own = x.own })
       (ended_later a t u r g path main rooted.keeps ended))

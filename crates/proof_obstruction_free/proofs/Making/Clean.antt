@@ -24,13 +24,14 @@ use Rattle.proof_obstruction_free.proofs.Clean.Current.{Knows, Up, contracted_th
 use Rattle.proof_obstruction_free.proofs.Clean.First.{Begins, Begun, begun, current_main, current_read, current_reads}
 use Rattle.proof_obstruction_free.proofs.Clean.Lines.{Advanced, Looked, child_read, child_reads, child_tomb, clean_line, earlier, entry, looks, passes}
 use Rattle.proof_obstruction_free.proofs.Clean.Made.{Contracts, by_contracted}
-use Rattle.proof_obstruction_free.proofs.Making.Few.{Few, bind, ended, here, map, none, none_weighs, one, one_made, weaken}
+use Rattle.proof_obstruction_free.proofs.Making.Few.{Few, bind, ended, here, map, one, one_made, weaken}
 use Rattle.proof_obstruction_free.proofs.Making.Machines.{reads, swaps_current}
 use Rattle.proof_obstruction_free.proofs.Pass.Chains.{one_main, way_apart}
 use Rattle.proof_obstruction_free.proofs.Renew.Calm.{Calm}
 use Rattle.proof_obstruction_free.proofs.Renew.Nodes.{few_of_branch}
+use Rattle.proof_obstruction_free.proofs.Weights.Offers.{flat, is_weight}
 
-module _ (a : Lone) (steps : Stepping a) (machines : Machines a none 7) where
+module _ (a : Lone) (steps : Stepping a) (machines : Machines a (flat a) 7) where
   module _ (g : Option ℕ) (path : List Ref) (main : Ref) where
     -- ---- an entry
 
@@ -51,7 +52,7 @@ module _ (a : Lone) (steps : Stepping a) (machines : Machines a none 7) where
 
       child_made : (t : ℕ) → Stands a t g (child_read path main done it read.Main) → Few a (On t) 0 t
       child_made t s =
-          bind a (IsRead a none 7 t g (child_tomb path main done) it) (On t) 0 0 t
+          bind a (IsRead a (flat a) 7 t g (child_tomb path main done) it) (On t) 0 0 t
           (reads a (child_read path main done it) (child_tomb path main done) it (child_reads a.own path main done it) t g s)
           (λ u past within r. later t u (record { keeps = r.keeps; word = r.word }) (tomb_made r.main u r.stands r.has))
 
@@ -68,37 +69,37 @@ module _ (a : Lone) (steps : Stepping a) (machines : Machines a none 7) where
     entries = entries_of (node a main)
 
     abbrev All : List Ref → ℕ → ℕ → Type 0
-    All = Cleans a steps none 7 (none_weighs a) machines g path main
+    All = Cleans a steps (flat a) 7 (is_weight a) machines g path main
 
     abbrev From : ℕ → Type 0
     From left = (done : List Ref) (t : ℕ) → length done + left ≡ length entries → Stands a t g (clean_line entries path main done) → Few a (All done t) 1 t
 
     contracted_made : (done : List Ref) (t : ℕ) → length done ≡ length entries → Stands a t g (line.Clean (clean.Contracted path main done)) → Few a (All done t) 1 t
-    contracted_made done t size s = one_made a (All done t) 0 t s.until (λ more. by more (by_contracted a steps none 7 (none_weighs a) g path main done t s more))
+    contracted_made done t size s = one_made a (All done t) 0 t s.until (λ more. by more (by_contracted a steps (flat a) 7 (is_weight a) g path main done t s more))
       where
-        by : t < a.last → Contracts a steps none 7 (none_weighs a) g path main done t (suc t) ⊎ Stands a (suc t) g (line.End reply.NoSlots) → Few a (All done t) 0 (suc t)
-        by more (inl x) = here a (All done t) 0 (suc t) (omega (arith, more)) (changed a steps none 7 (none_weighs a) machines g path main done t (suc t) size x)
+        by : t < a.last → Contracts a steps (flat a) 7 (is_weight a) g path main done t (suc t) ⊎ Stands a (suc t) g (line.End reply.NoSlots) → Few a (All done t) 0 (suc t)
+        by more (inl x) = here a (All done t) 0 (suc t) (omega (arith, more)) (changed a steps (flat a) 7 (is_weight a) machines g path main done t (suc t) size x)
         by more (inr e) = ended a steps (All done t) 0 (suc t) g reply.NoSlots e
 
     all_done : (done : List Ref) (t : ℕ) → length done ≡ length entries → (b : Bool) → pointwise nat_eq done entries ≡ b →
         Stands a t g (if b then new_try else line.Clean (clean.Contracted path main done)) → Few a (All done t) 1 t
-    all_done done t size true same s = here a (All done t) 1 t s.until (unchanged a steps none 7 (none_weighs a) machines g path main done t s (same_text done entries (sym same)))
+    all_done done t size true same s = here a (All done t) 1 t s.until (unchanged a steps (flat a) 7 (is_weight a) machines g path main done t s (same_text done entries (sym same)))
     all_done done t size false other s = contracted_made done t size s
 
     on_made : (left : ℕ) → From left → (done : List Ref) (t u : ℕ) → length done + suc left ≡ length entries → Advanced a steps g path main done t u → Few a (All done t) 1 u
     on_made left from done t u size x =
-        map a (All (done ++ x.put ∷ []) u) (All done t) 1 u (λ v past within. one_more a steps none 7 (none_weighs a) machines g path main done x.put t u v x.settles x.calm)
+        map a (All (done ++ x.put ∷ []) u) (All done t) 1 u (λ v past within. one_more a steps (flat a) 7 (is_weight a) machines g path main done x.put t u v x.settles x.calm)
         (from (done ++ x.put ∷ []) u (omega (arith, size, length-append done (x.put ∷ []))) x.stands)
 
     entry_on : (left : ℕ) → From left → From (suc left)
     entry_on left from done t size s =
-        let stands = subst (λ b. Stands a t g (line_by a steps none 7 (none_weighs a) machines g path main done b)) (lt-ltb (length done) (length entries) (omega (arith, size))) s in
+        let stands = subst (λ b. Stands a t g (line_by a steps (flat a) 7 (is_weight a) machines g path main done b)) (lt-ltb (length done) (length entries) (omega (arith, size))) s in
         bind a (Advanced a steps g path main done t) (All done t) 0 1 t (entry_made done t stands) (λ u past within x. on_made left from done t u size x)
 
     pub goes_from : (left : ℕ) → From left
     goes_from zero done t size s =
         let all : length done ≡ length entries = omega (arith, size) in
-        let stands = subst (λ b. Stands a t g (line_by a steps none 7 (none_weighs a) machines g path main done b)) (le-ltb (length done) (length entries) (omega (arith, size))) s in
+        let stands = subst (λ b. Stands a t g (line_by a steps (flat a) 7 (is_weight a) machines g path main done b)) (le-ltb (length done) (length entries) (omega (arith, size))) s in
         all_done done t all (pointwise nat_eq done entries) refl stands
     goes_from (suc left) done t size s = entry_on left (goes_from left) done t size s
 
@@ -106,28 +107,28 @@ module _ (a : Lone) (steps : Stepping a) (machines : Machines a none 7) where
 
   module _ (path : List Ref) (r main below tomb single : Ref) (g : ℕ) (leads : Leads a (depth_of path) main below) (of : IsOf a below g) (is : node a tomb ≡ Tomb single) where
     abbrev Known : ℕ → Type 0
-    Known = Knows a steps none 7 (none_weighs a) machines path r main below tomb single g leads of is
+    Known = Knows a steps (flat a) 7 (is_weight a) machines path r main below tomb single g leads of is
 
     abbrev Comes : ℕ → Type 0
-    Comes = Up a steps none 7 (none_weighs a) machines path r main below tomb single g leads of is
+    Comes = Up a steps (flat a) 7 (is_weight a) machines path r main below tomb single g leads of is
 
-    swap_made : (t u : ℕ) → Known t → Cleans a steps none 7 (none_weighs a) machines (Some g) path main [] t u → Few a Comes 0 u
+    swap_made : (t u : ℕ) → Known t → Cleans a steps (flat a) 7 (is_weight a) machines (Some g) path main [] t u → Few a Comes 0 u
     swap_made t u k x =
-        let y = contracted_there a steps none 7 (none_weighs a) machines path r main below tomb single g leads of is t u k x in
-        let now = here_too a steps none 7 (none_weighs a) machines path r main below tomb single g leads of is t u k x in
-        map a (HasSwapped a none 7 u (Some g) purpose.Clean (current path) y.fresh) Comes 0 u
-        (λ v past within h. swapped_up a steps none 7 (none_weighs a) machines path r main below tomb single g leads of is t u k x y v h)
+        let y = contracted_there a steps (flat a) 7 (is_weight a) machines path r main below tomb single g leads of is t u k x in
+        let now = here_too a steps (flat a) 7 (is_weight a) machines path r main below tomb single g leads of is t u k x in
+        map a (HasSwapped a (flat a) 7 u (Some g) purpose.Clean (current path) y.fresh) Comes 0 u
+        (λ v past within h. swapped_up a steps (flat a) 7 (is_weight a) machines path r main below tomb single g leads of is t u k x y v h)
         (swaps_current a purpose.Clean (current path) main y.fresh r u (Some g) y.stands now.current_root now.has)
 
     knows_on : (t u : ℕ) → Calm a t u → Known t → Known u
-    knows_on = knows_later a steps none 7 (none_weighs a) machines path r main below tomb single g leads of is
+    knows_on = knows_later a steps (flat a) 7 (is_weight a) machines path r main below tomb single g leads of is
 
     begun_made : (t u : ℕ) → Known t → Begun a steps (Some g) path main t u → Few a Comes 1 u
     begun_made t u k x = by_so x.so
       where
         by_so : Begins a steps (Some g) path main u ⊎ ((is_branch (node a main) ≡ true → ⊥) × Stands a u (Some g) new_try) → Few a Comes 1 u
         by_so (inl y) =
-            bind a (Cleans a steps none 7 (none_weighs a) machines (Some g) path main [] u) Comes 1 0 u (goes_from (Some g) path main (length (entries_of (node a main))) [] u (omega arith) y.stands)
+            bind a (Cleans a steps (flat a) 7 (is_weight a) machines (Some g) path main [] u) Comes 1 0 u (goes_from (Some g) path main (length (entries_of (node a main))) [] u (omega arith) y.stands)
             (λ v past within z. swap_made u v (knows_on t u x.calm k) z)
         by_so (inr s) = absurd (s.0 (ap is_branch leads.branch))
 
@@ -136,7 +137,7 @@ module _ (a : Lone) (steps : Stepping a) (machines : Machines a none 7) where
 
     read_made : (t : ℕ) → Known t → Stands a t (Some g) (line.Clean (clean.Read path (reading (current path)))) → Few a Comes 1 t
     read_made t k s =
-        bind a (IsRead a none 7 t (Some g) (current_main path) (current path)) Comes 0 1 t
+        bind a (IsRead a (flat a) 7 t (Some g) (current_main path) (current path)) Comes 0 1 t
         (reads a (current_read path (current path)) (current_main path) (current path) (current_reads a.own path (current path)) t (Some g) s)
         (λ u past within x. (let now = knows_on t u (record { keeps = x.keeps; word = x.word }) k in
         main_made u now (subst (λ m. Stands a u (Some g) (current_main path m)) (one_main a u (current path) x.main main x.has now.has) x.stands)))
@@ -145,7 +146,7 @@ module _ (a : Lone) (steps : Stepping a) (machines : Machines a none 7) where
   pub cleans_made :
       (path : List Ref) (r main below tomb single : Ref) (t g : ℕ) → Stands a t (Some g) (line.Clean (clean.Read path (reading (current path)))) → IsCurrent a t r (Some g) →
       Chain a t r g path → Has a t (current path) main → Leads a (depth_of path) main below → IsOf a below g → Has a t below tomb → node a tomb ≡ Tomb single →
-      Few a (IsCleanedUp a none 7 r g path (length (entries_of (node a main)))) 1 t
+      Few a (IsCleanedUp a (flat a) 7 r g path (length (entries_of (node a main)))) 1 t
   cleans_made path r main below tomb single t g s current_root chain has leads of tombed is =
       read_made path r main below tomb single g leads of is t
       (record { current_root = current_root; chain = chain; has = has; tombed = tombed; apart = way_apart a t (Some g) (line.Clean (clean.Read path (reading (current path)))) s path refl }) s

@@ -24,9 +24,10 @@ use Rattle.proof_obstruction_free.specs.Stepping.{Stepping}
 use Rattle.proof_obstruction_free.proofs.Climb.Ends.{higher_shorter, same_root}
 use Rattle.proof_obstruction_free.proofs.Climb.Lines.{climb_gives, climb_holds_read, climb_read, climbing_own}
 use Rattle.proof_obstruction_free.proofs.Ends.StandsAt.{never}
-use Rattle.proof_obstruction_free.proofs.Making.Few.{Few, ended, none, one, one_made, after_none, weaken}
+use Rattle.proof_obstruction_free.proofs.Making.Few.{Few, ended, one, one_made, after_none, weaken}
 use Rattle.proof_obstruction_free.proofs.Making.Machines.{climb_roots_plain, reads, swaps}
 use Rattle.proof_obstruction_free.proofs.Renew.Calm.{calm_step, step_on}
+use Rattle.proof_obstruction_free.proofs.Weights.Offers.{flat}
 
 module _ (a : Lone) (steps : Stepping a) where
   abbrev Never : ℕ → Type 0
@@ -69,10 +70,10 @@ module _ (a : Lone) (steps : Stepping a) where
   -- the SWAP failed though the replaced node stood there, so the handle's root is another: it ends
   given_up : (x : Climb) (g : Option ℕ) (n t : ℕ) (r : Ref) → IsPlain a t r → (g ≡ Some (generation a r) → ⊥) → Stands a t g (line.Climb (climb.Root x root.Read)) → Few a Never n t
   given_up x g n t r plain other s =
-      after_none a (λ u. IsRootedSo a none 7 t g x u × IsPlain a u r) Never n t (climb_roots_plain a x t g r s plain)
+      after_none a (λ u. IsRootedSo a (flat a) 7 t g x u × IsPlain a u r) Never n t (climb_roots_plain a x t g r s plain)
       (λ u later within rooted. by_test u rooted.0 rooted.1 (option_eq nat_eq g (Some (generation a rooted.0.root))) refl rooted.0.stands)
     where
-      by_test : (u : ℕ) (rooted : IsRootedSo a none 7 t g x u) → IsPlain a u r → (b : Bool) → option_eq nat_eq g (Some (generation a rooted.root)) ≡ b →
+      by_test : (u : ℕ) (rooted : IsRootedSo a (flat a) 7 t g x u) → IsPlain a u r → (b : Bool) → option_eq nat_eq g (Some (generation a rooted.root)) ≡ b →
           Stands a u g (if b then climbing a.own x else climbed a.own x.former) → Few a Never n u
       by_test u rooted now true is next =
           absurd (other (licensed_so g (generation a rooted.root) is ∙ ap (λ q. Some (generation a q)) (same_root rooted.root r (sym rooted.plain ∙ now))))
@@ -81,7 +82,7 @@ module _ (a : Lone) (steps : Stepping a) where
   climb_level : (x : Climb) (g : Option ℕ) (n : ℕ) → ((single : Ref) (u : ℕ) → Stands a u g (climbing a.own (higher x single)) → Few a Never n u) →
       (t : ℕ) → Stands a t g (line.Climb (climb.Read x (reading (current (above x.path))))) → Few a Never (n + 1) t
   climb_level x g n up t s =
-      after_none a (IsRead a none 7 t g (climb_gives x) i) Never (n + 1) t (reads a (climb_read x i) (climb_gives x) i (climb_holds_read a.own x i) t g s)
+      after_none a (IsRead a (flat a) 7 t g (climb_gives x) i) Never (n + 1) t (reads a (climb_read x i) (climb_gives x) i (climb_holds_read a.own x i) t g s)
       (λ u later within found. from_main u found.main found.stands found.has)
     where
       i : Ref
@@ -95,14 +96,14 @@ module _ (a : Lone) (steps : Stepping a) where
       climbs_on v (Single k value) s = ended_soon n v g x.former a.own s
       climbs_on v (Listed singles) s = ended_soon n v g x.former a.own s
 
-      by_done : (u v : ℕ) (main made : Ref) → Has a u i main → (y : IsSwapped a none 7 u g (purpose.Climb x) i main made v) → (done : Bool) → y.done ≡ done →
+      by_done : (u v : ℕ) (main made : Ref) → Has a u i main → (y : IsSwapped a (flat a) 7 u g (purpose.Climb x) i main made v) → (done : Bool) → y.done ≡ done →
           Stands a v g (swapped a.own (node a made) (purpose.Climb x) done) → Few a Never n v
       by_done u v main made has y true is next = climbs_on v (node a made) next
       by_done u v main made has y false is next = let (r, plain, other) = y.so.if_not is has in given_up x g n v r plain other next
 
       from_swap : (u : ℕ) (main made : Ref) → Stands a u g (line.Swap (purpose.Climb x) (swapping i main made)) → Has a u i main → Few a Never n u
       from_swap u main made next has =
-          after_none a (IsSwapped a none 7 u g (purpose.Climb x) i main made) Never n u (swaps a (purpose.Climb x) i main made u g next)
+          after_none a (IsSwapped a (flat a) 7 u g (purpose.Climb x) i main made) Never n u (swaps a (purpose.Climb x) i main made u g next)
           (λ v later within y. by_done u v main made has y y.done refl y.stands)
 
       from_main : (u : ℕ) (main : Ref) → Stands a u g (climb_gives x main) → Has a u i main → Few a Never (n + 1) u

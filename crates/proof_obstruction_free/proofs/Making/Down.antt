@@ -20,7 +20,7 @@ use Rattle.proof_obstruction_free.specs.Keys.{Chain, IsBottom, IsDown, IsEnd, Is
 use Rattle.proof_obstruction_free.specs.Machines.{HasSwapped, IsRead, Machines}
 use Rattle.proof_obstruction_free.specs.Stepping.{Stepping}
 use Rattle.proof_obstruction_free.proofs.Climb.On.{short_way}
-use Rattle.proof_obstruction_free.proofs.Making.Few.{Few, bind, here, map, none, none_weighs, one, after_none, weaken}
+use Rattle.proof_obstruction_free.proofs.Making.Few.{Few, bind, here, map, one, after_none, weaken}
 use Rattle.proof_obstruction_free.proofs.Making.Machines.{reads, swaps_current}
 use Rattle.proof_obstruction_free.proofs.Making.Renew.{renews_made}
 use Rattle.proof_obstruction_free.proofs.Pass.Chains.{Leading, chain_kept, chain_later, current_later, leads_or_ends, one_main, way_apart}
@@ -29,50 +29,51 @@ use Rattle.proof_obstruction_free.proofs.Pass.Lines.{down_reads, key_gives, key_
 use Rattle.proof_obstruction_free.proofs.Pass.Renewed.{renewed_leads}
 use Rattle.proof_obstruction_free.proofs.Renew.Comes.{renews_from}
 use Rattle.proof_obstruction_free.proofs.Renew.Nodes.{few_entries}
+use Rattle.proof_obstruction_free.proofs.Weights.Offers.{flat, is_weight}
 
-module _ (a : Lone) (steps : Stepping a) (machines : Machines a none 7) (writes : a.own.access ≡ Writable) where
+module _ (a : Lone) (steps : Stepping a) (machines : Machines a (flat a) 7) (writes : a.own.access ≡ Writable) where
   few : FewEntries a
   few = few_entries a
 
-  renewing : RenewsFrom a none 7
-  renewing = renews_from a steps none 7 (none_weighs a) machines
+  renewing : RenewsFrom a (flat a) 7
+  renewing = renews_from a steps (flat a) 7 (is_weight a) machines
 
   -- a fresh pass at a main node, and at its entry
   abbrev Main : Ref → ℕ → List Ref → Ref → ℕ → Type 0
-  Main = AtMain a none 7 (none_weighs a) steps writes
+  Main = AtMain a (flat a) 7 (is_weight a) steps writes
 
   abbrev Entry : (r : Ref) (g : ℕ) (path : List Ref) (main below : Ref) → Leads a (depth_of path) main below → ℕ → Type 0
-  Entry = AtEntry a none 7 (none_weighs a) steps writes
+  Entry = AtEntry a (flat a) 7 (is_weight a) steps writes
 
   abbrev Renewal : Ref → ℕ → List Ref → Ref → ℕ → Type 0
-  Renewal = AtRenewal a none 7 (none_weighs a) steps writes machines few renewing
+  Renewal = AtRenewal a (flat a) 7 (is_weight a) steps writes machines few renewing
 
   abbrev Fresh : ℕ → Ref → Ref → Type 0
-  Fresh = Renewed a none 7 (none_weighs a) steps writes machines few renewing
+  Fresh = Renewed a (flat a) 7 (is_weight a) steps writes machines few renewing
 
   -- down, or at the end
   abbrev Goes : Ref → ℕ → List Ref → ℕ → Type 0
-  Goes r g path u = IsDown a none 7 r g path u ⊎ IsBottom a none 7 r g path u
+  Goes r g path u = IsDown a (flat a) 7 r g path u ⊎ IsBottom a (flat a) 7 r g path u
 
   entry_of : (r : Ref) (g : ℕ) (path : List Ref) (main below : Ref) (t : ℕ) → Main r g path main t → (x : Leads a (depth_of path) main below) → t < a.last → Entry r g path main below x (suc t)
-  entry_of = at_entry a none 7 (none_weighs a) steps writes
+  entry_of = at_entry a (flat a) 7 (is_weight a) steps writes
 
   down_made : (r : Ref) (g : ℕ) (path : List Ref) (main below : Ref) (t : ℕ) → Main r g path main t → Leads a (depth_of path) main below → IsOf a below g → Few a (Goes r g path) 0 t
   down_made r g path main below t m x of =
       one a (Goes r g path) 0 t (Some g) (line.Key (key.Main path main)) m.stands tt (λ more.
       let e = entry_of r g path main below t m x more in
       one a (Goes r g path) 0 (suc t) (Some g) (line.Key (key.Entry path main (position_of (flag_at a (depth_of path)) x.bitmap))) e.stands tt (λ more.
-      here a (Goes r g path) 0 (suc (suc t)) (omega (arith, more)) (inl (goes_on a none 7 (none_weighs a) steps writes r g path main below (suc t) x e of more))))
+      here a (Goes r g path) 0 (suc (suc t)) (omega (arith, more)) (inl (goes_on a (flat a) 7 (is_weight a) steps writes r g path main below (suc t) x e of more))))
 
   at_bottom : (r : Ref) (g : ℕ) (path : List Ref) (main : Ref) (t : ℕ) → Main r g path main t → IsEnd a (depth_of path) main → Few a (Goes r g path) 0 t
-  at_bottom r g path main t m ends = here a (Goes r g path) 0 t m.stands.until (inr (ends_here a none 7 (none_weighs a) steps writes r g path main t m ends))
+  at_bottom r g path main t m ends = here a (Goes r g path) 0 t m.stands.until (inr (ends_here a (flat a) 7 (is_weight a) steps writes r g path main t m ends))
 
   -- ---- a READ of the current indirection
 
   read_main : (r : Ref) (g : ℕ) (path : List Ref) (t : ℕ) → Stands a t (Some g) (line.Key (key.Read path (reading (current path)))) → IsCurrent a t r (Some g) → Chain a t r g path →
       (Q : ℕ → Type 0) (n : ℕ) → ((u : ℕ) → (main : Ref) → t ≤ u → Keeps a t u → Main r g path main u → Few a Q n u) → Few a Q n t
   read_main r g path t s x chain Q n next =
-      after_none a (IsRead a none 7 t (Some g) (key_gives path) (current path)) Q n t (reads a (key_read path) (key_gives path) (current path) (key_holds_read a.own path) t (Some g) s)
+      after_none a (IsRead a (flat a) 7 t (Some g) (key_gives path) (current path)) Q n t (reads a (key_read path) (key_gives path) (current path) (key_holds_read a.own path) t (Some g) s)
       (λ u after in_time read. next u read.main after read.keeps
       (record { stands = read.stands; current_root = current_later a t u r (Some g) read.word x; chain = chain_later a t u r g path read.keeps chain; has = read.has }))
 
@@ -90,9 +91,9 @@ module _ (a : Lone) (steps : Stepping a) (machines : Machines a none 7) (writes 
         by (inr ends) = at_bottom r g path fresh t m ends
 
     -- from the SWAP of the renewed branch
-    after_swap : (t u : ℕ) → Renewal r g path main t → IsRenewing a none 7 t g path main 0 u → t ≤ u → Few a (Goes r g path) 0 u
+    after_swap : (t u : ℕ) → Renewal r g path main t → IsRenewing a (flat a) 7 t g path main 0 u → t ≤ u → Few a (Goes r g path) 0 u
     after_swap t u e ren after =
-        after_none a (HasSwapped a none 7 u (Some g) (purpose.Renew path) (current path) ren.fresh) (Goes r g path) 0 u
+        after_none a (HasSwapped a (flat a) 7 u (Some g) (purpose.Renew path) (current path) ren.fresh) (Goes r g path) 0 u
         (swaps_current a (purpose.Renew path) (current path) main ren.fresh r u (Some g) ren.stands (current_later a t u r (Some g) ren.word e.current_root) (ren.keeps (current path) main e.has))
         (λ v later in_time sw.
         let now = current_later a u v r (Some g) sw.word (current_later a t u r (Some g) ren.word e.current_root) in
@@ -108,7 +109,7 @@ module _ (a : Lone) (steps : Stepping a) (machines : Machines a none 7) (writes 
     -- RENEW, from its first entry
     renewing_level : (t : ℕ) → Renewal r g path main t → Stands a t (Some g) (line.Renew (renew.Entry path main [])) → Few a (Goes r g path) (length (entries_of (node a main)) + 1 + 0) t
     renewing_level t e s =
-        bind a (IsRenewing a none 7 t g path main 0) (Goes r g path) (length (entries_of (node a main)) + 1) 0 t (renews_made a steps machines g path main t s) (λ u after in_time ren. after_swap t u e ren after)
+        bind a (IsRenewing a (flat a) 7 t g path main 0) (Goes r g path) (length (entries_of (node a main)) + 1) 0 t (renews_made a steps machines g path main t s) (λ u after in_time ren. after_swap t u e ren after)
 
   -- ---- a level
 
@@ -120,7 +121,7 @@ module _ (a : Lone) (steps : Stepping a) (machines : Machines a none 7) (writes 
       (one a (Goes r g path) (length (entries_of (node a main)) + 1 + 0) t (Some g) l e.stands tt (λ more.
       let keeps = steps.keeps t (Some g) l e.stands more tt tt in
       let next : Renewal r g path main (suc t) = record {
-        current_root = current_later a t (suc t) r (Some g) (step_stays a none 7 (none_weighs a) steps writes t (Some g) l e.stands more tt tt) e.current_root;
+        current_root = current_later a t (suc t) r (Some g) (step_stays a (flat a) 7 (is_weight a) steps writes t (Some g) l e.stands more tt tt) e.current_root;
         chain = chain_later a t (suc t) r g path keeps e.chain;
         has = keeps (current path) main e.has;
       } in
@@ -153,7 +154,7 @@ module _ (a : Lone) (steps : Stepping a) (machines : Machines a none 7) (writes 
 
   -- the end of the key's path
   abbrev pub Bottom : Ref → ℕ → ℕ → Type 0
-  Bottom r g u = (to : List Ref) × IsBottom a none 7 r g to u
+  Bottom r g u = (to : List Ref) × IsBottom a (flat a) 7 r g to u
 
   -- from a path with so many levels left
   abbrev From : ℕ → Ref → ℕ → Type 0

@@ -7,11 +7,12 @@ use Rattle.proof_obstruction_free.specs.Beneath.machine_model.specs.declared.act
 use Rattle.proof_obstruction_free.specs.Beneath.machine_model.specs.declared.lines.Line.{Line}
 use Rattle.proof_obstruction_free.specs.Beneath.machine_model.specs.declared.lines.Line.TheVariants as line
 use Rattle.proof_obstruction_free.specs.Beneath.machine_model.specs.Operations.{action_of, kind_of, line_action}
-use Rattle.proof_obstruction_free.specs.Alone.{Lone, Stands, IsStill, IsWeight, Within}
+use Rattle.proof_obstruction_free.specs.Alone.{Lone, Stands, IsStill, Within, word}
 use Rattle.proof_obstruction_free.specs.Slots.{is_make, makes_next}
 use Rattle.proof_obstruction_free.specs.Stepping.{Stepping}
 use Rattle.proof_obstruction_free.specs.Weighing.{Acts}
-use Rattle.proof_obstruction_free.proofs.Slots.Free.{bit}
+use Rattle.proof_obstruction_free.proofs.Slots.Free.{bit, one_at_most}
+use Rattle.proof_obstruction_free.proofs.Weights.Offers.{flat, weighs_at_most}
 
 -- how many nodes the actor makes before step t
 unfoldable pub made : Lone → ℕ → ℕ
@@ -35,20 +36,9 @@ still_none (act.Make node) still = still
 still_none (act.MakeRoot main) still = still
 still_none action still = tt
 
-one_at_most : (b : Bool) → bit b ≤ 1
-one_at_most true = omega arith
-one_at_most false = omega arith
-
 -- where READ, SWAP and ROOT tell nothing so shortly before the run is over, they need as many steps at most
 abbrev pub slack : ℕ
-slack = 12
-
--- nothing weighs anything
-abbrev pub none : ℕ → ℕ
-none t = 0
-
-pub none_weighs : (a : Lone) → IsWeight a none
-none_weighs a t since more operation runs quiet = omega arith
+slack = 11
 
 module _ (a : Lone) where
   -- ---- nodes that are made
@@ -159,15 +149,16 @@ module _ (a : Lone) where
       by (inl more) = absurd (steps.ends t g answer s more)
       by (inr last) = over P n t s.until (omega (arith, last))
 
-  -- no more nodes are made than steps are taken
-  pub of_within : (P : ℕ → Type 0) (n t : ℕ) → t ≤ a.last → Within a none P n t → Few P n t
-  of_within P n t within w = by (cases_lt a.last (t + n))
+  -- no more nodes are made than steps are taken; an offer costs two
+  pub of_within : (P : ℕ → Type 0) (n t : ℕ) → t ≤ a.last → Within a (flat a) P n t → Few P (n + 2) t
+  of_within P n t within w = by (cases_lt a.last (t + (n + 2)))
     where
-      by : (a.last < t + n) ⊎ (t + n ≤ a.last) → Few P n t
-      by (inl short) = record { at = a.last; from = within; until = omega arith; few = made_until t a.last n within (omega (arith, short)); so = inr (omega arith) }
+      by : (a.last < t + (n + 2)) ⊎ (t + (n + 2) ≤ a.last) → Few P (n + 2) t
+      by (inl short) = record { at = a.last; from = within; until = omega arith; few = made_until t a.last (n + 2) within (omega (arith, short)); so = inr (omega arith) }
       by (inr room) =
-          let (u, after, soon, p) = w (omega (arith, room)) in
-          record { at = u; from = after; until = omega (arith, soon, room); few = made_until t u n after (omega (arith, soon)); so = inl p }
+          let light = weighs_at_most (word a t) in
+          let (u, after, soon, p) = w (omega (arith, room, light)) in
+          record { at = u; from = after; until = omega (arith, soon, room, light); few = made_until t u (n + 2) after (omega (arith, soon, light)); so = inl p }
 
   -- what never comes leaves few nodes to be made
   pub all_made : (n t : ℕ) → Few (λ u. ⊥) n t → made a a.last ≤ made a t + (n + slack)

@@ -18,7 +18,7 @@ use Rattle.proof_obstruction_free.specs.Beneath.machine_model.specs.Swapping.{sw
 use Rattle.proof_obstruction_free.specs.Alone.{Lone, Stands, Has, IsPlain, IsCurrent, IsStill, Within, word}
 use Rattle.proof_obstruction_free.specs.Machines.{HoldsRead, HasSwapped, IsRead, IsRooted, IsRootedSo, IsSwapped, Machines}
 use Rattle.proof_obstruction_free.specs.Weighing.{Acts, Weighing}
-use Rattle.proof_obstruction_free.proofs.Making.Few.{Few, MakesNone, acts_none, made, made_after, map, none, over, slack, still_none}
+use Rattle.proof_obstruction_free.proofs.Making.Few.{Few, MakesNone, acts_none, made, made_after, map, over, still_none}
 use Rattle.proof_obstruction_free.proofs.Root.Machines.{machines}
 use Rattle.proof_obstruction_free.proofs.Step.Within.{weight_of_still}
 use Rattle.proof_obstruction_free.proofs.Weights.Flat.{flat_weighing}
@@ -63,9 +63,9 @@ module _ (a : Lone) where
 
   -- what comes within ten steps by this weight comes with no node made
   soon : (P : ℕ → Type 0) (n t : ℕ) → t ≤ a.last → n ≤ 10 → Within a (heavy t) P n t → Few a P 0 t
-  soon P n t within short w = by (cases_lt a.last (t + slack))
+  soon P n t within short w = by (cases_lt a.last (t + 12))
     where
-      by : (a.last < t + slack) ⊎ (t + slack ≤ a.last) → Few a P 0 t
+      by : (a.last < t + 12) ⊎ (t + 12 ≤ a.last) → Few a P 0 t
       by (inl near) = over a P 0 t within (omega (arith, near))
       by (inr room) =
           let light = weighs_at_most (word a t) in
@@ -75,42 +75,42 @@ module _ (a : Lone) where
 
   -- ---- READ
 
-  pub reads : (wrap : ReadLine → Line) (gives : Ref → Line) (i : Ref) → HoldsRead a.own wrap gives i → (t : ℕ) (g : Option ℕ) → Stands a t g (wrap read.Main) → Few a (IsRead a none 7 t g gives i) 0 t
+  pub reads : (wrap : ReadLine → Line) (gives : Ref → Line) (i : Ref) → HoldsRead a.own wrap gives i → (t : ℕ) (g : Option ℕ) → Stands a t g (wrap read.Main) → Few a (IsRead a (flat a) 7 t g gives i) 0 t
   reads wrap gives i h t g s =
-      map a (IsRead a (heavy t) 7 t g gives i) (IsRead a none 7 t g gives i) 0 t (λ u after within x. record { main = x.main; stands = x.stands; has = x.has; keeps = x.keeps; word = x.word })
+      map a (IsRead a (heavy t) 7 t g gives i) (IsRead a (flat a) 7 t g gives i) 0 t (λ u after within x. record { main = x.main; stands = x.stands; has = x.has; keeps = x.keeps; word = x.word })
       (soon (IsRead a (heavy t) 7 t g gives i) 7 t s.until (omega arith) ((small t).reads_first wrap gives i h t g s))
 
   -- ---- SWAP
 
   pub swaps_current : (why : Purpose) (i replaced fresh r : Ref) (t : ℕ) (g : Option ℕ) → Stands a t g (line.Swap why (swapping i replaced fresh)) → IsCurrent a t r g → Has a t i replaced →
-      Few a (HasSwapped a none 7 t g why i fresh) 0 t
+      Few a (HasSwapped a (flat a) 7 t g why i fresh) 0 t
   swaps_current why i replaced fresh r t g s current has =
-      map a (HasSwapped a (heavy t) 7 t g why i fresh) (HasSwapped a none 7 t g why i fresh) 0 t (λ u after within x. record { stands = x.stands; has = x.has; keeps = x.keeps; word = x.word })
+      map a (HasSwapped a (heavy t) 7 t g why i fresh) (HasSwapped a (flat a) 7 t g why i fresh) 0 t (λ u after within x. record { stands = x.stands; has = x.has; keeps = x.keeps; word = x.word })
       (soon (HasSwapped a (heavy t) 7 t g why i fresh) 5 t s.until (omega arith) ((small t).swaps_current why i replaced fresh r t g s current has))
 
-  pub swaps : (why : Purpose) (i replaced fresh : Ref) (t : ℕ) (g : Option ℕ) → Stands a t g (line.Swap why (swapping i replaced fresh)) → Few a (IsSwapped a none 7 t g why i replaced fresh) 0 t
+  pub swaps : (why : Purpose) (i replaced fresh : Ref) (t : ℕ) (g : Option ℕ) → Stands a t g (line.Swap why (swapping i replaced fresh)) → Few a (IsSwapped a (flat a) 7 t g why i replaced fresh) 0 t
   swaps why i replaced fresh t g s =
-      map a (IsSwapped a (heavy t) 7 t g why i replaced fresh) (IsSwapped a none 7 t g why i replaced fresh) 0 t
+      map a (IsSwapped a (heavy t) 7 t g why i replaced fresh) (IsSwapped a (flat a) 7 t g why i replaced fresh) 0 t
       (λ u after within x. record { done = x.done; stands = x.stands; keeps = x.keeps; word = x.word; so = record { if_done = x.so.if_done; if_not = x.so.if_not } })
       (soon (IsSwapped a (heavy t) 7 t g why i replaced fresh) 10 t s.until (omega arith) ((small t).swaps_first why i replaced fresh t g s))
 
   -- ---- ROOT
 
-  rooted : (t u : ℕ) → IsRooted a (heavy t) 7 t u → IsRooted a none 7 t u
+  rooted : (t u : ℕ) → IsRooted a (heavy t) 7 t u → IsRooted a (flat a) 7 t u
   rooted t u x = record { root = x.root; plain = x.plain; stands = x.stands; keeps = x.keeps; word = x.word }
 
-  pub roots : (t : ℕ) (g : Option ℕ) → Stands a t g (line.Root root.Read) → Few a (IsRooted a none 7 t) 0 t
+  pub roots : (t : ℕ) (g : Option ℕ) → Stands a t g (line.Root root.Read) → Few a (IsRooted a (flat a) 7 t) 0 t
   roots t g s =
-      map a (IsRooted a (heavy t) 7 t) (IsRooted a none 7 t) 0 t (λ u after within x. rooted t u x) (soon (IsRooted a (heavy t) 7 t) 10 t s.until (omega arith) ((small t).roots_first t g s))
+      map a (IsRooted a (heavy t) 7 t) (IsRooted a (flat a) 7 t) 0 t (λ u after within x. rooted t u x) (soon (IsRooted a (heavy t) 7 t) 10 t s.until (omega arith) ((small t).roots_first t g s))
 
-  pub roots_plain : (t : ℕ) (g : Option ℕ) (r : Ref) → Stands a t g (line.Root root.Read) → IsPlain a t r → Few a (λ u. IsRooted a none 7 t u × IsPlain a u r) 0 t
+  pub roots_plain : (t : ℕ) (g : Option ℕ) (r : Ref) → Stands a t g (line.Root root.Read) → IsPlain a t r → Few a (λ u. IsRooted a (flat a) 7 t u × IsPlain a u r) 0 t
   roots_plain t g r s plain =
-      map a (λ u. IsRooted a (heavy t) 7 t u × IsPlain a u r) (λ u. IsRooted a none 7 t u × IsPlain a u r) 0 t (λ u after within x. (rooted t u x.0, x.1))
+      map a (λ u. IsRooted a (heavy t) 7 t u × IsPlain a u r) (λ u. IsRooted a (flat a) 7 t u × IsPlain a u r) 0 t (λ u after within x. (rooted t u x.0, x.1))
       (soon (λ u. IsRooted a (heavy t) 7 t u × IsPlain a u r) 1 t s.until (omega arith) ((small t).roots_plain t g r s plain))
 
   pub climb_roots_plain : (x : Climb) (t : ℕ) (g : Option ℕ) (r : Ref) → Stands a t g (line.Climb (climb.Root x root.Read)) → IsPlain a t r →
-      Few a (λ u. IsRootedSo a none 7 t g x u × IsPlain a u r) 0 t
+      Few a (λ u. IsRootedSo a (flat a) 7 t g x u × IsPlain a u r) 0 t
   climb_roots_plain x t g r s plain =
-      map a (λ u. IsRootedSo a (heavy t) 7 t g x u × IsPlain a u r) (λ u. IsRootedSo a none 7 t g x u × IsPlain a u r) 0 t
+      map a (λ u. IsRootedSo a (heavy t) 7 t g x u × IsPlain a u r) (λ u. IsRootedSo a (flat a) 7 t g x u × IsPlain a u r) 0 t
       (λ u after within y. (record { root = y.0.root; plain = y.0.plain; stands = y.0.stands; keeps = y.0.keeps; word = y.0.word }, y.1))
       (soon (λ u. IsRootedSo a (heavy t) 7 t g x u × IsPlain a u r) 1 t s.until (omega arith) ((small t).climb_roots_plain x t g r s plain))

@@ -13,14 +13,15 @@ use Rattle.proof_obstruction_free.specs.Alone.{Lone, Stands, node}
 use Rattle.proof_obstruction_free.specs.Keys.{IsRenewing}
 use Rattle.proof_obstruction_free.specs.Machines.{IsRead, Machines}
 use Rattle.proof_obstruction_free.specs.Stepping.{Stepping}
-use Rattle.proof_obstruction_free.proofs.Making.Few.{Few, bind, ended, here, map, none, none_weighs, one, one_made, weaken}
+use Rattle.proof_obstruction_free.proofs.Making.Few.{Few, bind, ended, here, map, one, one_made, weaken}
 use Rattle.proof_obstruction_free.proofs.Making.Machines.{reads}
 use Rattle.proof_obstruction_free.proofs.Renew.Calm.{Calm}
 use Rattle.proof_obstruction_free.proofs.Renew.Lines.{Advanced, GoesOn, Looked, earlier, entry_link, entry_read, entry_reads, links, looks, renew_line}
 use Rattle.proof_obstruction_free.proofs.Renew.Nodes.{sees_more}
 use Rattle.proof_obstruction_free.proofs.Renew.Comes.{Renews, by_branch, one_more}
+use Rattle.proof_obstruction_free.proofs.Weights.Offers.{flat, is_weight}
 
-module _ (a : Lone) (steps : Stepping a) (machines : Machines a none 7) (g : ℕ) (path : List Ref) (main : Ref) where
+module _ (a : Lone) (steps : Stepping a) (machines : Machines a (flat a) 7) (g : ℕ) (path : List Ref) (main : Ref) where
   -- ---- an entry
 
   module _ (done : List Ref) where
@@ -35,7 +36,7 @@ module _ (a : Lone) (steps : Stepping a) (machines : Machines a none 7) (g : ℕ
 
     read_made : (i : Ref) (t : ℕ) → Stands a t (Some g) (entry_read path main done i read.Main) → Few a (On t) 1 t
     read_made i t s =
-        bind a (IsRead a none 7 t (Some g) (entry_link path main done) i) (On t) 0 1 t
+        bind a (IsRead a (flat a) 7 t (Some g) (entry_link path main done) i) (On t) 0 1 t
         (reads a (entry_read path main done i) (entry_link path main done) i (entry_reads a.own path main done i) t (Some g) s)
         (λ u past within r. later 1 t u (record { keeps = r.keeps; word = r.word }) (link_made r.main u r.stands))
 
@@ -56,13 +57,13 @@ module _ (a : Lone) (steps : Stepping a) (machines : Machines a none 7) (g : ℕ
   entries = entries_of (node a main)
 
   abbrev All : List Ref → ℕ → ℕ → Type 0
-  All = Renews a steps none 7 (none_weighs a) machines g path main
+  All = Renews a steps (flat a) 7 (is_weight a) machines g path main
 
   abbrev From : ℕ → Type 0
   From left = (done : List Ref) (t : ℕ) → length done + left ≡ length entries → Stands a t (Some g) (renew_line entries path main done) → Few a (All done t) (left + 1) t
 
   branch_made : (done : List Ref) (t : ℕ) → Stands a t (Some g) (line.Renew (renew.Branch path main done)) → length done ≡ length entries → Few a (All done t) 1 t
-  branch_made done t s all = one_made a (All done t) 0 t s.until (λ more. by more (by_branch a steps none 7 (none_weighs a) machines g path main done t s all more))
+  branch_made done t s all = one_made a (All done t) 0 t s.until (λ more. by more (by_branch a steps (flat a) 7 (is_weight a) machines g path main done t s all more))
     where
       by : t < a.last → All done t (suc t) ⊎ Stands a (suc t) (Some g) (line.End reply.NoSlots) → Few a (All done t) 0 (suc t)
       by more (inl x) = here a (All done t) 0 (suc t) (omega (arith, more)) x
@@ -70,7 +71,7 @@ module _ (a : Lone) (steps : Stepping a) (machines : Machines a none 7) (g : ℕ
 
   on_made : (left : ℕ) → From left → (done : List Ref) (t u : ℕ) → length done + suc left ≡ length entries → GoesOn a steps g path main done t u → Few a (All done t) (left + 1) u
   on_made left from done t u size (inl x) =
-      map a (All (done ++ x.entry ∷ []) u) (All done t) (left + 1) u (λ v past within. one_more a steps none 7 (none_weighs a) machines g path main done x.entry t u v x.renewed x.calm)
+      map a (All (done ++ x.entry ∷ []) u) (All done t) (left + 1) u (λ v past within. one_more a steps (flat a) 7 (is_weight a) machines g path main done x.entry t u v x.renewed x.calm)
       (from (done ++ x.entry ∷ []) u (omega (arith, size, length-append done (x.entry ∷ []))) x.stands)
   on_made left from done t u size (inr e) = ended a steps (All done t) (left + 1) u (Some g) e.answer e.stands
 
@@ -90,8 +91,8 @@ module _ (a : Lone) (steps : Stepping a) (machines : Machines a none 7) (g : ℕ
   goes_from (suc left) done t size s = entry_on left (goes_from left) done t size s
 
   -- from its first entry
-  pub renews_made : (t : ℕ) → Stands a t (Some g) (line.Renew (renew.Entry path main [])) → Few a (IsRenewing a none 7 t g path main 0) (length entries + 1) t
+  pub renews_made : (t : ℕ) → Stands a t (Some g) (line.Renew (renew.Entry path main [])) → Few a (IsRenewing a (flat a) 7 t g path main 0) (length entries + 1) t
   renews_made t s =
       let seen = sees_more a steps t s.until path main [] (steps.wants t (Some g) (line.Renew (renew.Entry path main [])) s) in
       let stands = subst (λ b. Stands a t (Some g) (cond b (line.Renew (renew.Entry path main [])) (line.Renew (renew.Branch path main [])))) (sym (lt-ltb 0 (length entries) seen.more)) s in
-      map a (All [] t) (IsRenewing a none 7 t g path main 0) (length entries + 1) t (λ u past within r. r.to) (goes_from (length entries) [] t (omega arith) stands)
+      map a (All [] t) (IsRenewing a (flat a) 7 t g path main 0) (length entries + 1) t (λ u past within r. r.to) (goes_from (length entries) [] t (omega arith) stands)
