@@ -2,7 +2,8 @@
 
 ghost use Rattle.std.specs.Prelude.{◌≡◌, OnOk, []};
 ghost use Rattle.lock_runner.specs.Seats.{IsSeatOf};
-ghost use Rattle.ctrie_commands.specs.Working.{calls_in, IsUnused, IsSameSeat, HasPerformed, HasPerformedLine, HasSwept, HasSweptLine, HasPerformedAll, HasSweptAll};
+ghost use Rattle.lock_runner.specs.Stepping.{HasGoneOn};
+ghost use Rattle.ctrie_commands.specs.Working.{calls_in, IsUnused, HasPerformed, HasPerformedLine, HasSwept, HasSweptLine, HasPerformedAll, HasSweptAll};
 
 use ctrie_base::Refusal;
 use history::Call;
@@ -32,7 +33,7 @@ impl Worker {
         requires seat { IsSeatOf runner.now self.old.seat }
         requires unused { IsUnused self.old.seat }
         requires none { self.old.denied.items ≡ [] }
-        ensures seat { IsSameSeat self.old.seat self.new.seat }
+        ensures seat { HasGoneOn self.old.seat self.new.seat }
         ensures sweeps { self.new.seat.sweeps ≡ self.old.seat.sweeps }
         ensures done { OnOk result (HasPerformedAll self.old.seat.actor lines.now self.new) }
     {
@@ -52,7 +53,7 @@ impl Worker {
     ) -> Result<(), AllocError>
         requires seat { IsSeatOf runner.now self.old.seat }
         requires unheard { self.old.seat.heard ≡ 0 }
-        ensures seat { IsSameSeat self.old.seat self.new.seat }
+        ensures seat { HasGoneOn self.old.seat self.new.seat }
         ensures sweeps { self.new.seat.sweeps ≡ self.old.seat.sweeps }
         ensures done { OnOk result (HasPerformedLine (calls_in self.old.seat.actor line) self.old self.new) }
     {
@@ -74,7 +75,7 @@ impl Worker {
     ) -> Result<(), AllocError>
         requires seat { IsSeatOf runner.now self.old.seat }
         requires unheard { self.old.seat.heard ≡ 0 }
-        ensures seat { IsSameSeat self.old.seat self.new.seat }
+        ensures seat { HasGoneOn self.old.seat self.new.seat }
         ensures sweeps { self.new.seat.sweeps ≡ self.old.seat.sweeps }
         ensures done { OnOk result (HasPerformed call self.old self.new) }
     {
@@ -97,7 +98,7 @@ impl Worker {
         requires seat { IsSeatOf runner.now self.old.seat }
         requires unused { IsUnused self.old.seat }
         requires none { self.old.denied.items ≡ [] }
-        ensures seat { IsSameSeat self.old.seat self.new.seat }
+        ensures seat { HasGoneOn self.old.seat self.new.seat }
         ensures answers { self.new.seat.answers ≡ self.old.seat.answers }
         ensures done { OnOk result (HasSweptAll lines.now self.new) }
     {
@@ -115,7 +116,7 @@ impl Worker {
         line: ThreadLine,
     ) -> Result<(), AllocError>
         requires seat { IsSeatOf runner.now self.old.seat }
-        ensures seat { IsSameSeat self.old.seat self.new.seat }
+        ensures seat { HasGoneOn self.old.seat self.new.seat }
         ensures answers { self.new.seat.answers ≡ self.old.seat.answers }
         ensures done { OnOk result (HasSweptLine line self.old self.new) }
     {
@@ -133,7 +134,7 @@ impl Worker {
         times: u32,
     ) -> Result<(), AllocError>
         requires seat { IsSeatOf runner.now self.old.seat }
-        ensures seat { IsSameSeat self.old.seat self.new.seat }
+        ensures seat { HasGoneOn self.old.seat self.new.seat }
         ensures answers { self.new.seat.answers ≡ self.old.seat.answers }
         ensures done { OnOk result (HasSwept times self.old self.new) }
     {

@@ -151,7 +151,7 @@ begin_goes id other before me after actor heard answers items running sweeps cal
 
 -- ---- a step of the operation
 
-pub is_busy : (running : Option Running) (operation : Running) → running ≡ Some operation → ¬ (running ≡ None)
+is_busy : (running : Option Running) (operation : Running) → running ≡ Some operation → ¬ (running ≡ None)
 is_busy running operation ran none = none-some operation (sym none ∙ ran)
 
 not_taken : (id : TableId) (me after : Me Taken View) (actor heard : ℕ) (items : List Answer) (running : Option Running) (operation : Running) (sweeps : ℕ) (stop : Stop) →
@@ -165,6 +165,10 @@ not_taken id me after actor heard items running operation sweeps (Denied refusal
       subst (λ r. MatchOption r (refusal ≡ refuse.Idle) (λ operation. refusal ≡ refuse.Spent)) (ap (λ a. a.running) seat.told)
           (idle_only actor (seen_in after) refusal seat.low seat.high denied),
     )
+
+pub not_busy : (running : Option Running) → ((operation : Running) → running ≡ Some operation → ⊥) → running ≡ None
+not_busy None none = refl
+not_busy (Some operation) none = absurd (none operation refl)
 
 -- without an operation nothing is tried
 pub go_idle : (before : Seated) (id : TableId) (me : Me Taken View) (actor heard : ℕ) (answers : List Answer) (running : Option Running) (sweeps : ℕ) →
