@@ -1,7 +1,7 @@
 -- What was so on the way to a board was so on the way to a later one.
-use Rattle.std.proofs.Common.{◌≡◌, List, [], ◌∷◌, ◌∙◌}
+use Rattle.std.proofs.Common.{◌≡◌, List, ◌∙◌}
 use Rattle.std.specs.Prelude.{All}
-use Rattle.std.proofs.lemmas.List.Elements.{All-nil, All-cons, All-head, All-tail}
+use Rattle.std.proofs.lemmas.List.Elements.{All-weaker}
 use Rattle.ctrie_commands.specs.Beneath.step_machine.specs.Machines.{Taken}
 use Rattle.lock_runner.specs.Boards.{GoesOn}
 use Rattle.lock_runner.proofs.Boards.{goes_on_more}
@@ -12,7 +12,5 @@ on_the_way_later IsSo seen board limits on was = (was.0, limits ∙ was.1, goes_
 
 pub all_later : {A : Type 0} (IsSo : A → Taken → Type 0) (xs : List A) (seen board : Taken) → board.limits ≡ seen.limits → GoesOn seen.steps board.steps →
     All (λ x. OnTheWay (IsSo x) seen) xs → All (λ x. OnTheWay (IsSo x) board) xs
-all_later IsSo [] seen board limits on all = All-nil (λ x. OnTheWay (IsSo x) board)
-all_later IsSo (x ∷ xs) seen board limits on all =
-    All-cons (λ y. OnTheWay (IsSo y) board) x xs (on_the_way_later (IsSo x) seen board limits on (All-head (λ y. OnTheWay (IsSo y) seen) x xs all))
-    (all_later IsSo xs seen board limits on (All-tail (λ y. OnTheWay (IsSo y) seen) x xs all))
+all_later IsSo xs seen board limits on all =
+    All-weaker (λ x. OnTheWay (IsSo x) seen) (λ x. OnTheWay (IsSo x) board) (λ x was. on_the_way_later (IsSo x) seen board limits on was) xs all

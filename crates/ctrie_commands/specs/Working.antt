@@ -133,13 +133,17 @@ HaveWorked script seats workers = AllZip (HasWorked script) seats workers
 
 -- ---- all threads
 
--- a line names a call for the actor; and it has something to do, where one does or it takes the steps of the sweep
+-- one of these lines names a call for the actor
 abbrev pub IsOwn : ℕ → ThreadLine → Type 0
 IsOwn actor (Do owner call) = owner ≡ actor
 IsOwn actor (Sweep times) = ⊥
 
+abbrev pub NamesCall : ℕ → List ThreadLine → Type 0
+NamesCall actor lines = (k : ℕ) × (line : ThreadLine) × (slice_get lines k ≡ Some line) × IsOwn actor line
+
+-- the actor has something to do: calls, or the steps of the sweep
 abbrev pub HasWork : Reading → ℕ → Type 0
-HasWork script actor = (script.limits.actors < actor) ⊎ ((k : ℕ) × (line : ThreadLine) × (slice_get script.lines k ≡ Some line) × IsOwn actor line)
+HasWork script actor = (script.limits.actors < actor) ⊎ NamesCall actor script.lines
 
 -- in a group the last seat alone may have something to do
 abbrev pub IsGroup : Reading → List Seated → Type 0

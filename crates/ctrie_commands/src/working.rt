@@ -44,6 +44,7 @@ impl Worker {
     }
 
     /// Performs the call that the line names for its actor, if it names one.
+    #[tactic(auto, using(lock_runner::proofs::Steps::gone_same))]
     fn perform_line<R: Wait, B: Between>(
         &mut self,
         rt: &R,
@@ -109,6 +110,7 @@ impl Worker {
     }
 
     /// Takes the steps of the sweep that the line names, if it names some.
+    #[tactic(auto, using(lock_runner::proofs::Steps::gone_same))]
     fn sweep_line<R: Wait>(
         &mut self,
         rt: &R,
@@ -127,6 +129,7 @@ impl Worker {
     }
 
     /// Takes so many steps of the sweep, and notes why one is denied, if one is.
+    #[tactic(auto, using(lock_runner::proofs::Steps::gone_same, lock_runner::proofs::Whole::gone_more))]
     fn sweep_often<R: Wait>(
         &mut self,
         rt: &R,
