@@ -1,4 +1,5 @@
 pub mod Known
+pub mod Explained
 pub mod Carrying
 pub mod Telling
 pub mod Later
