@@ -6,7 +6,7 @@ mod next;
 mod read;
 mod swap;
 
-pub use looks::{generation_of, main_of};
+pub use looks::{generation_at, main_at};
 pub use next::Next;
 pub use read::{Read, ReadAt};
 pub use swap::{Swap, SwapAt};

@@ -7,7 +7,7 @@ ghost use Rattle.gcas.specs.Acted.{acted_heap};
 ghost use Rattle.gcas.specs.Kept.{KeepsBeside};
 ghost use Rattle.gcas.specs.Reads.{line_at, line_of, ReadsOn, CanReadOn, CanReadAt, begun};
 
-use crate::looks::{generation_of, main_of};
+use crate::looks::{generation_at, main_at};
 use crate::next::Next;
 use ctrie_base::Kind;
 use epochs::Heap;
@@ -88,7 +88,7 @@ impl Read {
         ensures same { self.new ≡ record self.old { at = self.new.at } }
     {
         self.at = ReadAt::Prev {
-            main: main_of(heap, self.indirection),
+            main: main_at(heap, self.indirection),
         };
         Next::More(Kind::ReadMain)
     }
@@ -150,7 +150,7 @@ impl Read {
         ensures heap { heap.new.heap ≡ acted_heap heap.old.heap (read_action self.old.indirection (Decide main previous told)) }
         ensures beside { KeepsBeside heap.old heap.new }
     {
-        let licensed = told == Some(generation_of(heap, self.indirection));
+        let licensed = told == Some(generation_at(heap, self.indirection));
         let verdict = if licensed {
             Prev::None
         } else {
