@@ -1,6 +1,5 @@
 -- What an action does to the heap, said of the heap alone.
 use Rattle.std.specs.Prelude.{◌≡◌, ℕ}
-use Rattle.machine_model.specs.Beneath.slot_arena.specs.declared.refs.Ref.{Ref}
 use Rattle.machine_model.specs.Beneath.slot_arena.specs.Heaps.{Heap, taken}
 use Rattle.machine_model.specs.declared.actions.Action.{Action}
 use Rattle.machine_model.specs.declared.actions.Action.TheVariants as act

@@ -7,12 +7,13 @@ use Rattle.machine_model.specs.Beneath.history.specs.declared.calls.Access.TheVa
 use Rattle.machine_model.specs.Beneath.slot_arena.specs.declared.refs.Ref.{Ref}
 use Rattle.machine_model.specs.Beneath.slot_arena.specs.Heaps.{Heap, node_at}
 use Rattle.machine_model.specs.Beneath.slot_arena.specs.Arenas.{IsLive, is_indirection, is_main_node}
+use Rattle.machine_model.specs.declared.reading.After.{After}
 use Rattle.machine_model.specs.declared.reading.After.TheVariants.{Goes, Gives}
 use Rattle.machine_model.specs.declared.reading.Read.{Read as Defined}
 use Rattle.machine_model.specs.declared.reading.ReadLine.{ReadLine}
 use Rattle.machine_model.specs.declared.reading.ReadLine.TheVariants as read
 use Rattle.machine_model.specs.declared.roots.RootWord.{RootWord}
-use Rattle.machine_model.specs.Reading.{read_action, read_after}
+use Rattle.machine_model.specs.Reading.{read_action, read_after, committed_by}
 use Rattle.machine_model.specs.Operations.{kind_of}
 use Rattle.gcas.specs.declared.next.Next.{Next}
 use Rattle.gcas.specs.declared.next.Next.TheVariants.{More, AskRoot, Done}
@@ -53,23 +54,41 @@ abbrev pub IsAsking : ReadLine → Type 0
 IsAsking (read.AskRoot main previous) = Unit {0}
 IsAsking line = ⊥
 
--- What a READ on this line of the definition comes to by its step, after which the code's READ stands as `after` does: what was told is used up.
--- Whatever the root word is, since a step that reads it isn't a READ's own.
-abbrev pub ReadsOn : Heap → Access → Ref → ReadLine → Read → Next Ref → Type 0
-ReadsOn heap access indirection line after (More k) =
-    (kind_of (read_action indirection line) ≡ k) × ((word : RootWord) → read_after heap access word indirection line ≡ Goes (line_of after None))
-ReadsOn heap access indirection line after AskRoot = IsAsking line
-ReadsOn heap access indirection line after (Done k main) =
-    (kind_of (read_action indirection line) ≡ k) × ((word : RootWord) → read_after heap access word indirection line ≡ Gives main) × (after.at ≡ at.Given main)
-
+-- what a READ that stands here gave, if it did
 abbrev pub given_so : ReadAt → Option Ref
+given_so at.Main = None
+given_so (at.Prev main) = None
+given_so (at.Decide main previous) = None
+given_so (at.Restore main previous) = None
 given_so (at.Given main) = Some main
-given_so other = None
 
--- the main node that a READ committed by its last step, if that was of this kind
+-- the main node that a READ committed by a step of this kind, behind which it stands here
 abbrev pub committed_so : Kind → ReadAt → Option Ref
 committed_so kind.SwapPrev place = given_so place
 committed_so k place = None
+
+-- what a READ of the definition comes to where the code's stands here behind the step
+abbrev pub come_to : Access → ReadAt → After ReadLine Ref
+come_to access at.Main = Goes read.Main
+come_to access (at.Prev main) = Goes (read.Prev main)
+come_to access (at.Decide main previous) = Goes (deciding access None main previous)
+come_to access (at.Restore main previous) = Goes (read.Restore main previous)
+come_to access (at.Given main) = Gives main
+
+-- a READ inside of another program is behind a step of this kind where the code's READ stands; there may be none
+abbrev pub ReadsAlong : Heap → Access → Option Defined → Kind → ReadAt → Type 0
+ReadsAlong heap access None k place = committed_so k place ≡ None
+ReadsAlong heap access (Some r) k place =
+    ((word : RootWord) → read_after heap access word r.indirection r.line ≡ come_to access place) × (committed_by heap r.indirection r.line ≡ committed_so k place)
+
+-- What a READ on this line of the definition comes to by its step, behind which the code's READ stands there: what was told is used up. Whatever the
+-- root word is, since a step that reads it isn't a READ's own.
+abbrev pub ReadsOn : Heap → Access → Ref → ReadLine → ReadAt → Next Ref → Type 0
+ReadsOn heap access indirection line place (More k) =
+    (kind_of (read_action indirection line) ≡ k) × (given_so place ≡ None) × ReadsAlong heap access (Some (record { indirection = indirection; line = line })) k place
+ReadsOn heap access indirection line place AskRoot = IsAsking line
+ReadsOn heap access indirection line place (Done k main) =
+    (kind_of (read_action indirection line) ≡ k) × (given_so place ≡ Some main) × ReadsAlong heap access (Some (record { indirection = indirection; line = line })) k place
 
 -- ---- what it asks of the heap
 

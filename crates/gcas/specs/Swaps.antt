@@ -1,5 +1,5 @@
 -- A SWAP of the code as the definition's, and what a step of it comes to.
-use Rattle.std.specs.Prelude.{◌≡◌, ℕ, Bool, true, Option, Some, None}
+use Rattle.std.specs.Prelude.{◌≡◌, ℕ, Bool, true, Option, None}
 use Rattle.machine_model.specs.Beneath.slot_arena.specs.declared.refs.Ref.{Ref}
 use Rattle.machine_model.specs.Beneath.slot_arena.specs.Heaps.{Heap, node_at}
 use Rattle.machine_model.specs.Beneath.slot_arena.specs.Arenas.{IsLive, is_indirection}
@@ -11,15 +11,14 @@ use Rattle.machine_model.specs.declared.reading.SwapLine.{SwapLine}
 use Rattle.machine_model.specs.declared.reading.SwapLine.TheVariants as swap
 use Rattle.machine_model.specs.declared.roots.RootWord.{RootWord}
 use Rattle.machine_model.specs.Swapping.{swap_action, swap_after}
-use Rattle.machine_model.specs.Operations.{kind_of}
+use Rattle.machine_model.specs.Operations.{kind_of, swapping_read}
 use Rattle.gcas.specs.declared.next.Next.{Next}
 use Rattle.gcas.specs.declared.next.Next.TheVariants.{More, AskRoot, Done}
 use Rattle.gcas.specs.declared.read.Read.{Read}
-use Rattle.gcas.specs.declared.read.ReadAt.{ReadAt}
 use Rattle.gcas.specs.declared.swap.Swap.{Swap}
 use Rattle.gcas.specs.declared.swap.SwapAt.{SwapAt}
 use Rattle.gcas.specs.declared.swap.SwapAt.TheVariants as at
-use Rattle.gcas.specs.Reads.{line_of, IsAsking, CanReadOn}
+use Rattle.gcas.specs.Reads.{line_of, IsAsking, CanReadOn, ReadsAlong}
 
 -- ---- where it stands
 
@@ -43,14 +42,16 @@ IsAskingLine swap.Publish = ⊥
 IsAskingLine (swap.Deciding line) = IsAsking line
 IsAskingLine swap.Check = ⊥
 
--- What a SWAP of the definition comes to by its step, after which the code's SWAP stands as `after` does: what was told is used up. Whatever the root
+-- What a SWAP of the definition comes to by its step, behind which the code's SWAP stands as `after` does: what was told is used up. Whatever the root
 -- word is, since a step that reads it isn't a SWAP's own.
 abbrev pub SwapsOn : Heap → Access → Defined → Swap → Next Bool → Type 0
 SwapsOn heap access before after (More k) =
     (kind_of (swap_action before) ≡ k) × ((word : RootWord) → swap_after heap access word before ≡ Goes (swap_of after None))
+    × ReadsAlong heap access (swapping_read before.indirection before.line) k after.read.at
 SwapsOn heap access before after AskRoot = IsAskingLine before.line
 SwapsOn heap access before after (Done k done) =
     (kind_of (swap_action before) ≡ k) × ((word : RootWord) → swap_after heap access word before ≡ Gives done)
+    × ReadsAlong heap access (swapping_read before.indirection before.line) k after.read.at
 
 -- ---- what it asks of the heap
 

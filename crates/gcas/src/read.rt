@@ -5,7 +5,7 @@ ghost use Rattle.machine_model.specs.Reading.{read_action};
 ghost use Rattle.machine_model.specs.declared.reading.ReadLine.TheVariants.{Decide};
 ghost use Rattle.gcas.specs.Acted.{acted_heap};
 ghost use Rattle.gcas.specs.Kept.{KeepsBeside};
-ghost use Rattle.gcas.specs.Reads.{line_at, line_of, ReadsOn, CanReadOn, CanReadAt, begun};
+ghost use Rattle.gcas.specs.Reads.{line_at, line_of, ReadsOn, CanReadOn, CanReadAt, begun, given_so, committed_so};
 
 use crate::looks::{generation_at, main_at};
 use crate::next::Next;
@@ -58,10 +58,30 @@ impl Read {
         self.at = ReadAt::Main;
     }
 
+    /// The main node that it gave, if it isn't under way.
+    pub fn given(&self) -> Option<Ref>
+        ensures { result ≡ given_so self.now.at }
+    {
+        match &self.at {
+            ReadAt::Given { main } => Some(*main),
+            _ => None,
+        }
+    }
+
+    /// The main node that it has just committed, by a step of this kind, if it did.
+    pub fn committed(&self, kind: Kind) -> Option<Ref>
+        ensures { result ≡ committed_so kind self.now.at }
+    {
+        match kind {
+            Kind::SwapPrev => self.given(),
+            _ => None,
+        }
+    }
+
     /// Takes its next step, unless it has to be told the generation of the root first.
     pub fn step(&mut self, heap: &mut Heap, root_seen: Option<u64>) -> Next<Ref>
         requires { CanReadOn heap.old.heap self.old }
-        ensures follows { ReadsOn heap.old.heap self.old.access self.old.indirection (line_of self.old root_seen) self.new result }
+        ensures follows { ReadsOn heap.old.heap self.old.access self.old.indirection (line_of self.old root_seen) self.new.at result }
         ensures same { self.new ≡ record self.old { at = self.new.at } }
         ensures heap { heap.new.heap ≡ acted_heap heap.old.heap (read_action self.old.indirection (line_of self.old root_seen)) }
         ensures beside { KeepsBeside heap.old heap.new }
@@ -84,7 +104,7 @@ impl Read {
     }
 
     fn read_main(&mut self, heap: &Heap) -> Next<Ref>
-        ensures follows { ReadsOn heap.now.heap self.old.access self.old.indirection (line_at self.old.access None ReadAt.Main) self.new result }
+        ensures follows { ReadsOn heap.now.heap self.old.access self.old.indirection (line_at self.old.access None ReadAt.Main) self.new.at result }
         ensures same { self.new ≡ record self.old { at = self.new.at } }
     {
         self.at = ReadAt::Prev {
@@ -94,7 +114,7 @@ impl Read {
     }
 
     fn read_prev(&mut self, heap: &Heap, main: Ref) -> Next<Ref>
-        ensures follows { ReadsOn heap.now.heap self.old.access self.old.indirection (line_at self.old.access None (ReadAt.Prev main)) self.new result }
+        ensures follows { ReadsOn heap.now.heap self.old.access self.old.indirection (line_at self.old.access None (ReadAt.Prev main)) self.new.at result }
         ensures same { self.new ≡ record self.old { at = self.new.at } }
     {
         match heap.stored_prev(main) {
@@ -121,7 +141,7 @@ impl Read {
         previous: Ref,
     ) -> Next<Ref>
         requires { CanReadAt heap.old.heap self.old.indirection (ReadAt.Decide main previous) }
-        ensures follows { ReadsOn heap.old.heap self.old.access self.old.indirection (line_at self.old.access root_seen (ReadAt.Decide main previous)) self.new result }
+        ensures follows { ReadsOn heap.old.heap self.old.access self.old.indirection (line_at self.old.access root_seen (ReadAt.Decide main previous)) self.new.at result }
         ensures same { self.new ≡ record self.old { at = self.new.at } }
         ensures heap { heap.new.heap ≡ acted_heap heap.old.heap (read_action self.old.indirection (line_at self.old.access root_seen (ReadAt.Decide main previous))) }
         ensures beside { KeepsBeside heap.old heap.new }
@@ -145,7 +165,7 @@ impl Read {
         previous: Ref,
     ) -> Next<Ref>
         requires { CanReadAt heap.old.heap self.old.indirection (ReadAt.Decide main previous) }
-        ensures follows { ReadsOn heap.old.heap self.old.access self.old.indirection (Decide main previous told) self.new result }
+        ensures follows { ReadsOn heap.old.heap self.old.access self.old.indirection (Decide main previous told) self.new.at result }
         ensures same { self.new ≡ record self.old { at = self.new.at } }
         ensures heap { heap.new.heap ≡ acted_heap heap.old.heap (read_action self.old.indirection (Decide main previous told)) }
         ensures beside { KeepsBeside heap.old heap.new }
@@ -175,7 +195,7 @@ impl Read {
 
     fn restore(&mut self, heap: &mut Heap, main: Ref, previous: Ref) -> Next<Ref>
         requires { CanReadAt heap.old.heap self.old.indirection (ReadAt.Restore main previous) }
-        ensures follows { ReadsOn heap.old.heap self.old.access self.old.indirection (line_at self.old.access None (ReadAt.Restore main previous)) self.new result }
+        ensures follows { ReadsOn heap.old.heap self.old.access self.old.indirection (line_at self.old.access None (ReadAt.Restore main previous)) self.new.at result }
         ensures same { self.new ≡ record self.old { at = self.new.at } }
         ensures heap { heap.new.heap ≡ acted_heap heap.old.heap (read_action self.old.indirection (line_at self.old.access None (ReadAt.Restore main previous))) }
         ensures beside { KeepsBeside heap.old heap.new }
