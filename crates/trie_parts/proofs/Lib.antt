@@ -1,0 +1,4 @@
+pub mod Depths
+pub mod Capped
+pub mod Stored
+pub mod Partings
