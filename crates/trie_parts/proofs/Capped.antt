@@ -1,11 +1,9 @@
 -- Lists of references, of which a node takes the first ones.
-use Rattle.std.specs.Prelude.{◌≡◌, Bool, true, false, ℕ, zero, suc, ◌+◌, ◌-◌, ◌<◌, List, [], ◌∷◌, ◌++◌, length, take, drop, min, refl, slice_set, remove}
+use Rattle.std.specs.Prelude.{◌≡◌, ℕ, zero, suc, ◌+◌, ◌-◌, ◌<◌, List, [], ◌∷◌, ◌++◌, length, take, drop, min, refl, slice_set, remove}
 use Rattle.std.proofs.Common.{arith, ap, sym, ◌∙◌, length-drop}
 use Rattle.std.proofs.lemmas.List.{take_min, take_all, append-nil, append_assoc, set_split}
 use Rattle.std.proofs.Math.Seq.{take-append-add}
 use Rattle.std.proofs.Math.Nat.{add_comm}
-use Rattle.slot_arena.specs.declared.nodes.Node.TheVariants.{Branch}
-use Rattle.nodes.specs.Builders.{renewed, contracted}
 
 -- where room for r more is left, the first r of what is added
 pub filled : {X : Type 0} (n r : ℕ) (xs ys : List X) → r + length xs ≡ n → xs ++ take (min r (length ys)) ys ≡ take n (xs ++ ys)

@@ -1,6 +1,5 @@
 -- What a look-up in a slot says of the definition's.
 use Rattle.std.specs.Prelude.{◌≡◌, Option, Some, None, option_map, unwrap_or, refl}
-use Rattle.std.proofs.Common.{ap}
 use Rattle.slot_arena.specs.declared.nodes.Node.{Node}
 use Rattle.slot_arena.specs.declared.nodes.Slot.{Slot}
 use Rattle.slot_arena.specs.Heaps.{node_of, empty_branch}

@@ -13,6 +13,8 @@ mod made;
 mod paths;
 
 pub use levels::{flag_of, index_in, parting};
-pub use looking::{bitmap_at, entries_at, entry_at, entry_count, generation_at, is_single_at, key_at, node_at};
+pub use looking::{
+    bitmap_at, entries_at, entry_at, entry_count, generation_at, is_single_at, key_at, node_at,
+};
 pub use made::{changed, contracted, pair, renewed, rung};
 pub use paths::{above, current, depth_of, is_below_root};
