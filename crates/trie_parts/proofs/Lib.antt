@@ -1,3 +1,4 @@
+pub mod Counting
 pub mod Depths
 pub mod Capped
 pub mod Stored

@@ -11,6 +11,7 @@ mod levels;
 mod looking;
 mod made;
 mod paths;
+mod private;
 
 pub use levels::{flag_of, index_in, parting};
 pub use looking::{
@@ -18,3 +19,4 @@ pub use looking::{
 };
 pub use made::{changed, contracted, pair, renewed, rung};
 pub use paths::{above, current, depth_of, is_below_root};
+pub use private::Private;
