@@ -6,6 +6,7 @@
 //! anything. None takes memory.
 #![tactic(auto)]
 
+mod calls;
 mod entries;
 mod levels;
 mod looking;
@@ -13,6 +14,7 @@ mod made;
 mod paths;
 mod private;
 
+pub use calls::{KeyCall, Task};
 pub use levels::{flag_of, index_in, parting};
 pub use looking::{
     bitmap_at, entries_at, entry_at, entry_count, generation_at, is_single_at, key_at, node_at,
