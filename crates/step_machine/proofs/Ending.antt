@@ -9,7 +9,6 @@ use Rattle.history.specs.declared.calls.Call.TheVariants.{Close, Entries, Count}
 use Rattle.history.specs.declared.replies.Reply.{Reply}
 use Rattle.history.specs.declared.replies.Reply.TheVariants.{Closed, NoSlots}
 use Rattle.machine_model.specs.Calls.{is_close}
-use Rattle.machine_model.specs.declared.lines.Line.TheVariants as line
 use Rattle.machine_model.specs.declared.operations.Operation.{Operation}
 use Rattle.machine_model.specs.declared.steps.Step.{Step}
 use Rattle.machine_model.specs.declared.steps.Step.TheVariants as step
