@@ -1,5 +1,5 @@
 -- CLEAN makes one node, where one actor alone takes steps.
-use Rattle.std.proofs.Common.{◌≡◌, ℕ, zero, suc, ◌+◌, ◌<◌, ◌≤◌, ◌⊎◌, inl, inr, Bool, true, false, if◌then◌else◌, nat_eq, List, [], ◌∷◌, ◌++◌, length, Option, Some, refl, sym, ap, subst, ◌∙◌, arith}
+use Rattle.std.proofs.Common.{◌≡◌, ℕ, zero, suc, ◌+◌, ◌<◌, ◌≤◌, ◌⊎◌, inl, inr, Bool, true, false, if◌then◌else◌, nat_eq, List, [], ◌∷◌, ◌++◌, length, Option, Some, refl, sym, ap, subst, arith}
 use Rattle.std.specs.Cmp.Lexicographic.{pointwise, same_text}
 use Rattle.std.proofs.lemmas.Bool.{lt-ltb, le-ltb}
 use Rattle.std.proofs.lemmas.List.{length-append}
@@ -24,11 +24,10 @@ use Rattle.proof_obstruction_free.proofs.Clean.Current.{Knows, Up, contracted_th
 use Rattle.proof_obstruction_free.proofs.Clean.First.{Begins, Begun, begun, current_main, current_read, current_reads}
 use Rattle.proof_obstruction_free.proofs.Clean.Lines.{Advanced, Looked, child_read, child_reads, child_tomb, clean_line, earlier, entry, looks, passes}
 use Rattle.proof_obstruction_free.proofs.Clean.Made.{Contracts, by_contracted}
-use Rattle.proof_obstruction_free.proofs.Making.Few.{Few, bind, ended, here, map, one, one_made, weaken}
+use Rattle.proof_obstruction_free.proofs.Making.Few.{Few, bind, ended, here, map, one, one_made}
 use Rattle.proof_obstruction_free.proofs.Making.Machines.{reads, swaps_current}
 use Rattle.proof_obstruction_free.proofs.Pass.Chains.{one_main, way_apart}
 use Rattle.proof_obstruction_free.proofs.Renew.Calm.{Calm}
-use Rattle.proof_obstruction_free.proofs.Renew.Nodes.{few_of_branch}
 use Rattle.proof_obstruction_free.proofs.Weights.Offers.{flat, is_weight}
 
 module _ (a : Lone) (steps : Stepping a) (machines : Machines a (flat a) 7) where
@@ -48,7 +47,8 @@ module _ (a : Lone) (steps : Stepping a) (machines : Machines a (flat a) 7) wher
       tomb_made : (child : Ref) (t : ℕ) → Stands a t g (child_tomb path main done child) → Has a t it child → Few a (On t) 0 t
       tomb_made child t s h =
           one a (On t) 0 t g (child_tomb path main done child) s tt
-          (λ more. (let x = passes a steps g path main done child t s more in here a (On t) 0 (suc t) (omega (arith, more)) (record { put = x.put; settles = x.settles h; stands = x.stands; calm = x.calm })))
+          (λ more. (let x = passes a steps g path main done child t s more in
+          here a (On t) 0 (suc t) (omega (arith, more)) (record { put = x.put; settles = x.settles h; stands = x.stands; calm = x.calm })))
 
       child_made : (t : ℕ) → Stands a t g (child_read path main done it read.Main) → Few a (On t) 0 t
       child_made t s =

@@ -1,5 +1,5 @@
 -- CLIMB makes one node a level, where one actor alone takes steps.
-use Rattle.std.proofs.Common.{◌≡◌, ℕ, zero, suc, ◌+◌, ◌-◌, ◌<◌, ◌≤◌, Bool, true, false, nat_eq, length, List, Option, Some, None, if◌then◌else◌, refl, sym, ap, ◌∙◌, ltb-true, arith}
+use Rattle.std.proofs.Common.{◌≡◌, ℕ, zero, suc, ◌+◌, ◌≤◌, Bool, true, false, nat_eq, length, List, Option, Some, None, if◌then◌else◌, refl, sym, ap, ◌∙◌, ltb-true, arith}
 use Rattle.std.specs.Option.{option_eq}
 use Rattle.proof_obstruction_free.specs.Beneath.slot_arena.specs.declared.refs.Ref.{Ref}
 use Rattle.proof_obstruction_free.specs.Beneath.slot_arena.specs.declared.nodes.Node.{Node}

@@ -1,5 +1,5 @@
 -- A fresh pass makes 33 nodes a level at most, where one actor alone takes steps.
-use Rattle.std.proofs.Common.{◌≡◌, ℕ, zero, suc, ◌+◌, ◌-◌, ◌*◌, ◌<◌, ◌≤◌, ◌⊎◌, ◌==◌, Bool, true, false, inl, inr, List, [], ◌∷◌, ◌++◌, length, slice_index_or, Some, refl, sym, ap, subst, ◌∙◌, eqb-true}
+use Rattle.std.proofs.Common.{◌≡◌, ℕ, zero, suc, ◌+◌, ◌*◌, ◌<◌, ◌≤◌, ◌⊎◌, ◌==◌, Bool, true, false, inl, inr, List, [], ◌∷◌, ◌++◌, length, Some, refl, sym, ap, subst, ◌∙◌, eqb-true}
 use Rattle.std.proofs.Common.{arith}
 use Rattle.std.proofs.Math.Nat.{suc-mul}
 use Rattle.std.proofs.lemmas.List.{length-append}
@@ -20,7 +20,7 @@ use Rattle.proof_obstruction_free.specs.Keys.{Chain, IsBottom, IsDown, IsEnd, Is
 use Rattle.proof_obstruction_free.specs.Machines.{HasSwapped, IsRead, Machines}
 use Rattle.proof_obstruction_free.specs.Stepping.{Stepping}
 use Rattle.proof_obstruction_free.proofs.Climb.On.{short_way}
-use Rattle.proof_obstruction_free.proofs.Making.Few.{Few, bind, here, map, one, after_none, weaken}
+use Rattle.proof_obstruction_free.proofs.Making.Few.{Few, bind, here, one, after_none, weaken}
 use Rattle.proof_obstruction_free.proofs.Making.Machines.{reads, swaps_current}
 use Rattle.proof_obstruction_free.proofs.Making.Renew.{renews_made}
 use Rattle.proof_obstruction_free.proofs.Pass.Chains.{Leading, chain_kept, chain_later, current_later, leads_or_ends, one_main, way_apart}
@@ -107,7 +107,8 @@ module _ (a : Lone) (steps : Stepping a) (machines : Machines a (flat a) 7) (wri
         after_renewal found w done m))
 
     -- RENEW, from its first entry
-    renewing_level : (t : ℕ) → Renewal r g path main t → Stands a t (Some g) (line.Renew (renew.Entry path main [])) → Few a (Goes r g path) (length (entries_of (node a main)) + 1 + 0) t
+    renewing_level : (t : ℕ) → Renewal r g path main t → Stands a t (Some g) (line.Renew (renew.Entry path main [])) →
+        Few a (Goes r g path) (length (entries_of (node a main)) + 1 + 0) t
     renewing_level t e s =
         bind a (IsRenewing a (flat a) 7 t g path main 0) (Goes r g path) (length (entries_of (node a main)) + 1) 0 t (renews_made a steps machines g path main t s) (λ u after in_time ren. after_swap t u e ren after)
 
@@ -147,7 +148,8 @@ module _ (a : Lone) (steps : Stepping a) (machines : Machines a (flat a) 7) (wri
       by (inl x) = by_test x (g == x.generation) refl
       by (inr ends) = weaken a (Goes r g path) 0 33 t (omega arith) (at_bottom r g path main t m ends)
 
-  level_made : (path : List Ref) (r : Ref) (t g : ℕ) → Stands a t (Some g) (line.Key (key.Read path (reading (current path)))) → IsCurrent a t r (Some g) → Chain a t r g path → Few a (Goes r g path) 33 t
+  level_made : (path : List Ref) (r : Ref) (t g : ℕ) → Stands a t (Some g) (line.Key (key.Read path (reading (current path)))) → IsCurrent a t r (Some g) → Chain a t r g path →
+      Few a (Goes r g path) 33 t
   level_made path r t g s x chain = read_main r g path t s x chain (Goes r g path) 33 (λ u main after keeps m. level r g path main u m)
 
   -- ---- all levels

@@ -20,7 +20,6 @@ use Rattle.proof_obstruction_free.specs.Machines.{HoldsRead, HasSwapped, IsRead,
 use Rattle.proof_obstruction_free.specs.Weighing.{Acts, Weighing}
 use Rattle.proof_obstruction_free.proofs.Making.Few.{Few, MakesNone, acts_none, made, made_after, map, over, still_none}
 use Rattle.proof_obstruction_free.proofs.Root.Machines.{machines}
-use Rattle.proof_obstruction_free.proofs.Step.Within.{weight_of_still}
 use Rattle.proof_obstruction_free.proofs.Weights.Flat.{flat_weighing}
 use Rattle.proof_obstruction_free.proofs.Weights.Offers.{flat, weighs_at_most}
 
@@ -75,7 +74,8 @@ module _ (a : Lone) where
 
   -- ---- READ
 
-  pub reads : (wrap : ReadLine → Line) (gives : Ref → Line) (i : Ref) → HoldsRead a.own wrap gives i → (t : ℕ) (g : Option ℕ) → Stands a t g (wrap read.Main) → Few a (IsRead a (flat a) 7 t g gives i) 0 t
+  pub reads : (wrap : ReadLine → Line) (gives : Ref → Line) (i : Ref) → HoldsRead a.own wrap gives i → (t : ℕ) (g : Option ℕ) → Stands a t g (wrap read.Main) →
+      Few a (IsRead a (flat a) 7 t g gives i) 0 t
   reads wrap gives i h t g s =
       map a (IsRead a (heavy t) 7 t g gives i) (IsRead a (flat a) 7 t g gives i) 0 t (λ u after within x. record { main = x.main; stands = x.stands; has = x.has; keeps = x.keeps; word = x.word })
       (soon (IsRead a (heavy t) 7 t g gives i) 7 t s.until (omega arith) ((small t).reads_first wrap gives i h t g s))

@@ -131,4 +131,5 @@ bottom_ends a weight c heavy steps machines path r main t g now current_root has
     let short = short_way a t (Some g) (line.Key (key.Main path main)) now in
     let builds = 30 + (5 + (14 * (c + 12) + 3)) in
     weaken a weight (λ u. ⊥) (builds + 33 + 1) (14 * (c + 12) + 80) t (omega arith)
-    (from_here a weight c heavy steps machines path r main g short (λ u. ⊥) builds (omega arith) (built_in a weight c heavy steps machines path r main g short) t (record { current_root = current_root; has = has }) now ends no_tomb)
+    (from_here a weight c heavy steps machines path r main g short (λ u. ⊥) builds (omega arith) (built_in a weight c heavy steps machines path r main g short)
+    t (record { current_root = current_root; has = has }) now ends no_tomb)

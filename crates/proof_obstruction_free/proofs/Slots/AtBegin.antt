@@ -70,7 +70,7 @@ enough_at_begin limits steps actor call operation idle r room =
     enough_slots limits (steps ++ step.Begin actor call ∷ []) actor operation r (not_refused limits steps actor call operation idle r.runs) (omega (arith, free, room))
 
 -- each call on one key, and each copy, begins with a new try
-tries_first : (call : Call) → IsOnKeyOrRoot call → first_line call ≡ new_try
+pub tries_first : (call : Call) → IsOnKeyOrRoot call → first_line call ≡ new_try
 tries_first (Close h) on = absurd on
 tries_first (Entries h) on = absurd on
 tries_first (Count h) on = absurd on

@@ -1,5 +1,5 @@
 -- From where a try begins an operation on one key makes few nodes, where its actor alone takes steps.
-use Rattle.std.proofs.Common.{◌≡◌, ℕ, zero, suc, ◌+◌, ◌≤◌, ◌⊎◌, inl, inr, Option, Some, None, refl, sym, ap, subst, ◌∙◌, List, arith}
+use Rattle.std.proofs.Common.{◌≡◌, ℕ, zero, suc, ◌+◌, ◌≤◌, ◌⊎◌, inl, inr, None, refl, sym, ap, subst, ◌∙◌, List, arith}
 use Rattle.std.proofs.lemmas.Option.{same_Some}
 use Rattle.proof_obstruction_free.specs.Beneath.history.specs.declared.calls.Access.{Access}
 use Rattle.proof_obstruction_free.specs.Beneath.history.specs.declared.calls.Access.TheVariants.{ReadOnly, Writable}
