@@ -24,11 +24,7 @@ pub enum KeyCall {
     /// Sets the value of a key that has one.
     Replace { key: u64, value: u64 },
     /// Sets the value of a key that has the expected one.
-    ReplaceIf {
-        key: u64,
-        expected: u64,
-        value: u64,
-    },
+    ReplaceIf { key: u64, expected: u64, value: u64 },
     /// Removes the key.
     Remove { key: u64 },
     /// Removes a key that has the expected value.

@@ -2,7 +2,7 @@
 //! what the definition gives.
 
 ghost use Rattle.std.specs.Prelude.{◌≡◌, length, option_map, unwrap_or};
-ghost use Rattle.slot_arena.specs.Heaps.{node_at, node_of, entries_of, entry_at, bitmap_of, generation_at, empty_branch};
+ghost use Rattle.slot_arena.specs.Heaps.{node_at, node_of, entries_of, entry_at, bitmap_of, empty_branch};
 ghost use Rattle.machine_model.specs.Building.{key_in};
 ghost use Rattle.machine_model.specs.Cleaning.{is_single};
 
@@ -53,16 +53,6 @@ pub fn bitmap_at(heap: &Heap, at: Ref) -> u32
 {
     match node_at(heap, at) {
         Some(Node::Branch { bitmap, .. }) => *bitmap,
-        _ => 0,
-    }
-}
-
-/// The generation of an indirection.
-pub fn generation_at(heap: &Heap, at: Ref) -> u64
-    ensures { result ≡ generation_at heap.now.heap at }
-{
-    match node_at(heap, at) {
-        Some(Node::Indirection { generation, .. }) => *generation,
         _ => 0,
     }
 }

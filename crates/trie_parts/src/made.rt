@@ -1,19 +1,33 @@
 //! Main nodes made from the main node before, and the indirections and branches down to two singles.
 
 ghost use Rattle.std.specs.Prelude.{◌≡◌, ◌<◌, ◌++◌};
+ghost use Rattle.slot_arena.specs.Heaps.{node_at};
 ghost use Rattle.nodes.specs.Builders.{renewed, contracted, by_index, pair, rung};
 ghost use Rattle.machine_model.specs.Building.{changed_branch, changed_list, changed};
 
 use crate::entries::{entries_from, entries_from_parts, with_inserted, with_replaced, without};
 use crate::levels::{flag_of, index_in};
+use crate::looking::node_at;
 use ctrie_base::HashKind;
+use epochs::Heap;
 use machine_model::Change;
 use nodes::{list_depth, position_of};
 use slot_arena::{Node, Ref};
 
-/// The main node after the change, where `flag` is that of the call's key. What is no branch or list stays
-/// as it is.
-pub fn changed(flag: u32, node: &Node, change: Change) -> Node
+/// A main node after the change, where `flag` is that of the call's key. What is no branch or list stays as
+/// it is.
+pub fn changed_at(heap: &Heap, main: Ref, flag: u32, change: Change) -> Node
+    requires { 0 < flag }
+    ensures { result ≡ changed flag (node_at heap.now.heap main) change }
+{
+    match node_at(heap, main) {
+        Some(node) => changed(flag, node, change),
+        None => changed_branch(flag, 0, &[], change),
+    }
+}
+
+/// The node after the change.
+fn changed(flag: u32, node: &Node, change: Change) -> Node
     requires { 0 < flag }
     ensures { result ≡ changed flag node.now change }
 {
