@@ -141,12 +141,5 @@ may_end es id answer t may = among_any (λ one. eqb one.0 id) (id, may.0) (runni
 pub well_nil : IsWellFormed []
 well_nil place event e = absurd cc
 
-pub well_push : (es : List Event) (e : Event) → IsWellFormed es → MayFollow es e → IsWellFormed (es ++ e ∷ [])
-well_push es e well may place event h =
-    elim (get_push es e event place h) [
-      | inl g ↦ subst (λ (l : List Event). MayFollow l event) (sym (take-append-le place es (e ∷ []) (let lt = get_within es event place g in omega arith))) (well place event g)
-      | inr p ↦ subst (λ (l : List Event). MayFollow l event) (sym (ap (λ (i : ℕ). take i (es ++ e ∷ [])) p.0 ∙ take-append_seam es (e ∷ []))) (subst (MayFollow es) p.1 may)
-    ]
-
 pub well_next : (es : List Event) (e : Event) (more : List Event) → IsWellFormed (es ++ e ∷ more) → MayFollow es e
 well_next es e more well = subst (λ (l : List Event). MayFollow l e) (take-append_seam es (e ∷ more)) (well (length es) e (get_last es e more))

@@ -26,24 +26,7 @@ use Rattle.proof_order.specs.Facts.{Runs, IsReply}
 use Rattle.proof_order.proofs.History.AllBooks.{books_at}
 use Rattle.proof_order.proofs.History.Growing.{IsKept, holds_later, Grows, get_grown, events_grow}
 use Rattle.proof_order.specs.Beneath.machine_model.proofs.Frames.{begin_events}
-
--- ---- an operation ends once
-
-ends_again : (history : List Event) (p q id : ℕ) (a b : Reply) → IsWellFormed history → EndsAt history p id a → EndsAt history q id b → p < q → ⊥
-ends_again history p q id a b well at_p at_q lt =
-    let follows : MayFollow (take q history) (End id b) = well q (End id b) at_q in
-    follows.1.1 a (p, in_take history q p _ lt at_p)
-
-pub ends_once : (history : List Event) (id : ℕ) (a b : Reply) → IsWellFormed history → HasEnded history id a → HasEnded history id b → a ≡ b
-ends_once history id a b well (p, at_p) (q, at_q) = elim (cases_order p q) [
-  | inl same ↦
-      let events : Some (End id a) ≡ Some (End id b) = sym at_p ∙ ap (slice_get history) same ∙ at_q in
-      cc events
-  | inr differ ↦ elim differ [
-    | inl lt ↦ absurd (ends_again history p q id a b well at_p at_q lt)
-    | inr gt ↦ absurd (ends_again history q p id b a well at_q at_p gt)
-  ]
-]
+use Rattle.proof_order.specs.Beneath.history.proofs.OneFault.{reply_once}
 
 -- ---- what is told at one time is told at the end
 
@@ -65,7 +48,7 @@ module _ (limits : Limits) (states : ℕ → State) (last : ℕ) (r : IsRun limi
   -- a reply that is told is the one with which the operation ends
   pub told_reply : (t id : ℕ) (answer : Reply) → t ≤ last → HasEnded (states t).events id answer → IsReply (states last).events id answer
   told_reply t id answer le ended other ends =
-      ends_once (states last).events id answer other (books_at limits states last r last (omega arith)).well_formed
+      reply_once (states last).events id answer other (books_at limits states last r last (omega arith)).well_formed
       (ended.0, event_later t last ended.0 _ le (omega arith) ended.1) ends
 
 -- ---- the events of a step
