@@ -68,9 +68,11 @@ module _ (state : State) (operation : Operation) (G : Ref → Ref → Type 0) (W
   key_reads l = tt
 
   build_reads : (l : BuildLine) → So (line.Build l)
+  build_reads (build.Single path main site former) = tt
   build_reads l = tt
 
   swap_reads : (why : Purpose) (i a f : Ref) (x : SwapLine) → let s : Swap = record { indirection = i; replaced = a; fresh = f; line = x } in So (line.Swap why s)
+  swap_reads why i a f swap.Publish = tt
   swap_reads why i a f x = tt
 
   renew_reads : (l : RenewLine) → So (line.Renew l)

@@ -22,7 +22,7 @@ use Rattle.proof_shape.specs.Sites.Lines.{Sites, PathSite, PurposeSite, LineSite
 use Rattle.proof_shape.specs.Sites.At.{way_of}
 use Rattle.proof_generations.specs.Falling.{purpose_path}
 
-module _ (s : Sites) (S : Ref → Type 0) (heap : Heap) (kind : HashKind) (hash : ℕ) (call : Call) (access : Access) where
+module _ (s : Sites) (S : Ref → Type 0) (heap : Heap) (kind : HashKind) (hash : ℕ) where
   -- the path is at its levels, on the way to the hash, and of indirections
   abbrev pub IsWay : List Ref → Type 0
   IsWay path = PathLevel s.level path × PathSite kind s hash path × All (Meets S heap AnIndirection) path
@@ -36,34 +36,34 @@ module _ (s : Sites) (S : Ref → Type 0) (heap : Heap) (kind : HashKind) (hash 
   purpose_way i purpose.Clean e a h = no_way
   purpose_way i (purpose.Climb c) e a h = (e, a.0, all_of h.0)
 
-  pub line_way : (l : Line) → LineLevel s.level l → LineSite kind s hash l → AllHold S heap (line_wants kind call access l) → IsWay (way_of l)
-  line_way (line.Key (key.Read path r)) e a h = (e.0, a.0, all_of h.0)
-  line_way (line.Key (key.Main path main)) e a h = (e.0, a.0, all_of h.0)
-  line_way (line.Key (key.Entry path main position)) e a h = (e.0, a.0, all_of h.0)
-  line_way (line.Key (key.Listed path main position)) e a h = (e.0, a.0, all_of h.0)
-  line_way (line.Key (key.Sibling path main position former)) e a h = (e.0, a.0, all_of h.0)
-  line_way (line.Build (build.Single path main where_ former)) e a h = (e.0, a.0, all_of h.0)
-  line_way (line.Build (build.Pair path main position single depth)) e a h = (e.0.0, a.0, all_of h.0)
-  line_way (line.Build (build.Link path main position below depth)) e a h = (e.0.0, a.0.0, all_of h.0)
-  line_way (line.Build (build.Rung path main position below depth)) e a h = (e.0.0, a.0.0, all_of h.0)
-  line_way (line.Build (build.Main path main c former)) e a h = (e.0.0, a.0.0, all_of h.0)
-  line_way (line.Swap why w) e a h = purpose_way w.indirection why e.2 a.2 (last_hold S heap (swap_wants w) (purpose_wants why) h)
-  line_way (line.Renew (renew.Entry path main done)) e a h = (e.0.0, a.0.0, all_of h.0)
-  line_way (line.Renew (renew.Read path main done r)) e a h = (e.0.0.0, a.0.0.0, all_of h.0)
-  line_way (line.Renew (renew.Link path main done child)) e a h = (e.0.0.0, a.0.0.0, all_of h.0)
-  line_way (line.Renew (renew.Branch path main done)) e a h = (e.0.0, a.0.0, all_of h.0)
-  line_way (line.Clean (clean.Read path r)) e a h = (e.0, a.0, all_of h.0)
-  line_way (line.Clean (clean.Main path main)) e a h = (e.0, a.0, all_of h.0)
-  line_way (line.Clean (clean.Entry path main done)) e a h = (e.0.0, a.0.0, all_of h.0)
-  line_way (line.Clean (clean.Child path main done r)) e a h = (e.0.0.0, a.0.0.0, all_of h.0)
-  line_way (line.Clean (clean.Tomb path main done child)) e a h = (e.0.0, a.0.0.0, all_of h.0)
-  line_way (line.Clean (clean.Contracted path main done)) e a h = (e.0.0, a.0.0, all_of h.0)
-  line_way (line.Climb (climb.Read c r)) e a h = (e.0, a.0.0, all_of h.0)
-  line_way (line.Climb (climb.Main c main)) e a h = (e.0, a.0.0, all_of h.0)
-  line_way (line.Climb (climb.Contracted c main)) e a h = (e.0, a.0.0, all_of h.0)
-  line_way (line.Climb (climb.Root c l)) e a h = (e.0, a.0, all_of h.0)
-  line_way (line.Root l) e a h = no_way
-  line_way (line.Copy l) e a h = no_way
-  line_way (line.Walk l) e a h = no_way
-  line_way (line.End answer) e a h = no_way
-  line_way line.Impossible e a h = no_way
+  pub line_way : (call : Call) (access : Access) (l : Line) → LineLevel s.level l → LineSite kind s hash l → AllHold S heap (line_wants kind call access l) → IsWay (way_of l)
+  line_way call access (line.Key (key.Read path r)) e a h = (e.0, a.0, all_of h.0)
+  line_way call access (line.Key (key.Main path main)) e a h = (e.0, a.0, all_of h.0)
+  line_way call access (line.Key (key.Entry path main position)) e a h = (e.0, a.0, all_of h.0)
+  line_way call access (line.Key (key.Listed path main position)) e a h = (e.0, a.0, all_of h.0)
+  line_way call access (line.Key (key.Sibling path main position former)) e a h = (e.0, a.0, all_of h.0)
+  line_way call access (line.Build (build.Single path main where_ former)) e a h = (e.0, a.0, all_of h.0)
+  line_way call access (line.Build (build.Pair path main position single depth)) e a h = (e.0.0, a.0, all_of h.0)
+  line_way call access (line.Build (build.Link path main position below depth)) e a h = (e.0.0, a.0.0, all_of h.0)
+  line_way call access (line.Build (build.Rung path main position below depth)) e a h = (e.0.0, a.0.0, all_of h.0)
+  line_way call access (line.Build (build.Main path main c former)) e a h = (e.0.0, a.0.0, all_of h.0)
+  line_way call access (line.Swap why w) e a h = purpose_way w.indirection why e.2 a.2 (last_hold S heap (swap_wants w) (purpose_wants why) h)
+  line_way call access (line.Renew (renew.Entry path main done)) e a h = (e.0.0, a.0.0, all_of h.0)
+  line_way call access (line.Renew (renew.Read path main done r)) e a h = (e.0.0.0, a.0.0.0, all_of h.0)
+  line_way call access (line.Renew (renew.Link path main done child)) e a h = (e.0.0.0, a.0.0.0, all_of h.0)
+  line_way call access (line.Renew (renew.Branch path main done)) e a h = (e.0.0, a.0.0, all_of h.0)
+  line_way call access (line.Clean (clean.Read path r)) e a h = (e.0, a.0, all_of h.0)
+  line_way call access (line.Clean (clean.Main path main)) e a h = (e.0, a.0, all_of h.0)
+  line_way call access (line.Clean (clean.Entry path main done)) e a h = (e.0.0, a.0.0, all_of h.0)
+  line_way call access (line.Clean (clean.Child path main done r)) e a h = (e.0.0.0, a.0.0.0, all_of h.0)
+  line_way call access (line.Clean (clean.Tomb path main done child)) e a h = (e.0.0, a.0.0.0, all_of h.0)
+  line_way call access (line.Clean (clean.Contracted path main done)) e a h = (e.0.0, a.0.0, all_of h.0)
+  line_way call access (line.Climb (climb.Read c r)) e a h = (e.0, a.0.0, all_of h.0)
+  line_way call access (line.Climb (climb.Main c main)) e a h = (e.0, a.0.0, all_of h.0)
+  line_way call access (line.Climb (climb.Contracted c main)) e a h = (e.0, a.0.0, all_of h.0)
+  line_way call access (line.Climb (climb.Root c l)) e a h = (e.0, a.0, all_of h.0)
+  line_way call access (line.Root l) e a h = no_way
+  line_way call access (line.Copy l) e a h = no_way
+  line_way call access (line.Walk l) e a h = no_way
+  line_way call access (line.End answer) e a h = no_way
+  line_way call access line.Impossible e a h = no_way
