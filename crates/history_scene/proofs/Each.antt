@@ -1,26 +1,25 @@
 -- Each operation that has begun has exactly one bar.
-use Rattle.std.proofs.Common.{◌≡◌, ◌↔◌, ◌<◌, ◌+◌, ℕ, List, take, length, Option, Some, None, IsNone, IfSome, slice_get, inl, inr, refl, sym, ap, ◌∙◌, arith, add-one}
+use Rattle.std.proofs.Common.{◌≡◌, ◌↔◌, ◌<◌, ◌+◌, ℕ, List, take, length, Option, Some, None, IsNone, IfSome, refl, sym, ap, ◌∙◌, arith, add-one}
 use Rattle.std.specs.Prelude.{String}
 use Rattle.std.specs.Option.{option_map}
 use Rattle.std.specs.declared.alloc.Global.{Global}
-use Rattle.std.proofs.lemmas.Bool.{cases_order, true≢false}
+use Rattle.std.proofs.lemmas.Bool.{true≢false}
 use Rattle.std.proofs.lemmas.Option.{slice_get_within}
 use Rattle.std.proofs.lemmas.List.{take_all}
 use Rattle.history.specs.declared.replies.Reply.{Reply}
 use Rattle.history.specs.declared.events.Event.{Event}
-use Rattle.history.specs.declared.events.Event.TheVariants.{Begin, End}
+use Rattle.history.specs.declared.events.Event.TheVariants.{Begin}
 use Rattle.history.specs.declared.faults.OrderFault.{OrderFault}
 use Rattle.history.specs.Histories.{Operation, BeginsAt, EndsAt, HasEnded, begun, IsWellFormed}
 use Rattle.history.specs.Orders.{IsLegal}
 use Rattle.history.specs.Faults.{IsFirstFault}
-use Rattle.history.proofs.Places.{at_within, in_take}
+use Rattle.history.proofs.Places.{at_within}
 use Rattle.history.proofs.Begins.{begins_once, begun_more, begun_grows}
 use Rattle.history.proofs.Legal.{not_legal}
 use Rattle.history_text.specs.FaultTexts.{fault_text}
 use Rattle.history_scene.specs.declared.scenes.Bar.{Bar}
-use Rattle.history_scene.specs.declared.scenes.Scene.{Scene}
-use Rattle.history_scene.specs.Scenes.{Ends, IsBar, IsScene, Judges, text_in}
-use Rattle.history_scene.specs.Laws.{HasItsEnds, HasEachOperation}
+use Rattle.history_scene.specs.Scenes.{Ends, IsBar, Judges, text_in}
+use Rattle.history_scene.specs.Laws.{HasEachOperation}
 use Rattle.history.proofs.OneFault.{ends_once}
 
 -- an operation's id is below the number of those that have begun

@@ -14,7 +14,7 @@ use Rattle.text_lines.specs.Words.{both, made}
 use Rattle.text_lines.proofs.Parts.{both_ok, made_ok, word_is, range_is, named_is}
 use Rattle.history_text.specs.declared.names.CallName.{CallName}
 use Rattle.history_text.specs.declared.names.CallName.TheVariants as name
-use Rattle.history_text.specs.Names.{call_named, call_name, call_names}
+use Rattle.history_text.specs.Names.{call_named, call_name}
 use Rattle.history_text.specs.Texts.{call_words, opens_words}
 use Rattle.history_text.specs.Words.{actor_word, handle_word}
 use Rattle.history_text.specs.Lines.{call_of, opens}

@@ -1,7 +1,6 @@
 -- What is found along a key's hash in the machine's heap is what the content of a handle has of it.
 use Rattle.std.proofs.Common.{◌≡◌, ℕ, zero, suc, ◌==◌, Bool, true, false, cond, List, [], ◌∷◌, Contains, Option, Some, None, refl, sym, ap, ◌∙◌, subst, arith}
 use Rattle.std.proofs.lemmas.Option.{none-some, same_Some}
-use Rattle.arrayvec.specs.ArrayVec.{ArrayVec}
 use Rattle.proof_shape.specs.Beneath.ctrie_base.specs.Hashes.{hash_of}
 use Rattle.proof_shape.specs.Beneath.nodes.specs.Levels.{flag_of, index_in}
 use Rattle.proof_shape.specs.Beneath.slot_arena.specs.declared.refs.Ref.{Ref}

@@ -27,7 +27,6 @@ use Rattle.proof_shape.specs.Beneath.machine_model.specs.declared.roots.RootLine
 use Rattle.proof_shape.specs.Beneath.machine_model.specs.declared.repairs.Climb.{Climb}
 use Rattle.proof_shape.specs.Beneath.machine_model.specs.declared.lines.Purpose.{Purpose}
 use Rattle.proof_shape.specs.Beneath.machine_model.specs.declared.lines.Purpose.TheVariants as purpose
-use Rattle.proof_shape.specs.Beneath.machine_model.specs.declared.lines.Line.{Line}
 use Rattle.proof_shape.specs.Beneath.machine_model.specs.States.{State}
 use Rattle.proof_shape.specs.Beneath.machine_model.specs.Paths.{current, above, depth_of, hash_in, flag_in, is_start, is_below_root}
 use Rattle.proof_shape.specs.Beneath.machine_model.specs.Reading.{at_indirection}

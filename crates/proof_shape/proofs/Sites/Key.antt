@@ -18,7 +18,6 @@ use Rattle.proof_shape.specs.Beneath.machine_model.specs.declared.reading.After.
 use Rattle.proof_shape.specs.Beneath.machine_model.specs.declared.reading.ReadLine.{ReadLine}
 use Rattle.proof_shape.specs.Beneath.machine_model.specs.declared.finding.WhenFound.{WhenFound}
 use Rattle.proof_shape.specs.Beneath.machine_model.specs.declared.finding.WhenFound.TheVariants.{Answers, Sets, Removes}
-use Rattle.proof_shape.specs.Beneath.machine_model.specs.declared.lines.Line.{Line}
 use Rattle.proof_shape.specs.Beneath.machine_model.specs.Calls.{key_of, inserts, when_found}
 use Rattle.proof_shape.specs.Beneath.machine_model.specs.States.{State}
 use Rattle.proof_shape.specs.Beneath.machine_model.specs.Paths.{above, depth_of, is_below_root, flag_in, hash_in}

@@ -18,7 +18,7 @@ use Rattle.proof_updates.specs.Beneath.machine_model.specs.Times.{IsRun, states_
 use Rattle.proof_updates.specs.Beneath.machine_model.proofs.Times.{run_is, run_ends}
 use Rattle.proof_updates.specs.Beneath.proof_memory.specs.Laws.{IsInUse}
 use Rattle.proof_updates.specs.Beneath.proof_memory.specs.Wants.{is_indirection}
-use Rattle.proof_updates.specs.Beneath.proof_contents.specs.Nodes.Branches.{at_place, standing}
+use Rattle.proof_updates.specs.Beneath.proof_contents.specs.Nodes.Branches.{at_place}
 use Rattle.proof_updates.specs.Beneath.proof_contents.specs.Nodes.Looking.{Found, Absent, Has, Below, look_at, look_among, look_in, or_else, value_by, find_at}
 use Rattle.proof_updates.specs.Beneath.proof_contents.specs.Tries.{Trie, IsShaped, branch, list, tomb, map_of, assigned}
 use Rattle.proof_updates.specs.Beneath.proof_contents.proofs.Nodes.Changes.{look_place, look_branch}
