@@ -183,7 +183,7 @@ pub low_cut : (c : ℕ) (ps : List Place) → AreUpTo c ps → IsCut c ps
 low_cut c [] h = tt
 low_cut c (p ∷ ps) h = (λ less. absurd (omega (arith, less, head_up_to c p ps h)), low_cut c ps (rest_up_to c p ps h))
 
-steps_rise : (p q : Place) → is_before q p ≡ false → p.step ≤ q.step
+pub steps_rise : (p q : Place) → is_before q p ≡ false → p.step ≤ q.step
 steps_rise p q e = tested (nat_lt q.step p.step) refl
   where
     tested : (b : Bool) → nat_lt q.step p.step ≡ b → p.step ≤ q.step

@@ -10,7 +10,7 @@ use Rattle.slot_arena.specs.declared.nodes.Slot.{Slot}
 use Rattle.slot_arena.specs.Refs.{slot_of, birth_of}
 use Rattle.slot_arena.specs.Heaps.{node_of, node_at, prev_of, prev_at, main_of, main_at, with_main_word, main_changed, prev_changed, refs_of_node, refs_of_prev, refs_of_slot}
 use Rattle.slot_arena.specs.Times.{times}
-use Rattle.slot_arena.specs.Tallies.{naming, NotesZeros}
+use Rattle.slot_arena.specs.Tallies.{Tally, naming, NotesZeros}
 use Rattle.slot_arena.specs.Chains.{Chain}
 use Rattle.slot_arena.specs.Arenas.{Contents, NotesWaiting, has_birth, is_live, is_indirection}
 use Rattle.slot_arena.specs.Kept.{live, found, IsKept}
@@ -20,6 +20,7 @@ use Rattle.slot_arena.proofs.Exact.{part_live, part_counted}
 use Rattle.slot_arena.proofs.Changed.{live_here, live_there}
 use Rattle.std.specs.Prelude.{option_map}
 use Rattle.slot_arena.specs.declared.nodes.Node.TheVariants.{Indirection, Branch, Single, Tomb, List as Listed}
+use Rattle.slot_arena.proofs.Marks.{zeros_trans}
 use Rattle.slot_arena.proofs.Swaps.{swap_kept}
 use Rattle.slot_arena.proofs.Reading.{slot_seen, node_seen, prev_seen, live_is}
 use Rattle.slot_arena.proofs.Waiting.{born, notes_waiting}
@@ -170,14 +171,15 @@ module _
     (before seen : Contents) (same : before ≡ seen) (r : Ref) (has : live before.heap.slots r ≡ true) (change : Slot → Slot) (minus plus : List Ref)
     (is : IsChange before.heap.slots r change minus plus) (slots : List (Option Slot)) (slots_are : slots ≡ changed_by change before.heap.slots r)
   where
-    pub word_noted : (counts counts' : List ℕ) (free : Chain) (used : ℕ) (noted : List ℕ) (ticks : ℕ) →
+    pub word_noted : (counts counts' : List ℕ) (free : Chain) (used : ℕ) (between : Tally) (noted : List ℕ) (ticks : ℕ) →
         IsKept before.heap.slots counts free used before.outside → IsKept slots counts' free used before.outside →
-        NotesZeros (record { counts = counts; noted = before.noted; ticks = 0 }) (record { counts = counts'; noted = noted; ticks = 0 }) →
+        NotesZeros (record { counts = counts; noted = before.noted; ticks = 0 }) between → NotesZeros between (record { counts = counts'; noted = noted; ticks = 0 }) →
         NotesWaiting seen (record { heap = record { slots = slots; free = before.heap.free; births = before.heap.births }; outside = before.outside; noted = noted; ticks = ticks })
-    word_noted counts counts' free used noted ticks kept kept' zeros =
+    word_noted counts counts' free used between noted ticks kept kept' first second =
         let after : Contents = record { heap = record { slots = slots; free = before.heap.free; births = before.heap.births }; outside = before.outside; noted = noted; ticks = ticks } in
         subst (λ (a : Contents). NotesWaiting a after) same
-        (notes_waiting before after counts counts' free free used used kept kept' zeros
+        (notes_waiting before after counts counts' free free used used kept kept'
+        (zeros_trans (record { counts = counts; noted = before.noted; ticks = 0 }) between (record { counts = counts'; noted = noted; ticks = 0 }) first second)
         (λ i none. born_word before.heap.slots r change minus plus is (live_within before.heap.slots r has) i ∙ sym (ap (λ s. born (get_or s i None)) slots_are)))
 
     pub word_stays : (q : Ref) → is_live (record { slots = slots; free = before.heap.free; births = before.heap.births }) q ≡ is_live seen.heap q

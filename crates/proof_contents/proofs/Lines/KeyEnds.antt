@@ -1,5 +1,5 @@
 -- Where KEY ends without a change it answers what the main node says of its key.
-use Rattle.std.proofs.Common.{◌≡◌, ◌≢◌, ℕ, ◌+◌, ◌-◌, ◌≤◌, ◌==◌, ◌&&◌, nat_lt, nat_le, Bool, true, false, cond, List, [], ◌∷◌, length, take, drop, slice_index_or, Some, None, refl}
+use Rattle.std.proofs.Common.{◌≡◌, ◌≢◌, ℕ, ◌+◌, ◌-◌, ◌≤◌, ◌==◌, ◌&&◌, nat_lt, nat_le, Bool, true, false, cond, List, [], ◌∷◌, length, take, drop, slice_index_or, None, refl}
 use Rattle.std.proofs.lemmas.Bool.{cond_both}
 use Rattle.std.proofs.Common.{sym, ap, ap₂, subst, ◌∙◌, eqb-true, take_all, ltb-false, leb-true, take-append-drop}
 use Rattle.std.proofs.lemmas.Grind.{take_at_read}
@@ -17,7 +17,6 @@ use Rattle.proof_contents.specs.Beneath.slot_arena.specs.Heaps.{node_at, entry_a
 use Rattle.proof_contents.specs.Beneath.nodes.specs.Levels.{has_flag}
 use Rattle.machine_model.specs.declared.operations.Operation.{Operation}
 use Rattle.machine_model.specs.declared.building.Site.TheVariants as site
-use Rattle.machine_model.specs.declared.building.Change.TheVariants as change
 use Rattle.machine_model.specs.declared.building.BuildLine.TheVariants as build
 use Rattle.machine_model.specs.declared.finding.KeyLine.TheVariants as key
 use Rattle.machine_model.specs.declared.finding.WhenFound.{WhenFound}

@@ -1,6 +1,6 @@
 -- What lines know so that no branch below the root is left empty, or with one single alone: what KEY takes out of a pair leaves an indirection, and RENEW
 -- keeps indirections.
-use Rattle.std.proofs.Common.{◌≡◌, ℕ, ◌+◌, ◌-◌, ◌<◌, ◌==◌, ◌&&◌, Bool, true, false, nat_lt, nat_le, List, [], ◌∷◌, ◌++◌, length, slice_index_or, Option, Some, None, refl, sym, ap}
+use Rattle.std.proofs.Common.{◌≡◌, ℕ, ◌+◌, ◌-◌, ◌<◌, ◌==◌, ◌&&◌, true, false, nat_lt, nat_le, List, [], ◌∷◌, ◌++◌, length, slice_index_or, Option, Some, None, refl, sym, ap}
 use Rattle.std.proofs.Common.{ap₂, subst, ◌∙◌, inl, inr, eq-eqb, arith}
 use Rattle.std.proofs.lemmas.Bool.{cases_lt, false≢true, cond_both}
 use Rattle.std.proofs.lemmas.List.{get_or_append_left, get_or_push, length-append}
@@ -10,38 +10,24 @@ use Rattle.proof_shape.specs.Beneath.slot_arena.specs.declared.refs.Ref.{Ref}
 use Rattle.proof_shape.specs.Beneath.slot_arena.specs.declared.nodes.Node.{Node}
 use Rattle.proof_shape.specs.Beneath.slot_arena.specs.declared.nodes.Node.TheVariants.{Indirection, Branch, Single, List as Listed}
 use Rattle.proof_shape.specs.Beneath.slot_arena.specs.Heaps.{node_at, entry_at, entries_of, next_ref, no_ref}
-use Rattle.proof_shape.specs.Beneath.machine_model.specs.declared.building.BuildLine.{BuildLine}
 use Rattle.proof_shape.specs.Beneath.machine_model.specs.declared.building.BuildLine.TheVariants as build
 use Rattle.proof_shape.specs.Beneath.machine_model.specs.declared.building.Change.TheVariants as change
-use Rattle.proof_shape.specs.Beneath.machine_model.specs.declared.copying.CopyLine.{CopyLine}
-use Rattle.proof_shape.specs.Beneath.machine_model.specs.declared.finding.KeyLine.TheVariants as key
 use Rattle.proof_shape.specs.Beneath.machine_model.specs.declared.finding.WhenFound.{WhenFound}
 use Rattle.proof_shape.specs.Beneath.machine_model.specs.declared.finding.WhenFound.TheVariants.{Answers, Sets, Removes}
 use Rattle.proof_shape.specs.Beneath.machine_model.specs.declared.lines.Line.{Line}
 use Rattle.proof_shape.specs.Beneath.machine_model.specs.declared.lines.Line.TheVariants as line
-use Rattle.proof_shape.specs.Beneath.machine_model.specs.declared.lines.Purpose.{Purpose}
 use Rattle.proof_shape.specs.Beneath.machine_model.specs.declared.operations.Operation.{Operation}
 use Rattle.proof_shape.specs.Beneath.machine_model.specs.declared.reading.After.{After}
 use Rattle.proof_shape.specs.Beneath.machine_model.specs.declared.reading.After.TheVariants.{Goes, Gives}
 use Rattle.proof_shape.specs.Beneath.machine_model.specs.declared.reading.Read.{Read}
-use Rattle.proof_shape.specs.Beneath.machine_model.specs.declared.reading.Swap.{Swap}
-use Rattle.proof_shape.specs.Beneath.machine_model.specs.declared.repairs.CleanLine.{CleanLine}
-use Rattle.proof_shape.specs.Beneath.machine_model.specs.declared.repairs.ClimbLine.{ClimbLine}
 use Rattle.proof_shape.specs.Beneath.machine_model.specs.declared.repairs.RenewLine.{RenewLine}
 use Rattle.proof_shape.specs.Beneath.machine_model.specs.declared.repairs.RenewLine.TheVariants as renew
-use Rattle.proof_shape.specs.Beneath.machine_model.specs.declared.roots.RootLine.{RootLine}
-use Rattle.proof_shape.specs.Beneath.machine_model.specs.declared.walking.WalkLine.{WalkLine}
 use Rattle.proof_shape.specs.Beneath.machine_model.specs.Calls.{key_of, inserts, when_found}
 use Rattle.proof_shape.specs.Beneath.machine_model.specs.Paths.{is_below_root, is_start}
 use Rattle.proof_shape.specs.Beneath.machine_model.specs.States.{State}
-use Rattle.proof_shape.specs.Beneath.machine_model.specs.Building.{build_after}
-use Rattle.proof_shape.specs.Beneath.machine_model.specs.Cleaning.{clean_after}
-use Rattle.proof_shape.specs.Beneath.machine_model.specs.Climbing.{climb_after}
-use Rattle.proof_shape.specs.Beneath.machine_model.specs.Copying.{copy_after}
-use Rattle.proof_shape.specs.Beneath.machine_model.specs.Finding.{key_after, key_after_main, absent, removing, found_so, is_passable, key_after_entry, after_listed, after_sibling}
+use Rattle.proof_shape.specs.Beneath.machine_model.specs.Finding.{absent, removing, found_so, is_passable, key_after_entry, after_listed, after_sibling}
 use Rattle.proof_shape.specs.Beneath.machine_model.specs.Renewing.{renew_next, next_entry, renew_after_entry, renew_after_read, renew_after_link, renew_after_branch}
-use Rattle.proof_shape.specs.Beneath.machine_model.specs.Walking.{walk_after}
-use Rattle.proof_shape.specs.Beneath.machine_model.specs.Operations.{line_after, first_line}
+use Rattle.proof_shape.specs.Beneath.machine_model.specs.Operations.{first_line}
 use Rattle.proof_shape.specs.Beneath.proof_memory.specs.Wants.{is_indirection}
 use Rattle.proof_shape.specs.Sites.Lines.{Sites, bare}
 use Rattle.proof_shape.proofs.Lines.Leads.{keeps_entries, first_leads}

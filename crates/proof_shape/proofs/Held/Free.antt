@@ -8,7 +8,6 @@ use Rattle.proof_shape.specs.Beneath.slot_arena.specs.declared.nodes.Node.TheVar
 use Rattle.proof_shape.specs.Beneath.slot_arena.specs.Heaps.{node_at, entries_of}
 use Rattle.proof_shape.specs.Beneath.machine_model.specs.declared.building.BuildLine.TheVariants as build
 use Rattle.proof_shape.specs.Beneath.machine_model.specs.declared.building.Change.TheVariants as change
-use Rattle.proof_shape.specs.Beneath.machine_model.specs.declared.copying.CopyLine.{CopyLine}
 use Rattle.proof_shape.specs.Beneath.machine_model.specs.declared.finding.KeyLine.TheVariants as key
 use Rattle.proof_shape.specs.Beneath.machine_model.specs.declared.lines.Line.{Line}
 use Rattle.proof_shape.specs.Beneath.machine_model.specs.declared.lines.Line.TheVariants as line
@@ -17,17 +16,11 @@ use Rattle.proof_shape.specs.Beneath.machine_model.specs.declared.lines.Purpose.
 use Rattle.proof_shape.specs.Beneath.machine_model.specs.declared.operations.Operation.{Operation}
 use Rattle.proof_shape.specs.Beneath.machine_model.specs.declared.reading.Read.{Read}
 use Rattle.proof_shape.specs.Beneath.machine_model.specs.declared.repairs.CleanLine.TheVariants as clean
-use Rattle.proof_shape.specs.Beneath.machine_model.specs.declared.repairs.ClimbLine.{ClimbLine}
-use Rattle.proof_shape.specs.Beneath.machine_model.specs.declared.roots.RootLine.{RootLine}
 use Rattle.proof_shape.specs.Beneath.machine_model.specs.declared.steps.Limits.{Limits}
-use Rattle.proof_shape.specs.Beneath.machine_model.specs.declared.walking.WalkLine.{WalkLine}
 use Rattle.proof_shape.specs.Beneath.machine_model.specs.Calls.{key_of}
 use Rattle.proof_shape.specs.Beneath.machine_model.specs.States.{State}
-use Rattle.proof_shape.specs.Beneath.machine_model.specs.Finding.{key_after, key_after_main, key_after_entry, after_listed, after_sibling, found, absent_listed}
-use Rattle.proof_shape.specs.Beneath.machine_model.specs.Climbing.{climb_after}
-use Rattle.proof_shape.specs.Beneath.machine_model.specs.Copying.{copy_after}
-use Rattle.proof_shape.specs.Beneath.machine_model.specs.Walking.{walk_after}
-use Rattle.proof_shape.specs.Beneath.machine_model.specs.Operations.{first_line, swapped, line_after}
+use Rattle.proof_shape.specs.Beneath.machine_model.specs.Finding.{key_after_entry, after_listed, found, absent_listed}
+use Rattle.proof_shape.specs.Beneath.machine_model.specs.Operations.{swapped}
 use Rattle.proof_shape.specs.Beneath.machine_model.specs.Times.{IsRun}
 use Rattle.proof_shape.proofs.Lines.Leads.{holds_nothing}
 use Rattle.proof_shape.proofs.Held.Lines.{HeldIn}

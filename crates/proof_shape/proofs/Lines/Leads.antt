@@ -98,43 +98,57 @@ Bare l = holds_nothing l ≡ true
 pub first_leads : (call : Call) → Grounded (first_line call) × Keeps (first_line call) × Bare (first_line call)
 first_leads call = (grind arith, grind arith, grind arith)
 
-pub root_leads : (state : State) (operation : Operation) (l : RootLine) → Grounded (line_after state operation (line.Root l)) × Keeps (line_after state operation (line.Root l)) × Bare (line_after state operation (line.Root l))
+pub root_leads : (state : State) (operation : Operation) (l : RootLine) →
+    Grounded (line_after state operation (line.Root l)) × Keeps (line_after state operation (line.Root l)) × Bare (line_after state operation (line.Root l))
 root_leads state operation l = (grind arith, grind arith, grind arith)
 
-pub copy_leads : (state : State) (operation : Operation) (l : CopyLine) → Grounded (copy_after state operation l) × Keeps (copy_after state operation l) × Bare (copy_after state operation l) × (is_copying (copy_after state operation l) ≡ true)
+pub copy_leads : (state : State) (operation : Operation) (l : CopyLine) →
+    Grounded (copy_after state operation l) × Keeps (copy_after state operation l) × Bare (copy_after state operation l) × (is_copying (copy_after state operation l) ≡ true)
 copy_leads state operation l = (grind arith, grind arith, grind arith, grind arith)
 
-pub walk_leads : (state : State) (operation : Operation) (l : WalkLine) → Grounded (walk_after state operation l) × Keeps (walk_after state operation l) × Bare (walk_after state operation l) × (is_walking (walk_after state operation l) ≡ true)
+pub walk_leads : (state : State) (operation : Operation) (l : WalkLine) →
+    Grounded (walk_after state operation l) × Keeps (walk_after state operation l) × Bare (walk_after state operation l) × (is_walking (walk_after state operation l) ≡ true)
 walk_leads state operation l = (grind arith, grind arith, grind arith, grind arith)
 
-pub swap_leads : (state : State) (operation : Operation) (why : Purpose) (s : Swap) → Down (line_after state operation (line.Swap why s)) × Keeps (line_after state operation (line.Swap why s))
+pub swap_leads : (state : State) (operation : Operation) (why : Purpose) (s : Swap) →
+    Down (line_after state operation (line.Swap why s)) × Keeps (line_after state operation (line.Swap why s))
 swap_leads state operation why s = (grind arith, grind arith)
 
-pub build_leads : (state : State) (operation : Operation) (l : BuildLine) → Grounded (build_after state operation l) × Down (build_after state operation l) × Keeps (build_after state operation l)
+pub build_leads : (state : State) (operation : Operation) (l : BuildLine) →
+    Grounded (build_after state operation l) × Down (build_after state operation l) × Keeps (build_after state operation l)
 build_leads state operation l = (grind arith, grind arith, grind arith)
 
 pub renew_leads : (state : State) (operation : Operation) (l : RenewLine) → Grounded (renew_after state operation l) × Down (renew_after state operation l)
 renew_leads state operation l = (grind arith, grind arith)
 
-pub clean_leads : (state : State) (operation : Operation) (l : CleanLine) → Grounded (clean_after state operation l) × Down (clean_after state operation l) × Keeps (clean_after state operation l)
+pub clean_leads : (state : State) (operation : Operation) (l : CleanLine) →
+    Grounded (clean_after state operation l) × Down (clean_after state operation l) × Keeps (clean_after state operation l)
 clean_leads state operation l = (grind arith, grind arith, grind arith)
 
-pub climb_leads : (state : State) (operation : Operation) (l : ClimbLine) → Down (climb_after state operation l) × Keeps (climb_after state operation l) × Bare (climb_after state operation l)
+pub climb_leads : (state : State) (operation : Operation) (l : ClimbLine) →
+    Down (climb_after state operation l) × Keeps (climb_after state operation l) × Bare (climb_after state operation l)
 climb_leads state operation l = (grind arith, grind arith, grind arith)
 
-pub key_read_leads : (state : State) (operation : Operation) (path : List Ref) (r : Read) → Grounded (key_after state operation (key.Read path r)) × Down (key_after state operation (key.Read path r)) × Keeps (key_after state operation (key.Read path r)) × Bare (key_after state operation (key.Read path r))
+pub key_read_leads : (state : State) (operation : Operation) (path : List Ref) (r : Read) →
+    Grounded (key_after state operation (key.Read path r)) × Down (key_after state operation (key.Read path r))
+    × Keeps (key_after state operation (key.Read path r)) × Bare (key_after state operation (key.Read path r))
 key_read_leads state operation path r = (grind arith, grind arith, grind arith, grind arith)
 
-pub key_main_leads : (state : State) (operation : Operation) (path : List Ref) (main : Ref) (node : Node) → Grounded (key_after_main state operation path main node) × Down (key_after_main state operation path main node) × Keeps (key_after_main state operation path main node) × Bare (key_after_main state operation path main node)
+pub key_main_leads : (state : State) (operation : Operation) (path : List Ref) (main : Ref) (node : Node) →
+    Grounded (key_after_main state operation path main node) × Down (key_after_main state operation path main node)
+    × Keeps (key_after_main state operation path main node) × Bare (key_after_main state operation path main node)
 key_main_leads state operation path main node = (grind arith, grind arith, grind arith, grind arith)
 
-pub key_entry_leads : (state : State) (operation : Operation) (path : List Ref) (main : Ref) (position : ℕ) (node : Node) → Grounded (key_after_entry state operation path main position node) × Down (key_after_entry state operation path main position node)
+pub key_entry_leads : (state : State) (operation : Operation) (path : List Ref) (main : Ref) (position : ℕ) (node : Node) →
+    Grounded (key_after_entry state operation path main position node) × Down (key_after_entry state operation path main position node)
 key_entry_leads state operation path main position node = (grind arith, grind arith)
 
-pub key_listed_leads : (state : State) (operation : Operation) (path : List Ref) (main : Ref) (position : ℕ) (node : Node) → Grounded (after_listed state operation path main position node) × Down (after_listed state operation path main position node)
+pub key_listed_leads : (state : State) (operation : Operation) (path : List Ref) (main : Ref) (position : ℕ) (node : Node) →
+    Grounded (after_listed state operation path main position node) × Down (after_listed state operation path main position node)
 key_listed_leads state operation path main position node = (grind arith, grind arith)
 
-pub key_sibling_leads : (path : List Ref) (main : Ref) (position former : ℕ) (other : Ref) (node : Node) → Grounded (after_sibling path main position former other node) × Down (after_sibling path main position former other node) × Bare (after_sibling path main position former other node)
+pub key_sibling_leads : (path : List Ref) (main : Ref) (position former : ℕ) (other : Ref) (node : Node) →
+    Grounded (after_sibling path main position former other node) × Down (after_sibling path main position former other node) × Bare (after_sibling path main position former other node)
 key_sibling_leads path main position former other node = (grind arith, grind arith, grind arith)
 
 pub key_leads : (state : State) (operation : Operation) (l : KeyLine) → Grounded (key_after state operation l) × Down (key_after state operation l)

@@ -141,7 +141,8 @@ module _ (s : Sites) (fits : (i : Ref) → s.path i < 2 ^ (5 * depth_at (s.level
         (is, subst (InsideSite kind s entry) is (N.inside entry u))
 
     main_made : (path : List Ref) (main : Ref) (former : Option ℕ) (c : Change) (r : Ref) (n : Node) → node_at state.heap main ≡ n → (s.node main ≡ n) × IsShaped (trie_at kind s) main n →
-        s.level main ≡ depth_of path + 1 → PlaceSite kind s hash path main → ChangeLevel s.level path former c → ChangeSite kind s hash path former c → KnowsChange K operation.call (depth_of path) main former c →
+        s.level main ≡ depth_of path + 1 → PlaceSite kind s hash path main → ChangeLevel s.level path former c → ChangeSite kind s hash path former c →
+        KnowsChange K operation.call (depth_of path) main former c →
         s.level r ≡ depth_of path + 1 → IsOnWay kind s hash (depth_of path) r → IsShaped (trie_at kind s) r (changed (flag_in state operation path) n c)
     main_made path main former c r n is both level p cl cs knows level_r on =
         let here : depth_at (s.level r) ≡ depth_of path = omega (arith, level_r) in

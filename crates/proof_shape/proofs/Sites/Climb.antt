@@ -27,7 +27,6 @@ use Rattle.proof_shape.specs.Beneath.machine_model.specs.declared.roots.RootLine
 use Rattle.proof_shape.specs.Beneath.machine_model.specs.declared.repairs.Climb.{Climb}
 use Rattle.proof_shape.specs.Beneath.machine_model.specs.declared.lines.Purpose.{Purpose}
 use Rattle.proof_shape.specs.Beneath.machine_model.specs.declared.lines.Purpose.TheVariants as purpose
-use Rattle.proof_shape.specs.Beneath.machine_model.specs.declared.lines.Line.{Line}
 use Rattle.proof_shape.specs.Beneath.machine_model.specs.States.{State}
 use Rattle.proof_shape.specs.Beneath.machine_model.specs.Paths.{current, above, depth_of, hash_in, flag_in, is_start, is_below_root}
 use Rattle.proof_shape.specs.Beneath.machine_model.specs.Reading.{at_indirection}
@@ -104,7 +103,8 @@ module _ (s : Sites) (fits : (i : Ref) → s.path i < 2 ^ (5 * depth_at (s.level
   climb_root_site c (Gives r) p = cond_both (is_start operation _) _ _ (LineSite kind s hash) (λ x. climbing_site c p) (λ x. tt)
 
   pub climbed_by : (c : Climb) (main : Ref) → Carries c → nat_lt 1 (length c.path) ≡ true → IsOnWay kind s hash (depth_of (above c.path)) main →
-      ((made : Ref) → next_ref state.heap ≡ Some made → IsOnWay kind s hash (depth_of (above c.path)) made) → (o : Option Ref) → next_ref state.heap ≡ o → LineSite kind s hash (climb_after_contracted operation c main o)
+      ((made : Ref) → next_ref state.heap ≡ Some made → IsOnWay kind s hash (depth_of (above c.path)) made) → (o : Option Ref) → next_ref state.heap ≡ o →
+      LineSite kind s hash (climb_after_contracted operation c main o)
   climbed_by c main p long on f None e = tt
   climbed_by c main p long on f (Some made) e =
       let at = current_site kind s hash (above c.path) (above_site kind s hash c.path p.0) (above_long c.path long) in

@@ -18,7 +18,6 @@ use Rattle.proof_shape.specs.Beneath.machine_model.specs.declared.reading.After.
 use Rattle.proof_shape.specs.Beneath.machine_model.specs.declared.reading.ReadLine.{ReadLine}
 use Rattle.proof_shape.specs.Beneath.machine_model.specs.declared.finding.WhenFound.{WhenFound}
 use Rattle.proof_shape.specs.Beneath.machine_model.specs.declared.finding.WhenFound.TheVariants.{Answers, Sets, Removes}
-use Rattle.proof_shape.specs.Beneath.machine_model.specs.declared.lines.Line.{Line}
 use Rattle.proof_shape.specs.Beneath.machine_model.specs.Calls.{key_of, inserts, when_found}
 use Rattle.proof_shape.specs.Beneath.machine_model.specs.States.{State}
 use Rattle.proof_shape.specs.Beneath.machine_model.specs.Paths.{above, depth_of, is_below_root, flag_in, hash_in}
@@ -128,7 +127,8 @@ module _ (s : Sites) (fits : (i : Ref) → s.path i < 2 ^ (5 * depth_at (s.level
       (λ e. cond_both (inserts operation.call && nat_le 32 (length (entries_of (node_at state.heap main)))) _ _ (LineSite kind s hash) (λ e. tt) (λ e. absent_site path main p)))
   listed_site path main position node p = tt
 
-  pub sibling_site : (path : List Ref) (main : Ref) (position former : ℕ) (other : Ref) (node : Node) → PlaceSite kind s hash path main → LineSite kind s hash (after_sibling path main position former other node)
+  pub sibling_site : (path : List Ref) (main : Ref) (position former : ℕ) (other : Ref) (node : Node) → PlaceSite kind s hash path main →
+      LineSite kind s hash (after_sibling path main position former other node)
   sibling_site path main position former other (Single k v) p = (p, tt)
   sibling_site path main position former other (Indirection generation word) p = (p, tt)
   sibling_site path main position former other node p = tt

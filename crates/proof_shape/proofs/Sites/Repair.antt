@@ -17,7 +17,6 @@ use Rattle.proof_shape.specs.Beneath.machine_model.specs.declared.reading.After.
 use Rattle.proof_shape.specs.Beneath.machine_model.specs.declared.reading.After.TheVariants.{Goes, Gives}
 use Rattle.proof_shape.specs.Beneath.machine_model.specs.declared.reading.ReadLine.{ReadLine}
 use Rattle.proof_shape.specs.Beneath.machine_model.specs.declared.repairs.CleanLine.TheVariants as clean
-use Rattle.proof_shape.specs.Beneath.machine_model.specs.declared.lines.Line.{Line}
 use Rattle.proof_shape.specs.Beneath.machine_model.specs.declared.lines.Line.TheVariants as line
 use Rattle.proof_shape.specs.Beneath.machine_model.specs.States.{State}
 use Rattle.proof_shape.specs.Beneath.machine_model.specs.Paths.{depth_of, hash_in, is_start, is_below_root}
@@ -75,7 +74,8 @@ module _ (s : Sites) (fits : (i : Ref) → s.path i < 2 ^ (5 * depth_at (s.level
   pub renew_entry_site : (path : List Ref) (main : Ref) (done : List Ref) (node : Node) → node_at state.heap (next_entry state main done) ≡ node → S main → S (next_entry state main done) →
       length done < length (entries_of (s.node main)) → Done path main done → LineSite kind s hash (renew_after_entry state operation path main done (next_entry state main done) node)
   renew_entry_site path main done (Indirection generation word) e u v lt d =
-      cond_both (is_start operation generation) _ _ (LineSite kind s hash) (λ x. renew_next_site s fits state operation S N path main (done ++ next_entry state main done ∷ []) (keeps path main done u lt d))
+      cond_both (is_start operation generation) _ _ (LineSite kind s hash)
+      (λ x. renew_next_site s fits state operation S N path main (done ++ next_entry state main done ∷ []) (keeps path main done u lt d))
       (λ x. (d, (next_is main done u, link_seen s state S N (next_entry state main done) v ∙ ap is_indirection e), tt))
   renew_entry_site path main done (Single k v) e u w lt d = renew_next_site s fits state operation S N path main (done ++ next_entry state main done ∷ []) (keeps path main done u lt d)
   renew_entry_site path main done node e u v lt d = tt
@@ -203,10 +203,12 @@ module _ (s : Sites) (fits : (i : Ref) → s.path i < 2 ^ (5 * depth_at (s.level
   abbrev Makes : List Ref → Type 0
   Makes path = (made : Ref) → next_ref state.heap ≡ Some made → IsOnWay kind s hash (depth_of path) made
 
-  pub renewed_by : (path : List Ref) (main : Ref) → PlaceSite kind s hash path main → nat_lt 0 (length path) ≡ true → Makes path → (o : Option Ref) → next_ref state.heap ≡ o → LineSite kind s hash (renew_after_branch path main o)
+  pub renewed_by : (path : List Ref) (main : Ref) → PlaceSite kind s hash path main → nat_lt 0 (length path) ≡ true → Makes path → (o : Option Ref) → next_ref state.heap ≡ o →
+      LineSite kind s hash (renew_after_branch path main o)
   renewed_by path main p long f None e = tt
   renewed_by path main p long f (Some made) e = let at = current_site kind s hash path p.0 long in ((p.1 ∙ sym at, f made e ∙ sym at), tt, p.0)
 
-  pub cleaned_by : (path : List Ref) (main : Ref) → PlaceSite kind s hash path main → nat_lt 0 (length path) ≡ true → Makes path → (o : Option Ref) → next_ref state.heap ≡ o → LineSite kind s hash (clean_after_contracted path main o)
+  pub cleaned_by : (path : List Ref) (main : Ref) → PlaceSite kind s hash path main → nat_lt 0 (length path) ≡ true → Makes path → (o : Option Ref) → next_ref state.heap ≡ o →
+      LineSite kind s hash (clean_after_contracted path main o)
   cleaned_by path main p long f None e = tt
   cleaned_by path main p long f (Some made) e = let at = current_site kind s hash path p.0 long in ((p.1 ∙ sym at, f made e ∙ sym at), tt, tt)

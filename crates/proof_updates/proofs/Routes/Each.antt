@@ -124,7 +124,8 @@ module _ (limits : Limits) (states : ℕ → State) (last : ℕ) (depth path : R
     at_next l e none p main at =
         subst (λ mu. IsAt trie operation.access g (key_of operation.call) (suc t) mu p main) (same_moment l e none) (record { past = omega (arith, at.past); route = at.route; given = at.given })
 
-    key_on : (l : KeyLine) → operation.line ≡ line.Key l → operation.generation ≡ Some g → KeyRoute trie operation.access g (key_of operation.call) t operation.read_at operation.moment l → On (key_after state operation l)
+    key_on : (l : KeyLine) → operation.line ≡ line.Key l → operation.generation ≡ Some g → KeyRoute trie operation.access g (key_of operation.call) t operation.read_at operation.moment l →
+        On (key_after state operation l)
     key_on (key.Read p r) e begun h = read_on limits states last depth path run ok t k lt operation own g p r e h (read_step state operation r) refl
     key_on (key.Main p main) e begun h =
         main_on trie ok g state operation t (read_at_after state operation) (moment_after state operation) lt p main (at_next (line.Key (key.Main p main)) e refl p main h) (node_at state.heap main)
@@ -142,16 +143,21 @@ module _ (limits : Limits) (states : ℕ → State) (last : ℕ) (depth path : R
 
     -- ---- all lines
 
-    line_on : (l : Line) → operation.line ≡ l → generation_from state operation l ≡ Some g → (operation.generation ≡ Some g → LineRoute trie operation.access g (key_of operation.call) t operation.read_at operation.moment l) →
+    line_on : (l : Line) → operation.line ≡ l → generation_from state operation l ≡ Some g → (operation.generation ≡ Some g →
+        LineRoute trie operation.access g (key_of operation.call) t operation.read_at operation.moment l) →
         On (line_after state operation l)
     line_on (line.Root l) e begun h = root_on l e (root_after state.heap operation.access (word_at state (handle_of operation.call)) l) refl begun
     line_on (line.Key l) e begun h = key_on l e begun (h begun)
-    line_on (line.Build l) e begun h = build_on trie operation.access g (key_of operation.call) t _ _ state operation l (route_later trie operation.access g (key_of operation.call) t (suc t) _ (omega arith) (h begun))
+    line_on (line.Build l) e begun h =
+        build_on trie operation.access g (key_of operation.call) t _ _ state operation l
+        (route_later trie operation.access g (key_of operation.call) t (suc t) _ (omega arith) (h begun))
     line_on (line.Swap why s) e begun h =
         swap_on trie operation.access g (key_of operation.call) t (read_at_after state operation) (moment_after state operation) state operation why s
         (swap_after state.heap operation.access (word_at state (handle_of operation.call)) s)
         (swap_route trie operation.access g (key_of operation.call) t operation.read_at operation.moment (read_at_after state operation) (moment_after state operation) why s (h begun))
-    line_on (line.Renew l) e begun h = renew_on trie operation.access g (key_of operation.call) t _ _ state operation l (route_later trie operation.access g (key_of operation.call) t (suc t) _ (omega arith) (h begun))
+    line_on (line.Renew l) e begun h =
+        renew_on trie operation.access g (key_of operation.call) t _ _ state operation l
+        (route_later trie operation.access g (key_of operation.call) t (suc t) _ (omega arith) (h begun))
     line_on (line.Clean l) e begun h = clean_on trie operation.access g (key_of operation.call) t _ _ state operation l
     line_on (line.Climb l) e begun h = climb_on trie operation.access g (key_of operation.call) t _ _ state operation l
     line_on (line.Copy l) e begun h = copy_on trie operation.access g (key_of operation.call) t _ _ state operation l

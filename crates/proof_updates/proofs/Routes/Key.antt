@@ -1,8 +1,7 @@
 -- Each line of KEY keeps to the key's path.
-use Rattle.std.proofs.Common.{◌≡◌, ℕ, suc, ◌+◌, ◌-◌, ◌<◌, ◌==◌, ◌&&◌, nat_lt, nat_le, Bool, true, false, cond, List, [], ◌∷◌, ◌++◌, length, Some, None, refl, sym, arith}
+use Rattle.std.proofs.Common.{◌≡◌, ℕ, suc, ◌+◌, ◌-◌, ◌<◌, ◌==◌, ◌&&◌, nat_lt, nat_le, Bool, true, false, cond, List, [], ◌∷◌, ◌++◌, length, refl, sym, arith}
 use Rattle.std.proofs.lemmas.Bool.{cond_both}
 use Rattle.proof_updates.specs.Beneath.ctrie_base.specs.Hashes.{hash_of}
-use Rattle.proof_updates.specs.Beneath.ctrie_base.specs.Paths.{position_of}
 use Rattle.proof_updates.specs.Beneath.history.specs.declared.calls.Access.{Access}
 use Rattle.proof_updates.specs.Beneath.history.specs.declared.calls.Access.TheVariants.{Writable, ReadOnly}
 use Rattle.proof_updates.specs.Beneath.slot_arena.specs.declared.refs.Ref.{Ref}
@@ -11,9 +10,6 @@ use Rattle.proof_updates.specs.Beneath.slot_arena.specs.declared.nodes.Node.TheV
 use Rattle.proof_updates.specs.Beneath.slot_arena.specs.Heaps.{node_at, entry_at, entries_of}
 use Rattle.proof_updates.specs.Beneath.nodes.specs.Levels.{has_flag}
 use Rattle.proof_updates.specs.Beneath.machine_model.specs.declared.operations.Operation.{Operation}
-use Rattle.proof_updates.specs.Beneath.machine_model.specs.declared.building.Site.TheVariants as site
-use Rattle.proof_updates.specs.Beneath.machine_model.specs.declared.building.Change.TheVariants as change
-use Rattle.proof_updates.specs.Beneath.machine_model.specs.declared.building.BuildLine.TheVariants as build
 use Rattle.proof_updates.specs.Beneath.machine_model.specs.declared.finding.KeyLine.TheVariants as key
 use Rattle.proof_updates.specs.Beneath.machine_model.specs.declared.finding.WhenFound.{WhenFound}
 use Rattle.proof_updates.specs.Beneath.machine_model.specs.declared.finding.WhenFound.TheVariants.{Answers, Sets, Removes}
@@ -21,8 +17,7 @@ use Rattle.proof_updates.specs.Beneath.machine_model.specs.declared.repairs.Clea
 use Rattle.proof_updates.specs.Beneath.machine_model.specs.declared.repairs.RenewLine.TheVariants as renew
 use Rattle.proof_updates.specs.Beneath.machine_model.specs.declared.lines.Line.{Line}
 use Rattle.proof_updates.specs.Beneath.machine_model.specs.declared.lines.Line.TheVariants as line
-use Rattle.proof_updates.specs.Beneath.history.specs.declared.replies.Reply.TheVariants as reply
-use Rattle.proof_updates.specs.Beneath.machine_model.specs.Calls.{key_of, inserts, absent_reply, when_found}
+use Rattle.proof_updates.specs.Beneath.machine_model.specs.Calls.{key_of, inserts, when_found}
 use Rattle.proof_updates.specs.Beneath.machine_model.specs.States.{State}
 use Rattle.proof_updates.specs.Beneath.machine_model.specs.Paths as path
 use Rattle.proof_updates.specs.Beneath.machine_model.specs.Paths.{is_below_root, above, current}

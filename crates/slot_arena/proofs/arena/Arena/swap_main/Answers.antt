@@ -1,4 +1,4 @@
-use Rattle.std.proofs.Common.{◌≡◌, ◌<◌, ◌≤◌, true, List, [], ◌∷◌, length, get_or, set, All, Option, Some, None, sym, ap, ◌∙◌, subst, arith, rules, tests}
+use Rattle.std.proofs.Common.{◌≡◌, ◌<◌, true, [], ◌∷◌, length, get_or, set, All, None, sym, ap, ◌∙◌, subst, arith, rules, tests}
 use Rattle.std.specs.Prelude.{option_map}
 use Rattle.std.proofs.lemmas.List.Elements.{All-nil, All-cons}
 use Rattle.slot_arena.specs.declared.refs.Ref.{Ref}
@@ -9,7 +9,6 @@ use Rattle.slot_arena.specs.Arenas.{Contents, IsLive}
 use Rattle.slot_arena.specs.Kept.{live, IsKept}
 use Rattle.slot_arena.proofs.Live.{live_within, all_within}
 use Rattle.slot_arena.proofs.Changed.{counts_small}
-use Rattle.slot_arena.proofs.Marks.{zeros_trans}
 use Rattle.slot_arena.proofs.Reading.{live_inside, main_seen}
 use Rattle.slot_arena.proofs.Words.{IsChange, changed_by, main_changes, word_within, word_counted, word_kept, word_noted, word_stays}
 use Rattle.slot_arena.proofs.arena.Arena.swap_main.Goals as goal
@@ -63,8 +62,8 @@ returns-clause-heap c =
 
 pub returns-clause-noted : goal.returns-clause-noted
 returns-clause-noted c =
-    let zeros = zeros_trans c.self.inside.tally c.raise_all.new.self c.lower_all.new.self c.raise_all.ensures.noted c.lower_all.ensures.noted in
-    word_noted _ _ c.self.view_is _ (live_inside _ _ c.self.view_is c.args.at c.requires.live) _ _ _ (changed c) _ (slots_are c) _ _ _ _ c.lower_all.new.self.noted 0 c.self.invariant (invariant_of-self c) zeros
+    word_noted _ _ c.self.view_is _ (live_inside _ _ c.self.view_is c.args.at c.requires.live) _ _ _ (changed c) _ (slots_are c) _ _ _ _ c.raise_all.new.self c.lower_all.new.self.noted 0
+    c.self.invariant (invariant_of-self c) c.raise_all.ensures.noted c.lower_all.ensures.noted
 
 pub returns-clause-stay : goal.returns-clause-stay
 returns-clause-stay c = word_stays _ _ c.self.view_is _ (live_inside _ _ c.self.view_is c.args.at c.requires.live) _ _ _ (changed c) _ (slots_are c)
