@@ -53,6 +53,7 @@ fn other_seat_reads_back(rt: HostRuntime) -> Result<(), Fail> {
 }
 
 /// Counts how often it is called, and notes whether it is told so.
+#[derive(Drop)]
 struct Counting {
     calls: Cell<u64>,
     is_told: Cell<bool>,
