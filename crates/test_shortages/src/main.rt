@@ -12,7 +12,8 @@ mod carrying;
 mod judging;
 
 use carrying::{Stop, carried_out};
-use judging::is_explained;
+use ctrie_base::Refusal;
+use judging::{HANDLES, is_explained};
 use script_text::{Command, Script, read_script};
 use std::alloc::Global;
 use std::process::ExitCode;
@@ -71,7 +72,10 @@ fn with_few_slots<R: AllocGlobal + Print>(
 }
 
 /// The names of the folder's scripts.
-fn names_in<R: AllocGlobal + Files + Clone + Drop>(rt: &R, folder: &str) -> io::Result<Vec<String>> {
+fn names_in<R: AllocGlobal + Files + Clone + Drop>(
+    rt: &R,
+    folder: &str,
+) -> io::Result<Vec<String>> {
     let mut names = Vec::new(rt.alloc());
     for entry in fs::read_dir(rt, folder)? {
         if let Some((name, "script")) = entry?.file_name().rsplit_once('.') {
@@ -83,7 +87,10 @@ fn names_in<R: AllocGlobal + Files + Clone + Drop>(rt: &R, folder: &str) -> io::
 }
 
 /// Carries out all scripts of the folder.
-fn with_all<R: AllocGlobal + Files + Print + Clone + Drop>(rt: &R, folder: &str) -> io::Result<Tally> {
+fn with_all<R: AllocGlobal + Files + Print + Clone + Drop>(
+    rt: &R,
+    folder: &str,
+) -> io::Result<Tally> {
     let mut tally = Tally {
         scripts: 0,
         explained: 0,
@@ -97,13 +104,21 @@ fn with_all<R: AllocGlobal + Files + Print + Clone + Drop>(rt: &R, folder: &str)
     Ok(tally)
 }
 
-/// What a machine has come to.
+/// What a machine has come to: its steps, history, order and memory, and the contents of its handles.
 fn end_of(alloc: Global, machine: &Machine) -> Result<String, Stop> {
     let order = machine.order()?;
     let events = machine.events();
     let steps = machine.steps();
     let (used, limbo, epoch) = (machine.used(), machine.limbo_len(), machine.epoch());
-    Ok(format!(in alloc; "{steps:?} {events:?} {order:?} {used} {limbo} {epoch}")?)
+    let mut end = format!(in alloc; "{steps:?} {events:?} {order:?} {used} {limbo} {epoch}")?;
+    for handle in 0..HANDLES {
+        match machine.content(handle) {
+            Ok(pairs) => end.push_str(format!(in alloc; " {handle} {pairs:?}")?.as_str())?,
+            Err(Refusal::NoHandle) => {}
+            Err(_) => return Err(Stop::Memory),
+        }
+    }
+    Ok(end)
 }
 
 /// Whether both runs of the script come to the same end.
