@@ -8,8 +8,8 @@ trap 'rm -rf "$work"' EXIT
 fail_at() {
     local n="$1"
     shift
-    rm -f "$work/mark"
+    : >"$work/mark"
     status=0
     FAIL_AT=$n FAIL_MARK="$work/mark" LD_PRELOAD="$work/fail.so" "$@" >"$work/out" 2>"$work/err" || status=$?
-    [ -e "$work/mark" ]
+    [ -s "$work/mark" ]
 }
