@@ -202,7 +202,7 @@ impl Machine {
     {
         let _ = self.limits();
         let _ = self.steps();
-        proof_updates::found_along_hashes();
+        proof_updates::looking_finds();
         self.looked_up(handle, key)
     }
 

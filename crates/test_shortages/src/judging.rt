@@ -6,7 +6,7 @@ use std::alloc::Global;
 use step_machine::Machine;
 
 /// A machine has no more handles.
-const HANDLES: u16 = 256;
+pub const HANDLES: u16 = 256;
 
 /// The key of a call on one key.
 fn key_of(call: Call) -> Option<u64> {
