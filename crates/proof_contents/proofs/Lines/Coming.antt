@@ -8,7 +8,7 @@ use Rattle.proof_contents.specs.Beneath.slot_arena.specs.declared.nodes.Node.{No
 use Rattle.proof_contents.specs.Beneath.slot_arena.specs.declared.nodes.Node.TheVariants.{Indirection, Branch, Single, Tomb, List as Listed}
 use Rattle.proof_contents.specs.Beneath.slot_arena.specs.Heaps.{node_at, entries_of}
 use Rattle.machine_model.specs.declared.building.BuildLine.TheVariants as build
-use Rattle.machine_model.specs.declared.building.Change.{Change}
+use Rattle.machine_model.specs.declared.building.Change.TheVariants as change
 use Rattle.machine_model.specs.declared.finding.KeyLine.TheVariants as key
 use Rattle.machine_model.specs.declared.repairs.CleanLine.TheVariants as clean
 use Rattle.machine_model.specs.declared.repairs.RenewLine.TheVariants as renew
@@ -30,13 +30,14 @@ module _ (P : Line → Type 0) where
 
   -- where the key is to be removed
   pub removing_comes : (state : State) (path : List Ref) (main : Ref) (position value : ℕ) → P (line.Key (key.Sibling path main position value)) →
-      ((c : Change) → P (line.Build (build.Main path main c (Some value)))) → P impossible → (n : Node) → P (removing state path main position value n)
-  removing_comes state path main position value sibling builds never (Branch bitmap entries) =
-      cond_both (is_below_root path && (length entries.items == 2)) _ _ P (λ e. sibling) (λ e. builds _)
-  removing_comes state path main position value sibling builds never (Listed singles) = cond_both (length singles.items == 2) _ _ P (λ e. builds _) (λ e. builds _)
-  removing_comes state path main position value sibling builds never (Indirection g w) = never
-  removing_comes state path main position value sibling builds never (Single k v) = never
-  removing_comes state path main position value sibling builds never (Tomb s) = never
+      P (line.Build (build.Main path main (change.Remove position) (Some value))) → ((other : Ref) → P (line.Build (build.Main path main (change.Entomb other) (Some value)))) → P impossible →
+      (n : Node) → P (removing state path main position value n)
+  removing_comes state path main position value sibling removes entombs never (Branch bitmap entries) =
+      cond_both (is_below_root path && (length entries.items == 2)) _ _ P (λ e. sibling) (λ e. removes)
+  removing_comes state path main position value sibling removes entombs never (Listed singles) = cond_both (length singles.items == 2) _ _ P (λ e. entombs _) (λ e. removes)
+  removing_comes state path main position value sibling removes entombs never (Indirection g w) = never
+  removing_comes state path main position value sibling removes entombs never (Single k v) = never
+  removing_comes state path main position value sibling removes entombs never (Tomb s) = never
 
   -- while the entries of a main node are renewed
   pub renew_comes : (state : State) (path : List Ref) (main : Ref) (done : List Ref) → P (line.Renew (renew.Entry path main done)) → P (line.Renew (renew.Branch path main done)) →

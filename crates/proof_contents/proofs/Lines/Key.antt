@@ -1,5 +1,6 @@
 -- Each line of KEY hands on what it knows.
 use Rattle.std.proofs.Common.{◌≡◌, ◌≢◌, ℕ, ◌+◌, ◌-◌, ◌<◌, ◌==◌, ◌&&◌, nat_lt, nat_le, Bool, true, false, cond, List, [], ◌∷◌, length, take, slice_index_or, Option, Some, None, inl}
+use Rattle.std.proofs.lemmas.Bool.{and_parts}
 use Rattle.std.proofs.Common.{inr, refl, sym, ap, ap₂, subst, ◌∙◌, eqb-true, take_all, ltb-true, ltb-false, leb-false}
 use Rattle.std.proofs.lemmas.Grind.{take_at_read}
 use Rattle.arrayvec.specs.ArrayVec.{ArrayVec}
@@ -39,11 +40,7 @@ use Rattle.proof_contents.proofs.Nodes.Changes.{look-other}
 use Rattle.proof_contents.proofs.Nodes.Lists.{look_among-append}
 use Rattle.proof_contents.specs.Lines.Changes.{Known, IsFlagged, Absence, no_flag, not_listed, Presence, in_branch, in_list, Neighbour, GoesThrough, IsOther, of_branch, of_list}
 use Rattle.proof_contents.specs.Lines.Changes.{KnowsKey, KnowsLine, IsGet, main_of_key}
-use Rattle.proof_contents.proofs.Lines.Coming.{tomb_comes}
-
-second_true : (a b : Bool) → (a && b) ≡ true → b ≡ true
-second_true true b e = e
-second_true false b e = absurd (let bad : false ≡ true = e in cc)
+use Rattle.proof_contents.proofs.Lines.Coming.{tomb_comes, renew_comes}
 
 not_full : (a b : Bool) → a ≡ true → (a && b) ≡ false → b ≡ false
 not_full true b is e = e
@@ -112,7 +109,7 @@ module _ (state : State) (operation : Operation) (node : Ref → Node) (first : 
         by_presence both (in_branch b' es' f single) =
             let same : Branch b es ≡ Branch b' es' = sym is ∙ f.is in
             let es_is : es ≡ es' = cc in
-            (b', es', f, single, ap (λ (l : ArrayVec Ref). length l.items) (sym es_is) ∙ eqb-true (length es.items) 2 (second_true (is_below_root p) (length es.items == 2) both), removes)
+            (b', es', f, single, ap (λ (l : ArrayVec Ref). length l.items) (sym es_is) ∙ eqb-true (length es.items) 2 ((and_parts (is_below_root p) (length es.items == 2) both).1), removes)
         by_presence both (in_list ss is' lt single) = absurd (let bad : Branch b es ≡ Listed ss = sym is ∙ is' in cc)
 
         by_test : (t : Bool) → (is_below_root p && (length es.items == 2)) ≡ t →

@@ -1,6 +1,6 @@
 -- Where KEY ends without a change it answers what the main node says of its key.
 use Rattle.std.proofs.Common.{◌≡◌, ◌≢◌, ℕ, ◌+◌, ◌-◌, ◌≤◌, ◌==◌, ◌&&◌, nat_lt, nat_le, Bool, true, false, cond, List, [], ◌∷◌, length, take, drop, slice_index_or, None, refl}
-use Rattle.std.proofs.lemmas.Bool.{cond_both}
+use Rattle.std.proofs.lemmas.Bool.{and_parts, cond_both}
 use Rattle.std.proofs.Common.{sym, ap, ap₂, subst, ◌∙◌, eqb-true, take_all, ltb-false, leb-true, take-append-drop}
 use Rattle.std.proofs.lemmas.Grind.{take_at_read}
 use Rattle.arrayvec.specs.ArrayVec.{ArrayVec}
@@ -74,7 +74,7 @@ module _ (state : State) (operation : Operation) (node : Ref → Node) (first : 
         by_case : (w : WhenFound) → when_found operation.call v ≡ w → EndsRight (found_so state p main position v w)
         by_case (Answers answer) e = a.where_found v answer has e
         by_case Sets e = tt
-        by_case Removes e = removing_comes EndsRight state p main position v tt (λ c. tt) tt (node_at state.heap main)
+        by_case Removes e = removing_comes EndsRight state p main position v tt tt (λ other. tt) tt (node_at state.heap main)
 
     -- ---- line by line
 
@@ -151,14 +151,10 @@ module _ (state : State) (operation : Operation) (node : Ref → Node) (first : 
             ap (look_among node Key') (sym (take_all (position + 1) ss.items (ltb-false (position + 1) (length ss.items) past)))
             ∙ upto Absent (look-other node Key' k v here single (λ same. apart (sym same)))
 
-        both_true : (b c : Bool) → (b && c) ≡ true → (b ≡ true) × (c ≡ true)
-        both_true true c e = (refl, e)
-        both_true false c e = absurd (let bad : false ≡ true = e in cc)
-
         by_room : k ≢ Key' → nat_lt (position + 1) (length ss.items) ≡ false → (t : Bool) → (inserts operation.call && nat_le 32 (length ss.items)) ≡ t →
             EndsRight (cond t (line.End reply.Crowded) (absent operation p main))
         by_room apart past true full =
-            let parts = both_true (inserts operation.call) (nat_le 32 (length ss.items)) full in
+            let parts = and_parts (inserts operation.call) (nat_le 32 (length ss.items)) full in
             a.where_crowded ss go.is (leb-true 32 (length ss.items) parts.1) (none apart past) parts.0
         by_room apart past false room = absent_ends (says_list ∙ none apart past)
 

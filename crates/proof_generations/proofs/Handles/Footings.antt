@@ -22,6 +22,10 @@ pub record CarriesOut (st : State) (at : ℕ) (action : Action) (offer : Descrip
   pub is_it : action ≡ act.Complete offer main
   pub carried : is_carried_out (word_at st at) offer main ≡ true
 
+-- it carries out one alone
+pub one_carried : (st : State) (at : ℕ) (action : Action) (offer other : Descriptor) → CarriesOut st at action offer → CarriesOut st at action other → other ≡ offer
+one_carried st at action offer other c d = let both : act.Complete other d.main ≡ act.Complete offer c.main = sym d.is_it ∙ c.is_it in cc both
+
 -- a handle that is open after the action was so before, or is swapped or opened by an offer that is carried out
 pub data RootFrom (st : State) (at : ℕ) (action : Action) (handle : ℕ) (now : Root) : Type 0 where
   stood : (root : Root) → root_at st handle ≡ Some root → now.access ≡ root.access → root_of now.word ≡ root_of root.word →

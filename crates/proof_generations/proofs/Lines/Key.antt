@@ -58,7 +58,7 @@ module _ (state : State) (operation : Operation) (Own Fits Falls : Ref → Type 
     found_falls : (position value : ℕ) (found : WhenFound) → K (found_so state path main position value found)
     found_falls position value (Answers answer) = tt
     found_falls position value Sets = k
-    found_falls position value Removes = removing_comes K state path main position value k (λ c. (k, tt)) tt (node_at state.heap main)
+    found_falls position value Removes = removing_comes K state path main position value k (k, tt) (λ other. (k, tt)) tt (node_at state.heap main)
 
     -- a writable operation goes down to an indirection of its own generation alone
     pub key_entry_falls : (position : ℕ) → operation.access ≡ Writable → (n : Node) →

@@ -1,7 +1,6 @@
 -- Sites after a step of KEY.
-use Rattle.std.proofs.Common.{◌≡◌, ℕ, suc, ◌+◌, ◌*◌, ◌^◌, ◌<◌, ◌==◌, ◌&&◌, true, nat_lt, nat_le, List, [], ◌∷◌, ◌++◌, length, slice_index_or, sym, ap, subst, ◌∙◌, ltb-true, arith}
+use Rattle.std.proofs.Common.{◌≡◌, ℕ, suc, ◌+◌, ◌*◌, ◌^◌, ◌<◌, ◌==◌, ◌&&◌, true, nat_lt, nat_le, List, [], length, slice_index_or, sym, ap, subst, ◌∙◌, ltb-true, arith}
 use Rattle.std.proofs.lemmas.Bool.{cond_both}
-use Rattle.std.proofs.lemmas.List.{length-append}
 use Rattle.arrayvec.specs.ArrayVec.{ArrayVec}
 use Rattle.proof_shape.specs.Beneath.ctrie_base.specs.declared.hashes.HashKind.{HashKind}
 use Rattle.proof_shape.specs.Beneath.ctrie_base.specs.Paths.{position_of}
@@ -23,7 +22,7 @@ use Rattle.proof_shape.specs.Beneath.machine_model.specs.Reading.{at_indirection
 use Rattle.proof_shape.specs.Beneath.machine_model.specs.Renewing.{renew_next}
 use Rattle.proof_shape.specs.Beneath.machine_model.specs.Finding.{absent, found_so, key_after_read, key_after_main, is_passable, key_after_entry, after_listed, after_sibling}
 use Rattle.proof_shape.specs.Beneath.proof_memory.specs.Wants.{is_indirection}
-use Rattle.proof_shape.specs.Beneath.proof_memory.proofs.Lines.Shared.{above_long}
+use Rattle.proof_shape.specs.Beneath.proof_memory.proofs.Lines.Shared.{above_long, pushed_depth}
 use Rattle.proof_shape.specs.Beneath.proof_contents.specs.Lines.Changes.{IsFlagged}
 use Rattle.proof_shape.specs.Sites.Nodes.{path_to, depth_at}
 use Rattle.proof_shape.specs.Sites.Lines.{Sites, IsOnWay, PathSite, PlaceSite, DoneSite, LineSite}
@@ -49,7 +48,7 @@ module _ (s : Sites) (fits : (i : Ref) → s.path i < 2 ^ (5 * depth_at (s.level
   found_site : (path : List Ref) (main : Ref) (position value : ℕ) (todo : WhenFound) → PlaceSite kind s hash path main → LineSite kind s hash (found_so state path main position value todo)
   found_site path main position value (Answers answer) p = tt
   found_site path main position value Sets p = p
-  found_site path main position value Removes p = removing_comes (LineSite kind s hash) state path main position value p (λ c. (p, tt)) tt (node_at state.heap main)
+  found_site path main position value Removes p = removing_comes (LineSite kind s hash) state path main position value p (p, tt) (λ other. (p, tt)) tt (node_at state.heap main)
 
   pub key_main_site : (path : List Ref) (main : Ref) (node : Node) → PlaceSite kind s hash path main → LineSite kind s hash (key_after_main state operation path main node)
   key_main_site path main (Branch bitmap entries) p = cond_both (has_flag bitmap (flag_in state operation path)) _ _ (LineSite kind s hash) (λ e. p) (λ e. absent_site path main p)
@@ -102,9 +101,6 @@ module _ (s : Sites) (fits : (i : Ref) → s.path i < 2 ^ (5 * depth_at (s.level
       cond_both (is_passable operation generation) _ _ (LineSite kind s hash)
       (λ e. (pushed_site kind s hash path (entry_at state.heap main position) p.0 next, next ∙ ap (path_to hash) (pushed_depth path (entry_at state.heap main position)), tt))
       (λ e. renew_next_site path main [] (none_done path main p))
-    where
-      pushed_depth : (path : List Ref) (e : Ref) → length path ≡ depth_of (path ++ e ∷ [])
-      pushed_depth path e = omega (arith, length-append path (e ∷ []))
   key_entry_site first path main position bitmap entries (Single k v) e u w long level p f =
       cond_both (k == key_of operation.call) _ _ (LineSite kind s hash) (λ e. found_site path main position v (when_found operation.call v) p)
       (λ e. cond_both (inserts operation.call) _ _ (LineSite kind s hash) (λ e. p) (λ e. tt))

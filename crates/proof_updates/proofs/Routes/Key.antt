@@ -57,7 +57,7 @@ module _ (trie : Trie) (ok : IsTrie trie) (g : ℕ) (state : State) (operation :
         by_case : (w : WhenFound) → On (found_so state p main position v w)
         by_case (Answers answer) = tt
         by_case Sets = there
-        by_case Removes = removing_comes On state p main position v at (λ c. there) tt (node_at state.heap main)
+        by_case Removes = removing_comes On state p main position v at there (λ other. there) tt (node_at state.heap main)
 
     -- ---- line by line
 
