@@ -27,7 +27,7 @@ use Rattle.proof_generations.specs.Beneath.proof_memory.specs.Laws.{IsInUse}
 use Rattle.proof_generations.specs.Beneath.proof_memory.proofs.Claims.Uses.{safe_of}
 use Rattle.proof_generations.specs.Beneath.proof_memory.proofs.Safety.States.{IsSafe}
 use Rattle.proof_generations.specs.Beneath.proof_memory.proofs.Safety.AtEachTime.{safe_at}
-use Rattle.proof_generations.proofs.Handles.Footings.{CarriesOut, RootFrom, stood, swapped, newly, one_carried}
+use Rattle.proof_generations.proofs.Handles.Footings.{ActionCarriesOut, RootFrom, stood, swapped, newly, one_carried}
 use Rattle.proof_generations.proofs.Offers.Marks.{carried_stands}
 use Rattle.proof_generations.proofs.Offers.Standing.{StandsBy}
 use Rattle.proof_generations.proofs.Roots.Own.{gen}
@@ -160,7 +160,7 @@ module _ (limits : Limits) (states : ℕ → State) (last : ℕ) (run : IsRun li
     )
 
     -- the old root is closed by the step
-    old_closed : (actor : ℕ) (mover : Operation) (offer : Descriptor) → operation_of (states t) actor ≡ Some mover → CarriesOut (states t) (handle_of mover.call) (action_of (states t) mover) offer →
+    old_closed : (actor : ℕ) (mover : Operation) (offer : Descriptor) → operation_of (states t) actor ≡ Some mover → ActionCarriesOut (states t) (handle_of mover.call) (action_of (states t) mover) offer →
         (states (suc t)).closings ≡ (states t).closings ++ closing_of (states t) offer ∷ [] → WasClosed states (suc t) (generation_at (states t).heap offer.root)
     old_closed actor mover offer is c closings = by (closed_at (states t) (generation_at (states t).heap offer.root)) refl
       where
@@ -194,8 +194,12 @@ module _ (limits : Limits) (states : ℕ → State) (last : ℕ) (run : IsRun li
 
         by : RootFrom (states t) (handle_of mover.call) (action_of (states t) mover) handle now → Opening t g
         by (stood root was access word free) = before (kept_root handle root now was word its)
-        by (swapped root other d at_it was it) = fresh true offer.successor refl (ap (λ (x : Root). root_of x.word) it ∙ ap (λ (x : Descriptor). x.successor) (one_carried (states t) (handle_of mover.call) (action_of (states t) mover) offer other c d))
-        by (newly other n d number at_it it) = new_handle offer.second refl (it ∙ ap (λ (x : Descriptor). opened_root x x.second) (one_carried (states t) (handle_of mover.call) (action_of (states t) mover) offer other c d))
+        by (swapped root other d at_it was it) =
+            let same = one_carried (states t) (handle_of mover.call) (action_of (states t) mover) offer other c d in
+            fresh true offer.successor refl (ap (λ (x : Root). root_of x.word) it ∙ ap (λ (x : Descriptor). x.successor) same)
+        by (newly other n d number at_it it) =
+            let same = one_carried (states t) (handle_of mover.call) (action_of (states t) mover) offer other c d in
+            new_handle offer.second refl (it ∙ ap (λ (x : Descriptor). opened_root x x.second) same)
 
   opening_turn : (t : ℕ) → t < last → (g : ℕ) → Turn (states t) (states (suc t)) → (handle : ℕ) (now : Root) → root_at (states (suc t)) handle ≡ Some now → gen (states (suc t)) now ≡ g → Opening t g
   opening_turn t h g (turns s o m) =

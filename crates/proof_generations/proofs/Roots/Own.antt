@@ -35,7 +35,7 @@ use Rattle.proof_generations.specs.Running.{Runs}
 use Rattle.proof_generations.proofs.Offers.Standing.{own_offer, own_numbers, StandsBy}
 use Rattle.proof_generations.proofs.Lines.Copy.{second_fits}
 use Rattle.proof_generations.proofs.Offers.Same.{HasOffers}
-use Rattle.proof_generations.proofs.Handles.Footings.{CarriesOut, RootFrom, stood, swapped, newly, one_carried}
+use Rattle.proof_generations.proofs.Handles.Footings.{ActionCarriesOut, RootFrom, stood, swapped, newly, one_carried}
 use Rattle.proof_generations.proofs.Offers.Marks.{carried_stands}
 use Rattle.proof_generations.proofs.Handles.Operations.{HasHandles, Ran, ran_or_began}
 use Rattle.proof_generations.proofs.Counter.Below.{IsBelow, looked_up_below, closed_below}
@@ -130,7 +130,7 @@ module _ (state : State) (S : IsSafe state) (I : HasOffers state) (H : HasHandle
   -- ---- a swap
 
   module _ (actor : ℕ) (mover : Operation) (offer : Descriptor) (go : s ≡ step.Go actor) (is : operation_of state actor ≡ Some mover)
-      (c : CarriesOut state (handle_of mover.call) (action_of state mover) offer) where
+      (c : ActionCarriesOut state (handle_of mover.call) (action_of state mover) offer) where
     stands : StandsBy state (handle_of mover.call) offer
     stands = I.offers (handle_of mover.call) offer (carried_stands state I actor mover offer is c)
 
@@ -163,14 +163,16 @@ module _ (state : State) (S : IsSafe state) (I : HasOffers state) (H : HasHandle
     behind_opened handle now its None e it =
         frozen (ap (λ (x : Root). x.access) it)
         (ap (λ (x : Root). gen after x) it ∙ ap (generation_at after.heap) (sym old_root.2) ∙ root_kept state S s o after m (handle_of mover.call) old_root.0 old_root.1 ∙ old_gen)
-    behind_opened handle now its (Some q) e it = second q e (ap (λ (x : Root). gen after x) it ∙ brought_kept state S s o after m (handle_of mover.call) offer stands false q e) its (ap (λ (x : Root). x.access) it)
+    behind_opened handle now its (Some q) e it =
+        second q e (ap (λ (x : Root). gen after x) it ∙ brought_kept state S s o after m (handle_of mover.call) offer stands false q e) its (ap (λ (x : Root). x.access) it)
 
     behind : (handle : ℕ) (now : Root) → RootFrom state (handle_of mover.call) (action_of state mover) handle now → Behind handle now
     behind handle now (stood root e access word free) = kept root e access (gen_kept handle root now e word) (free offer c)
     behind handle now (swapped root other d at_it e it) =
         let same = one_carried state (handle_of mover.call) (action_of state mover) offer other c d in
         let one = same_Some _ _ (sym e ∙ old_root.1) in
-        first offer.successor refl (ap (λ (x : Root). gen after x) it ∙ ap (λ (x : Descriptor). generation_at after.heap x.successor) same ∙ brought_kept state S s o after m (handle_of mover.call) offer stands true offer.successor refl) at_it
+        let kept = brought_kept state S s o after m (handle_of mover.call) offer stands true offer.successor refl in
+        first offer.successor refl (ap (λ (x : Root). gen after x) it ∙ ap (λ (x : Descriptor). generation_at after.heap x.successor) same ∙ kept) at_it
         (ap (λ (x : Root). x.access) it ∙ ap (λ (x : Root). x.access) one ∙ old_root.3)
     behind handle now (newly other n d its at_it it) =
         let same = one_carried state (handle_of mover.call) (action_of state mover) offer other c d in
@@ -316,7 +318,7 @@ module _ (state : State) (S : IsSafe state) (I : HasOffers state) (H : HasHandle
   -- ---- all of it
 
   fresh_swapped : (actor : ℕ) (mover : Operation) (offer : Descriptor) (go : s ≡ step.Go actor) (is : operation_of state actor ≡ Some mover)
-      (c : CarriesOut state (handle_of mover.call) (action_of state mover) offer) →
+      (c : ActionCarriesOut state (handle_of mover.call) (action_of state mover) offer) →
       (closings : after.closings ≡ state.closings ++ closing_of state offer ∷ []) →
       (roots : (handle : ℕ) (now : Root) → root_at after handle ≡ Some now → RootFrom state (handle_of mover.call) (action_of state mover) handle now) →
       (k : ℕ) (found : Operation) (x : Bool) (r : Ref) → found.is_marked ≡ false → FreshHad k found x r → IsUnused after (generation_at after.heap r)

@@ -37,8 +37,8 @@ child_tomb path main done m = line.Clean (clean.Tomb path main done m)
 
 pub child_reads : (own : Operation) (path : List Ref) (main : Ref) (done : List Ref) (i : Ref) → HoldsRead own (child_read path main done i) (child_tomb path main done) i
 child_reads own path main done i =
-    holds_read own (λ r. line.Clean (clean.Child path main done r)) (child_tomb path main done) (after_child path main done) i (λ r. refl) (λ state operation r. refl) (λ state operation r. refl) (λ r. refl) (λ m. refl)
-    (λ state operation r. refl)
+    holds_read own (λ r. line.Clean (clean.Child path main done r)) (child_tomb path main done) (after_child path main done) i
+    (λ r. refl) (λ state operation r. refl) (λ state operation r. refl) (λ r. refl) (λ m. refl) (λ state operation r. refl)
 
 -- the next entry after those that are done; where all are, a new main node, if an entry changed
 abbrev pub clean_line : List Ref → List Ref → Ref → List Ref → Line

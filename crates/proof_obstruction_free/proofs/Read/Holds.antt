@@ -49,8 +49,8 @@ walk_main todo pairs m = line.Walk (walk.Main m todo pairs)
 
 walk_reads : (own : Operation) (todo : List Ref) (pairs : List (ℕ × ℕ)) (i : Ref) → HoldsRead own (walk_read todo pairs i) (walk_main todo pairs) i
 walk_reads own todo pairs i =
-    holds_read own (λ r. line.Walk (walk.Read r todo pairs)) (walk_main todo pairs) (walk_after_read todo pairs) i (λ r. refl) (λ state operation r. refl) (λ state operation r. refl) (λ r. refl) (λ m. refl)
-    (λ state operation r. refl)
+    holds_read own (λ r. line.Walk (walk.Read r todo pairs)) (walk_main todo pairs) (walk_after_read todo pairs) i
+    (λ r. refl) (λ state operation r. refl) (λ state operation r. refl) (λ r. refl) (λ m. refl) (λ state operation r. refl)
 
 -- what a copy does with its root's main node reads nothing
 given_reads_none : (call : Call) (r m : Ref) → read_of (after_given call r m) ≡ None

@@ -38,8 +38,8 @@ entry_link path main done m = line.Renew (renew.Link path main done m)
 
 pub entry_reads : (own : Operation) (path : List Ref) (main : Ref) (done : List Ref) (i : Ref) → HoldsRead own (entry_read path main done i) (entry_link path main done) i
 entry_reads own path main done i =
-    holds_read own (λ r. line.Renew (renew.Read path main done r)) (entry_link path main done) (renew_after_read path main done) i (λ r. refl) (λ state operation r. refl) (λ state operation r. refl) (λ r. refl) (λ m. refl)
-    (λ state operation r. refl)
+    holds_read own (λ r. line.Renew (renew.Read path main done r)) (entry_link path main done) (renew_after_read path main done) i
+    (λ r. refl) (λ state operation r. refl) (λ state operation r. refl) (λ r. refl) (λ m. refl) (λ state operation r. refl)
 
 -- the next entry after those that are done, or, where all are, the branch
 abbrev pub renew_line : List Ref → List Ref → Ref → List Ref → Line

@@ -21,7 +21,7 @@ use Rattle.proof_order.specs.Beneath.machine_model.specs.Times.{IsRun, Turn}
 use Rattle.proof_order.specs.Beneath.proof_memory.proofs.Safety.AtEachTime.{safe_at}
 use Rattle.proof_order.specs.Beneath.proof_memory.proofs.Safety.States.{IsSafe}
 use Rattle.proof_generations.proofs.Offers.Standing.{StandsBy, own_numbers, completes_it}
-use Rattle.proof_generations.proofs.Handles.Footings.{CarriesOut, RootFrom, stood, swapped, newly, one_carried}
+use Rattle.proof_generations.proofs.Handles.Footings.{ActionCarriesOut, RootFrom, stood, swapped, newly, one_carried}
 use Rattle.proof_generations.proofs.Roots.Own.{gen, its_fresh, brought_kept}
 use Rattle.proof_generations.proofs.Roots.Kept.{fresh_of, root_kept}
 use Rattle.proof_generations.proofs.Roots.Along.{IsOrdered, ordered_at}
@@ -70,7 +70,7 @@ module _ (limits : Limits) (states : ℕ → State) (last : ℕ) (run : IsRun li
 
     -- where it is brought
     module _ (actor : ℕ) (mover : Operation) (offer : Descriptor) (is : operation_of (states t) actor ≡ Some mover)
-        (c : CarriesOut (states t) (handle_of mover.call) (action_of (states t) mover) offer) where
+        (c : ActionCarriesOut (states t) (handle_of mover.call) (action_of (states t) mover) offer) where
       by : StandsBy (states t) (handle_of mover.call) offer
       by = stands (states t) (safe t (omega arith)) (ordered t (omega arith)) s o (states (suc t)) m actor mover offer is c
 

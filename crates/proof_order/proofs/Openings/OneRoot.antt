@@ -23,7 +23,7 @@ use Rattle.proof_order.specs.Beneath.machine_model.specs.Times.{IsRun}
 use Rattle.proof_order.specs.Beneath.proof_memory.proofs.Safety.AtEachTime.{safe_at}
 use Rattle.proof_order.specs.Beneath.proof_memory.proofs.Safety.States.{IsSafe}
 use Rattle.proof_generations.proofs.Offers.Standing.{StandsBy}
-use Rattle.proof_generations.proofs.Handles.Footings.{CarriesOut, RootFrom, stood, swapped, newly, one_carried}
+use Rattle.proof_generations.proofs.Handles.Footings.{ActionCarriesOut, RootFrom, stood, swapped, newly, one_carried}
 use Rattle.proof_generations.proofs.Offers.Marks.{carried_stands}
 use Rattle.proof_generations.proofs.Roots.Own.{gen, its_fresh, brought_kept}
 use Rattle.proof_generations.proofs.Roots.Kept.{fresh_of, root_kept}
@@ -37,7 +37,7 @@ use Rattle.proof_order.proofs.Openings.NeverStood.{new_at}
 -- ---- what a swap brings
 
 module _ (state : State) (S : IsSafe state) (I : IsOrdered state) (s : Step) (o : Outcome) (after : State) (m : Moves state s o after) (actor : ℕ) (mover : Operation)
-    (offer : Descriptor) (is : operation_of state actor ≡ Some mover) (c : CarriesOut state (handle_of mover.call) (action_of state mover) offer) where
+    (offer : Descriptor) (is : operation_of state actor ≡ Some mover) (c : ActionCarriesOut state (handle_of mover.call) (action_of state mover) offer) where
   word_is : word_at state (handle_of mover.call) ≡ Offer offer
   word_is = carried_stands state I.offers actor mover offer is c
 
@@ -63,11 +63,13 @@ module _ (state : State) (S : IsSafe state) (I : IsOrdered state) (s : Step) (o 
   behind_swap handle now (stood root e access word free) =
       from_before handle root e (sym word) (sym (root_kept state S s o after m handle root e) ∙ ap (generation_at after.heap) (sym word))
   behind_swap handle now (swapped root other d at_it e it) =
-      let is : Some offer.successor ≡ Some (root_of now.word) = ap (λ (x : Descriptor). Some x.successor) (sym (one_carried state (handle_of mover.call) (action_of state mover) offer other c d)) ∙ ap (λ (x : Root). Some (root_of x.word)) (sym it) in
+      let same = one_carried state (handle_of mover.call) (action_of state mover) offer other c d in
+      let is : Some offer.successor ≡ Some (root_of now.word) = ap (λ (x : Descriptor). Some x.successor) (sym same) ∙ ap (λ (x : Root). Some (root_of x.word)) (sym it) in
       brought true is (sym (brought_kept state S s o after m (handle_of mover.call) offer stands true (root_of now.word) is))
   behind_swap handle now (newly other n d its at_it it) =
+      let same = one_carried state (handle_of mover.call) (action_of state mover) offer other c d in
       behind_opened offer.second refl (root_of now.word) (gen after now)
-      (ap (λ (x : Descriptor). root_of (opened_root x x.second).word) (sym (one_carried state (handle_of mover.call) (action_of state mover) offer other c d)) ∙ ap (λ (x : Root). root_of x.word) (sym it)) refl
+      (ap (λ (x : Descriptor). root_of (opened_root x x.second).word) (sym same) ∙ ap (λ (x : Root). root_of x.word) (sym it)) refl
 
 -- ---- at first
 
@@ -125,7 +127,7 @@ module _ (limits : Limits) (states : ℕ → State) (last : ℕ) (run : IsRun li
         ]
 
     module _ (actor : ℕ) (mover : Operation) (offer : Descriptor) (is : operation_of (states t) actor ≡ Some mover)
-        (c : CarriesOut (states t) (handle_of mover.call) (action_of (states t) mover) offer)
+        (c : ActionCarriesOut (states t) (handle_of mover.call) (action_of (states t) mover) offer)
         (roots : (handle : ℕ) (now : Root) → root_at (states (suc t)) handle ≡ Some now → RootFrom (states t) (handle_of mover.call) (action_of (states t) mover) handle now) where
       abbrev B : Ref → ℕ → Type 0
       B r g = HasRoot t r g ⊎ ((x : Bool) × (fresh_of x offer ≡ Some r) × (generation_at (states t).heap r ≡ g))

@@ -122,7 +122,8 @@ module _ (s : Sites) where
         (set (entries_of (node_at state.heap main)) (place_in state operation c main) c.single)
         (below (above c.path))
         (λ deep. let some = old_entries (depth_of (above c.path) + 1) main (safe_of h.1.1.1.0) (meets_of h.1.1.1.0) e.1 deep in
-        omega (arith, some.0, ap length (entries_alike (s.node main) (node_at state.heap main) (same main (safe_of h.1.1.1.0))), length-set (entries_of (node_at state.heap main)) (place_in state operation c main) c.single))
+        let alike = entries_alike (s.node main) (node_at state.heap main) (same main (safe_of h.1.1.1.0)) in
+        omega (arith, some.0, ap length alike, length-set (entries_of (node_at state.heap main)) (place_in state operation c main) c.single))
     acts_full (line.Climb (climb.Root c l)) h e p knows f = root_full 0 l
     acts_full (line.Copy (copy.Read q l)) h e p knows f = read_full 1 l.indirection l.line
     acts_full (line.Copy (copy.Successor q main)) h e p knows f = tt

@@ -133,7 +133,8 @@ module _ (s : Sites) where
     sibling_full path main position former (Indirection generation word) e u v = λ below b es is two.
         let its : entry_at state.heap main (1 - position) ≡ slice_index_or es.items (1 - position) no_ref =
         entry_same main (1 - position) u ∙ ap (λ n. slice_index_or (entries_of n) (1 - position) no_ref) is in
-        ap (λ r. is_indirection (s.node r)) (sym its) ∙ link_alike (s.node (entry_at state.heap main (1 - position))) (node_at state.heap (entry_at state.heap main (1 - position))) (same (entry_at state.heap main (1 - position)) v) ∙ ap is_indirection e
+        let other : Ref = entry_at state.heap main (1 - position) in
+        ap (λ r. is_indirection (s.node r)) (sym its) ∙ link_alike (s.node other) (node_at state.heap other) (same other v) ∙ ap is_indirection e
     sibling_full path main position former (Single k v) e u w = tt
     sibling_full path main position former node e u v = tt
 

@@ -40,9 +40,6 @@ use Rattle.proof_shape.proofs.Held.Lines.{Came, same, single, anew, DoneWith, ke
 use Rattle.proof_shape.proofs.Held.Build.{quiet_held, named_or_held}
 
 module _ (limits : Limits) (states : ℕ → State) (last : ℕ) (run : IsRun limits states last) (actor start : ℕ) where
-  abbrev node : Ref → Node
-  node = node_under states last
-
   abbrev Held : ℕ → Ref → Type 0
   Held v j = IsHeld limits states last run v actor start j
 
@@ -50,28 +47,33 @@ module _ (limits : Limits) (states : ℕ → State) (last : ℕ) (run : IsRun li
   abbrev pub AreCome : ℕ → Ref → List Ref → Type 0
   AreCome v main done = AllCame limits states last run (Held v) main done
 
+  -- this one stands for the main node's entry at this place
+  abbrev CameAt : ℕ → Ref → ℕ → Ref → Type 0
+  CameAt v main n other = Came (node_under states last) (Held v) (slice_index_or (entries_of (node_under states last main)) n no_ref) other
+
   pub none_came : (v : ℕ) (main : Ref) → AreCome v main []
   none_came v main n lt = absurd (omega (arith, lt))
 
   pub one_more : (v : ℕ) (main : Ref) (done : List Ref) (other : Ref) → AreCome v main done →
-      Came node (Held v) (slice_index_or (entries_of (node main)) (length done) no_ref) other → AreCome v main (done ++ other ∷ [])
+      CameAt v main (length done) other → AreCome v main (done ++ other ∷ [])
   one_more v main done other all it n lt = by_place (nat_lt n (length done)) refl
     where
-      by_place : (b : Bool) → nat_lt n (length done) ≡ b → Came node (Held v) (slice_index_or (entries_of (node main)) n no_ref) (slice_index_or (done ++ other ∷ []) n no_ref)
+      by_place : (b : Bool) → nat_lt n (length done) ≡ b → CameAt v main n (slice_index_or (done ++ other ∷ []) n no_ref)
       by_place true below =
-          subst (λ r. Came node (Held v) (slice_index_or (entries_of (node main)) n no_ref) r) (sym (get_or_append_left done (other ∷ []) no_ref n (ltb-true n (length done) below)))
+          subst (CameAt v main n) (sym (get_or_append_left done (other ∷ []) no_ref n (ltb-true n (length done) below)))
           (all n (ltb-true n (length done) below))
       by_place false above =
           let at : n ≡ length done = omega (arith, length-append done (other ∷ []), ltb-false n (length done) above) in
-          subst₂ (λ e r. Came node (Held v) e r) (ap (λ m. slice_index_or (entries_of (node main)) m no_ref) (sym at))
+          subst₂ (CameAt v main) (sym at)
           (sym (ap (λ m. slice_index_or (done ++ other ∷ []) m no_ref) at ∙ get_or-append_seam done other [] no_ref)) it
 
   -- the entry itself
-  next_came : (t v : ℕ) (main : Ref) (done : List Ref) → node_at (states t).heap main ≡ node main →
-      Came node (Held v) (slice_index_or (entries_of (node main)) (length done) no_ref) (next_entry (states t) main done)
+  next_came : (t v : ℕ) (main : Ref) (done : List Ref) → node_at (states t).heap main ≡ node_under states last main →
+      CameAt v main (length done) (next_entry (states t) main done)
   next_came t v main done there = same (ap (λ n. slice_index_or (entries_of n) (length done) no_ref) (sym there))
 
-  pub with_next : (t v : ℕ) (main : Ref) (done : List Ref) → node_at (states t).heap main ≡ node main → AreCome v main done → AreCome v main (done ++ next_entry (states t) main done ∷ [])
+  pub with_next : (t v : ℕ) (main : Ref) (done : List Ref) → node_at (states t).heap main ≡ node_under states last main → AreCome v main done →
+      AreCome v main (done ++ next_entry (states t) main done ∷ [])
   with_next t v main done there all = one_more v main done (next_entry (states t) main done) all (next_came t v main done there)
 
 -- the line after entries that are done

@@ -1,5 +1,6 @@
 -- RENEW and CLEAN, and what they hold of the entries that they have done.
-use Rattle.std.proofs.Common.{◌≡◌, ℕ, suc, ◌<◌, ◌&&◌, true, List, ◌∷◌, ◌++◌, Option, Some, None, refl, sym, ◌∙◌, ap, subst, arith, [], ◌+◌, ◌≤◌, nat_lt, Bool, false, cond, length, Contains, inl, inr, length-append}
+use Rattle.std.proofs.Common.{◌≡◌, ℕ, suc, ◌<◌, ◌&&◌, true, List, ◌∷◌, ◌++◌, Option, Some, None, refl, sym, ◌∙◌}
+use Rattle.std.proofs.Common.{ap, subst, arith, [], ◌+◌, ◌≤◌, nat_lt, Bool, false, cond, length, Contains, inl, inr, length-append}
 use Rattle.std.proofs.lemmas.Bool.{true≢false}
 use Rattle.proof_shape.specs.Beneath.slot_arena.specs.declared.refs.Ref.{Ref}
 use Rattle.proof_shape.specs.Beneath.slot_arena.specs.declared.nodes.Node.{Node}
@@ -19,7 +20,8 @@ use Rattle.proof_shape.specs.Beneath.machine_model.specs.States.{State}
 use Rattle.proof_shape.specs.Beneath.machine_model.specs.Paths.{is_below_root, depth_of, is_start, start_of}
 use Rattle.proof_shape.specs.Beneath.machine_model.specs.Reading.{read_step, reading}
 use Rattle.proof_shape.specs.Beneath.machine_model.specs.Renewing.{next_entry, renew_next, branch_of, renew_after, renew_after_entry, renew_after_read, renew_after_link, renew_after_branch}
-use Rattle.proof_shape.specs.Beneath.machine_model.specs.Cleaning.{cleaned, leaves_single, clean_after, clean_next, clean_after_read, clean_after_main, clean_after_entry, after_child, clean_after_tomb, clean_after_contracted}
+use Rattle.proof_shape.specs.Beneath.machine_model.specs.Cleaning.{cleaned, leaves_single, clean_after, clean_next, clean_after_read}
+use Rattle.proof_shape.specs.Beneath.machine_model.specs.Cleaning.{clean_after_main, clean_after_entry, after_child, clean_after_tomb, clean_after_contracted}
 use Rattle.proof_shape.specs.Beneath.machine_model.specs.Operations.{line_action, action_of, line_after}
 use Rattle.proof_shape.specs.Beneath.machine_model.specs.Grown.{node_under}
 use Rattle.proof_shape.specs.Beneath.machine_model.specs.Times.{IsRun}
