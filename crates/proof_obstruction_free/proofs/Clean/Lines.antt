@@ -35,16 +35,16 @@ child_read path main done i l = line.Clean (clean.Child path main done (record {
 abbrev pub child_tomb : List Ref → Ref → List Ref → Ref → Line
 child_tomb path main done m = line.Clean (clean.Tomb path main done m)
 
-pub child_reads : (own : Operation) (path : List Ref) (main : Ref) (done : List Ref) (i : Ref) → HoldsRead own (child_read path main done i) (child_tomb path main done) i
-child_reads own path main done i =
-    holds_read own (λ r. line.Clean (clean.Child path main done r)) (child_tomb path main done) (after_child path main done) i
-    (λ r. refl) (λ state operation r. refl) (λ state operation r. refl) (λ r. refl) (λ m. refl) (λ state operation r. refl)
-
 -- the next entry after those that are done; where all are, a new main node, if an entry changed
 abbrev pub clean_line : List Ref → List Ref → Ref → List Ref → Line
 clean_line entries path main done =
     if nat_lt (length done) (length entries) then line.Clean (clean.Entry path main done)
     else (if pointwise nat_eq done entries then new_try else line.Clean (clean.Contracted path main done))
+
+pub child_reads : (own : Operation) (path : List Ref) (main : Ref) (done : List Ref) (i : Ref) → HoldsRead own (child_read path main done i) (child_tomb path main done) i
+child_reads own path main done i =
+    holds_read own (λ r. line.Clean (clean.Child path main done r)) (child_tomb path main done) (after_child path main done) i
+    (λ r. refl) (λ state operation r. refl) (λ state operation r. refl) (λ r. refl) (λ m. refl) (λ state operation r. refl)
 
 module _ (a : Lone) (steps : Stepping a) (g : Option ℕ) (path : List Ref) (main : Ref) (done : List Ref) where
   abbrev pub entry : Ref
