@@ -19,8 +19,7 @@ use Rattle.lock_runner.specs.declared.accounts.Running.{Running}
 use Rattle.lock_runner.specs.ActorHistory.{account_of, account_from, begun_at, answered_at}
 use Rattle.lock_runner.specs.ActorHistory.Answers.{IsOperationOf, IsToldIn, AreAnswersOf}
 use Rattle.lock_runner.specs.ActorHistory.Laws.{AnswersAreThoseOfTheHistory}
-use Rattle.lock_runner.specs.Beneath.proof_order.proofs.History.Growing.{get_left}
-use Rattle.lock_runner.proofs.ActorHistory.Places.{get_last, get_push}
+use Rattle.lock_runner.proofs.ActorHistory.Places.{get_left, get_last, get_push}
 use Rattle.lock_runner.proofs.ActorHistory.Pushes.{account_push}
 use Rattle.lock_runner.proofs.ActorHistory.Turns.{Turns, Comes, Stays, Leaves, Rests, turns}
 use Rattle.lock_runner.proofs.ActorHistory.Sound.{Sound, IsAnswered, sound_along, fits_after, begun_begin, begun_end, begin_own, begin_other, leave_other, leave_own}
