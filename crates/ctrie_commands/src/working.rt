@@ -2,8 +2,7 @@
 
 ghost use Rattle.std.specs.Prelude.{◌≡◌, OnOk, []};
 ghost use Rattle.lock_runner.specs.Seats.{IsSeatOf};
-ghost use Rattle.lock_runner.specs.Stepping.{HasGoneOn};
-ghost use Rattle.ctrie_commands.specs.Working.{calls_in, IsUnused, HasPerformed, HasPerformedLine, HasSwept, HasSweptLine, HasPerformedAll, HasSweptAll};
+ghost use Rattle.ctrie_commands.specs.Working.{calls_in, IsUnused, IsSameSeat, HasPerformed, HasPerformedLine, HasSwept, HasSweptLine, HasPerformedAll, HasSweptAll};
 
 use ctrie_base::Refusal;
 use history::Call;
@@ -33,7 +32,7 @@ impl Worker {
         requires seat { IsSeatOf runner.now self.old.seat }
         requires unused { IsUnused self.old.seat }
         requires none { self.old.denied.items ≡ [] }
-        ensures seat { HasGoneOn self.old.seat self.new.seat }
+        ensures seat { IsSameSeat self.old.seat self.new.seat }
         ensures sweeps { self.new.seat.sweeps ≡ self.old.seat.sweeps }
         ensures done { OnOk result (HasPerformedAll self.old.seat.actor lines.now self.new) }
     {
@@ -44,7 +43,6 @@ impl Worker {
     }
 
     /// Performs the call that the line names for its actor, if it names one.
-    #[tactic(auto, using(lock_runner::proofs::Steps::gone_same))]
     fn perform_line<R: Wait, B: Between>(
         &mut self,
         rt: &R,
@@ -54,7 +52,7 @@ impl Worker {
     ) -> Result<(), AllocError>
         requires seat { IsSeatOf runner.now self.old.seat }
         requires unheard { self.old.seat.heard ≡ 0 }
-        ensures seat { HasGoneOn self.old.seat self.new.seat }
+        ensures seat { IsSameSeat self.old.seat self.new.seat }
         ensures sweeps { self.new.seat.sweeps ≡ self.old.seat.sweeps }
         ensures done { OnOk result (HasPerformedLine (calls_in self.old.seat.actor line) self.old self.new) }
     {
@@ -76,7 +74,7 @@ impl Worker {
     ) -> Result<(), AllocError>
         requires seat { IsSeatOf runner.now self.old.seat }
         requires unheard { self.old.seat.heard ≡ 0 }
-        ensures seat { HasGoneOn self.old.seat self.new.seat }
+        ensures seat { IsSameSeat self.old.seat self.new.seat }
         ensures sweeps { self.new.seat.sweeps ≡ self.old.seat.sweeps }
         ensures done { OnOk result (HasPerformed call self.old self.new) }
     {
@@ -99,7 +97,7 @@ impl Worker {
         requires seat { IsSeatOf runner.now self.old.seat }
         requires unused { IsUnused self.old.seat }
         requires none { self.old.denied.items ≡ [] }
-        ensures seat { HasGoneOn self.old.seat self.new.seat }
+        ensures seat { IsSameSeat self.old.seat self.new.seat }
         ensures answers { self.new.seat.answers ≡ self.old.seat.answers }
         ensures done { OnOk result (HasSweptAll lines.now self.new) }
     {
@@ -110,7 +108,6 @@ impl Worker {
     }
 
     /// Takes the steps of the sweep that the line names, if it names some.
-    #[tactic(auto, using(lock_runner::proofs::Steps::gone_same))]
     fn sweep_line<R: Wait>(
         &mut self,
         rt: &R,
@@ -118,7 +115,7 @@ impl Worker {
         line: ThreadLine,
     ) -> Result<(), AllocError>
         requires seat { IsSeatOf runner.now self.old.seat }
-        ensures seat { HasGoneOn self.old.seat self.new.seat }
+        ensures seat { IsSameSeat self.old.seat self.new.seat }
         ensures answers { self.new.seat.answers ≡ self.old.seat.answers }
         ensures done { OnOk result (HasSweptLine line self.old self.new) }
     {
@@ -129,7 +126,6 @@ impl Worker {
     }
 
     /// Takes so many steps of the sweep, and notes why one is denied, if one is.
-    #[tactic(auto, using(lock_runner::proofs::Steps::gone_same, lock_runner::proofs::Whole::gone_more))]
     fn sweep_often<R: Wait>(
         &mut self,
         rt: &R,
@@ -137,7 +133,7 @@ impl Worker {
         times: u32,
     ) -> Result<(), AllocError>
         requires seat { IsSeatOf runner.now self.old.seat }
-        ensures seat { HasGoneOn self.old.seat self.new.seat }
+        ensures seat { IsSameSeat self.old.seat self.new.seat }
         ensures answers { self.new.seat.answers ≡ self.old.seat.answers }
         ensures done { OnOk result (HasSwept times self.old self.new) }
     {

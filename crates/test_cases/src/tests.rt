@@ -1,6 +1,5 @@
 //! What is told of readers and writers that fail, and of threads whose lines meet.
 
-mod failing;
 mod threads;
 
 use ctrie_base::Refusal;

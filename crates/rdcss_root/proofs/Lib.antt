@@ -1,3 +1,0 @@
-pub mod Completing
-pub mod Keeping
-pub mod Rewriting
