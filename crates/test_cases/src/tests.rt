@@ -1,5 +1,6 @@
 //! What is told of readers and writers that fail, and of threads whose lines meet.
 
+mod failing;
 mod threads;
 
 use ctrie_base::Refusal;
