@@ -81,6 +81,11 @@ ReadsAlong heap access None k place = committed_so k place ≡ None
 ReadsAlong heap access (Some r) k place =
     ((word : RootWord) → read_after heap access word r.indirection r.line ≡ come_to access place) × (committed_by heap r.indirection r.line ≡ committed_so k place)
 
+abbrev pub IsAskingRoot : {T : Type 0} → Next T → Type 0
+IsAskingRoot (More k) = ⊥
+IsAskingRoot AskRoot = Unit {0}
+IsAskingRoot (Done k value) = ⊥
+
 -- What a READ on this line of the definition comes to by its step, behind which the code's READ stands there: what was told is used up. Whatever the
 -- root word is, since a step that reads it isn't a READ's own.
 abbrev pub ReadsOn : Heap → Access → Ref → ReadLine → ReadAt → Next Ref → Type 0

@@ -5,7 +5,7 @@ ghost use Rattle.machine_model.specs.Reading.{read_action};
 ghost use Rattle.machine_model.specs.declared.reading.ReadLine.TheVariants.{Decide};
 ghost use Rattle.gcas.specs.Acted.{acted_heap};
 ghost use Rattle.gcas.specs.Kept.{KeepsBeside};
-ghost use Rattle.gcas.specs.Reads.{line_at, line_of, ReadsOn, CanReadOn, CanReadAt, begun, given_so, committed_so};
+ghost use Rattle.gcas.specs.Reads.{line_at, line_of, ReadsOn, CanReadOn, CanReadAt, IsAskingRoot, begun, given_so, committed_so};
 
 use crate::looks::{generation_at, main_at};
 use crate::next::Next;
@@ -85,6 +85,7 @@ impl Read {
         ensures same { self.new ≡ record self.old { at = self.new.at } }
         ensures heap { heap.new.heap ≡ acted_heap heap.old.heap (read_action self.old.indirection (line_of self.old root_seen)) }
         ensures beside { KeepsBeside heap.old heap.new }
+        ensures asks { IsAskingRoot result → (self.new ≡ self.old) × (heap.new ≡ heap.old) }
     {
         match &self.at {
             ReadAt::Main | ReadAt::Given { .. } => self.read_main(heap),
@@ -145,6 +146,7 @@ impl Read {
         ensures same { self.new ≡ record self.old { at = self.new.at } }
         ensures heap { heap.new.heap ≡ acted_heap heap.old.heap (read_action self.old.indirection (line_at self.old.access root_seen (ReadAt.Decide main previous))) }
         ensures beside { KeepsBeside heap.old heap.new }
+        ensures asks { IsAskingRoot result → (self.new ≡ self.old) × (heap.new ≡ heap.old) }
     {
         match self.access {
             Access::ReadOnly => self.decide_by(heap, None, main, previous),
@@ -169,6 +171,7 @@ impl Read {
         ensures same { self.new ≡ record self.old { at = self.new.at } }
         ensures heap { heap.new.heap ≡ acted_heap heap.old.heap (read_action self.old.indirection (Decide main previous told)) }
         ensures beside { KeepsBeside heap.old heap.new }
+        ensures taken { IsAskingRoot result → ⊥ }
     {
         let licensed = told == Some(generation_at(heap, self.indirection));
         let verdict = if licensed {

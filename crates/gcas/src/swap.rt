@@ -4,7 +4,7 @@ ghost use Rattle.std.specs.Prelude.{◌≡◌, None};
 ghost use Rattle.machine_model.specs.Swapping.{swap_action};
 ghost use Rattle.gcas.specs.Acted.{acted_heap};
 ghost use Rattle.gcas.specs.Kept.{KeepsBeside};
-ghost use Rattle.gcas.specs.Reads.{CanReadOn, line_of};
+ghost use Rattle.gcas.specs.Reads.{CanReadOn, IsAskingRoot, line_of};
 ghost use Rattle.gcas.specs.Swaps.{swap_of, swap_with, SwapsOn, CanSwapOn, CanSwapAt};
 
 use crate::next::Next;
@@ -66,6 +66,7 @@ impl Swap {
         ensures same { self.new ≡ record self.old { read = record self.old.read { at = self.new.read.at }; at = self.new.at } }
         ensures heap { heap.new.heap ≡ acted_heap heap.old.heap (swap_action (swap_of self.old root_seen)) }
         ensures beside { KeepsBeside heap.old heap.new }
+        ensures asks { IsAskingRoot result → (self.new ≡ self.old) × (heap.new ≡ heap.old) }
     {
         match &self.at {
             SwapAt::Publish => self.publish(heap),
@@ -80,6 +81,7 @@ impl Swap {
         ensures same { self.new ≡ record self.old { read = record self.old.read { at = self.new.read.at }; at = self.new.at } }
         ensures heap { heap.new.heap ≡ acted_heap heap.old.heap (swap_action (swap_with self.old.read self.old.replaced self.old.fresh SwapAt.Publish (line_of self.old.read None))) }
         ensures beside { KeepsBeside heap.old heap.new }
+        ensures taken { IsAskingRoot result → ⊥ }
     {
         self.at = SwapAt::Publish;
         if !heap.publish(self.read.indirection, self.replaced, self.fresh) {
@@ -96,6 +98,7 @@ impl Swap {
         ensures same { self.new ≡ record self.old { read = record self.old.read { at = self.new.read.at }; at = self.new.at } }
         ensures heap { heap.new.heap ≡ acted_heap heap.old.heap (swap_action (swap_with self.old.read self.old.replaced self.old.fresh SwapAt.Deciding (line_of self.old.read root_seen))) }
         ensures beside { KeepsBeside heap.old heap.new }
+        ensures asks { IsAskingRoot result → (self.new ≡ record self.old { at = SwapAt.Deciding }) × (heap.new ≡ heap.old) }
     {
         match self.read.step(heap, root_seen) {
             Next::More(kind) => {
@@ -116,6 +119,7 @@ impl Swap {
     fn check(&mut self, heap: &Heap) -> Next<bool>
         ensures follows { SwapsOn heap.now.heap self.old.read.access (swap_with self.old.read self.old.replaced self.old.fresh SwapAt.Check (line_of self.old.read None)) self.new result }
         ensures same { self.new ≡ record self.old { at = self.new.at } }
+        ensures taken { IsAskingRoot result → ⊥ }
     {
         self.at = SwapAt::Check;
         let is_committed = match heap.stored_prev(self.fresh) {
