@@ -1,6 +1,6 @@
 //! A try, step by step.
 
-ghost use Rattle.std.specs.Prelude.{◌≡◌, List, None, IfOk, IfErr, OnOk, OnErr};
+ghost use Rattle.std.specs.Prelude.{◌≡◌, ◌+◌, ◌<◌, ◌^◌, List, None, IfOk, IfErr, OnOk, OnErr};
 ghost use Rattle.machine_model.specs.declared.operations.Operation.{Operation};
 ghost use Rattle.machine_model.specs.declared.lines.Line.TheVariants as line;
 ghost use Rattle.machine_model.specs.Building.{build_after_made};
@@ -11,6 +11,8 @@ ghost use Rattle.machine_model.specs.declared.actions.Action.TheVariants as act;
 ghost use Rattle.machine_model.specs.declared.finding.KeyLine.TheVariants as key;
 ghost use Rattle.machine_model.specs.declared.lines.Purpose.TheVariants as purpose;
 ghost use Rattle.ctrie_base.specs.declared.hashes.HashKind.{HashKind};
+ghost use Rattle.slot_arena.specs.Heaps.{refs_of_node, next_ref};
+ghost use Rattle.slot_arena.specs.Arenas.{AreLive};
 ghost use Rattle.slot_arena.specs.declared.refs.Ref.{Ref as ARef};
 ghost use Rattle.gcas.specs.declared.read.ReadAt.{ReadAt};
 ghost use Rattle.gcas.specs.declared.swap.Swap.{Swap as ASwap};
@@ -29,7 +31,7 @@ use epochs::Heap;
 use gcas::Next;
 use machine_model::Change as NodeChange;
 use slot_arena::{Node, Ref};
-use trie_parts::{Task, Work, current, entry_at, node_at};
+use trie_parts::{Private, Task, Work, current, entry_at, node_at};
 
 /// Where a try stands. `former` is the key's value before the change.
 #[derive(Clone, Copy)]
@@ -89,7 +91,7 @@ impl Change {
             }
             ChangeAt::Build(building) => {
                 let building = *building;
-                self.make(work, heap, task, path, building)
+                self.make(work, heap, task, path, &building)
             }
             ChangeAt::Swap { former } => {
                 let former = *former;
@@ -123,19 +125,19 @@ impl Change {
         heap: &mut Heap,
         task: Task,
         path: &[Ref],
-        building: Building,
+        building: &Building,
     ) -> Result<Next<Tried>, Refusal>
-        requires can { CanChangeAt heap.old.heap task path.now work.old.swap self.old.main (ChangeAt.Build building) }
+        requires can { CanChangeAt heap.old.heap task path.now work.old.swap self.old.main (ChangeAt.Build building.now) }
         requires held { AreHeld work.old.private heap.old }
-        ensures follows { IfOk result (λ next. (state : State) (operation : Operation) → ChangesOn (at_heap state heap.old.heap task.hashes) (for_task task work.old.swap.read.access operation) path.now work.old.swap.fresh (line.Build (build_line path.now self.old.main building)) (line_of path.now work.new.swap None self.new) work.new.swap.read.at next) }
-        ensures acts { OnOk result (Acts heap.old work.old.private (act.Make (built heap.old.heap task (build_line path.now self.old.main building))) heap.new work.new.private) }
+        ensures follows { IfOk result (λ next. (state : State) (operation : Operation) → ChangesOn (at_heap state heap.old.heap task.hashes) (for_task task work.old.swap.read.access operation) path.now work.old.swap.fresh (line.Build (build_line path.now self.old.main building.now)) (line_of path.now work.new.swap None self.new) work.new.swap.read.at next) }
+        ensures acts { OnOk result (Acts heap.old work.old.private (act.Make (built heap.old.heap task (build_line path.now self.old.main building.now))) heap.new work.new.private) }
         ensures same { (self.new.main ≡ self.old.main) × (work.new.swap.read.access ≡ work.old.swap.read.access) }
         ensures err { OnErr result ((self.new ≡ self.old) × (work.new ≡ work.old) × (heap.new ≡ heap.old)) }
         ensures only_memory { IfErr result (λ refusal. refusal ≡ Refusal.Memory) }
     {
         let depth = depth_ahead(heap, task, path, self.main, building);
         let node = built(heap, task, path, self.main, building);
-        match work.private.make(heap, node)? {
+        match make(&mut work.private, heap, node)? {
             None => Ok(Next::Done(Kind::Make, Tried::NoSlots)),
             Some(made) => {
                 self.go_on(work, path, building, depth, made);
@@ -149,17 +151,17 @@ impl Change {
         &mut self,
         work: &mut Work,
         path: &[Ref],
-        building: Building,
+        building: &Building,
         depth: usize,
         made: Ref,
     )
-        ensures follows { (state : State) (operation : Operation) → depth ≡ depth_for state operation (build_line path.now self.old.main building) → line_of path.now work.new.swap None self.new ≡ build_after_made state operation (build_line path.now self.old.main building) made }
+        ensures follows { (state : State) (operation : Operation) → depth ≡ depth_for state operation (build_line path.now self.old.main building.now) → line_of path.now work.new.swap None self.new ≡ build_after_made state operation (build_line path.now self.old.main building.now) made }
         ensures same { (self.new.main ≡ self.old.main) × (work.new.swap.read.access ≡ work.old.swap.read.access) }
         ensures private { work.new.private ≡ work.old.private }
     {
         self.at = match building {
             Building::Single { site, former } => {
-                ChangeAt::Build(after_single(site, former, depth, made))
+                ChangeAt::Build(after_single(*site, *former, depth, made))
             }
             Building::Pair {
                 position, depth, ..
@@ -167,16 +169,16 @@ impl Change {
             | Building::Rung {
                 position, depth, ..
             } => ChangeAt::Build(Building::Link {
-                position,
+                position: *position,
                 below: made,
-                depth,
+                depth: *depth,
             }),
             Building::Link {
                 position, depth, ..
-            } => ChangeAt::Build(after_link(path, position, depth, made)),
+            } => ChangeAt::Build(after_link(path, *position, *depth, made)),
             Building::Main { former, .. } => {
                 work.swap.begin(current(path), self.main, made);
-                ChangeAt::Swap { former }
+                ChangeAt::Swap { former: *former }
             }
         };
     }
@@ -203,4 +205,16 @@ impl Change {
             Next::Done(kind, false) => Next::Done(kind, Tried::Lost),
         }
     }
+}
+
+fn make(private: &mut Private, heap: &mut Heap, node: Node) -> Result<Option<Ref>, Refusal>
+    requires births { heap.old.heap.births + 1 < 2 ^ 48 }
+    requires live { AreLive heap.old.heap (refs_of_node node) }
+    requires held { AreHeld private.old heap.old }
+    ensures err { OnErr result ((private.new ≡ private.old) × (heap.new ≡ heap.old)) }
+    ensures only_memory { IfErr result (λ refusal. refusal ≡ Refusal.Memory) }
+    ensures made { IfOk result (λ made. made ≡ next_ref heap.old.heap) }
+    ensures acts { OnOk result (Acts heap.old private.old (act.Make node) heap.new private.new) }
+{
+    Ok(private.make(heap, node)?)
 }

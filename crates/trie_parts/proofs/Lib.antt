@@ -3,3 +3,4 @@ pub mod Depths
 pub mod Capped
 pub mod Stored
 pub mod Partings
+pub mod Unmade

@@ -10,7 +10,7 @@ ghost use Rattle.machine_model.specs.States.{State};
 ghost use Rattle.machine_model.specs.Swapping.{swap_action};
 ghost use Rattle.gcas.specs.Acted.{acted_heap};
 ghost use Rattle.gcas.specs.Swaps.{swap_of, SwapsOn, CanSwapOn};
-ghost use Rattle.trie_parts.specs.Holding.{AreHeld, KeepsOthers};
+ghost use Rattle.trie_parts.specs.Holding.{Acts, AreHeld, KeepsOthers};
 
 use crate::private::Private;
 use epochs::Heap;
@@ -29,6 +29,17 @@ impl Work {
     /// step, which swaps the last of the private slots in or fails to, all of them are given up: what stands
     /// in the trie by now is referred to from there.
     pub fn swap(&mut self, heap: &mut Heap, root_seen: Option<u64>) -> Next<bool>
+        requires can { CanSwapOn heap.old.heap self.old.swap }
+        requires held { AreHeld self.old.private heap.old }
+        ensures follows { SwapsOn heap.old.heap self.old.swap.read.access (swap_of self.old.swap root_seen) self.new.swap result }
+        ensures same { self.new.swap ≡ record self.old.swap { read = record self.old.swap.read { at = self.new.swap.read.at }; at = self.new.swap.at } }
+        ensures acts { Acts heap.old self.old.private (swap_action (swap_of self.old.swap root_seen)) heap.new self.new.private }
+    {
+        self.step_swap(heap, root_seen)
+    }
+
+    /// As `swap`, fact by fact.
+    fn step_swap(&mut self, heap: &mut Heap, root_seen: Option<u64>) -> Next<bool>
         requires can { CanSwapOn heap.old.heap self.old.swap }
         requires held { AreHeld self.old.private heap.old }
         ensures follows { SwapsOn heap.old.heap self.old.swap.read.access (swap_of self.old.swap root_seen) self.new.swap result }
