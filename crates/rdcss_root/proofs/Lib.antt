@@ -1,3 +1,4 @@
+pub mod Acting
 pub mod Completing
 pub mod Keeping
 pub mod Rewriting
