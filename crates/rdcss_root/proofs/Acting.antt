@@ -1,6 +1,6 @@
 -- What actions do to root words, case by case.
 use Rattle.std.specs.Prelude.{◌≡◌, ◌==◌, ℕ, Bool, true, false, Option, Some, None, slice_set, slice_index_or, if◌then◌else◌}
-use Rattle.std.proofs.Common.{refl, sym, ap, ◌∙◌}
+use Rattle.std.proofs.Common.{arith, refl, sym, ap, ◌∙◌}
 use Rattle.slot_arena.specs.declared.refs.Ref.{Ref}
 use Rattle.machine_model.specs.declared.actions.Action.TheVariants as act
 use Rattle.machine_model.specs.declared.roots.Descriptor.{Descriptor}
@@ -15,6 +15,8 @@ use Rattle.rdcss_root.specs.Tables.{Table, ActsOnTable, word_in, with_word_in, o
 either : (b c : Bool) (s t : State) (u v : Table) → b ≡ c → s.roots ≡ u.roots → t.roots ≡ v.roots → (if_changed b s t).roots ≡ (if_changed c u v).roots
 either true true s t u v same first second = first
 either false false s t u v same first second = second
+either true false s t u v same first second = grind (arith, same)
+either false true s t u v same first second = grind (arith, same)
 
 chosen : (b : Bool) (s t : State) (u v : Table) → s.roots ≡ u.roots → t.roots ≡ v.roots → (if b then s else t).roots ≡ (if b then u else v).roots
 chosen true s t u v first second = first

@@ -45,12 +45,12 @@ here heap offer line before r next root same step =
 goes_on : (heap : Heap) (offer : Descriptor) (line : ReadLine) (k : Kind) (r : Read) → ReadsOn heap r.access offer.root line r.at (More k) → (word : RootWord) →
     CompletesOn heap word (complete_with offer place.Reading line) (record { offer = offer; at = place.Reading }) r (More k)
 goes_on heap offer line k r step word =
-    (step.0, ap (λ a. of_offer offer (after_reading a)) (step.1.1.0 word) ∙ goes offer r.access r.at step.1.0, step.1.1)
+    (step.0, ap (λ a. of_offer offer (after_reading a)) (step.2.0 word) ∙ goes offer r.access r.at step.1, step.2)
 
 gives_it : (heap : Heap) (offer : Descriptor) (line : ReadLine) (k : Kind) (main : Ref) (r : Read) → ReadsOn heap r.access offer.root line r.at (Done k main) → (word : RootWord) →
     CompletesOn heap word (complete_with offer place.Reading line) (record { offer = offer; at = place.Swap main }) r (More k)
 gives_it heap offer line k main r step word =
-    (step.0, ap (λ a. of_offer offer (after_reading a)) (step.1.1.0 word) ∙ gives offer r.access main r.at step.1.0, step.1.1)
+    (step.0, ap (λ a. of_offer offer (after_reading a)) (step.2.0 word) ∙ gives offer r.access main r.at step.1, step.2)
 
 -- while it is under way COMPLETE reads on
 pub reads_on : (heap : Heap) (offer : Descriptor) (line : ReadLine) (k : Kind) (before r : Read) → before.indirection ≡ offer.root → r ≡ record before { at = r.at } →

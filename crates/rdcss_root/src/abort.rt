@@ -33,7 +33,7 @@ impl AbortRead {
             AbortRead::Read => self.read(roots, handle, heap),
             AbortRead::Swap(offer) => {
                 let offer = *offer;
-                roots.take_back(heap, handle, offer);
+                roots.take_back(heap, handle, &offer);
                 *self = AbortRead::Read;
                 Next::More(Kind::SwapRoot)
             }

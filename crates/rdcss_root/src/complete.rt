@@ -107,7 +107,7 @@ impl Complete {
         ensures moves { Moves heap.old heap.new roots.old.roots roots.new.roots 8 }
     {
         self.at = CompleteAt::Swap { main };
-        let done = roots.complete(heap, handle, self.offer, main);
+        let done = roots.complete(heap, handle, &self.offer, main);
         Next::Done(Kind::SwapRoot, done)
     }
 }
