@@ -17,7 +17,6 @@ use Rattle.machine_model.specs.declared.roots.RootWord.TheVariants.{Plain, Offer
 use Rattle.machine_model.specs.declared.roots.Descriptor.{Descriptor}
 use Rattle.machine_model.specs.Counting.{refs_of_root, refs_of_word}
 use Rattle.machine_model.specs.States.{rewritten}
-use Rattle.machine_model.specs.Acting.{opened_root}
 use Rattle.trie_parts.specs.Holding.{AreHeld}
 use Rattle.rdcss_root.specs.Holds.{Holds, Releases, root_refs, IsReady, Moves}
 use Rattle.rdcss_root.proofs.Keeping.{kept, kept_on}
@@ -92,18 +91,3 @@ moves_on first second = record {
   more = λ r. omega (arith, first.more r, second.more r);
   keeps = kept_on 16 first.keeps second.keeps (omega arith);
 }
-
-pub live_on : {before after : Heap} (refs : List Ref) → after ≡ before → AreLive before refs → AreLive after refs
-live_on refs same live = subst (λ h. AreLive h refs) (sym same) live
-
-pub live_root : (heap : Heap) (offer : Descriptor) → AreLive heap (refs_of_word (Offer offer)) → AreLive heap (offer.root ∷ [])
-live_root heap offer live = search rules
-
-pub live_successor : (heap : Heap) (offer : Descriptor) → AreLive heap (refs_of_word (Offer offer)) → AreLive heap (offer.successor ∷ [])
-live_successor heap offer live = search rules
-
--- what an offer opens is of its own
-pub live_opened : (heap : Heap) (offer : Descriptor) (second : Option Ref) → AreLive heap (offer.root ∷ offer.expected ∷ offer.successor ∷ refs_of_option second) →
-    AreLive heap (refs_of_root (Some (opened_root offer second)))
-live_opened heap offer None live = search rules
-live_opened heap offer (Some second) live = search rules
