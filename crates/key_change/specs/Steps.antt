@@ -1,9 +1,8 @@
 -- What a step of a try comes to.
-use Rattle.std.specs.Prelude.{◌≡◌, ℕ, ◌+◌, ◌<◌, ◌^◌, List, Option}
+use Rattle.std.specs.Prelude.{List}
 use Rattle.machine_model.specs.Beneath.history.specs.declared.replies.Reply.TheVariants as reply
 use Rattle.slot_arena.specs.declared.refs.Ref.{Ref}
-use Rattle.slot_arena.specs.Heaps.{Heap, node_at, refs_of_node}
-use Rattle.slot_arena.specs.Arenas.{AreLive}
+use Rattle.slot_arena.specs.Heaps.{Heap, node_at}
 use Rattle.machine_model.specs.declared.lines.Line.{Line}
 use Rattle.machine_model.specs.declared.lines.Line.TheVariants as line
 use Rattle.machine_model.specs.declared.operations.Operation.{Operation}
@@ -15,7 +14,7 @@ use Rattle.gcas.specs.declared.read.ReadAt.{ReadAt}
 use Rattle.gcas.specs.declared.swap.Swap.{Swap}
 use Rattle.gcas.specs.Swaps.{CanSwapOn}
 use Rattle.trie_parts.specs.declared.calls.Task.{Task}
-use Rattle.trie_parts.specs.Steps.{StepsOn}
+use Rattle.trie_parts.specs.Steps.{CanMake, StepsOn}
 use Rattle.key_change.specs.declared.change.Change.{Change}
 use Rattle.key_change.specs.declared.change.ChangeAt.{ChangeAt}
 use Rattle.key_change.specs.declared.change.ChangeAt.TheVariants as at
@@ -40,7 +39,7 @@ ChangesOn state operation path fresh before after place next = StepsOn state ope
 
 abbrev pub CanChangeAt : Heap → Task → List Ref → Swap → Ref → ChangeAt → Type 0
 CanChangeAt heap task path s main (at.Sibling position former) = Unit {0}
-CanChangeAt heap task path s main (at.Build building) = (heap.births + 1 < 2 ^ 48) × AreLive heap (refs_of_node (built heap task (build_line path main building)))
+CanChangeAt heap task path s main (at.Build building) = CanMake heap (built heap task (build_line path main building))
 CanChangeAt heap task path s main (at.Swap former) = CanSwapOn heap s
 
 -- what the node is to refer to, or what the SWAP is going to change, is in use, and of its kind
