@@ -27,7 +27,10 @@ use trie_parts::{Task, changed_at, entry_at, key_at, pair, parting, rung};
 #[derive(Clone, Copy)]
 pub enum Building {
     /// Makes the new single.
-    Single { site: Site, former: Option<u64> },
+    Single {
+        site: Site,
+        former: Option<u64>,
+    },
     /// Makes the main node of the two singles, at the depth where their paths part or below all levels.
     Pair {
         position: usize,
@@ -126,12 +129,7 @@ fn depth_below(path: &[Ref]) -> usize
 }
 
 /// After the new single: the main node with it, or that of the two singles, which part at this depth.
-pub(crate) fn after_single(
-    site: Site,
-    former: Option<u64>,
-    depth: usize,
-    made: Ref,
-) -> Building
+pub(crate) fn after_single(site: Site, former: Option<u64>, depth: usize, made: Ref) -> Building
     ensures { (state : State) (operation : Operation) (path : List ARef) (main : ARef) → depth ≡ depth_for state operation (build.Single path main site former) → line.Build (build_line path main result) ≡ after_single state operation path main former site made }
 {
     match site {

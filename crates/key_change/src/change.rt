@@ -11,8 +11,6 @@ ghost use Rattle.machine_model.specs.declared.actions.Action.TheVariants as act;
 ghost use Rattle.machine_model.specs.declared.finding.KeyLine.TheVariants as key;
 ghost use Rattle.machine_model.specs.declared.lines.Purpose.TheVariants as purpose;
 ghost use Rattle.ctrie_base.specs.declared.hashes.HashKind.{HashKind};
-ghost use Rattle.slot_arena.specs.Heaps.{refs_of_node, next_ref};
-ghost use Rattle.slot_arena.specs.Arenas.{AreLive};
 ghost use Rattle.slot_arena.specs.declared.refs.Ref.{Ref as ARef};
 ghost use Rattle.gcas.specs.declared.read.ReadAt.{ReadAt};
 ghost use Rattle.gcas.specs.declared.swap.Swap.{Swap as ASwap};
@@ -31,7 +29,7 @@ use epochs::Heap;
 use gcas::Next;
 use machine_model::Change as NodeChange;
 use slot_arena::{Node, Ref};
-use trie_parts::{Private, Task, Work, current, entry_at, node_at};
+use trie_parts::{Task, Work, current, entry_at, node_at};
 
 /// Where a try stands. `former` is the key's value before the change.
 #[derive(Clone, Copy)]
@@ -137,7 +135,7 @@ impl Change {
     {
         let depth = depth_ahead(heap, task, path, self.main, building);
         let node = built(heap, task, path, self.main, building);
-        match make(&mut work.private, heap, node)? {
+        match work.make(heap, node)? {
             None => Ok(Next::Done(Kind::Make, Tried::NoSlots)),
             Some(made) => {
                 self.go_on(work, path, building, depth, made);
@@ -147,14 +145,7 @@ impl Change {
     }
 
     /// Stands on the line behind the making of a node; two singles part at this depth.
-    fn go_on(
-        &mut self,
-        work: &mut Work,
-        path: &[Ref],
-        building: &Building,
-        depth: usize,
-        made: Ref,
-    )
+    fn go_on(&mut self, work: &mut Work, path: &[Ref], building: &Building, depth: usize, made: Ref)
         ensures follows { (state : State) (operation : Operation) → depth ≡ depth_for state operation (build_line path.now self.old.main building.now) → line_of path.now work.new.swap None self.new ≡ build_after_made state operation (build_line path.now self.old.main building.now) made }
         ensures same { (self.new.main ≡ self.old.main) × (work.new.swap.read.access ≡ work.old.swap.read.access) }
         ensures private { work.new.private ≡ work.old.private }
@@ -164,17 +155,23 @@ impl Change {
                 ChangeAt::Build(after_single(*site, *former, depth, made))
             }
             Building::Pair {
-                position, depth, ..
+                position,
+                depth,
+                ..
             }
             | Building::Rung {
-                position, depth, ..
+                position,
+                depth,
+                ..
             } => ChangeAt::Build(Building::Link {
                 position: *position,
                 below: made,
                 depth: *depth,
             }),
             Building::Link {
-                position, depth, ..
+                position,
+                depth,
+                ..
             } => ChangeAt::Build(after_link(path, *position, *depth, made)),
             Building::Main { former, .. } => {
                 work.swap.begin(current(path), self.main, made);
@@ -205,16 +202,4 @@ impl Change {
             Next::Done(kind, false) => Next::Done(kind, Tried::Lost),
         }
     }
-}
-
-fn make(private: &mut Private, heap: &mut Heap, node: Node) -> Result<Option<Ref>, Refusal>
-    requires births { heap.old.heap.births + 1 < 2 ^ 48 }
-    requires live { AreLive heap.old.heap (refs_of_node node) }
-    requires held { AreHeld private.old heap.old }
-    ensures err { OnErr result ((private.new ≡ private.old) × (heap.new ≡ heap.old)) }
-    ensures only_memory { IfErr result (λ refusal. refusal ≡ Refusal.Memory) }
-    ensures made { IfOk result (λ made. made ≡ next_ref heap.old.heap) }
-    ensures acts { OnOk result (Acts heap.old private.old (act.Make node) heap.new private.new) }
-{
-    Ok(private.make(heap, node)?)
 }

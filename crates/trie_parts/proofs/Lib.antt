@@ -4,3 +4,4 @@ pub mod Capped
 pub mod Stored
 pub mod Partings
 pub mod Unmade
+pub mod Insides

@@ -1,4 +1,4 @@
--- A SWAP makes no node, so nothing that was set beside a slot is taken back.
+-- A READ or SWAP makes no node, so nothing that was set beside a slot is taken back; a READ leaves the private list alone.
 use Rattle.std.specs.Prelude.{◌≡◌, ℕ, List, refl}
 use Rattle.slot_arena.specs.declared.refs.Ref.{Ref}
 use Rattle.slot_arena.specs.Heaps.{Heap}
@@ -8,7 +8,17 @@ use Rattle.machine_model.specs.declared.reading.SwapLine.{SwapLine}
 use Rattle.machine_model.specs.declared.reading.SwapLine.TheVariants as swap
 use Rattle.machine_model.specs.Reading.{read_action}
 use Rattle.machine_model.specs.Swapping.{action_at}
+use Rattle.machine_model.specs.Acting.{private_after}
+use Rattle.machine_model.specs.States.{State}
 use Rattle.trie_parts.specs.Holding.{remarked}
+
+pub read_privates : (state : State) (private : List Ref) (indirection : Ref) (line : ReadLine) → private ≡ private_after state private (read_action indirection line)
+read_privates state private indirection read.Main = refl
+read_privates state private indirection (read.Prev main) = refl
+read_privates state private indirection (read.AskRoot main previous) = refl
+read_privates state private indirection (read.Abort main previous offer) = refl
+read_privates state private indirection (read.Decide main previous told) = refl
+read_privates state private indirection (read.Restore main previous) = refl
 
 pub read_remarks : (heap : Heap) (indirection : Ref) (line : ReadLine) (words : List ℕ) → words ≡ remarked heap (read_action indirection line) words
 read_remarks heap indirection read.Main words = refl

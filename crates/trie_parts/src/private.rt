@@ -96,7 +96,7 @@ impl Private {
 }
 
 /// Puts one reference more at the end, for which there is room.
-fn keep(items: &mut Vec<Ref>, at: Ref)
+pub fn keep(items: &mut Vec<Ref>, at: Ref)
     requires { vec_len items.old < vec_capacity items.old }
     ensures { items.new.items ≡ items.old.items ++ at ∷ [] }
 {
