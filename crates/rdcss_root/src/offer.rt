@@ -29,6 +29,9 @@ impl Offer {
         ensures table { roots.new ≡ offered_in roots.old handle actor self.now.descriptor }
         ensures moves { Moves heap.old heap.new roots.old.roots roots.new.roots 4 }
     {
-        Next::Done(Kind::SwapRoot, roots.offer(heap, handle, actor, self.descriptor))
+        Next::Done(
+            Kind::SwapRoot,
+            roots.offer(heap, handle, actor, self.descriptor),
+        )
     }
 }

@@ -121,7 +121,13 @@ impl Roots {
     }
 
     /// Puts the actor's offer into the root word, if its root still stands there with no offer. Tells whether it did.
-    pub(crate) fn offer(&mut self, heap: &mut Heap, handle: u16, actor: u8, offer: Descriptor) -> bool
+    pub(crate) fn offer(
+        &mut self,
+        heap: &mut Heap,
+        handle: u16,
+        actor: u8,
+        offer: Descriptor,
+    ) -> bool
         requires live { AreLive heap.old.heap (refs_of_word (RootWord.Offer offer)) }
         requires ready { IsReady heap.old self.old.roots 4 }
         ensures stood { result ≡ is_plain (word_in self.old handle) offer.root }
