@@ -5,7 +5,7 @@ use Rattle.ctrie_base.specs.declared.kinds.Kind.{Kind}
 use Rattle.history.specs.declared.calls.Access.{Access}
 use Rattle.slot_arena.specs.declared.refs.Ref.{Ref}
 use Rattle.slot_arena.specs.Heaps.{Heap}
-use Rattle.machine_model.specs.declared.reading.After.TheVariants.{Goes, Gives}
+use Rattle.machine_model.specs.declared.reading.After.TheVariants.{Goes}
 use Rattle.machine_model.specs.declared.reading.ReadLine.{ReadLine}
 use Rattle.machine_model.specs.declared.roots.CompleteLine.TheVariants as complete
 use Rattle.machine_model.specs.declared.roots.Descriptor.{Descriptor}

@@ -1,5 +1,5 @@
 -- What is held, where one root word gives way to another.
-use Rattle.std.specs.Prelude.{◌≡◌, ℕ, ◌+◌, ◌*◌, ◌<◌, ◌≤◌, List, [], ◌∷◌, ◌++◌, length, flat_map, slice_set, slice_index_or, Option, Some, None}
+use Rattle.std.specs.Prelude.{◌≡◌, ℕ, ◌+◌, ◌*◌, ◌<◌, ◌≤◌, List, [], ◌∷◌, length, flat_map, slice_set, slice_index_or, Option, Some, None}
 use Rattle.std.specs.List.{sum_by}
 use Rattle.std.proofs.Common.{arith, rules, ◌∙◌, refl, sym, ap, subst}
 use Rattle.std.proofs.lemmas.List.{set_past}
@@ -14,11 +14,10 @@ use Rattle.epochs.specs.Memories.{Memory}
 use Rattle.machine_model.specs.declared.roots.Root.{Root}
 use Rattle.machine_model.specs.declared.roots.RootWord.{RootWord}
 use Rattle.machine_model.specs.declared.roots.RootWord.TheVariants.{Plain, Offer}
-use Rattle.machine_model.specs.declared.roots.Descriptor.{Descriptor}
 use Rattle.machine_model.specs.Counting.{refs_of_root, refs_of_word}
 use Rattle.machine_model.specs.States.{rewritten}
 use Rattle.trie_parts.specs.Holding.{AreHeld}
-use Rattle.rdcss_root.specs.Holds.{Holds, Releases, root_refs, IsReady, Moves}
+use Rattle.rdcss_root.specs.Holds.{Holds, Releases, IsReady, Moves}
 use Rattle.rdcss_root.proofs.Keeping.{kept, kept_on}
 
 times_flat : {X : Type 0} (r : Ref) (f : X → List Ref) (xs : List X) → times r (flat_map f xs) ≡ sum_by (λ x. times r (f x)) xs

@@ -9,7 +9,7 @@ returns-in-Reading-clause-follows c = rw c.in-Reading.is (c.read.ensures.follows
 pub returns-in-Reading-clause-acts : goal.returns-in-Reading-clause-acts
 returns-in-Reading-clause-acts c =
     λ private. rw c.in-Reading.is (
-      by_read c.args.roots.now.roots private c.args.self.now.offer.root (line_of c.args.read.now c.args.root_seen) c.read.ensures.heap c.read.ensures.beside
+    by_read c.args.roots.now.roots private c.args.self.now.offer.root (line_of c.args.read.now c.args.root_seen) c.read.ensures.heap c.read.ensures.beside
     )
 
 pub returns-in-Swap-clause-acts : goal.returns-in-Swap-clause-acts
