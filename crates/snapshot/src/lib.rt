@@ -1,8 +1,10 @@
 //! Calls that take the map as a whole: snapshots, freezes and clears, which swap the root.
 #![tactic(auto)]
 
+mod laws;
 mod snap;
 mod tasks;
 
+pub use laws::draws_generations;
 pub use snap::{Making, Snap, SnapAt};
 pub use tasks::{SnapCall, SnapReply, SnapTask};

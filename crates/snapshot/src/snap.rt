@@ -118,7 +118,7 @@ impl Snap {
             SnapAt::Read => Ok(self.read(work, heap, task, root_seen)),
             SnapAt::Make(making) => {
                 let making = *making;
-                self.make(making, work, generations, heap, task)
+                self.make(&making, work, generations, heap, task)
             }
             SnapAt::Offer(offer) => {
                 let offer = *offer;
@@ -194,19 +194,19 @@ impl Snap {
     /// Makes a node. A new root draws a generation.
     fn make(
         &mut self,
-        making: Making,
+        making: &Making,
         work: &mut Work,
         generations: &mut u64,
         heap: &mut Heap,
         task: SnapTask,
     ) -> Result<Next<SnapReply>, Refusal>
-        requires can { CanMake heap.old.heap (made_node generations.old making) }
+        requires can { CanMake heap.old.heap (made_node generations.old making.now) }
         requires held { AreHeld work.old.private heap.old }
         requires attempts { self.old.attempt < 2 ^ 64 - 1 }
         requires generations { generations.old < 2 ^ 64 - 1 }
-        ensures follows { IfOk result (λ next. (state : State) (operation : Operation) (table : Table) (access : AnAccess) (mark : Bool) → StepsOn (at_roots state heap.old.heap table) (for_task task self.old.attempt mark access operation) (line.Copy (making_line self.old.root making)) (snap_line work.new.swap.read None self.new) work.new.swap.read.at line_behind next) }
-        ensures acts { OnOk result (Acts heap.old work.old.private (act.Make (made_node generations.old making)) heap.new work.new.private) }
-        ensures drawn { OnOk result (generations.new ≡ drawn_by heap.old.heap generations.old (copy_action (making_line self.old.root making))) }
+        ensures follows { IfOk result (λ next. (state : State) (operation : Operation) (table : Table) (access : AnAccess) (mark : Bool) → StepsOn (at_roots state heap.old.heap table) (for_task task self.old.attempt mark access operation) (line.Copy (making_line self.old.root making.now)) (snap_line work.new.swap.read None self.new) work.new.swap.read.at line_behind next) }
+        ensures acts { OnOk result (Acts heap.old work.old.private (act.Make (made_node generations.old making.now)) heap.new work.new.private) }
+        ensures drawn { OnOk result (generations.new ≡ drawn_by heap.old.heap generations.old (copy_action (making_line self.old.root making.now))) }
         ensures same { (self.new.attempt ≡ self.old.attempt) × (work.new.swap ≡ work.old.swap) }
         ensures err { OnErr result ((self.new ≡ self.old) × (work.new ≡ work.old) × (generations.new ≡ generations.old) × (heap.new ≡ heap.old)) }
         ensures only_memory { IfErr result (λ refusal. refusal ≡ Refusal.Memory) }
@@ -215,30 +215,34 @@ impl Snap {
             None => Ok(Next::Done(Kind::Make, SnapReply::NoSlots)),
             Some(made) => {
                 draw(generations, making);
-                self.at = self.after_made(making, task, made);
+                let at = self.after_made(making, task, made);
+                self.at = at;
                 Ok(Next::More(Kind::Make))
             }
         }
     }
 
     /// Where the program stands behind the making of a node: a writable snapshot makes a second root.
-    fn after_made(&self, making: Making, task: SnapTask, made: Ref) -> SnapAt
+    fn after_made(&self, making: &Making, task: SnapTask, made: Ref) -> SnapAt
         requires { self.now.attempt < 2 ^ 64 - 1 }
-        ensures { (operation : Operation) (access : AnAccess) (mark : Bool) (r : ARead) → snap_line_at self.now.root r None result ≡ copy_after_made (for_task task self.now.attempt mark access operation) (making_line self.now.root making) made }
+        ensures { (operation : Operation) (access : AnAccess) (mark : Bool) (r : ARead) → snap_line_at self.now.root r None result ≡ copy_after_made (for_task task self.now.attempt mark access operation) (making_line self.now.root making.now) made }
     {
         match making {
             Making::Successor { main } => match task.call {
                 SnapCall::Snapshot => SnapAt::Make(Making::Second {
-                    main,
+                    main: *main,
                     successor: made,
                 }),
-                SnapCall::Freeze | SnapCall::Clear => self.offering(task, main, made, None),
+                SnapCall::Freeze | SnapCall::Clear => self.offering(task, *main, made, None),
             },
             Making::Second { main, successor } => {
-                self.offering(task, main, successor, Some(made))
+                self.offering(task, *main, *successor, Some(made))
             }
-            Making::Empty { main } => SnapAt::Make(Making::Cleared { main, branch: made }),
-            Making::Cleared { main, .. } => self.offering(task, main, made, None),
+            Making::Empty { main } => SnapAt::Make(Making::Cleared {
+                main: *main,
+                branch: made,
+            }),
+            Making::Cleared { main, .. } => self.offering(task, *main, made, None),
         }
     }
 
@@ -337,25 +341,28 @@ fn first_making(call: SnapCall, main: Ref) -> Making
 }
 
 /// The node that is to be made; a new root is of this generation.
-fn node_of(making: Making, generation: u64) -> Node
-    ensures { result ≡ made_node generation making }
+fn node_of(making: &Making, generation: u64) -> Node
+    ensures { result ≡ made_node generation making.now }
 {
     match making {
         Making::Successor { main } | Making::Second { main, .. } => {
-            Node::Indirection { generation, main }
+            Node::Indirection {
+                generation,
+                main: *main,
+            }
         }
         Making::Empty { .. } => renewed(0, &[]),
         Making::Cleared { branch, .. } => Node::Indirection {
             generation,
-            main: branch,
+            main: *branch,
         },
     }
 }
 
 /// A new root has drawn a generation.
-fn draw(generations: &mut u64, making: Making)
+fn draw(generations: &mut u64, making: &Making)
     requires { generations.old < 2 ^ 64 - 1 }
-    ensures { (heap : Store) (root made : ARef) → next_ref heap ≡ Some made → generations.new ≡ drawn_by heap generations.old (copy_action (making_line root making)) }
+    ensures { (heap : Store) (root made : ARef) → next_ref heap ≡ Some made → generations.new ≡ drawn_by heap generations.old (copy_action (making_line root making.now)) }
 {
     match making {
         Making::Empty { .. } => {}
