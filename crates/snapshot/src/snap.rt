@@ -233,7 +233,8 @@ impl Snap {
                     main: *main,
                     successor: made,
                 }),
-                SnapCall::Freeze | SnapCall::Clear => self.offering(task, *main, made, None),
+                SnapCall::Freeze => self.offering(task, *main, made, None),
+                SnapCall::Clear => self.offering(task, *main, made, None),
             },
             Making::Second { main, successor } => {
                 self.offering(task, *main, *successor, Some(made))
