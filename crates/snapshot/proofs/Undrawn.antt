@@ -61,8 +61,8 @@ pub of_read : {before after : Memory} {private private' : List Ref} (roots : Lis
 of_read roots generation indirection line acts = as_well (read_draws generation indirection line) refl (by_parts roots acts)
 
 -- a new root has the generation that is drawn
-pub of_making : {X E : Type 0} {before after : Memory} {private private' : List Ref} (r : Result X E) (roots : List (Option Root)) (generation : ℕ) (root : Ref) (m : Making) →
+pub of_making : {X E : Type 0} (before after : Memory) (private private' : List Ref) (r : Result X E) (roots : List (Option Root)) (generation : ℕ) (root : Ref) (m : Making) →
     OnOk r (Acts before private (act.Make (made_node generation m)) after private') →
     OnOk r (ActsInAll before roots private (with_generation generation (copy_action (making_line root m))) after roots private')
-of_making (Ok x) roots generation root m acts = as_well (makes generation root m) refl (by_parts roots acts)
-of_making (Err e) roots generation root m acts = tt
+of_making before after private private' (Ok x) roots generation root m acts = as_well (makes generation root m) refl (by_parts roots acts)
+of_making before after private private' (Err e) roots generation root m acts = tt
