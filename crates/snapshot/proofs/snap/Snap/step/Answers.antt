@@ -44,6 +44,10 @@ returns-in-Complete-clause-acts c =
       of_complete
       c.args.generations.now
       (complete_of c.in-Complete.complete c.args.work.now.swap.read c.args.root_seen)
-      c.complete.ensures.same.1
+      c.complete.ensures.same.2
       (c.complete.ensures.acts c.args.work.now.private)
     )
+
+pub returns-in-Root-clause-generation : goal.returns-in-Root-clause-generation
+returns-in-Root-clause-generation c =
+    λ state operation. rw c.in-Root.is (c.find_root.ensures.generation state operation c.args.self.now.attempt (mark_of c.args.roots.now c.args.task))
