@@ -1,8 +1,7 @@
 //! RENEW: a branch gets indirections of the root's generation.
 
-ghost use Rattle.std.specs.Prelude.{◌≡◌, [], ◌∷◌, ◌++◌, nat_lt, List, length, None, IfOk, IfErr, OnOk, OnErr};
+ghost use Rattle.std.specs.Prelude.{◌≡◌, [], ◌∷◌, ◌++◌, List, length, None, IfOk, IfErr, OnOk, OnErr};
 ghost use Rattle.ctrie_base.specs.declared.hashes.HashKind.{HashKind};
-ghost use Rattle.slot_arena.specs.Heaps.{Heap as Store};
 ghost use Rattle.slot_arena.specs.declared.refs.Ref.{Ref as ARef};
 ghost use Rattle.machine_model.specs.Operations.{line_action};
 ghost use Rattle.machine_model.specs.Renewing.{renew_next};
