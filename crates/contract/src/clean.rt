@@ -257,7 +257,7 @@ impl Clean {
         ensures err { OnErr result ((self.new ≡ self.old) × (work.new ≡ work.old) × (heap.new ≡ heap.old)) }
         ensures only_memory { IfErr result (λ refusal. refusal ≡ Refusal.Memory) }
     {
-        let node = cleaned(heap, path, self.main, self.done.as_slice());
+        let node = cleaned_node(heap, path, self.main, self.done.as_slice());
         match work.make(heap, node)? {
             None => Ok(Next::Done(Kind::Make, Cleaned::NoSlots)),
             Some(made) => {
@@ -287,7 +287,7 @@ impl Clean {
 
 /// The new main node of a branch: below the root a tomb where one single alone is left, else the branch with
 /// these entries.
-fn cleaned(heap: &Heap, path: &[Ref], main: Ref, entries: &[Ref]) -> Node
+fn cleaned_node(heap: &Heap, path: &[Ref], main: Ref, entries: &[Ref]) -> Node
     ensures { (state : State) (hashes : HashKind) → result ≡ cleaned (at_heap state heap.now.heap hashes) path.now main entries.now }
 {
     let may_entomb = is_below_root(path) && leaves_single(heap, entries);
