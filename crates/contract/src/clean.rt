@@ -11,7 +11,7 @@ ghost use Rattle.machine_model.specs.declared.lines.Line.TheVariants as line;
 ghost use Rattle.machine_model.specs.declared.lines.Purpose.TheVariants as purpose;
 ghost use Rattle.machine_model.specs.declared.operations.Operation.{Operation};
 ghost use Rattle.machine_model.specs.declared.repairs.CleanLine.TheVariants as clean;
-ghost use Rattle.gcas.specs.Reads.{read_of, CanReadOn};
+ghost use Rattle.gcas.specs.Reads.{read_of, CanReadOn, IsAskingRoot};
 ghost use Rattle.gcas.specs.Swaps.{swap_of, CanSwapOn};
 ghost use Rattle.gcas.specs.declared.read.ReadAt.{ReadAt};
 ghost use Rattle.gcas.specs.declared.swap.Swap.{Swap as ASwap};
@@ -119,6 +119,7 @@ impl Clean {
         ensures same { work.new.swap.read.access ≡ work.old.swap.read.access }
         ensures err { OnErr result ((self.new ≡ self.old) × (work.new ≡ work.old) × (heap.new ≡ heap.old)) }
         ensures only_memory { IfErr result (λ refusal. refusal ≡ Refusal.Memory) }
+        ensures asks { IfOk result (λ next. IsAskingRoot next → (self.new ≡ self.old) × (work.new ≡ work.old) × (heap.new ≡ heap.old)) }
     {
         match &self.place {
             CleanAt::Read => Ok(self.read(work, heap, root_seen)),
@@ -140,6 +141,7 @@ impl Clean {
         ensures follows { (state : State) (operation : Operation) (path : List ARef) (task : ATask) → StepsOn (at_heap state heap.old.heap task.hashes) (for_task task work.old.swap.read.access operation) (line.Clean (clean.Read path (read_of work.old.swap.read root_seen))) (clean_line path work.new.swap None self.new) work.new.swap.read.at line_behind result }
         ensures acts { (state : State) (operation : Operation) (path : List ARef) → Acts heap.old work.old.private (line_action state operation (line.Clean (clean.Read path (read_of work.old.swap.read root_seen)))) heap.new work.new.private }
         ensures same { work.new.swap.read.access ≡ work.old.swap.read.access }
+        ensures asks { IsAskingRoot result → (self.new ≡ record self.old { place = CleanAt.Read }) × (work.new ≡ work.old) × (heap.new ≡ heap.old) }
     {
         self.place = CleanAt::Read;
         match work.read(heap, root_seen) {
@@ -155,7 +157,8 @@ impl Clean {
 
     /// Looks at the main node: only a branch is cleaned.
     fn look(&mut self, heap: &Heap) -> Next<Cleaned>
-        ensures { (state : State) (hashes : HashKind) (operation : Operation) (path : List ARef) (s : ASwap) (place : ReadAt) → StepsOn (at_heap state heap.now.heap hashes) operation (line.Clean (clean.Main path self.old.main)) (clean_line path s None self.new) place line_behind result }
+        ensures follows { (state : State) (hashes : HashKind) (operation : Operation) (path : List ARef) (s : ASwap) (place : ReadAt) → StepsOn (at_heap state heap.now.heap hashes) operation (line.Clean (clean.Main path self.old.main)) (clean_line path s None self.new) place line_behind result }
+        ensures taken { IsAskingRoot result → ⊥ }
     {
         match node_at(heap, self.main) {
             Some(Node::Branch { .. }) | None => {
@@ -188,6 +191,7 @@ impl Clean {
         ensures same { (work.new.swap.read.access ≡ work.old.swap.read.access) × (work.new.private ≡ work.old.private) }
         ensures err { OnErr result ((self.new ≡ self.old) × (work.new ≡ work.old)) }
         ensures only_memory { IfErr result (λ refusal. refusal ≡ Refusal.Memory) }
+        ensures taken { IfOk result (λ next. IsAskingRoot next → ⊥) }
     {
         let entry = entry_at(heap, self.main, self.done.len());
         match node_at(heap, entry) {
@@ -217,6 +221,7 @@ impl Clean {
         ensures follows { (state : State) (operation : Operation) (path : List ARef) (task : ATask) → StepsOn (at_heap state heap.old.heap task.hashes) (for_task task work.old.swap.read.access operation) (line.Clean (clean.Child path self.old.main self.old.done (read_of work.old.swap.read root_seen))) (clean_line path work.new.swap None self.new) work.new.swap.read.at line_behind result }
         ensures acts { (state : State) (operation : Operation) (path : List ARef) → Acts heap.old work.old.private (line_action state operation (line.Clean (clean.Child path self.old.main self.old.done (read_of work.old.swap.read root_seen)))) heap.new work.new.private }
         ensures same { work.new.swap.read.access ≡ work.old.swap.read.access }
+        ensures asks { IsAskingRoot result → (self.new ≡ record self.old { place = CleanAt.Child }) × (work.new ≡ work.old) × (heap.new ≡ heap.old) }
     {
         self.place = CleanAt::Child;
         match work.read(heap, root_seen) {
@@ -234,6 +239,7 @@ impl Clean {
         ensures follows { IfOk result (λ next. (state : State) (hashes : HashKind) (operation : Operation) (path : List ARef) (s : ASwap) (place : ReadAt) → StepsOn (at_heap state heap.now.heap hashes) operation (line.Clean (clean.Tomb path self.old.main self.old.done child)) (clean_line path s None self.new) place line_behind next) }
         ensures err { OnErr result (self.new ≡ self.old) }
         ensures only_memory { IfErr result (λ refusal. refusal ≡ Refusal.Memory) }
+        ensures taken { IfOk result (λ next. IsAskingRoot next → ⊥) }
     {
         let kept = match node_at(heap, child) {
             Some(Node::Tomb { single }) => *single,
@@ -256,6 +262,7 @@ impl Clean {
         ensures same { work.new.swap.read.access ≡ work.old.swap.read.access }
         ensures err { OnErr result ((self.new ≡ self.old) × (work.new ≡ work.old) × (heap.new ≡ heap.old)) }
         ensures only_memory { IfErr result (λ refusal. refusal ≡ Refusal.Memory) }
+        ensures taken { IfOk result (λ next. IsAskingRoot next → ⊥) }
     {
         let node = cleaned_node(heap, path, self.main, self.done.as_slice());
         match work.make(heap, node)? {
@@ -275,6 +282,7 @@ impl Clean {
         ensures follows { (state : State) (operation : Operation) (path : List ARef) (task : ATask) → StepsOn (at_heap state heap.old.heap task.hashes) (for_task task work.old.swap.read.access operation) (line.Swap purpose.Clean (swap_of work.old.swap root_seen)) (clean_line path work.new.swap None self.new) work.new.swap.read.at line_behind result }
         ensures acts { (state : State) (operation : Operation) → Acts heap.old work.old.private (line_action state operation (line.Swap purpose.Clean (swap_of work.old.swap root_seen))) heap.new work.new.private }
         ensures same { work.new.swap.read.access ≡ work.old.swap.read.access }
+        ensures asks { IsAskingRoot result → (self.new ≡ record self.old { place = CleanAt.Swap }) × (work.new ≡ work.old) × (heap.new ≡ heap.old) }
     {
         self.place = CleanAt::Swap;
         match work.swap(heap, root_seen) {

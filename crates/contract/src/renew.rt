@@ -10,7 +10,7 @@ ghost use Rattle.machine_model.specs.declared.lines.Line.TheVariants as line;
 ghost use Rattle.machine_model.specs.declared.lines.Purpose.TheVariants as purpose;
 ghost use Rattle.machine_model.specs.declared.operations.Operation.{Operation};
 ghost use Rattle.machine_model.specs.declared.repairs.RenewLine.TheVariants as renew;
-ghost use Rattle.gcas.specs.Reads.{read_of, CanReadOn};
+ghost use Rattle.gcas.specs.Reads.{read_of, CanReadOn, IsAskingRoot};
 ghost use Rattle.gcas.specs.Swaps.{swap_of, CanSwapOn};
 ghost use Rattle.gcas.specs.declared.swap.Swap.{Swap as ASwap};
 ghost use Rattle.trie_parts.specs.Here.{at_heap};
@@ -112,6 +112,7 @@ impl Renew {
         ensures same { work.new.swap.read.access ≡ work.old.swap.read.access }
         ensures err { OnErr result ((self.new ≡ self.old) × (work.new ≡ work.old) × (heap.new ≡ heap.old)) }
         ensures only_memory { IfErr result (λ refusal. refusal ≡ Refusal.Memory) }
+        ensures asks { IfOk result (λ next. IsAskingRoot next → (self.new ≡ self.old) × (work.new ≡ work.old) × (heap.new ≡ heap.old)) }
     {
         match &self.place {
             RenewAt::Entry => self.look(work, heap, task),
@@ -131,6 +132,7 @@ impl Renew {
         ensures same { (work.new.swap.read.access ≡ work.old.swap.read.access) × (work.new.private ≡ work.old.private) }
         ensures err { OnErr result ((self.new ≡ self.old) × (work.new ≡ work.old)) }
         ensures only_memory { IfErr result (λ refusal. refusal ≡ Refusal.Memory) }
+        ensures taken { IfOk result (λ next. IsAskingRoot next → ⊥) }
     {
         let entry = entry_at(heap, self.main, self.done.len());
         match node_at(heap, entry) {
@@ -164,6 +166,7 @@ impl Renew {
         ensures follows { (state : State) (operation : Operation) (path : List ARef) (task : ATask) → StepsOn (at_heap state heap.old.heap task.hashes) (for_task task work.old.swap.read.access operation) (line.Renew (renew.Read path self.old.main self.old.done (read_of work.old.swap.read root_seen))) (renew_line path work.new.swap None self.new) work.new.swap.read.at (line_behind path) result }
         ensures acts { (state : State) (operation : Operation) (path : List ARef) → Acts heap.old work.old.private (line_action state operation (line.Renew (renew.Read path self.old.main self.old.done (read_of work.old.swap.read root_seen)))) heap.new work.new.private }
         ensures same { work.new.swap.read.access ≡ work.old.swap.read.access }
+        ensures asks { IsAskingRoot result → (self.new ≡ record self.old { place = RenewAt.Read }) × (work.new ≡ work.old) × (heap.new ≡ heap.old) }
     {
         self.place = RenewAt::Read;
         match work.read(heap, root_seen) {
@@ -191,6 +194,7 @@ impl Renew {
         ensures same { work.new.swap.read.access ≡ work.old.swap.read.access }
         ensures err { OnErr result ((self.new ≡ self.old) × (work.new ≡ work.old) × (heap.new ≡ heap.old)) }
         ensures only_memory { IfErr result (λ refusal. refusal ≡ Refusal.Memory) }
+        ensures taken { IfOk result (λ next. IsAskingRoot next → ⊥) }
     {
         self.done.reserve(1)?;
         let entries = entry_count(heap, self.main);
@@ -222,6 +226,7 @@ impl Renew {
         ensures same { work.new.swap.read.access ≡ work.old.swap.read.access }
         ensures err { OnErr result ((self.new ≡ self.old) × (work.new ≡ work.old) × (heap.new ≡ heap.old)) }
         ensures only_memory { IfErr result (λ refusal. refusal ≡ Refusal.Memory) }
+        ensures taken { IfOk result (λ next. IsAskingRoot next → ⊥) }
     {
         let node = renewed(bitmap_at(heap, self.main), self.done.as_slice());
         match work.make(heap, node)? {
@@ -241,6 +246,7 @@ impl Renew {
         ensures follows { (state : State) (operation : Operation) (path : List ARef) (task : ATask) → StepsOn (at_heap state heap.old.heap task.hashes) (for_task task work.old.swap.read.access operation) (line.Swap (purpose.Renew path) (swap_of work.old.swap root_seen)) (renew_line path work.new.swap None self.new) work.new.swap.read.at (line_behind path) result }
         ensures acts { (state : State) (operation : Operation) (path : List ARef) → Acts heap.old work.old.private (line_action state operation (line.Swap (purpose.Renew path) (swap_of work.old.swap root_seen))) heap.new work.new.private }
         ensures same { work.new.swap.read.access ≡ work.old.swap.read.access }
+        ensures asks { IsAskingRoot result → (self.new ≡ record self.old { place = RenewAt.Swap }) × (work.new ≡ work.old) × (heap.new ≡ heap.old) }
     {
         self.place = RenewAt::Swap;
         match work.swap(heap, root_seen) {
