@@ -18,16 +18,11 @@ use Rattle.gcas.specs.Reads.{read_of, CanReadOn}
 use Rattle.gcas.specs.Swaps.{swap_of, CanSwapOn}
 use Rattle.trie_parts.specs.Here.{at_heap, no_state}
 use Rattle.trie_parts.specs.Steps.{CanMake}
+use Rattle.contract.specs.declared.clean.Clean.{Clean}
 use Rattle.contract.specs.declared.clean.CleanAt.{CleanAt}
 use Rattle.contract.specs.declared.clean.CleanAt.TheVariants as at
 use Rattle.contract.specs.declared.clean.Cleaned.{Cleaned as Outcome}
 use Rattle.contract.specs.declared.clean.Cleaned.TheVariants.{Cleaned, NoSlots, Impossible}
-
--- the branch that is cleaned, its new entries so far, and where the program stands
-pub record Cleaning : Type 0 where
-  pub main : Ref
-  pub done : List Ref
-  pub place : CleanAt
 
 -- ---- where it stands
 
@@ -41,7 +36,7 @@ clean_line_at path s told main done at.Contracted = line.Clean (clean.Contracted
 clean_line_at path s told main done at.Swap = line.Swap purpose.Clean (swap_of s told)
 
 -- the definition's line of a cleaning below the end of this path, whose READ and SWAP were told this of the root's generation
-abbrev pub clean_line : List Ref → Swap → Option ℕ → Cleaning → Line
+abbrev pub clean_line : List Ref → Swap → Option ℕ → Clean → Line
 clean_line path s told c = clean_line_at path s told c.main c.done c.place
 
 -- the definition's line after a cleaning that came to this
@@ -68,5 +63,5 @@ CanCleanAt heap path s main done at.Contracted = CanMake heap (cleaned (at_heap 
 CanCleanAt heap path s main done at.Swap = CanSwapOn heap s
 
 -- what a READ or SWAP is going to change, and what the new node is to refer to, is in use, and of its kind
-abbrev pub CanClean : Heap → List Ref → Swap → Cleaning → Type 0
+abbrev pub CanClean : Heap → List Ref → Swap → Clean → Type 0
 CanClean heap path s c = CanCleanAt heap path s c.main c.done c.place

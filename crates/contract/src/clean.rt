@@ -2,8 +2,10 @@
 
 ghost use Rattle.std.specs.Prelude.{◌≡◌, [], ◌∷◌, ◌++◌, List, None, IfOk, IfErr, OnOk, OnErr};
 ghost use Rattle.ctrie_base.specs.declared.hashes.HashKind.{HashKind};
+ghost use Rattle.ctrie_base.specs.declared.hashes.HashKind.TheVariants.{Low};
+ghost use Rattle.slot_arena.specs.Heaps.{node_at};
 ghost use Rattle.slot_arena.specs.declared.refs.Ref.{Ref as ARef};
-ghost use Rattle.machine_model.specs.Cleaning.{clean_next, leaves_single, cleaned};
+ghost use Rattle.machine_model.specs.Cleaning.{clean_next, clean_after_tomb, leaves_single, cleaned};
 ghost use Rattle.machine_model.specs.Operations.{line_action};
 ghost use Rattle.machine_model.specs.Reading.{reading};
 ghost use Rattle.machine_model.specs.States.{State};
@@ -15,19 +17,19 @@ ghost use Rattle.gcas.specs.Reads.{read_of, CanReadOn, IsAskingRoot};
 ghost use Rattle.gcas.specs.Swaps.{swap_of, CanSwapOn};
 ghost use Rattle.gcas.specs.declared.read.ReadAt.{ReadAt};
 ghost use Rattle.gcas.specs.declared.swap.Swap.{Swap as ASwap};
-ghost use Rattle.trie_parts.specs.Here.{at_heap};
+ghost use Rattle.trie_parts.specs.Here.{at_heap, no_state};
 ghost use Rattle.trie_parts.specs.Holding.{Acts, AreHeld};
 ghost use Rattle.trie_parts.specs.Steps.{StepsOn};
 ghost use Rattle.trie_parts.specs.Tasks.{for_task};
 ghost use Rattle.trie_parts.specs.declared.calls.Task.{Task as ATask};
 ghost use Rattle.contract.specs.Cleaning.{clean_line, line_behind, CanClean, CanCleanAt, GoesOn};
 
+use crate::entries::Entries;
 use ctrie_base::{Kind, Refusal};
 use epochs::Heap;
 use gcas::Next;
 use slot_arena::{Node, Ref};
 use std::alloc::Global;
-use std::marker::Model;
 use trie_parts::{
     Task, Work, bitmap_at, contracted, current, entries_at, entry_at, is_below_root, is_single_at,
     node_at,
@@ -69,16 +71,8 @@ pub struct Clean {
     /// The branch.
     main: Ref,
     /// Its new entries so far.
-    done: Vec<Ref>,
+    done: Entries,
     place: CleanAt,
-}
-
-impl Model for Clean {
-    ghost use Rattle.contract.specs.Cleaning.{Cleaning};
-
-    ghost Value = { Cleaning };
-
-    ghost view = { λ c. record { main = c.main; done = c.done.items; place = c.place } };
 }
 
 impl Clean {
@@ -88,7 +82,7 @@ impl Clean {
     {
         Clean {
             main: Ref::default(),
-            done: Vec::new(alloc),
+            done: Entries::new(alloc),
             place: CleanAt::Read,
         }
     }
@@ -161,20 +155,28 @@ impl Clean {
         ensures taken { IsAskingRoot result → ⊥ }
     {
         match node_at(heap, self.main) {
-            Some(Node::Branch { .. }) | None => {
-                self.done.clear();
-                self.go_on(heap)
-            }
+            Some(Node::Branch { .. }) => self.go_through(heap),
+            None => self.go_through(heap),
             _ => Next::Done(Kind::Look, Cleaned::Cleaned),
         }
     }
 
+    /// After the look at a branch: to its first entry.
+    fn go_through(&mut self, heap: &Heap) -> Next<Cleaned>
+        ensures follows { (state : State) (hashes : HashKind) (path : List ARef) (s : ASwap) → GoesOn (clean_next (at_heap state heap.now.heap hashes) path self.old.main []) (clean_line path s None self.new) result }
+        ensures taken { IsAskingRoot result → ⊥ }
+    {
+        self.done.clear();
+        self.go_on(heap)
+    }
+
     /// After a look: to the next entry or, where all are done, to the new main node, if an entry changed.
     fn go_on(&mut self, heap: &Heap) -> Next<Cleaned>
-        ensures { (state : State) (hashes : HashKind) (path : List ARef) (s : ASwap) → GoesOn (clean_next (at_heap state heap.now.heap hashes) path self.old.main self.old.done) (clean_line path s None self.new) result }
+        ensures follows { (state : State) (hashes : HashKind) (path : List ARef) (s : ASwap) → GoesOn (clean_next (at_heap state heap.now.heap hashes) path self.old.main self.old.done) (clean_line path s None self.new) result }
+        ensures taken { IsAskingRoot result → ⊥ }
     {
         let entries = entries_at(heap, self.main);
-        if self.done.len() < entries.len() {
+        if self.done.as_slice().len() < entries.len() {
             self.place = CleanAt::Entry;
             return Next::More(Kind::Look);
         }
@@ -193,7 +195,7 @@ impl Clean {
         ensures only_memory { IfErr result (λ refusal. refusal ≡ Refusal.Memory) }
         ensures taken { IfOk result (λ next. IsAskingRoot next → ⊥) }
     {
-        let entry = entry_at(heap, self.main, self.done.len());
+        let entry = entry_at(heap, self.main, self.done.as_slice().len());
         match node_at(heap, entry) {
             Some(Node::Indirection { .. }) => {
                 work.swap.read.begin(entry);
@@ -210,13 +212,19 @@ impl Clean {
         ensures follows { IfOk result (λ next. (state : State) (hashes : HashKind) (path : List ARef) (s : ASwap) → GoesOn (clean_next (at_heap state heap.now.heap hashes) path self.old.main (self.old.done ++ entry ∷ [])) (clean_line path s None self.new) next) }
         ensures err { OnErr result (self.new ≡ self.old) }
         ensures only_memory { IfErr result (λ refusal. refusal ≡ Refusal.Memory) }
+        ensures taken { IfOk result (λ next. IsAskingRoot next → ⊥) }
     {
         self.done.push(entry)?;
         Ok(self.go_on(heap))
     }
 
     /// Takes a step of the entry's READ.
-    fn read_child(&mut self, work: &mut Work, heap: &mut Heap, root_seen: Option<u64>) -> Next<Cleaned>
+    fn read_child(
+        &mut self,
+        work: &mut Work,
+        heap: &mut Heap,
+        root_seen: Option<u64>,
+    ) -> Next<Cleaned>
         requires { CanReadOn heap.old.heap work.old.swap.read }
         ensures follows { (state : State) (operation : Operation) (path : List ARef) (task : ATask) → StepsOn (at_heap state heap.old.heap task.hashes) (for_task task work.old.swap.read.access operation) (line.Clean (clean.Child path self.old.main self.old.done (read_of work.old.swap.read root_seen))) (clean_line path work.new.swap None self.new) work.new.swap.read.at line_behind result }
         ensures acts { (state : State) (operation : Operation) (path : List ARef) → Acts heap.old work.old.private (line_action state operation (line.Clean (clean.Child path self.old.main self.old.done (read_of work.old.swap.read root_seen)))) heap.new work.new.private }
@@ -241,11 +249,8 @@ impl Clean {
         ensures only_memory { IfErr result (λ refusal. refusal ≡ Refusal.Memory) }
         ensures taken { IfOk result (λ next. IsAskingRoot next → ⊥) }
     {
-        let kept = match node_at(heap, child) {
-            Some(Node::Tomb { single }) => *single,
-            _ => entry_at(heap, self.main, self.done.len()),
-        };
-        self.put(heap, kept)
+        let entry = kept(heap, self.main, self.done.as_slice(), child);
+        self.put(heap, entry)
     }
 
     /// Makes the new main node.
@@ -293,10 +298,20 @@ impl Clean {
     }
 }
 
+/// What comes in the place of the next entry, an indirection with this main node: of a tomb its single.
+fn kept(heap: &Heap, main: Ref, done: &[Ref], child: Ref) -> Ref
+    ensures { (state : State) (hashes : HashKind) (path : List ARef) → clean_after_tomb (at_heap state heap.now.heap hashes) path main done.now (node_at heap.now.heap child) ≡ clean_next (at_heap state heap.now.heap hashes) path main (done.now ++ result ∷ []) }
+{
+    match node_at(heap, child) {
+        Some(Node::Tomb { single }) => *single,
+        _ => entry_at(heap, main, done.len()),
+    }
+}
+
 /// The new main node of a branch: below the root a tomb where one single alone is left, else the branch with
 /// these entries.
 fn cleaned_node(heap: &Heap, path: &[Ref], main: Ref, entries: &[Ref]) -> Node
-    ensures { (state : State) (hashes : HashKind) → result ≡ cleaned (at_heap state heap.now.heap hashes) path.now main entries.now }
+    ensures { result ≡ cleaned (at_heap no_state heap.now.heap Low) path.now main entries.now }
 {
     let may_entomb = is_below_root(path) && leaves_single(heap, entries);
     contracted(may_entomb, bitmap_at(heap, main), entries)
@@ -304,7 +319,7 @@ fn cleaned_node(heap: &Heap, path: &[Ref], main: Ref, entries: &[Ref]) -> Node
 
 /// Whether one single alone is left.
 fn leaves_single(heap: &Heap, entries: &[Ref]) -> bool
-    ensures { (state : State) (hashes : HashKind) → result ≡ leaves_single (at_heap state heap.now.heap hashes) entries.now }
+    ensures { result ≡ leaves_single (at_heap no_state heap.now.heap Low) entries.now }
 {
     match entries {
         [entry] => is_single_at(heap, *entry),

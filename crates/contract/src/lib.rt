@@ -12,7 +12,9 @@
 #![tactic(auto)]
 
 mod clean;
+mod entries;
 mod renew;
 
 pub use clean::{Clean, CleanAt, Cleaned};
+pub use entries::Entries;
 pub use renew::{Renew, RenewAt, Renewed};

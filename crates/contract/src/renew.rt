@@ -20,13 +20,13 @@ ghost use Rattle.trie_parts.specs.Tasks.{for_task};
 ghost use Rattle.trie_parts.specs.declared.calls.Task.{Task as ATask};
 ghost use Rattle.contract.specs.Renewing.{renew_line, next_of, line_behind, CanRenew, CanRenewAt};
 
+use crate::entries::Entries;
 use ctrie_base::{Kind, Refusal};
 use epochs::Heap;
 use gcas::Next;
 use slot_arena::{Node, Ref};
 use std::alloc::Global;
-use std::marker::Model;
-use trie_parts::{Task, Work, bitmap_at, current, entry_at, entry_count, keep, node_at, renewed};
+use trie_parts::{Task, Work, bitmap_at, current, entry_at, entry_count, node_at, renewed};
 
 /// Where a renewing stands.
 #[derive(Clone, Copy)]
@@ -62,16 +62,8 @@ pub struct Renew {
     /// The branch.
     main: Ref,
     /// Its new entries so far.
-    done: Vec<Ref>,
+    done: Entries,
     place: RenewAt,
-}
-
-impl Model for Renew {
-    ghost use Rattle.contract.specs.Renewing.{Renewing};
-
-    ghost Value = { Renewing };
-
-    ghost view = { λ r. record { main = r.main; done = r.done.items; place = r.place } };
 }
 
 impl Renew {
@@ -81,7 +73,7 @@ impl Renew {
     {
         Renew {
             main: Ref::default(),
-            done: Vec::new(alloc),
+            done: Entries::new(alloc),
             place: RenewAt::Entry,
         }
     }
@@ -121,7 +113,7 @@ impl Renew {
                 let child = *child;
                 self.link(work, heap, task, child)
             }
-            RenewAt::Branch => self.branch(work, heap, path),
+            RenewAt::Branch => self.make_branch(work, heap, path),
             RenewAt::Swap => Ok(self.swap(work, heap, root_seen)),
         }
     }
@@ -134,7 +126,7 @@ impl Renew {
         ensures only_memory { IfErr result (λ refusal. refusal ≡ Refusal.Memory) }
         ensures taken { IfOk result (λ next. IsAskingRoot next → ⊥) }
     {
-        let entry = entry_at(heap, self.main, self.done.len());
+        let entry = entry_at(heap, self.main, self.done.as_slice().len());
         match node_at(heap, entry) {
             Some(Node::Indirection { generation, .. }) if !task.is_start(*generation) => {
                 work.swap.read.begin(entry);
@@ -156,7 +148,7 @@ impl Renew {
         ensures only_memory { IfErr result (λ refusal. refusal ≡ Refusal.Memory) }
     {
         self.done.push(entry)?;
-        self.place = next(self.done.len(), entries);
+        self.place = next(self.done.as_slice().len(), entries);
         Ok(())
     }
 
@@ -196,24 +188,22 @@ impl Renew {
         ensures only_memory { IfErr result (λ refusal. refusal ≡ Refusal.Memory) }
         ensures taken { IfOk result (λ next. IsAskingRoot next → ⊥) }
     {
-        self.done.reserve(1)?;
         let entries = entry_count(heap, self.main);
         let node = Node::Indirection {
             generation: task.start(),
             main: child,
         };
-        match work.make(heap, node)? {
+        match self.done.make(work, heap, node)? {
             None => Ok(Next::Done(Kind::Make, Renewed::NoSlots)),
-            Some(made) => {
-                keep(&mut self.done, made);
-                self.place = next(self.done.len(), entries);
+            Some(_) => {
+                self.place = next(self.done.as_slice().len(), entries);
                 Ok(Next::More(Kind::Make))
             }
         }
     }
 
     /// Makes the branch.
-    fn branch(
+    fn make_branch(
         &mut self,
         work: &mut Work,
         heap: &mut Heap,
