@@ -1,2 +1,3 @@
-pub mod Renewing
 pub mod Cleaning
+pub mod Entries
+pub mod Renewing

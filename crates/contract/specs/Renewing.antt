@@ -17,16 +17,11 @@ use Rattle.gcas.specs.declared.swap.Swap.{Swap}
 use Rattle.gcas.specs.Reads.{read_of, CanReadOn}
 use Rattle.gcas.specs.Swaps.{swap_of, CanSwapOn}
 use Rattle.trie_parts.specs.Steps.{CanMake}
+use Rattle.contract.specs.declared.renew.Renew.{Renew}
 use Rattle.contract.specs.declared.renew.RenewAt.{RenewAt}
 use Rattle.contract.specs.declared.renew.RenewAt.TheVariants as at
 use Rattle.contract.specs.declared.renew.Renewed.{Renewed as Outcome}
 use Rattle.contract.specs.declared.renew.Renewed.TheVariants.{Renewed, Lost, NoSlots, Impossible}
-
--- the branch that is renewed, its new entries so far, and where the program stands
-pub record Renewing : Type 0 where
-  pub main : Ref
-  pub done : List Ref
-  pub place : RenewAt
 
 -- ---- where it stands
 
@@ -38,7 +33,7 @@ renew_line_at path s told main done at.Branch = line.Renew (renew.Branch path ma
 renew_line_at path s told main done at.Swap = line.Swap (purpose.Renew path) (swap_of s told)
 
 -- the definition's line of a renewing of the node at the end of this path, whose READ and SWAP were told this of the root's generation
-abbrev pub renew_line : List Ref → Swap → Option ℕ → Renewing → Line
+abbrev pub renew_line : List Ref → Swap → Option ℕ → Renew → Line
 renew_line path s told r = renew_line_at path s told r.main r.done r.place
 
 -- the line of the next entry behind those that are done, of a branch of so many; where all are done, that of the new branch
@@ -62,5 +57,5 @@ CanRenewAt heap s main done at.Branch = CanMake heap (renewed (bitmap_of (node_a
 CanRenewAt heap s main done at.Swap = CanSwapOn heap s
 
 -- what a READ or SWAP is going to change, and what the new node is to refer to, is in use, and of its kind
-abbrev pub CanRenew : Heap → Swap → Renewing → Type 0
+abbrev pub CanRenew : Heap → Swap → Renew → Type 0
 CanRenew heap s r = CanRenewAt heap s r.main r.done r.place

@@ -1,8 +1,7 @@
 //! RENEW: a branch gets indirections of the root's generation.
 
-ghost use Rattle.std.specs.Prelude.{◌≡◌, [], ◌∷◌, ◌++◌, nat_lt, List, length, None, IfOk, IfErr, OnOk, OnErr};
+ghost use Rattle.std.specs.Prelude.{◌≡◌, [], ◌∷◌, ◌++◌, List, length, None, IfOk, IfErr, OnOk, OnErr};
 ghost use Rattle.ctrie_base.specs.declared.hashes.HashKind.{HashKind};
-ghost use Rattle.slot_arena.specs.Heaps.{Heap as Store};
 ghost use Rattle.slot_arena.specs.declared.refs.Ref.{Ref as ARef};
 ghost use Rattle.machine_model.specs.Operations.{line_action};
 ghost use Rattle.machine_model.specs.Renewing.{renew_next};
@@ -11,7 +10,7 @@ ghost use Rattle.machine_model.specs.declared.lines.Line.TheVariants as line;
 ghost use Rattle.machine_model.specs.declared.lines.Purpose.TheVariants as purpose;
 ghost use Rattle.machine_model.specs.declared.operations.Operation.{Operation};
 ghost use Rattle.machine_model.specs.declared.repairs.RenewLine.TheVariants as renew;
-ghost use Rattle.gcas.specs.Reads.{read_of, CanReadOn};
+ghost use Rattle.gcas.specs.Reads.{read_of, CanReadOn, IsAskingRoot};
 ghost use Rattle.gcas.specs.Swaps.{swap_of, CanSwapOn};
 ghost use Rattle.gcas.specs.declared.swap.Swap.{Swap as ASwap};
 ghost use Rattle.trie_parts.specs.Here.{at_heap};
@@ -21,13 +20,13 @@ ghost use Rattle.trie_parts.specs.Tasks.{for_task};
 ghost use Rattle.trie_parts.specs.declared.calls.Task.{Task as ATask};
 ghost use Rattle.contract.specs.Renewing.{renew_line, next_of, line_behind, CanRenew, CanRenewAt};
 
+use crate::entries::Entries;
 use ctrie_base::{Kind, Refusal};
 use epochs::Heap;
 use gcas::Next;
 use slot_arena::{Node, Ref};
 use std::alloc::Global;
-use std::marker::Model;
-use trie_parts::{Task, Work, bitmap_at, current, entry_at, entry_count, keep, node_at, renewed};
+use trie_parts::{Task, Work, bitmap_at, current, entry_at, entry_count, node_at, renewed};
 
 /// Where a renewing stands.
 #[derive(Clone, Copy)]
@@ -63,16 +62,8 @@ pub struct Renew {
     /// The branch.
     main: Ref,
     /// Its new entries so far.
-    done: Vec<Ref>,
+    done: Entries,
     place: RenewAt,
-}
-
-impl Model for Renew {
-    ghost use Rattle.contract.specs.Renewing.{Renewing};
-
-    ghost Value = { Renewing };
-
-    ghost view = { λ r. record { main = r.main; done = r.done.items; place = r.place } };
 }
 
 impl Renew {
@@ -82,7 +73,7 @@ impl Renew {
     {
         Renew {
             main: Ref::default(),
-            done: Vec::new(alloc),
+            done: Entries::new(alloc),
             place: RenewAt::Entry,
         }
     }
@@ -113,6 +104,7 @@ impl Renew {
         ensures same { work.new.swap.read.access ≡ work.old.swap.read.access }
         ensures err { OnErr result ((self.new ≡ self.old) × (work.new ≡ work.old) × (heap.new ≡ heap.old)) }
         ensures only_memory { IfErr result (λ refusal. refusal ≡ Refusal.Memory) }
+        ensures asks { IfOk result (λ next. IsAskingRoot next → (self.new ≡ self.old) × (work.new ≡ work.old) × (heap.new ≡ heap.old)) }
     {
         match &self.place {
             RenewAt::Entry => self.look(work, heap, task),
@@ -121,7 +113,7 @@ impl Renew {
                 let child = *child;
                 self.link(work, heap, task, child)
             }
-            RenewAt::Branch => self.branch(work, heap, path),
+            RenewAt::Branch => self.make_branch(work, heap, path),
             RenewAt::Swap => Ok(self.swap(work, heap, root_seen)),
         }
     }
@@ -132,8 +124,9 @@ impl Renew {
         ensures same { (work.new.swap.read.access ≡ work.old.swap.read.access) × (work.new.private ≡ work.old.private) }
         ensures err { OnErr result ((self.new ≡ self.old) × (work.new ≡ work.old)) }
         ensures only_memory { IfErr result (λ refusal. refusal ≡ Refusal.Memory) }
+        ensures taken { IfOk result (λ next. IsAskingRoot next → ⊥) }
     {
-        let entry = entry_at(heap, self.main, self.done.len());
+        let entry = entry_at(heap, self.main, self.done.as_slice().len());
         match node_at(heap, entry) {
             Some(Node::Indirection { generation, .. }) if !task.is_start(*generation) => {
                 work.swap.read.begin(entry);
@@ -155,7 +148,7 @@ impl Renew {
         ensures only_memory { IfErr result (λ refusal. refusal ≡ Refusal.Memory) }
     {
         self.done.push(entry)?;
-        self.place = next(self.done.len(), entries);
+        self.place = next(self.done.as_slice().len(), entries);
         Ok(())
     }
 
@@ -165,6 +158,7 @@ impl Renew {
         ensures follows { (state : State) (operation : Operation) (path : List ARef) (task : ATask) → StepsOn (at_heap state heap.old.heap task.hashes) (for_task task work.old.swap.read.access operation) (line.Renew (renew.Read path self.old.main self.old.done (read_of work.old.swap.read root_seen))) (renew_line path work.new.swap None self.new) work.new.swap.read.at (line_behind path) result }
         ensures acts { (state : State) (operation : Operation) (path : List ARef) → Acts heap.old work.old.private (line_action state operation (line.Renew (renew.Read path self.old.main self.old.done (read_of work.old.swap.read root_seen)))) heap.new work.new.private }
         ensures same { work.new.swap.read.access ≡ work.old.swap.read.access }
+        ensures asks { IsAskingRoot result → (self.new ≡ record self.old { place = RenewAt.Read }) × (work.new ≡ work.old) × (heap.new ≡ heap.old) }
     {
         self.place = RenewAt::Read;
         match work.read(heap, root_seen) {
@@ -192,25 +186,24 @@ impl Renew {
         ensures same { work.new.swap.read.access ≡ work.old.swap.read.access }
         ensures err { OnErr result ((self.new ≡ self.old) × (work.new ≡ work.old) × (heap.new ≡ heap.old)) }
         ensures only_memory { IfErr result (λ refusal. refusal ≡ Refusal.Memory) }
+        ensures taken { IfOk result (λ next. IsAskingRoot next → ⊥) }
     {
-        self.done.reserve(1)?;
         let entries = entry_count(heap, self.main);
         let node = Node::Indirection {
             generation: task.start(),
             main: child,
         };
-        match work.make(heap, node)? {
+        match self.done.make(work, heap, node)? {
             None => Ok(Next::Done(Kind::Make, Renewed::NoSlots)),
-            Some(made) => {
-                keep(&mut self.done, made);
-                self.place = next(self.done.len(), entries);
+            Some(_) => {
+                self.place = next(self.done.as_slice().len(), entries);
                 Ok(Next::More(Kind::Make))
             }
         }
     }
 
     /// Makes the branch.
-    fn branch(
+    fn make_branch(
         &mut self,
         work: &mut Work,
         heap: &mut Heap,
@@ -223,6 +216,7 @@ impl Renew {
         ensures same { work.new.swap.read.access ≡ work.old.swap.read.access }
         ensures err { OnErr result ((self.new ≡ self.old) × (work.new ≡ work.old) × (heap.new ≡ heap.old)) }
         ensures only_memory { IfErr result (λ refusal. refusal ≡ Refusal.Memory) }
+        ensures taken { IfOk result (λ next. IsAskingRoot next → ⊥) }
     {
         let node = renewed(bitmap_at(heap, self.main), self.done.as_slice());
         match work.make(heap, node)? {
@@ -242,6 +236,7 @@ impl Renew {
         ensures follows { (state : State) (operation : Operation) (path : List ARef) (task : ATask) → StepsOn (at_heap state heap.old.heap task.hashes) (for_task task work.old.swap.read.access operation) (line.Swap (purpose.Renew path) (swap_of work.old.swap root_seen)) (renew_line path work.new.swap None self.new) work.new.swap.read.at (line_behind path) result }
         ensures acts { (state : State) (operation : Operation) (path : List ARef) → Acts heap.old work.old.private (line_action state operation (line.Swap (purpose.Renew path) (swap_of work.old.swap root_seen))) heap.new work.new.private }
         ensures same { work.new.swap.read.access ≡ work.old.swap.read.access }
+        ensures asks { IsAskingRoot result → (self.new ≡ record self.old { place = RenewAt.Swap }) × (work.new ≡ work.old) × (heap.new ≡ heap.old) }
     {
         self.place = RenewAt::Swap;
         match work.swap(heap, root_seen) {

@@ -14,6 +14,7 @@ ghost use Rattle.ctrie_base.specs.declared.hashes.HashKind.{HashKind};
 ghost use Rattle.slot_arena.specs.declared.refs.Ref.{Ref as ARef};
 ghost use Rattle.gcas.specs.declared.read.ReadAt.{ReadAt};
 ghost use Rattle.gcas.specs.declared.swap.Swap.{Swap as ASwap};
+ghost use Rattle.gcas.specs.Reads.{IsAskingRoot};
 ghost use Rattle.gcas.specs.Swaps.{swap_of, CanSwapOn};
 ghost use Rattle.trie_parts.specs.declared.calls.Task.{Task as ATask};
 ghost use Rattle.trie_parts.specs.Here.{at_heap};
@@ -81,6 +82,7 @@ impl Change {
         ensures same { (self.new.main ≡ self.old.main) × (work.new.swap.read.access ≡ work.old.swap.read.access) }
         ensures err { OnErr result ((self.new ≡ self.old) × (work.new ≡ work.old) × (heap.new ≡ heap.old)) }
         ensures only_memory { IfErr result (λ refusal. refusal ≡ Refusal.Memory) }
+        ensures asks { IfOk result (λ next. IsAskingRoot next → (self.new ≡ self.old) × (work.new ≡ work.old) × (heap.new ≡ heap.old)) }
     {
         match &self.at {
             ChangeAt::Sibling { position, former } => {
@@ -102,6 +104,7 @@ impl Change {
     fn look(&mut self, heap: &Heap, position: usize, former: u64) -> Next<Tried>
         ensures follows { (state : State) (operation : Operation) (hashes : HashKind) (path : List ARef) (s : ASwap) (fresh : ARef) (place : ReadAt) → ChangesOn (at_heap state heap.now.heap hashes) operation path fresh (line.Key (key.Sibling path self.old.main position former)) (line_of path s None self.new) place result }
         ensures same { self.new.main ≡ self.old.main }
+        ensures taken { IsAskingRoot result → ⊥ }
     {
         let other = entry_at(heap, self.main, 1usize.saturating_sub(position));
         let change = match node_at(heap, other) {
@@ -132,6 +135,7 @@ impl Change {
         ensures same { (self.new.main ≡ self.old.main) × (work.new.swap.read.access ≡ work.old.swap.read.access) }
         ensures err { OnErr result ((self.new ≡ self.old) × (work.new ≡ work.old) × (heap.new ≡ heap.old)) }
         ensures only_memory { IfErr result (λ refusal. refusal ≡ Refusal.Memory) }
+        ensures taken { IfOk result (λ next. IsAskingRoot next → ⊥) }
     {
         let depth = depth_ahead(heap, task, path, self.main, building);
         let node = built(heap, task, path, self.main, building);
@@ -193,6 +197,7 @@ impl Change {
         ensures follows { (state : State) (operation : Operation) (path : List ARef) (hashes : HashKind) (task : ATask) → ChangesOn (at_heap state heap.old.heap hashes) (for_task task work.old.swap.read.access operation) path work.old.swap.fresh (line.Swap (purpose.Update path former) (swap_of work.old.swap root_seen)) (line_of path work.new.swap None self.new) work.new.swap.read.at result }
         ensures acts { Acts heap.old work.old.private (swap_action (swap_of work.old.swap root_seen)) heap.new work.new.private }
         ensures same { (self.new.main ≡ self.old.main) × (work.new.swap.read.access ≡ work.old.swap.read.access) }
+        ensures asks { IsAskingRoot result → (self.new ≡ record self.old { at = ChangeAt.Swap former }) × (work.new ≡ work.old) × (heap.new ≡ heap.old) }
     {
         self.at = ChangeAt::Swap { former };
         match work.swap(heap, root_seen) {

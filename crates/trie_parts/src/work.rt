@@ -12,7 +12,7 @@ ghost use Rattle.machine_model.specs.States.{State};
 ghost use Rattle.machine_model.specs.Reading.{read_action};
 ghost use Rattle.machine_model.specs.Swapping.{swap_action};
 ghost use Rattle.gcas.specs.Acted.{acted_heap};
-ghost use Rattle.gcas.specs.Reads.{CanReadOn, line_of, read_of};
+ghost use Rattle.gcas.specs.Reads.{CanReadOn, IsAskingRoot, line_of, read_of};
 ghost use Rattle.gcas.specs.Swaps.{swap_of, SwapsOn, CanSwapOn};
 ghost use Rattle.trie_parts.specs.Holding.{Acts, AreHeld, KeepsOthers};
 ghost use Rattle.trie_parts.specs.Steps.{CanMake, ReadsInside};
@@ -38,6 +38,7 @@ impl Work {
         ensures follows { ReadsInside heap.old.heap self.old.swap.read.access (read_of self.old.swap.read root_seen) self.new.swap.read result }
         ensures same { self.new ≡ record self.old { swap = record self.old.swap { read = record self.old.swap.read { at = self.new.swap.read.at } } } }
         ensures acts { Acts heap.old self.old.private (read_action self.old.swap.read.indirection (line_of self.old.swap.read root_seen)) heap.new self.new.private }
+        ensures asks { IsAskingRoot result → (self.new ≡ self.old) × (heap.new ≡ heap.old) }
     {
         self.swap.read.step(heap, root_seen)
     }
@@ -65,6 +66,7 @@ impl Work {
         ensures follows { SwapsOn heap.old.heap self.old.swap.read.access (swap_of self.old.swap root_seen) self.new.swap result }
         ensures same { self.new.swap ≡ record self.old.swap { read = record self.old.swap.read { at = self.new.swap.read.at }; at = self.new.swap.at } }
         ensures acts { Acts heap.old self.old.private (swap_action (swap_of self.old.swap root_seen)) heap.new self.new.private }
+        ensures asks { IsAskingRoot result → (self.new ≡ self.old) × (heap.new ≡ heap.old) }
     {
         self.step_swap(heap, root_seen)
     }
@@ -83,6 +85,7 @@ impl Work {
         ensures remarks { KeepsRemarks heap.old heap.new }
         ensures few { length heap.new.noted ≤ length heap.old.noted + (2 + length self.old.private) }
         ensures ticks { TakesUpTo (2 + length self.old.private) heap.old.ticks heap.new.ticks }
+        ensures asks { IsAskingRoot result → (self.new ≡ self.old) × (heap.new ≡ heap.old) }
     {
         let is_first = matches!(&self.swap.at, SwapAt::Publish);
         let next = self.swap.step(heap, root_seen);
