@@ -1,5 +1,5 @@
 -- The making of nodes for the swap of a root, case by case.
-use Rattle.std.specs.Prelude.{◌≡◌, ℕ, Option, Some, None, refl}
+use Rattle.std.specs.Prelude.{◌≡◌, ℕ, Some, refl}
 use Rattle.std.proofs.Common.{sym, ap, ◌∙◌}
 use Rattle.ctrie_base.specs.declared.kinds.Kind.TheVariants as kind
 use Rattle.slot_arena.specs.declared.refs.Ref.{Ref}

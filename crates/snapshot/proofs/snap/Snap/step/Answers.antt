@@ -11,11 +11,11 @@ returns-in-Root-clause-follows c =
 pub returns-in-Root-clause-acts : goal.returns-in-Root-clause-acts
 returns-in-Root-clause-acts c =
     rw c.in-Root.is (
-      of_root
-      c.args.generations.now
-      (root_of c.in-Root.root c.args.work.now.swap.read c.args.root_seen)
-      c.find_root.ensures.same.1
-      (c.find_root.ensures.acts c.args.work.now.private)
+    of_root
+    c.args.generations.now
+    (root_of c.in-Root.root c.args.work.now.swap.read c.args.root_seen)
+    c.find_root.ensures.same.1
+    (c.find_root.ensures.acts c.args.work.now.private)
     )
 
 pub returns-in-Read-clause-follows : goal.returns-in-Read-clause-follows
@@ -41,11 +41,11 @@ returns-in-Complete-clause-follows c = λ state operation. rw c.in-Complete.is (
 pub returns-in-Complete-clause-acts : goal.returns-in-Complete-clause-acts
 returns-in-Complete-clause-acts c =
     rw c.in-Complete.is (
-      of_complete
-      c.args.generations.now
-      (complete_of c.in-Complete.complete c.args.work.now.swap.read c.args.root_seen)
-      c.complete.ensures.same.2
-      (c.complete.ensures.acts c.args.work.now.private)
+    of_complete
+    c.args.generations.now
+    (complete_of c.in-Complete.complete c.args.work.now.swap.read c.args.root_seen)
+    c.complete.ensures.same.2
+    (c.complete.ensures.acts c.args.work.now.private)
     )
 
 pub returns-in-Root-clause-generation : goal.returns-in-Root-clause-generation
