@@ -20,6 +20,7 @@ mod read;
 mod swap;
 
 pub use laws::acts_on_heap;
+pub use looks::generation_at;
 pub use next::Next;
 pub use read::{Read, ReadAt};
 pub use swap::{Swap, SwapAt};

@@ -19,7 +19,7 @@ pub(crate) fn main_at(heap: &Heap, at: Ref) -> Ref
 
 /// The generation of an indirection; 0 where none stands there.
 #[tactic(auto, using(crate::proofs::Stored::node_is, crate::proofs::Stored::nothing_is))]
-pub(crate) fn generation_at(heap: &Heap, at: Ref) -> u64
+pub fn generation_at(heap: &Heap, at: Ref) -> u64
     ensures { result ≡ generation_at heap.now.heap at }
 {
     match heap.stored_node(at) {

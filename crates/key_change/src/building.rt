@@ -27,7 +27,10 @@ use trie_parts::{Task, changed_at, entry_at, key_at, pair, parting, rung};
 #[derive(Clone, Copy)]
 pub enum Building {
     /// Makes the new single.
-    Single { site: Site, former: Option<u64> },
+    Single {
+        site: Site,
+        former: Option<u64>,
+    },
     /// Makes the main node of the two singles, at the depth where their paths part or below all levels.
     Pair {
         position: usize,
@@ -54,8 +57,8 @@ pub enum Building {
 }
 
 /// The node that is made at the end of this path, for a change of this main node.
-pub(crate) fn built(heap: &Heap, task: Task, path: &[Ref], main: Ref, building: Building) -> Node
-    ensures { result ≡ built heap.now.heap task (build_line path.now main building) }
+pub(crate) fn built(heap: &Heap, task: Task, path: &[Ref], main: Ref, building: &Building) -> Node
+    ensures { result ≡ built heap.now.heap task (build_line path.now main building.now) }
 {
     match building {
         Building::Single { .. } => Node::Single {
@@ -66,13 +69,13 @@ pub(crate) fn built(heap: &Heap, task: Task, path: &[Ref], main: Ref, building: 
             position,
             single,
             depth,
-        } => beside(heap, task, entry_at(heap, main, position), depth, single),
+        } => beside(heap, task, entry_at(heap, main, *position), *depth, *single),
         Building::Link { below, .. } => Node::Indirection {
             generation: task.start(),
-            main: below,
+            main: *below,
         },
-        Building::Rung { below, depth, .. } => rung(task.hash(), depth, below),
-        Building::Main { change, .. } => changed_at(heap, main, task.flag_at(path), change),
+        Building::Rung { below, depth, .. } => rung(task.hash(), *depth, *below),
+        Building::Main { change, .. } => changed_at(heap, main, task.flag_at(path), *change),
     }
 }
 
@@ -97,16 +100,16 @@ pub(crate) fn depth_ahead(
     task: Task,
     path: &[Ref],
     main: Ref,
-    building: Building,
+    building: &Building,
 ) -> usize
-    ensures { (state : State) (operation : Operation) (access : Access) → result ≡ depth_for (at_heap state heap.now.heap task.hashes) (for_task task access operation) (build_line path.now main building) }
+    ensures { (state : State) (operation : Operation) (access : Access) → result ≡ depth_for (at_heap state heap.now.heap task.hashes) (for_task task access operation) (build_line path.now main building.now) }
 {
     match building {
         Building::Single {
             site: Site::Beside { position },
             ..
         } => {
-            let old_hash = hash_at(heap, task, entry_at(heap, main, position));
+            let old_hash = hash_at(heap, task, entry_at(heap, main, *position));
             parting(
                 old_hash,
                 task.hash(),
@@ -126,12 +129,7 @@ fn depth_below(path: &[Ref]) -> usize
 }
 
 /// After the new single: the main node with it, or that of the two singles, which part at this depth.
-pub(crate) fn after_single(
-    site: Site,
-    former: Option<u64>,
-    depth: usize,
-    made: Ref,
-) -> Building
+pub(crate) fn after_single(site: Site, former: Option<u64>, depth: usize, made: Ref) -> Building
     ensures { (state : State) (operation : Operation) (path : List ARef) (main : ARef) → depth ≡ depth_for state operation (build.Single path main site former) → line.Build (build_line path main result) ≡ after_single state operation path main former site made }
 {
     match site {

@@ -1,6 +1,6 @@
 //! A try, step by step.
 
-ghost use Rattle.std.specs.Prelude.{◌≡◌, List, None, IfOk, IfErr, OnOk, OnErr};
+ghost use Rattle.std.specs.Prelude.{◌≡◌, ◌+◌, ◌<◌, ◌^◌, List, None, IfOk, IfErr, OnOk, OnErr};
 ghost use Rattle.machine_model.specs.declared.operations.Operation.{Operation};
 ghost use Rattle.machine_model.specs.declared.lines.Line.TheVariants as line;
 ghost use Rattle.machine_model.specs.Building.{build_after_made};
@@ -14,6 +14,7 @@ ghost use Rattle.ctrie_base.specs.declared.hashes.HashKind.{HashKind};
 ghost use Rattle.slot_arena.specs.declared.refs.Ref.{Ref as ARef};
 ghost use Rattle.gcas.specs.declared.read.ReadAt.{ReadAt};
 ghost use Rattle.gcas.specs.declared.swap.Swap.{Swap as ASwap};
+ghost use Rattle.gcas.specs.Reads.{IsAskingRoot};
 ghost use Rattle.gcas.specs.Swaps.{swap_of, CanSwapOn};
 ghost use Rattle.trie_parts.specs.declared.calls.Task.{Task as ATask};
 ghost use Rattle.trie_parts.specs.Here.{at_heap};
@@ -81,6 +82,7 @@ impl Change {
         ensures same { (self.new.main ≡ self.old.main) × (work.new.swap.read.access ≡ work.old.swap.read.access) }
         ensures err { OnErr result ((self.new ≡ self.old) × (work.new ≡ work.old) × (heap.new ≡ heap.old)) }
         ensures only_memory { IfErr result (λ refusal. refusal ≡ Refusal.Memory) }
+        ensures asks { IfOk result (λ next. IsAskingRoot next → (self.new ≡ self.old) × (work.new ≡ work.old) × (heap.new ≡ heap.old)) }
     {
         match &self.at {
             ChangeAt::Sibling { position, former } => {
@@ -89,7 +91,7 @@ impl Change {
             }
             ChangeAt::Build(building) => {
                 let building = *building;
-                self.make(work, heap, task, path, building)
+                self.make(work, heap, task, path, &building)
             }
             ChangeAt::Swap { former } => {
                 let former = *former;
@@ -102,6 +104,7 @@ impl Change {
     fn look(&mut self, heap: &Heap, position: usize, former: u64) -> Next<Tried>
         ensures follows { (state : State) (operation : Operation) (hashes : HashKind) (path : List ARef) (s : ASwap) (fresh : ARef) (place : ReadAt) → ChangesOn (at_heap state heap.now.heap hashes) operation path fresh (line.Key (key.Sibling path self.old.main position former)) (line_of path s None self.new) place result }
         ensures same { self.new.main ≡ self.old.main }
+        ensures taken { IsAskingRoot result → ⊥ }
     {
         let other = entry_at(heap, self.main, 1usize.saturating_sub(position));
         let change = match node_at(heap, other) {
@@ -123,19 +126,20 @@ impl Change {
         heap: &mut Heap,
         task: Task,
         path: &[Ref],
-        building: Building,
+        building: &Building,
     ) -> Result<Next<Tried>, Refusal>
-        requires can { CanChangeAt heap.old.heap task path.now work.old.swap self.old.main (ChangeAt.Build building) }
+        requires can { CanChangeAt heap.old.heap task path.now work.old.swap self.old.main (ChangeAt.Build building.now) }
         requires held { AreHeld work.old.private heap.old }
-        ensures follows { IfOk result (λ next. (state : State) (operation : Operation) → ChangesOn (at_heap state heap.old.heap task.hashes) (for_task task work.old.swap.read.access operation) path.now work.old.swap.fresh (line.Build (build_line path.now self.old.main building)) (line_of path.now work.new.swap None self.new) work.new.swap.read.at next) }
-        ensures acts { OnOk result (Acts heap.old work.old.private (act.Make (built heap.old.heap task (build_line path.now self.old.main building))) heap.new work.new.private) }
+        ensures follows { IfOk result (λ next. (state : State) (operation : Operation) → ChangesOn (at_heap state heap.old.heap task.hashes) (for_task task work.old.swap.read.access operation) path.now work.old.swap.fresh (line.Build (build_line path.now self.old.main building.now)) (line_of path.now work.new.swap None self.new) work.new.swap.read.at next) }
+        ensures acts { OnOk result (Acts heap.old work.old.private (act.Make (built heap.old.heap task (build_line path.now self.old.main building.now))) heap.new work.new.private) }
         ensures same { (self.new.main ≡ self.old.main) × (work.new.swap.read.access ≡ work.old.swap.read.access) }
         ensures err { OnErr result ((self.new ≡ self.old) × (work.new ≡ work.old) × (heap.new ≡ heap.old)) }
         ensures only_memory { IfErr result (λ refusal. refusal ≡ Refusal.Memory) }
+        ensures taken { IfOk result (λ next. IsAskingRoot next → ⊥) }
     {
         let depth = depth_ahead(heap, task, path, self.main, building);
         let node = built(heap, task, path, self.main, building);
-        match work.private.make(heap, node)? {
+        match work.make(heap, node)? {
             None => Ok(Next::Done(Kind::Make, Tried::NoSlots)),
             Some(made) => {
                 self.go_on(work, path, building, depth, made);
@@ -145,38 +149,37 @@ impl Change {
     }
 
     /// Stands on the line behind the making of a node; two singles part at this depth.
-    fn go_on(
-        &mut self,
-        work: &mut Work,
-        path: &[Ref],
-        building: Building,
-        depth: usize,
-        made: Ref,
-    )
-        ensures follows { (state : State) (operation : Operation) → depth ≡ depth_for state operation (build_line path.now self.old.main building) → line_of path.now work.new.swap None self.new ≡ build_after_made state operation (build_line path.now self.old.main building) made }
+    fn go_on(&mut self, work: &mut Work, path: &[Ref], building: &Building, depth: usize, made: Ref)
+        ensures follows { (state : State) (operation : Operation) → depth ≡ depth_for state operation (build_line path.now self.old.main building.now) → line_of path.now work.new.swap None self.new ≡ build_after_made state operation (build_line path.now self.old.main building.now) made }
         ensures same { (self.new.main ≡ self.old.main) × (work.new.swap.read.access ≡ work.old.swap.read.access) }
         ensures private { work.new.private ≡ work.old.private }
     {
         self.at = match building {
             Building::Single { site, former } => {
-                ChangeAt::Build(after_single(site, former, depth, made))
+                ChangeAt::Build(after_single(*site, *former, depth, made))
             }
             Building::Pair {
-                position, depth, ..
+                position,
+                depth,
+                ..
             }
             | Building::Rung {
-                position, depth, ..
-            } => ChangeAt::Build(Building::Link {
                 position,
-                below: made,
                 depth,
+                ..
+            } => ChangeAt::Build(Building::Link {
+                position: *position,
+                below: made,
+                depth: *depth,
             }),
             Building::Link {
-                position, depth, ..
-            } => ChangeAt::Build(after_link(path, position, depth, made)),
+                position,
+                depth,
+                ..
+            } => ChangeAt::Build(after_link(path, *position, *depth, made)),
             Building::Main { former, .. } => {
                 work.swap.begin(current(path), self.main, made);
-                ChangeAt::Swap { former }
+                ChangeAt::Swap { former: *former }
             }
         };
     }
@@ -194,6 +197,7 @@ impl Change {
         ensures follows { (state : State) (operation : Operation) (path : List ARef) (hashes : HashKind) (task : ATask) → ChangesOn (at_heap state heap.old.heap hashes) (for_task task work.old.swap.read.access operation) path work.old.swap.fresh (line.Swap (purpose.Update path former) (swap_of work.old.swap root_seen)) (line_of path work.new.swap None self.new) work.new.swap.read.at result }
         ensures acts { Acts heap.old work.old.private (swap_action (swap_of work.old.swap root_seen)) heap.new work.new.private }
         ensures same { (self.new.main ≡ self.old.main) × (work.new.swap.read.access ≡ work.old.swap.read.access) }
+        ensures asks { IsAskingRoot result → (self.new ≡ record self.old { at = ChangeAt.Swap former }) × (work.new ≡ work.old) × (heap.new ≡ heap.old) }
     {
         self.at = ChangeAt::Swap { former };
         match work.swap(heap, root_seen) {

@@ -5,7 +5,7 @@ use Rattle.std.proofs.lemmas.List.Elements.{All-get_or}
 use Rattle.slot_arena.specs.declared.refs.Ref.{Ref}
 use Rattle.slot_arena.specs.Heaps.{Heap}
 use Rattle.slot_arena.specs.Arenas.{is_live, IsLive, AreLive}
-use Rattle.epochs.specs.Memories.{Memory, KeepsEpochs, KeepsRemarks}
+use Rattle.epochs.specs.Memories.{Memory}
 use Rattle.rdcss_root.specs.Holds.{KeepsMemory}
 
 pub kept : (m : Memory) → KeepsMemory m m 0

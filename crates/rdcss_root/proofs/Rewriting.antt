@@ -1,7 +1,7 @@
 -- What is held, where one root word gives way to another.
-use Rattle.std.specs.Prelude.{◌≡◌, ℕ, ◌+◌, ◌*◌, ◌<◌, ◌≤◌, List, [], ◌∷◌, ◌++◌, length, flat_map, slice_set, slice_index_or, Option, Some, None}
+use Rattle.std.specs.Prelude.{◌≡◌, ℕ, ◌+◌, ◌*◌, ◌<◌, ◌≤◌, List, [], ◌∷◌, length, flat_map, slice_set, slice_index_or, Option, Some, None}
 use Rattle.std.specs.List.{sum_by}
-use Rattle.std.proofs.Common.{arith, rules, ◌∙◌, refl, ap}
+use Rattle.std.proofs.Common.{arith, rules, ◌∙◌, refl, sym, ap, subst}
 use Rattle.std.proofs.lemmas.List.{set_past}
 use Rattle.std.proofs.lemmas.List.Concat.{flat_map-cons}
 use Rattle.std.proofs.lemmas.List.Sums.{sum_by-set, sum_by-cons}
@@ -14,11 +14,10 @@ use Rattle.epochs.specs.Memories.{Memory}
 use Rattle.machine_model.specs.declared.roots.Root.{Root}
 use Rattle.machine_model.specs.declared.roots.RootWord.{RootWord}
 use Rattle.machine_model.specs.declared.roots.RootWord.TheVariants.{Plain, Offer}
-use Rattle.machine_model.specs.declared.roots.Descriptor.{Descriptor}
 use Rattle.machine_model.specs.Counting.{refs_of_root, refs_of_word}
 use Rattle.machine_model.specs.States.{rewritten}
 use Rattle.trie_parts.specs.Holding.{AreHeld}
-use Rattle.rdcss_root.specs.Holds.{Holds, Releases, root_refs, IsReady, Moves}
+use Rattle.rdcss_root.specs.Holds.{Holds, Releases, IsReady, Moves}
 use Rattle.rdcss_root.proofs.Keeping.{kept, kept_on}
 
 times_flat : {X : Type 0} (r : Ref) (f : X → List Ref) (xs : List X) → times r (flat_map f xs) ≡ sum_by (λ x. times r (f x)) xs
@@ -50,13 +49,18 @@ pub found_held : {before held : Memory} {n : ℕ} (roots : List (Option Root)) (
     Holds (refs_of_root root) before held → AreHeld (refs_of_root (slice_index_or roots i None)) held
 found_held roots i root within ready holds = λ r. omega (arith, times_set r refs_of_root roots i None None within, ready.held r, holds.outside r)
 
-pub moved : {before held after : Memory} (roots : List (Option Root)) (i : ℕ) (root : Option Root) → i < length roots →
+set_once : {before held after : Memory} (roots : List (Option Root)) (i : ℕ) (root : Option Root) → i < length roots →
     Holds (refs_of_root root) before held → Releases (refs_of_root (slice_index_or roots i None)) held after → Moves before after roots (slice_set roots i root) 4
-moved roots i root within holds releases = record {
+set_once roots i root within holds releases = record {
   outside = λ r. omega (arith, times_set r refs_of_root roots i root None within, holds.outside r, releases.outside r);
   more = λ r. omega (arith, holds.outside r, releases.outside r, times_le r (refs_of_root root), few_of_root root);
   keeps = kept_on 8 holds.keeps releases.keeps (omega (arith, few_of_root root, few_of_root (slice_index_or roots i None)));
 }
+
+pub moved : {before held after : Memory} (roots now : List (Option Root)) (i : ℕ) (root : Option Root) → i < length roots → now ≡ slice_set roots i root →
+    Holds (refs_of_root root) before held → Releases (refs_of_root (slice_index_or roots i None)) held after → Moves before after roots now 4
+moved {before} {held} {after} roots now i root within set holds releases =
+    subst (λ xs. Moves before after roots xs 4) (sym set) (set_once roots i root within holds releases)
 
 pub unmoved : (m : Memory) (roots : List (Option Root)) (n : ℕ) → Moves m m roots roots n
 unmoved m roots n = record { outside = λ r. refl; more = λ r. omega arith; keeps = kept_on (2 * n) (kept m) (kept m) (omega arith) }
@@ -68,3 +72,21 @@ live_rewritten heap word (Some root) live = live
 -- a write behind the end changes nothing
 pub unwritten : {X : Type 0} (xs : List X) (i : ℕ) (y : X) → length xs ≤ i → slice_set xs i y ≡ xs
 unwritten xs i y past = set_past xs i y past
+
+-- ---- two words, one behind the other
+
+pub ready_less : {m : Memory} {roots : List (Option Root)} → IsReady m roots 8 → IsReady m roots 4
+ready_less ready = record { held = ready.held; room = λ r. omega (arith, ready.room r) }
+
+pub ready_on : {before after : Memory} {roots now : List (Option Root)} → IsReady before roots 8 → Moves before after roots now 4 → IsReady after now 4
+ready_on ready moves = record { held = λ r. omega (arith, ready.held r, moves.outside r); room = λ r. omega (arith, ready.room r, moves.more r) }
+
+pub moves_more : {before after : Memory} {roots now : List (Option Root)} → Moves before after roots now 4 → Moves before after roots now 8
+moves_more {before} {after} moves = record { outside = moves.outside; more = λ r. omega (arith, moves.more r); keeps = kept_on 16 moves.keeps (kept after) (omega arith) }
+
+pub moves_on : {a b c : Memory} {xs ys zs : List (Option Root)} → Moves a b xs ys 4 → Moves b c ys zs 4 → Moves a c xs zs 8
+moves_on first second = record {
+  outside = λ r. omega (arith, first.outside r, second.outside r);
+  more = λ r. omega (arith, first.more r, second.more r);
+  keeps = kept_on 16 first.keeps second.keeps (omega arith);
+}

@@ -1,6 +1,5 @@
 -- COMPLETE, ROOT and ABORT of the code as the definition's, and what a step of them comes to.
 use Rattle.std.specs.Prelude.{◌≡◌, ℕ, Bool, [], ◌∷◌, List, Option, Some, None}
-use Rattle.history.specs.declared.calls.Access.{Access}
 use Rattle.history.specs.declared.calls.Access.TheVariants.{Writable}
 use Rattle.slot_arena.specs.declared.refs.Ref.{Ref}
 use Rattle.slot_arena.specs.Heaps.{Heap}
@@ -63,7 +62,7 @@ CompletesOn heap word before after r (More k) =
 CompletesOn heap word before after r AskRoot = IsAskingIn before.line
 CompletesOn heap word before after r (Done k done) =
     (kind_of (complete_action before) ≡ k) × (complete_after heap r.access word before ≡ Gives done)
-    × (completing_read before.offer before.line ≡ None)
+    × ReadsAlong heap r.access (completing_read before.offer before.line) k r.at
 
 -- what it asks of the heap and of the root words: its offer's references are in use, and what is held can be counted
 abbrev pub CanCompleteAt : Memory → Table → Descriptor → CompleteAt → Read → Type 0
@@ -97,10 +96,10 @@ IsAskingRooting (root.Completing c) = IsAskingIn c.line
 -- what a ROOT of the definition comes to by its step, behind which the code's ROOT and its READ stand as `after` and `r` do
 abbrev pub RootsOn : Heap → RootWord → RootLine → ReadRoot → Read → Next Ref → Type 0
 RootsOn heap word before after r (More k) =
-    (kind_of (root_action before) ≡ k) × (root_after heap r.access word before ≡ Goes (root_of after r None))
+    (kind_of (root_action before) ≡ k) × (root_after heap r.access word before ≡ Goes (root_of after r None)) × ReadsAlong heap r.access (rooting_read before) k r.at
 RootsOn heap word before after r AskRoot = IsAskingRooting before
 RootsOn heap word before after r (Done k given) =
-    (kind_of (root_action before) ≡ k) × (root_after heap r.access word before ≡ Gives given)
+    (kind_of (root_action before) ≡ k) × (root_after heap r.access word before ≡ Gives given) × (before ≡ root.Read)
 
 abbrev pub CanRootOn : Memory → Table → ReadRoot → Read → Type 0
 CanRootOn memory table rooting.Read r = Unit {0}

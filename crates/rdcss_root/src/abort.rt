@@ -9,9 +9,8 @@ ghost use Rattle.rdcss_root.specs.Programs.{AbortsOn, CanAbortOn, table_after_ab
 use crate::roots::Roots;
 use ctrie_base::Kind;
 use epochs::Heap;
-use gcas::Next;
+use gcas::{Next, generation_at};
 use machine_model::{Descriptor, RootWord};
-use trie_parts::generation_at;
 
 /// An ABORT of a READ that wants the generation of the root.
 #[derive(Clone, Copy)]
@@ -34,7 +33,7 @@ impl AbortRead {
             AbortRead::Read => self.read(roots, handle, heap),
             AbortRead::Swap(offer) => {
                 let offer = *offer;
-                roots.take_back(heap, handle, offer);
+                roots.take_back(heap, handle, &offer);
                 *self = AbortRead::Read;
                 Next::More(Kind::SwapRoot)
             }

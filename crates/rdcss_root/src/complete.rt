@@ -1,6 +1,7 @@
 //! COMPLETE: brings an offer to its end.
 
-ghost use Rattle.std.specs.Prelude.{◌≡◌, None};
+ghost use Rattle.std.specs.Prelude.{◌≡◌, None, List};
+ghost use Rattle.slot_arena.specs.declared.refs.Ref.{Ref as ARef};
 ghost use Rattle.slot_arena.specs.Arenas.{AreLive};
 ghost use Rattle.machine_model.specs.declared.roots.RootWord.{RootWord};
 ghost use Rattle.machine_model.specs.declared.roots.RootWord.TheVariants.{Offer};
@@ -8,7 +9,8 @@ ghost use Rattle.machine_model.specs.Counting.{refs_of_word};
 ghost use Rattle.machine_model.specs.Swapping.{complete_action, is_carried_out};
 ghost use Rattle.gcas.specs.Acted.{acted_heap};
 ghost use Rattle.gcas.specs.Kept.{KeepsBeside};
-ghost use Rattle.gcas.specs.Reads.{begun, line_of, CanReadOn};
+ghost use Rattle.gcas.specs.Reads.{begun, line_of, CanReadOn, IsAskingRoot};
+ghost use Rattle.rdcss_root.specs.Acts.{ActsInAll};
 ghost use Rattle.rdcss_root.specs.Holds.{Moves, IsReady};
 ghost use Rattle.rdcss_root.specs.Tables.{word_in, completed_in};
 ghost use Rattle.rdcss_root.specs.Programs.{complete_of, complete_with, CompletesOn, CanCompleteOn, KeepsUnlessSwapped, completed_at};
@@ -65,6 +67,8 @@ impl Complete {
         ensures heap { heap.new.heap ≡ acted_heap heap.old.heap (complete_action (complete_of self.old read.old root_seen)) }
         ensures table { roots.new ≡ completed_at roots.old handle self.old.offer self.old.at }
         ensures memory { KeepsUnlessSwapped heap.old heap.new roots.old.roots roots.new.roots self.old.at }
+        ensures asks { IsAskingRoot result → (self.new ≡ self.old) × (read.new ≡ read.old) × (roots.new ≡ roots.old) × (heap.new ≡ heap.old) }
+        ensures acts { (private : List ARef) → ActsInAll heap.old roots.old.roots private (complete_action (complete_of self.old read.old root_seen)) heap.new roots.new.roots private }
     {
         match &self.at {
             CompleteAt::Reading => self.read(read, heap, root_seen),
@@ -81,6 +85,7 @@ impl Complete {
         ensures same { (self.new.offer ≡ self.old.offer) × (read.new ≡ record read.old { at = read.new.at }) }
         ensures heap { heap.new.heap ≡ acted_heap heap.old.heap (complete_action (complete_with self.old.offer CompleteAt.Reading (line_of read.old root_seen))) }
         ensures beside { KeepsBeside heap.old heap.new }
+        ensures asks { IsAskingRoot result → (self.new ≡ record self.old { at = CompleteAt.Reading }) × (read.new ≡ read.old) × (heap.new ≡ heap.old) }
     {
         match read.step(heap, root_seen) {
             Next::More(kind) => {
@@ -107,7 +112,7 @@ impl Complete {
         ensures moves { Moves heap.old heap.new roots.old.roots roots.new.roots 8 }
     {
         self.at = CompleteAt::Swap { main };
-        let done = roots.complete(heap, handle, self.offer, main);
+        let done = roots.complete(heap, handle, &self.offer, main);
         Next::Done(Kind::SwapRoot, done)
     }
 }

@@ -1,9 +1,12 @@
 //! ROOT: gives the root, behind the end of an offer that stands in its way.
 
-ghost use Rattle.std.specs.Prelude.{◌≡◌, None};
+ghost use Rattle.std.specs.Prelude.{◌≡◌, None, List};
+ghost use Rattle.slot_arena.specs.declared.refs.Ref.{Ref as ARef};
 ghost use Rattle.slot_arena.specs.Heaps.{Heap as Store};
 ghost use Rattle.machine_model.specs.Swapping.{root_action};
 ghost use Rattle.gcas.specs.Acted.{acted_heap};
+ghost use Rattle.gcas.specs.Reads.{IsAskingRoot};
+ghost use Rattle.rdcss_root.specs.Acts.{ActsInAll};
 ghost use Rattle.rdcss_root.specs.Tables.{word_in};
 ghost use Rattle.rdcss_root.specs.Programs.{root_of, RootsOn, CanRootOn, KeepsUnlessCompleted, rooted_at};
 
@@ -40,6 +43,8 @@ impl ReadRoot {
         ensures heap { heap.new.heap ≡ acted_heap heap.old.heap (root_action (root_of self.old read.old root_seen)) }
         ensures table { roots.new ≡ rooted_at roots.old handle self.old }
         ensures memory { KeepsUnlessCompleted heap.old heap.new roots.old.roots roots.new.roots self.old }
+        ensures asks { IsAskingRoot result → (self.new ≡ self.old) × (read.new ≡ read.old) × (roots.new ≡ roots.old) × (heap.new ≡ heap.old) }
+        ensures acts { (private : List ARef) → ActsInAll heap.old roots.old.roots private (root_action (root_of self.old read.old root_seen)) heap.new roots.new.roots private }
     {
         match &*self {
             ReadRoot::Read => self.read(read, roots, handle),
@@ -53,6 +58,7 @@ impl ReadRoot {
     fn read(&mut self, read: &mut Read, roots: &Roots, handle: u16) -> Next<Ref>
         ensures follows { (heap : Store) → RootsOn heap (word_in roots.now handle) (root_of ReadRoot.Read read.old None) self.new read.new result }
         ensures access { read.new.access ≡ read.old.access }
+        ensures taken { IsAskingRoot result → ⊥ }
     {
         match roots.word(handle) {
             RootWord::Plain(root) => {
@@ -81,6 +87,8 @@ impl ReadRoot {
         ensures heap { heap.new.heap ≡ acted_heap heap.old.heap (root_action (root_of (ReadRoot.Completing complete) read.old root_seen)) }
         ensures table { roots.new ≡ rooted_at roots.old handle (ReadRoot.Completing complete) }
         ensures memory { KeepsUnlessCompleted heap.old heap.new roots.old.roots roots.new.roots (ReadRoot.Completing complete) }
+        ensures asks { IsAskingRoot result → (self.new ≡ ReadRoot.Completing complete) × (read.new ≡ read.old) × (roots.new ≡ roots.old) × (heap.new ≡ heap.old) }
+        ensures acts { (private : List ARef) → ActsInAll heap.old roots.old.roots private (root_action (root_of (ReadRoot.Completing complete) read.old root_seen)) heap.new roots.new.roots private }
     {
         let mut complete = complete;
         match complete.step(read, roots, handle, heap, root_seen) {

@@ -109,20 +109,25 @@ impl Roots {
     }
 
     /// Takes an offer back, if it still stands.
-    pub(crate) fn take_back(&mut self, heap: &mut Heap, handle: u16, offer: Descriptor)
-        requires live { AreLive heap.old.heap (offer.root ∷ []) }
+    pub(crate) fn take_back(&mut self, heap: &mut Heap, handle: u16, offer: &Descriptor)
+        requires live { AreLive heap.old.heap (offer.now.root ∷ []) }
         requires ready { IsReady heap.old self.old.roots 4 }
-        ensures table { self.new ≡ aborted_in self.old handle offer }
+        ensures table { self.new ≡ aborted_in self.old handle offer.now }
         ensures moves { Moves heap.old heap.new self.old.roots self.new.roots 4 }
     {
-        let root = offer.root;
         if stands_in(self.word(handle), offer) {
-            self.put_word(heap, handle, RootWord::Plain(root));
+            self.put_word(heap, handle, RootWord::Plain(offer.root));
         }
     }
 
     /// Puts the actor's offer into the root word, if its root still stands there with no offer. Tells whether it did.
-    pub fn offer(&mut self, heap: &mut Heap, handle: u16, actor: u8, offer: Descriptor) -> bool
+    pub(crate) fn offer(
+        &mut self,
+        heap: &mut Heap,
+        handle: u16,
+        actor: u8,
+        offer: Descriptor,
+    ) -> bool
         requires live { AreLive heap.old.heap (refs_of_word (RootWord.Offer offer)) }
         requires ready { IsReady heap.old self.old.roots 4 }
         ensures stood { result ≡ is_plain (word_in self.old handle) offer.root }
@@ -141,46 +146,49 @@ impl Roots {
 
     /// Carries an offer out if it still stands and `main` is its expected main node, else takes it back. Tells
     /// whether it was carried out.
-    pub(crate) fn complete(&mut self, heap: &mut Heap, handle: u16, offer: Descriptor, main: Ref) -> bool
-        requires live { AreLive heap.old.heap (refs_of_word (RootWord.Offer offer)) }
+    pub(crate) fn complete(
+        &mut self,
+        heap: &mut Heap,
+        handle: u16,
+        offer: &Descriptor,
+        main: Ref,
+    ) -> bool
+        requires live { AreLive heap.old.heap (refs_of_word (RootWord.Offer offer.now)) }
         requires ready { IsReady heap.old self.old.roots 8 }
-        ensures carried { result ≡ is_carried_out (word_in self.old handle) offer main }
-        ensures table { self.new ≡ completed_in self.old handle offer main }
+        ensures carried { result ≡ is_carried_out (word_in self.old handle) offer.now main }
+        ensures table { self.new ≡ completed_in self.old handle offer.now main }
         ensures moves { Moves heap.old heap.new self.old.roots self.new.roots 8 }
     {
-        let (root, expected) = (offer.root, offer.expected);
         if !stands_in(self.word(handle), offer) {
             return false;
         }
-        if main != expected {
-            self.put_word(heap, handle, RootWord::Plain(root));
+        if main != offer.expected {
+            self.put_word(heap, handle, RootWord::Plain(offer.root));
             return false;
         }
         self.carry_out(heap, handle, offer);
         true
     }
 
-    fn carry_out(&mut self, heap: &mut Heap, handle: u16, offer: Descriptor)
-        requires live { AreLive heap.old.heap (refs_of_word (RootWord.Offer offer)) }
+    fn carry_out(&mut self, heap: &mut Heap, handle: u16, offer: &Descriptor)
+        requires live { AreLive heap.old.heap (refs_of_word (RootWord.Offer offer.now)) }
         requires ready { IsReady heap.old self.old.roots 8 }
-        ensures table { self.new ≡ carried_out_in self.old handle offer }
+        ensures table { self.new ≡ carried_out_in self.old handle offer.now }
         ensures moves { Moves heap.old heap.new self.old.roots self.new.roots 8 }
     {
         let offerer = self.offerer(handle);
-        let (successor, opens) = (offer.successor, offer.opens);
         self.note_carried(offer, offerer);
-        let root = opened_root(offer);
-        self.put_word(heap, handle, RootWord::Plain(successor));
-        if let Some(opened) = opens {
-            self.put(heap, opened, Some(root));
+        self.put_word(heap, handle, RootWord::Plain(offer.successor));
+        if let Some(opened) = offer.opens {
+            self.put(heap, opened, Some(opened_root(offer)));
         }
     }
 
-    fn note_carried(&mut self, offer: Descriptor, offerer: u8)
-        ensures { self.new ≡ record self.old { marks = slice_set self.old.marks offerer true; carried = Some offer } }
+    fn note_carried(&mut self, offer: &Descriptor, offerer: u8)
+        ensures { self.new ≡ record self.old { marks = slice_set self.old.marks offerer true; carried = Some offer.now } }
     {
         set_mark(&mut self.marks, offerer, true);
-        self.carried = Some(offer);
+        self.carried = Some(*offer);
     }
 
     fn offerer(&self, handle: u16) -> u8
@@ -214,8 +222,8 @@ impl Roots {
 }
 
 /// The root that an offer opens: writable over a root of its own, read-only over the old one.
-fn opened_root(offer: Descriptor) -> Root
-    ensures { result ≡ opened_root offer offer.second }
+fn opened_root(offer: &Descriptor) -> Root
+    ensures { result ≡ opened_root offer.now offer.now.second }
 {
     match offer.second {
         Some(second) => Root {

@@ -7,8 +7,8 @@ use machine_model::{Descriptor, RootWord};
 use slot_arena::Ref;
 
 /// Whether this offer stands in the root word.
-pub(crate) fn stands_in(word: RootWord, offer: Descriptor) -> bool
-    ensures { result ≡ stands_in word offer }
+pub(crate) fn stands_in(word: RootWord, offer: &Descriptor) -> bool
+    ensures { result ≡ stands_in word offer.now }
 {
     match word {
         RootWord::Plain(_) => false,

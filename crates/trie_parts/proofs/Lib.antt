@@ -3,3 +3,5 @@ pub mod Depths
 pub mod Capped
 pub mod Stored
 pub mod Partings
+pub mod Unmade
+pub mod Insides

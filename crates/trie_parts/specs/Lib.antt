@@ -1,3 +1,4 @@
 pub mod Holding
 pub mod Here
+pub mod Steps
 pub mod Tasks

@@ -6,7 +6,8 @@ ghost use Rattle.slot_arena.specs.Arenas.{IsLive, AreLive};
 ghost use Rattle.slot_arena.specs.Ticking.{TakesUpTo};
 ghost use Rattle.epochs.specs.Memories.{KeepsEpochs, KeepsRemarks, cleared};
 ghost use Rattle.machine_model.specs.Acting.{with_made};
-ghost use Rattle.trie_parts.specs.Holding.{AreHeld, KeepsOthers};
+ghost use Rattle.machine_model.specs.declared.actions.Action.TheVariants as act;
+ghost use Rattle.trie_parts.specs.Holding.{Acts, AreHeld, KeepsOthers};
 
 use epochs::Heap;
 use slot_arena::{Node, Ref};
@@ -46,6 +47,34 @@ impl Private {
         requires held { AreHeld self.old heap.old }
         ensures err { OnErr result ((self.new ≡ self.old) × (heap.new ≡ heap.old)) }
         ensures made { IfOk result (λ made. made ≡ next_ref heap.old.heap) }
+        ensures acts { OnOk result (Acts heap.old self.old (act.Make node) heap.new self.new) }
+    {
+        let made = self.take(heap, node)?;
+        Ok(made)
+    }
+
+    /// Gives all up.
+    pub fn give_up(&mut self, heap: &mut Heap)
+        requires held { AreHeld self.old heap.old }
+        ensures private { self.new ≡ [] }
+        ensures heap { heap.new.heap ≡ heap.old.heap }
+        ensures others { KeepsOthers self.old heap.old self.new heap.new }
+        ensures epochs { KeepsEpochs heap.old heap.new }
+        ensures remarks { KeepsRemarks heap.old heap.new }
+        ensures few { length heap.new.noted ≤ length heap.old.noted + length self.old }
+        ensures ticks { heap.new.ticks ≡ heap.old.ticks + length self.old }
+    {
+        release_all(heap, self.items.as_slice());
+        self.items.clear();
+    }
+
+    /// As `make`, fact by fact.
+    fn take(&mut self, heap: &mut Heap, node: Node) -> Result<Option<Ref>, AllocError>
+        requires births { heap.old.heap.births + 1 < 2 ^ 48 }
+        requires live { AreLive heap.old.heap (refs_of_node node) }
+        requires held { AreHeld self.old heap.old }
+        ensures err { OnErr result ((self.new ≡ self.old) × (heap.new ≡ heap.old)) }
+        ensures made { IfOk result (λ made. made ≡ next_ref heap.old.heap) }
         ensures private { OnOk result (self.new ≡ with_made self.old (next_ref heap.old.heap)) }
         ensures heap { OnOk result (heap.new.heap ≡ taken heap.old.heap node) }
         ensures others { KeepsOthers self.old heap.old self.new heap.new }
@@ -64,25 +93,10 @@ impl Private {
         }
         Ok(made)
     }
-
-    /// Gives all up.
-    pub fn give_up(&mut self, heap: &mut Heap)
-        requires held { AreHeld self.old heap.old }
-        ensures private { self.new ≡ [] }
-        ensures heap { heap.new.heap ≡ heap.old.heap }
-        ensures others { KeepsOthers self.old heap.old self.new heap.new }
-        ensures epochs { KeepsEpochs heap.old heap.new }
-        ensures remarks { KeepsRemarks heap.old heap.new }
-        ensures few { length heap.new.noted ≤ length heap.old.noted + length self.old }
-        ensures ticks { heap.new.ticks ≡ heap.old.ticks + length self.old }
-    {
-        release_all(heap, self.items.as_slice());
-        self.items.clear();
-    }
 }
 
 /// Puts one reference more at the end, for which there is room.
-fn keep(items: &mut Vec<Ref>, at: Ref)
+pub fn keep(items: &mut Vec<Ref>, at: Ref)
     requires { vec_len items.old < vec_capacity items.old }
     ensures { items.new.items ≡ items.old.items ++ at ∷ [] }
 {

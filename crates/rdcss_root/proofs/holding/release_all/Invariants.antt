@@ -1,4 +1,4 @@
-use Rattle.std.proofs.Common.{◌≡◌, ◌+◌, ◌≤◌, ℕ, length, take}
+use Rattle.std.proofs.Common.{◌≡◌, ◌+◌, ℕ, take}
 use Rattle.slot_arena.specs.Times.{times}
 use Rattle.rdcss_root.specs.Holds.{KeepsMemory}
 use Rattle.rdcss_root.proofs.holding.release_all.Given as goal

@@ -1,4 +1,4 @@
-use Rattle.std.proofs.Common.{◌≡◌, ◌-◌, ◌++◌, take, replicate, vec_len, Option, Some, None, ap, ◌∙◌}
+use Rattle.std.proofs.Common.{◌-◌, ◌++◌, take, replicate, vec_len, Option, None, ap, ◌∙◌}
 use Rattle.machine_model.specs.declared.roots.Root.{Root}
 use Rattle.rdcss_root.proofs.roots.no_roots.Goals as goal
 

@@ -1,4 +1,4 @@
-use Rattle.std.proofs.Common.{rules, ◌+◌, ◌≡◌, ℕ, List, Bool, true, false, Option, None, replicate, ap, ◌∙◌}
+use Rattle.std.proofs.Common.{rules, ◌+◌, ◌≡◌, ℕ, List, Bool, false, Option, None, replicate, ap, ◌∙◌}
 use Rattle.machine_model.specs.declared.roots.Root.{Root}
 use Rattle.rdcss_root.specs.Tables.{Table}
 use Rattle.rdcss_root.proofs.roots.Roots.new.Goals as goal

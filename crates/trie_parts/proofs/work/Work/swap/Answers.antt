@@ -1,19 +1,23 @@
-use Rattle.std.proofs.Common.{arith, ap}
-use Rattle.slot_arena.specs.Times.{times}
-use Rattle.trie_parts.proofs.work.Work.swap.Goals.{in-Publish, in_default}
+use Rattle.std.proofs.Common.{◌∙◌, arith}
+use Rattle.ctrie_base.specs.declared.hashes.HashKind.TheVariants.{Low}
+use Rattle.gcas.specs.Swaps.{swap_of}
+use Rattle.trie_parts.specs.Here.{no_state, at_heap}
+use Rattle.trie_parts.proofs.Unmade.{swap_remarks}
 use Rattle.trie_parts.proofs.work.Work.swap.Goals as goal
 
-pub give_up-requires : goal.give_up-requires
-give_up-requires c =
+pub returns-clause-acts : goal.returns-clause-acts
+returns-clause-acts c =
+    let told = c.step_swap.ensures in
+    let s = swap_of c.args.self.now.swap c.args.root_seen in
+    let heap = c.args.heap.now.heap in
     record {
-      held = λ r. elim c.match-matches.branch [
-        | in-Publish w ↦ omega (arith, c.requires.held r, ap (times r) c.step-next.ensures.beside.outside, ap (λ s. times r s.private) w.self-is)
-        | in_default w ↦ omega (arith, c.requires.held r, ap (times r) c.step-next.ensures.beside.outside, ap (λ s. times r s.private) w.self-is)
-      ];
+      heap = told.heap;
+      made = told.private (at_heap no_state heap Low);
+      others = told.others;
+      stay = λ q live. told.stay q ∙ live;
+      epochs = told.epochs;
+      owners = told.remarks.0 ∙ swap_remarks heap s.indirection s.replaced s.fresh s.line c.args.heap.now.owners;
+      commits = told.remarks.1 ∙ swap_remarks heap s.indirection s.replaced s.fresh s.line c.args.heap.now.commits;
+      few = omega (arith, told.few);
+      ticks = (told.ticks.0, omega (arith, told.ticks.1));
     }
-
-pub returns-then-is_first-clause-others : goal.returns-then-is_first-clause-others
-returns-then-is_first-clause-others c = λ r. elim c.match-matches.branch [
-  | in-Publish w ↦ omega (arith, c.give_up.ensures.others r, ap (times r) c.step-next.ensures.beside.outside, ap (λ s. times r s.private) w.self-is)
-  | in_default w ↦ omega (arith, c.give_up.ensures.others r, ap (times r) c.step-next.ensures.beside.outside, ap (λ s. times r s.private) w.self-is)
-]

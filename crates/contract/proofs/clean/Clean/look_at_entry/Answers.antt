@@ -1,0 +1,26 @@
+use Rattle.std.specs.Prelude.{◌≡◌, ◌∷◌, ◌++◌, [], length, None, refl}
+use Rattle.std.proofs.Common.{◌∙◌}
+use Rattle.std.proofs.lemmas.Result.{MatchResult-weaker}
+use Rattle.slot_arena.specs.Heaps.{entry_at}
+use Rattle.machine_model.specs.declared.lines.Line.TheVariants as line
+use Rattle.machine_model.specs.declared.repairs.CleanLine.TheVariants as clean
+use Rattle.machine_model.specs.Cleaning.{clean_next}
+use Rattle.trie_parts.specs.Here.{at_heap}
+use Rattle.contract.specs.Cleaning.{clean_line}
+use Rattle.contract.proofs.Looks.{looked, single_kept}
+use Rattle.contract.proofs.clean.Clean.look_at_entry.Goals as goal
+
+pub returns-in-Some-Single-clause-follows : goal.returns-in-Some-Single-clause-follows
+returns-in-Some-Single-clause-follows c =
+    let heap = c.args.heap.now.heap in
+    let s = c.args.work.now.swap in
+    let main = c.args.self.now.main in
+    let done = c.args.self.now.done in
+    let entry = c.entry_at-entry.result in
+    let e : entry ≡ entry_at heap main (length done) = cc in
+    MatchResult-weaker c.put.result c.put.ensures.follows
+    (λ next told state hashes operation path.
+    let here = at_heap state heap hashes in
+    looked here operation (line.Clean (clean.Entry path main done)) (clean_next here path main (done ++ entry ∷ [])) (clean_line path s None c.put.new.self) s.read.at next refl refl
+    (single_kept here path main done entry _ _ e (c.in-Some-Single.ensures ∙ c.in-Some-Single.field-0-is)) (told state hashes path s))
+    (λ refusal told. told)

@@ -1,0 +1,67 @@
+-- A CLEAN of the code as the definition's, and what a step of it comes to.
+use Rattle.std.specs.Prelude.{◌≡◌, ℕ, List, Option}
+use Rattle.ctrie_base.specs.declared.kinds.Kind.TheVariants as kind
+use Rattle.history.specs.declared.replies.Reply.TheVariants as reply
+use Rattle.slot_arena.specs.declared.refs.Ref.{Ref}
+use Rattle.slot_arena.specs.Heaps.{Heap}
+use Rattle.machine_model.specs.declared.lines.Line.{Line}
+use Rattle.machine_model.specs.declared.lines.Line.TheVariants as line
+use Rattle.machine_model.specs.declared.lines.Purpose.TheVariants as purpose
+use Rattle.machine_model.specs.declared.repairs.CleanLine.TheVariants as clean
+use Rattle.machine_model.specs.Cleaning.{cleaned}
+use Rattle.machine_model.specs.Lines.{new_try, impossible}
+use Rattle.ctrie_base.specs.declared.hashes.HashKind.TheVariants.{Low}
+use Rattle.gcas.specs.declared.next.Next.{Next}
+use Rattle.gcas.specs.declared.next.Next.TheVariants.{More, AskRoot, Done}
+use Rattle.gcas.specs.declared.swap.Swap.{Swap}
+use Rattle.gcas.specs.Reads.{read_of, CanReadOn}
+use Rattle.gcas.specs.Swaps.{swap_of, CanSwapOn}
+use Rattle.trie_parts.specs.Here.{at_heap, no_state}
+use Rattle.trie_parts.specs.Steps.{CanMake}
+use Rattle.contract.specs.declared.clean.Clean.{Clean}
+use Rattle.contract.specs.declared.clean.CleanAt.{CleanAt}
+use Rattle.contract.specs.declared.clean.CleanAt.TheVariants as at
+use Rattle.contract.specs.declared.clean.Cleaned.{Cleaned as Outcome}
+use Rattle.contract.specs.declared.clean.Cleaned.TheVariants.{Cleaned, NoSlots, Impossible}
+
+-- ---- where it stands
+
+abbrev pub clean_line_at : List Ref → Swap → Option ℕ → Ref → List Ref → CleanAt → Line
+clean_line_at path s told main done at.Read = line.Clean (clean.Read path (read_of s.read told))
+clean_line_at path s told main done at.Main = line.Clean (clean.Main path main)
+clean_line_at path s told main done at.Entry = line.Clean (clean.Entry path main done)
+clean_line_at path s told main done at.Child = line.Clean (clean.Child path main done (read_of s.read told))
+clean_line_at path s told main done (at.Tomb child) = line.Clean (clean.Tomb path main done child)
+clean_line_at path s told main done at.Contracted = line.Clean (clean.Contracted path main done)
+clean_line_at path s told main done at.Swap = line.Swap purpose.Clean (swap_of s told)
+
+-- the definition's line of a cleaning below the end of this path, whose READ and SWAP were told this of the root's generation
+abbrev pub clean_line : List Ref → Swap → Option ℕ → Clean → Line
+clean_line path s told c = clean_line_at path s told c.main c.done c.place
+
+-- the definition's line after a cleaning that came to this
+abbrev pub line_behind : Outcome → Line
+line_behind Cleaned = new_try
+line_behind NoSlots = line.End reply.NoSlots
+line_behind Impossible = impossible
+
+-- a look leads to this line: the program goes on with it, or comes to its end by it
+abbrev pub GoesOn : Line → Line → Next Outcome → Type 0
+GoesOn l after (More k) = (k ≡ kind.Look) × (l ≡ after)
+GoesOn l after AskRoot = ⊥
+GoesOn l after (Done k outcome) = (k ≡ kind.Look) × (l ≡ line_behind outcome)
+
+-- ---- what it asks of the heap
+
+abbrev pub CanCleanAt : Heap → List Ref → Swap → Ref → List Ref → CleanAt → Type 0
+CanCleanAt heap path s main done at.Read = CanReadOn heap s.read
+CanCleanAt heap path s main done at.Main = Unit {0}
+CanCleanAt heap path s main done at.Entry = Unit {0}
+CanCleanAt heap path s main done at.Child = CanReadOn heap s.read
+CanCleanAt heap path s main done (at.Tomb child) = Unit {0}
+CanCleanAt heap path s main done at.Contracted = CanMake heap (cleaned (at_heap no_state heap Low) path main done)
+CanCleanAt heap path s main done at.Swap = CanSwapOn heap s
+
+-- what a READ or SWAP is going to change, and what the new node is to refer to, is in use, and of its kind
+abbrev pub CanClean : Heap → List Ref → Swap → Clean → Type 0
+CanClean heap path s c = CanCleanAt heap path s c.main c.done c.place

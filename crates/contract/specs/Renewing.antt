@@ -1,0 +1,61 @@
+-- A RENEW of the code as the definition's, and what a step of it comes to.
+use Rattle.std.specs.Prelude.{ℕ, nat_lt, List, length, Option, if◌then◌else◌}
+use Rattle.history.specs.declared.replies.Reply.TheVariants as reply
+use Rattle.slot_arena.specs.declared.refs.Ref.{Ref}
+use Rattle.slot_arena.specs.declared.nodes.Node.TheVariants.{Indirection}
+use Rattle.slot_arena.specs.Heaps.{Heap, bitmap_of, node_at}
+use Rattle.nodes.specs.Builders.{renewed}
+use Rattle.machine_model.specs.declared.finding.KeyLine.TheVariants as key
+use Rattle.machine_model.specs.declared.lines.Line.{Line}
+use Rattle.machine_model.specs.declared.lines.Line.TheVariants as line
+use Rattle.machine_model.specs.declared.lines.Purpose.TheVariants as purpose
+use Rattle.machine_model.specs.declared.repairs.RenewLine.TheVariants as renew
+use Rattle.machine_model.specs.Lines.{new_try, impossible}
+use Rattle.machine_model.specs.Paths.{current}
+use Rattle.machine_model.specs.Reading.{reading}
+use Rattle.gcas.specs.declared.swap.Swap.{Swap}
+use Rattle.gcas.specs.Reads.{read_of, CanReadOn}
+use Rattle.gcas.specs.Swaps.{swap_of, CanSwapOn}
+use Rattle.trie_parts.specs.Steps.{CanMake}
+use Rattle.contract.specs.declared.renew.Renew.{Renew}
+use Rattle.contract.specs.declared.renew.RenewAt.{RenewAt}
+use Rattle.contract.specs.declared.renew.RenewAt.TheVariants as at
+use Rattle.contract.specs.declared.renew.Renewed.{Renewed as Outcome}
+use Rattle.contract.specs.declared.renew.Renewed.TheVariants.{Renewed, Lost, NoSlots, Impossible}
+
+-- ---- where it stands
+
+abbrev pub renew_line_at : List Ref → Swap → Option ℕ → Ref → List Ref → RenewAt → Line
+renew_line_at path s told main done at.Entry = line.Renew (renew.Entry path main done)
+renew_line_at path s told main done at.Read = line.Renew (renew.Read path main done (read_of s.read told))
+renew_line_at path s told main done (at.Link child) = line.Renew (renew.Link path main done child)
+renew_line_at path s told main done at.Branch = line.Renew (renew.Branch path main done)
+renew_line_at path s told main done at.Swap = line.Swap (purpose.Renew path) (swap_of s told)
+
+-- the definition's line of a renewing of the node at the end of this path, whose READ and SWAP were told this of the root's generation
+abbrev pub renew_line : List Ref → Swap → Option ℕ → Renew → Line
+renew_line path s told r = renew_line_at path s told r.main r.done r.place
+
+-- the line of the next entry behind those that are done, of a branch of so many; where all are done, that of the new branch
+abbrev pub next_of : ℕ → List Ref → Ref → List Ref → Line
+next_of entries path main done = if nat_lt (length done) entries then line.Renew (renew.Entry path main done) else line.Renew (renew.Branch path main done)
+
+-- the definition's line after a renewing that came to this
+abbrev pub line_behind : List Ref → Outcome → Line
+line_behind path Renewed = line.Key (key.Read path (reading (current path)))
+line_behind path Lost = new_try
+line_behind path NoSlots = line.End reply.NoSlots
+line_behind path Impossible = impossible
+
+-- ---- what it asks of the heap
+
+abbrev pub CanRenewAt : Heap → Swap → Ref → List Ref → RenewAt → Type 0
+CanRenewAt heap s main done at.Entry = Unit {0}
+CanRenewAt heap s main done at.Read = CanReadOn heap s.read
+CanRenewAt heap s main done (at.Link child) = CanMake heap (Indirection 0 child)
+CanRenewAt heap s main done at.Branch = CanMake heap (renewed (bitmap_of (node_at heap main)) done)
+CanRenewAt heap s main done at.Swap = CanSwapOn heap s
+
+-- what a READ or SWAP is going to change, and what the new node is to refer to, is in use, and of its kind
+abbrev pub CanRenew : Heap → Swap → Renew → Type 0
+CanRenew heap s r = CanRenewAt heap s r.main r.done r.place

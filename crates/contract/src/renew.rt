@@ -1,0 +1,260 @@
+//! RENEW: a branch gets indirections of the root's generation.
+
+ghost use Rattle.std.specs.Prelude.{◌≡◌, [], ◌∷◌, ◌++◌, List, length, None, IfOk, IfErr, OnOk, OnErr};
+ghost use Rattle.ctrie_base.specs.declared.hashes.HashKind.{HashKind};
+ghost use Rattle.slot_arena.specs.declared.refs.Ref.{Ref as ARef};
+ghost use Rattle.machine_model.specs.Operations.{line_action};
+ghost use Rattle.machine_model.specs.Renewing.{renew_next};
+ghost use Rattle.machine_model.specs.States.{State};
+ghost use Rattle.machine_model.specs.declared.lines.Line.TheVariants as line;
+ghost use Rattle.machine_model.specs.declared.lines.Purpose.TheVariants as purpose;
+ghost use Rattle.machine_model.specs.declared.operations.Operation.{Operation};
+ghost use Rattle.machine_model.specs.declared.repairs.RenewLine.TheVariants as renew;
+ghost use Rattle.gcas.specs.Reads.{read_of, CanReadOn, IsAskingRoot};
+ghost use Rattle.gcas.specs.Swaps.{swap_of, CanSwapOn};
+ghost use Rattle.gcas.specs.declared.swap.Swap.{Swap as ASwap};
+ghost use Rattle.trie_parts.specs.Here.{at_heap};
+ghost use Rattle.trie_parts.specs.Holding.{Acts, AreHeld};
+ghost use Rattle.trie_parts.specs.Steps.{StepsOn};
+ghost use Rattle.trie_parts.specs.Tasks.{for_task};
+ghost use Rattle.trie_parts.specs.declared.calls.Task.{Task as ATask};
+ghost use Rattle.contract.specs.Renewing.{renew_line, next_of, line_behind, CanRenew, CanRenewAt};
+
+use crate::entries::Entries;
+use ctrie_base::{Kind, Refusal};
+use epochs::Heap;
+use gcas::Next;
+use slot_arena::{Node, Ref};
+use std::alloc::Global;
+use trie_parts::{Task, Work, bitmap_at, current, entry_at, entry_count, node_at, renewed};
+
+/// Where a renewing stands.
+#[derive(Clone, Copy)]
+pub enum RenewAt {
+    /// Looks at the next entry.
+    Entry,
+    /// That is an indirection of another generation: reads it.
+    Read,
+    /// Makes an indirection of the root's generation over the main node that it gave.
+    Link { child: Ref },
+    /// Makes the branch.
+    Branch,
+    /// Swaps it in.
+    Swap,
+}
+
+/// What a renewing came to.
+#[derive(Clone, Copy)]
+pub enum Renewed {
+    /// The new branch stands: the call reads it.
+    Renewed,
+    /// The branch wasn't replaced: the call has to be tried again.
+    Lost,
+    /// No slot was free.
+    NoSlots,
+    /// A node is of another kind than the program takes it for. No machine comes here.
+    Impossible,
+}
+
+/// A renewing of a branch. An operation keeps one for all its renewings.
+#[derive(Drop)]
+pub struct Renew {
+    /// The branch.
+    main: Ref,
+    /// Its new entries so far.
+    done: Entries,
+    place: RenewAt,
+}
+
+impl Renew {
+    /// One that has still to begin. It takes no memory.
+    pub fn new(alloc: Global) -> Renew
+        ensures { result ≡ record { main = 0; done = []; place = RenewAt.Entry } }
+    {
+        Renew {
+            main: Ref::default(),
+            done: Entries::new(alloc),
+            place: RenewAt::Entry,
+        }
+    }
+
+    /// Begins to renew this branch.
+    pub fn begin(&mut self, heap: &Heap, main: Ref)
+        ensures { (state : State) (hashes : HashKind) (path : List ARef) (s : ASwap) → renew_line path s None self.new ≡ renew_next (at_heap state heap.now.heap hashes) path main [] }
+    {
+        self.main = main;
+        self.done.clear();
+        self.place = next(0, entry_count(heap, main));
+    }
+
+    /// Takes its next step, for the branch at the end of this path, unless it has to be told the generation of
+    /// the root first. After an error, which is want of memory, nothing has changed.
+    pub fn step(
+        &mut self,
+        work: &mut Work,
+        heap: &mut Heap,
+        task: Task,
+        path: &[Ref],
+        root_seen: Option<u64>,
+    ) -> Result<Next<Renewed>, Refusal>
+        requires can { CanRenew heap.old.heap work.old.swap self.old }
+        requires held { AreHeld work.old.private heap.old }
+        ensures follows { IfOk result (λ next. (state : State) (operation : Operation) → StepsOn (at_heap state heap.old.heap task.hashes) (for_task task work.old.swap.read.access operation) (renew_line path.now work.old.swap root_seen self.old) (renew_line path.now work.new.swap None self.new) work.new.swap.read.at (line_behind path.now) next) }
+        ensures acts { OnOk result ((state : State) (operation : Operation) → Acts heap.old work.old.private (line_action (at_heap state heap.old.heap task.hashes) (for_task task work.old.swap.read.access operation) (renew_line path.now work.old.swap root_seen self.old)) heap.new work.new.private) }
+        ensures same { work.new.swap.read.access ≡ work.old.swap.read.access }
+        ensures err { OnErr result ((self.new ≡ self.old) × (work.new ≡ work.old) × (heap.new ≡ heap.old)) }
+        ensures only_memory { IfErr result (λ refusal. refusal ≡ Refusal.Memory) }
+        ensures asks { IfOk result (λ next. IsAskingRoot next → (self.new ≡ self.old) × (work.new ≡ work.old) × (heap.new ≡ heap.old)) }
+    {
+        match &self.place {
+            RenewAt::Entry => self.look(work, heap, task),
+            RenewAt::Read => Ok(self.read(work, heap, root_seen)),
+            RenewAt::Link { child } => {
+                let child = *child;
+                self.link(work, heap, task, child)
+            }
+            RenewAt::Branch => self.make_branch(work, heap, path),
+            RenewAt::Swap => Ok(self.swap(work, heap, root_seen)),
+        }
+    }
+
+    /// Looks at the next entry: an indirection of another generation is read, any other entry is kept.
+    fn look(&mut self, work: &mut Work, heap: &Heap, task: Task) -> Result<Next<Renewed>, Refusal>
+        ensures follows { IfOk result (λ next. (state : State) (operation : Operation) (path : List ARef) → StepsOn (at_heap state heap.now.heap task.hashes) (for_task task work.old.swap.read.access operation) (line.Renew (renew.Entry path self.old.main self.old.done)) (renew_line path work.new.swap None self.new) work.new.swap.read.at (line_behind path) next) }
+        ensures same { (work.new.swap.read.access ≡ work.old.swap.read.access) × (work.new.private ≡ work.old.private) }
+        ensures err { OnErr result ((self.new ≡ self.old) × (work.new ≡ work.old)) }
+        ensures only_memory { IfErr result (λ refusal. refusal ≡ Refusal.Memory) }
+        ensures taken { IfOk result (λ next. IsAskingRoot next → ⊥) }
+    {
+        let entry = entry_at(heap, self.main, self.done.as_slice().len());
+        match node_at(heap, entry) {
+            Some(Node::Indirection { generation, .. }) if !task.is_start(*generation) => {
+                work.swap.read.begin(entry);
+                self.place = RenewAt::Read;
+            }
+            Some(Node::Indirection { .. } | Node::Single { .. }) => {
+                let entries = entry_count(heap, self.main);
+                self.put(entries, entry)?;
+            }
+            _ => return Ok(Next::Done(Kind::Look, Renewed::Impossible)),
+        }
+        Ok(Next::More(Kind::Look))
+    }
+
+    /// One entry more, of so many, is done.
+    fn put(&mut self, entries: usize, entry: Ref) -> Result<(), Refusal>
+        ensures ok { OnOk result ((path : List ARef) (s : ASwap) → renew_line path s None self.new ≡ next_of entries path self.old.main (self.old.done ++ entry ∷ [])) }
+        ensures err { OnErr result (self.new ≡ self.old) }
+        ensures only_memory { IfErr result (λ refusal. refusal ≡ Refusal.Memory) }
+    {
+        self.done.push(entry)?;
+        self.place = next(self.done.as_slice().len(), entries);
+        Ok(())
+    }
+
+    /// Takes a step of the entry's READ.
+    fn read(&mut self, work: &mut Work, heap: &mut Heap, root_seen: Option<u64>) -> Next<Renewed>
+        requires { CanReadOn heap.old.heap work.old.swap.read }
+        ensures follows { (state : State) (operation : Operation) (path : List ARef) (task : ATask) → StepsOn (at_heap state heap.old.heap task.hashes) (for_task task work.old.swap.read.access operation) (line.Renew (renew.Read path self.old.main self.old.done (read_of work.old.swap.read root_seen))) (renew_line path work.new.swap None self.new) work.new.swap.read.at (line_behind path) result }
+        ensures acts { (state : State) (operation : Operation) (path : List ARef) → Acts heap.old work.old.private (line_action state operation (line.Renew (renew.Read path self.old.main self.old.done (read_of work.old.swap.read root_seen)))) heap.new work.new.private }
+        ensures same { work.new.swap.read.access ≡ work.old.swap.read.access }
+        ensures asks { IsAskingRoot result → (self.new ≡ record self.old { place = RenewAt.Read }) × (work.new ≡ work.old) × (heap.new ≡ heap.old) }
+    {
+        self.place = RenewAt::Read;
+        match work.read(heap, root_seen) {
+            Next::More(kind) => Next::More(kind),
+            Next::AskRoot => Next::AskRoot,
+            Next::Done(kind, child) => {
+                self.place = RenewAt::Link { child };
+                Next::More(kind)
+            }
+        }
+    }
+
+    /// Makes an indirection over the main node that was read.
+    fn link(
+        &mut self,
+        work: &mut Work,
+        heap: &mut Heap,
+        task: Task,
+        child: Ref,
+    ) -> Result<Next<Renewed>, Refusal>
+        requires can { CanRenewAt heap.old.heap work.old.swap self.old.main self.old.done (RenewAt.Link child) }
+        requires held { AreHeld work.old.private heap.old }
+        ensures follows { IfOk result (λ next. (state : State) (operation : Operation) (path : List ARef) → StepsOn (at_heap state heap.old.heap task.hashes) (for_task task work.old.swap.read.access operation) (line.Renew (renew.Link path self.old.main self.old.done child)) (renew_line path work.new.swap None self.new) work.new.swap.read.at (line_behind path) next) }
+        ensures acts { OnOk result ((state : State) (operation : Operation) (path : List ARef) → Acts heap.old work.old.private (line_action state (for_task task work.old.swap.read.access operation) (line.Renew (renew.Link path self.old.main self.old.done child))) heap.new work.new.private) }
+        ensures same { work.new.swap.read.access ≡ work.old.swap.read.access }
+        ensures err { OnErr result ((self.new ≡ self.old) × (work.new ≡ work.old) × (heap.new ≡ heap.old)) }
+        ensures only_memory { IfErr result (λ refusal. refusal ≡ Refusal.Memory) }
+        ensures taken { IfOk result (λ next. IsAskingRoot next → ⊥) }
+    {
+        let entries = entry_count(heap, self.main);
+        let node = Node::Indirection {
+            generation: task.start(),
+            main: child,
+        };
+        match self.done.make(work, heap, node)? {
+            None => Ok(Next::Done(Kind::Make, Renewed::NoSlots)),
+            Some(_) => {
+                self.place = next(self.done.as_slice().len(), entries);
+                Ok(Next::More(Kind::Make))
+            }
+        }
+    }
+
+    /// Makes the branch.
+    fn make_branch(
+        &mut self,
+        work: &mut Work,
+        heap: &mut Heap,
+        path: &[Ref],
+    ) -> Result<Next<Renewed>, Refusal>
+        requires can { CanRenewAt heap.old.heap work.old.swap self.old.main self.old.done RenewAt.Branch }
+        requires held { AreHeld work.old.private heap.old }
+        ensures follows { IfOk result (λ next. (state : State) (operation : Operation) (task : ATask) → StepsOn (at_heap state heap.old.heap task.hashes) (for_task task work.old.swap.read.access operation) (line.Renew (renew.Branch path.now self.old.main self.old.done)) (renew_line path.now work.new.swap None self.new) work.new.swap.read.at (line_behind path.now) next) }
+        ensures acts { OnOk result ((state : State) (operation : Operation) (hashes : HashKind) → Acts heap.old work.old.private (line_action (at_heap state heap.old.heap hashes) operation (line.Renew (renew.Branch path.now self.old.main self.old.done))) heap.new work.new.private) }
+        ensures same { work.new.swap.read.access ≡ work.old.swap.read.access }
+        ensures err { OnErr result ((self.new ≡ self.old) × (work.new ≡ work.old) × (heap.new ≡ heap.old)) }
+        ensures only_memory { IfErr result (λ refusal. refusal ≡ Refusal.Memory) }
+        ensures taken { IfOk result (λ next. IsAskingRoot next → ⊥) }
+    {
+        let node = renewed(bitmap_at(heap, self.main), self.done.as_slice());
+        match work.make(heap, node)? {
+            None => Ok(Next::Done(Kind::Make, Renewed::NoSlots)),
+            Some(made) => {
+                work.swap.begin(current(path), self.main, made);
+                self.place = RenewAt::Swap;
+                Ok(Next::More(Kind::Make))
+            }
+        }
+    }
+
+    /// Takes a step of the SWAP.
+    fn swap(&mut self, work: &mut Work, heap: &mut Heap, root_seen: Option<u64>) -> Next<Renewed>
+        requires can { CanSwapOn heap.old.heap work.old.swap }
+        requires held { AreHeld work.old.private heap.old }
+        ensures follows { (state : State) (operation : Operation) (path : List ARef) (task : ATask) → StepsOn (at_heap state heap.old.heap task.hashes) (for_task task work.old.swap.read.access operation) (line.Swap (purpose.Renew path) (swap_of work.old.swap root_seen)) (renew_line path work.new.swap None self.new) work.new.swap.read.at (line_behind path) result }
+        ensures acts { (state : State) (operation : Operation) (path : List ARef) → Acts heap.old work.old.private (line_action state operation (line.Swap (purpose.Renew path) (swap_of work.old.swap root_seen))) heap.new work.new.private }
+        ensures same { work.new.swap.read.access ≡ work.old.swap.read.access }
+        ensures asks { IsAskingRoot result → (self.new ≡ record self.old { place = RenewAt.Swap }) × (work.new ≡ work.old) × (heap.new ≡ heap.old) }
+    {
+        self.place = RenewAt::Swap;
+        match work.swap(heap, root_seen) {
+            Next::More(kind) => Next::More(kind),
+            Next::AskRoot => Next::AskRoot,
+            Next::Done(kind, true) => Next::Done(kind, Renewed::Renewed),
+            Next::Done(kind, false) => Next::Done(kind, Renewed::Lost),
+        }
+    }
+}
+
+/// Where a renewing stands that has done so many of so many entries.
+fn next(done: usize, entries: usize) -> RenewAt
+    ensures { (path : List ARef) (s : ASwap) (main : ARef) (kept : List ARef) → length kept ≡ done → renew_line path s None (record { main = main; done = kept; place = result }) ≡ next_of entries path main kept }
+{
+    if done < entries {
+        RenewAt::Entry
+    } else {
+        RenewAt::Branch
+    }
+}

@@ -1,0 +1,26 @@
+//! What a call found by a look.
+
+use crate::calls::KeyReply;
+use key_change::ChangeAt;
+use slot_arena::Ref;
+
+/// What comes after a look at a main node or at one of its entries.
+#[derive(Clone, Copy)]
+pub enum Found {
+    /// Looks at the branch's entry at this position.
+    Entry { position: usize },
+    /// Looks at the single at this position of a list, or at a tomb's.
+    Listed { position: usize },
+    /// Reads this indirection, one further down.
+    Down { below: Ref },
+    /// Renews the branch: an indirection in it is of another generation than the root.
+    Renew,
+    /// Cleans the parent: a tomb stands here.
+    Clean,
+    /// Changes the main node, by a try that begins so.
+    Change(ChangeAt),
+    /// Answers.
+    End(KeyReply),
+    /// A node is of another kind than the program takes it for. No machine comes here.
+    Impossible,
+}

@@ -1,0 +1,28 @@
+-- What a step does to the heap, to a private list and to the root words together.
+use Rattle.std.specs.Prelude.{◌≡◌, ◌+◌, ◌≤◌, List, length, Option}
+use Rattle.ctrie_base.specs.declared.hashes.HashKind.TheVariants.{Low}
+use Rattle.slot_arena.specs.declared.refs.Ref.{Ref}
+use Rattle.slot_arena.specs.Arenas.{IsLive}
+use Rattle.slot_arena.specs.Ticking.{TakesUpTo}
+use Rattle.slot_arena.specs.Times.{times}
+use Rattle.epochs.specs.Memories.{Memory, KeepsEpochs}
+use Rattle.machine_model.specs.declared.actions.Action.{Action}
+use Rattle.machine_model.specs.declared.roots.Root.{Root}
+use Rattle.machine_model.specs.Acting.{private_after}
+use Rattle.gcas.specs.Acted.{acted_heap}
+use Rattle.trie_parts.specs.Here.{at_heap, no_state}
+use Rattle.trie_parts.specs.Holding.{remarked}
+use Rattle.rdcss_root.specs.Holds.{root_refs}
+
+-- The step with this action leads from one heap, private list and table of root words to others. It notes few slots and takes few ticks, however large the heap.
+pub record ActsInAll (before : Memory) (roots : List (Option Root)) (private : List Ref) (action : Action) (after : Memory) (roots' : List (Option Root)) (private' : List Ref) : Type 0 where
+  pub heap : after.heap ≡ acted_heap before.heap action
+  pub made : private' ≡ private_after (at_heap no_state before.heap Low) private action
+  -- what is held from outside changes by the private list and by what stands in root words
+  pub others : (r : Ref) → times r after.outside + times r private + times r (root_refs roots) ≡ times r before.outside + times r private' + times r (root_refs roots')
+  pub stay : (q : Ref) → IsLive before.heap q → IsLive after.heap q
+  pub epochs : KeepsEpochs before after
+  pub owners : after.owners ≡ remarked before.heap action before.owners
+  pub commits : after.commits ≡ remarked before.heap action before.commits
+  pub few : length after.noted ≤ length before.noted + (32 + length private)
+  pub ticks : TakesUpTo (36 + length private) before.ticks after.ticks

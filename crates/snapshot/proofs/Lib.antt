@@ -1,0 +1,4 @@
+pub mod Drawing
+pub mod Makings
+pub mod Offering
+pub mod Undrawn

@@ -1,0 +1,95 @@
+-- A SNAP or CLEAR of the code as the definition's, and what a step of it comes to.
+use Rattle.std.specs.Prelude.{◌≡◌, ℕ, ◌+◌, ◌<◌, ◌≤◌, ◌^◌, List, Option}
+use Rattle.slot_arena.specs.declared.refs.Ref.{Ref}
+use Rattle.slot_arena.specs.declared.nodes.Node.{Node}
+use Rattle.slot_arena.specs.declared.nodes.Node.TheVariants.{Indirection}
+use Rattle.slot_arena.specs.Arenas.{AreLive}
+use Rattle.slot_arena.specs.Heaps.{empty_branch}
+use Rattle.slot_arena.specs.Times.{times}
+use Rattle.epochs.specs.Memories.{Memory}
+use Rattle.machine_model.specs.declared.actions.Action.{Action}
+use Rattle.machine_model.specs.declared.copying.CopyLine.{CopyLine}
+use Rattle.machine_model.specs.declared.copying.CopyLine.TheVariants as copy
+use Rattle.machine_model.specs.declared.lines.Line.{Line}
+use Rattle.machine_model.specs.declared.lines.Line.TheVariants as line
+use Rattle.machine_model.specs.declared.operations.Operation.{Operation}
+use Rattle.machine_model.specs.declared.roots.Root.{Root}
+use Rattle.machine_model.specs.declared.roots.RootWord.TheVariants.{Offer}
+use Rattle.machine_model.specs.Counting.{refs_of_word}
+use Rattle.machine_model.specs.Operations.{line_action, generation_from}
+use Rattle.machine_model.specs.States.{State}
+use Rattle.gcas.specs.declared.next.Next.{Next}
+use Rattle.gcas.specs.declared.next.Next.TheVariants.{More, AskRoot, Done}
+use Rattle.gcas.specs.declared.read.Read.{Read}
+use Rattle.gcas.specs.Reads.{read_of, CanReadOn}
+use Rattle.trie_parts.specs.Here.{no_state, no_operation}
+use Rattle.trie_parts.specs.Steps.{CanMake}
+use Rattle.rdcss_root.specs.Holds.{root_refs}
+use Rattle.rdcss_root.specs.Programs.{root_of, complete_of, CanRootOn, CanCompleteOn}
+use Rattle.rdcss_root.specs.Tables.{Table}
+use Rattle.snapshot.specs.declared.snap.Making.{Making}
+use Rattle.snapshot.specs.declared.snap.Making.TheVariants as making
+use Rattle.snapshot.specs.declared.snap.Snap.{Snap}
+use Rattle.snapshot.specs.declared.snap.SnapAt.{SnapAt}
+use Rattle.snapshot.specs.declared.snap.SnapAt.TheVariants as at
+use Rattle.snapshot.specs.declared.tasks.SnapReply.{SnapReply}
+use Rattle.snapshot.specs.Tasks.{reply_of}
+
+-- ---- where it stands
+
+-- the definition's line of what is to be made for the swap of this root
+abbrev pub making_line : Ref → Making → CopyLine
+making_line root (making.Successor main) = copy.Successor root main
+making_line root (making.Second main successor) = copy.Second root main successor
+making_line root (making.Empty main) = copy.Empty root main
+making_line root (making.Cleared main branch) = copy.Cleared root main branch
+
+-- the node that is made; a new root is of this generation
+abbrev pub made_node : ℕ → Making → Node
+made_node generation (making.Successor main) = Indirection generation main
+made_node generation (making.Second main successor) = Indirection generation main
+made_node generation (making.Empty main) = empty_branch
+made_node generation (making.Cleared main branch) = Indirection generation branch
+
+abbrev pub snap_line_at : Ref → Read → Option ℕ → SnapAt → Line
+snap_line_at root r told (at.Root l) = line.Root (root_of l r told)
+snap_line_at root r told at.Read = line.Copy (copy.Read root (read_of r told))
+snap_line_at root r told (at.Make m) = line.Copy (making_line root m)
+snap_line_at root r told (at.Offer offer) = line.Copy (copy.Offer offer.descriptor)
+snap_line_at root r told (at.Complete c) = line.Copy (copy.Complete (complete_of c r told))
+
+-- the definition's line of a snapshot, freeze or clear whose READ was told this of the root's generation
+abbrev pub snap_line : Read → Option ℕ → Snap → Line
+snap_line r told s = snap_line_at s.root r told s.at
+
+-- what its step does
+abbrev pub snap_action : Line → Action
+snap_action l = line_action no_state no_operation l
+
+-- the definition's line after one that has answered this
+abbrev pub line_behind : SnapReply → Line
+line_behind answer = line.End (reply_of answer)
+
+-- The generation of the root that ROOT gave last, before a step from this line and behind it.
+abbrev pub KeepsGeneration : State → Operation → Line → Option ℕ → Option ℕ → Next SnapReply → Type 0
+KeepsGeneration state operation l before after (More k) = after ≡ generation_from state (record operation { generation = before }) l
+KeepsGeneration state operation l before after AskRoot = after ≡ before
+KeepsGeneration state operation l before after (Done k answer) = after ≡ generation_from state (record operation { generation = before }) l
+
+-- ---- what it asks
+
+-- the private list and what stands in root words is held, and what is put there can be held too
+pub record IsReadyBeside (memory : Memory) (roots : List (Option Root)) (private : List Ref) : Type 0 where
+  pub held : (r : Ref) → times r private + times r (root_refs roots) ≤ times r memory.outside
+  pub room : (r : Ref) → times r memory.outside + 8 < 2 ^ 31
+
+abbrev pub CanSnapAt : Memory → Table → Read → ℕ → SnapAt → Type 0
+CanSnapAt memory table r generation (at.Root l) = CanRootOn memory table l r
+CanSnapAt memory table r generation at.Read = CanReadOn memory.heap r
+CanSnapAt memory table r generation (at.Make m) = CanMake memory.heap (made_node generation m)
+CanSnapAt memory table r generation (at.Offer offer) = AreLive memory.heap (refs_of_word (Offer offer.descriptor))
+CanSnapAt memory table r generation (at.Complete c) = CanCompleteOn memory table c r
+
+-- what is going to be changed, or referred to, is in use, and of its kind; a new root is of this generation
+abbrev pub CanSnap : Memory → Table → Read → ℕ → Snap → Type 0
+CanSnap memory table r generation s = CanSnapAt memory table r generation s.at

@@ -1,0 +1,22 @@
+//! Snapshots, freezes and clears: calls that swap the root. Each call of `Snap::step` takes one atomic step, in place.
+//!
+//! It is the snapshot of Prokopec, Bronson, Bagwell and Odersky's Ctrie: a root of a new generation is made over the old
+//! root's main node, and takes its place by RDCSS where that main node is still the old root's. So both maps have the same
+//! content at that moment, and share all nodes; later each copies what it writes, as it meets indirections of an older
+//! generation. A writable snapshot makes a second root of a generation of its own, for the handle that it opens; a freeze
+//! opens the old root itself, whose generation is closed with the swap, so that nothing is committed in it any more. A clear
+//! makes the new root over an empty branch. What is made is held from outside until it is offered: an offer that is lost or
+//! taken back leaves nothing behind, and the call begins anew. Whether it was carried out the call reads from its mark, since
+//! another may have completed it. So the work doesn't grow with the map.
+//!
+//! Computed is the definition's `Copying`, with ROOT in its first line: `specs/Copies` says which line the code's program
+//! stands for. A new root draws a generation: `specs/Tasks` says how.
+#![tactic(auto)]
+
+mod laws;
+mod snap;
+mod tasks;
+
+pub use laws::draws_generations;
+pub use snap::{Making, Snap, SnapAt};
+pub use tasks::{SnapCall, SnapReply, SnapTask};
