@@ -171,7 +171,7 @@ module _ (machine : Taken) (actor : ℕ) where
     spared spare stands free = not_refused spare stands free (bounded operation.call sure.0)
 
     -- so that is what they come to
-    must_be : (result : Result (Option Reply) Refusal) (to : Taken) → going_on go_limit actor machine ≡ (result, to) → (answer : Reply) × (result ≡ Ok (Some answer))
+    pub must_be : (result : Result (Option Reply) Refusal) (to : Taken) → going_on go_limit actor machine ≡ (result, to) → (answer : Reply) × (result ≡ Ok (Some answer))
     must_be result to goes = let (answer, last, e) = answered in (answer, ap (λ g. g.0) (sym goes ∙ e))
 
     -- such steps come to the end, but for want of memory

@@ -1,0 +1,26 @@
+-- What contracts see of a map.
+use Rattle.std.specs.Prelude.{◌≡◌, ℕ, Bool, true}
+use Rattle.ctrie_base.specs.declared.hashes.HashKind.{HashKind}
+use Rattle.history.specs.Worlds.{HandleMap}
+
+pub record MapState : Type 0 where
+  -- the hash of keys
+  pub hash : HashKind
+  -- how many slots there are for nodes
+  pub slots : ℕ
+  -- the open handles, each with its kind and its finite map
+  pub handles : HandleMap
+  -- how many slots no open handle reaches
+  pub free : ℕ
+  -- how much work was done, in atomic steps
+  pub age : ℕ
+  -- no call was broken off by want of memory
+  pub is_finished : Bool
+
+-- the map has these handles then; hash and slots are as before
+abbrev pub Becomes : MapState → HandleMap → MapState → Type 0
+Becomes before handles after = (after.hash ≡ before.hash) × (after.slots ≡ before.slots) × (after.handles ≡ handles)
+
+-- no handle and no map has changed
+abbrev pub Stays : MapState → MapState → Type 0
+Stays before after = Becomes before before.handles after × (before.is_finished ≡ true → after.is_finished ≡ true)

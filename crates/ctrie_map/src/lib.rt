@@ -1,0 +1,8 @@
+//! A map of numbers with snapshots, for programs: each call's contract is that of the finite map.
+#![tactic(auto)]
+
+mod errors;
+mod map;
+
+pub use errors::MapError;
+pub use map::Map;
