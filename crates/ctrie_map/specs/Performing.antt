@@ -41,3 +41,12 @@ Performs (Err Memory) before call after = ((denial_in before call ≡ None) ⊎ 
 Performs (Err Unfinished) before call after = IsBegun before call × (after.is_finished ≡ false) × ((answer : Reply) × Answers before call answer after)
 Performs (Err WornOut) before call after = (denial_in before call ≡ None) × (is_worn_out before ≡ true) × Stays before after
 Performs (Err error) before call after = (denial_in before call ≡ Some error) × Stays before after
+
+-- all is as before, but that a call may have come to its end that was unfinished
+pub record IsSame (before after : MapState) : Type 0 where
+  pub hash : after.hash ≡ before.hash
+  pub slots : after.slots ≡ before.slots
+  pub handles : after.handles ≡ before.handles
+  pub free : after.free ≡ before.free
+  pub age : after.age ≡ before.age
+  pub ready : before.is_finished ≡ true → after.is_finished ≡ true

@@ -3,6 +3,7 @@
 
 mod errors;
 mod map;
+mod performing;
 
 pub use errors::MapError;
 pub use map::Map;
