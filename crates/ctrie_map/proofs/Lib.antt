@@ -1,2 +1,6 @@
 pub mod Going
 pub mod Finishing
+pub mod Sweeping
+pub mod Denying
+pub mod Carrying
+pub mod Performing

@@ -2,6 +2,8 @@
 use Rattle.std.specs.Prelude.{◌≡◌, ◌⊎◌, ℕ, true, false, Option, Some, None, Result, Ok, Err}
 use Rattle.std.specs.FinMap as map
 use Rattle.ctrie_base.specs.Hashes.{hash_of}
+use Rattle.ctrie_base.specs.declared.refusals.Refusal.{Refusal}
+use Rattle.ctrie_base.specs.declared.refusals.Refusal.TheVariants as refuse
 use Rattle.history.specs.declared.calls.Call.{Call}
 use Rattle.history.specs.declared.calls.Call.TheVariants.{Get, Entries, Count}
 use Rattle.history.specs.declared.replies.Reply.{Reply}
@@ -9,7 +11,7 @@ use Rattle.history.specs.declared.replies.Reply.TheVariants.{NoSlots}
 use Rattle.history.specs.Effects.{Effect}
 use Rattle.machine_model.specs.Calls.{handle_of, needs_writable, opens_handle}
 use Rattle.ctrie_map.specs.declared.errors.MapError.{MapError}
-use Rattle.ctrie_map.specs.declared.errors.MapError.TheVariants.{WornOut, Unfinished, Memory}
+use Rattle.ctrie_map.specs.declared.errors.MapError.TheVariants.{NoHandle, ReadOnly, HandlesFull, BadSizes, WornOut, Unfinished, Memory}
 use Rattle.ctrie_map.specs.Maps.{MapState, Becomes, Stays}
 use Rattle.ctrie_map.specs.Changes.{IsTight, denial_by, is_worn_out}
 
@@ -34,6 +36,15 @@ Answers before call NoSlots after = IsTight before × Becomes before before.hand
 Answers before call answer after =
     (opens : Option ℕ) × (next : _) × Effect (hash_of before.hash) before.handles call opens answer next × Becomes before next after
 
+-- what the map tells of a refusal of the machine
+abbrev pub of_refusal : Refusal → MapError
+of_refusal refuse.NoHandle = NoHandle
+of_refusal refuse.ReadOnly = ReadOnly
+of_refusal refuse.HandlesFull = HandlesFull
+of_refusal refuse.Spent = WornOut
+of_refusal refuse.BadLimits = BadSizes
+of_refusal refusal = Memory
+
 -- what it comes to; unfinished, it comes to a reply that isn't told
 abbrev pub Performs : Result Reply MapError → MapState → Call → MapState → Type 0
 Performs (Ok answer) before call after = IsBegun before call × Answers before call answer after × (after.is_finished ≡ true)
@@ -50,3 +61,7 @@ pub record IsSame (before after : MapState) : Type 0 where
   pub free : after.free ≡ before.free
   pub age : after.age ≡ before.age
   pub ready : before.is_finished ≡ true → after.is_finished ≡ true
+
+-- memory was wanting, or the map is worn out
+abbrev pub IsForWant : MapState → MapError → Type 0
+IsForWant before error = (error ≡ Memory) ⊎ ((error ≡ WornOut) × (is_worn_out before ≡ true))

@@ -1,5 +1,9 @@
 //! Why a call was refused.
 
+ghost use Rattle.std.specs.Prelude.{◌≡◌};
+ghost use Rattle.ctrie_map.specs.Performing.{of_refusal};
+
+use ctrie_base::Refusal;
 use thiserror::Error;
 
 /// Why a call was refused. No map has changed then, but after `Unfinished`.
@@ -33,4 +37,19 @@ pub enum MapError {
     /// is done; its reply is lost. Until then the map can't be read.
     #[error("a call is unfinished for want of memory")]
     Unfinished,
+}
+
+impl From<Refusal> for MapError {
+    ghost from_gives = { λ refusal error. error ≡ of_refusal refusal };
+
+    fn from(refusal: Refusal) -> MapError {
+        match refusal {
+            Refusal::NoHandle => MapError::NoHandle,
+            Refusal::ReadOnly => MapError::ReadOnly,
+            Refusal::HandlesFull => MapError::HandlesFull,
+            Refusal::Spent => MapError::WornOut,
+            Refusal::BadLimits => MapError::BadSizes,
+            _ => MapError::Memory,
+        }
+    }
 }
