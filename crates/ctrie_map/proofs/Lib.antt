@@ -3,4 +3,4 @@ pub mod Finishing
 pub mod Sweeping
 pub mod Denying
 pub mod Carrying
-pub mod Performing
+pub mod Composing
