@@ -94,3 +94,17 @@ unswept_performs first second same c told allowed (inr (is, worn)) = rw is (allo
 -- what is allowed stays so
 pub still_allowed : (first second : MapState) → IsSame first second → (c : Call) → denial_in first c ≡ None → denial_in second c ≡ None
 still_allowed first second same c allowed = subst (λ s. denial_in s c ≡ None) (sym (second_is first second same)) allowed
+
+-- and so on
+pub same_on : (first second third : MapState) → IsSame first second → IsSame second third → IsSame first third
+same_on first second third a b = record {
+  hash = b.hash ∙ a.hash;
+  slots = b.slots ∙ a.slots;
+  handles = b.handles ∙ a.handles;
+  free = b.free ∙ a.free;
+  age = b.age ∙ a.age;
+  ready = λ r. b.ready (a.ready r);
+}
+
+pub wants_on : (first second : MapState) → IsSame first second → (told : MapError) → IsForWant second told → IsForWant first told
+wants_on first second same told wants = subst (λ s. IsForWant s told) (second_is first second same) wants

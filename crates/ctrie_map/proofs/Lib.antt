@@ -4,3 +4,11 @@ pub mod Sweeping
 pub mod Denying
 pub mod Carrying
 pub mod Composing
+pub mod Changing
+pub mod Puts
+pub mod Replaces
+pub mod Removes
+pub mod Copies
+pub mod Closings
+pub mod Lookups
+pub mod Firsts

@@ -41,6 +41,10 @@ abbrev pub IsCrowdedAt : MapState → ℕ → ℕ → Type 0
 IsCrowdedAt before handle key =
     (m : KeyMap) × (map.get before.handles handle ≡ Some (record { access = Writable; pairs = m })) × (is_crowded (hash_of before.hash) m key ≡ true)
 
+-- nothing is asked of the map
+abbrev pub IsAny : KeyMap → Type 0
+IsAny m = Unit {0}
+
 -- ---- why not
 
 abbrev pub is_frozen : Access → Bool

@@ -5,3 +5,4 @@ pub mod Machines
 pub mod Reading
 pub mod Changes
 pub mod Performing
+pub mod Telling

@@ -1,7 +1,9 @@
 -- What contracts see of a map.
-use Rattle.std.specs.Prelude.{◌≡◌, ℕ, Bool, true}
+use Rattle.std.specs.Prelude.{◌≡◌, ◌⊎◌, ◌≤◌, ℕ, Bool, true}
 use Rattle.ctrie_base.specs.declared.hashes.HashKind.{HashKind}
-use Rattle.history.specs.Worlds.{HandleMap}
+use Rattle.history.specs.Worlds.{HandleMap, first_world}
+use Rattle.ctrie_map.specs.declared.errors.MapError.{MapError}
+use Rattle.ctrie_map.specs.declared.errors.MapError.TheVariants.{BadSizes, Memory}
 
 pub record MapState : Type 0 where
   -- the hash of keys
@@ -24,3 +26,14 @@ Becomes before handles after = (after.hash ≡ before.hash) × (after.slots ≡ 
 -- no handle and no map has changed
 abbrev pub Stays : MapState → MapState → Type 0
 Stays before after = Becomes before before.handles after × (before.is_finished ≡ true → after.is_finished ≡ true)
+
+-- a new map: handle 0 is open, writable and empty
+abbrev pub IsNew : ℕ → HashKind → MapState → Type 0
+IsNew slots hash made = (made.hash ≡ hash) × (made.slots ≡ slots) × (made.handles ≡ first_world) × (made.age ≡ 0) × (made.is_finished ≡ true)
+
+abbrev pub AreSlots : ℕ → Type 0
+AreSlots slots = (2 ≤ slots) × (slots ≤ 65536)
+
+-- why there is none
+abbrev pub RefusesSizes : ℕ → MapError → Type 0
+RefusesSizes slots error = ((¬ AreSlots slots) × (error ≡ BadSizes)) ⊎ (AreSlots slots × (error ≡ Memory))

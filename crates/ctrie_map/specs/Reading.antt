@@ -18,7 +18,6 @@ if_finished false answer = Err Unfinished
 abbrev pub reading : {A : Type 0} → MapState → ℕ → (KeyMap → A) → Result A MapError
 reading now handle read = if_finished now.is_finished (read_of read (map.get now.handles handle))
 
--- the same, but for want of memory
-abbrev pub ReadsOrWants : {A : Type 0} → Result A MapError → Result A MapError → Type 0
-ReadsOrWants answer (Ok told) = answer ≡ Ok told
-ReadsOrWants answer (Err error) = (answer ≡ Err error) ⊎ (error ≡ Memory)
+-- the same, where memory may be wanting for it
+abbrev pub RefusesReading : {A : Type 0} → Result A MapError → MapError → Type 0
+RefusesReading answer error = (answer ≡ Err error) ⊎ (error ≡ Memory)

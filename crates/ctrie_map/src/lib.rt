@@ -1,9 +1,17 @@
 //! A map of numbers with snapshots, for programs: each call's contract is that of the finite map.
 #![tactic(auto)]
 
+mod copying;
 mod errors;
+mod handle;
 mod map;
 mod performing;
+mod putting;
+mod reading;
+mod removing;
+mod replacing;
+mod telling;
 
 pub use errors::MapError;
+pub use handle::Handle;
 pub use map::Map;

@@ -12,7 +12,7 @@ use history::{Call, Reply};
 use step_machine::{Machine, Step};
 
 /// The one actor of a map's machine.
-const ACTOR: u8 = 1;
+pub(crate) const ACTOR: u8 = 1;
 
 /// How many steps a machine takes in its life.
 const STEP_LIMIT: u64 = 1 << 40;
@@ -77,6 +77,20 @@ fn carry_out(machine: &mut Machine, call: Call) -> Result<Reply, MapError>
         Err(_) if machine.is_busy() => Err(MapError::Unfinished),
         Err(_) => Err(MapError::Memory),
     }
+}
+
+/// Brings to an end what was left over.
+#[tactic(auto, using(crate::proofs::Composing::same_on, crate::proofs::Composing::wants_on))]
+pub(crate) fn settle(machine: &mut Machine) -> Result<(), MapError>
+    requires { IsForOne machine.old }
+    ensures for_one { IsForOne machine.new }
+    ensures same { IsSame (state_by machine.old) (state_by machine.new) }
+    ensures rest { OnOk result (is_busy (state_of machine.new) ≡ false) }
+    ensures clean { OnOk result ((state_of machine.new).limbo ≡ []) }
+    ensures refused { IfErr result (IsForWant (state_by machine.old)) }
+{
+    finish(machine)?;
+    sweep(machine)
 }
 
 /// One call from its begin to its end, after what was left over. What it makes free is swept behind it, and if memory is
