@@ -41,16 +41,16 @@ if_err P Q (Err why) p = p
 abbrev pub Writes : HandleMap → ℕ → KeyMap → Type 0
 Writes world handle m = map.get world handle ≡ Some (record { access = Writable; pairs = m })
 
+abbrev writing : KeyMap → HandleState
+writing m = record { access = Writable; pairs = m }
+
 -- a handle that names it already names it
 pub naming_same : (world : HandleMap) (handle : ℕ) (m : KeyMap) → Writes world handle m → naming world handle Writable m ≡ world
 naming_same world handle m at =
     same_map nat_cmp_total nat_cmp-IsAntisymmetric (naming world handle Writable m) world
-    (λ q. get-insert nat_cmp_total world handle shown q ∙ ap (λ b. cond b (Some shown) (map.get world q)) (unsigned_tied q handle) ∙ by_key q (eqb q handle) refl)
+    (λ q. get-insert nat_cmp_total world handle (writing m) q ∙ ap (λ b. cond b (Some (writing m)) (map.get world q)) (unsigned_tied q handle) ∙ by_key q (eqb q handle) refl)
   where
-    abbrev shown : HandleState
-    shown = record { access = Writable; pairs = m }
-
-    by_key : (q : ℕ) (b : Bool) → eqb q handle ≡ b → cond b (Some shown) (map.get world q) ≡ map.get world q
+    by_key : (q : ℕ) (b : Bool) → eqb q handle ≡ b → cond b (Some (writing m)) (map.get world q) ≡ map.get world q
     by_key q true e = sym at ∙ ap (map.get world) (sym (eqb-true q handle e))
     by_key q false e = refl
 

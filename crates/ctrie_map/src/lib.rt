@@ -12,6 +12,8 @@ mod removing;
 mod replacing;
 mod telling;
 
+pub use ctrie_base::HashKind;
 pub use errors::MapError;
 pub use handle::Handle;
 pub use map::Map;
+pub use reading::SLOTS_FOR_A_CALL;

@@ -1,7 +1,8 @@
 //! Calls that change nothing.
 
-ghost use Rattle.std.specs.Prelude.{◌≡◌, IfOk, IfErr, Ok};
+ghost use Rattle.std.specs.Prelude.{◌≡◌, nat_le, IfOk, IfErr, Ok};
 ghost use Rattle.std.specs.FinMap as map;
+ghost use Rattle.ctrie_map.specs.Changes.{slots_for_a_call};
 ghost use Rattle.ctrie_map.specs.Machines.{IsForOne, state_by};
 ghost use Rattle.ctrie_map.specs.Performing.{IsForWant, IsSame};
 ghost use Rattle.ctrie_map.specs.Reading.{RefusesReading, if_finished, reading};
@@ -10,7 +11,11 @@ use crate::errors::MapError;
 use crate::handle::Handle;
 use crate::map::Map;
 use crate::performing::settle;
+use ctrie_base::Refusal;
 use step_machine::Machine;
+
+/// So many free slots are enough for any call.
+pub const SLOTS_FOR_A_CALL: u32 = 3_962;
 
 impl Map {
     /// The key's value, if it has one. It takes no memory.
@@ -21,7 +26,7 @@ impl Map {
     }
 
     /// Whether the key has a value. It takes no memory.
-    #[tactic(auto, using(crate::proofs::Reads::mapped, crate::proofs::Reads::refused))]
+    #[tactic(auto, using(crate::proofs::Lookups::mapped, crate::proofs::Lookups::refused))]
     pub fn contains(&self, handle: Handle, key: u64) -> Result<bool, MapError>
         ensures { result ≡ reading self.now handle (λ m. map.contains_key m key) }
     {
@@ -37,6 +42,7 @@ impl Map {
     }
 
     /// How many keys have a value.
+    #[tactic(auto, using(crate::proofs::Lookups::len_read, crate::proofs::Lookups::len_refused))]
     pub fn count(&self, handle: Handle) -> Result<u64, MapError>
         ensures count { IfOk result (λ count. reading self.now handle (λ m. map.len m) ≡ Ok count) }
         ensures refused { IfErr result (RefusesReading (reading self.now handle (λ m. map.len m))) }
@@ -51,7 +57,7 @@ impl Map {
         handles_in(&self.machine)
     }
 
-    /// How many slots there are.
+    /// How many slots there are in all.
     pub fn slots(&self) -> u32
         ensures { result ≡ self.now.slots }
     {
@@ -65,6 +71,15 @@ impl Map {
         ensures refused { IfErr result (IsForWant self.old) }
     {
         free_in(&mut self.machine)
+    }
+
+    /// Whether the next call finds enough free slots, whatever it is: it isn't `Full` then.
+    pub fn has_room(&mut self) -> Result<bool, MapError>
+        ensures room { IfOk result (λ room. room ≡ nat_le slots_for_a_call self.old.free) }
+        ensures same { IsSame self.old self.new }
+        ensures refused { IfErr result (IsForWant self.old) }
+    {
+        Ok(self.free()? >= SLOTS_FOR_A_CALL)
     }
 }
 
@@ -84,6 +99,7 @@ fn value_in(machine: &Machine, handle: u16, key: u64) -> Result<Option<u64>, Map
 }
 
 /// The pairs of a handle's map.
+#[tactic(auto, using(crate::proofs::Lookups::unread, crate::proofs::Lookups::unlisted))]
 fn entries_in(machine: &Machine, handle: u16) -> Result<Vec<(u64, u64)>, MapError>
     ensures entries { IfOk result (λ entries. reading (state_by machine.now) handle (λ m. map.entries m) ≡ Ok entries.items) }
     ensures refused { IfErr result (RefusesReading (reading (state_by machine.now) handle (λ m. map.entries m))) }
@@ -93,7 +109,11 @@ fn entries_in(machine: &Machine, handle: u16) -> Result<Vec<(u64, u64)>, MapErro
     }
     let _ = machine.limits();
     let _ = machine.steps();
-    Ok(machine.content(handle)?)
+    match machine.content(handle) {
+        Ok(pairs) => Ok(pairs),
+        Err(Refusal::NoHandle) => Err(MapError::NoHandle),
+        Err(_) => Err(MapError::Memory),
+    }
 }
 
 /// The number of open handles.
