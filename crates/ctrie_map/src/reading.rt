@@ -15,7 +15,7 @@ use ctrie_base::Refusal;
 use step_machine::Machine;
 
 /// So many free slots are enough for any call.
-pub const SLOTS_FOR_A_CALL: u32 = 3_962;
+pub const SLOTS_FOR_A_CALL: u32 = 570;
 
 impl Map {
     /// The key's value, if it has one. It takes no memory.

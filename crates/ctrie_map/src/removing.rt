@@ -13,7 +13,7 @@ use history::Call;
 
 impl Map {
     /// Removes the key. The value before, if it had one.
-    #[tactic(auto, using(crate::proofs::Removes::remove_done, crate::proofs::Removing::remove_refused))]
+    #[tactic(auto, using(crate::proofs::Removes::remove_done, crate::proofs::Removes::remove_refused))]
     pub fn remove(&mut self, handle: Handle, key: u64) -> Result<Option<u64>, MapError>
         ensures done { IfOk result (λ before. IsReady self.old self.new × Changes self.old handle (λ m. before ≡ map.get m key) (λ m. map.remove m key) self.new) }
         ensures refused { IfErr result (Refused (change_denial self.old handle) ⊥ (Changes self.old handle IsAny (λ m. map.remove m key)) self.old self.new) }
@@ -22,7 +22,7 @@ impl Map {
     }
 
     /// Removes a key that has this value. Whether it had it.
-    #[tactic(auto, using(crate::proofs::Removes::remove_if_done, crate::proofs::Removing::remove_if_refused))]
+    #[tactic(auto, using(crate::proofs::Removes::remove_if_done, crate::proofs::Removes::remove_if_refused))]
     pub fn remove_if(&mut self, handle: Handle, key: u64, value: u64) -> Result<bool, MapError>
         ensures done { IfOk result (λ done. IsReady self.old self.new × Changes self.old handle (λ m. done ≡ has_value m key value) (λ m. if has_value m key value then map.remove m key else m) self.new) }
         ensures refused { IfErr result (Refused (change_denial self.old handle) ⊥ (Changes self.old handle IsAny (λ m. if has_value m key value then map.remove m key else m)) self.old self.new) }
@@ -31,7 +31,7 @@ impl Map {
     }
 
     /// Removes all keys.
-    #[tactic(auto, using(crate::proofs::Removes::clear_done, crate::proofs::Removing::clear_refused))]
+    #[tactic(auto, using(crate::proofs::Removes::clear_done, crate::proofs::Removes::clear_refused))]
     pub fn clear(&mut self, handle: Handle) -> Result<(), MapError>
         ensures done { IfOk result (λ _. IsReady self.old self.new × Changes self.old handle (IsAny) (λ m. map.empty) self.new) }
         ensures refused { IfErr result (Refused (change_denial self.old handle) ⊥ (Changes self.old handle IsAny (λ m. map.empty)) self.old self.new) }

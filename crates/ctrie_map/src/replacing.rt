@@ -13,7 +13,7 @@ use history::Call;
 
 impl Map {
     /// Sets the value of a key that has one. The value before, if it had one.
-    #[tactic(auto, using(crate::proofs::Replaces::replace_done, crate::proofs::Replacing::replace_refused))]
+    #[tactic(auto, using(crate::proofs::Replaces::replace_done, crate::proofs::Replaces::replace_refused))]
     pub fn replace(&mut self, handle: Handle, key: u64, value: u64) -> Result<Option<u64>, MapError>
         ensures done { IfOk result (λ before. IsReady self.old self.new × Changes self.old handle (λ m. before ≡ map.get m key) (λ m. if map.contains_key m key then map.insert m key value else m) self.new) }
         ensures refused { IfErr result (Refused (change_denial self.old handle) ⊥ (Changes self.old handle IsAny (λ m. if map.contains_key m key then map.insert m key value else m)) self.old self.new) }
@@ -22,7 +22,7 @@ impl Map {
     }
 
     /// Sets the value of a key that has the value `old`. Whether it had it.
-    #[tactic(auto, using(crate::proofs::Replaces::replace_if_done, crate::proofs::Replacing::replace_if_refused))]
+    #[tactic(auto, using(crate::proofs::Replaces::replace_if_done, crate::proofs::Replaces::replace_if_refused))]
     pub fn replace_if(&mut self, handle: Handle, key: u64, old: u64, new: u64) -> Result<bool, MapError>
         ensures done { IfOk result (λ done. IsReady self.old self.new × Changes self.old handle (λ m. done ≡ has_value m key old) (λ m. if has_value m key old then map.insert m key new else m) self.new) }
         ensures refused { IfErr result (Refused (change_denial self.old handle) ⊥ (Changes self.old handle IsAny (λ m. if has_value m key old then map.insert m key new else m)) self.old self.new) }

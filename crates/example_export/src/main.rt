@@ -4,6 +4,9 @@
 use ctrie_map::{Handle, HashKind, Map, MapError};
 use std::process::ExitCode;
 
+/// The account into which all others pay.
+const TILL: u64 = 0;
+
 /// Puts 20 amounts into the index, all of which make 1,000.
 fn fill(map: &mut Map, index: Handle) -> Result<(), MapError> {
     for account in 1..21 {
@@ -12,12 +15,12 @@ fn fill(map: &mut Map, index: Handle) -> Result<(), MapError> {
     Ok(())
 }
 
-/// Moves one from an account to the other.
-fn pass_on(map: &mut Map, index: Handle, from: u64, to: u64) -> Result<(), MapError> {
-    let left = map.get(index, from)?.unwrap_or(0);
-    let there = map.get(index, to)?.unwrap_or(0);
-    map.put(index, from, left.saturating_sub(1))?;
-    map.put(index, to, there.saturating_add(1))?;
+/// Moves one from an account to the till.
+fn pay(map: &mut Map, index: Handle, account: u64) -> Result<(), MapError> {
+    let left = map.get(index, account)?.unwrap_or(0);
+    let paid = map.get(index, TILL)?.unwrap_or(0);
+    map.put(index, account, left.saturating_sub(1))?;
+    map.put(index, TILL, paid.saturating_add(1))?;
     Ok(())
 }
 
@@ -38,13 +41,13 @@ fn run<R: Print + AllocGlobal>(rt: &R) -> Result<(), MapError> {
     let copy = map.freeze(index)?;
     let mut exported: u64 = 0;
     for account in 1..21 {
-        pass_on(&mut map, index, account, 1)?;
+        pay(&mut map, index, account)?;
         exported = exported.saturating_add(map.get(copy, account)?.unwrap_or(0));
     }
     let now = map.entries(index)?;
     let then = map.entries(copy)?;
-    let first = map.get(index, 1)?.unwrap_or(0);
-    let _ = println!(rt; "exported {exported}, account 1 has {first} now");
+    let paid = map.get(index, TILL)?.unwrap_or(0);
+    let _ = println!(rt; "exported {exported} while {paid} were paid");
     let _ = println!(rt; "the copy has {}, the index {}", sum(then.as_slice()), sum(now.as_slice()));
     let with_copy = map.free()?;
     map.close(copy)?;

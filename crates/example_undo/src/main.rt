@@ -6,6 +6,7 @@ use std::alloc::Global;
 use std::process::ExitCode;
 
 /// A sheet of numbered cells, and the snapshots to which it can go back.
+#[derive(Drop)]
 struct Sheet {
     map: Map,
     now: Handle,
