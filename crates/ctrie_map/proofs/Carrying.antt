@@ -26,7 +26,7 @@ use Rattle.step_machine.specs.Callers.{Completes, CompletesUnless, Going, going_
 use Rattle.step_machine.specs.Ending.{CompletesIfSure, IsBounded, IsSpared, IsSure, enough_slots}
 use Rattle.step_machine.specs.Legality.{ActedAlone, RestsIfAnswered, WentAlone}
 use Rattle.step_machine.specs.Machines.{Taken, state_of, with_step}
-use Rattle.step_machine.proofs.Ending.{begun_runs_on, must_be, sure_behind}
+use Rattle.step_machine.proofs.Ending.{begun_runs_on, enough_for_call, must_be, sure_behind}
 use Rattle.step_machine.proofs.Going.{has_more}
 use Rattle.step_machine.proofs.Legality.{acted_again, rests_again, spares_again}
 use Rattle.step_machine.proofs.Resting.{unanswered_at_rest}
@@ -35,9 +35,10 @@ use Rattle.ctrie_map.specs.Beneath.proof_linearizable.proofs.Legal.{alone_it_act
 use Rattle.ctrie_map.specs.Beneath.proof_obstruction_free.specs.Laws.{most_steps_alone}
 use Rattle.ctrie_map.specs.Beneath.proof_obstruction_free.proofs.Ends.Closes.{closes_end}
 use Rattle.ctrie_map.specs.Beneath.proof_obstruction_free.proofs.Inherited.EndsAll.{each_step_leads_to_its_end}
-use Rattle.ctrie_map.specs.Beneath.proof_obstruction_free.proofs.Slots.Few.{enough_slots as enough}
+use Rattle.ctrie_map.specs.Beneath.proof_obstruction_free.proofs.Slots.Tries.{enough_for_tries}
+use Rattle.ctrie_map.specs.Beneath.proof_obstruction_free.proofs.Slots.Few.{enough_for_copies}
 use Rattle.ctrie_map.specs.declared.errors.MapError.TheVariants as error
-use Rattle.ctrie_map.specs.Changes.{IsTight, is_worn_out, slots_for_a_call}
+use Rattle.ctrie_map.specs.Changes.{IsTight, is_worn_out}
 use Rattle.ctrie_map.specs.Machines.{Ends, IsForOne, finished, state_by, swept_out, the_actor}
 use Rattle.ctrie_map.specs.Maps.{MapState, Becomes}
 use Rattle.ctrie_map.specs.Performing.{Answers, IsBegun, IsChange, Performs, denial_in}
@@ -105,7 +106,7 @@ module _ (before : Taken) (c : Call) (for_one : IsForOne before) (rest : is_busy
 
   -- ---- what an answer does
 
-  tight : (b : Bool) → nat_le slots_for_a_call (state_by before).free ≡ b → IsSpared before c (Ok (Some NoSlots)) → IsTight (state_by before)
+  tight : (b : Bool) → nat_le (enough_slots c) (state_by before).free ≡ b → IsSpared before c (Ok (Some NoSlots)) → IsTight (enough_slots c) (state_by before)
   tight true e spared = let is = free_is in absurd (spared sure (grind (arith, e, is)) refl)
   tight false e spared = grind (arith, e)
 
@@ -114,7 +115,8 @@ module _ (before : Taken) (c : Call) (for_one : IsForOne before) (rest : is_busy
     by_does : (id : ℕ) (opens : Option ℕ) (world next : HandleMap) → world ≡ (state_by before).handles → next ≡ after.handles → IsSpared before c (Ok (Some answer)) →
         Does (hash_of before.limits.hash) (state_of before) (state_of last) id c opens answer world next → Answers (state_by before) c answer after
     by_does id opens world next from to spared (refused none order stays) =
-        let tight_so : IsTight (state_by before) = tight (nat_le slots_for_a_call (state_by before).free) refl (subst (λ a. IsSpared before c (Ok (Some a))) none spared) in
+        let tight_so : IsTight (enough_slots c) (state_by before) =
+        tight (nat_le (enough_slots c) (state_by before).free) refl (subst (λ a. IsSpared before c (Ok (Some a))) none spared) in
         subst (λ a. Answers (state_by before) c a after) (sym none) (tight_so, (hash, slots, sym to ∙ stays ∙ from))
     by_does id opens world next from to spared (acts other order effect) =
         acts_so (state_by before) c answer after other opens next (subst (λ w. Effect (hash_of before.limits.hash) w c opens answer next) from effect) (hash, slots, sym to)
@@ -180,7 +182,7 @@ module _ (before : Taken) (c : Call) (for_one : IsForOne before) (rest : is_busy
         led = led;
         idle = rests_again before after whole.1 the_actor c went (Ok (Some answer)) led;
         acted = acted_again before after whole.1 the_actor c went alone_it_acts ok_last fit_last (Ok (Some answer)) led;
-        spared = spares_again before after whole.1 the_actor c went each_step_leads_to_its_end closes_end enough ok_last fit_last (Ok (Some answer)) led;
+        spared = spares_again before after whole.1 the_actor c went each_step_leads_to_its_end closes_end (enough_for_call enough_for_tries enough_for_copies) ok_last fit_last (Ok (Some answer)) led;
         sizes = more.limits;
       }
 

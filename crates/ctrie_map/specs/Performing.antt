@@ -10,6 +10,7 @@ use Rattle.history.specs.declared.replies.Reply.{Reply}
 use Rattle.history.specs.declared.replies.Reply.TheVariants.{NoSlots}
 use Rattle.history.specs.Effects.{Effect}
 use Rattle.machine_model.specs.Calls.{handle_of, needs_writable, opens_handle}
+use Rattle.step_machine.specs.Ending.{enough_slots}
 use Rattle.ctrie_map.specs.declared.errors.MapError.{MapError}
 use Rattle.ctrie_map.specs.declared.errors.MapError.TheVariants.{NoHandle, ReadOnly, HandlesFull, BadSizes, WornOut, Unfinished, Memory}
 use Rattle.ctrie_map.specs.Maps.{MapState, Becomes, Stays}
@@ -32,7 +33,7 @@ IsBegun before call = (denial_in before call ≡ None) × (is_worn_out before �
 
 -- this is its reply, and what it does
 abbrev pub Answers : MapState → Call → Reply → MapState → Type 0
-Answers before call NoSlots after = IsTight before × Becomes before before.handles after
+Answers before call NoSlots after = IsTight (enough_slots call) before × Becomes before before.handles after
 Answers before call answer after =
     (opens : Option ℕ) × (next : _) × Effect (hash_of before.hash) before.handles call opens answer next × Becomes before next after
 

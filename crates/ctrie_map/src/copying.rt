@@ -1,8 +1,8 @@
 //! Calls that open and close handles.
 
-ghost use Rattle.std.specs.Prelude.{◌≡◌, ℕ, IfOk, IfErr};
+ghost use Rattle.std.specs.Prelude.{IfOk, IfErr};
 ghost use Rattle.history.specs.declared.calls.Access.TheVariants.{Writable, ReadOnly};
-ghost use Rattle.ctrie_map.specs.Changes.{Closes, Copies, IsReady, Refused, close_denial, copy_denial};
+ghost use Rattle.ctrie_map.specs.Changes.{Closes, Copies, IsReady, RefusesClose, RefusesCopy};
 
 use crate::errors::MapError;
 use crate::handle::Handle;
@@ -15,7 +15,7 @@ impl Map {
     #[tactic(auto, using(crate::proofs::Copies::snapshot_done, crate::proofs::Copies::snapshot_refused))]
     pub fn snapshot(&mut self, handle: Handle) -> Result<Handle, MapError>
         ensures done { IfOk result (λ copy. IsReady self.old self.new × Copies self.old handle Writable copy self.new) }
-        ensures refused { IfErr result (Refused (copy_denial self.old handle) ⊥ (λ after. (copy : ℕ) × Copies self.old handle Writable copy after) self.old self.new) }
+        ensures refused { IfErr result (RefusesCopy self.old handle Writable self.new) }
     {
         opened(self.perform(Call::Snapshot { handle: handle.number() }))
     }
@@ -24,16 +24,17 @@ impl Map {
     #[tactic(auto, using(crate::proofs::Copies::freeze_done, crate::proofs::Copies::freeze_refused))]
     pub fn freeze(&mut self, handle: Handle) -> Result<Handle, MapError>
         ensures done { IfOk result (λ copy. IsReady self.old self.new × Copies self.old handle ReadOnly copy self.new) }
-        ensures refused { IfErr result (Refused (copy_denial self.old handle) ⊥ (λ after. (copy : ℕ) × Copies self.old handle ReadOnly copy after) self.old self.new) }
+        ensures refused { IfErr result (RefusesCopy self.old handle ReadOnly self.new) }
     {
         opened(self.perform(Call::Freeze { handle: handle.number() }))
     }
 
-    /// Takes the handle away, and its map. What only this map had is free again then.
+    /// Takes the handle away, and its map. What only this map had is free again then. It wants no slot, so it is never
+    /// `Full`.
     #[tactic(auto, using(crate::proofs::Closings::close_done, crate::proofs::Closings::close_refused))]
     pub fn close(&mut self, handle: Handle) -> Result<(), MapError>
         ensures done { IfOk result (λ _. IsReady self.old self.new × Closes self.old handle self.new) }
-        ensures refused { IfErr result (Refused (close_denial self.old handle) ⊥ (Closes self.old handle) self.old self.new) }
+        ensures refused { IfErr result (RefusesClose self.old handle self.new) }
     {
         done(self.perform(Call::Close { handle: handle.number() }))
     }

@@ -1,8 +1,8 @@
 //! Calls that give a key a value which may have none.
 
-ghost use Rattle.std.specs.Prelude.{◌≡◌, IfOk, IfErr, if◌then◌else◌};
+ghost use Rattle.std.specs.Prelude.{◌≡◌, IfOk, IfErr};
 ghost use Rattle.std.specs.FinMap as map;
-ghost use Rattle.ctrie_map.specs.Changes.{Changes, HasRoom, IsCrowdedAt, IsReady, Refused, change_denial};
+ghost use Rattle.ctrie_map.specs.Changes.{Changes, HasRoom, IsCrowdedAt, IsReady, RefusesChange, set_if_absent};
 
 use crate::errors::MapError;
 use crate::handle::Handle;
@@ -14,8 +14,9 @@ impl Map {
     /// Sets the key's value. The value before, if it had one.
     #[tactic(auto, using(crate::proofs::Puts::put_done, crate::proofs::Puts::put_refused))]
     pub fn put(&mut self, handle: Handle, key: u64, value: u64) -> Result<Option<u64>, MapError>
-        ensures done { IfOk result (λ before. IsReady self.old self.new × Changes self.old handle (λ m. (before ≡ map.get m key) × HasRoom self.old key m) (λ m. map.insert m key value) self.new) }
-        ensures refused { IfErr result (Refused (change_denial self.old handle) (IsCrowdedAt self.old handle key) (Changes self.old handle (HasRoom self.old key) (λ m. map.insert m key value)) self.old self.new) }
+        ensures done { IfOk result (λ before. IsReady self.old self.new
+            × Changes self.old handle (λ m. (before ≡ map.get m key) × HasRoom self.old key m) (λ m. map.insert m key value) self.new) }
+        ensures refused { IfErr result (RefusesChange self.old handle (IsCrowdedAt self.old handle key) (HasRoom self.old key) (λ m. map.insert m key value) self.new) }
     {
         found(self.perform(Call::Put { handle: handle.number(), key, value }))
     }
@@ -23,8 +24,9 @@ impl Map {
     /// Sets the value of a key that has none. The value that it has already, if it has one.
     #[tactic(auto, using(crate::proofs::Puts::absent_done, crate::proofs::Puts::absent_refused))]
     pub fn put_if_absent(&mut self, handle: Handle, key: u64, value: u64) -> Result<Option<u64>, MapError>
-        ensures done { IfOk result (λ before. IsReady self.old self.new × Changes self.old handle (λ m. (before ≡ map.get m key) × HasRoom self.old key m) (λ m. if map.contains_key m key then m else map.insert m key value) self.new) }
-        ensures refused { IfErr result (Refused (change_denial self.old handle) (IsCrowdedAt self.old handle key) (Changes self.old handle (HasRoom self.old key) (λ m. if map.contains_key m key then m else map.insert m key value)) self.old self.new) }
+        ensures done { IfOk result (λ before. IsReady self.old self.new
+            × Changes self.old handle (λ m. (before ≡ map.get m key) × HasRoom self.old key m) (set_if_absent key value) self.new) }
+        ensures refused { IfErr result (RefusesChange self.old handle (IsCrowdedAt self.old handle key) (HasRoom self.old key) (set_if_absent key value) self.new) }
     {
         found(self.perform(Call::PutIfAbsent { handle: handle.number(), key, value }))
     }

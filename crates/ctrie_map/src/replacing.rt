@@ -1,9 +1,9 @@
 //! Calls that change the value of a key which has one.
 
-ghost use Rattle.std.specs.Prelude.{◌≡◌, IfOk, IfErr, if◌then◌else◌};
+ghost use Rattle.std.specs.Prelude.{◌≡◌, IfOk, IfErr};
 ghost use Rattle.std.specs.FinMap as map;
 ghost use Rattle.history.specs.Effects.{has_value};
-ghost use Rattle.ctrie_map.specs.Changes.{Changes, IsAny, IsReady, Refused, change_denial};
+ghost use Rattle.ctrie_map.specs.Changes.{Changes, IsAny, IsReady, RefusesChange, set_if_it_has, set_if_there};
 
 use crate::errors::MapError;
 use crate::handle::Handle;
@@ -15,8 +15,8 @@ impl Map {
     /// Sets the value of a key that has one. The value before, if it had one.
     #[tactic(auto, using(crate::proofs::Replaces::replace_done, crate::proofs::Replaces::replace_refused))]
     pub fn replace(&mut self, handle: Handle, key: u64, value: u64) -> Result<Option<u64>, MapError>
-        ensures done { IfOk result (λ before. IsReady self.old self.new × Changes self.old handle (λ m. before ≡ map.get m key) (λ m. if map.contains_key m key then map.insert m key value else m) self.new) }
-        ensures refused { IfErr result (Refused (change_denial self.old handle) ⊥ (Changes self.old handle IsAny (λ m. if map.contains_key m key then map.insert m key value else m)) self.old self.new) }
+        ensures done { IfOk result (λ before. IsReady self.old self.new × Changes self.old handle (λ m. before ≡ map.get m key) (set_if_there key value) self.new) }
+        ensures refused { IfErr result (RefusesChange self.old handle ⊥ IsAny (set_if_there key value) self.new) }
     {
         found(self.perform(Call::Replace { handle: handle.number(), key, value }))
     }
@@ -24,8 +24,8 @@ impl Map {
     /// Sets the value of a key that has the value `old`. Whether it had it.
     #[tactic(auto, using(crate::proofs::Replaces::replace_if_done, crate::proofs::Replaces::replace_if_refused))]
     pub fn replace_if(&mut self, handle: Handle, key: u64, old: u64, new: u64) -> Result<bool, MapError>
-        ensures done { IfOk result (λ done. IsReady self.old self.new × Changes self.old handle (λ m. done ≡ has_value m key old) (λ m. if has_value m key old then map.insert m key new else m) self.new) }
-        ensures refused { IfErr result (Refused (change_denial self.old handle) ⊥ (Changes self.old handle IsAny (λ m. if has_value m key old then map.insert m key new else m)) self.old self.new) }
+        ensures done { IfOk result (λ done. IsReady self.old self.new × Changes self.old handle (λ m. done ≡ has_value m key old) (set_if_it_has key old new) self.new) }
+        ensures refused { IfErr result (RefusesChange self.old handle ⊥ IsAny (set_if_it_has key old new) self.new) }
     {
         truth(self.perform(Call::ReplaceIf { handle: handle.number(), key, old, new }))
     }
