@@ -12,7 +12,6 @@ use history::Call;
 
 impl Map {
     /// Opens a writable copy. It is changed on its own, as is the map that was copied.
-    #[tactic(auto, using(crate::proofs::Copies::snapshot_done, crate::proofs::Copies::snapshot_refused))]
     pub fn snapshot(&mut self, handle: Handle) -> Result<Handle, MapError>
         ensures done { IfOk result (λ copy. IsReady self.old self.new × Copies self.old handle Writable copy self.new) }
         ensures refused { IfErr result (RefusesCopy self.old handle Writable self.new) }
@@ -21,7 +20,6 @@ impl Map {
     }
 
     /// Opens a read-only copy.
-    #[tactic(auto, using(crate::proofs::Copies::freeze_done, crate::proofs::Copies::freeze_refused))]
     pub fn freeze(&mut self, handle: Handle) -> Result<Handle, MapError>
         ensures done { IfOk result (λ copy. IsReady self.old self.new × Copies self.old handle ReadOnly copy self.new) }
         ensures refused { IfErr result (RefusesCopy self.old handle ReadOnly self.new) }
@@ -31,7 +29,6 @@ impl Map {
 
     /// Takes the handle away, and its map. What only this map had is free again then. It wants no slot, so it is never
     /// `Full`.
-    #[tactic(auto, using(crate::proofs::Closings::close_done, crate::proofs::Closings::close_refused))]
     pub fn close(&mut self, handle: Handle) -> Result<(), MapError>
         ensures done { IfOk result (λ _. IsReady self.old self.new × Closes self.old handle self.new) }
         ensures refused { IfErr result (RefusesClose self.old handle self.new) }

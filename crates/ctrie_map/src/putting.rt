@@ -12,7 +12,6 @@ use history::Call;
 
 impl Map {
     /// Sets the key's value. The value before, if it had one.
-    #[tactic(auto, using(crate::proofs::Puts::put_done, crate::proofs::Puts::put_refused))]
     pub fn put(&mut self, handle: Handle, key: u64, value: u64) -> Result<Option<u64>, MapError>
         ensures done { IfOk result (λ before. IsReady self.old self.new
             × Changes self.old handle (λ m. (before ≡ map.get m key) × HasRoom self.old key m) (λ m. map.insert m key value) self.new) }
@@ -22,7 +21,6 @@ impl Map {
     }
 
     /// Sets the value of a key that has none. The value that it has already, if it has one.
-    #[tactic(auto, using(crate::proofs::Puts::absent_done, crate::proofs::Puts::absent_refused))]
     pub fn put_if_absent(&mut self, handle: Handle, key: u64, value: u64) -> Result<Option<u64>, MapError>
         ensures done { IfOk result (λ before. IsReady self.old self.new
             × Changes self.old handle (λ m. (before ≡ map.get m key) × HasRoom self.old key m) (set_if_absent key value) self.new) }

@@ -13,7 +13,6 @@ use history::Call;
 
 impl Map {
     /// Removes the key. The value before, if it had one.
-    #[tactic(auto, using(crate::proofs::Removes::remove_done, crate::proofs::Removes::remove_refused))]
     pub fn remove(&mut self, handle: Handle, key: u64) -> Result<Option<u64>, MapError>
         ensures done { IfOk result (λ before. IsReady self.old self.new × Changes self.old handle (λ m. before ≡ map.get m key) (λ m. map.remove m key) self.new) }
         ensures refused { IfErr result (RefusesChange self.old handle ⊥ IsAny (λ m. map.remove m key) self.new) }
@@ -22,7 +21,6 @@ impl Map {
     }
 
     /// Removes a key that has this value. Whether it had it.
-    #[tactic(auto, using(crate::proofs::Removes::remove_if_done, crate::proofs::Removes::remove_if_refused))]
     pub fn remove_if(&mut self, handle: Handle, key: u64, value: u64) -> Result<bool, MapError>
         ensures done { IfOk result (λ done. IsReady self.old self.new × Changes self.old handle (λ m. done ≡ has_value m key value) (removed_if_it_has key value) self.new) }
         ensures refused { IfErr result (RefusesChange self.old handle ⊥ IsAny (removed_if_it_has key value) self.new) }
@@ -31,7 +29,6 @@ impl Map {
     }
 
     /// Removes all keys.
-    #[tactic(auto, using(crate::proofs::Removes::clear_done, crate::proofs::Removes::clear_refused))]
     pub fn clear(&mut self, handle: Handle) -> Result<(), MapError>
         ensures done { IfOk result (λ _. IsReady self.old self.new × Changes self.old handle IsAny (λ m. map.empty) self.new) }
         ensures refused { IfErr result (RefusesClear self.old handle self.new) }

@@ -13,7 +13,6 @@ use history::Call;
 
 impl Map {
     /// Sets the value of a key that has one. The value before, if it had one.
-    #[tactic(auto, using(crate::proofs::Replaces::replace_done, crate::proofs::Replaces::replace_refused))]
     pub fn replace(&mut self, handle: Handle, key: u64, value: u64) -> Result<Option<u64>, MapError>
         ensures done { IfOk result (λ before. IsReady self.old self.new × Changes self.old handle (λ m. before ≡ map.get m key) (set_if_there key value) self.new) }
         ensures refused { IfErr result (RefusesChange self.old handle ⊥ IsAny (set_if_there key value) self.new) }
@@ -22,7 +21,6 @@ impl Map {
     }
 
     /// Sets the value of a key that has the value `old`. Whether it had it.
-    #[tactic(auto, using(crate::proofs::Replaces::replace_if_done, crate::proofs::Replaces::replace_if_refused))]
     pub fn replace_if(&mut self, handle: Handle, key: u64, old: u64, new: u64) -> Result<bool, MapError>
         ensures done { IfOk result (λ done. IsReady self.old self.new × Changes self.old handle (λ m. done ≡ has_value m key old) (set_if_it_has key old new) self.new) }
         ensures refused { IfErr result (RefusesChange self.old handle ⊥ IsAny (set_if_it_has key old new) self.new) }
