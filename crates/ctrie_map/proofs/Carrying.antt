@@ -1,5 +1,5 @@
 -- A call that is carried out from rest, seen in the map.
-use Rattle.std.specs.Prelude.{◌≡◌, ◌≢◌, ◌≤◌, ◌<◌, ◌+◌, ℕ, Bool, true, false, not, nat_le, List, [], ◌∷◌, ◌++◌, length, Option, Some, None, Result, Ok, Err}
+use Rattle.std.specs.Prelude.{◌≡◌, ◌≢◌, ◌≤◌, ◌<◌, ◌+◌, ℕ, Bool, true, false, not, nat_le, List, [], ◌++◌, length, Option, Some, None, Result, Ok, Err}
 use Rattle.std.proofs.Common.{refl, sym, ap, subst, arith, inl, inr, get_or, ◌∙◌}
 use Rattle.std.proofs.lemmas.Bool.{false≢true}
 use Rattle.std.proofs.lemmas.List.Elements.{All-contains, Contains-append_left, Contains-get_or}
@@ -9,7 +9,7 @@ use Rattle.ctrie_base.specs.declared.refusals.Refusal.TheVariants as refuse
 use Rattle.history.specs.declared.calls.Call.{Call}
 use Rattle.history.specs.declared.calls.Call.TheVariants as call
 use Rattle.history.specs.declared.replies.Reply.{Reply}
-use Rattle.history.specs.declared.replies.Reply.TheVariants.{Found, Truth, Crowded, Opened, Closed, Cleared, Pairs, Count, NoSlots}
+use Rattle.history.specs.declared.replies.Reply.TheVariants.{NoSlots}
 use Rattle.history.specs.Effects.{Effect}
 use Rattle.history.specs.Worlds.{HandleMap}
 use Rattle.machine_model.specs.declared.steps.Limits.{Limits}
@@ -39,7 +39,7 @@ use Rattle.ctrie_map.specs.Beneath.proof_obstruction_free.proofs.Slots.Tries.{en
 use Rattle.ctrie_map.specs.Beneath.proof_obstruction_free.proofs.Slots.Few.{enough_for_copies}
 use Rattle.ctrie_map.specs.declared.errors.MapError.TheVariants as error
 use Rattle.ctrie_map.specs.Changes.{IsTight, is_worn_out}
-use Rattle.ctrie_map.specs.Machines.{Ends, IsForOne, finished, state_by, swept_out, the_actor}
+use Rattle.ctrie_map.specs.Machines.{IsForOne, finished, state_by, swept_out, the_actor}
 use Rattle.ctrie_map.specs.Maps.{MapState, Becomes}
 use Rattle.ctrie_map.specs.Performing.{Answers, IsBegun, IsChange, Performs, denial_in}
 use Rattle.ctrie_map.proofs.Denying.{Due, due, stays_put}
@@ -135,10 +135,15 @@ module _ (before : Taken) (c : Call) (for_one : IsForOne before) (rest : is_busy
   answered answer after done acted idle spared = by_begin (begins (Ok (Some answer)) after done)
     where
       with_sizes : after.limits ≡ before.limits → IsForOne after × Performs (Ok answer) (state_by before) c (state_by after)
-      with_sizes sizes =
-          ((one_actor after sizes, λ b. absurd (false≢true (sym idle ∙ b))),
-          (begun, answers answer after (state_by after) (ap (λ (l : Limits). l.hash) sizes) (ap (λ (l : Limits). l.slots) sizes)
-          (ap (λ m. world_of (state_of m)) (finished_at_rest after idle)) acted spared, ap not idle))
+      with_sizes sizes = (
+        (one_actor after sizes, λ b. absurd (false≢true (sym idle ∙ b))),
+        (
+          begun,
+          answers answer after (state_by after) (ap (λ (l : Limits). l.hash) sizes) (ap (λ (l : Limits). l.slots) sizes)
+              (ap (λ m. world_of (state_of m)) (finished_at_rest after idle)) acted spared,
+          ap not idle,
+        ),
+      )
 
       by_begin : CompletesUnless None (Ok (Some answer)) before the_actor c after → IsForOne after × Performs (Ok answer) (state_by before) c (state_by after)
       by_begin (inl memory) = cc memory.0
@@ -194,10 +199,18 @@ module _ (before : Taken) (c : Call) (for_one : IsForOne before) (rest : is_busy
   ]
 
   busy_there : (after : Taken) → is_busy (state_of after) ≡ true → OnItsWay after → IsForOne after × Performs (Err error.Unfinished) (state_by before) c (state_by after)
-  busy_there after busy way =
-      ((one_actor after way.sizes, λ b. (way.answer, way.last, way.led, way.idle)),
-      (begun, ap not busy, (way.answer, answers way.answer way.last (state_by after) (ap (λ (l : Limits). l.hash) way.sizes) (ap (λ (l : Limits). l.slots) way.sizes)
-      (ap (λ m. world_of (state_of m)) (finished_while_busy after way.last way.answer busy way.led)) way.acted way.spared)))
+  busy_there after busy way = (
+    (one_actor after way.sizes, λ b. (way.answer, way.last, way.led, way.idle)),
+    (
+      begun,
+      ap not busy,
+      (
+        way.answer,
+        answers way.answer way.last (state_by after) (ap (λ (l : Limits). l.hash) way.sizes) (ap (λ (l : Limits). l.slots) way.sizes)
+            (ap (λ m. world_of (state_of m)) (finished_while_busy after way.last way.answer busy way.led)) way.acted way.spared,
+      ),
+    ),
+  )
 
   pub broken_off : (why : Refusal) (after : Taken) → Completes (Err why) before the_actor c after → CompletesIfSure before the_actor c (Err why) → AreLimits after.limits →
       KeysFit after.steps → is_busy (state_of after) ≡ true → IsForOne after × Performs (Err error.Unfinished) (state_by before) c (state_by after)

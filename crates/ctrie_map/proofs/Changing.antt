@@ -1,5 +1,5 @@
 -- Calls that change the map of a writable handle, seen in the finite map.
-use Rattle.std.specs.Prelude.{◌≡◌, ◌≢◌, ◌⊎◌, ℕ, Bool, true, false, cond, is_some, Option, Some, None, option_and_then, Result, Ok, Err, IfOk, IfErr}
+use Rattle.std.specs.Prelude.{◌≡◌, ◌⊎◌, ℕ, Bool, true, false, cond, Option, Some, None, option_and_then, Result, Ok, Err, IfOk, IfErr}
 use Rattle.std.specs.Cmp.{nat_cmp_total, unsigned_tied}
 use Rattle.std.specs.FinMap as map
 use Rattle.std.specs.FinMap.{get-insert, same_map, nat_cmp-IsAntisymmetric}
@@ -10,14 +10,14 @@ use Rattle.history.specs.declared.calls.Access.{Access}
 use Rattle.history.specs.declared.calls.Access.TheVariants.{Writable, ReadOnly}
 use Rattle.history.specs.declared.calls.Call.{Call}
 use Rattle.history.specs.declared.replies.Reply.{Reply}
-use Rattle.history.specs.declared.replies.Reply.TheVariants.{Found, Truth, Crowded, Opened, Closed, Cleared, Pairs, Count, NoSlots}
+use Rattle.history.specs.declared.replies.Reply.TheVariants.{Crowded, NoSlots}
 use Rattle.history.specs.Effects.{changing, effect, naming, with_access}
 use Rattle.history.specs.Worlds.{HandleMap, HandleState, KeyMap}
 use Rattle.step_machine.specs.Ending.{enough_slots}
 use Rattle.ctrie_map.specs.declared.errors.MapError.{MapError}
 use Rattle.ctrie_map.specs.declared.errors.MapError.TheVariants as error
 use Rattle.ctrie_map.specs.Changes.{Changes, IsReady, IsTight, Refused}
-use Rattle.ctrie_map.specs.Maps.{MapState, Becomes, Stays}
+use Rattle.ctrie_map.specs.Maps.{MapState, Becomes}
 use Rattle.ctrie_map.specs.Performing.{Answers, IsBegun, Performs, denial_in}
 use Rattle.ctrie_map.proofs.Denying.{stays_if_ready, told_of}
 

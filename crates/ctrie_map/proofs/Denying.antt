@@ -1,5 +1,5 @@
 -- What denies a call in the machine is what denies it in the map.
-use Rattle.std.specs.Prelude.{◌≡◌, ◌⊎◌, ◌+◌, ◌≤◌, ℕ, suc, Bool, true, false, not, ◌&&◌, is_some, nat_le, if◌then◌else◌, List, [], ◌∷◌, Option, Some, None, option_map, Result, Ok, Err}
+use Rattle.std.specs.Prelude.{◌≡◌, ◌⊎◌, ℕ, Bool, true, false, not, ◌&&◌, is_some, nat_le, if◌then◌else◌, List, [], ◌∷◌, Option, Some, None, option_map, Err}
 use Rattle.std.specs.FinMap as map
 use Rattle.std.specs.List.{list_any}
 use Rattle.std.proofs.Common.{refl, sym, ap, subst, arith, inl, inr, ◌∙◌}
@@ -16,7 +16,7 @@ use Rattle.machine_model.specs.declared.operations.Operation.{Operation}
 use Rattle.machine_model.specs.declared.roots.Root.{Root}
 use Rattle.machine_model.specs.declared.steps.Limits.{Limits}
 use Rattle.machine_model.specs.Calls.{handle_of, needs_writable, needs_read_only, opens_handle, is_close}
-use Rattle.machine_model.specs.Machine.{access_of, begin_denial, first_reason, handles_taken, is_access, is_actor, is_busy, is_running, is_spent, names, run, runs_on}
+use Rattle.machine_model.specs.Machine.{access_of, begin_denial, first_reason, handles_taken, is_access, is_actor, is_busy, is_running, is_spent, names, runs_on}
 use Rattle.machine_model.specs.States.{State, handle_limit, operation_of, root_at}
 use Rattle.machine_model.proofs.Along.{limits_along}
 use Rattle.map_worlds.specs.Worlds.{named_at, world_of}
@@ -26,8 +26,8 @@ use Rattle.step_machine.specs.Machines.{Taken, state_of}
 use Rattle.step_machine.proofs.Resting.{only_at_rest}
 use Rattle.ctrie_map.specs.declared.errors.MapError.{MapError}
 use Rattle.ctrie_map.specs.declared.errors.MapError.TheVariants as error
-use Rattle.ctrie_map.specs.Changes.{denial_by, is_frozen, is_worn_out}
-use Rattle.ctrie_map.specs.Machines.{finished, state_by, the_actor}
+use Rattle.ctrie_map.specs.Changes.{denial_by, is_frozen}
+use Rattle.ctrie_map.specs.Machines.{state_by, the_actor}
 use Rattle.ctrie_map.specs.Maps.{MapState, Becomes, Stays}
 use Rattle.ctrie_map.specs.Performing.{IsChange, Performs, denial_in, of_refusal}
 use Rattle.ctrie_map.proofs.Finishing.{finished_at_rest}
@@ -37,8 +37,8 @@ use Rattle.ctrie_map.proofs.Sweeping.{worn_when_spent}
 
 abbrev reasons : Bool → Bool → Option Access → Bool → Bool → Bool → Bool → Bool → Bool → Option Refusal
 reasons actor runs access writes reads blocked opens full spent = first_reason (
-  (not actor, refuse.NoActor) ∷ (runs, refuse.ActorBusy) ∷ (not (is_some access), refuse.NoHandle) ∷ (writes && is_access ReadOnly access, refuse.ReadOnly)
-  ∷ (reads && is_access Writable access, refuse.NotReadOnly) ∷ (blocked, refuse.Busy) ∷ (opens && full, refuse.HandlesFull) ∷ (spent, refuse.Spent) ∷ [])
+    (not actor, refuse.NoActor) ∷ (runs, refuse.ActorBusy) ∷ (not (is_some access), refuse.NoHandle) ∷ (writes && is_access ReadOnly access, refuse.ReadOnly)
+    ∷ (reads && is_access Writable access, refuse.NotReadOnly) ∷ (blocked, refuse.Busy) ∷ (opens && full, refuse.HandlesFull) ∷ (spent, refuse.Spent) ∷ [])
 
 -- the map's reason is the machine's, but that the machine knows when all steps were taken
 abbrev pub Due : Option MapError → Bool → Option Refusal → Type 0

@@ -1,10 +1,9 @@
 -- A new map.
-use Rattle.std.specs.Prelude.{◌≡◌, ◌≤◌, ◌⊎◌, ℕ, false, true, not, []}
+use Rattle.std.specs.Prelude.{◌≡◌, ℕ, false, not, []}
 use Rattle.std.proofs.Common.{refl, sym, ap, subst, inl, inr, arith, ◌∙◌}
 use Rattle.std.proofs.lemmas.Bool.{false≢true}
 use Rattle.ctrie_base.specs.declared.hashes.HashKind.{HashKind}
 use Rattle.ctrie_base.specs.declared.refusals.Refusal.{Refusal}
-use Rattle.history.specs.Worlds.{first_world}
 use Rattle.machine_model.specs.declared.steps.Limits.{Limits}
 use Rattle.machine_model.specs.Machine.{AreLimits, is_busy, run_from}
 use Rattle.machine_model.specs.Refusing.{RefusesLimits}
@@ -13,8 +12,8 @@ use Rattle.map_worlds.specs.Worlds.{world_of}
 use Rattle.map_worlds.proofs.First.{first_is_shown}
 use Rattle.step_machine.specs.Machines.{Taken, fresh, state_of}
 use Rattle.ctrie_map.specs.declared.errors.MapError.{MapError}
-use Rattle.ctrie_map.specs.Machines.{IsForOne, finished, state_by, swept_out}
-use Rattle.ctrie_map.specs.Maps.{AreSlots, IsNew, RefusesSizes}
+use Rattle.ctrie_map.specs.Machines.{IsForOne, state_by, swept_out}
+use Rattle.ctrie_map.specs.Maps.{IsNew, RefusesSizes}
 use Rattle.ctrie_map.specs.Performing.{of_refusal}
 use Rattle.ctrie_map.proofs.Finishing.{finished_at_rest}
 use Rattle.ctrie_map.proofs.Sweeping.{out_when_clean}
@@ -37,9 +36,13 @@ module _ (slots : ℕ) (hash : HashKind) where
 
   pub is_new : (machine : Taken) → machine ≡ fresh sizes → AreLimits sizes → IsNew slots hash (state_by machine)
   is_new machine is ok =
-      subst (λ m. IsNew slots hash (state_by m)) (sym is)
-      (refl, refl, ap (λ m. world_of (state_of m)) (finished_at_rest (fresh sizes) idle) ∙ first_is_shown sizes ok,
-      ap (λ m. (state_of m).steps) (ap swept_out (finished_at_rest (fresh sizes) idle) ∙ out_when_clean (fresh sizes) clean) ∙ young, ap not idle)
+      subst (λ m. IsNew slots hash (state_by m)) (sym is) (
+        refl,
+        refl,
+        ap (λ m. world_of (state_of m)) (finished_at_rest (fresh sizes) idle) ∙ first_is_shown sizes ok,
+        ap (λ m. (state_of m).steps) (ap swept_out (finished_at_rest (fresh sizes) idle) ∙ out_when_clean (fresh sizes) clean) ∙ young,
+        ap not idle,
+      )
 
   pub for_one : (machine : Taken) → machine ≡ fresh sizes → IsForOne machine
   for_one machine is = subst IsForOne (sym is) (refl, λ b. absurd (false≢true (sym idle ∙ b)))

@@ -1,8 +1,8 @@
 -- What is read of a machine at rest is what the finite maps say.
-use Rattle.std.specs.Prelude.{◌≡◌, ◌⊎◌, ℕ, Bool, true, false, not, length, List, [], Option, Some, None, Result, Ok, Err, IsSome}
+use Rattle.std.specs.Prelude.{◌≡◌, ℕ, Bool, true, false, not, length, List, [], Option, Some, None, Result, Ok, Err, IsSome}
 use Rattle.std.specs.FinMap as map
 use Rattle.std.specs.Ordering.{nat_cmp}
-use Rattle.std.proofs.Common.{refl, sym, ap, subst, inl, inr, ◌∙◌}
+use Rattle.std.proofs.Common.{sym, ap, subst, inl, inr, ◌∙◌}
 use Rattle.ctrie_base.specs.declared.refusals.Refusal.{Refusal}
 use Rattle.ctrie_base.specs.declared.refusals.Refusal.TheVariants as refuse
 use Rattle.history.specs.Worlds.{HandleState, KeyMap}
@@ -19,7 +19,7 @@ use Rattle.step_machine.specs.Machines.{Taken, state_of}
 use Rattle.ctrie_map.specs.Beneath.proof_order.specs.Laws.Orders.{Names}
 use Rattle.ctrie_map.specs.declared.errors.MapError.{MapError}
 use Rattle.ctrie_map.specs.declared.errors.MapError.TheVariants as error
-use Rattle.ctrie_map.specs.Machines.{finished, state_by, swept_out}
+use Rattle.ctrie_map.specs.Machines.{state_by, swept_out}
 use Rattle.ctrie_map.specs.Maps.{MapState}
 use Rattle.ctrie_map.specs.Reading.{RefusesReading, if_finished, read_of, reading}
 use Rattle.ctrie_map.proofs.Finishing.{finished_at_rest}

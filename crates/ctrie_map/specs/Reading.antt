@@ -1,7 +1,7 @@
 -- What calls answer that change nothing.
 use Rattle.std.specs.Prelude.{◌≡◌, ◌⊎◌, ℕ, Bool, true, false, Option, Some, None, Result, Ok, Err}
 use Rattle.std.specs.FinMap as map
-use Rattle.history.specs.Worlds.{HandleMap, HandleState, KeyMap}
+use Rattle.history.specs.Worlds.{HandleState, KeyMap}
 use Rattle.ctrie_map.specs.declared.errors.MapError.{MapError}
 use Rattle.ctrie_map.specs.declared.errors.MapError.TheVariants.{NoHandle, Unfinished, Memory}
 use Rattle.ctrie_map.specs.Maps.{MapState}

@@ -16,7 +16,9 @@ impl Map {
         ensures done { IfOk result (λ copy. IsReady self.old self.new × Copies self.old handle Writable copy self.new) }
         ensures refused { IfErr result (RefusesCopy self.old handle Writable self.new) }
     {
-        opened(self.perform(Call::Snapshot { handle: handle.number() }))
+        opened(self.perform(Call::Snapshot {
+            handle: handle.number(),
+        }))
     }
 
     /// Opens a read-only copy.
@@ -24,7 +26,9 @@ impl Map {
         ensures done { IfOk result (λ copy. IsReady self.old self.new × Copies self.old handle ReadOnly copy self.new) }
         ensures refused { IfErr result (RefusesCopy self.old handle ReadOnly self.new) }
     {
-        opened(self.perform(Call::Freeze { handle: handle.number() }))
+        opened(self.perform(Call::Freeze {
+            handle: handle.number(),
+        }))
     }
 
     /// Takes the handle away, and its map. What only this map had is free again then. It wants no slot, so it is never
@@ -33,6 +37,8 @@ impl Map {
         ensures done { IfOk result (λ _. IsReady self.old self.new × Closes self.old handle self.new) }
         ensures refused { IfErr result (RefusesClose self.old handle self.new) }
     {
-        done(self.perform(Call::Close { handle: handle.number() }))
+        done(self.perform(Call::Close {
+            handle: handle.number(),
+        }))
     }
 }

@@ -17,7 +17,10 @@ impl Map {
         ensures done { IfOk result (λ before. IsReady self.old self.new × Changes self.old handle (λ m. before ≡ map.get m key) (λ m. map.remove m key) self.new) }
         ensures refused { IfErr result (RefusesChange self.old handle ⊥ IsAny (λ m. map.remove m key) self.new) }
     {
-        found(self.perform(Call::Remove { handle: handle.number(), key }))
+        found(self.perform(Call::Remove {
+            handle: handle.number(),
+            key,
+        }))
     }
 
     /// Removes a key that has this value. Whether it had it.
@@ -25,7 +28,11 @@ impl Map {
         ensures done { IfOk result (λ done. IsReady self.old self.new × Changes self.old handle (λ m. done ≡ has_value m key value) (removed_if_it_has key value) self.new) }
         ensures refused { IfErr result (RefusesChange self.old handle ⊥ IsAny (removed_if_it_has key value) self.new) }
     {
-        truth(self.perform(Call::RemoveIf { handle: handle.number(), key, value }))
+        truth(self.perform(Call::RemoveIf {
+            handle: handle.number(),
+            key,
+            value,
+        }))
     }
 
     /// Removes all keys.
@@ -33,6 +40,8 @@ impl Map {
         ensures done { IfOk result (λ _. IsReady self.old self.new × Changes self.old handle IsAny (λ m. map.empty) self.new) }
         ensures refused { IfErr result (RefusesClear self.old handle self.new) }
     {
-        done(self.perform(Call::Clear { handle: handle.number() }))
+        done(self.perform(Call::Clear {
+            handle: handle.number(),
+        }))
     }
 }

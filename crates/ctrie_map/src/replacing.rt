@@ -17,14 +17,29 @@ impl Map {
         ensures done { IfOk result (λ before. IsReady self.old self.new × Changes self.old handle (λ m. before ≡ map.get m key) (set_if_there key value) self.new) }
         ensures refused { IfErr result (RefusesChange self.old handle ⊥ IsAny (set_if_there key value) self.new) }
     {
-        found(self.perform(Call::Replace { handle: handle.number(), key, value }))
+        found(self.perform(Call::Replace {
+            handle: handle.number(),
+            key,
+            value,
+        }))
     }
 
     /// Sets the value of a key that has the value `old`. Whether it had it.
-    pub fn replace_if(&mut self, handle: Handle, key: u64, old: u64, new: u64) -> Result<bool, MapError>
+    pub fn replace_if(
+        &mut self,
+        handle: Handle,
+        key: u64,
+        old: u64,
+        new: u64,
+    ) -> Result<bool, MapError>
         ensures done { IfOk result (λ done. IsReady self.old self.new × Changes self.old handle (λ m. done ≡ has_value m key old) (set_if_it_has key old new) self.new) }
         ensures refused { IfErr result (RefusesChange self.old handle ⊥ IsAny (set_if_it_has key old new) self.new) }
     {
-        truth(self.perform(Call::ReplaceIf { handle: handle.number(), key, old, new }))
+        truth(self.perform(Call::ReplaceIf {
+            handle: handle.number(),
+            key,
+            old,
+            new,
+        }))
     }
 }

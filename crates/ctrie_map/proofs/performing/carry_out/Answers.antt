@@ -1,5 +1,5 @@
 use Rattle.std.proofs.Common.{arith}
-use Rattle.ctrie_map.proofs.Carrying.{answered_as, broken_off, never_open, not_begun, too_old}
+use Rattle.ctrie_map.proofs.Carrying.{answered_as, broken_off, not_begun, too_old}
 use Rattle.ctrie_map.proofs.Denying.{stays_put}
 use Rattle.ctrie_map.specs.Machines.{state_by}
 use Rattle.ctrie_map.proofs.performing.carry_out.Goals as goal

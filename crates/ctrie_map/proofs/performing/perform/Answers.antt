@@ -2,7 +2,7 @@ use Rattle.std.proofs.Common.{◌≡◌, Err, None, sym, ap, subst, arith, ◌�
 use Rattle.machine_model.specs.Machine.{begin_denial, is_busy}
 use Rattle.step_machine.specs.Machines.{state_of}
 use Rattle.ctrie_map.specs.Machines.{state_by, the_actor}
-use Rattle.ctrie_map.specs.Performing.{Performs, denial_in}
+use Rattle.ctrie_map.specs.Performing.{Performs}
 use Rattle.ctrie_map.proofs.Composing.{none_of, performs_from, performs_to, still_allowed, unswept_performs}
 use Rattle.ctrie_map.proofs.Denying.{denied, not_denied}
 use Rattle.ctrie_map.proofs.performing.perform.Goals as goal
