@@ -1,0 +1,73 @@
+//! Each refusal once, but for want of memory.
+
+use ctrie_map::{Handle, HashKind, Map, MapError};
+use std::test::Fail;
+
+/// Handles that aren't open, or are read-only.
+#[test]
+fn refuses_handles(rt: HostRuntime) -> Result<(), Fail> {
+    let all = Handle::first();
+    let mut map = Map::new(rt.alloc(), 64, HashKind::Low)?;
+    let frozen = map.freeze(all)?;
+    let other = Handle::new(7);
+    assert_eq!(rt; map.put(other, 1, 1).err(), Some(MapError::NoHandle));
+    assert_eq!(rt; map.close(other).err(), Some(MapError::NoHandle));
+    assert_eq!(rt; map.get(other, 1).err(), Some(MapError::NoHandle));
+    assert_eq!(rt; map.count(other).err(), Some(MapError::NoHandle));
+    assert_eq!(rt; map.put(frozen, 1, 1).err(), Some(MapError::ReadOnly));
+    assert_eq!(rt; map.clear(frozen).err(), Some(MapError::ReadOnly));
+    assert_eq!(rt; map.snapshot(frozen).err(), Some(MapError::ReadOnly));
+    map.close(all)?;
+    assert_eq!(rt; map.put(all, 1, 1).err(), Some(MapError::NoHandle));
+    Ok(())
+}
+
+/// A 33rd key of one hash.
+#[test]
+fn refuses_a_crowd(rt: HostRuntime) -> Result<(), Fail> {
+    let all = Handle::first();
+    let mut map = Map::new(rt.alloc(), 128, HashKind::Block)?;
+    for key in 0..32 {
+        assert_eq!(rt; map.put(all, key, key)?, None);
+    }
+    assert_eq!(rt; map.put(all, 32, 32).err(), Some(MapError::Crowded));
+    assert_eq!(rt; map.put_if_absent(all, 33, 33).err(), Some(MapError::Crowded));
+    assert_eq!(rt; map.put(all, 31, 1)?, Some(31));
+    assert_eq!(rt; map.put(all, 64, 64)?, None);
+    assert_eq!(rt; map.count(all)?, 33);
+    Ok(())
+}
+
+/// Sizes out of range, and slots that are all reached.
+#[test]
+fn refuses_sizes(rt: HostRuntime) -> Result<(), Fail> {
+    let all = Handle::first();
+    assert_eq!(rt; Map::new(rt.alloc(), 1, HashKind::Low).err(), Some(MapError::BadSizes));
+    assert_eq!(rt; Map::new(rt.alloc(), 65_537, HashKind::Low).err(), Some(MapError::BadSizes));
+    let mut map = Map::new(rt.alloc(), 8, HashKind::Low)?;
+    assert!(rt; !map.has_room()?);
+    let mut count = 0;
+    for key in 0..8 {
+        if map.put(all, key, key) == Err(MapError::Full) {
+            break;
+        }
+        count += 1;
+    }
+    assert_eq!(rt; count, 4);
+    assert_eq!(rt; map.count(all)?, 4);
+    assert_eq!(rt; map.get(all, 3)?, Some(3));
+    Ok(())
+}
+
+/// A 257th handle.
+#[test]
+fn refuses_handles_without_end(rt: HostRuntime) -> Result<(), Fail> {
+    let all = Handle::first();
+    let mut map = Map::new(rt.alloc(), 1_024, HashKind::Low)?;
+    for _ in 0..255 {
+        map.freeze(all)?;
+    }
+    assert_eq!(rt; map.freeze(all).err(), Some(MapError::HandlesFull));
+    assert_eq!(rt; map.handles()?, 256);
+    Ok(())
+}
