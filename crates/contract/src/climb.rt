@@ -236,14 +236,7 @@ fn place_in(heap: &Heap, task: Task, path: &[Ref], main: Ref) -> usize
 }
 
 /// Whether the branch's entry for the call's key is the tombed indirection.
-fn holds_it(
-    heap: &Heap,
-    task: Task,
-    path: &[Ref],
-    main: Ref,
-    bitmap: u32,
-    entries: &[Ref],
-) -> bool
+fn holds_it(heap: &Heap, task: Task, path: &[Ref], main: Ref, bitmap: u32, entries: &[Ref]) -> bool
     ensures { (state : State) (operation : Operation) (access : Access) (single : ARef) (former : Option ℕ) → result ≡ holds_it (at_heap state heap.now.heap task.hashes) (for_task task access operation) (record { path = path.now; single = single; former = former }) main bitmap entries.now }
 {
     let place = place_in(heap, task, path, main);

@@ -39,7 +39,10 @@ fn copies(rt: HostRuntime) -> Result<(), Fail> {
     map.clear(all)?;
     assert_eq!(rt; map.handles()?, 3);
     assert_eq!(rt; map.count(all)?, 0);
-    assert_eq!(rt; map.entries(frozen)?.as_slice(), [(1, 10), (2, 20)].as_slice());
+    assert_eq!(rt;
+        map.entries(frozen)?.as_slice(),
+        [(1, 10), (2, 20)].as_slice()
+    );
     assert_eq!(rt; map.get(branch, 3)?, Some(30));
     assert!(rt; map.contains(branch, 1)?);
     assert!(rt; !map.contains(frozen, 3)?);
