@@ -70,11 +70,12 @@ fn tells_write_faults(rt: HostRuntime) {
 #[test]
 fn tells_faults_behind_a_history(rt: HostRuntime) {
     let mut written = Vec::new(rt.alloc());
-    let mut output = Counted::new(&mut written);
     let mut input = Counted::new(HISTORY.as_bytes().chain(Broken));
+    let mut output = Counted::new(&mut written);
     let found = explain_history(rt.alloc(), &mut input, &mut output);
     assert_eq!(rt; found, Err(Fault::Read));
     let mut input = Counted::new(HISTORY.as_bytes().chain(Broken));
+    let mut output = Counted::new(&mut written);
     let found = draw_history(rt.alloc(), &mut input, &mut output);
     assert_eq!(rt; found, Err(Fault::Read));
     assert!(rt; written.is_empty());
@@ -85,6 +86,7 @@ fn tells_faults_behind_a_history(rt: HostRuntime) {
         let found = explain_history(rt.alloc(), &mut input, &mut output);
         assert_eq!(rt; found, Err(fault));
         let mut input = Counted::new(text.as_bytes());
+        let mut output = Counted::new(Broken);
         let found = draw_history(rt.alloc(), &mut input, &mut output);
         assert_eq!(rt; found, Err(fault));
     }
