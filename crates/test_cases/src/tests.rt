@@ -70,12 +70,13 @@ fn tells_write_faults(rt: HostRuntime) {
 #[test]
 fn tells_faults_behind_a_history(rt: HostRuntime) {
     let mut written = Vec::new(rt.alloc());
-    let mut output = Counted::new(&mut written);
     let mut input = Counted::new(HISTORY.as_bytes().chain(Broken));
+    let mut output = Counted::new(&mut written);
     let found = explain_history(rt.alloc(), &mut input, &mut output);
     assert_eq!(rt; found, Err(Fault::Read));
     let mut output = Counted::new(&mut written);
     let mut input = Counted::new(HISTORY.as_bytes().chain(Broken));
+    let mut output = Counted::new(&mut written);
     let found = draw_history(rt.alloc(), &mut input, &mut output);
     assert_eq!(rt; found, Err(Fault::Read));
     assert!(rt; written.is_empty());
