@@ -4,9 +4,7 @@ mod failing;
 mod threads;
 
 use ctrie_base::Refusal;
-use ctrie_commands::{
-    Counted, Fault, check_history, draw_history, explain_history, run_script,
-};
+use ctrie_commands::{Counted, Fault, check_history, draw_history, explain_history, run_script};
 use std::io;
 use std::io::{ErrorKind, Read, Write};
 use std::test::Fail;

@@ -44,7 +44,12 @@ fn world_behind(
     let mut world = World::new(alloc)?;
     for placed in order {
         for event in events {
-            if let Event::Begin { id, call, opens, .. } = event
+            if let Event::Begin {
+                id,
+                call,
+                opens,
+                ..
+            } = event
                 && id == placed
             {
                 reply_of(&mut world, call, *opens, hash)?;
@@ -85,7 +90,9 @@ fn is_shown(
     keys: &[u64],
     hash: HashKind,
 ) -> Result<bool, Refusal> {
-    let writable = world.access(handle).map(|access| access == Access::Writable);
+    let writable = world
+        .access(handle)
+        .map(|access| access == Access::Writable);
     if writable != machine.is_writable(handle) {
         return Ok(false);
     }

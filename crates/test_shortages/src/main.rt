@@ -71,7 +71,10 @@ fn with_few_slots<R: AllocGlobal + Print>(
 }
 
 /// The names of the folder's scripts.
-fn names_in<R: AllocGlobal + Files + Clone + Drop>(rt: &R, folder: &str) -> io::Result<Vec<String>> {
+fn names_in<R: AllocGlobal + Files + Clone + Drop>(
+    rt: &R,
+    folder: &str,
+) -> io::Result<Vec<String>> {
     let mut names = Vec::new(rt.alloc());
     for entry in fs::read_dir(rt, folder)? {
         if let Some((name, "script")) = entry?.file_name().rsplit_once('.') {
@@ -83,7 +86,10 @@ fn names_in<R: AllocGlobal + Files + Clone + Drop>(rt: &R, folder: &str) -> io::
 }
 
 /// Carries out all scripts of the folder.
-fn with_all<R: AllocGlobal + Files + Print + Clone + Drop>(rt: &R, folder: &str) -> io::Result<Tally> {
+fn with_all<R: AllocGlobal + Files + Print + Clone + Drop>(
+    rt: &R,
+    folder: &str,
+) -> io::Result<Tally> {
     let mut tally = Tally {
         scripts: 0,
         explained: 0,

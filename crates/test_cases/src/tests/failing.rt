@@ -92,7 +92,8 @@ struct Case {
 
 const SCRIPT: &str = "slots 64\nhash low\nactors 1\ndo 1 put 0 5 50\ndo 1 get 0 5\n";
 
-const REPORT: &str = "hash low\nbegin 0 1 put 0 5 50\nend 0 none\nbegin 1 1 get 0 5\nend 1 some 50\norder 0 1\nslots used 4 free 60 limbo 1\n";
+const REPORT: &str =
+    "hash low\nbegin 0 1 put 0 5 50\nend 0 none\nbegin 1 1 get 0 5\nend 1 some 50\norder 0 1\nslots used 4 free 60 limbo 1\n";
 
 const CASES: [Case; 3] = [
     Case {
@@ -148,7 +149,11 @@ fn tells_each_failed_read(rt: HostRuntime) {
         for call in 1..=case.text.len() as u64 + 1 {
             let mut sink = Sink::new(Vec::new(rt.alloc()), 0);
             let found = carried_out(&rt, case, Source::new(case.text, call), &mut sink);
-            assert!(rt; found == (Err(Fault::Read), 1, 0), "{:?} {call}", case.command);
+            assert!(rt;
+                found == (Err(Fault::Read), 1, 0),
+                "{:?} {call}",
+                case.command
+            );
             assert!(rt; sink.taken.is_empty());
         }
     }
@@ -161,7 +166,11 @@ fn tells_each_failed_write(rt: HostRuntime) {
         for call in 1..=case.written.len() as u64 + 1 {
             let mut sink = Sink::new(Vec::new(rt.alloc()), call);
             let found = carried_out(&rt, case, Source::new(case.text, 0), &mut sink);
-            assert!(rt; found == (Err(Fault::Write), 0, 1), "{:?} {call}", case.command);
+            assert!(rt;
+                found == (Err(Fault::Write), 0, 1),
+                "{:?} {call}",
+                case.command
+            );
             assert!(rt; sink.taken.len() as u64 + 1 == call);
             assert!(rt; case.written.as_bytes().starts_with(sink.taken.as_slice()));
         }
