@@ -74,6 +74,7 @@ fn tells_faults_behind_a_history(rt: HostRuntime) {
     let mut input = Counted::new(HISTORY.as_bytes().chain(Broken));
     let found = explain_history(rt.alloc(), &mut input, &mut output);
     assert_eq!(rt; found, Err(Fault::Read));
+    let mut output = Counted::new(&mut written);
     let mut input = Counted::new(HISTORY.as_bytes().chain(Broken));
     let found = draw_history(rt.alloc(), &mut input, &mut output);
     assert_eq!(rt; found, Err(Fault::Read));
@@ -85,6 +86,7 @@ fn tells_faults_behind_a_history(rt: HostRuntime) {
         let found = explain_history(rt.alloc(), &mut input, &mut output);
         assert_eq!(rt; found, Err(fault));
         let mut input = Counted::new(text.as_bytes());
+        let mut output = Counted::new(Broken);
         let found = draw_history(rt.alloc(), &mut input, &mut output);
         assert_eq!(rt; found, Err(fault));
     }
