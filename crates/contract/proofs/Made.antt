@@ -25,5 +25,5 @@ pub climbs : (heap : Heap) (task : Task) (access : Access) (state : State) (oper
 climbs heap task access state operation c main =
     let node = node_at heap main in
     ap
-      (λ k. contracted (is_below_root (above c.path)) (bitmap_of node) (slice_set (entries_of node) (position_of (flag_of (hash_of task.hashes k) (depth_of (above c.path))) (bitmap_of node)) c.single))
-      (key_same task.call 0 (handle_of operation.call))
+    (λ k. contracted (is_below_root (above c.path)) (bitmap_of node) (slice_set (entries_of node) (position_of (flag_of (hash_of task.hashes k) (depth_of (above c.path))) (bitmap_of node)) c.single))
+    (key_same task.call 0 (handle_of operation.call))

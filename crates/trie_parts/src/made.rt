@@ -110,13 +110,7 @@ pub fn contracted(may_entomb: bool, bitmap: u32, entries: &[Ref]) -> Node
 
 /// The branch with another entry at this position; where it may, and that is the only one, its tomb.
 #[tactic(auto, using(crate::proofs::Capped::contracted_capped))]
-pub fn contracted_at(
-    heap: &Heap,
-    main: Ref,
-    may_entomb: bool,
-    position: usize,
-    single: Ref,
-) -> Node
+pub fn contracted_at(heap: &Heap, main: Ref, may_entomb: bool, position: usize, single: Ref) -> Node
     ensures { result ≡ contracted may_entomb (bitmap_of (node_at heap.now.heap main)) (slice_set (entries_of (node_at heap.now.heap main)) position single) }
 {
     let entries = with_replaced(entries_at(heap, main), position, single);

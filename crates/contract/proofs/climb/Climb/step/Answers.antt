@@ -26,9 +26,9 @@ returns-in-Contracted-clause-acts c =
     let task = c.args.task in
     let access = c.args.work.now.swap.read.access in
     rw c.in-Contracted.is (
-      MatchResult-weaker c.contract.result c.contract.ensures.acts
-        (λ next told state operation. rw (← climbs heap task access state operation (climb_of c.args.path.now c.args.self.now) c.in-Contracted.main) told)
-        (λ refusal told. told)
+    MatchResult-weaker c.contract.result c.contract.ensures.acts
+    (λ next told state operation. rw (← climbs heap task access state operation (climb_of c.args.path.now c.args.self.now) c.in-Contracted.main) told)
+    (λ refusal told. told)
     )
 
 pub returns-in-Contracted-clause-follows : goal.returns-in-Contracted-clause-follows
