@@ -12,10 +12,14 @@ use Rattle.machine_model.specs.declared.copying.CopyLine.{CopyLine}
 use Rattle.machine_model.specs.declared.copying.CopyLine.TheVariants as copy
 use Rattle.machine_model.specs.declared.lines.Line.{Line}
 use Rattle.machine_model.specs.declared.lines.Line.TheVariants as line
+use Rattle.machine_model.specs.declared.operations.Operation.{Operation}
 use Rattle.machine_model.specs.declared.roots.Root.{Root}
 use Rattle.machine_model.specs.declared.roots.RootWord.TheVariants.{Offer}
 use Rattle.machine_model.specs.Counting.{refs_of_word}
-use Rattle.machine_model.specs.Operations.{line_action}
+use Rattle.machine_model.specs.Operations.{line_action, generation_from}
+use Rattle.machine_model.specs.States.{State}
+use Rattle.gcas.specs.declared.next.Next.{Next}
+use Rattle.gcas.specs.declared.next.Next.TheVariants.{More, AskRoot, Done}
 use Rattle.gcas.specs.declared.read.Read.{Read}
 use Rattle.gcas.specs.Reads.{read_of, CanReadOn}
 use Rattle.trie_parts.specs.Here.{no_state, no_operation}
@@ -65,6 +69,12 @@ snap_action l = line_action no_state no_operation l
 -- the definition's line after one that has answered this
 abbrev pub line_behind : SnapReply → Line
 line_behind answer = line.End (reply_of answer)
+
+-- The generation of the root that ROOT gave last, before a step from this line and behind it.
+abbrev pub KeepsGeneration : State → Operation → Line → Option ℕ → Option ℕ → Next SnapReply → Type 0
+KeepsGeneration state operation l before after (More k) = after ≡ generation_from state (record operation { generation = before }) l
+KeepsGeneration state operation l before after AskRoot = after ≡ before
+KeepsGeneration state operation l before after (Done k answer) = after ≡ generation_from state (record operation { generation = before }) l
 
 -- ---- what it asks
 

@@ -17,13 +17,13 @@ ghost use Rattle.machine_model.specs.Reading.{read_action};
 ghost use Rattle.machine_model.specs.States.{State};
 ghost use Rattle.machine_model.specs.Swapping.{complete_action, root_action};
 ghost use Rattle.gcas.specs.declared.read.Read.{Read as ARead};
-ghost use Rattle.gcas.specs.Reads.{read_of, line_of, CanReadOn};
+ghost use Rattle.gcas.specs.Reads.{read_of, line_of, CanReadOn, IsAskingRoot};
 ghost use Rattle.trie_parts.specs.Holding.{Acts, AreHeld};
 ghost use Rattle.trie_parts.specs.Steps.{StepsOn, CanMake};
 ghost use Rattle.rdcss_root.specs.Acts.{ActsInAll};
 ghost use Rattle.rdcss_root.specs.Programs.{root_of, complete_of, CanRootOn, CanCompleteOn, rooted_at, completed_at};
 ghost use Rattle.rdcss_root.specs.Tables.{Table, acted_table, offered_in};
-ghost use Rattle.snapshot.specs.Copies.{snap_line, snap_line_at, snap_action, making_line, made_node, line_behind, CanSnap, IsReadyBeside};
+ghost use Rattle.snapshot.specs.Copies.{snap_line, snap_line_at, snap_action, KeepsGeneration, making_line, made_node, line_behind, CanSnap, IsReadyBeside};
 ghost use Rattle.snapshot.specs.Tasks.{at_roots, call_of, for_task, mark_of, reply_of, with_generation, drawn_by};
 
 use crate::tasks::{SnapCall, SnapReply, SnapTask};
@@ -106,7 +106,9 @@ impl Snap {
         ensures table { OnOk result (roots.new ≡ acted_table roots.old task.handle task.actor (snap_action (snap_line work.old.swap.read root_seen self.old))) }
         ensures drawn { OnOk result (generations.new ≡ drawn_by heap.old.heap generations.old (snap_action (snap_line work.old.swap.read root_seen self.old))) }
         ensures attempt { OnOk result (self.new.attempt ≡ attempt_after self.old.attempt (snap_action (snap_line work.old.swap.read root_seen self.old))) }
+        ensures generation { IfOk result (λ next. (state : State) (operation : Operation) → KeepsGeneration (at_roots state heap.old.heap roots.old) (for_task task self.old.attempt (mark_of roots.old task) work.old.swap.read.access operation) (snap_line work.old.swap.read root_seen self.old) self.old.generation self.new.generation next) }
         ensures access { work.new.swap.read.access ≡ work.old.swap.read.access }
+        ensures asks { IfOk result (λ next. IsAskingRoot next → (self.new ≡ self.old) × (work.new ≡ work.old) × (roots.new ≡ roots.old) × (generations.new ≡ generations.old) × (heap.new ≡ heap.old)) }
         ensures err { OnErr result ((self.new ≡ self.old) × (work.new ≡ work.old) × (roots.new ≡ roots.old) × (generations.new ≡ generations.old) × (heap.new ≡ heap.old)) }
         ensures only_memory { IfErr result (λ refusal. refusal ≡ Refusal.Memory) }
     {
@@ -118,7 +120,7 @@ impl Snap {
             SnapAt::Read => Ok(self.read(work, heap, task, root_seen)),
             SnapAt::Make(making) => {
                 let making = *making;
-                self.make(making, work, generations, heap, task)
+                self.make(&making, work, generations, heap, task)
             }
             SnapAt::Offer(offer) => {
                 let offer = *offer;
@@ -145,6 +147,8 @@ impl Snap {
         ensures follows { (state : State) (operation : Operation) (attempt : ℕ) (mark : Bool) → StepsOn (at_roots state heap.old.heap roots.old) (for_task task attempt mark work.old.swap.read.access operation) (line.Root (root_of root work.old.swap.read root_seen)) (snap_line work.new.swap.read None self.new) work.new.swap.read.at line_behind result }
         ensures acts { (private : List ARef) → ActsInAll heap.old roots.old.roots private (root_action (root_of root work.old.swap.read root_seen)) heap.new roots.new.roots private }
         ensures table { roots.new ≡ rooted_at roots.old task.handle root }
+        ensures generation { (state : State) (operation : Operation) (attempt : ℕ) (mark : Bool) → KeepsGeneration (at_roots state heap.old.heap roots.old) (for_task task attempt mark work.old.swap.read.access operation) (line.Root (root_of root work.old.swap.read root_seen)) self.old.generation self.new.generation result }
+        ensures asks { IsAskingRoot result → (self.new ≡ record self.old { at = SnapAt.Root root }) × (work.new ≡ work.old) × (roots.new ≡ roots.old) × (heap.new ≡ heap.old) }
         ensures same { (self.new.attempt ≡ self.old.attempt) × (work.new.private ≡ work.old.private) × (work.new.swap.read.access ≡ work.old.swap.read.access) }
     {
         let mut root = root;
@@ -178,7 +182,8 @@ impl Snap {
         requires { CanReadOn heap.old.heap work.old.swap.read }
         ensures follows { (state : State) (operation : Operation) (table : Table) (attempt : ℕ) (mark : Bool) → StepsOn (at_roots state heap.old.heap table) (for_task task attempt mark work.old.swap.read.access operation) (line.Copy (copy.Read self.old.root (read_of work.old.swap.read root_seen))) (snap_line work.new.swap.read None self.new) work.new.swap.read.at line_behind result }
         ensures acts { Acts heap.old work.old.private (read_action work.old.swap.read.indirection (line_of work.old.swap.read root_seen)) heap.new work.new.private }
-        ensures same { (self.new.attempt ≡ self.old.attempt) × (work.new.swap.read.access ≡ work.old.swap.read.access) }
+        ensures same { (self.new.attempt ≡ self.old.attempt) × (self.new.generation ≡ self.old.generation) × (work.new.swap.read.access ≡ work.old.swap.read.access) }
+        ensures asks { IsAskingRoot result → (self.new ≡ record self.old { at = SnapAt.Read }) × (work.new ≡ work.old) × (heap.new ≡ heap.old) }
     {
         self.at = SnapAt::Read;
         match work.read(heap, root_seen) {
@@ -194,20 +199,21 @@ impl Snap {
     /// Makes a node. A new root draws a generation.
     fn make(
         &mut self,
-        making: Making,
+        making: &Making,
         work: &mut Work,
         generations: &mut u64,
         heap: &mut Heap,
         task: SnapTask,
     ) -> Result<Next<SnapReply>, Refusal>
-        requires can { CanMake heap.old.heap (made_node generations.old making) }
+        requires can { CanMake heap.old.heap (made_node generations.old making.now) }
         requires held { AreHeld work.old.private heap.old }
         requires attempts { self.old.attempt < 2 ^ 64 - 1 }
         requires generations { generations.old < 2 ^ 64 - 1 }
-        ensures follows { IfOk result (λ next. (state : State) (operation : Operation) (table : Table) (access : AnAccess) (mark : Bool) → StepsOn (at_roots state heap.old.heap table) (for_task task self.old.attempt mark access operation) (line.Copy (making_line self.old.root making)) (snap_line work.new.swap.read None self.new) work.new.swap.read.at line_behind next) }
-        ensures acts { OnOk result (Acts heap.old work.old.private (act.Make (made_node generations.old making)) heap.new work.new.private) }
-        ensures drawn { OnOk result (generations.new ≡ drawn_by heap.old.heap generations.old (copy_action (making_line self.old.root making))) }
-        ensures same { (self.new.attempt ≡ self.old.attempt) × (work.new.swap ≡ work.old.swap) }
+        ensures follows { IfOk result (λ next. (state : State) (operation : Operation) (table : Table) (access : AnAccess) (mark : Bool) → StepsOn (at_roots state heap.old.heap table) (for_task task self.old.attempt mark access operation) (line.Copy (making_line self.old.root making.now)) (snap_line work.new.swap.read None self.new) work.new.swap.read.at line_behind next) }
+        ensures acts { OnOk result (Acts heap.old work.old.private (act.Make (made_node generations.old making.now)) heap.new work.new.private) }
+        ensures drawn { OnOk result (generations.new ≡ drawn_by heap.old.heap generations.old (copy_action (making_line self.old.root making.now))) }
+        ensures same { (self.new.attempt ≡ self.old.attempt) × (self.new.generation ≡ self.old.generation) × (work.new.swap ≡ work.old.swap) }
+        ensures taken { IfOk result (λ next. IsAskingRoot next → ⊥) }
         ensures err { OnErr result ((self.new ≡ self.old) × (work.new ≡ work.old) × (generations.new ≡ generations.old) × (heap.new ≡ heap.old)) }
         ensures only_memory { IfErr result (λ refusal. refusal ≡ Refusal.Memory) }
     {
@@ -215,30 +221,35 @@ impl Snap {
             None => Ok(Next::Done(Kind::Make, SnapReply::NoSlots)),
             Some(made) => {
                 draw(generations, making);
-                self.at = self.after_made(making, task, made);
+                let at = self.after_made(making, task, made);
+                self.at = at;
                 Ok(Next::More(Kind::Make))
             }
         }
     }
 
     /// Where the program stands behind the making of a node: a writable snapshot makes a second root.
-    fn after_made(&self, making: Making, task: SnapTask, made: Ref) -> SnapAt
+    fn after_made(&self, making: &Making, task: SnapTask, made: Ref) -> SnapAt
         requires { self.now.attempt < 2 ^ 64 - 1 }
-        ensures { (operation : Operation) (access : AnAccess) (mark : Bool) (r : ARead) → snap_line_at self.now.root r None result ≡ copy_after_made (for_task task self.now.attempt mark access operation) (making_line self.now.root making) made }
+        ensures { (operation : Operation) (access : AnAccess) (mark : Bool) (r : ARead) → snap_line_at self.now.root r None result ≡ copy_after_made (for_task task self.now.attempt mark access operation) (making_line self.now.root making.now) made }
     {
         match making {
             Making::Successor { main } => match task.call {
                 SnapCall::Snapshot => SnapAt::Make(Making::Second {
-                    main,
+                    main: *main,
                     successor: made,
                 }),
-                SnapCall::Freeze | SnapCall::Clear => self.offering(task, main, made, None),
+                SnapCall::Freeze => self.offering(task, *main, made, None),
+                SnapCall::Clear => self.offering(task, *main, made, None),
             },
             Making::Second { main, successor } => {
-                self.offering(task, main, successor, Some(made))
+                self.offering(task, *main, *successor, Some(made))
             }
-            Making::Empty { main } => SnapAt::Make(Making::Cleared { main, branch: made }),
-            Making::Cleared { main, .. } => self.offering(task, main, made, None),
+            Making::Empty { main } => SnapAt::Make(Making::Cleared {
+                main: *main,
+                branch: made,
+            }),
+            Making::Cleared { main, .. } => self.offering(task, *main, made, None),
         }
     }
 
@@ -276,6 +287,8 @@ impl Snap {
         ensures acts { ActsInAll heap.old roots.old.roots work.old.private (act.Offer offer.descriptor) heap.new roots.new.roots work.new.private }
         ensures table { roots.new ≡ offered_in roots.old task.handle task.actor offer.descriptor }
         ensures attempt { self.new.attempt ≡ self.old.attempt + 1 }
+        ensures generation { self.new.generation ≡ self.old.generation }
+        ensures taken { IsAskingRoot result → ⊥ }
         ensures access { work.new.swap.read.access ≡ work.old.swap.read.access }
     {
         work.private.give_up(heap);
@@ -303,7 +316,8 @@ impl Snap {
         ensures follows { (state : State) (operation : Operation) (attempt : ℕ) → StepsOn (at_roots state heap.old.heap roots.old) (for_task task attempt (mark_of roots.old task) work.old.swap.read.access operation) (line.Copy (copy.Complete (complete_of complete work.old.swap.read root_seen))) (snap_line work.new.swap.read None self.new) work.new.swap.read.at line_behind result }
         ensures acts { (private : List ARef) → ActsInAll heap.old roots.old.roots private (complete_action (complete_of complete work.old.swap.read root_seen)) heap.new roots.new.roots private }
         ensures table { roots.new ≡ completed_at roots.old task.handle complete.offer complete.at }
-        ensures same { (self.new.attempt ≡ self.old.attempt) × (work.new.private ≡ work.old.private) × (work.new.swap.read.access ≡ work.old.swap.read.access) }
+        ensures same { (self.new.attempt ≡ self.old.attempt) × (self.new.generation ≡ self.old.generation) × (work.new.private ≡ work.old.private) × (work.new.swap.read.access ≡ work.old.swap.read.access) }
+        ensures asks { IsAskingRoot result → (self.new ≡ record self.old { at = SnapAt.Complete complete }) × (work.new ≡ work.old) × (roots.new ≡ roots.old) × (heap.new ≡ heap.old) }
     {
         let was_marked = roots.is_marked(task.actor);
         let mut complete = complete;
@@ -337,25 +351,28 @@ fn first_making(call: SnapCall, main: Ref) -> Making
 }
 
 /// The node that is to be made; a new root is of this generation.
-fn node_of(making: Making, generation: u64) -> Node
-    ensures { result ≡ made_node generation making }
+fn node_of(making: &Making, generation: u64) -> Node
+    ensures { result ≡ made_node generation making.now }
 {
     match making {
         Making::Successor { main } | Making::Second { main, .. } => {
-            Node::Indirection { generation, main }
+            Node::Indirection {
+                generation,
+                main: *main,
+            }
         }
         Making::Empty { .. } => renewed(0, &[]),
         Making::Cleared { branch, .. } => Node::Indirection {
             generation,
-            main: branch,
+            main: *branch,
         },
     }
 }
 
 /// A new root has drawn a generation.
-fn draw(generations: &mut u64, making: Making)
+fn draw(generations: &mut u64, making: &Making)
     requires { generations.old < 2 ^ 64 - 1 }
-    ensures { (heap : Store) (root made : ARef) → next_ref heap ≡ Some made → generations.new ≡ drawn_by heap generations.old (copy_action (making_line root making)) }
+    ensures { (heap : Store) (root made : ARef) → next_ref heap ≡ Some made → generations.new ≡ drawn_by heap generations.old (copy_action (making_line root making.now)) }
 {
     match making {
         Making::Empty { .. } => {}
