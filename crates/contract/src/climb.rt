@@ -4,7 +4,7 @@ ghost use Rattle.std.specs.Prelude.{◌≡◌, ℕ, List, Option, None, IfOk, If
 ghost use Rattle.history.specs.declared.calls.Access.TheVariants.{Writable};
 ghost use Rattle.history.specs.declared.calls.Access.{Access};
 ghost use Rattle.slot_arena.specs.declared.refs.Ref.{Ref as ARef};
-ghost use Rattle.slot_arena.specs.Heaps.{node_at, bitmap_of};
+ghost use Rattle.slot_arena.specs.Heaps.{node_at, bitmap_of, entries_of};
 ghost use Rattle.ctrie_base.specs.Hashes.{hash_of};
 ghost use Rattle.ctrie_base.specs.Paths.{position_of};
 ghost use Rattle.nodes.specs.Levels.{flag_of};
@@ -35,7 +35,9 @@ use epochs::Heap;
 use gcas::Next;
 use nodes::{has_flag, position_of};
 use slot_arena::{Node, Ref};
-use trie_parts::{Task, Work, above, bitmap_at, contracted_at, current, is_below_root, node_at};
+use trie_parts::{
+    Task, Work, above, bitmap_at, contracted_at, current, entry_at, is_below_root, node_at,
+};
 
 /// Where a climb stands.
 #[derive(Clone, Copy)]
@@ -151,19 +153,21 @@ impl Climb {
             Some(Node::Tomb { single }) => {
                 Next::Done(Kind::Look, Climbed::Higher { single: *single })
             }
-            Some(Node::Branch { bitmap, entries }) => {
-                if !holds_it(heap, task, path, main, *bitmap, entries.as_slice()) {
-                    return Next::Done(Kind::Look, Climbed::Climbed);
+            Some(Node::Branch { .. }) => {
+                if holds_it(heap, task, path, main) {
+                    self.place = ClimbAt::Contracted { main };
+                    Next::More(Kind::Look)
+                } else {
+                    Next::Done(Kind::Look, Climbed::Climbed)
                 }
-                self.place = ClimbAt::Contracted { main };
-                Next::More(Kind::Look)
             }
             None => {
-                if !holds_it(heap, task, path, main, 0, &[]) {
-                    return Next::Done(Kind::Look, Climbed::Climbed);
+                if holds_it(heap, task, path, main) {
+                    self.place = ClimbAt::Contracted { main };
+                    Next::More(Kind::Look)
+                } else {
+                    Next::Done(Kind::Look, Climbed::Climbed)
                 }
-                self.place = ClimbAt::Contracted { main };
-                Next::More(Kind::Look)
             }
             _ => Next::Done(Kind::Look, Climbed::Impossible),
         }
@@ -236,12 +240,16 @@ fn place_in(heap: &Heap, task: Task, path: &[Ref], main: Ref) -> usize
 }
 
 /// Whether the branch's entry for the call's key is the tombed indirection.
+<<<<<<< HEAD
 fn holds_it(heap: &Heap, task: Task, path: &[Ref], main: Ref, bitmap: u32, entries: &[Ref]) -> bool
     ensures { (state : State) (operation : Operation) (access : Access) (single : ARef) (former : Option ℕ) → result ≡ holds_it (at_heap state heap.now.heap task.hashes) (for_task task access operation) (record { path = path.now; single = single; former = former }) main bitmap entries.now }
+=======
+fn holds_it(heap: &Heap, task: Task, path: &[Ref], main: Ref) -> bool
+    ensures { (state : State) (operation : Operation) (access : Access) (single : ARef) (former : Option ℕ) → result ≡ holds_it (at_heap state heap.now.heap task.hashes) (for_task task access operation) (record { path = path.now; single = single; former = former }) main (bitmap_of (node_at heap.now.heap main)) (entries_of (node_at heap.now.heap main)) }
+>>>>>>> c6ee4cb2
 {
-    let place = place_in(heap, task, path, main);
-    let entry = entries.get(place).copied().unwrap_or(Ref::default());
-    has_flag(bitmap, task.flag_at(above(path))) && entry == current(path)
+    let entry = entry_at(heap, main, place_in(heap, task, path, main));
+    has_flag(bitmap_at(heap, main), task.flag_at(above(path))) && entry == current(path)
 }
 
 /// The parent's main node with the single in the tomb's place; below the root, where that is the only entry,

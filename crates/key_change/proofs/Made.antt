@@ -1,5 +1,5 @@
 -- What is made on a line depends on nothing of the state but heap and hashes, and on nothing of the operation but its task.
-use Rattle.std.specs.Prelude.{◌≡◌, ℕ, List, refl}
+use Rattle.std.specs.Prelude.{◌≡◌, List, refl}
 use Rattle.machine_model.specs.Beneath.history.specs.declared.calls.Access.{Access}
 use Rattle.slot_arena.specs.declared.refs.Ref.{Ref}
 use Rattle.slot_arena.specs.Heaps.{Heap, node_at, entry_at}

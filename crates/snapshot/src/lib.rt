@@ -1,6 +1,6 @@
-//! Snapshots, freezes and clears: calls that swap the root. Each call of `Snap::step` takes one atomic step, in place.
+//! The calls that take the map as a whole. Each call of a `step` takes one atomic step, in place.
 //!
-//! It is the snapshot of Prokopec, Bronson, Bagwell and Odersky's Ctrie: a root of a new generation is made over the old
+//! `Snap` is the snapshot of Prokopec, Bronson, Bagwell and Odersky's Ctrie: a root of a new generation is made over the old
 //! root's main node, and takes its place by RDCSS where that main node is still the old root's. So both maps have the same
 //! content at that moment, and share all nodes; later each copies what it writes, as it meets indirections of an older
 //! generation. A writable snapshot makes a second root of a generation of its own, for the handle that it opens; a freeze
@@ -9,14 +9,23 @@
 //! taken back leaves nothing behind, and the call begins anew. Whether it was carried out the call reads from its mark, since
 //! another may have completed it. So the work doesn't grow with the map.
 //!
-//! Computed is the definition's `Copying`, with ROOT in its first line: `specs/Copies` says which line the code's program
-//! stands for. A new root draws a generation: `specs/Tasks` says how.
+//! `Entries` and `Count` walk a frozen map by depth first. Nothing is committed there any more, so that what a READ gives is
+//! the content at the freeze, whenever the walk comes by. The entries that are left stand in a stack, the next one on top.
+//!
+//! Computed are the definition's `Copying`, with ROOT in its first line, and its `Walking`: `specs/Copies` and `specs/Walks`
+//! say which line the code's program stands for. A new root draws a generation: `specs/Tasks` says how.
 #![tactic(auto)]
 
+mod entries;
 mod laws;
 mod snap;
+mod taken;
 mod tasks;
+mod todo;
+mod walk;
 
+pub use entries::{Count, Entries};
 pub use laws::draws_generations;
 pub use snap::{Making, Snap, SnapAt};
 pub use tasks::{SnapCall, SnapReply, SnapTask};
+pub use walk::{WalkAt, Walked};

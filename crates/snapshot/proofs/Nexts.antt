@@ -1,0 +1,30 @@
+-- What a look leads to.
+use Rattle.std.specs.Prelude.{◌≡◌, Option, None}
+use Rattle.std.proofs.Common.{sym, ap, subst, ◌∙◌}
+use Rattle.ctrie_base.specs.declared.kinds.Kind.{Kind}
+use Rattle.ctrie_base.specs.declared.kinds.Kind.TheVariants as kind
+use Rattle.machine_model.specs.declared.lines.Line.{Line}
+use Rattle.machine_model.specs.declared.operations.Operation.{Operation}
+use Rattle.machine_model.specs.declared.reading.Read.{Read}
+use Rattle.machine_model.specs.Operations.{kind_of, line_action, line_after, read_of}
+use Rattle.machine_model.specs.States.{State}
+use Rattle.gcas.specs.declared.next.Next.{Next}
+use Rattle.gcas.specs.declared.next.Next.TheVariants.{More, AskRoot, Done}
+use Rattle.gcas.specs.declared.read.ReadAt.{ReadAt}
+use Rattle.gcas.specs.Reads.{ReadsAlong, committed_so}
+use Rattle.trie_parts.specs.Steps.{StepsOn}
+use Rattle.snapshot.specs.declared.walk.Walked.{Walked}
+use Rattle.snapshot.specs.Walks.{NextIs}
+
+-- a look commits nothing
+along : (state : State) (operation : Operation) (read : Option Read) (k : Kind) (place : ReadAt) → read ≡ None → k ≡ kind.Look → ReadsAlong state.heap operation.access read k place
+along state operation read k place none look =
+    subst (λ o. ReadsAlong state.heap operation.access o k place) (sym none) (ap (λ q. committed_so q place) look)
+
+pub by_next : (state : State) (operation : Operation) (before after line : Line) (place : ReadAt) (behind : Walked → Line) (next : Next Walked) →
+    kind_of (line_action state operation before) ≡ kind.Look → line_after state operation before ≡ line → read_of before ≡ None → NextIs line after behind next →
+    StepsOn state operation before after place behind next
+by_next state operation before after line place behind (More k) look leads none is = (look ∙ sym is.0, leads ∙ is.1, along state operation (read_of before) k place none is.0)
+by_next state operation before after line place behind AskRoot look leads none is = absurd is
+by_next state operation before after line place behind (Done k walked) look leads none is =
+    (look ∙ sym is.0, leads ∙ is.1, along state operation (read_of before) k place none is.0)

@@ -1,0 +1,65 @@
+-- A WALK of the code as the definition's, and what a step of it comes to.
+use Rattle.std.specs.Prelude.{◌≡◌, ℕ, Bool, true, false, List, [], ◌∷◌, Option}
+use Rattle.ctrie_base.specs.declared.kinds.Kind.TheVariants as kind
+use Rattle.history.specs.declared.calls.Access.{Access}
+use Rattle.history.specs.declared.calls.Call.{Call}
+use Rattle.slot_arena.specs.declared.refs.Ref.{Ref}
+use Rattle.slot_arena.specs.Heaps.{Heap}
+use Rattle.machine_model.specs.declared.lines.Line.{Line}
+use Rattle.machine_model.specs.declared.lines.Line.TheVariants as line
+use Rattle.machine_model.specs.declared.operations.Operation.{Operation}
+use Rattle.machine_model.specs.declared.walking.WalkLine.TheVariants as walk
+use Rattle.machine_model.specs.Lines.{impossible}
+use Rattle.machine_model.specs.Walking.{walked_reply}
+use Rattle.gcas.specs.declared.next.Next.{Next}
+use Rattle.gcas.specs.declared.next.Next.TheVariants.{More, AskRoot, Done}
+use Rattle.gcas.specs.declared.read.Read.{Read}
+use Rattle.gcas.specs.Reads.{read_of, CanReadOn}
+use Rattle.snapshot.specs.declared.walk.Walk.{Walk}
+use Rattle.snapshot.specs.declared.walk.WalkAt.{WalkAt}
+use Rattle.snapshot.specs.declared.walk.WalkAt.TheVariants as at
+use Rattle.snapshot.specs.declared.walk.Walked.{Walked}
+use Rattle.snapshot.specs.declared.walk.Walked.TheVariants.{All, Impossible}
+
+abbrev pub is_none_left : List Ref → Bool
+is_none_left [] = true
+is_none_left (entry ∷ todo) = false
+
+-- the operation, whatever else it has, of this call, on a handle of this kind
+abbrev pub on_call : Call → Access → Operation → Operation
+on_call call access operation = record operation { call = call; access = access }
+
+-- ---- where it stands
+
+abbrev pub walk_line_at : Read → Option ℕ → List Ref → List (ℕ × ℕ) → WalkAt → Line
+walk_line_at r told todo pairs at.Root = line.Walk walk.Root
+walk_line_at r told todo pairs at.Read = line.Walk (walk.Read (read_of r told) todo pairs)
+walk_line_at r told todo pairs (at.Main main) = line.Walk (walk.Main main todo pairs)
+walk_line_at r told todo pairs at.Entry = line.Walk (walk.Entry todo pairs)
+
+-- the definition's line of a walk whose READ was told this of the root's generation
+abbrev pub walk_line : Read → Option ℕ → Walk → Line
+walk_line r told w = walk_line_at r told w.todo w.pairs w.at
+
+-- the definition's line after a walk that came to this, and has met these pairs
+abbrev pub behind_walk : Call → List (ℕ × ℕ) → Walked → Line
+behind_walk call pairs All = line.End (walked_reply call pairs)
+behind_walk call pairs Impossible = impossible
+
+-- a look leads to the first of these lines: it is the second, or that behind the walk
+abbrev pub NextIs : Line → Line → (Walked → Line) → Next Walked → Type 0
+NextIs next after behind (More k) = (k ≡ kind.Look) × (next ≡ after)
+NextIs next after behind AskRoot = ⊥
+NextIs next after behind (Done k walked) = (k ≡ kind.Look) × (next ≡ behind walked)
+
+-- ---- what it asks of the heap
+
+abbrev pub CanWalkAt : Heap → Read → WalkAt → Type 0
+CanWalkAt heap r at.Root = Unit {0}
+CanWalkAt heap r at.Read = CanReadOn heap r
+CanWalkAt heap r (at.Main main) = Unit {0}
+CanWalkAt heap r at.Entry = Unit {0}
+
+-- what a READ is going to change is in use, and of its kind
+abbrev pub CanWalk : Heap → Read → Walk → Type 0
+CanWalk heap r w = CanWalkAt heap r w.at
