@@ -240,13 +240,8 @@ fn place_in(heap: &Heap, task: Task, path: &[Ref], main: Ref) -> usize
 }
 
 /// Whether the branch's entry for the call's key is the tombed indirection.
-<<<<<<< HEAD
-fn holds_it(heap: &Heap, task: Task, path: &[Ref], main: Ref, bitmap: u32, entries: &[Ref]) -> bool
-    ensures { (state : State) (operation : Operation) (access : Access) (single : ARef) (former : Option ℕ) → result ≡ holds_it (at_heap state heap.now.heap task.hashes) (for_task task access operation) (record { path = path.now; single = single; former = former }) main bitmap entries.now }
-=======
 fn holds_it(heap: &Heap, task: Task, path: &[Ref], main: Ref) -> bool
     ensures { (state : State) (operation : Operation) (access : Access) (single : ARef) (former : Option ℕ) → result ≡ holds_it (at_heap state heap.now.heap task.hashes) (for_task task access operation) (record { path = path.now; single = single; former = former }) main (bitmap_of (node_at heap.now.heap main)) (entries_of (node_at heap.now.heap main)) }
->>>>>>> c6ee4cb2
 {
     let entry = entry_at(heap, main, place_in(heap, task, path, main));
     has_flag(bitmap_at(heap, main), task.flag_at(above(path))) && entry == current(path)
