@@ -1,8 +1,8 @@
 -- What is read of a machine at rest is what the finite maps say.
-use Rattle.std.specs.Prelude.{◌≡◌, ℕ, Bool, true, false, not, length, List, [], Option, Some, None, Result, Ok, Err, IsSome}
+use Rattle.std.specs.Prelude.{◌≡◌, ℕ, Bool, true, false, not, length, List, [], Option, Some, None, Result, Ok, Err, IsOk, IsSome}
 use Rattle.std.specs.FinMap as map
 use Rattle.std.specs.Ordering.{nat_cmp}
-use Rattle.std.proofs.Common.{sym, ap, subst, inl, inr, ◌∙◌}
+use Rattle.std.proofs.Common.{refl, sym, ap, subst, inl, inr, ◌∙◌}
 use Rattle.ctrie_base.specs.declared.refusals.Refusal.{Refusal}
 use Rattle.ctrie_base.specs.declared.refusals.Refusal.TheVariants as refuse
 use Rattle.history.specs.Worlds.{HandleState, KeyMap}
@@ -21,6 +21,7 @@ use Rattle.ctrie_map.specs.declared.errors.MapError.{MapError}
 use Rattle.ctrie_map.specs.declared.errors.MapError.TheVariants as error
 use Rattle.ctrie_map.specs.Machines.{state_by, swept_out}
 use Rattle.ctrie_map.specs.Maps.{MapState}
+use Rattle.ctrie_map.specs.Performing.{of_refusal}
 use Rattle.ctrie_map.specs.Reading.{RefusesReading, if_finished, read_of, reading}
 use Rattle.ctrie_map.proofs.Finishing.{finished_at_rest}
 use Rattle.ctrie_map.proofs.Sweeping.{out_when_clean}
@@ -64,9 +65,14 @@ len_by false shown entries e = cc e
 pub len_read : (state : MapState) (h : ℕ) (entries : List (ℕ × ℕ)) → reading state h (λ m. map.entries m) ≡ Ok entries → reading state h (λ m. map.len m) ≡ Ok (length entries)
 len_read state h entries e = len_by state.is_finished (map.get state.handles h) entries e
 
+readable_by : (b : Bool) (shown : Option HandleState) → IsOk (if_finished b (read_of (λ m. map.entries m) shown)) → IsOk (if_finished b (read_of (λ m. map.len m) shown))
+readable_by true None p = p
+readable_by true (Some shown) p = refl
+readable_by false shown p = p
+
 pub len_refused : (state : MapState) (h : ℕ) (why : MapError) → RefusesReading (reading state h (λ m. map.entries m)) why → RefusesReading (reading state h (λ m. map.len m)) why
 len_refused state h why (inl e) = inl (refused state h (λ m. map.entries m) (λ m. map.len m) why e)
-len_refused state h why (inr e) = inr e
+len_refused state h why (inr e) = inr (e.0, readable_by state.is_finished (map.get state.handles h) e.1)
 
 module _ (machine : Taken) (ok : AreLimits machine.limits) (keys : KeysFit machine.steps) (rest : is_busy (state_of machine) ≡ false) (h : ℕ) where
   shown_so : Names (root_at (state_of machine) h) (content_at (state_of machine) h) (map.get (state_by machine).handles h)
@@ -85,11 +91,6 @@ module _ (machine : Taken) (ok : AreLimits machine.limits) (keys : KeysFit machi
   pub closed : {A : Type 0} (read : KeyMap → A) → root_at (state_of machine) h ≡ None → reading (state_by machine) h read ≡ Err error.NoHandle
   closed read e = as_finished read ∙ closed_by read (root_at (state_of machine) h) (content_at (state_of machine) h) (map.get (state_by machine).handles h) e shown_so
 
-  -- and only then is want of a handle told
-  pub unlisted : (why : Refusal) → RefusesContent (state_of machine) h why → why ≡ refuse.NoHandle → reading (state_by machine) h (λ m. map.entries m) ≡ Err error.NoHandle
-  unlisted why (inl none) e = closed (λ m. map.entries m) none.0
-  unlisted why (inr lacking) e = let other = lacking.1 in cc (sym e ∙ other)
-
   value_by : (key : ℕ) (o : Option Root) (pairs : List (ℕ × ℕ)) (shown : Option HandleState) → IsSome o → Names o pairs shown → read_of (λ m. map.get m key) shown ≡ Ok (map.find nat_cmp key pairs)
   value_by key None pairs shown some names = cc some
   value_by key (Some root) pairs shown some (m, is, same) = ap (read_of (λ n. map.get n key)) is ∙ ap Ok (map.get-entries m key ∙ ap (map.find nat_cmp key) same)
@@ -104,6 +105,16 @@ module _ (machine : Taken) (ok : AreLimits machine.limits) (keys : KeysFit machi
 
   pub entries_read : IsSome (root_at (state_of machine) h) → reading (state_by machine) h (λ m. map.entries m) ≡ Ok (content_at (state_of machine) h)
   entries_read some = as_finished (λ m. map.entries m) ∙ entries_by (root_at (state_of machine) h) (content_at (state_of machine) h) (map.get (state_by machine).handles h) some shown_so
+
+  is_open : (o : Option Root) → (o ≡ None → ⊥) → IsSome o
+  is_open None there = absurd (there refl)
+  is_open (Some root) there = refl
+
+  -- what is refused is told so
+  pub refuses : (why : Refusal) (told : MapError) → told ≡ of_refusal why → RefusesContent (state_of machine) h why → RefusesReading (reading (state_by machine) h (λ m. map.entries m)) told
+  refuses why told e (inl none) = inl (closed (λ m. map.entries m) none.0 ∙ ap Err (sym (e ∙ ap of_refusal none.1)))
+  refuses why told e (inr lacking) =
+      inr (e ∙ ap of_refusal lacking.1, subst IsOk (sym (entries_read (is_open (root_at (state_of machine) h) lacking.0))) refl)
 
 -- the open handles are counted
 pub handles_read : (machine : Taken) → is_busy (state_of machine) ≡ false → (taken : ℕ) → taken ≡ handles_taken (state_of machine) →

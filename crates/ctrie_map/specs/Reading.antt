@@ -1,5 +1,5 @@
 -- What calls answer that change nothing.
-use Rattle.std.specs.Prelude.{◌≡◌, ◌⊎◌, ℕ, Bool, true, false, Option, Some, None, Result, Ok, Err}
+use Rattle.std.specs.Prelude.{◌≡◌, ◌⊎◌, ℕ, Bool, true, false, Option, Some, None, Result, Ok, Err, IsOk}
 use Rattle.std.specs.FinMap as map
 use Rattle.history.specs.Worlds.{HandleState, KeyMap}
 use Rattle.ctrie_map.specs.declared.errors.MapError.{MapError}
@@ -18,6 +18,6 @@ if_finished false answer = Err Unfinished
 abbrev pub reading : {A : Type 0} → MapState → ℕ → (KeyMap → A) → Result A MapError
 reading now handle read = if_finished now.is_finished (read_of read (map.get now.handles handle))
 
--- the same, where memory may be wanting for it
+-- the same, where memory may be wanting for what could be read
 abbrev pub RefusesReading : {A : Type 0} → Result A MapError → MapError → Type 0
-RefusesReading answer error = (answer ≡ Err error) ⊎ (error ≡ Memory)
+RefusesReading answer error = (answer ≡ Err error) ⊎ ((error ≡ Memory) × IsOk answer)

@@ -11,7 +11,6 @@ use crate::errors::MapError;
 use crate::handle::Handle;
 use crate::map::Map;
 use crate::performing::settle;
-use ctrie_base::Refusal;
 use step_machine::Machine;
 
 /// So many free slots are enough for any call.
@@ -99,7 +98,7 @@ fn value_in(machine: &Machine, handle: u16, key: u64) -> Result<Option<u64>, Map
 }
 
 /// The pairs of a handle's map.
-#[tactic(auto, using(crate::proofs::Lookups::unread, crate::proofs::Lookups::unlisted))]
+#[tactic(auto, using(crate::proofs::Lookups::unread))]
 fn entries_in(machine: &Machine, handle: u16) -> Result<Vec<(u64, u64)>, MapError>
     ensures entries { IfOk result (λ entries. reading (state_by machine.now) handle (λ m. map.entries m) ≡ Ok entries.items) }
     ensures refused { IfErr result (RefusesReading (reading (state_by machine.now) handle (λ m. map.entries m))) }
@@ -109,11 +108,7 @@ fn entries_in(machine: &Machine, handle: u16) -> Result<Vec<(u64, u64)>, MapErro
     }
     let _ = machine.limits();
     let _ = machine.steps();
-    match machine.content(handle) {
-        Ok(pairs) => Ok(pairs),
-        Err(Refusal::NoHandle) => Err(MapError::NoHandle),
-        Err(_) => Err(MapError::Memory),
-    }
+    Ok(machine.content(handle)?)
 }
 
 /// The number of open handles.
