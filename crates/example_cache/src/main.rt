@@ -21,7 +21,11 @@ fn slow(number: u64) -> u64 {
         if at <= 1 {
             return steps;
         }
-        at = if at.is_multiple_of(2) { at / 2 } else { at.saturating_mul(3).saturating_add(1) };
+        at = if at.is_multiple_of(2) {
+            at / 2
+        } else {
+            at.saturating_mul(3).saturating_add(1)
+        };
     }
     1_000
 }
@@ -74,7 +78,9 @@ fn ask<R: Print + AllocGlobal>(rt: &R, slots: u32) -> Result<(), MapError> {
     }
     let known = cache.map.count(cache.now)?;
     let Cache { hits, renewals, .. } = cache;
-    let _ = println!(rt; "{slots} slots: {hits} hits, {renewals} times anew, {known} known at last, at most {most} steps");
+    let _ = println!(rt;
+        "{slots} slots: {hits} hits, {renewals} times anew, {known} known at last, at most {most} steps"
+    );
     Ok(())
 }
 

@@ -48,12 +48,18 @@ fn run<R: Print + AllocGlobal>(rt: &R) -> Result<(), MapError> {
     let then = map.entries(copy)?;
     let paid = map.get(index, TILL)?.unwrap_or(0);
     let _ = println!(rt; "exported {exported} while {paid} were paid");
-    let _ = println!(rt; "the copy has {}, the index {}", sum(then.as_slice()), sum(now.as_slice()));
+    let _ = println!(rt;
+        "the copy has {}, the index {}",
+        sum(then.as_slice()),
+        sum(now.as_slice())
+    );
     let with_copy = map.free()?;
     map.close(copy)?;
     let without = map.free()?;
     let slots = map.slots();
-    let _ = println!(rt; "of {slots} slots {with_copy} are free with the copy and {without} without");
+    let _ = println!(rt;
+        "of {slots} slots {with_copy} are free with the copy and {without} without"
+    );
     Ok(())
 }
 

@@ -22,7 +22,10 @@ fn freezes(rt: HostRuntime) -> Result<(), Fail> {
     let mut map = map_of_two(rt.alloc())?;
     let frozen = map.freeze(all)?;
     map.clear(all)?;
-    assert_eq!(rt; map.entries(frozen)?.as_slice(), [(5, 50), (6, 60)].as_slice());
+    assert_eq!(rt;
+        map.entries(frozen)?.as_slice(),
+        [(5, 50), (6, 60)].as_slice()
+    );
     assert_eq!(rt; map.count(all)?, 0);
     Ok(())
 }

@@ -34,7 +34,10 @@ fn refuses_a_crowd(rt: HostRuntime) -> Result<(), Fail> {
         map.put(all, key, key)?;
     }
     assert_eq!(rt; map.put(all, 32, 32).err(), Some(MapError::Crowded));
-    assert_eq!(rt; map.put_if_absent(all, 33, 33).err(), Some(MapError::Crowded));
+    assert_eq!(rt;
+        map.put_if_absent(all, 33, 33).err(),
+        Some(MapError::Crowded)
+    );
     assert_eq!(rt; map.put(all, 31, 1)?, Some(31));
     assert_eq!(rt; map.put(all, 64, 64)?, None);
     Ok(())
@@ -42,8 +45,14 @@ fn refuses_a_crowd(rt: HostRuntime) -> Result<(), Fail> {
 
 #[test]
 fn refuses_sizes(rt: HostRuntime) -> Result<(), Fail> {
-    assert_eq!(rt; Map::new(rt.alloc(), 1, HashKind::Low).err(), Some(MapError::BadSizes));
-    assert_eq!(rt; Map::new(rt.alloc(), 65_537, HashKind::Low).err(), Some(MapError::BadSizes));
+    assert_eq!(rt;
+        Map::new(rt.alloc(), 1, HashKind::Low).err(),
+        Some(MapError::BadSizes)
+    );
+    assert_eq!(rt;
+        Map::new(rt.alloc(), 65_537, HashKind::Low).err(),
+        Some(MapError::BadSizes)
+    );
     Ok(())
 }
 
