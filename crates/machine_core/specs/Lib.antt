@@ -1,3 +1,3 @@
-pub mod Marks
 pub mod Bounds
 pub mod Finding
+pub mod Ties
