@@ -1,9 +1,2 @@
-pub mod Numbers
-pub mod Marking
-pub mod Placing
-pub mod Settling
-pub mod Bounded
-pub mod Steps
-pub mod Gathering
-pub mod Apart
-pub mod Looking
+pub mod Tying
+pub mod Words

@@ -1,3 +1,2 @@
-pub mod Bounds
-pub mod Finding
 pub mod Ties
+pub mod Actions

@@ -1,14 +1,13 @@
 -- How the references that the heap counts from outside are tied to root words and private lists.
-use Rattle.std.specs.Prelude.{◌≡◌, ℕ, ◌+◌, ◌<◌, ◌≤◌, ◌^◌, List, [], flat_map, map, Option, Some, None}
+use Rattle.std.specs.Prelude.{◌≡◌, ℕ, ◌+◌, ◌-◌, ◌<◌, ◌≤◌, ◌^◌, List, [], length, flat_map, map, slice_index_or, Option, Some, None}
 use Rattle.slot_arena.specs.declared.refs.Ref.{Ref}
-use Rattle.slot_arena.specs.Heaps.{refs_of_option, next_ref}
+use Rattle.slot_arena.specs.Heaps.{Heap, refs_of_option, next_ref}
 use Rattle.slot_arena.specs.Times.{times}
 use Rattle.epochs.specs.Memories.{Memory}
 use Rattle.machine_model.specs.declared.actions.Action.{Action}
 use Rattle.machine_model.specs.declared.actions.Action.TheVariants as act
 use Rattle.machine_model.specs.declared.operations.Operation.{Operation}
 use Rattle.machine_model.specs.declared.roots.Root.{Root}
-use Rattle.machine_model.specs.States.{State}
 use Rattle.machine_model.specs.Counting.{refs_of_root, refs_of_operation}
 use Rattle.machine_model.specs.Machine.{pin_of}
 
@@ -39,20 +38,26 @@ pub record Keeps (before after : Memory) (roots now : List (Option Root)) (made 
 
 -- ---- private lists
 
+-- at the actor's place in the list stands this, be it an operation or none; actors are counted from 1
+pub record StandsAt (actors : List (Option Operation)) (actor : ℕ) (found : Option Operation) : Type 0 where
+  pub counts : 1 ≤ actor
+  pub within : actor - 1 < length actors
+  pub is : slice_index_or actors (actor - 1) None ≡ found
+
 -- the reference that the action's step makes, if it makes one
-abbrev pub made_by : State → Action → List Ref
-made_by state (act.Make node) = refs_of_option (next_ref state.heap)
-made_by state (act.MakeRoot main) = refs_of_option (next_ref state.heap)
-made_by state action = []
+abbrev pub made_by : Heap → Action → List Ref
+made_by heap (act.Make node) = refs_of_option (next_ref heap)
+made_by heap (act.MakeRoot main) = refs_of_option (next_ref heap)
+made_by heap action = []
 
 abbrev pub unless_made : List Ref → Option Ref → List Ref
 unless_made private None = private
 unless_made private (Some made) = []
 
 -- what the action's step gives up of the operation's private list: all of it where that is emptied
-abbrev pub given_up : State → List Ref → Action → List Ref
-given_up state private (act.Make node) = unless_made private (next_ref state.heap)
-given_up state private (act.MakeRoot main) = unless_made private (next_ref state.heap)
-given_up state private (act.Publish indirection replaced fresh) = private
-given_up state private (act.Offer offer) = private
-given_up state private action = []
+abbrev pub given_up : Heap → List Ref → Action → List Ref
+given_up heap private (act.Make node) = unless_made private (next_ref heap)
+given_up heap private (act.MakeRoot main) = unless_made private (next_ref heap)
+given_up heap private (act.Publish indirection replaced fresh) = private
+given_up heap private (act.Offer offer) = private
+given_up heap private action = []

@@ -1,45 +1,48 @@
 //! A step of an operation: all of it but for limbo and the count of steps.
 
-ghost use Rattle.std.specs.Prelude.{◌≡◌, ◌<◌, ◌^◌, ◌++◌, option_to_list, IfOk, OnOk, OnErr, Some, IsSome, vec_len, vec_capacity};
+ghost use Rattle.std.specs.Prelude.{◌≡◌, ◌+◌, ◌<◌, ◌≤◌, ◌^◌, ◌++◌, ◌-◌, ℕ, List, [], option_to_list, IfOk, OnOk, OnErr, Some, None, IsSome, slice_set, vec_len, vec_capacity, length, if◌then◌else◌};
+ghost use Rattle.slot_arena.specs.Times.{times};
+ghost use Rattle.slot_arena.specs.Heaps.{next_ref};
+ghost use Rattle.epochs.specs.Memories.{KeepsEpochs};
+ghost use Rattle.slot_arena.specs.Arenas.{IsLive};
+ghost use Rattle.slot_arena.specs.declared.refs.Ref.{Ref};
 ghost use Rattle.machine_model.specs.declared.operations.Operation.{Operation};
 ghost use Rattle.machine_model.specs.declared.actions.Action.TheVariants as actions;
 ghost use Rattle.machine_model.specs.declared.steps.Outcome.TheVariants.{Went};
-ghost use Rattle.machine_model.specs.Calls.{handle_of};
 ghost use Rattle.machine_model.specs.States.{operation_of};
 ghost use Rattle.machine_model.specs.Operations.{action_of, kind_of};
-ghost use Rattle.machine_model.specs.Orders.{committed_now};
-ghost use Rattle.machine_model.specs.Acting.{gone, operation_after, entered, entered_at_end};
+ghost use Rattle.machine_model.specs.Acting.{gone};
 ghost use Rattle.machine_model.specs.Machine.{went};
-ghost use Rattle.plain_state.specs.Seen.{seen};
+ghost use Rattle.plain_state.specs.Seen.{seen, KnowsNext};
+ghost use Rattle.proof_memory.specs.Wants.{AllHold, action_wants};
+ghost use Rattle.machine_core.specs.Bounds.{IsOfRun};
+ghost use Rattle.machine_core.specs.Ties.{IsTied, StandsAt, given_up};
 
 use crate::acting::act;
-use crate::entering::{entered, entered_at_end, note_commit};
-use crate::moments::committed_now;
-use crate::operations::{kind_of, operation_action};
-use crate::operations_after::operation_after;
+use crate::holding::release_private;
+use epochs::Heap;
 use history::{Event, Reply};
 use machine_model::{Action, Operation, Outcome};
 use places::Place;
-use plain_reading::handle_of;
-use plain_state::{Parts, set_operation};
-use slot_arena::Ref;
+use plain_operations::{ending_of, kind_of, note_commit, operation_action, running, turn_of};
+use plain_state::{Parts, PlainHeap, set_operation};
 use std::alloc::AllocError;
 
 /// What the step of the actor's operation does, but for what every step does at its end. After an error
 /// nothing has changed.
 pub fn go_on(parts: &mut Parts, actor: u8) -> Result<Outcome, AllocError>
-    requires births { (seen parts.old).heap.births < 2 ^ 47 }
-    requires generations { (seen parts.old).generations < 2 ^ 63 }
+    requires run { IsOfRun (seen parts.old) }
+    requires tied { IsTied parts.old.heap.memory parts.old.roots.items parts.old.actors.items }
     requires runs { IsSome (operation_of (seen parts.old) actor) }
-    requires attempts { (operation : Operation) →
-        operation_of (seen parts.old) actor ≡ Some operation → operation.attempt < 2 ^ 63 }
     ensures ok { IfOk result (λ outcome. (operation : Operation) →
         operation_of (seen parts.old) actor ≡ Some operation →
         went (seen parts.old) actor operation (action_of (seen parts.old) operation)
         ≡ (outcome, seen parts.new)) }
     ensures err { OnErr result (seen parts.new ≡ seen parts.old) }
-    ensures limbo { parts.new.limbo ≡ parts.old.limbo }
+    ensures tied { IsTied parts.new.heap.memory parts.new.roots.items parts.new.actors.items }
+    ensures noted { OnErr result (parts.new.heap.memory.noted ≡ parts.old.heap.memory.noted) }
 {
+    parts.heap.ask_next();
     let action = operation_action(parts, running(parts, actor))?;
     match action {
         Action::End(reply) => finish(parts, actor, reply),
@@ -47,31 +50,22 @@ pub fn go_on(parts: &mut Parts, actor: u8) -> Result<Outcome, AllocError>
     }
 }
 
-/// The actor's operation.
-fn running(parts: &Parts, actor: u8) -> &Operation
-    requires { IsSome (operation_of (seen parts.now) actor) }
-    ensures { operation_of (seen parts.now) actor ≡ Some result.now }
-{
-    match parts.operation(actor) {
-        Some(operation) => operation,
-        None => unreachable!(),
-    }
-}
-
 /// Ends the actor's operation with this reply. After an error nothing has changed.
 fn finish(parts: &mut Parts, actor: u8, reply: Reply) -> Result<Outcome, AllocError>
-    requires { IsSome (operation_of (seen parts.old) actor) }
+    requires tied { IsTied parts.old.heap.memory parts.old.roots.items parts.old.actors.items }
+    requires runs { IsSome (operation_of (seen parts.old) actor) }
     ensures ok { IfOk result (λ outcome. (operation : Operation) →
         operation_of (seen parts.old) actor ≡ Some operation →
         went (seen parts.old) actor operation (actions.End reply) ≡ (outcome, seen parts.new)) }
     ensures err { OnErr result (seen parts.new ≡ seen parts.old) }
-    ensures limbo { parts.new.limbo ≡ parts.old.limbo }
+    ensures tied { IsTied parts.new.heap.memory parts.new.roots.items parts.new.actors.items }
+    ensures noted { OnErr result (parts.new.heap.memory.noted ≡ parts.old.heap.memory.noted) }
 {
     let ending = ending_of(parts, running(parts, actor), &reply)?;
     parts.events.reserve(1)?;
     parts.places.reserve(1)?;
     let id = ending.id;
-    set_operation(&mut parts.actors, actor, None);
+    take_leave(parts, actor);
     // There is room for both.
     let _ = parts.events.push(Event::End {
         id,
@@ -81,37 +75,39 @@ fn finish(parts: &mut Parts, actor: u8, reply: Reply) -> Result<Outcome, AllocEr
     Ok(Outcome::Ended(id, reply))
 }
 
-/// What the end of an operation leaves behind.
-#[derive(Drop)]
-struct Ending {
-    id: u64,
-    reply: Reply,
-    /// The place in the order that it enters then, if it does.
-    place: Option<Place>,
+/// Takes the actor's operation away, with its private list and its record of the epoch.
+fn take_leave(parts: &mut Parts, actor: u8)
+    requires tied { IsTied parts.old.heap.memory parts.old.roots.items parts.old.actors.items }
+    requires runs { IsSome (operation_of (seen parts.old) actor) }
+    ensures seen { seen parts.new ≡ record (seen parts.old) { actors = slice_set parts.old.actors.items (actor - 1) None } }
+    ensures tied { IsTied parts.new.heap.memory parts.new.roots.items parts.new.actors.items }
+    ensures events { parts.new.events ≡ parts.old.events }
+    ensures places { parts.new.places ≡ parts.old.places }
+{
+    release_of(&mut parts.heap.memory, parts.actors.as_slice(), actor);
+    parts.heap.memory.unpin(actor);
+    set_operation(&mut parts.actors, actor, None);
 }
 
-/// What the end of this operation with this reply leaves behind.
-fn ending_of(parts: &Parts, operation: &Operation, reply: &Reply) -> Result<Ending, AllocError>
-    ensures id { IfOk result (λ ending. ending.id ≡ operation.now.id) }
-    ensures reply { IfOk result (λ ending. ending.reply ≡ reply.now) }
-    ensures place { IfOk result (λ ending. option_to_list ending.place
-        ≡ entered_at_end (seen parts.now) operation.now reply.now) }
+/// Releases the private list of the actor's operation.
+fn release_of(heap: &mut Heap, actors: &[Option<Operation>], actor: u8)
+    requires within { actor - 1 < length actors.now }
+    requires held { (operation : Operation) → StandsAt actors.now actor (Some operation) → (r : Ref) → times r operation.private ≤ times r heap.old.outside }
+    requires counts { 1 ≤ actor }
+    ensures outside { (operation : Operation) → StandsAt actors.now actor (Some operation) → (r : Ref) → times r heap.new.outside + times r operation.private ≡ times r heap.old.outside }
+    ensures heap { heap.new.heap ≡ heap.old.heap }
+    ensures epochs { KeepsEpochs heap.old heap.new }
 {
-    Ok(Ending {
-        id: operation.id,
-        reply: reply.copy()?,
-        place: entered_at_end(parts, operation, reply),
-    })
+    release_private(heap, &actors[actor as usize - 1]);
 }
 
 /// Takes a step of the actor's operation that isn't its end: the one that does this. After an error
 /// nothing has changed.
 fn proceed(parts: &mut Parts, actor: u8, action: Action) -> Result<Outcome, AllocError>
-    requires births { (seen parts.old).heap.births < 2 ^ 47 }
-    requires generations { (seen parts.old).generations < 2 ^ 63 }
+    requires next { KnowsNext parts.old }
+    requires run { IsOfRun (seen parts.old) }
+    requires tied { IsTied parts.old.heap.memory parts.old.roots.items parts.old.actors.items }
     requires runs { IsSome (operation_of (seen parts.old) actor) }
-    requires attempts { (operation : Operation) →
-        operation_of (seen parts.old) actor ≡ Some operation → operation.attempt < 2 ^ 63 }
     requires does { (operation : Operation) → operation_of (seen parts.old) actor ≡ Some operation →
         action ≡ action_of (seen parts.old) operation }
     ensures outcome { IfOk result (λ outcome. outcome ≡ Went (kind_of action)) }
@@ -119,7 +115,8 @@ fn proceed(parts: &mut Parts, actor: u8, action: Action) -> Result<Outcome, Allo
         operation_of (seen parts.old) actor ≡ Some operation →
         seen parts.new ≡ gone (seen parts.old) actor operation) }
     ensures err { OnErr result (seen parts.new ≡ seen parts.old) }
-    ensures limbo { parts.new.limbo ≡ parts.old.limbo }
+    ensures tied { IsTied parts.new.heap.memory parts.new.roots.items parts.new.actors.items }
+    ensures noted { OnErr result (parts.new.heap.memory.noted ≡ parts.old.heap.memory.noted) }
 {
     let turn = turn_of(parts, running(parts, actor), &action)?;
     let kind = kind_of(&action);
@@ -127,55 +124,50 @@ fn proceed(parts: &mut Parts, actor: u8, action: Action) -> Result<Outcome, Allo
     make_room(parts)?;
     enter(&mut parts.places, &turn.entering)?;
     note_commit(&mut parts.commits, turn.committed, step);
+    give_up(&mut parts.heap, parts.actors.as_slice(), actor, &action);
     set_operation(&mut parts.actors, actor, Some(turn.after));
     act(parts, turn.handle, action);
     Ok(Outcome::Went(kind))
 }
 
+/// Gives up what the action's step gives up of the private list of the actor's operation.
+fn give_up(heap: &mut PlainHeap, actors: &[Option<Operation>], actor: u8, action: &Action)
+    requires next { heap.old.next ≡ next_ref heap.old.memory.heap }
+    requires within { actor - 1 < length actors.now }
+    requires counts { 1 ≤ actor }
+    requires held { (operation : Operation) → StandsAt actors.now actor (Some operation) → (r : Ref) → times r operation.private ≤ times r heap.old.memory.outside }
+    ensures outside { (operation : Operation) → StandsAt actors.now actor (Some operation) → (r : Ref) →
+        times r heap.new.memory.outside + times r (given_up heap.old.memory.heap operation.private action.now) ≡ times r heap.old.memory.outside }
+    ensures heap { heap.new.memory.heap ≡ heap.old.memory.heap }
+    ensures epochs { KeepsEpochs heap.old.memory heap.new.memory }
+{
+    if is_emptied(heap, action) {
+        release_of(&mut heap.memory, actors, actor);
+    }
+}
+
+/// Whether the action's step empties the private list: the last of it is swapped in or offered, or no slot
+/// is free.
+fn is_emptied(heap: &PlainHeap, action: &Action) -> bool
+    requires { heap.now.next ≡ next_ref heap.now.memory.heap }
+    ensures { (private : List Ref) → given_up heap.now.memory.heap private action.now ≡ (if result then private else []) }
+{
+    match action {
+        Action::Make(_) | Action::MakeRoot { .. } => heap.next_ref().is_none(),
+        Action::Publish { .. } | Action::Offer(_) => true,
+        _ => false,
+    }
+}
+
 /// Makes room for a closing and a commit. Nothing that is seen changes.
 fn make_room(parts: &mut Parts) -> Result<(), AllocError>
     ensures same { seen parts.new ≡ seen parts.old }
-    ensures limbo { parts.new.limbo ≡ parts.old.limbo }
+    ensures heap { parts.new.heap ≡ parts.old.heap }
     ensures closings { OnOk result (vec_len parts.new.closings < vec_capacity parts.new.closings) }
     ensures commits { OnOk result (vec_len parts.new.commits < vec_capacity parts.new.commits) }
 {
     parts.closings.reserve(1)?;
     parts.commits.reserve(1)
-}
-
-/// What a step of an operation changes besides what its action does.
-#[derive(Drop)]
-struct Turn {
-    /// The handle on which the operation was called.
-    handle: u16,
-    /// The main node that the step commits, if it does.
-    committed: Option<Ref>,
-    /// The places that are entered at that commit.
-    entering: Vec<Place>,
-    /// The operation after the step.
-    after: Operation,
-}
-
-/// What the step of this operation, which does that, changes besides what it does.
-fn turn_of(parts: &Parts, operation: &Operation, action: &Action) -> Result<Turn, AllocError>
-    requires births { (seen parts.now).heap.births < 2 ^ 47 }
-    requires attempts { operation.now.attempt < 2 ^ 63 }
-    requires does { action.now ≡ action_of (seen parts.now) operation.now }
-    ensures handle { IfOk result (λ turn. turn.handle ≡ handle_of operation.now.call) }
-    ensures committed { IfOk result
-        (λ turn. turn.committed ≡ committed_now (seen parts.now) operation.now) }
-    ensures entering { IfOk result (λ turn. turn.entering.items
-        ≡ entered (seen parts.now) (committed_now (seen parts.now) operation.now)) }
-    ensures after { IfOk result
-        (λ turn. turn.after ≡ operation_after (seen parts.now) operation.now) }
-{
-    let committed = committed_now(parts, operation);
-    Ok(Turn {
-        handle: handle_of(operation.call),
-        committed,
-        entering: entered(parts, committed)?,
-        after: operation_after(parts, operation, action)?,
-    })
 }
 
 /// Adds the places, with room for one more. After an error they are as they were.

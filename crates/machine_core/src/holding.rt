@@ -77,10 +77,10 @@ fn release_word(heap: &mut Heap, word: RootWord)
 }
 
 /// Holds what stands in the root word of a handle, if it is open.
-fn hold_root(heap: &mut Heap, root: Option<Root>)
-    requires live { AreLive heap.old.heap (refs_of_root root) }
+fn hold_root(heap: &mut Heap, root: &Option<Root>)
+    requires live { AreLive heap.old.heap (refs_of_root root.now) }
     requires room { (r : ℕ) → times r heap.old.outside + 4 < 2 ^ 31 }
-    ensures outside { (r : ℕ) → times r heap.new.outside ≡ times r heap.old.outside + times r (refs_of_root root) }
+    ensures outside { (r : ℕ) → times r heap.new.outside ≡ times r heap.old.outside + times r (refs_of_root root.now) }
     ensures heap { heap.new.heap ≡ heap.old.heap }
     ensures epochs { KeepsEpochs heap.old heap.new }
 {
@@ -90,9 +90,9 @@ fn hold_root(heap: &mut Heap, root: Option<Root>)
 }
 
 /// Releases what stands in the root word of a handle, if it is open.
-fn release_root(heap: &mut Heap, root: Option<Root>)
-    requires { (r : ℕ) → times r (refs_of_root root) ≤ times r heap.old.outside }
-    ensures outside { (r : ℕ) → times r heap.new.outside + times r (refs_of_root root) ≡ times r heap.old.outside }
+fn release_root(heap: &mut Heap, root: &Option<Root>)
+    requires { (r : ℕ) → times r (refs_of_root root.now) ≤ times r heap.old.outside }
+    ensures outside { (r : ℕ) → times r heap.new.outside + times r (refs_of_root root.now) ≡ times r heap.old.outside }
     ensures heap { heap.new.heap ≡ heap.old.heap }
     ensures epochs { KeepsEpochs heap.old heap.new }
 {
@@ -103,6 +103,7 @@ fn release_root(heap: &mut Heap, root: Option<Root>)
 
 /// Lets the handle number name this, or nothing. What stands there then is held before what stood there is
 /// released, so that it doesn't matter what either is.
+#[tactic(auto, using(crate::proofs::Tying::kept_past))]
 pub fn put_root(heap: &mut Heap, roots: &mut Vec<Option<Root>>, handle: u16, root: Option<Root>)
     requires live { AreLive heap.old.heap (refs_of_root root) }
     requires ready { IsReady heap.old roots.old.items 4 }
@@ -111,11 +112,23 @@ pub fn put_root(heap: &mut Heap, roots: &mut Vec<Option<Root>>, handle: u16, roo
     ensures heap { heap.new.heap ≡ heap.old.heap }
     ensures epochs { KeepsEpochs heap.old heap.new }
 {
-    let Some(found) = roots.get(handle as usize).copied() else {
-        return;
-    };
-    hold_root(heap, root);
-    release_root(heap, found);
+    if (handle as usize) < roots.len() {
+        replace_root(heap, roots, handle, root);
+    }
+}
+
+/// The same, where the machine has the handle number.
+fn replace_root(heap: &mut Heap, roots: &mut Vec<Option<Root>>, handle: u16, root: Option<Root>)
+    requires live { AreLive heap.old.heap (refs_of_root root) }
+    requires ready { IsReady heap.old roots.old.items 4 }
+    requires within { handle < length roots.old.items }
+    ensures roots { roots.new.items ≡ slice_set roots.old.items handle root }
+    ensures keeps { Keeps heap.old heap.new roots.old.items roots.new.items [] 4 }
+    ensures heap { heap.new.heap ≡ heap.old.heap }
+    ensures epochs { KeepsEpochs heap.old heap.new }
+{
+    hold_root(heap, &root);
+    release_root(heap, &roots[handle as usize]);
     set_root(roots, handle, root);
 }
 
