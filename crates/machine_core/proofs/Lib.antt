@@ -1,2 +1,9 @@
 pub mod Tying
 pub mod Words
+pub mod Making
+pub mod Tied
+pub mod Held
+pub mod Bounded
+pub mod Steps
+pub mod Carried
+pub mod Gone

@@ -1,2 +1,3 @@
+pub mod Bounds
 pub mod Ties
 pub mod Actions

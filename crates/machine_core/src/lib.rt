@@ -1,9 +1,11 @@
 //! Core.
 #![tactic(auto)]
 
+mod acting;
+mod going;
 mod holding;
 mod node_words;
 mod root_words;
-pub use holding::{put_root, release_private};
-pub use node_words::{decide, publish, restore};
-pub use root_words::{set_word, swap_root};
+mod sweeping;
+pub use going::go_on;
+pub use sweeping::sweep_once;

@@ -11,7 +11,7 @@ ghost use Rattle.machine_model.specs.States.{root_at, operation_of};
 ghost use Rattle.step_machine.specs.Beneath.slot_arena.specs.Heaps.{in_use};
 ghost use Rattle.machine_model.specs.Orders.{order_of};
 ghost use Rattle.machine_model.specs.Contents.{content_at};
-ghost use Rattle.plain_machine.specs.Finding.{found_along};
+ghost use Rattle.machine_core.specs.Finding.{found_along};
 ghost use Rattle.machine_model.specs.Keys.{KeysFit};
 ghost use Rattle.machine_model.specs.Machine.{AreLimits, denial_of, is_running, is_busy, runs_on, next_kind, handles_taken, is_access, access_of};
 ghost use Rattle.machine_model.specs.Refusing.{RefusesLimits, RefusesContent};
@@ -24,7 +24,7 @@ ghost use Rattle.step_machine.specs.Memory.{UsesWhatItNames, FreesLate, DrawsNew
 use ctrie_base::{Kind, Refusal};
 use history::{Access, Event};
 use machine_model::{Limits, Outcome, Step};
-use plain_machine::Plain;
+use machine_core::Core;
 use std::alloc::Global;
 use std::marker::Model;
 
@@ -32,7 +32,7 @@ use std::marker::Model;
 /// writable and empty, and no step was taken.
 #[derive(Drop)]
 pub struct Machine {
-    plain: Plain,
+    plain: Core,
     steps: Vec<Step>,
 }
 
@@ -60,7 +60,7 @@ impl Machine {
         ensures refused { IfErr result (λ refusal. RefusesLimits limits refusal) }
     {
         Ok(Machine {
-            plain: Plain::new(alloc, limits)?,
+            plain: Core::new(alloc, limits)?,
             steps: Vec::new(alloc),
         })
     }
