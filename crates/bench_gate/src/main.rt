@@ -123,7 +123,7 @@ fn number(word: Option<&String>) -> Option<u64> {
     word.and_then(|word| word.as_str().parse().ok())
 }
 
-/// The load that the program's words ask for.
+/// The load of these words.
 fn load_of(words: &[String]) -> Option<Load> {
     let threads = u8::try_from(number(words.get(0))?).ok()?;
     let calls = number(words.get(1))?;
@@ -135,6 +135,12 @@ fn load_of(words: &[String]) -> Option<Load> {
     })
 }
 
+/// The load that the program's words ask for, if they do.
+fn asked_for(rt: &HostRuntime) -> Option<Load> {
+    let words = env::args(rt).ok()?.skip(1);
+    load_of(words.collect::<Vec<String>>(rt.alloc()).ok()?.as_slice())
+}
+
 fn limits(slots: u32, actors: u8) -> Limits {
     Limits {
         slots,
@@ -144,13 +150,7 @@ fn limits(slots: u32, actors: u8) -> Limits {
 }
 
 fn main(rt: HostRuntime) -> ExitCode {
-    let Ok(words) = env::args(&rt) else {
-        return ExitCode::from(2);
-    };
-    let Ok(words) = words.skip(1).collect::<Vec<String>>(rt.alloc()) else {
-        return ExitCode::from(2);
-    };
-    let done = match load_of(words.as_slice()) {
+    let done = match asked_for(&rt) {
         Some(load) => measure(&rt, load),
         None => small(&rt),
     };

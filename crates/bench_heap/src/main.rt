@@ -133,7 +133,7 @@ fn number(word: Option<&String>) -> Option<u32> {
     word.and_then(|word| word.as_str().parse().ok())
 }
 
-/// The load that the program's words ask for.
+/// The load of these words.
 fn load_of(words: &[String]) -> Option<Load> {
     let count = number(words.get(0))?;
     let every = number(words.get(1))?;
@@ -143,6 +143,12 @@ fn load_of(words: &[String]) -> Option<Load> {
         every,
         slots,
     })
+}
+
+/// The load that the program's words ask for, if they do.
+fn asked_for(rt: &HostRuntime) -> Option<Load> {
+    let words = env::args(rt).ok()?.skip(1);
+    load_of(words.collect::<Vec<String>>(rt.alloc()).ok()?.as_slice())
 }
 
 /// Few of each, whose numbers are written.
@@ -170,13 +176,7 @@ fn small_heap<R: Print + AllocGlobal>(rt: &R) -> Result<(), Refusal> {
 }
 
 fn main(rt: HostRuntime) -> ExitCode {
-    let Ok(words) = env::args(&rt) else {
-        return ExitCode::from(2);
-    };
-    let Ok(words) = words.skip(1).collect::<Vec<String>>(rt.alloc()) else {
-        return ExitCode::from(2);
-    };
-    let done = match load_of(words.as_slice()) {
+    let done = match asked_for(&rt) {
         Some(load) => measure(&rt, load),
         None => small(&rt),
     };

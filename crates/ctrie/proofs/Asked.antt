@@ -17,7 +17,7 @@ use Rattle.clap.specs.declared.error.kind.ErrorKind.TheVariants.{OutOfMemory}
 use Rattle.clap.specs.declared.parser.matches.SubCommand.{SubCommand}
 use Rattle.clap.specs.declared.parser.matches.ArgMatches.TheViews.{out-SubCommand}
 use Rattle.ctrie.specs.declared.arguments.Request.{Request}
-use Rattle.ctrie.specs.declared.arguments.Request.TheVariants.{Check, Run, Threads}
+use Rattle.ctrie.specs.declared.arguments.Request.TheVariants.{Check, Run, Threads, Explain, Draw}
 use Rattle.ctrie_commands.specs.declared.faults.Fault.TheVariants.{Usage}
 use Rattle.ctrie.specs.Requests.{Answers, IsMatched, asked_file, fault_for, file_of, has_globals, met, program, takes, wants_file}
 
@@ -30,21 +30,28 @@ pub program-is_simple_and_free : is_simple_and_free program ≡ true
 unfolding program clap_on_literals
 program-is_simple_and_free = refl
 
+-- what one call of the builder makes
+added : (name : Text) (before after sub : Command) (app : App) → app_of before ≡ app → app_of sub ≡ wants_file name → has_globals sub ≡ false → AddsSubcommand before sub after
+    → app_of after ≡ with_subcommand app (wants_file name).top
+added name before after sub app is_before is_sub local adds = adds.shape local ∙ ap₂ with_subcommand is_before (ap (λ (a : App). a.top) is_sub)
+
+-- a command that wants a file
+abbrev pub Wants : Text → Command → Type 0
+Wants name command = (app_of command ≡ wants_file name) × (has_globals command ≡ false)
+
 -- what the calls of the builders make
-pub program_built : (run threads check p0 p1 p2 p3 p4 : Command) → app_of run ≡ wants_file (codes "run") → has_globals run ≡ false
-    → app_of threads ≡ wants_file (codes "threads") → has_globals threads ≡ false
-    → app_of check ≡ wants_file (codes "check") → has_globals check ≡ false → app_of p0 ≡ new_app (codes "ctrie")
-    → fields_of p1 ≡ record (fields_of p0) { subcommand_required = true } → AddsSubcommand p1 run p2 → AddsSubcommand p2 threads p3
-    → AddsSubcommand p3 check p4 → app_of p4 ≡ program
+pub program_built : (run threads check explain draw p0 p1 p2 p3 p4 p5 p6 : Command) → Wants (codes "run") run → Wants (codes "threads") threads → Wants (codes "check") check
+    → Wants (codes "explain") explain → Wants (codes "draw") draw → app_of p0 ≡ new_app (codes "ctrie") → fields_of p1 ≡ record (fields_of p0) { subcommand_required = true }
+    → AddsSubcommand p1 run p2 → AddsSubcommand p2 threads p3 → AddsSubcommand p3 check p4 → AddsSubcommand p4 explain p5 → AddsSubcommand p5 draw p6 → app_of p6 ≡ program
 unfolding program
-program_built run threads check p0 p1 p2 p3 p4 is_run run_local is_threads threads_local is_check check_local is_program wanted adds_run adds_threads adds_check =
+program_built run threads check explain draw p0 p1 p2 p3 p4 p5 p6 is_run is_threads is_check is_explain is_draw is_program wanted adds_run adds_threads adds_check adds_explain adds_draw =
     let wants : app_of p1 ≡ on_top (λ s. record s { subcommand_required = true }) (new_app (codes "ctrie"))
     = ap app_of_fields wanted ∙ ap (on_top (λ s. record s { subcommand_required = true })) is_program in
-    let first : app_of p2 ≡ with_subcommand (on_top (λ s. record s { subcommand_required = true }) (new_app (codes "ctrie"))) (wants_file (codes "run")).top
-    = adds_run.shape run_local ∙ ap₂ with_subcommand wants (ap (λ (a : App). a.top) is_run) in
-    let second : app_of p3 ≡ with_subcommand (with_subcommand (on_top (λ s. record s { subcommand_required = true }) (new_app (codes "ctrie"))) (wants_file (codes "run")).top) (wants_file (codes "threads")).top
-    = adds_threads.shape threads_local ∙ ap₂ with_subcommand first (ap (λ (a : App). a.top) is_threads) in
-    adds_check.shape check_local ∙ ap₂ with_subcommand second (ap (λ (a : App). a.top) is_check)
+    let first = added (codes "run") p1 p2 run _ wants is_run.0 is_run.1 adds_run in
+    let second = added (codes "threads") p2 p3 threads _ first is_threads.0 is_threads.1 adds_threads in
+    let third = added (codes "check") p3 p4 check _ second is_check.0 is_check.1 adds_check in
+    let fourth = added (codes "explain") p4 p5 explain _ third is_explain.0 is_explain.1 adds_explain in
+    added (codes "draw") p5 p6 draw _ fourth is_draw.0 is_draw.1 adds_draw
 
 -- the name of the subcommand that was met
 pub rows-name : {Z : Type 0} (sub : Option (Box SubCommand Z)) → option_map (λ s. s.0) (subcommand_rows sub) ≡ option_map (λ b. (out-SubCommand (box_value b)).name.now) sub
@@ -79,10 +86,13 @@ met_by_rows app words rows same is = sym (subst (λ (a : App). rows ≡ subcomma
 -- a request that was found in the matches is what the words ask for
 pub answers_found : (words : List Text) (rows : Option (Text × List Row)) (found : Option Request) → takes words ≡ true → met words ≡ rows
     → IsMatched rows found → Answers words (ok_or found Usage)
-answers_found words rows None taken is (check, run, threads) = (rw (taken, is) check, rw (taken, is) run, rw (taken, is) threads)
+answers_found words rows None taken is (check, run, threads, explain, draw) =
+    (rw (taken, is) check, rw (taken, is) run, rw (taken, is) threads, rw (taken, is) explain, rw (taken, is) draw)
 answers_found words rows (Some (Check path)) taken is file = rw (taken, is) file
 answers_found words rows (Some (Run path)) taken is file = rw (taken, is) file
 answers_found words rows (Some (Threads path)) taken is file = rw (taken, is) file
+answers_found words rows (Some (Explain path)) taken is file = rw (taken, is) file
+answers_found words rows (Some (Draw path)) taken is file = rw (taken, is) file
 
 -- words that the command doesn't take ask for nothing
 asks_nothing : (name : Text) (words : List Text) → takes words ≡ false → asked_file name words ≡ None
@@ -90,7 +100,13 @@ asks_nothing name words refused = rw refused refl
 
 answers_refused : (words : List Text) (k : ErrorKind) → takes words ≡ false → Answers words (Err (fault_for k))
 answers_refused words OutOfMemory refused = tt
-answers_refused words other refused = (asks_nothing (codes "check") words refused, asks_nothing (codes "run") words refused, asks_nothing (codes "threads") words refused)
+answers_refused words other refused = (
+  asks_nothing (codes "check") words refused,
+  asks_nothing (codes "run") words refused,
+  asks_nothing (codes "threads") words refused,
+  asks_nothing (codes "explain") words refused,
+  asks_nothing (codes "draw") words refused,
+)
 
 refused_words : (words : List Text) (k : ErrorKind) (kinds : Kinds) → IsAmong k kinds → takes words ≡ is_empty kinds → takes words ≡ false
 refused_words words k [] among taken = absurd among

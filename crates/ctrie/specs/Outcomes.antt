@@ -4,10 +4,12 @@ use Rattle.ctrie_base.specs.declared.refusals.Refusal.{Refusal}
 use Rattle.ctrie_commands.specs.declared.faults.Fault.{Fault}
 use Rattle.ctrie_commands.specs.Faults.{status_of}
 use Rattle.ctrie_commands.specs.Verdicts.{IsVerdict, verdict_line, HasLineFault}
+use Rattle.ctrie_commands.specs.Explanations.{IsExplanation}
+use Rattle.ctrie_commands.specs.Pictures.{IsPicture}
 use Rattle.ctrie_commands.specs.Scripts.{IsReport, HasScriptFault}
 use Rattle.ctrie_commands.specs.Threads.{IsThreadReport, HasThreadFault}
 use Rattle.ctrie.specs.declared.arguments.Request.{Request}
-use Rattle.ctrie.specs.declared.arguments.Request.TheVariants.{Check, Run, Threads}
+use Rattle.ctrie.specs.declared.arguments.Request.TheVariants.{Check, Run, Threads, Explain, Draw}
 use Rattle.ctrie.specs.declared.outcomes.Outcome.{Outcome}
 use Rattle.ctrie.specs.declared.outcomes.Outcome.TheVariants.{Done, Legal, NotLegal}
 
@@ -18,17 +20,21 @@ exit_status_of (Ok Legal) = 0
 exit_status_of (Ok NotLegal) = 3
 exit_status_of (Err fault) = status_of fault
 
--- how a check comes out
+-- how the judgement of a history comes out
 abbrev pub judged : Bool → Outcome
 judged true = Legal
 judged false = NotLegal
 
--- What is asked for comes out so with this text, and these bytes tell of it: of a check its verdict, of a script its report.
+-- What is asked for comes out so with this text, and these bytes tell of it: its verdict, its report, what explains its verdict, or its picture.
 abbrev pub Tells : Request → List ℕ → Outcome → List ℕ → Type 0
 Tells (Check path) text Legal bytes = IsVerdict text true × (bytes ≡ verdict_line true)
 Tells (Check path) text NotLegal bytes = IsVerdict text false × (bytes ≡ verdict_line false)
 Tells (Run path) text Done bytes = IsReport text bytes
 Tells (Threads path) text Done bytes = IsThreadReport text bytes
+Tells (Explain path) text Legal bytes = IsVerdict text true × IsExplanation text true bytes
+Tells (Explain path) text NotLegal bytes = IsVerdict text false × IsExplanation text false bytes
+Tells (Draw path) text Legal bytes = IsVerdict text true × IsPicture text true bytes
+Tells (Draw path) text NotLegal bytes = IsVerdict text false × IsPicture text false bytes
 Tells request text outcome bytes = ⊥
 
 -- the first line with a fault is this one, with this fault
@@ -36,3 +42,5 @@ abbrev pub HasFault : Request → List ℕ → ℕ → Refusal → Type 0
 HasFault (Check path) text number refusal = HasLineFault text number refusal
 HasFault (Run path) text number refusal = HasScriptFault text number refusal
 HasFault (Threads path) text number refusal = HasThreadFault text number refusal
+HasFault (Explain path) text number refusal = HasLineFault text number refusal
+HasFault (Draw path) text number refusal = HasLineFault text number refusal

@@ -11,7 +11,7 @@ use Rattle.clap.specs.declared.builder.command.Command.TheViews.{out-Command as 
 use Rattle.clap.specs.declared.error.kind.ErrorKind.{ErrorKind}
 use Rattle.clap.specs.declared.error.kind.ErrorKind.TheVariants as kind
 use Rattle.ctrie.specs.declared.arguments.Request.{Request}
-use Rattle.ctrie.specs.declared.arguments.Request.TheVariants.{Check, Run, Threads}
+use Rattle.ctrie.specs.declared.arguments.Request.TheVariants.{Check, Run, Threads, Explain, Draw}
 use Rattle.ctrie_commands.specs.declared.faults.Fault.{Fault}
 use Rattle.ctrie_commands.specs.declared.faults.Fault.TheVariants.{Memory, Usage}
 
@@ -25,6 +25,8 @@ abbrev pub path_of : Request → Bor Text
 path_of (Check path) = path
 path_of (Run path) = path
 path_of (Threads path) = path
+path_of (Explain path) = path
+path_of (Draw path) = path
 
 -- the one file that a subcommand wants
 abbrev pub file_rule : Rule
@@ -42,9 +44,14 @@ has_globals command = (fields_of command).has_globals
 unfoldable pub program : App
 program =
     with_subcommand
-    (with_subcommand (with_subcommand (on_top (λ s. record s { subcommand_required = true }) (new_app (codes "ctrie"))) (wants_file (codes "run")).top)
+    (with_subcommand
+    (with_subcommand
+    (with_subcommand
+    (with_subcommand (on_top (λ s. record s { subcommand_required = true }) (new_app (codes "ctrie"))) (wants_file (codes "run")).top)
     (wants_file (codes "threads")).top)
-    (wants_file (codes "check")).top
+    (wants_file (codes "check")).top)
+    (wants_file (codes "explain")).top)
+    (wants_file (codes "draw")).top
 
 -- the file behind the subcommand with this name, if it is the one that was met
 abbrev pub file_of : Text → Option (Text × List Row) → Option Text
@@ -62,13 +69,19 @@ met words = subcommand_of program words
 abbrev pub asked_file : Text → List Text → Option Text
 asked_file name words = if takes words then file_of name (met words) else None
 
+-- none of the commands has a file by this reading of the words
+abbrev pub HasNone : (Text → Option Text) → Type 0
+HasNone file =
+    (file (codes "check") ≡ None) × (file (codes "run") ≡ None) × (file (codes "threads") ≡ None) × (file (codes "explain") ≡ None) × (file (codes "draw") ≡ None)
+
 -- The request is what the words ask for, and a fault of usage comes only where they ask for nothing.
 abbrev pub Answers : List Text → Result Request Fault → Type 0
 Answers words (Ok (Check path)) = asked_file (codes "check") words ≡ Some path.now
 Answers words (Ok (Run path)) = asked_file (codes "run") words ≡ Some path.now
 Answers words (Ok (Threads path)) = asked_file (codes "threads") words ≡ Some path.now
-Answers words (Err Usage) =
-    (asked_file (codes "check") words ≡ None) × (asked_file (codes "run") words ≡ None) × (asked_file (codes "threads") words ≡ None)
+Answers words (Ok (Explain path)) = asked_file (codes "explain") words ≡ Some path.now
+Answers words (Ok (Draw path)) = asked_file (codes "draw") words ≡ Some path.now
+Answers words (Err Usage) = HasNone (λ name. asked_file name words)
 Answers words (Err Memory) = Unit {0}
 Answers words (Err fault) = ⊥
 
@@ -77,5 +90,6 @@ abbrev pub IsMatched : Option (Text × List Row) → Option Request → Type 0
 IsMatched subcommand (Some (Check path)) = file_of (codes "check") subcommand ≡ Some path.now
 IsMatched subcommand (Some (Run path)) = file_of (codes "run") subcommand ≡ Some path.now
 IsMatched subcommand (Some (Threads path)) = file_of (codes "threads") subcommand ≡ Some path.now
-IsMatched subcommand None =
-    (file_of (codes "check") subcommand ≡ None) × (file_of (codes "run") subcommand ≡ None) × (file_of (codes "threads") subcommand ≡ None)
+IsMatched subcommand (Some (Explain path)) = file_of (codes "explain") subcommand ≡ Some path.now
+IsMatched subcommand (Some (Draw path)) = file_of (codes "draw") subcommand ≡ Some path.now
+IsMatched subcommand None = HasNone (λ name. file_of name subcommand)

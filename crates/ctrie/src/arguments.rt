@@ -19,6 +19,10 @@ pub enum Request<'a> {
     Run(&'a str),
     /// To run the script in this file by threads.
     Threads(&'a str),
+    /// To tell why the history in this file isn't legal.
+    Explain(&'a str),
+    /// To draw the history in this file.
+    Draw(&'a str),
 }
 
 impl<'a> Request<'a> {
@@ -27,7 +31,11 @@ impl<'a> Request<'a> {
         ensures { result ≡ path_of self.now }
     {
         match *self {
-            Request::Check(path) | Request::Run(path) | Request::Threads(path) => path,
+            Request::Check(path)
+            | Request::Run(path)
+            | Request::Threads(path)
+            | Request::Explain(path)
+            | Request::Draw(path) => path,
         }
     }
 }
@@ -54,6 +62,10 @@ fn matched<'a>(matches: &ArgMatches<'a>) -> Option<Request<'a>>
         Some(Request::Run(path))
     } else if name == "threads" {
         Some(Request::Threads(path))
+    } else if name == "explain" {
+        Some(Request::Explain(path))
+    } else if name == "draw" {
+        Some(Request::Draw(path))
     } else {
         None
     }
@@ -78,11 +90,15 @@ pub fn request_of<'a, S: AsStr>(alloc: Global, words: &'a [S]) -> Result<Request
     let run = wants_file(alloc, "run")?;
     let threads = wants_file(alloc, "threads")?;
     let check = wants_file(alloc, "check")?;
+    let explain = wants_file(alloc, "explain")?;
+    let draw = wants_file(alloc, "draw")?;
     let program = clap::Command::new(alloc, "ctrie")
         .subcommand_required(true)
         .subcommand(run)?
         .subcommand(threads)?
-        .subcommand(check)?;
+        .subcommand(check)?
+        .subcommand(explain)?
+        .subcommand(draw)?;
     match program.try_get_matches_from(words) {
         Ok(matches) => matched(&matches).ok_or(Fault::Usage),
         Err(error) => Err(fault_of(&error)),

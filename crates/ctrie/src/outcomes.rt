@@ -8,7 +8,9 @@ ghost use Rattle.ctrie_commands.specs.Written.{AppendsSuch, AppendsPartOf};
 ghost use Rattle.ctrie.specs.Outcomes.{Tells, HasFault, judged, exit_status_of};
 
 use crate::arguments::Request;
-use ctrie_commands::{Counted, Fault, Nothing, check_history, run_script, run_threads};
+use ctrie_commands::{
+    Counted, Fault, Nothing, check_history, draw_history, explain_history, run_script, run_threads,
+};
 use std::alloc::Global;
 use std::io::{Read, Write};
 use std::sync::Wait;
@@ -37,7 +39,7 @@ pub fn exit_status(outcome: &Result<Outcome, Fault>) -> u8
     }
 }
 
-/// How a check comes out.
+/// How the judgement of a history comes out.
 fn judged(legal: bool) -> Outcome
     ensures { result ≡ judged legal }
 {
@@ -49,7 +51,7 @@ fn judged(legal: bool) -> Outcome
 }
 
 /// Reads a text to its end, does with it what is asked for, and writes what tells of it.
-#[tactic(auto, using(crate::proofs::Telling::verdict_told, crate::proofs::Telling::verdict_part, crate::proofs::Telling::report_part, crate::proofs::Telling::thread_report_part))]
+#[tactic(auto, using(crate::proofs::Telling::verdict_told, crate::proofs::Telling::verdict_part, crate::proofs::Telling::report_part, crate::proofs::Telling::thread_report_part, crate::proofs::Telling::explanation_told, crate::proofs::Telling::explanation_part, crate::proofs::Telling::picture_told, crate::proofs::Telling::picture_part))]
 pub fn carry_out<R: Threads + Wait + Sync, I: Read, W: Write>(
     rt: &R,
     alloc: Global,
@@ -92,5 +94,7 @@ pub fn carry_out<R: Threads + Wait + Sync, I: Read, W: Write>(
             run_threads(rt, alloc, input, output, &Nothing)?;
             Ok(Outcome::Done)
         }
+        Request::Explain(_) => Ok(judged(explain_history(alloc, input, output)?)),
+        Request::Draw(_) => Ok(judged(draw_history(alloc, input, output)?)),
     }
 }

@@ -3,3 +3,4 @@ pub mod Kinds
 pub mod Hashes
 pub mod Paths
 pub mod Ticks
+pub mod Sorting

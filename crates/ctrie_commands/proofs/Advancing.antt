@@ -4,11 +4,17 @@ use Rattle.std.proofs.lemmas.List.{take_more, map-append}
 use Rattle.std.proofs.lemmas.Grind.{flat_map-append}
 use Rattle.history.specs.declared.calls.Call.{Call}
 use Rattle.history.specs.declared.calls.Call.TheVariants.{Get}
+use Rattle.ctrie_base.specs.declared.refusals.Refusal.{Refusal}
+use Rattle.ctrie_commands.specs.Beneath.step_machine.specs.Machines.{Taken}
 use Rattle.lock_runner.specs.declared.accounts.Answer.{Answer}
+use Rattle.lock_runner.specs.Boards.{GoesOn}
+use Rattle.lock_runner.specs.Stepping.{HasGoneOn}
+use Rattle.lock_runner.proofs.Boards.{goes_on_same}
 use Rattle.script_text.specs.declared.thread_lines.ThreadLine.{ThreadLine}
 use Rattle.script_text.specs.declared.thread_lines.ThreadLine.TheVariants.{Do, Sweep}
 use Rattle.ctrie_commands.specs.declared.working.Worker.{Worker}
-use Rattle.ctrie_commands.specs.Working.{calls_in, calls_of, Performed, None, Answered, Denied, answered_calls, HasPerformed, HasPerformedLine, HasPerformedAll}
+use Rattle.ctrie_commands.specs.Working.{calls_in, calls_of, OnTheWay, Denies, Performed, None, Answered, Denied, answered_calls, HasPerformed, HasPerformedLine, HasPerformedAll}
+use Rattle.ctrie_commands.proofs.Later.{on_the_way_later}
 
 calls_more : (actor : ℕ) (lines : List ThreadLine) (i : ℕ) (d : ThreadLine) → i < length lines →
     calls_of actor (take (i + 1) lines) ≡ calls_of actor (take i lines) ++ calls_in actor (get_or lines i d)
@@ -16,36 +22,53 @@ calls_more actor lines i d below =
     ap (λ xs. calls_of actor xs) (take_more lines i d below) ∙ flat_map-append (λ x. calls_in actor x) (take i lines) (get_or lines i d ∷ [])
     ∙ ap (λ xs. calls_of actor (take i lines) ++ xs) (append-nil (calls_in actor (get_or lines i d)))
 
-one_more : (calls : List Call) (call : Call) (before after : Worker) → Performed calls (answered_calls before.seat.answers) before.denied.items → HasPerformed call before after →
-    Performed (calls ++ call ∷ []) (answered_calls after.seat.answers) after.denied.items
-one_more calls call before after so_far (inl (answer, last, is, same)) =
-    let answers : answered_calls after.seat.answers ≡ answered_calls before.seat.answers ++ call ∷ [] =
-    ap answered_calls last ∙ map-append (λ (a : Answer). a.call) before.seat.answers (answer ∷ []) ∙ ap (λ c. answered_calls before.seat.answers ++ c ∷ []) is in
-    rw (answers, same) (Answered calls (answered_calls before.seat.answers) before.denied.items call so_far)
-one_more calls call before after so_far (inr (same, refusal, last)) =
-    rw (last, same) (Denied calls (answered_calls before.seat.answers) before.denied.items call refusal so_far)
+-- what was performed stays so on the way to a later board
+pub performed_later : (actor : ℕ) (seen board : Taken) (calls told : List Call) (denied : List Refusal) → board.limits ≡ seen.limits → GoesOn seen.steps board.steps →
+    Performed actor seen calls told denied → Performed actor board calls told denied
+performed_later actor seen board calls told denied limits on None = None
+performed_later actor seen board calls told denied limits on (Answered before earlier refused call so) =
+    Answered before earlier refused call (performed_later actor seen board before earlier refused limits on so)
+performed_later actor seen board calls told denied limits on (Denied before earlier refused call refusal so was) =
+    Denied before earlier refused call refusal (performed_later actor seen board before earlier refused limits on so) (on_the_way_later (Denies actor call refusal) seen board limits on was)
 
--- a line names one call at most
-at_most_one : (calls : List Call) (mine : Bool) (call : Call) (named : List Call) (before after : Worker) → (if mine then call ∷ [] else []) ≡ named → HasPerformedLine named before after →
-    Performed calls (answered_calls before.seat.answers) before.denied.items → Performed (calls ++ named) (answered_calls after.seat.answers) after.denied.items
-at_most_one calls true call named before after is done so_far =
-    subst (λ xs. Performed (calls ++ xs) (answered_calls after.seat.answers) after.denied.items) is
-    (one_more calls call before after so_far (subst (λ xs. HasPerformedLine xs before after) (sym is) done))
-at_most_one calls false call named before after is done so_far =
-    subst (λ xs. Performed (calls ++ xs) (answered_calls after.seat.answers) after.denied.items) is
-    (let same = subst (λ xs. HasPerformedLine xs before after) (sym is) done in rw (same.0, same.1, append-nil) so_far)
+module _ (actor : ℕ) (before after : Worker) (gone : HasGoneOn before.seat after.seat) (owns : after.seat.actor ≡ actor) where
+  abbrev So : List Call → Worker → Type 0
+  So calls worker = Performed actor worker.seat.seen calls (answered_calls worker.seat.answers) worker.denied.items
 
-line_more : (calls : List Call) (actor : ℕ) (line : ThreadLine) (named : List Call) (before after : Worker) → calls_in actor line ≡ named → HasPerformedLine named before after →
-    Performed calls (answered_calls before.seat.answers) before.denied.items → Performed (calls ++ named) (answered_calls after.seat.answers) after.denied.items
-line_more calls actor (Do owner call) named before after is done so_far = at_most_one calls (owner == actor) call named before after is done so_far
-line_more calls actor (Sweep times) named before after is done so_far = at_most_one calls false (Get 0 0) named before after is done so_far
+  later : (calls : List Call) → So calls before → Performed actor after.seat.seen calls (answered_calls before.seat.answers) before.denied.items
+  later calls so_far = performed_later actor before.seat.seen after.seat.seen calls (answered_calls before.seat.answers) before.denied.items gone.limits gone.steps so_far
 
-pub performed_more : (actor mine : ℕ) (lines : List ThreadLine) (i : ℕ) (d : ThreadLine) (before after : Worker) → i < length lines → mine ≡ actor →
-    HasPerformedAll actor (take i lines) before → HasPerformedLine (calls_in mine (get_or lines i d)) before after → HasPerformedAll actor (take (i + 1) lines) after
-performed_more actor mine lines i d before after below is so_far done =
-    subst (λ xs. Performed xs (answered_calls after.seat.answers) after.denied.items) (sym (calls_more actor lines i d below))
-    (line_more (calls_of actor (take i lines)) actor (get_or lines i d) (calls_in actor (get_or lines i d)) before after refl
-    (subst (λ a. HasPerformedLine (calls_in a (get_or lines i d)) before after) is done) so_far)
+  one_more : (calls : List Call) (call : Call) → So calls before → HasPerformed call before after → So (calls ++ call ∷ []) after
+  one_more calls call so_far (inl (answer, last, is, same)) =
+      let answers : answered_calls after.seat.answers ≡ answered_calls before.seat.answers ++ call ∷ [] =
+      ap answered_calls last ∙ map-append (λ (a : Answer). a.call) before.seat.answers (answer ∷ []) ∙ ap (λ c. answered_calls before.seat.answers ++ c ∷ []) is in
+      rw (answers, same) (Answered calls (answered_calls before.seat.answers) before.denied.items call (later calls so_far))
+  one_more calls call so_far (inr (same, refusal, last, denies)) =
+      let why : OnTheWay (Denies actor call refusal) after.seat.seen =
+      (after.seat.seen, refl, goes_on_same after.seat.seen.steps, subst (λ a. Denies a call refusal after.seat.seen) owns denies) in
+      rw (last, same) (Denied calls (answered_calls before.seat.answers) before.denied.items call refusal (later calls so_far) why)
+
+  none_more : (calls : List Call) → So calls before → HasPerformedLine [] before after → So (calls ++ []) after
+  none_more calls so_far same = rw (same.0, same.1, append-nil) (later calls so_far)
+
+  -- a line names one call at most
+  at_most_one : (calls : List Call) (mine : Bool) (call : Call) (named : List Call) → (if mine then call ∷ [] else []) ≡ named → HasPerformedLine named before after →
+      So calls before → So (calls ++ named) after
+  at_most_one calls true call named is done so_far =
+      subst (λ xs. So (calls ++ xs) after) is (one_more calls call so_far (subst (λ xs. HasPerformedLine xs before after) (sym is) done))
+  at_most_one calls false call named is done so_far =
+      subst (λ xs. So (calls ++ xs) after) is (none_more calls so_far (subst (λ xs. HasPerformedLine xs before after) (sym is) done))
+
+  line_more : (calls : List Call) (line : ThreadLine) (named : List Call) → calls_in actor line ≡ named → HasPerformedLine named before after → So calls before → So (calls ++ named) after
+  line_more calls (Do owner call) named is done so_far = at_most_one calls (owner == actor) call named is done so_far
+  line_more calls (Sweep times) named is done so_far = at_most_one calls false (Get 0 0) named is done so_far
+
+  pub performed_more : (mine : ℕ) (lines : List ThreadLine) (i : ℕ) (d : ThreadLine) → i < length lines → mine ≡ actor → HasPerformedAll actor (take i lines) before →
+      HasPerformedLine (calls_in mine (get_or lines i d)) before after → HasPerformedAll actor (take (i + 1) lines) after
+  performed_more mine lines i d below is so_far done =
+      subst (λ xs. So xs after) (sym (calls_more actor lines i d below))
+      (line_more (calls_of actor (take i lines)) (get_or lines i d) (calls_in actor (get_or lines i d)) refl
+      (subst (λ a. HasPerformedLine (calls_in a (get_or lines i d)) before after) is done) so_far)
 
 pub performed_none : (actor : ℕ) (worker : Worker) → worker.seat.answers ≡ [] → worker.denied.items ≡ [] → HasPerformedAll actor [] worker
 performed_none actor worker answers denied = rw (answers, denied) None

@@ -1,7 +1,10 @@
 pub mod Known
+pub mod Explained
 pub mod Carrying
 pub mod Telling
+pub mod Later
 pub mod Advancing
+pub mod Swept
 pub mod Gathering
 pub mod Ranks
 pub mod Grouping

@@ -1,5 +1,5 @@
 -- The report of what threads did, from their workers and the record.
-use Rattle.std.proofs.Common.{◌≡◌, ℕ, zero, suc, ◌+◌, ◌-◌, ◌<◌, ◌≤◌, List, [], ◌∷◌, ◌++◌, map, length, refl, ap, subst, ◌∙◌, arith}
+use Rattle.std.proofs.Common.{◌≡◌, ℕ, zero, suc, ◌+◌, ◌-◌, ◌<◌, ◌≤◌, List, [], ◌∷◌, ◌++◌, map, length, refl, sym, ap, subst, ◌∙◌, arith}
 use Rattle.std.specs.Prelude.{Ok, Some, slice_get, All, sum_by}
 use Rattle.std.proofs.lemmas.List.Elements.{All-nil, All-cons, All-same, All-map}
 use Rattle.std.proofs.lemmas.List.{length-map}
@@ -18,9 +18,11 @@ use Rattle.lock_runner.specs.Finishing.{IsHere, IsMissing, IsGathered, IsFinishe
 use Rattle.script_text.specs.Threads.Reading.{Reading}
 use Rattle.ctrie_commands.specs.declared.working.Worker.{Worker}
 use Rattle.ctrie_commands.specs.Reports.{line, hash_text, event_lines, last_lines, record_report}
-use Rattle.ctrie_commands.specs.Working.{calls_of, sweep_lines, Performed, answered_calls}
+use Rattle.ctrie_commands.specs.Working.{calls_of, Performed, answered_calls, Swept}
 use Rattle.ctrie_commands.specs.Threads.{with_sweeper, IsPerformedBy, IsSweptBy, IsCarriedOut, all_denied, thread_report, IsReportOf}
 use Rattle.ctrie_commands.proofs.Legal.{record_text_legal}
+use Rattle.ctrie_commands.proofs.Advancing.{performed_later}
+use Rattle.ctrie_commands.proofs.Swept.{swept_later}
 use Rattle.ctrie_commands.proofs.Ranks.{AreRanked, from_map, to_map, swept_by_last}
 
 -- ---- all seats came back
@@ -67,7 +69,9 @@ calls_done script runner workers seats board k denied ranks are gathered below a
     let seat : slice_get seats k ≡ Some worker.seat = ap (λ ss. slice_get ss k) are ∙ to_map (λ (w : Worker). w.seat) workers k worker found.1 in (
       worker.seat.answers,
       subst (λ a. AreAnswersOf a (state_of board).events worker.seat.answers) rank.actor (gathered.answers k worker.seat seat),
-      subst (λ ds. Performed (calls_of (k + 1) script.lines) (answered_calls worker.seat.answers) ds) found.2 (rank.calls below).0,
+      performed_later (k + 1) worker.seat.seen board (calls_of (k + 1) script.lines) (answered_calls worker.seat.answers) denied (gathered.sizes k worker.seat seat)
+          (gathered.steps k worker.seat seat)
+          (subst (λ ds. Performed (k + 1) worker.seat.seen (calls_of (k + 1) script.lines) (answered_calls worker.seat.answers) ds) found.2 (rank.calls below).0),
     )
 
 sweeps_done : (script : Reading) (runner : Room) (workers : List Worker) (seats : List Seated) (board : Taken) (denied : List Refusal) → AreRanked script runner.id workers →
@@ -84,8 +88,8 @@ sweeps_done script runner workers seats board denied ranks are gathered at =
     ∙ swept_by_last workers n worker ranks.number (λ k w below e. ((ranks.each k w e).calls below).1) found.1 in (
       subst (λ xs. AreAnswersOf (n + 1) (state_of board).events xs) swept.1
           (subst (λ a. AreAnswersOf a (state_of board).events worker.seat.answers) rank.actor (gathered.answers n worker.seat seat)),
-      λ none. all ∙ swept.0.0 (found.2 ∙ none),
-      subst (λ ds. length ds ≤ sweep_lines script.lines) found.2 swept.0.1,
+      swept_later worker.seat.seen board script.lines (sweeps_in board) denied (gathered.sizes n worker.seat seat) (gathered.steps n worker.seat seat)
+          (subst (λ m. Swept worker.seat.seen script.lines m denied) (sym all) (subst (λ ds. Swept worker.seat.seen script.lines worker.seat.sweeps ds) found.2 swept.0)),
     )
 
 carried_out : (script : Reading) (runner : Room) (made : List Seated) (workers : List Worker) (seats : List Seated) (told : Record) →

@@ -78,12 +78,12 @@ named_counted n (line ∷ lines) =
 
 -- ---- answers and denials
 
-performed_counted : (calls told : List Call) (denied : List Refusal) → Performed calls told denied → length told + length denied ≡ length calls
-performed_counted calls told denied None = refl
-performed_counted calls told denied (Answered before earlier refused call so) =
-    omega (arith, performed_counted before earlier refused so, length-append before (call ∷ []), length-append earlier (call ∷ []))
-performed_counted calls told denied (Denied before earlier refused call refusal so) =
-    omega (arith, performed_counted before earlier refused so, length-append before (call ∷ []), length-append refused (refusal ∷ []))
+performed_counted : (actor : ℕ) (board : Taken) (calls told : List Call) (denied : List Refusal) → Performed actor board calls told denied → length told + length denied ≡ length calls
+performed_counted actor board calls told denied None = refl
+performed_counted actor board calls told denied (Answered before earlier refused call so) =
+    omega (arith, performed_counted actor board before earlier refused so, length-append before (call ∷ []), length-append earlier (call ∷ []))
+performed_counted actor board calls told denied (Denied before earlier refused call refusal so was) =
+    omega (arith, performed_counted actor board before earlier refused so, length-append before (call ∷ []), length-append refused (refusal ∷ []))
 
 -- with those of the last actor apart
 denials_bounded : (n : ℕ) (denials : List (List Refusal)) (given most : ℕ → ℕ) (last : ℕ) → length denials ≡ n + 1 →
@@ -105,7 +105,7 @@ module _ (script : Reading) (board : Taken) (denials : List (List Refusal)) (don
       let performed : IsPerformedBy (k + 1) script board denied = done.calls k denied below at in
       let next : k + 1 ≡ suc k = omega arith in
       let few = answered_counted board.limits board.steps k performed.0 (subst (λ a. AreAnswersOf a (state_of board).events performed.0) next performed.1) in
-      omega (arith, few, performed_counted (calls_of (k + 1) script.lines) (answered_calls performed.0) denied performed.2, length-map performed.0 (λ (a : Answer). a.call))
+      omega (arith, few, performed_counted (k + 1) board (calls_of (k + 1) script.lines) (answered_calls performed.0) denied performed.2, length-map performed.0 (λ (a : Answer). a.call))
 
   sweeps_bounded : (denied : List Refusal) → slice_get denials script.limits.actors ≡ Some denied →
       answered (state_of board).events script.limits.actors + length denied ≤ sweep_lines script.lines
@@ -113,7 +113,7 @@ module _ (script : Reading) (board : Taken) (denials : List (List Refusal)) (don
       let n : ℕ = script.limits.actors in
       let swept : IsSweptBy (n + 1) script board denied = done.sweeps denied at in
       let next : n + 1 ≡ suc n = omega arith in
-      omega (arith, answered_counted board.limits board.steps n [] (subst (λ a. AreAnswersOf a (state_of board).events []) next swept.0), swept.2)
+      omega (arith, answered_counted board.limits board.steps n [] (subst (λ a. AreAnswersOf a (state_of board).events []) next swept.0), swept.1.fewer)
 
   pub short_report : (hash : HashKind) → script.limits.actors ≤ 63 → length script.lines ≤ 100000 → IsShort (thread_report hash (state_of board) denials)
   short_report hash fit few =

@@ -2,6 +2,8 @@ pub mod Beneath
 pub mod Faults
 pub mod Written
 pub mod Verdicts
+pub mod Explanations
+pub mod Pictures
 pub mod Legality
 pub mod Denials
 pub mod Reports

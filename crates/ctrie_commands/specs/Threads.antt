@@ -14,7 +14,7 @@ use Rattle.script_text.specs.Threads.Reading.{Reading, thread_script_of}
 use Rattle.ctrie_commands.specs.Reports.{line, hash_text, event_lines, last_lines, denied_lines}
 use Rattle.ctrie_commands.specs.Verdicts.{IsVerdict}
 use Rattle.ctrie_commands.specs.Legality.{told_in, IsLegalText}
-use Rattle.ctrie_commands.specs.Working.{calls_of, times_of, sweep_lines, Performed, answered_calls}
+use Rattle.ctrie_commands.specs.Working.{calls_of, Performed, answered_calls, Swept}
 
 -- ---- what was done
 
@@ -22,15 +22,16 @@ use Rattle.ctrie_commands.specs.Working.{calls_of, times_of, sweep_lines, Perfor
 abbrev pub with_sweeper : Limits → Limits
 with_sweeper limits = record limits { actors = limits.actors + 1 }
 
--- the answers of the actor in the history are those of its calls in the lines, in their order, but for the denied ones
+-- the answers of the actor in the history are those of its calls in the lines, in their order, but for those that the definition denied
 abbrev pub IsPerformedBy : ℕ → Reading → Taken → List Refusal → Type 0
 IsPerformedBy actor script board denied =
-    (answers : List Answer) × AreAnswersOf actor (state_of board).events answers × Performed (calls_of actor script.lines) (answered_calls answers) denied
+    (answers : List Answer) × AreAnswersOf actor (state_of board).events answers
+    × Performed actor board (calls_of actor script.lines) (answered_calls answers) denied
 
--- the actor performed nothing, and the steps of the sweep are as many as the lines name, unless one was denied, for each line one at most
+-- the actor performed nothing, and the steps of the sweep are those that the lines name, unless the definition denied one, for each line one at most
 abbrev pub IsSweptBy : ℕ → Reading → Taken → List Refusal → Type 0
 IsSweptBy actor script board denied =
-    AreAnswersOf actor (state_of board).events [] × (denied ≡ [] → sweeps_in board ≡ times_of script.lines) × (length denied ≤ sweep_lines script.lines)
+    AreAnswersOf actor (state_of board).events [] × Swept board script.lines (sweeps_in board) denied
 
 -- The machine has taken each of its steps. The denials of actor k + 1 stand at the place k, the sweep's behind all others.
 -- Each actor's calls were performed in the order of the lines, and the last actor took the steps of the sweep.

@@ -1,11 +1,16 @@
 -- What a thread does with the lines of a script that are its actor's.
-use Rattle.std.specs.Prelude.{◌≡◌, ℕ, ◌+◌, ◌<◌, ◌≤◌, ◌==◌, ◌⊎◌, Bool, true, false, List, [], ◌∷◌, ◌++◌, map, length, slice_get, Some, Result, Ok, sum_by, count_by, if◌then◌else◌}
+use Rattle.std.specs.Prelude.{◌≡◌, ℕ, ◌+◌, ◌<◌, ◌≤◌, ◌==◌, ◌⊎◌, Bool, true, false, List, [], ◌∷◌, ◌++◌, map, length, slice_get, Some, Result, Ok, Err, All, sum_by, count_by, if◌then◌else◌}
 use Rattle.std.specs.List.{flat_map, AllZip}
 use Rattle.std.specs.declared.alloc.AllocError.{AllocError}
 use Rattle.std.specs.Global.{Vec}
 use Rattle.ctrie_base.specs.declared.refusals.Refusal.{Refusal}
 use Rattle.history.specs.declared.calls.Call.{Call}
+use Rattle.ctrie_base.specs.declared.refusals.Refusal.TheVariants.{Spent}
+use Rattle.machine_model.specs.declared.steps.Step.TheVariants as step
+use Rattle.machine_model.specs.Machine.{next}
+use Rattle.ctrie_commands.specs.Beneath.step_machine.specs.Machines.{Taken, state_of}
 use Rattle.lock_runner.specs.declared.accounts.Answer.{Answer}
+use Rattle.lock_runner.specs.Boards.{GoesOn}
 use Rattle.lock_runner.specs.Seats.{Seated}
 use Rattle.script_text.specs.declared.thread_lines.ThreadLine.{ThreadLine}
 use Rattle.script_text.specs.declared.thread_lines.ThreadLine.TheVariants.{Do, Sweep}
@@ -41,13 +46,27 @@ sweep_lines lines = count_by names_sweep lines
 
 -- ---- what came of them
 
--- Calls were performed, one after the other: these of them were answered, and the others were denied, for these reasons.
-pub data Performed : List Call → List Call → List Refusal → Type 0 where
-  None : Performed [] [] []
-  Answered : (calls answered : List Call) (denied : List Refusal) (call : Call) → Performed calls answered denied →
-      Performed (calls ++ call ∷ []) (answered ++ call ∷ []) denied
-  Denied : (calls answered : List Call) (denied : List Refusal) (call : Call) (refusal : Refusal) → Performed calls answered denied →
-      Performed (calls ++ call ∷ []) answered (denied ++ refusal ∷ [])
+-- on the way to this board one was so
+abbrev pub OnTheWay : (Taken → Type 0) → Taken → Type 0
+OnTheWay IsSo board = (seen : Taken) × (board.limits ≡ seen.limits) × GoesOn seen.steps board.steps × IsSo seen
+
+-- the definition denies the actor's call; or the call has begun, and its next step is denied since the machine has taken all its steps
+abbrev pub Denies : ℕ → Call → Refusal → Taken → Type 0
+Denies actor call refusal board =
+    (next (state_of board) (step.Begin actor call) ≡ Err refusal) ⊎ ((next (state_of board) (step.Go actor) ≡ Err Spent) × (refusal ≡ Spent))
+
+-- the definition denies a step of the sweep
+abbrev pub DeniesSweep : Refusal → Taken → Type 0
+DeniesSweep refusal board = next (state_of board) step.Sweep ≡ Err refusal
+
+-- The actor's calls were performed on the way to this board, one after the other: these of them were answered, and the others were denied, for these
+-- reasons.
+pub data Performed (actor : ℕ) (board : Taken) : List Call → List Call → List Refusal → Type 0 where
+  None : Performed actor board [] [] []
+  Answered : (calls answered : List Call) (denied : List Refusal) (call : Call) → Performed actor board calls answered denied →
+      Performed actor board (calls ++ call ∷ []) (answered ++ call ∷ []) denied
+  Denied : (calls answered : List Call) (denied : List Refusal) (call : Call) (refusal : Refusal) → Performed actor board calls answered denied →
+      OnTheWay (Denies actor call refusal) board → Performed actor board (calls ++ call ∷ []) answered (denied ++ refusal ∷ [])
 
 -- the calls that were answered
 abbrev pub answered_calls : List Answer → List Call
@@ -61,17 +80,12 @@ pub record IsUnused (seat : Seated) : Type 0 where
   pub sweeps : seat.sweeps ≡ 0
   pub heard : seat.heard ≡ 0
 
--- the seat is the same one, and has heard of nothing more
-pub record IsSameSeat (before after : Seated) : Type 0 where
-  pub runner : after.runner ≡ before.runner
-  pub actor : after.actor ≡ before.actor
-  pub heard : after.heard ≡ before.heard
-
 -- one call more was performed
 abbrev pub HasPerformed : Call → Worker → Worker → Type 0
 HasPerformed call before after =
     ((answer : Answer) × (after.seat.answers ≡ before.seat.answers ++ answer ∷ []) × (answer.call ≡ call) × (after.denied.items ≡ before.denied.items))
-    ⊎ ((after.seat.answers ≡ before.seat.answers) × (refusal : Refusal) × (after.denied.items ≡ before.denied.items ++ refusal ∷ []))
+    ⊎ ((after.seat.answers ≡ before.seat.answers) × (refusal : Refusal) × (after.denied.items ≡ before.denied.items ++ refusal ∷ [])
+    × Denies after.seat.actor call refusal after.seat.seen)
 
 -- the call that a line names, if it names one, was performed
 abbrev pub HasPerformedLine : List Call → Worker → Worker → Type 0
@@ -82,7 +96,8 @@ HasPerformedLine (call ∷ more) before after = HasPerformed call before after
 abbrev pub HasSwept : ℕ → Worker → Worker → Type 0
 HasSwept times before after =
     ((after.seat.sweeps ≡ before.seat.sweeps + times) × (after.denied.items ≡ before.denied.items))
-    ⊎ ((refusal : Refusal) × (after.denied.items ≡ before.denied.items ++ refusal ∷ []))
+    ⊎ ((after.seat.sweeps ≤ before.seat.sweeps + times) × (refusal : Refusal) × (after.denied.items ≡ before.denied.items ++ refusal ∷ [])
+    × DeniesSweep refusal after.seat.seen)
 
 -- a line that names steps of the sweep was carried out so, and any other left aside
 abbrev pub HasSweptLine : ThreadLine → Worker → Worker → Type 0
@@ -91,11 +106,19 @@ HasSweptLine (Sweep times) before after = HasSwept times before after
 
 -- the actor's calls in these lines were performed, by a seat that doesn't sweep
 abbrev pub HasPerformedAll : ℕ → List ThreadLine → Worker → Type 0
-HasPerformedAll actor lines worker = Performed (calls_of actor lines) (answered_calls worker.seat.answers) worker.denied.items
+HasPerformedAll actor lines worker = Performed actor worker.seat.seen (calls_of actor lines) (answered_calls worker.seat.answers) worker.denied.items
 
--- the steps of the sweep that these lines name were taken, unless one was denied, for each line one at most
+-- So many steps of the sweep were taken on the way to this board, and these denied: none but the ones that the lines name, and all of them unless one was
+-- denied, for each line one at most.
+pub record Swept (board : Taken) (lines : List ThreadLine) (number : ℕ) (denied : List Refusal) : Type 0 where
+  pub all : denied ≡ [] → number ≡ times_of lines
+  pub most : number ≤ times_of lines
+  pub fewer : length denied ≤ sweep_lines lines
+  pub each : All (λ refusal. OnTheWay (DeniesSweep refusal) board) denied
+
+-- the steps of the sweep that these lines name were taken
 abbrev pub HasSweptAll : List ThreadLine → Worker → Type 0
-HasSweptAll lines worker = (worker.denied.items ≡ [] → worker.seat.sweeps ≡ times_of lines) × (length worker.denied.items ≤ sweep_lines lines)
+HasSweptAll lines worker = Swept worker.seat.seen lines worker.seat.sweeps worker.denied.items
 
 -- What a thread does with a script: the calls that its lines name for an actor, or for the last actor the sweep's steps.
 pub record HasWorked (script : Reading) (seat : Seated) (worker : Worker) : Type 0 where
@@ -109,6 +132,22 @@ abbrev pub HaveWorked : Reading → List Seated → List Worker → Type 0
 HaveWorked script seats workers = AllZip (HasWorked script) seats workers
 
 -- ---- all threads
+
+-- one of these lines names a call for the actor
+abbrev pub IsOwn : ℕ → ThreadLine → Type 0
+IsOwn actor (Do owner call) = owner ≡ actor
+IsOwn actor (Sweep times) = ⊥
+
+abbrev pub NamesCall : ℕ → List ThreadLine → Type 0
+NamesCall actor lines = (k : ℕ) × (line : ThreadLine) × (slice_get lines k ≡ Some line) × IsOwn actor line
+
+-- the actor has something to do: calls, or the steps of the sweep
+abbrev pub HasWork : Reading → ℕ → Type 0
+HasWork script actor = (script.limits.actors < actor) ⊎ NamesCall actor script.lines
+
+-- in a group the last seat alone may have something to do
+abbrev pub IsGroup : Reading → List Seated → Type 0
+IsGroup script seats = (k : ℕ) (seat : Seated) → slice_get seats k ≡ Some seat → k + 1 < length seats → ¬ HasWork script seat.actor
 
 -- the seats of all groups, in their order
 abbrev pub all_seats : List (Vec Seated) → List Seated

@@ -1,9 +1,9 @@
 //! Which seats share a thread, and what their threads do.
 
-ghost use Rattle.std.specs.Prelude.{◌≡◌, All, IfOk};
+ghost use Rattle.std.specs.Prelude.{◌≡◌, ◌↔◌, All, IfOk, IsTrue};
 ghost use Rattle.lock_runner.specs.Seats.{IsSeatOf, AreSeatsOf};
 ghost use Rattle.script_text.specs.Views.{read};
-ghost use Rattle.ctrie_commands.specs.Working.{IsUnused, HasWorked, HaveWorked, GroupsHaveWorked, all_seats, AreJoined};
+ghost use Rattle.ctrie_commands.specs.Working.{IsUnused, HasWorked, HaveWorked, GroupsHaveWorked, NamesCall, HasWork, IsGroup, all_seats, AreJoined};
 
 use crate::working::Worker;
 use lock_runner::{Between, Runner, Seat};
@@ -59,7 +59,8 @@ fn grouped(
     script: &Script<ThreadLine>,
     seats: Vec<Seat>,
 ) -> Result<Vec<Vec<Seat>>, AllocError>
-    ensures { IfOk result (λ groups. seats.items ≡ all_seats groups.items) }
+    ensures seats { IfOk result (λ groups. seats.items ≡ all_seats groups.items) }
+    ensures apart { IfOk result (λ groups. All (λ group. IsGroup (read script.now) group.items) groups.items) }
 {
     let mut groups = Vec::new(alloc);
     let mut group = Vec::new(alloc);
@@ -78,11 +79,22 @@ fn grouped(
 }
 
 /// Whether the actor has lines, or takes the steps of the sweep.
-fn has_work(script: &Script<ThreadLine>, actor: u8) -> bool {
-    actor > script.limits.actors
-        || script.lines.iter().any(
-            |line| matches!(line, ThreadLine::Do { actor: owner, .. } if *owner == actor),
-        )
+fn has_work(script: &Script<ThreadLine>, actor: u8) -> bool
+    ensures { IsTrue result ↔ HasWork (read script.now) actor }
+{
+    actor > script.limits.actors || names_call(&script.lines, actor)
+}
+
+/// Whether one of these lines names a call for the actor.
+fn names_call(lines: &[ThreadLine], actor: u8) -> bool
+    ensures { IsTrue result ↔ NamesCall actor lines.now }
+{
+    for line in lines {
+        if matches!(line, ThreadLine::Do { actor: owner, .. } if *owner == actor) {
+            return true;
+        }
+    }
+    false
 }
 
 /// What one thread does: what is to be done with each of its seats, one after the other.

@@ -1,8 +1,10 @@
 //! What the program `ctrie` does, as calls over any reader and writer: scripts for a map run, and
-//! histories of a map judged.
+//! histories of a map judged, explained and drawn.
 #![tactic(auto)]
 
 mod checking;
+mod drawing;
+mod explaining;
 mod faults;
 mod groups;
 mod reports;
@@ -13,6 +15,8 @@ mod working;
 
 pub use checking::check_history;
 pub use counted_io::Counted;
+pub use drawing::draw_history;
+pub use explaining::explain_history;
 pub use faults::Fault;
 pub use lock_runner::{Between, Nothing};
 pub use running::run_script;

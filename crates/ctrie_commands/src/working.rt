@@ -2,7 +2,8 @@
 
 ghost use Rattle.std.specs.Prelude.{◌≡◌, OnOk, []};
 ghost use Rattle.lock_runner.specs.Seats.{IsSeatOf};
-ghost use Rattle.ctrie_commands.specs.Working.{calls_in, IsUnused, IsSameSeat, HasPerformed, HasPerformedLine, HasSwept, HasSweptLine, HasPerformedAll, HasSweptAll};
+ghost use Rattle.lock_runner.specs.Stepping.{HasGoneOn};
+ghost use Rattle.ctrie_commands.specs.Working.{calls_in, IsUnused, HasPerformed, HasPerformedLine, HasSwept, HasSweptLine, HasPerformedAll, HasSweptAll};
 
 use ctrie_base::Refusal;
 use history::Call;
@@ -32,7 +33,7 @@ impl Worker {
         requires seat { IsSeatOf runner.now self.old.seat }
         requires unused { IsUnused self.old.seat }
         requires none { self.old.denied.items ≡ [] }
-        ensures seat { IsSameSeat self.old.seat self.new.seat }
+        ensures seat { HasGoneOn self.old.seat self.new.seat }
         ensures sweeps { self.new.seat.sweeps ≡ self.old.seat.sweeps }
         ensures done { OnOk result (HasPerformedAll self.old.seat.actor lines.now self.new) }
     {
@@ -43,6 +44,7 @@ impl Worker {
     }
 
     /// Performs the call that the line names for its actor, if it names one.
+    #[tactic(auto, using(lock_runner::proofs::Steps::gone_same))]
     fn perform_line<R: Wait, B: Between>(
         &mut self,
         rt: &R,
@@ -52,7 +54,7 @@ impl Worker {
     ) -> Result<(), AllocError>
         requires seat { IsSeatOf runner.now self.old.seat }
         requires unheard { self.old.seat.heard ≡ 0 }
-        ensures seat { IsSameSeat self.old.seat self.new.seat }
+        ensures seat { HasGoneOn self.old.seat self.new.seat }
         ensures sweeps { self.new.seat.sweeps ≡ self.old.seat.sweeps }
         ensures done { OnOk result (HasPerformedLine (calls_in self.old.seat.actor line) self.old self.new) }
     {
@@ -74,7 +76,7 @@ impl Worker {
     ) -> Result<(), AllocError>
         requires seat { IsSeatOf runner.now self.old.seat }
         requires unheard { self.old.seat.heard ≡ 0 }
-        ensures seat { IsSameSeat self.old.seat self.new.seat }
+        ensures seat { HasGoneOn self.old.seat self.new.seat }
         ensures sweeps { self.new.seat.sweeps ≡ self.old.seat.sweeps }
         ensures done { OnOk result (HasPerformed call self.old self.new) }
     {
@@ -97,7 +99,7 @@ impl Worker {
         requires seat { IsSeatOf runner.now self.old.seat }
         requires unused { IsUnused self.old.seat }
         requires none { self.old.denied.items ≡ [] }
-        ensures seat { IsSameSeat self.old.seat self.new.seat }
+        ensures seat { HasGoneOn self.old.seat self.new.seat }
         ensures answers { self.new.seat.answers ≡ self.old.seat.answers }
         ensures done { OnOk result (HasSweptAll lines.now self.new) }
     {
@@ -108,6 +110,7 @@ impl Worker {
     }
 
     /// Takes the steps of the sweep that the line names, if it names some.
+    #[tactic(auto, using(lock_runner::proofs::Steps::gone_same))]
     fn sweep_line<R: Wait>(
         &mut self,
         rt: &R,
@@ -115,7 +118,7 @@ impl Worker {
         line: ThreadLine,
     ) -> Result<(), AllocError>
         requires seat { IsSeatOf runner.now self.old.seat }
-        ensures seat { IsSameSeat self.old.seat self.new.seat }
+        ensures seat { HasGoneOn self.old.seat self.new.seat }
         ensures answers { self.new.seat.answers ≡ self.old.seat.answers }
         ensures done { OnOk result (HasSweptLine line self.old self.new) }
     {
@@ -126,6 +129,7 @@ impl Worker {
     }
 
     /// Takes so many steps of the sweep, and notes why one is denied, if one is.
+    #[tactic(auto, using(lock_runner::proofs::Steps::gone_same, lock_runner::proofs::Whole::gone_more))]
     fn sweep_often<R: Wait>(
         &mut self,
         rt: &R,
@@ -133,7 +137,7 @@ impl Worker {
         times: u32,
     ) -> Result<(), AllocError>
         requires seat { IsSeatOf runner.now self.old.seat }
-        ensures seat { IsSameSeat self.old.seat self.new.seat }
+        ensures seat { HasGoneOn self.old.seat self.new.seat }
         ensures answers { self.new.seat.answers ≡ self.old.seat.answers }
         ensures done { OnOk result (HasSwept times self.old self.new) }
     {

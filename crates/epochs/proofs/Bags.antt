@@ -1,6 +1,6 @@
 -- The ring of bags, as one list of numbers.
 use Rattle.std.proofs.Common.{◌≡◌, ℕ, suc, ◌+◌, ◌<◌, ◌≤◌, ◌==◌, not, Bool, true, false, cond, List, [], ◌∷◌, ◌++◌, length, map, set, get_or, count_by, refl, sym, ap, ◌∙◌, subst, ◌⊎◌, inl, inr, arith}
-use Rattle.std.proofs.lemmas.Bool.{cases_eq, cases_lt, cases_Bool}
+use Rattle.std.proofs.lemmas.Bool.{cases_eq, cases_lt}
 use Rattle.std.proofs.lemmas.List.{get_or-set_same, get_or-set_other, map-append, map_push, append_assoc, get_or_past}
 use Rattle.std.proofs.lemmas.List.Sums.{sum_by-set}
 use Rattle.slot_arena.specs.Refs.{slot_of}
@@ -11,6 +11,7 @@ use Rattle.slot_arena.proofs.Times.{bit, once, once_same, once_other, times-cons
 use Rattle.slot_arena.proofs.Namings.{naming-cons}
 use Rattle.epochs.specs.Rings.{around, IsRing}
 use Rattle.epochs.proofs.Joins.{AreOnce, once_apart, others, others_same, others_other}
+use Rattle.slot_arena.proofs.Marks.{noted_marked}
 
 -- references name a slot as often as it stands among their slots
 pub naming_map : (k : ℕ) (rs : List Ref) → naming k rs ≡ times k (map slot_of rs)
@@ -105,12 +106,6 @@ marks_within ns marks k are some = elim (cases_lt k (length marks)) [
   | inr past ↦ let none = ap bit (get_or_past marks k false past) in absurd (omega (arith, are.0 k))
 ]
 
-pub marked_there : (ns : List ℕ) (marks : List Bool) (k : ℕ) → AreMarks ns marks → 0 < times k ns → get_or marks k false ≡ true
-marked_there ns marks k are some = elim (cases_Bool (get_or marks k false)) [
-  | inl marked ↦ marked
-  | inr free ↦ let none = ap bit free in absurd (omega (arith, are.0 k))
-]
-
 pub marks_left : (ns : List ℕ) (marks : List Bool) (k : ℕ) → AreMarks ns marks → 0 < times k ns → AreMarks (others k ns) (set marks k false)
 marks_left ns marks k are some = (each, all)
   where
@@ -118,7 +113,7 @@ marks_left ns marks k are some = (each, all)
     within = marks_within ns marks k are some
 
     was : bit (get_or marks k false) ≡ 1
-    was = ap bit (marked_there ns marks k are some)
+    was = ap bit (noted_marked ns marks k are some)
 
     each : (slot : ℕ) → times slot (others k ns) ≡ cond (get_or (set marks k false) slot false) 1 0
     each slot = elim (cases_eq slot k) [

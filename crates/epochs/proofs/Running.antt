@@ -19,7 +19,7 @@ use Rattle.epochs.proofs.Rising.{times-by_birth, filter_in}
 
 -- ---- the epoch never falls
 
-sweep_rises : (pins : List (Option ℕ)) (r : Reclaimer) (o : Option Ref) → r.epoch ≤ (sweep_by pins r o).1.epoch
+pub sweep_rises : (pins : List (Option ℕ)) (r : Reclaimer) (o : Option Ref) → r.epoch ≤ (sweep_by pins r o).1.epoch
 sweep_rises pins r (Some at) = omega arith
 sweep_rises pins r None = by_test (nat_le r.cursor (length pins))
   where

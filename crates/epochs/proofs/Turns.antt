@@ -8,10 +8,10 @@ use Rattle.slot_arena.specs.declared.refs.Ref.{Ref}
 use Rattle.slot_arena.specs.Times.{times, other_slots}
 use Rattle.slot_arena.specs.Tallies.{naming, AreMarks}
 use Rattle.slot_arena.proofs.Times.{bit, once_same, once_other, times-cons}
-use Rattle.slot_arena.proofs.Marks.{marks_noted}
+use Rattle.slot_arena.proofs.Marks.{marks_noted, noted_marked}
 use Rattle.epochs.specs.Rings.{Joined, around, IsRing, IsEmptyRing}
 use Rattle.epochs.proofs.Joins.{entered, left, turned, last_in, before_in, behind_in, others}
-use Rattle.epochs.proofs.Bags.{naming_map, times-around, others_map, others_around, other_slots-all, around_push, all_push, marks_left, marked_there, member_below, ring_once, first_outside, member_linked, slot_around}
+use Rattle.epochs.proofs.Bags.{naming_map, times-around, others_map, others_around, other_slots-all, around_push, all_push, marks_left, member_below, ring_once, first_outside, member_linked, slot_around}
 
 module _ (next back : List ℕ) (marks : List Bool) (size first second third len : ℕ) (a b c : List Ref) (ring : IsRing next back marks size first second third len a b c) where
   -- the last one has a link
@@ -112,7 +112,7 @@ module _ (next back : List ℕ) (marks : List Bool) (size first second third len
       where
         less : length (other_slots x a ++ other_slots x b ++ other_slots x c) + 1 ≡ length (a ++ b ++ c)
         less =
-            let there = ap bit (marked_there (map slot_of (a ++ b ++ c)) marks x ring.marked member) in
+            let there = ap bit (noted_marked (map slot_of (a ++ b ++ c)) marks x ring.marked member) in
             omega (
               arith,
               length-map (a ++ b ++ c) slot_of,
@@ -170,7 +170,8 @@ none_marked : (n : ℕ) → count_by (λ mark. mark) (replicate n false) ≡ 0
 none_marked zero = refl
 none_marked (suc n) = omega (arith, sum_by-cons (λ mark. cond mark 1 0) false (replicate n false), none_marked n)
 
-no_mark : (n k : ℕ) → get_or (replicate n false) k false ≡ false
+-- of so many marks none is set
+pub no_mark : (n k : ℕ) → get_or (replicate n false) k false ≡ false
 no_mark n k = elim (cases_lt k n) [
   | inl within ↦ get_or-replicate n k false false within
   | inr past ↦ get_or_past (replicate {A = Bool} n false) k false (let size = length-replicate {A = Bool} n false in omega arith)

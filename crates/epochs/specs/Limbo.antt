@@ -1,6 +1,7 @@
 -- Limbo: the slots in use that nothing refers to, in the order in which their count became zero.
-use Rattle.std.specs.Prelude.{ℕ, ◌==◌, ◌&&◌, Bool, not, nat_lt, List, [], ◌∷◌, ◌++◌, map, filter, if◌then◌else◌}
+use Rattle.std.specs.Prelude.{ℕ, ◌==◌, ◌&&◌, Bool, not, nat_lt, List, ◌++◌, map, filter}
 use Rattle.std.specs.List.{list_any}
+use Rattle.ctrie_base.specs.Sorting.{put_by, sorted_by}
 use Rattle.slot_arena.specs.declared.refs.Ref.{Ref}
 use Rattle.slot_arena.specs.Heaps.{Heap, in_use}
 use Rattle.slot_arena.specs.Counts.{count_of}
@@ -11,13 +12,11 @@ abbrev pub is_zero : Heap → List Ref → Ref → Bool
 is_zero heap outside r = count_of heap outside r == 0
 
 abbrev pub put_in : Ref → List Ref → List Ref
-put_in r [] = r ∷ []
-put_in r (q ∷ qs) = if nat_lt r q then r ∷ q ∷ qs else q ∷ put_in r qs
+put_in = put_by nat_lt
 
 -- references by rising birth
 abbrev pub by_birth : List Ref → List Ref
-by_birth [] = []
-by_birth (r ∷ rs) = put_in r (by_birth rs)
+by_birth = sorted_by nat_lt
 
 -- the slot stands in this list of limbo
 abbrev pub is_in : List Zeroed → Ref → Bool

@@ -45,7 +45,7 @@ ends_once history p q id a b well at_p at_q = elim (cases_order p q) [
 ]
 
 -- with one reply
-reply_once : (history : List Event) (id : ℕ) (a b : Reply) → IsWellFormed history → HasEnded history id a → HasEnded history id b → a ≡ b
+pub reply_once : (history : List Event) (id : ℕ) (a b : Reply) → IsWellFormed history → HasEnded history id a → HasEnded history id b → a ≡ b
 reply_once history id a b well ended_a ended_b =
     let same = ends_once history ended_a.0 ended_b.0 id a b well ended_a.1 ended_b.1 in
     let there : slice_get history ended_a.0 ≡ Some (End id b) = subst (λ p. slice_get history p ≡ Some (End id b)) (sym same) ended_b.1 in

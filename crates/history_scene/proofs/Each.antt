@@ -1,26 +1,26 @@
 -- Each operation that has begun has exactly one bar.
-use Rattle.std.proofs.Common.{◌≡◌, ◌↔◌, ◌<◌, ◌+◌, ℕ, List, take, length, Option, Some, None, IsNone, IfSome, slice_get, inl, inr, refl, sym, ap, ◌∙◌, arith, add-one}
+use Rattle.std.proofs.Common.{◌≡◌, ◌↔◌, ◌<◌, ◌+◌, ℕ, List, take, length, Option, Some, None, IsNone, IfSome, refl, sym, ap, ◌∙◌, arith, add-one}
 use Rattle.std.specs.Prelude.{String}
 use Rattle.std.specs.Option.{option_map}
 use Rattle.std.specs.declared.alloc.Global.{Global}
-use Rattle.std.proofs.lemmas.Bool.{cases_order, true≢false}
+use Rattle.std.proofs.lemmas.Bool.{true≢false}
 use Rattle.std.proofs.lemmas.Option.{slice_get_within}
 use Rattle.std.proofs.lemmas.List.{take_all}
 use Rattle.history.specs.declared.replies.Reply.{Reply}
 use Rattle.history.specs.declared.events.Event.{Event}
-use Rattle.history.specs.declared.events.Event.TheVariants.{Begin, End}
+use Rattle.history.specs.declared.events.Event.TheVariants.{Begin}
 use Rattle.history.specs.declared.faults.OrderFault.{OrderFault}
 use Rattle.history.specs.Histories.{Operation, BeginsAt, EndsAt, HasEnded, begun, IsWellFormed}
 use Rattle.history.specs.Orders.{IsLegal}
 use Rattle.history.specs.Faults.{IsFirstFault}
-use Rattle.history.proofs.Places.{at_within, in_take}
+use Rattle.history.proofs.Places.{at_within}
 use Rattle.history.proofs.Begins.{begins_once, begun_more, begun_grows}
 use Rattle.history.proofs.Legal.{not_legal}
 use Rattle.history_text.specs.FaultTexts.{fault_text}
 use Rattle.history_scene.specs.declared.scenes.Bar.{Bar}
-use Rattle.history_scene.specs.declared.scenes.Scene.{Scene}
-use Rattle.history_scene.specs.Scenes.{Ends, IsBar, IsScene, Judges, text_in}
-use Rattle.history_scene.specs.Laws.{HasItsEnds, HasEachOperation}
+use Rattle.history_scene.specs.Scenes.{Ends, IsBar, Judges, text_in}
+use Rattle.history_scene.specs.Laws.{HasEachOperation}
+use Rattle.history.proofs.OneFault.{ends_once}
 
 -- an operation's id is below the number of those that have begun
 below_begun : (history : List Event) (id begin : ℕ) (operation : Operation) → IsWellFormed history → BeginsAt history begin id operation → id < begun history
@@ -32,22 +32,6 @@ below_begun history id begin operation well begins =
     let all : begun (take (length history) history) ≡ begun history = ap begun (take_all (length history) history (omega arith)) in
     let next : begun (take (begin + 1) history) ≡ begun (take begin history) + 1 = ap (λ n. begun (take n history)) (add-one begin) ∙ more ∙ sym (add-one (begun (take begin history))) in
     omega arith
-
--- no operation ends again later
-not_again : (history : List Event) (p q id : ℕ) (a b : Reply) → IsWellFormed history → EndsAt history p id a → EndsAt history q id b → p < q → ⊥
-not_again history p q id a b well at_p at_q lt =
-    let runs = well q (End id b) at_q in
-    runs.1.1 a (p, in_take history q p (End id a) lt at_p)
-
--- an operation ends once
-ends_once : (history : List Event) (p q id : ℕ) (a b : Reply) → IsWellFormed history → EndsAt history p id a → EndsAt history q id b → p ≡ q
-ends_once history p q id a b well at_p at_q = elim (cases_order p q) [
-  | inl same ↦ same
-  | inr differ ↦ elim differ [
-    | inl lt ↦ absurd (not_again history p q id a b well at_p at_q lt)
-    | inr gt ↦ absurd (not_again history q p id b a well at_q at_p gt)
-  ]
-]
 
 -- the end of a bar is the only end of its operation
 end_is : (history : List Event) (id end : ℕ) (answer : Reply) (to : Option ℕ) (told : Option Reply) → IsWellFormed history → Ends history id to told → EndsAt history end id answer → to ≡ Some end

@@ -1,5 +1,5 @@
 -- No line feed stands in the line of an event or of an order, so the lines of a text that is made of such are just these.
-use Rattle.std.proofs.Common.{◌≡◌, ℕ, zero, suc, ◌+◌, ◌<◌, ◌≤◌, ◌/◌, ◌%◌, List, [], ◌∷◌, ◌++◌, length, refl, ap, ◌∙◌, Bool, true, false, cond, eqb, Option, Some, None, arith}
+use Rattle.std.proofs.Common.{◌≡◌, ℕ, zero, suc, ◌+◌, ◌≤◌, ◌/◌, ◌%◌, List, [], ◌∷◌, ◌++◌, refl, ap, ◌∙◌, Bool, true, false, cond, eqb, Option, Some, None, arith}
 use Rattle.std.specs.Prelude.{map, codes, not, filter, nat_lt}
 use Rattle.std.specs.List.{list_all, onto_first, AllByRecursion}
 use Rattle.std.specs.Fmt.{decimal, digits, digits_onto, digit_glyph}
@@ -15,6 +15,7 @@ use Rattle.text_lines.specs.Words.{spaced, cut_at}
 use Rattle.text_lines.specs.Texts.{lines_of, without_empty_last, is_ignored, said_lines}
 use Rattle.text_lines.proofs.Again.{and_parts, not_parts}
 use Rattle.history_text.specs.Texts.{call_words, opens_words, reply_words, event_words, order_words, event_text, order_text, pair_text}
+use Rattle.text_lines.proofs.FirstLine.{kept}
 
 -- no line feed stands in the text
 abbrev pub HasNoFeed : List ℕ → Type 0
@@ -30,15 +31,11 @@ cut_line : (line rest : List ℕ) → HasNoFeed line → cut_at 10 (line ++ 10 �
 cut_line [] rest none = refl
 cut_line (b ∷ bs) rest none = slice_split-cons_no (λ x. eqb x 10) b (bs ++ 10 ∷ rest) none.0 ∙ ap (onto_first b) (cut_line bs rest none.1)
 
-not_last : (line : List ℕ) (parts : List (List ℕ)) → 0 < length parts → without_empty_last (line ∷ parts) ≡ line ∷ without_empty_last parts
-not_last line [] some = absurd (omega arith)
-not_last line (part ∷ more) some = refl
-
 -- a line that ends with a line feed stands first
 pub first_line : (line rest : List ℕ) → HasNoFeed line → lines_of (line ++ 10 ∷ rest) ≡ line ∷ lines_of rest
 unfolding lines_of
 first_line line rest none =
-    ap without_empty_last (cut_line line rest none) ∙ not_last line (cut_at 10 rest) (omega (arith, length-slice_split (λ b. eqb b 10) rest))
+    ap without_empty_last (cut_line line rest none) ∙ kept line (cut_at 10 rest) (omega (arith, length-slice_split (λ b. eqb b 10) rest))
 
 -- a line that isn't ignored stands first among those that are said
 pub said_first : (line rest : List ℕ) → HasNoFeed line → is_ignored line ≡ false → said_lines (line ++ 10 ∷ rest) ≡ line ∷ said_lines rest

@@ -24,7 +24,8 @@ pub record SaysCall (words : List (List ℕ)) (x : Call × Option ℕ) : Type 0 
   pub opened : IfSome x.1 IsHandle
   pub rightly : OpensRightly x.0 x.1
 
-call_is : (w : List ℕ) (c : CallName) → call_named w ≡ Some c → w ≡ call_name c
+-- a word that names a call is its name
+pub call_is : (w : List ℕ) (c : CallName) → call_named w ≡ Some c → w ≡ call_name c
 unfolding call_named
 call_is w c e = named_is call_name call_names w c e
 

@@ -65,7 +65,8 @@ with (Some reply.Count) name w x is e =
     subst (λ (z : Reply). SaysReply (name ∷ w ∷ []) z) m.2 (record { text = two name w (codes "count") (decimal m.0) (is reply.Count refl) p.0; fits = p.1 })
 with other name w x is e = absurd cc
 
-cons_same : (w v : List ℕ) (ws vs : List (List ℕ)) → w ≡ v → ws ≡ vs → w ∷ ws ≡ v ∷ vs
+-- two lists of words with the same first and the same others
+pub cons_same : (w v : List ℕ) (ws vs : List (List ℕ)) → w ≡ v → ws ≡ vs → w ∷ ws ≡ v ∷ vs
 cons_same w v ws vs p q = cc
 
 -- what each word says, each word says so

@@ -1,8 +1,7 @@
 -- The operations that run, told from the list that is kept, and from the history.
-use Rattle.std.proofs.Common.{◌≡◌, ℕ, ◌<◌, List, [], ◌∷◌, ◌++◌, length, take, refl, sym, ap, ◌∙◌, subst, eq-eqb, Option, Bool, true, false, eqb, ◌⊎◌, inl, inr, arith}
+use Rattle.std.proofs.Common.{◌≡◌, ℕ, ◌<◌, List, [], ◌∷◌, ◌++◌, length, refl, sym, subst, eq-eqb, Option, Bool, true, false, eqb, ◌⊎◌, inl, inr, arith}
 use Rattle.std.specs.Prelude.{not}
 use Rattle.std.proofs.lemmas.Bool.{eqb-true}
-use Rattle.std.proofs.lemmas.List.{take-append-le}
 use Rattle.std.proofs.Math.Seq.{take-append_seam}
 use Rattle.history.specs.declared.calls.Call.{Call}
 use Rattle.history.specs.declared.replies.Reply.{Reply}
@@ -11,7 +10,7 @@ use Rattle.history.specs.declared.events.Event.TheVariants.{Begin, End}
 use Rattle.history.specs.Histories.{Operation, BeginsAt, EndsAt, IsRunning, begun, OpensRightly, MayFollow, IsWellFormed}
 use Rattle.history_text.specs.Running.{running, is_running, is_busy}
 use Rattle.history_text.proofs.Runs.{running_push, begun_begin, begun_end}
-use Rattle.history_text.proofs.Among.{Among, among_push, among_before, among_last, among_filter, among_kept, any_among, among_any, get_push, get_before, get_last, get_within}
+use Rattle.history_text.proofs.Among.{Among, among_push, among_before, among_last, among_filter, among_kept, any_among, among_any, get_push, get_before, get_last}
 
 -- the list that is kept has just the operations that run, and only ids that have begun are known
 pub record Tied (es : List Event) : Type 0 where
@@ -140,13 +139,6 @@ may_end es id answer t may = among_any (λ one. eqb one.0 id) (id, may.0) (runni
 
 pub well_nil : IsWellFormed []
 well_nil place event e = absurd cc
-
-pub well_push : (es : List Event) (e : Event) → IsWellFormed es → MayFollow es e → IsWellFormed (es ++ e ∷ [])
-well_push es e well may place event h =
-    elim (get_push es e event place h) [
-      | inl g ↦ subst (λ (l : List Event). MayFollow l event) (sym (take-append-le place es (e ∷ []) (let lt = get_within es event place g in omega arith))) (well place event g)
-      | inr p ↦ subst (λ (l : List Event). MayFollow l event) (sym (ap (λ (i : ℕ). take i (es ++ e ∷ [])) p.0 ∙ take-append_seam es (e ∷ []))) (subst (MayFollow es) p.1 may)
-    ]
 
 pub well_next : (es : List Event) (e : Event) (more : List Event) → IsWellFormed (es ++ e ∷ more) → MayFollow es e
 well_next es e more well = subst (λ (l : List Event). MayFollow l e) (take-append_seam es (e ∷ more)) (well (length es) e (get_last es e more))

@@ -1,10 +1,21 @@
 -- Boards that go on.
-use Rattle.std.specs.Prelude.{◌≡◌, ℕ, ◌+◌, ◌≤◌, List, [], ◌∷◌, ◌++◌, count_by, cond}
-use Rattle.std.proofs.Common.{refl, sym, ap, ◌∙◌, append_assoc, append-nil, arith}
+use Rattle.std.specs.Prelude.{◌≡◌, ℕ, ◌+◌, ◌≤◌, List, [], ◌∷◌, ◌++◌, All, Result, Ok, Err, count_by, cond}
+use Rattle.std.proofs.Common.{refl, sym, ap, subst, ◌∙◌, inl, inr, append_assoc, append-nil, arith}
 use Rattle.std.proofs.lemmas.List.Sums.{sum_by-append}
+use Rattle.std.proofs.lemmas.List.Elements.{All-nil, All-cons, All-head, All-tail, All-append}
+use Rattle.machine_model.specs.declared.steps.Limits.{Limits}
 use Rattle.machine_model.specs.declared.steps.Step.{Step}
+use Rattle.machine_model.specs.declared.steps.Step.TheVariants as step
+use Rattle.machine_model.specs.States.{first_state}
+use Rattle.machine_model.specs.Machine.{Answer, next, next_state, state_after, run}
+use Rattle.machine_model.proofs.Along.{run_push}
 use Rattle.step_machine.specs.Machines.{Taken, with_step}
-use Rattle.lock_runner.specs.Boards.{is_sweep, sweeps_in, GoesOn, HasFollowed, HasWorked}
+use Rattle.lock_runner.specs.ActorHistory.{account_of}
+use Rattle.lock_runner.specs.ActorHistory.Laws.{IsStepOf}
+use Rattle.lock_runner.specs.Boards.{account_in, is_sweep, sweeps_in, GoesOn, GoesOnWithout, HasFollowed, IsDoneBy, AddsOneAtMost, HasWorked}
+use Rattle.lock_runner.proofs.ActorHistory.Steps.{others_leave_the_account}
+
+-- ---- lists that go on
 
 pub goes_on_same : (steps : List Step) → GoesOn steps steps
 goes_on_same steps = ([], sym (append-nil steps))
@@ -12,19 +23,67 @@ goes_on_same steps = ([], sym (append-nil steps))
 pub goes_on_more : (a b c : List Step) → GoesOn a b → GoesOn b c → GoesOn a c
 goes_on_more a b c ab bc = (ab.0 ++ bc.0, bc.1 ∙ ap (λ xs. xs ++ bc.0) ab.1 ∙ append_assoc a ab.0 bc.0)
 
+pub goes_on_without : (actor : ℕ) (a b : List Step) → GoesOnWithout actor a b → GoesOn a b
+goes_on_without actor a b more = (more.0, more.1)
+
+pub goes_on_by_one : (actor : ℕ) (a b : List Step) → AddsOneAtMost actor a b → GoesOn a b
+goes_on_by_one actor a b (inl same) = ([], same ∙ sym (append-nil a))
+goes_on_by_one actor a b (inr (s, own, more)) = (s ∷ [], more)
+
+-- ---- boards that go on
+
 pub has_followed_same : (actor : ℕ) (board : Taken) → HasFollowed actor board board
-has_followed_same actor board = record { limits = refl; steps = goes_on_same board.steps; account = refl }
+has_followed_same actor board =
+    record { limits = refl; steps = ([], sym (append-nil board.steps), All-nil (λ s. ¬ IsStepOf actor s)) }
 
 pub has_worked_same : (actor : ℕ) (board : Taken) → HasWorked actor board board
-has_worked_same actor board = record { limits = refl; steps = goes_on_same board.steps; accounts = λ other apart. refl }
+has_worked_same actor board = record { limits = refl; steps = inl refl }
+
+-- what one actor or the sweep does isn't another actor's step
+not_anothers : (actor other : ℕ) (s : Step) → IsDoneBy actor s → (other ≡ actor → ⊥) → IsStepOf other s → ⊥
+not_anothers actor other (step.Begin owner call) own apart is = apart (sym is ∙ own)
+not_anothers actor other (step.Go owner) own apart is = apart (sym is ∙ own)
+not_anothers actor other step.Sweep own apart is = is
+
+followed_more : (actor other : ℕ) (a b c : List Step) → (other ≡ actor → ⊥) → GoesOnWithout other a b → AddsOneAtMost actor b c → GoesOnWithout other a c
+followed_more actor other a b c apart followed (inl same) = (followed.0, same ∙ followed.1, followed.2)
+followed_more actor other a b c apart followed (inr (s, own, more)) =
+    let Not : Step → Type 0 = λ x. ¬ IsStepOf other x in
+    let last : All Not (s ∷ []) = All-cons Not s [] (not_anothers actor other s own apart) (All-nil Not) in
+    (followed.0 ++ s ∷ [], more ∙ ap (λ xs. xs ++ s ∷ []) followed.1 ∙ append_assoc a followed.0 (s ∷ []), All-append Not followed.0 (s ∷ []) followed.2 last)
 
 -- what another actor knows still stands after this one's work
 pub still_followed : (actor other : ℕ) (seen board now : Taken) → (other ≡ actor → ⊥) → HasFollowed other seen board → HasWorked actor board now → HasFollowed other seen now
 still_followed actor other seen board now apart followed worked = record {
   limits = worked.limits ∙ followed.limits;
-  steps = goes_on_more seen.steps board.steps now.steps followed.steps worked.steps;
-  account = worked.accounts other apart ∙ followed.account;
+  steps = followed_more actor other seen.steps board.steps now.steps apart followed.steps worked.steps;
 }
+
+-- ---- what the history tells of the actor
+
+one_leaves : (limits : Limits) (steps : List Step) (actor : ℕ) (s : Step) (answer : Answer) → next (run limits steps) s ≡ answer → ¬ IsStepOf actor s →
+    account_of actor (state_after (run limits steps) answer).events ≡ account_of actor (run limits steps).events
+one_leaves limits steps actor s (Ok done) taken other = others_leave_the_account limits steps s done.0 done.1 taken actor other
+one_leaves limits steps actor s (Err refusal) denied other = refl
+
+all_leave : (limits : Limits) (steps : List Step) (actor : ℕ) (rest : List Step) → All (λ s. ¬ IsStepOf actor s) rest →
+    account_of actor (run limits (steps ++ rest)).events ≡ account_of actor (run limits steps).events
+all_leave limits steps actor [] others = ap (λ xs. account_of actor (run limits xs).events) (append-nil steps)
+all_leave limits steps actor (s ∷ rest) others =
+    let Not : Step → Type 0 = λ x. ¬ IsStepOf actor x in
+    ap (λ xs. account_of actor (run limits xs).events) (sym (append_assoc steps (s ∷ []) rest))
+    ∙ all_leave limits (steps ++ s ∷ []) actor rest (All-tail Not s rest others)
+    ∙ ap (λ state. account_of actor state.events) (run_push (first_state limits) steps s)
+    ∙ one_leaves limits steps actor s (next (run limits steps) s) refl (All-head Not s rest others)
+
+-- the steps of others leave it
+pub same_account : (actor : ℕ) (seen board : Taken) → HasFollowed actor seen board → account_in actor board ≡ account_in actor seen
+same_account actor seen board followed =
+    ap (λ l. account_of actor (run l board.steps).events) followed.limits
+    ∙ ap (λ xs. account_of actor (run seen.limits xs).events) followed.steps.1
+    ∙ all_leave seen.limits seen.steps actor followed.steps.0 followed.steps.2
+
+-- ---- steps of the sweep
 
 -- the sweep's steps grow no fewer
 sweeps_append : (xs ys : List Step) → count_by is_sweep (xs ++ ys) ≡ count_by is_sweep xs + count_by is_sweep ys

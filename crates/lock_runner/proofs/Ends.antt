@@ -23,6 +23,7 @@ use Rattle.lock_runner.specs.Plays.{entry, crew_view, outside, gathered, HaveFol
 use Rattle.lock_runner.specs.Gate.{IsKept, HasActor, AreAll}
 use Rattle.lock_runner.specs.Seats.{Room, Seated}
 use Rattle.lock_runner.specs.Finishing.{AreHere, all_swept, IsGathered, recorded, IsFinished}
+use Rattle.lock_runner.proofs.Boards.{goes_on_without, same_account}
 use Rattle.lock_runner.proofs.Crews.{join_allowed}
 use Rattle.lock_runner.proofs.Closing.{IsClosed, closes}
 
@@ -101,9 +102,9 @@ from_closed : (runner : Room) (terms : Terms) (seats : List Seated) (board : Tak
 from_closed runner terms seats board same told closed = record {
   limits = closed.limits ∙ same;
   sizes = λ k seat e. (each_followed board seats closed.followed k seat e).limits;
-  steps = λ k seat e. (each_followed board seats closed.followed k seat e).steps;
+  steps = λ k seat e. goes_on_without seat.actor seat.seen.steps board.steps (each_followed board seats closed.followed k seat e).steps;
   answers = λ k seat e.
-      let account = (each_followed board seats closed.followed k seat e).account ∙ told k seat e in
+      let account = same_account seat.actor seat.seen board (each_followed board seats closed.followed k seat e) ∙ told k seat e in
       subst (λ xs. AreAnswersOf seat.actor (state_of board).events xs) (ap (λ a. a.answers) account) (answers_are_those_of_the_history board.limits board.steps seat.actor);
   sweeps = sym closed.sweeps ∙ swept_alike seats;
 }

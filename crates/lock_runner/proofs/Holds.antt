@@ -1,42 +1,28 @@
 -- One hold of the gate.
 use Rattle.std.specs.Prelude.{◌≡◌, ℕ, List, [], ◌∷◌, Result, Ok, Err}
-use Rattle.std.proofs.Common.{refl, sym, ap, subst, ◌∙◌}
+use Rattle.std.proofs.Common.{refl, sym, ap, subst, ◌∙◌, inr}
 use Rattle.machine_model.specs.declared.steps.Step.{Step}
-use Rattle.machine_model.specs.declared.steps.Step.TheVariants as step
 use Rattle.machine_model.specs.declared.steps.Outcome.{Outcome}
-use Rattle.machine_model.specs.Machine.{next}
 use Rattle.atomic_table.specs.Table.{Me, rest}
-use Rattle.step_machine.specs.Machines.{Taken, state_of, with_step}
-use Rattle.lock_runner.specs.ActorHistory.Laws.{IsStepOf}
-use Rattle.lock_runner.proofs.ActorHistory.Steps.{others_leave_the_account}
+use Rattle.step_machine.specs.Machines.{Taken, with_step}
 use Rattle.lock_runner.specs.declared.gate.View.{View}
 use Rattle.lock_runner.specs.declared.seats.Stop.{Stop}
 use Rattle.lock_runner.specs.declared.seats.Stop.TheVariants.{Denied, Memory, Ahead}
-use Rattle.lock_runner.specs.Boards.{HasFollowed, HasWorked}
+use Rattle.lock_runner.specs.Boards.{HasFollowed, IsDoneBy, HasWorked}
 use Rattle.lock_runner.specs.Plays.{inside, outside_of}
 use Rattle.lock_runner.specs.Seats.{seen_in, count_in, no_board}
-use Rattle.lock_runner.specs.Holds.{Worked, Held, IsDoneBy}
+use Rattle.lock_runner.specs.Holds.{Worked, Held}
 use Rattle.lock_runner.proofs.Boards.{has_worked_same}
 
--- what one actor or the sweep does isn't another actor's step
-not_anothers : (actor other : ℕ) (s : Step) → IsDoneBy actor s → (other ≡ actor → ⊥) → IsStepOf other s → ⊥
-not_anothers actor other (step.Begin owner call) own apart is = apart (sym is ∙ own)
-not_anothers actor other (step.Go owner) own apart is = apart (sym is ∙ own)
-not_anothers actor other step.Sweep own apart is = is
-
 -- one step is the actor's work
-stepped : (actor : ℕ) (board : Taken) (s : Step) (o : Outcome) (now : Taken) → IsDoneBy actor s → now ≡ with_step board s → next (state_of board) s ≡ Ok (o, state_of now) → HasWorked actor board now
-stepped actor board s o now own with_it taken = record {
-  limits = ap (λ b. b.limits) with_it;
-  steps = (s ∷ [], ap (λ b. b.steps) with_it);
-  accounts = λ other apart. others_leave_the_account board.limits board.steps s o (state_of now) taken other (not_anothers actor other s own apart);
-}
+stepped : (actor : ℕ) (board : Taken) (s : Step) (now : Taken) → IsDoneBy actor s → now ≡ with_step board s → HasWorked actor board now
+stepped actor board s now own with_it = record { limits = ap (λ b. b.limits) with_it; steps = inr (s, own, ap (λ b. b.steps) with_it) }
 
 as_it_was : (actor : ℕ) (board now : Taken) → now ≡ board → HasWorked actor board now
 as_it_was actor board now same = subst (λ b. HasWorked actor board b) (sym same) (has_worked_same actor board)
 
 pub has_worked : (actor : ℕ) (s : Step) (result : Result (ℕ × Outcome) Stop) (board : Taken) (heard : ℕ) (now : Taken) → IsDoneBy actor s → Worked result board s heard now → HasWorked actor board now
-has_worked actor s (Ok done) board heard now own w = stepped actor board s done.1 now own w.2 w.3
+has_worked actor s (Ok done) board heard now own w = stepped actor board s now own w.2
 has_worked actor s (Err Ahead) board heard now own w = as_it_was actor board now w.0
 has_worked actor s (Err Memory) board heard now own w = as_it_was actor board now w.0
 has_worked actor s (Err (Denied refusal)) board heard now own w = as_it_was actor board now w.0

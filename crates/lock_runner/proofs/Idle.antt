@@ -75,3 +75,15 @@ idle_only actor board refusal low high e =
     let alike = idle_alike actor board in
     let why = idle_denied (state_of board) actor refusal (is_actor (state_of board) actor) (is_running (state_of board) actor) (is_spent (state_of board)) own refl e in
     by_running refusal (account_in actor board).running (λ none. why.0 (alike.1 none)) (λ some. why.1 (λ none. some (alike.0 none)))
+
+idle_by : (state : State) (actor : ℕ) (a r s : Bool) → a ≡ true → r ≡ false →
+    go_unless state actor (first_reason ((not a, refuse.NoActor) ∷ (not r, refuse.Idle) ∷ (s, refuse.Spent) ∷ [])) ≡ Err refuse.Idle
+idle_by state actor a r s own none = rw (own, none) refl
+
+-- where the account runs nothing the step is denied as idle
+pub idle_is_denied : (actor : ℕ) (board : Taken) → 1 ≤ actor → actor ≤ board.limits.actors → (account_in actor board).running ≡ None → next (state_of board) (step.Go actor) ≡ Err refuse.Idle
+unfolding next
+idle_is_denied actor board low high none =
+    let within : actor ≤ (state_of board).limits.actors = omega (arith, high, ap (λ l. l.actors) (run_limits board.limits board.steps)) in
+    let own : is_actor (state_of board) actor ≡ true = actor_by actor (state_of board).limits.actors low within in
+    idle_by (state_of board) actor (is_actor (state_of board) actor) (is_running (state_of board) actor) (is_spent (state_of board)) own (ap is_some ((idle_alike actor board).1 none))

@@ -14,7 +14,7 @@ use Rattle.lock_runner.specs.Boards.{sweeps_in, HasWorked}
 use Rattle.lock_runner.specs.Plays.{entry, outside, inside, entered, has_left}
 use Rattle.lock_runner.specs.Gate.{IsKept, Stands, EachStands, HasSeen, all_sweeps, sweeps_of}
 use Rattle.lock_runner.proofs.Lists.{sum_set}
-use Rattle.lock_runner.proofs.Boards.{has_followed_same, still_followed, sweeps_grow}
+use Rattle.lock_runner.proofs.Boards.{goes_on_by_one, has_followed_same, still_followed, sweeps_grow}
 
 -- a place that holds something is within the list
 pub within : {X : Type 0} (xs : List X) (i : ℕ) (x : X) → get_elem? xs i ≡ some x → i < length xs
@@ -182,7 +182,7 @@ module _ (terms : Terms) (s : State Taken View) (kept : IsKept terms s) (id acto
   ]
 
   leave_sweeps : all_sweeps later.views ≡ sweeps_in now
-  leave_sweeps = omega (arith, sum_set sweeps_of s.views id (inside actor board sweeps) left at_seat, kept.sweeps, sweeps_grow board now worked.steps, ap sweeps_in same_board)
+  leave_sweeps = omega (arith, sum_set sweeps_of s.views id (inside actor board sweeps) left at_seat, kept.sweeps, sweeps_grow board now (goes_on_by_one actor board.steps now.steps worked.steps), ap sweeps_in same_board)
 
   leave_kept : IsKept terms later
   leave_kept = record {
@@ -201,4 +201,4 @@ module _ (terms : Terms) (s : State Taken View) (kept : IsKept terms s) (id acto
 pub leave_allowed : (terms : Terms) (id actor : ℕ) (board now : Taken) (sweeps : ℕ) → HasWorked actor board now →
     Allows (IsKept terms) 1 id (inside actor board sweeps, (0, now) ∷ []) 0 (λ n. 0) (λ n. has_left (step 1 0 0 0 none) (inside actor board sweeps, (0, now) ∷ []) 0)
 leave_allowed terms id actor board now sweeps worked s kept size at_seat low =
-    (left terms s kept id actor board now sweeps size at_seat worked, gives, tt, leave_kept terms s kept id actor board now sweeps size at_seat worked, refl)
+    (left terms s kept id actor board now sweeps size at_seat worked, gives, tt, leave_kept terms s kept id actor board now sweeps size at_seat worked, ((worked, tt), refl))

@@ -18,7 +18,7 @@ use Rattle.lock_runner.specs.Boards.{account_in, sweeps_in, is_sweep}
 use Rattle.lock_runner.specs.Plays.{outside}
 use Rattle.lock_runner.specs.Seats.{seen_in, count_in, IsSeated}
 use Rattle.lock_runner.specs.Holds.{Held}
-use Rattle.lock_runner.proofs.Boards.{sweeps_push}
+use Rattle.lock_runner.proofs.Boards.{same_account, sweeps_push}
 use Rattle.lock_runner.proofs.Growing.{steps_grow, one_step}
 
 -- what the seat keeps, where the board tells this of its actor and so many steps of the sweep were counted
@@ -43,7 +43,7 @@ module _ (me after : Me Taken View) (actor : ℕ) (answers : List Answer) (runni
 
   -- what the board that was found tells
   found : account_in actor h.board ≡ record { answers = answers; running = running }
-  found = h.followed.account ∙ seated.told
+  found = same_account actor (seen_in me) h.board h.followed ∙ seated.told
 
   enough : sweeps ≤ (state_of h.board).steps
   enough = omega (arith, seated.bounded, steps_grow actor (seen_in me) h.board h.followed)

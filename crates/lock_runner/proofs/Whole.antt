@@ -1,5 +1,5 @@
 -- Whole calls, from their steps.
-use Rattle.std.specs.Prelude.{◌≡◌, ◌-◌, List, [], ◌∷◌, ◌++◌, Some, Result, Ok, Err, length, slice_get}
+use Rattle.std.specs.Prelude.{◌≡◌, ◌-◌, true, List, [], ◌∷◌, ◌++◌, Some, Result, Ok, Err, length, slice_get}
 use Rattle.std.proofs.Common.{refl, sym, ap, ◌∙◌, inl, inr, arith, length-append}
 use Rattle.std.proofs.lemmas.Option.{same_Some}
 use Rattle.history.specs.declared.calls.Call.{Call}
@@ -11,10 +11,7 @@ use Rattle.lock_runner.specs.declared.seats.Stop.{Stop}
 use Rattle.lock_runner.specs.Seats.{Seated}
 use Rattle.lock_runner.specs.Stepping.{HasGoneOn, IsUntold, IsAnswered, Begins, Goes}
 use Rattle.lock_runner.specs.Performing.{CarriesOn, CarriesOut, IsPerformed}
-use Rattle.lock_runner.proofs.Boards.{goes_on_same, goes_on_more}
-
-pub gone_same : (a : Seated) → HasGoneOn a a
-gone_same a = record { runner = refl; actor = refl; heard = refl; limits = refl; steps = goes_on_same a.seen.steps }
+use Rattle.lock_runner.proofs.Boards.{goes_on_more}
 
 pub gone_more : (a b c : Seated) → HasGoneOn a b → HasGoneOn b c → HasGoneOn a c
 gone_more a b c ab bc = record {
@@ -24,9 +21,6 @@ gone_more a b c ab bc = record {
   limits = bc.limits ∙ ab.limits;
   steps = goes_on_more a.seen.steps b.seen.steps c.seen.steps ab.steps bc.steps;
 }
-
-pub untold_same : (a : Seated) → IsUntold a a
-untold_same a = record { on = gone_same a; answers = refl; sweeps = refl }
 
 pub untold_more : (a b c : Seated) → IsUntold a b → IsUntold b c → IsUntold a c
 untold_more a b c ab bc = record { on = gone_more a b c ab.on bc.on; answers = bc.answers ∙ ab.answers; sweeps = bc.sweeps ∙ ab.sweeps }
@@ -45,33 +39,33 @@ answered_later operation a b c ab same bc = record {
 }
 
 -- the last step of an operation
-pub carried_on : (a b c : Seated) → IsUntold a b → b.running ≡ a.running → ((operation : Running) × IsAnswered operation b c) → CarriesOn (Ok tt) a c
+pub carried_on : (a b c : Seated) → IsUntold a b → b.running ≡ a.running → Goes (Ok true) b c → CarriesOn (Ok tt) a c
 carried_on a b c ab same ended = (ended.0, answered_later ended.0 a b c ab same ended.1)
 
 pub carry_stops : (stop : Stop) (a b c : Seated) → IsUntold a b → b.running ≡ a.running → Goes (Err stop) b c → CarriesOn (Err stop) a c
-carry_stops stop a b c ab same stopped = (untold_more a b c ab stopped.0, stopped.1 ∙ same, stopped.2)
+carry_stops stop a b c ab same stopped = (untold_more a b c ab stopped.0, stopped.1 ∙ same, stopped.3)
 
 -- a begin, and then the rest
 pub begun_and_ended : (call : Call) (a b c : Seated) → Begins (Ok tt) a call b → CarriesOn (Ok tt) b c → IsPerformed call a c
 begun_and_ended call a b c begun ended =
     let its = ended.1 in
-    let same : begun.1.0 ≡ ended.0 = same_Some _ _ (sym begun.1.1 ∙ its.ran) in
+    let same : begun.1 ≡ ended.0 = same_Some _ _ (sym begun.2.0 ∙ its.ran) in
     record {
       on = gone_more a b c begun.0.on its.on;
       sweeps = its.sweeps ∙ begun.0.sweeps;
       idle = its.idle;
       answer = its.answer;
       last = its.last ∙ ap (λ xs. xs ++ its.answer ∷ []) begun.0.answers;
-      call = its.call ∙ ap (λ r. r.call) (sym same) ∙ begun.1.2;
-      unheard = omega (arith, begun.1.3, its.began, ap (λ r. r.began) same);
+      call = its.call ∙ ap (λ r. r.call) (sym same) ∙ begun.2.1;
+      unheard = omega (arith, begun.2.2, its.began, ap (λ r. r.began) same);
     }
 
 pub begun_and_stopped : (call : Call) (stop : Stop) (a b c : Seated) → Begins (Ok tt) a call b → CarriesOn (Err stop) b c → CarriesOut (Err stop) a call c
 begun_and_stopped call stop a b c begun stopped =
-    (untold_more a b c begun.0 stopped.0, inr ((begun.1.0, stopped.1 ∙ begun.1.1, begun.1.2, begun.1.3), stopped.2))
+    (untold_more a b c begun.0 stopped.0, inr ((begun.1, (stopped.1 ∙ begun.2.0, begun.2.1, begun.2.2)), stopped.2))
 
 pub stopped_at_once : (call : Call) (stop : Stop) (a b : Seated) → Begins (Err stop) a call b → CarriesOut (Err stop) a call b
-stopped_at_once call stop a b stopped = (stopped.0, inl (stopped.1, stopped.2))
+stopped_at_once call stop a b stopped = (stopped.0, inl (stopped.1, stopped.2, stopped.3))
 
 pub begun_and : (call : Call) (result : Result (Unit {0}) Stop) (a b c : Seated) → Begins (Ok tt) a call b → CarriesOn result b c → CarriesOut result a call c
 begun_and call (Ok done) a b c begun on = begun_and_ended call a b c begun on

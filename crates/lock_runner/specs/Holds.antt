@@ -1,7 +1,6 @@
 -- One hold of the gate.
 use Rattle.std.specs.Prelude.{◌≡◌, ℕ, ◌+◌, ◌-◌, ◌<◌, ◌≤◌, [], length, None, Result, Ok, Err}
 use Rattle.machine_model.specs.declared.steps.Step.{Step}
-use Rattle.machine_model.specs.declared.steps.Step.TheVariants as step
 use Rattle.machine_model.specs.declared.steps.Outcome.{Outcome}
 use Rattle.machine_model.specs.Machine.{next, denial_of}
 use Rattle.atomic_table.specs.Table.{Me}
@@ -32,9 +31,3 @@ pub record Held (result : Result (ℕ × Outcome) Stop) (actor : ℕ) (s : Step)
   pub followed : HasFollowed actor (seen_in before) board
   pub worked : Worked result board s heard (seen_in after)
   pub left : after ≡ (outside actor (seen_in after) (count_in before + (sweeps_in (seen_in after) - sweeps_in board)), [])
-
--- the step is one of this actor's operations, or of the sweep
-abbrev pub IsDoneBy : ℕ → Step → Type 0
-IsDoneBy actor (step.Begin other call) = other ≡ actor
-IsDoneBy actor (step.Go other) = other ≡ actor
-IsDoneBy actor step.Sweep = Unit {0}

@@ -7,7 +7,7 @@ use Rattle.lock_runner.specs.declared.accounts.Answer.{Answer}
 use Rattle.lock_runner.specs.declared.accounts.Running.{Running}
 use Rattle.lock_runner.specs.declared.seats.Stop.{Stop}
 use Rattle.lock_runner.specs.Seats.{Seated}
-use Rattle.lock_runner.specs.Stepping.{HasGoneOn, IsUntold, IsAnswered, Runs, IsNotBegun, IsNotTaken}
+use Rattle.lock_runner.specs.Stepping.{HasGoneOn, IsUntold, IsAnswered, HasTakenNone, Runs, IsNotBegun, IsNotTaken}
 
 -- ---- going on
 
@@ -43,7 +43,7 @@ pub record IsPerformed (asked : Call) (before after : Seated) : Type 0 where
 -- either nothing began, or the call runs still; and it is told why
 abbrev pub HasStopped : Stop → Seated → Call → Seated → Type 0
 HasStopped stop before call after =
-    ((after.running ≡ before.running) × IsNotBegun stop call after) ⊎ (Runs call before.heard after × IsNotTaken stop after)
+    ((after.running ≡ before.running) × HasTakenNone before after × IsNotBegun stop call after) ⊎ (Runs call before.heard after × IsNotTaken stop after)
 
 abbrev pub CarriesOut : Result (Unit {0}) Stop → Seated → Call → Seated → Type 0
 CarriesOut (Ok done) before call after = IsPerformed call before after

@@ -4,7 +4,7 @@ use Rattle.atomic_table.specs.Table.{Me, Step}
 use Rattle.step_machine.specs.Machines.{Taken}
 use Rattle.lock_runner.specs.declared.gate.Entry.{Entry}
 use Rattle.lock_runner.specs.declared.gate.View.{View}
-use Rattle.lock_runner.specs.Boards.{sweeps_in, HasFollowed}
+use Rattle.lock_runner.specs.Boards.{sweeps_in, HasFollowed, HasWorked}
 
 abbrev pub entry : ℕ → Taken → ℕ → Entry
 entry actor seen sweeps = record { actor = actor; seen = seen; sweeps = sweeps }
@@ -52,9 +52,18 @@ abbrev pub outside_of : View → List (ℕ × Taken) → Me Taken View
 outside_of view [] = (view, [])
 outside_of view (slot ∷ slots) = (crew_view (leaving slot.1 view.entries), slots)
 
--- the seat is outside, and knows the board as it left it
+-- by the hand of its actor the board has one step more at most
+abbrev pub HaveWorked : Taken → List Entry → Type 0
+HaveWorked now [] = Unit {0}
+HaveWorked now (e ∷ es) = HasWorked e.actor e.seen now × HaveWorked now es
+
+abbrev pub HasWorkedOn : View → List (ℕ × Taken) → Type 0
+HasWorkedOn view [] = Unit {0}
+HasWorkedOn view (slot ∷ slots) = HaveWorked slot.1 view.entries
+
+-- the seat has taken one step at most, is outside, and knows the board as it left it
 abbrev pub has_left : Step Taken → Me Taken View → ℕ → Me Taken View → Type 0
-has_left step before stored after = after ≡ outside_of before.0 before.1
+has_left step before stored after = HasWorkedOn before.0 before.1 × (after ≡ outside_of before.0 before.1)
 
 -- ---- crews
 

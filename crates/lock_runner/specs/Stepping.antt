@@ -1,11 +1,13 @@
 -- What one step makes of a seat.
 use Rattle.std.specs.Prelude.{◌≡◌, ℕ, ◌+◌, ◌<◌, ◌≤◌, Bool, true, false, MatchOption, [], ◌∷◌, ◌++◌, Some, None, Result, Ok, Err}
+use Rattle.ctrie_base.specs.declared.kinds.Kind.{Kind}
 use Rattle.ctrie_base.specs.declared.refusals.Refusal.{Refusal}
 use Rattle.ctrie_base.specs.declared.refusals.Refusal.TheVariants.{Idle, Spent}
 use Rattle.history.specs.declared.calls.Call.{Call}
 use Rattle.machine_model.specs.declared.steps.Step.{Step}
 use Rattle.machine_model.specs.declared.steps.Step.TheVariants as step
 use Rattle.epochs.specs.declared.limbo.Swept.{Swept}
+use Rattle.machine_model.specs.declared.steps.Outcome.{Outcome}
 use Rattle.machine_model.specs.declared.steps.Outcome.TheVariants as outcome
 use Rattle.machine_model.specs.Machine.{next, denial_of}
 use Rattle.step_machine.specs.Machines.{Taken, state_of, with_step}
@@ -13,7 +15,7 @@ use Rattle.lock_runner.specs.declared.accounts.Answer.{Answer}
 use Rattle.lock_runner.specs.declared.accounts.Running.{Running}
 use Rattle.lock_runner.specs.declared.seats.Stop.{Stop}
 use Rattle.lock_runner.specs.declared.seats.Stop.TheVariants.{Denied, Memory, Ahead}
-use Rattle.lock_runner.specs.Boards.{GoesOn}
+use Rattle.lock_runner.specs.Boards.{GoesOn, HasFollowed}
 use Rattle.lock_runner.specs.Seats.{Seated}
 use Rattle.lock_runner.specs.Holds.{events_in}
 
@@ -31,6 +33,17 @@ pub record IsUntold (before after : Seated) : Type 0 where
   pub answers : after.answers ≡ before.answers
   pub sweeps : after.sweeps ≡ before.sweeps
 
+-- no step of the actor's operations was taken
+abbrev pub HasTakenNone : Seated → Seated → Type 0
+HasTakenNone before after = HasFollowed before.actor before.seen after.seen
+
+-- this one was taken last, with this outcome, and before it none of the actor's operations
+pub record HasTaken (s : Step) (o : Outcome) (before after : Seated) : Type 0 where
+  pub board : Taken
+  pub followed : HasFollowed before.actor before.seen board
+  pub last : after.seen ≡ with_step board s
+  pub taken : next (state_of board) s ≡ Ok (o, state_of after.seen)
+
 -- the machine denies the step, as the seat sees it now
 abbrev pub IsDenied : Seated → Step → Refusal → Type 0
 IsDenied seat s refusal = next (state_of seat.seen) s ≡ Err refusal
@@ -38,8 +51,11 @@ IsDenied seat s refusal = next (state_of seat.seen) s ≡ Err refusal
 -- ---- a begin
 
 -- the actor runs this call, which began where no event was that the seat had heard of
+abbrev pub RunsAs : Running → Call → ℕ → Seated → Type 0
+RunsAs operation call heard seat = (seat.running ≡ Some operation) × (operation.call ≡ call) × (heard ≤ operation.began)
+
 abbrev pub Runs : Call → ℕ → Seated → Type 0
-Runs call heard seat = (operation : Running) × (seat.running ≡ Some operation) × (operation.call ≡ call) × (heard ≤ operation.began)
+Runs call heard seat = (operation : Running) × RunsAs operation call heard seat
 
 -- why nothing began: fewer events than were heard of, before all else the machine's denial, or want of memory
 abbrev pub IsNotBegun : Stop → Call → Seated → Type 0
@@ -48,8 +64,10 @@ IsNotBegun Memory call seat = Unit {0}
 IsNotBegun (Denied refusal) call seat = (seat.heard ≤ events_in seat.seen) × IsDenied seat (step.Begin seat.actor call) refusal
 
 abbrev pub Begins : Result (Unit {0}) Stop → Seated → Call → Seated → Type 0
-Begins (Ok done) before call after = IsUntold before after × Runs call before.heard after
-Begins (Err stop) before call after = IsUntold before after × (after.running ≡ before.running) × IsNotBegun stop call after
+Begins (Ok done) before call after =
+    IsUntold before after × (operation : Running) × RunsAs operation call before.heard after
+    × HasTaken (step.Begin before.actor call) (outcome.Began operation.id) before after
+Begins (Err stop) before call after = IsUntold before after × (after.running ≡ before.running) × HasTakenNone before after × IsNotBegun stop call after
 
 -- ---- a step of the operation
 
@@ -65,25 +83,27 @@ pub record IsAnswered (operation : Running) (before after : Seated) : Type 0 whe
   pub call : answer.call ≡ operation.call
   pub began : answer.began ≡ operation.began
 
--- why no step was taken: without an operation the seat is idle, else the machine has taken all its steps
+-- why no step was taken: without an operation the seat is idle, else the machine has taken all its steps, or memory was wanting
 abbrev pub IsNotTaken : Stop → Seated → Type 0
 IsNotTaken Ahead seat = ⊥
-IsNotTaken Memory seat = Unit {0}
+IsNotTaken Memory seat = ¬ (seat.running ≡ None)
 IsNotTaken (Denied refusal) seat = IsDenied seat (step.Go seat.actor) refusal × MatchOption seat.running (refusal ≡ Idle) (λ operation. refusal ≡ Spent)
 
 abbrev pub Goes : Result Bool Stop → Seated → Seated → Type 0
-Goes (Ok true) before after = (operation : Running) × IsAnswered operation before after
-Goes (Ok false) before after = IsUntold before after × (after.running ≡ before.running) × ¬ (before.running ≡ None)
-Goes (Err stop) before after = IsUntold before after × (after.running ≡ before.running) × IsNotTaken stop after
+Goes (Ok true) before after =
+    (operation : Running) × (ended : IsAnswered operation before after)
+    × HasTaken (step.Go before.actor) (outcome.Ended operation.id ended.answer.reply) before after
+Goes (Ok false) before after =
+    IsUntold before after × (after.running ≡ before.running) × ¬ (before.running ≡ None)
+    × (kind : Kind) × HasTaken (step.Go before.actor) (outcome.Went kind) before after
+Goes (Err stop) before after = IsUntold before after × (after.running ≡ before.running) × HasTakenNone before after × IsNotTaken stop after
 
 -- ---- a step of the sweep
 
 -- the machine took a step of the sweep last
 pub record IsSwept (swept : Swept) (before after : Seated) : Type 0 where
   pub sweeps : after.sweeps ≡ before.sweeps + 1
-  pub board : Taken
-  pub last : after.seen ≡ with_step board step.Sweep
-  pub taken : next (state_of board) step.Sweep ≡ Ok (outcome.Swept swept, state_of after.seen)
+  pub took : HasTaken step.Sweep (outcome.Swept swept) before after
 
 -- why none was taken: the machine's denial, or for a step that isn't denied want of memory
 abbrev pub IsNotSwept : Stop → Seated → Type 0
@@ -93,7 +113,7 @@ IsNotSwept (Denied refusal) seat = IsDenied seat step.Sweep refusal
 
 abbrev pub SweepsOnce : Result Swept Stop → Seated → Seated → Type 0
 SweepsOnce (Ok swept) before after = IsSwept swept before after
-SweepsOnce (Err stop) before after = (after.sweeps ≡ before.sweeps) × IsNotSwept stop after
+SweepsOnce (Err stop) before after = (after.sweeps ≡ before.sweeps) × HasTakenNone before after × IsNotSwept stop after
 
 abbrev pub Sweeps : Result Swept Stop → Seated → Seated → Type 0
 Sweeps result before after = HasGoneOn before after × (after.answers ≡ before.answers) × (after.running ≡ before.running) × SweepsOnce result before after

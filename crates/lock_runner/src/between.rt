@@ -1,10 +1,13 @@
 //! What may come between two steps.
+ghost use Rattle.std.specs.Prelude.{◌≤◌};
 
 /// What a caller does between two steps of a call.
 pub trait Between {
     /// Is called after each step of a call but its last, with the gate open: so many steps of this seat's
     /// call were taken.
-    fn between(&self, seat: u8, taken: u64);
+    fn between(&self, seat: u8, taken: u64)
+        requires seat { 1 ≤ seat }
+        requires taken { 1 ≤ taken };
 }
 
 /// Nothing is done between two steps.

@@ -2,8 +2,8 @@
 ghost use Rattle.std.specs.Prelude.{◌≡◌, ◌<◌, ◌∷◌, []};
 ghost use Rattle.lock_runner.specs.Plays.{inside, outside_of};
 ghost use Rattle.lock_runner.specs.Seats.{IsOutside, seen_in, count_in};
-ghost use Rattle.lock_runner.specs.Boards.{HasFollowed, HasWorked, sweeps_in};
-ghost use Rattle.lock_runner.specs.Holds.{IsDoneBy, Worked, Held};
+ghost use Rattle.lock_runner.specs.Boards.{HasFollowed, HasWorked, IsDoneBy, sweeps_in};
+ghost use Rattle.lock_runner.specs.Holds.{Worked, Held};
 
 use crate::gate::{Enter, Leave};
 use crate::runner::Runner;

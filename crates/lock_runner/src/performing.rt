@@ -1,5 +1,5 @@
 //! Whole calls of a seat.
-ghost use Rattle.std.specs.Prelude.{◌≡◌, ◌<◌, ◌-◌, Some, length, slice_get};
+ghost use Rattle.std.specs.Prelude.{◌≡◌, ◌<◌, ◌≤◌, ◌-◌, Some, length, slice_get};
 ghost use Rattle.lock_runner.specs.Seats.{IsSeatOf};
 ghost use Rattle.lock_runner.specs.Performing.{CarriesOut, CarriesOn};
 
@@ -52,7 +52,8 @@ impl Runner {
 impl Seat {
     /// The actor whose seat it is.
     pub fn actor(&self) -> u8
-        ensures { result ≡ self.now.actor }
+        ensures number { result ≡ self.now.actor }
+        ensures low { 1 ≤ result }
     {
         self.actor
     }

@@ -6,6 +6,7 @@ ghost use Rattle.lock_runner.specs.Stepping.{Begins, Goes, Sweeps};
 use crate::accounts::{Answer, Running};
 use crate::runner::Runner;
 use crate::seats::{Seat, Stop};
+use ctrie_base::Refusal;
 use epochs::Swept;
 use history::Call;
 use std::sync::Wait;
@@ -29,19 +30,20 @@ impl Runner {
         Ok(())
     }
 
-    /// Takes the next step of the operation that the seat's actor runs, and tells whether it has ended.
+    /// Takes the next step of the operation that the seat's actor runs, and tells whether it has ended. An
+    /// idle seat is told so before memory is asked for.
     pub(crate) fn go<R: Wait>(&self, rt: &R, seat: &mut Seat) -> Result<bool, Stop>
         requires { IsSeatOf self.now seat.old }
         ensures { Goes result seat.old seat.new }
     {
+        let Some(running) = seat.running else {
+            return Err(Stop::Denied(Refusal::Idle));
+        };
         seat.answers.reserve(1)?;
         let actor = seat.actor;
         let (ended, outcome) = self.hold(rt, &mut seat.pass, actor, Step::Go { actor }, 0)?;
         let Outcome::Ended(_, reply) = outcome else {
             return Ok(false);
-        };
-        let Some(running) = seat.running else {
-            unreachable!()
         };
         let Running { id, call, began } = running;
         let _ = seat.answers.push(Answer {

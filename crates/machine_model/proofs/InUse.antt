@@ -1,5 +1,5 @@
 -- Which references name a slot in use, and that those in limbo do.
-use Rattle.std.proofs.Common.{◌≡◌, ℕ, zero, suc, ◌+◌, ◌<◌, ◌≤◌, ◌^◌, ◌==◌, ◌&&◌, Bool, true, false, cond, nat_lt, not, is_some, List, [], ◌∷◌, length, map, get_or, All, Option}
+use Rattle.std.proofs.Common.{◌≡◌, ℕ, zero, suc, ◌+◌, ◌<◌, ◌≤◌, ◌^◌, ◌==◌, ◌&&◌, true, false, cond, nat_lt, not, is_some, List, [], ◌∷◌, length, map, get_or, All, Option}
 use Rattle.std.proofs.Common.{Some, None, refl, ap, ◌∙◌, subst, inl, inr, eqb-true, arith}
 use Rattle.std.specs.List.{list_any}
 use Rattle.std.proofs.Math.ListN.{get_or-map}
@@ -11,7 +11,8 @@ use Rattle.slot_arena.specs.declared.refs.Ref.{Ref}
 use Rattle.slot_arena.specs.declared.nodes.Slot.{Slot}
 use Rattle.epochs.specs.declared.limbo.Zeroed.{Zeroed}
 use Rattle.slot_arena.specs.Heaps.{Heap, named_from, in_use}
-use Rattle.epochs.specs.Limbo.{is_zero, is_in, newly_zero, by_birth, put_in, is_in_use, limbo_after}
+use Rattle.ctrie_base.proofs.Sorting.{sorted_all}
+use Rattle.epochs.specs.Limbo.{is_zero, is_in, newly_zero, is_in_use, limbo_after}
 use Rattle.machine_model.proofs.Found.{found_within}
 use Rattle.machine_model.proofs.Rest.{used}
 
@@ -67,26 +68,10 @@ flag_of_used heap r size (k, slot, at_k, is) =
 
 -- ---- limbo
 
--- what holds of each holds after one more was put in, by where it is put
-put_in_by : (P : Ref → Type 0) (r q : Ref) (qs : List Ref) → P r → All P (q ∷ qs) → All P (put_in r qs) → (b : Bool) →
-    All P (cond b (r ∷ q ∷ qs) (q ∷ put_in r qs))
-put_in_by P r q qs h all rest true = All-cons P r (q ∷ qs) h all
-put_in_by P r q qs h all rest false = All-cons P q (put_in r qs) (All-head P q qs all) rest
-
--- what holds of each holds after one more was put in
-put_in_all : (P : Ref → Type 0) (r : Ref) (qs : List Ref) → P r → All P qs → All P (put_in r qs)
-put_in_all P r [] h all = All-cons P r [] h (All-nil P)
-put_in_all P r (q ∷ qs) h all = put_in_by P r q qs h all (put_in_all P r qs h (All-tail P q qs all)) (nat_lt r q)
-
--- what holds of each holds of each when they are sorted
-pub by_birth_all : (P : Ref → Type 0) (rs : List Ref) → All P rs → All P (by_birth rs)
-by_birth_all P [] all = all
-by_birth_all P (r ∷ rs) all = put_in_all P r (by_birth rs) (All-head P r rs all) (by_birth_all P rs (All-tail P r rs all))
-
 -- those that became zero are in use
 newly_zero_in_use : (heap : Heap) (outside : List Ref) (limbo : List Zeroed) → All (InUse heap) (newly_zero heap outside limbo)
 newly_zero_in_use heap outside limbo =
-    by_birth_all (InUse heap) _ (All-filter (λ r. is_zero heap outside r && not (is_in limbo r)) (InUse heap) (in_use heap) (all_in_use heap))
+    sorted_all (InUse heap) nat_lt _ (All-filter (λ r. is_zero heap outside r && not (is_in limbo r)) (InUse heap) (in_use heap) (all_in_use heap))
 
 -- what stays in limbo is in use
 kept_in_use : (heap : Heap) (outside : List Ref) (z : Zeroed) → (is_in_use heap z.at && is_zero heap outside z.at) ≡ true → InUse heap z.at

@@ -6,6 +6,7 @@ use Rattle.std.proofs.lemmas.List.{get_or_past, length-replicate}
 use Rattle.std.proofs.lemmas.List.FromFn.{length-range_with_len}
 use Rattle.std.proofs.lemmas.List.Sums.{sum_by-cons, sum_by-set}
 use Rattle.std.specs.List.{range_with_len}
+use Rattle.epochs.proofs.Turns.{no_mark}
 
 -- 1 where the test holds
 abbrev pub one_if : Bool → ℕ
@@ -130,15 +131,9 @@ within_range : (a n k : ℕ) → times k (range_with_len a n) ≡ one_if (nat_le
 within_range a zero k = no_range a k
 within_range a (suc n) k = more_range a n k (within_range (a + 1) n k)
 
--- at first no slot is used
-unused_at_first : (n k : ℕ) → get_or (replicate n false) k false ≡ false
-unused_at_first zero k = refl
-unused_at_first (suc n) zero = refl
-unused_at_first (suc n) (suc k) = unused_at_first n k
-
 -- each slot at first
 first_each : (n k : ℕ) → times k (range_with_len 0 n) + one_if (get_or (replicate n false) k false) ≡ one_if (nat_lt k (length (replicate n false)))
-first_each n k = grind (arith, within_range 0 n k, unused_at_first n k, length-replicate n false)
+first_each n k = grind (arith, within_range 0 n k, no_mark n k, length-replicate n false)
 
 -- at first none is counted as used
 none_used : (n : ℕ) → used (replicate n false) ≡ 0

@@ -10,7 +10,8 @@ use Rattle.places.specs.declared.place.Place.{Place}
 use Rattle.places.specs.Places.{is_before, rising, ids_by_place}
 use Rattle.places.specs.Segments.{IsCut, AreCut}
 use Rattle.places.proofs.Comparing.{lower_before}
-use Rattle.places.proofs.Rising.{Rises, Alike, count_more, rising_rises, rising_counts, rising_alike, same_rising}
+use Rattle.ctrie_base.proofs.Sorting.{Alike, count_more}
+use Rattle.places.proofs.Rising.{Rises, rising_rises, rising_counts, rising_alike, same_rising}
 
 -- the place is above the closing
 abbrev pub above : ℕ → Place → Bool
@@ -182,7 +183,7 @@ pub low_cut : (c : ℕ) (ps : List Place) → AreUpTo c ps → IsCut c ps
 low_cut c [] h = tt
 low_cut c (p ∷ ps) h = (λ less. absurd (omega (arith, less, head_up_to c p ps h)), low_cut c ps (rest_up_to c p ps h))
 
-steps_rise : (p q : Place) → is_before q p ≡ false → p.step ≤ q.step
+pub steps_rise : (p q : Place) → is_before q p ≡ false → p.step ≤ q.step
 steps_rise p q e = tested (nat_lt q.step p.step) refl
   where
     tested : (b : Bool) → nat_lt q.step p.step ≡ b → p.step ≤ q.step

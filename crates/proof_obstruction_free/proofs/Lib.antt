@@ -21,4 +21,5 @@ pub mod Copy
 pub mod Reader
 pub mod Inherited
 pub mod Slots
+pub mod Making
 pub mod Programs

@@ -109,6 +109,18 @@ IsQuiet (act.Restore indirection main previous) = ⊥
 IsQuiet (act.Decide indirection main previous told) = ⊥
 IsQuiet action = Unit {0}
 
+-- one that makes no node either
+abbrev pub IsStill : Action → Type 0
+IsStill (act.Make node) = ⊥
+IsStill (act.MakeRoot main) = ⊥
+IsStill action = IsQuiet action
+
+-- no still step adds weight
+abbrev pub IsStillWeight : Lone → (ℕ → ℕ) → Type 0
+IsStillWeight a weight =
+    (t : ℕ) → a.start ≤ t → t < a.last → (operation : Operation) → operation_of (a.states t) a.actor ≡ Some operation → IsStill (action_of (a.states t) operation) →
+    weight (suc t) ≤ weight t
+
 -- no quiet step adds weight
 abbrev pub IsWeight : Lone → (ℕ → ℕ) → Type 0
 IsWeight a weight =

@@ -54,6 +54,31 @@ EnoughAtBegin =
     RunsAlone limits (steps ++ Begin actor call ∷ []) actor operation → most_steps_alone ≤ length (run limits steps).heap.free →
     (n id : ℕ) (answer : Reply) (after : State) → next (alone_after limits (steps ++ Begin actor call ∷ []) actor n) (Go actor) ≡ Ok (Ended id answer, after) → answer ≢ NoSlots
 
+-- ---- from where a try begins
+
+-- the most nodes that such an operation makes from there: from its begin too
+abbrev pub most_makes_alone : ℕ
+most_makes_alone = 570
+
+abbrev pub TriesMakeFew : Type 0
+TriesMakeFew =
+    (limits : Limits) (steps : List Step) (actor : ℕ) (operation : Operation) → RunsAlone limits steps actor operation → operation.line ≡ new_try → (n : ℕ) →
+    makes_alone limits steps actor n ≤ most_makes_alone
+
+-- so where as many slots are free it isn't refused for want of slots
+abbrev pub EnoughForTries : Type 0
+EnoughForTries =
+    (limits : Limits) (steps : List Step) (actor : ℕ) (operation : Operation) → RunsAlone limits steps actor operation → operation.line ≡ new_try →
+    most_makes_alone ≤ length (run limits steps).heap.free →
+    (n id : ℕ) (answer : Reply) (after : State) → next (alone_after limits steps actor n) (Go actor) ≡ Ok (Ended id answer, after) → answer ≢ NoSlots
+
+-- nor is a call that begins where as many are free
+abbrev pub TriesEnoughAtBegin : Type 0
+TriesEnoughAtBegin =
+    (limits : Limits) (steps : List Step) (actor : ℕ) (call : Call) (operation : Operation) → operation_of (run limits steps) actor ≡ None →
+    RunsAlone limits (steps ++ Begin actor call ∷ []) actor operation → most_makes_alone ≤ length (run limits steps).heap.free →
+    (n id : ℕ) (answer : Reply) (after : State) → next (alone_after limits (steps ++ Begin actor call ∷ []) actor n) (Go actor) ≡ Ok (Ended id answer, after) → answer ≢ NoSlots
+
 -- ---- a snapshot, a freeze or a clear
 
 -- the most steps, and so the most nodes that such a call makes, from where a try begins: from its begin too

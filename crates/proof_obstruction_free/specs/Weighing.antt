@@ -12,7 +12,7 @@ use Rattle.proof_obstruction_free.specs.Beneath.machine_model.specs.Operations.{
 use Rattle.proof_obstruction_free.specs.Beneath.machine_model.specs.States.{operation_of}
 use Rattle.proof_obstruction_free.specs.Beneath.machine_model.specs.Grown.{main_word, prev_word}
 use Rattle.proof_obstruction_free.specs.Beneath.proof_contents.specs.Runs.{is_made}
-use Rattle.proof_obstruction_free.specs.Alone.{Lone, IsWeight, word}
+use Rattle.proof_obstruction_free.specs.Alone.{Lone, IsStillWeight, word}
 
 module _ (a : Lone) where
   -- the operation's step t does this
@@ -32,7 +32,7 @@ module _ (a : Lone) where
 -- A main node that stands pending in a main word weighs so much, one that stands failed so much: to decide the one or put another in the place of the other
 -- takes that off. So does an offer in the handle's root word, which weighs 2.
 pub record Weighing (a : Lone) (weight : ℕ → ℕ) (pending failed : ℕ) : Type 0 where
-  pub quiet : IsWeight a weight
+  pub quiet : IsStillWeight a weight
   -- it weighs that as long as it stands there
   pub weighs : (t : ℕ) (i m q : Ref) → a.start ≤ t → t ≤ a.last → Sees a t i m (prev.Pending q) → pending ≤ weight t
   pub weighs_failed : (t : ℕ) (i m q : Ref) → a.start ≤ t → t ≤ a.last → Sees a t i m (prev.Failed q) → failed ≤ weight t

@@ -10,6 +10,7 @@ mod laws;
 
 pub use laws::endings::{
     alone_it_ends, each_step_leads_to_its_end, enough_slots, enough_slots_for_copies,
+    enough_slots_for_tries,
 };
 pub use laws::programs::{
     cleans_end, climbs_end, closes_end, completes_end, copies_end, readers_end, reads_end,

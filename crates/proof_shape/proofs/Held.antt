@@ -4,8 +4,7 @@ pub mod Lines
 pub mod Build
 pub mod Chain
 pub mod Entries
-pub mod Renew
-pub mod Clean
+pub mod Repair
 pub mod Free
 pub mod At
 pub mod Commits

@@ -1,4 +1,5 @@
 -- What the lines of each program know, at each time of a run; and where they lead.
+pub mod Leads
 pub mod Placed
 pub mod Swap
 pub mod Places

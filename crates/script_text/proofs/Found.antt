@@ -5,7 +5,6 @@ use Rattle.std.specs.List.{AllByRecursion}
 use Rattle.std.specs.Fmt.{decimal}
 use Rattle.std.specs.Str.{bytes_eq}
 use Rattle.std.proofs.lemmas.List.{append-nil}
-use Rattle.std.proofs.lemmas.List.Splits.{join_with_byte-slice_split}
 use Rattle.std.proofs.lemmas.Slice.Eq.{bytes_eq-Decides}
 use Rattle.ctrie_base.specs.declared.hashes.HashKind.{HashKind}
 use Rattle.ctrie_base.specs.declared.refusals.Refusal.{Refusal}
@@ -18,7 +17,7 @@ use Rattle.text_lines.specs.Views.{Reads}
 use Rattle.text_lines.proofs.Parts.{made_ok, range_is, ok_is}
 use Rattle.text_lines.proofs.Whole.{Leads, text_leads}
 use Rattle.history_text.specs.Lines.{header_of}
-use Rattle.history_text.proofs.FoundReplies.{header_found}
+use Rattle.history_text.proofs.FoundReplies.{header_found, cons_same}
 use Rattle.machine_model.specs.declared.steps.Limits.{Limits}
 use Rattle.script_text.specs.declared.commands.Command.{Command}
 use Rattle.script_text.specs.declared.reading.Script.{Script}
@@ -28,14 +27,8 @@ use Rattle.script_text.specs.Scripts.{Progress, Start, Sized, Hashed, InLines, w
 use Rattle.script_text.specs.Reading.{Reading, script_format, script_of}
 use Rattle.script_text.specs.Views.{read}
 use Rattle.script_text.specs.Grammar.{command_words, script_lines, CommandFits, LimitsFit, IsSpelling}
-use Rattle.script_text.proofs.FoundCommands.{command_found}
-
--- the line of these words
-line_of : (line : List ℕ) (words : List (List ℕ)) → words_of line ≡ words → line ≡ spaced words
-line_of line words e = sym (join_with_byte-slice_split 32 line) ∙ ap spaced e
-
-same_lines : (l m : List ℕ) (ls ms : List (List ℕ)) → l ≡ m → ls ≡ ms → l ∷ ls ≡ m ∷ ms
-same_lines l m ls ms p q = cc
+use Rattle.script_text.proofs.FoundCommands.{command_found, two}
+use Rattle.history_text.proofs.FoundLines.{line_of}
 
 -- The commands.
 
@@ -53,7 +46,7 @@ in_commands (l ∷ more) limits so_far end script leads done =
     let m = made_ok (λ command. InLines limits (so_far ++ command ∷ [])) (command_of (words_of l)) leads.0 leads.1 in
     let says = command_found (words_of l) m.0 m.1 in
     let rest = in_commands more limits (so_far ++ m.0 ∷ []) end script (subst (λ (p : Progress Command). Leads script_format p more end) (sym m.2) leads.2) done in
-    (rest.0, (m.0 ∷ rest.1.0, rest.1.1 ∙ append_assoc so_far (m.0 ∷ []) rest.1.0, same_lines l (spaced (command_words m.0)) more _ (line_of l (command_words m.0) says.text) rest.1.2, (says.fits, rest.1.3)))
+    (rest.0, (m.0 ∷ rest.1.0, rest.1.1 ∙ append_assoc so_far (m.0 ∷ []) rest.1.0, cons_same l (spaced (command_words m.0)) more _ (line_of l (command_words m.0) says.text) rest.1.2, (says.fits, rest.1.3)))
 
 -- The header.
 
@@ -61,14 +54,11 @@ value_ok : (r : Result ℕ Refusal) (n : ℕ) → header_value r ≡ Ok n → r 
 value_ok (Ok m) n e = e
 value_ok (Err f) n e = absurd cc
 
-header_words_is : (w v name : List ℕ) (n : ℕ) → w ≡ name → v ≡ decimal n → w ∷ v ∷ [] ≡ name ∷ decimal n ∷ []
-header_words_is w v name n p q = cc
-
 named_number : (b : Bool) (name : List ℕ) (least limit : ℕ) (w v : List ℕ) (n : ℕ) → bytes_eq w name ≡ b → cond b (header_value (number_from least limit v)) (Err BadHeader) ≡ Ok n
     → (w ∷ v ∷ [] ≡ name ∷ decimal n ∷ []) × (least ≤ n) × (n ≤ limit)
 named_number true name least limit w v n same e =
     let r = range_is least limit v n (value_ok (number_from least limit v) n e) in
-    (header_words_is w v name n ((bytes_eq-Decides w name).0 same) r.0, r.1, r.2)
+    (two w v name n ((bytes_eq-Decides w name).0 same) r.0, r.1, r.2)
 named_number false name least limit w v n same e = absurd cc
 
 number_found : (name : List ℕ) (least limit : ℕ) (words : List (List ℕ)) (n : ℕ) → header_number name least limit words ≡ Ok n → (words ≡ name ∷ decimal n ∷ []) × (least ≤ n) × (n ≤ limit)
@@ -101,7 +91,7 @@ behind_hash (l ∷ more) slots hash end script leads done =
     let actors : m.0 ≡ script.limits.actors = ap (λ (x : Limits). x.actors) (sym rest.0) in (
       ap (λ (x : Limits). x.slots) rest.0,
       ap (λ (x : Limits). x.hash) rest.0,
-      same_lines l (actors_line script) more (commands_lines script)
+      cons_same l (actors_line script) more (commands_lines script)
           (line_of l (codes "actors" ∷ decimal m.0 ∷ []) a.0 ∙ ap (λ n. spaced (codes "actors" ∷ decimal n ∷ [])) actors)
           (rest.1.2 ∙ ap (λ (cs : List Command). map spaced (map command_words cs)) (sym rest.1.1)),
       (subst (λ n. 1 ≤ n) actors a.1, subst (λ n. n ≤ 64) actors a.2, subst (AllByRecursion CommandFits) (sym rest.1.1) rest.1.3),
@@ -116,7 +106,7 @@ behind_slots (l ∷ more) slots end script leads done =
     let words = header_found (words_of l) m.0 m.1 in
     let rest = behind_hash more slots m.0 end script (subst (λ (p : Progress Command). Leads script_format p more end) (sym m.2) leads.2) done in (
       rest.0,
-      same_lines l (hash_line script) more (actors_line script ∷ commands_lines script)
+      cons_same l (hash_line script) more (actors_line script ∷ commands_lines script)
           (line_of l (codes "hash" ∷ hashes.name_of m.0 ∷ []) words ∙ ap (λ (k : HashKind). spaced (codes "hash" ∷ hashes.name_of k ∷ [])) (sym rest.1)) rest.2,
       rest.3,
     )
@@ -130,7 +120,7 @@ from_start (l ∷ more) end script leads done =
     let s = number_found (codes "slots") 2 65536 (words_of l) m.0 m.1 in
     let rest = behind_slots more m.0 end script (subst (λ (p : Progress Command). Leads script_format p more end) (sym m.2) leads.2) done in
     let slots : m.0 ≡ script.limits.slots = sym rest.0 in (
-      same_lines l (spaced (codes "slots" ∷ decimal script.limits.slots ∷ [])) more (hash_line script ∷ actors_line script ∷ commands_lines script)
+      cons_same l (spaced (codes "slots" ∷ decimal script.limits.slots ∷ [])) more (hash_line script ∷ actors_line script ∷ commands_lines script)
           (line_of l (codes "slots" ∷ decimal m.0 ∷ []) s.0 ∙ ap (λ n. spaced (codes "slots" ∷ decimal n ∷ [])) slots) rest.1,
       (subst (λ n. 2 ≤ n) slots s.1, subst (λ n. n ≤ 65536) slots s.2, rest.2.0, rest.2.1),
       rest.2.2,

@@ -14,12 +14,12 @@ use Rattle.text_lines.specs.Words.{both, made}
 use Rattle.text_lines.proofs.Parts.{both_ok, made_ok, word_is, range_is, named_is}
 use Rattle.history_text.specs.declared.names.CallName.{CallName}
 use Rattle.history_text.specs.declared.names.CallName.TheVariants as name
-use Rattle.history_text.specs.Names.{call_named, call_name, call_names}
+use Rattle.history_text.specs.Names.{call_named, call_name}
 use Rattle.history_text.specs.Texts.{call_words, opens_words}
 use Rattle.history_text.specs.Words.{actor_word, handle_word}
 use Rattle.history_text.specs.Lines.{call_of, opens}
 use Rattle.history_text.specs.Grammar.{CallFits}
-use Rattle.history_text.proofs.FoundCalls.{call_found}
+use Rattle.history_text.proofs.FoundCalls.{call_found, call_is}
 use Rattle.script_text.specs.declared.commands.Command.{Command}
 use Rattle.script_text.specs.declared.commands.Command.TheVariants.{Finish, Sweep}
 use Rattle.script_text.specs.declared.names.CommandName.{CommandName}
@@ -34,11 +34,7 @@ pub record SaysCall (words : List (List ℕ)) (c : Call) : Type 0 where
   pub text : words ≡ call_words c
   pub fits : CallFits c
 
-call_is : (w : List ℕ) (c : CallName) → call_named w ≡ Some c → w ≡ call_name c
-unfolding call_named
-call_is w c e = named_is call_name call_names w c e
-
-two : (name h n : List ℕ) (m : ℕ) → name ≡ n → h ≡ decimal m → name ∷ h ∷ [] ≡ n ∷ decimal m ∷ []
+pub two : (name h n : List ℕ) (m : ℕ) → name ≡ n → h ≡ decimal m → name ∷ h ∷ [] ≡ n ∷ decimal m ∷ []
 two name h n m p q = cc
 
 opened : (o : Option CallName) (w h : List ℕ) (c : Call) → opens o ≡ true → ((n : CallName) → o ≡ Some n → w ≡ call_name n) → made (opening o) (handle_word h) ≡ Ok c → SaysCall (w ∷ h ∷ []) c
@@ -56,7 +52,7 @@ opening_found o w [] c e is f = absurd cc
 opening_found o w (h ∷ []) c e is f = opened o w h c e is f
 opening_found o w (h ∷ k ∷ more) c e is f = absurd cc
 
-first_is : (w v : List ℕ) (ws vs : List (List ℕ)) → w ∷ ws ≡ v ∷ vs → w ≡ v
+pub first_is : (w v : List ℕ) (ws vs : List (List ℕ)) → w ∷ ws ≡ v ∷ vs → w ≡ v
 first_is w v ws vs e = cc
 
 opens_both : (w v : List ℕ) → w ≡ v → opens (call_named v) ≡ true → opens (call_named w) ≡ false → ⊥

@@ -1,5 +1,5 @@
 -- Kinds of steps are the same where their names are.
-use Rattle.std.proofs.Common.{◌≡◌, List, [], ◌∷◌, refl, sym, ap, ◌∙◌, Some, Bool, true, false, rules}
+use Rattle.std.proofs.Common.{◌≡◌, List, [], ◌∷◌, refl, sym, ap, ◌∙◌, Some, rules}
 use Rattle.std.specs.Str.{bytes_eq}
 use Rattle.std.proofs.lemmas.Slice.Eq.{bytes_eq-Decides}
 use denote.Enum.Bare.{sameb, same_true, true_same}
@@ -8,6 +8,7 @@ use Rattle.ctrie_base.specs.declared.kinds.Kind.TheVariants.{Begin, ReadRoot, Sw
 use Rattle.ctrie_base.specs.contracts.kinds.Kind.{the_type}
 use Rattle.ctrie_base.specs.Kinds.{name_of}
 use Rattle.text_lines.specs.Words.{named}
+use Rattle.ctrie_base.proofs.Tests.{same_tests}
 
 abbrev kinds : List Kind
 kinds = Begin ∷ ReadRoot ∷ SwapRoot ∷ ReadMain ∷ SwapMain ∷ ReadPrev ∷ SwapPrev ∷ Look ∷ Make ∷ End ∷ ScanPin ∷ Advance ∷ FreeOne ∷ []
@@ -29,11 +30,6 @@ named_again FreeOne = refl
 
 one_name : (a b : Kind) → name_of a ≡ name_of b → a ≡ b
 one_name a b e = let both : Some a ≡ Some b = sym (named_again a) ∙ ap (named name_of kinds) e ∙ named_again b in cc
-
-same_tests : (x y : Bool) → (x ≡ true → y ≡ true) → (y ≡ true → x ≡ true) → x ≡ y
-same_tests true y p q = sym (p refl)
-same_tests false true p q = q refl
-same_tests false false p q = refl
 
 -- `==` on kinds compares their names
 pub same_kind : (a b : Kind) → sameb the_type a b ≡ bytes_eq (name_of a) (name_of b)

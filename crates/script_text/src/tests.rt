@@ -2,6 +2,7 @@ use super::*;
 use ctrie_base::{HashKind, Kind, Refusal};
 use history::Call;
 use machine_model::Limits;
+use std::alloc::Global;
 use std::test::Fail;
 
 // Each command once.
@@ -49,90 +50,61 @@ fn reads_each_form(rt: HostRuntime) -> Result<(), Fail> {
     Ok(())
 }
 
-// Texts, and the line and the fault that are told of each.
-const FAULTS: [(&[u8], u64, Refusal); 22] = [
-    (b"", 1, Refusal::BadHeader),
-    (b"#\n\n", 3, Refusal::BadHeader),
-    (b"slots 1\n", 1, Refusal::BadHeader),
-    (b"slots 65537\n", 1, Refusal::BadHeader),
-    (b"slots 64 \n", 1, Refusal::BadHeader),
-    (b"hash low\nslots 64\nactors 1\n", 1, Refusal::BadHeader),
-    (b"slots 64\nhash low\n", 3, Refusal::BadHeader),
-    (b"slots 64\nhash LOW\nactors 1\n", 2, Refusal::BadHeader),
-    (b"slots 64\nhash low\nactors 65\n", 3, Refusal::BadHeader),
-    (
-        b"slots 2\nhash low\nactors 1\nslots 2\n",
-        4,
-        Refusal::BadLine,
-    ),
-    (
-        b"slots 2\nhash low\nactors 1\ngo 1 0\n",
-        4,
-        Refusal::BadNumber,
-    ),
-    (
-        b"slots 2\nhash low\nactors 1\ngo 1 1000001\n",
-        4,
-        Refusal::BadNumber,
-    ),
-    (
-        b"slots 2\nhash low\nactors 1\ngo 256 x 1\n",
-        4,
-        Refusal::BadLine,
-    ),
-    (
-        b"slots 2\nhash low\nactors 1\ngo 256 1\n",
-        4,
-        Refusal::BadNumber,
-    ),
-    (
-        b"slots 2\nhash low\nactors 1\nuntil 256 begin\n",
-        4,
-        Refusal::BadLine,
-    ),
-    (
-        b"slots 2\nhash low\nactors 1\nuntil 1 end \n",
-        4,
-        Refusal::BadLine,
-    ),
-    (
-        b"slots 2\nhash low\nactors 1\nsweep  1\n",
-        4,
-        Refusal::BadLine,
-    ),
-    (
-        b"slots 2\nhash low\nactors 1\nactor 1\n",
-        4,
-        Refusal::BadLine,
-    ),
-    (
-        b"slots 2\nhash low\nactors 1\ndo 1 freeze 0 as 1\n",
-        4,
-        Refusal::BadLine,
-    ),
-    (
-        b"slots 2\nhash low\nactors 1\ndo 1 freeze 0 as x\n",
-        4,
-        Refusal::BadLine,
-    ),
-    (
-        b"slots 2\nhash low\nactors 1\ndo 1 freeze 65536\n",
-        4,
-        Refusal::BadNumber,
-    ),
-    (
-        b"slots 2\nhash low\nactors 1\n#\n\ndo 1 put 0 1\n",
-        6,
-        Refusal::BadLine,
-    ),
+// Texts without a whole header, and the line that is told of each.
+const HEADERS: [(&[u8], u64); 9] = [
+    (b"", 1),
+    (b"#\n\n", 3),
+    (b"slots 1\n", 1),
+    (b"slots 65537\n", 1),
+    (b"slots 64 \n", 1),
+    (b"hash low\nslots 64\nactors 1\n", 1),
+    (b"slots 64\nhash low\n", 3),
+    (b"slots 64\nhash LOW\nactors 1\n", 2),
+    (b"slots 64\nhash low\nactors 65\n", 3),
 ];
 
+// Lines of no form, and lines with a number out of its range.
+const NO_FORM: [&str; 9] = [
+    "do 1 put 0 1",
+    "slots 2",
+    "go 256 x 1",
+    "until 256 begin",
+    "until 1 end ",
+    "sweep  1",
+    "actor 1",
+    "do 1 freeze 0 as 1",
+    "do 1 freeze 0 as x",
+];
+
+const OUT_OF_RANGE: [&str; 4] = ["go 1 0", "go 1 1000001", "go 256 1", "do 1 freeze 65536"];
+
 #[test]
-fn tells_the_first_fault(rt: HostRuntime) {
-    for (text, line, refusal) in FAULTS {
+fn tells_the_first_fault(rt: HostRuntime) -> Result<(), Fail> {
+    for (text, line) in HEADERS {
         let told = read_script(rt.alloc(), text).err();
-        assert!(rt; told == Some(Told::Line(line, refusal)), "{told:?}");
+        assert!(rt;
+            told == Some(Told::Line(line, Refusal::BadHeader)),
+            "{told:?}"
+        );
     }
+    for line in NO_FORM {
+        assert!(rt;
+            told_behind_a_header(rt.alloc(), line)? == Some(Told::Line(6, Refusal::BadLine)),
+            "{line}"
+        );
+    }
+    for line in OUT_OF_RANGE {
+        assert!(rt;
+            told_behind_a_header(rt.alloc(), line)? == Some(Told::Line(6, Refusal::BadNumber)),
+            "{line}"
+        );
+    }
+    Ok(())
+}
+
+fn told_behind_a_header(alloc: Global, line: &str) -> Result<Option<Told>, Fail> {
+    let text = format!(in alloc; "slots 2\nhash low\nactors 1\n#\n\n{line}\n")?;
+    Ok(read_script(alloc, text.as_bytes()).err())
 }
 
 #[test]

@@ -17,7 +17,7 @@ use Rattle.slot_arena.proofs.Times.{once, once_same}
 use Rattle.slot_arena.proofs.Namings.{naming-cons, raised_at, lowered_at}
 use Rattle.slot_arena.proofs.Live.{live_within}
 use Rattle.slot_arena.proofs.Exact.{part_live, part_counted}
-use Rattle.slot_arena.proofs.Words.{main_part, main_kept, prev_kept, live_main}
+use Rattle.slot_arena.proofs.Words.{IsChange, changed_by, main_is_change, prev_is_change, word_part, word_kept, live_word}
 
 -- the counts with one slot counted once more, and another once less
 abbrev up : List ℕ → ℕ → List ℕ
@@ -54,8 +54,11 @@ module _
     (is : main_of (node_of (get_or slots (slot_of r) None)) ≡ from) (to_live : live slots to ≡ true) (sizes : length counts' ≡ length counts)
     (counted_so : (i : ℕ) → slice_index counts' i + naming i (refs_of_prev (prev_of (get_or slots (slot_of to) None))) ≡ slice_index counts i + naming i (to ∷ []))
   where
+    change : IsChange slots r (main_changed to) (from ∷ []) (to ∷ [])
+    change = main_is_change slots r to from kind is
+
     abbrev first : List (Option Slot)
-    first = set slots (slot_of r) (option_map (main_changed to) (get_or slots (slot_of r) None))
+    first = changed_by (main_changed to) slots r
 
     abbrev between : List ℕ
     between = moved counts (slot_of to) (slot_of from)
@@ -63,13 +66,13 @@ module _
     from_live : live slots from ≡ true
     from_live =
         All-head (λ (q : Ref). live slots q ≡ true) from []
-        (part_live slots counts outside kept.exact (from ∷ []) (main_part slots counts free used outside kept r has from kind is))
+        (part_live slots counts outside kept.exact (from ∷ []) (word_part _ _ _ _ _ kept r has _ _ _ change))
 
     some : 0 < slice_index counts (slot_of from)
     some =
         omega (
           arith,
-          part_counted slots counts outside kept.exact kept.few (from ∷ []) (main_part slots counts free used outside kept r has from kind is) (slot_of from),
+          part_counted slots counts outside kept.exact kept.few (from ∷ []) (word_part _ _ _ _ _ kept r has _ _ _ change) (slot_of from),
           naming-cons (slot_of from) from [],
           once_here,
         )
@@ -93,14 +96,14 @@ module _
         ∙ length-set counts (slot_of to) (slice_index counts (slot_of to) + 1)
 
     kept_between : IsKept first between free used outside
-    kept_between = main_kept slots counts free used outside kept r has between sizes_between to from kind is at_between to_live
+    kept_between = word_kept _ _ _ _ _ kept r has _ _ _ change between sizes_between at_between (All-cons (λ (q : Ref). live slots q ≡ true) to [] to_live (All-nil (λ (q : Ref). live slots q ≡ true)))
 
     stays : (q : Ref) → live slots q ≡ true → live first q ≡ true
-    stays q there = live_main slots (slot_of r) to q (live_within slots r has) ∙ there
+    stays q there = live_word slots r _ _ _ change (live_within slots r has) q ∙ there
 
-    pub publish_kept : IsKept (set first (slot_of to) (option_map (prev_changed (prev.Pending from)) (get_or first (slot_of to) None))) counts' free used outside
+    pub publish_kept : IsKept (changed_by (prev_changed (prev.Pending from)) first to) counts' free used outside
     publish_kept =
-        prev_kept first between free used outside kept_between to (stays to to_live) counts' (sizes ∙ sym sizes_between) (prev.Pending from)
-        (prev_of (get_or slots (slot_of to) None)) (prev_stays slots (slot_of r) (slot_of to) to (live_within slots r has))
-        (λ i. omega (arith, counted_so i, at_between i))
+        word_kept first between free used outside kept_between to (stays to to_live) _ _ _
+        (prev_is_change first to (prev.Pending from) (prev_of (get_or slots (slot_of to) None)) (prev_stays slots (slot_of r) (slot_of to) to (live_within slots r has)))
+        counts' (sizes ∙ sym sizes_between) (λ i. omega (arith, counted_so i, at_between i))
         (All-cons (λ (q : Ref). live first q ≡ true) from [] (stays from from_live) (All-nil (λ (q : Ref). live first q ≡ true)))

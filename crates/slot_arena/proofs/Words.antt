@@ -1,29 +1,29 @@
--- The main word or the prev word of a slot in use is changed.
-use Rattle.std.proofs.Common.{◌≡◌, ℕ, ◌+◌, ◌<◌, ◌≤◌, true, List, [], ◌∷◌, ◌++◌, length, get_or, set, slice_index, All, Option, Some, None, refl, sym, ap, ◌∙◌, subst, inl, inr, arith}
+-- A word of a slot in use is changed: its main word, or its prev word.
+use Rattle.std.proofs.Common.{◌≡◌, ℕ, ◌+◌, ◌<◌, ◌≤◌, ◌==◌, true, List, [], ◌∷◌, ◌++◌, length, get_or, set, slice_index, All, Option, Some, None, refl, sym, ap, ◌∙◌, subst, inl, inr, arith}
 use Rattle.std.proofs.lemmas.Bool.{cases_eq, false≢true}
 use Rattle.std.proofs.lemmas.List.{get_or-set_same}
-use Rattle.std.proofs.lemmas.List.Elements.{All-nil, All-cons}
 use Rattle.std.proofs.lemmas.List.Sums.{get_or-le-sum_by}
 use Rattle.slot_arena.specs.declared.refs.Ref.{Ref}
 use Rattle.slot_arena.specs.declared.nodes.Node.{Node}
 use Rattle.slot_arena.specs.declared.nodes.Prev.{Prev}
 use Rattle.slot_arena.specs.declared.nodes.Slot.{Slot}
 use Rattle.slot_arena.specs.Refs.{slot_of, birth_of}
-use Rattle.slot_arena.specs.Heaps.{node_of, prev_of, main_of, with_main_word, main_changed, prev_changed, refs_of_node, refs_of_prev, refs_of_slot}
+use Rattle.slot_arena.specs.Heaps.{node_of, node_at, prev_of, prev_at, main_of, main_at, with_main_word, main_changed, prev_changed, refs_of_node, refs_of_prev, refs_of_slot}
 use Rattle.slot_arena.specs.Times.{times}
-use Rattle.slot_arena.specs.Tallies.{naming}
+use Rattle.slot_arena.specs.Tallies.{Tally, naming, NotesZeros}
 use Rattle.slot_arena.specs.Chains.{Chain}
-use Rattle.slot_arena.specs.Arenas.{has_birth}
+use Rattle.slot_arena.specs.Arenas.{Contents, NotesWaiting, has_birth, is_live, is_indirection}
 use Rattle.slot_arena.specs.Kept.{live, found, IsKept}
 use Rattle.slot_arena.proofs.Times.{once, times-cons, times-append}
-use Rattle.slot_arena.proofs.Live.{live_within}
+use Rattle.slot_arena.proofs.Live.{live_within, all_within}
+use Rattle.slot_arena.proofs.Exact.{part_live, part_counted}
 use Rattle.slot_arena.proofs.Changed.{live_here, live_there}
 use Rattle.std.specs.Prelude.{option_map}
 use Rattle.slot_arena.specs.declared.nodes.Node.TheVariants.{Indirection, Branch, Single, Tomb, List as Listed}
-use Rattle.slot_arena.specs.Arenas.{is_indirection}
+use Rattle.slot_arena.proofs.Marks.{zeros_trans}
 use Rattle.slot_arena.proofs.Swaps.{swap_kept}
-use Rattle.slot_arena.proofs.Reading.{slot_seen}
-use Rattle.slot_arena.proofs.Waiting.{born}
+use Rattle.slot_arena.proofs.Reading.{slot_seen, node_seen, prev_seen, live_is}
+use Rattle.slot_arena.proofs.Waiting.{born, notes_waiting}
 use Rattle.slot_arena.proofs.Written.{born_set}
 
 -- what stands in a slot is found
@@ -54,20 +54,45 @@ main_there (Single key value) ps from q kind is = absurd (false≢true kind)
 main_there (Tomb single) ps from q kind is = absurd (false≢true kind)
 main_there (Listed singles) ps from q kind is = absurd (false≢true kind)
 
+-- what a change of the slot that r names does: its birth and the size of its node stay, the references of minus go, and those of plus come
+pub record IsChange (slots : List (Option Slot)) (r : Ref) (change : Slot → Slot) (minus plus : List Ref) : Type 0 where
+  pub births : (slot : Slot) → (change slot).birth ≡ slot.birth
+  pub sizes : (slot : Slot) → length (refs_of_node (change slot).node) ≡ length (refs_of_node slot.node)
+  pub moves : (slot : Slot) → get_or slots (slot_of r) None ≡ Some slot → (q : Ref) →
+      times q (refs_of_slot (Some (change slot))) + times q minus ≡ times q (refs_of_slot (Some slot)) + times q plus
+  pub there : (slot : Slot) → get_or slots (slot_of r) None ≡ Some slot → (q : Ref) → times q minus ≤ times q (refs_of_slot (Some slot))
+
+pub main_is_change : (slots : List (Option Slot)) (r to from : Ref) → is_indirection (node_of (get_or slots (slot_of r) None)) ≡ true →
+    main_of (node_of (get_or slots (slot_of r) None)) ≡ from → IsChange slots r (main_changed to) (from ∷ []) (to ∷ [])
+main_is_change slots r to from kind is = record {
+  births = λ slot. refl;
+  sizes = λ slot. main_few slot.node to;
+  moves = λ slot at q. main_change slot.node (refs_of_prev slot.prev) to from q (sym (ap (λ o. is_indirection (node_of o)) at) ∙ kind) (sym (ap (λ o. main_of (node_of o)) at) ∙ is);
+  there = λ slot at q. main_there slot.node (refs_of_prev slot.prev) from q (sym (ap (λ o. is_indirection (node_of o)) at) ∙ kind) (sym (ap (λ o. main_of (node_of o)) at) ∙ is);
+}
+
+pub prev_is_change : (slots : List (Option Slot)) (r : Ref) (to from : Prev) → prev_of (get_or slots (slot_of r) None) ≡ from →
+    IsChange slots r (prev_changed to) (refs_of_prev from) (refs_of_prev to)
+prev_is_change slots r to from is = record {
+  births = λ slot. refl;
+  sizes = λ slot. refl;
+  moves = λ slot at q. omega (
+    arith,
+    times-append q (refs_of_node slot.node) (refs_of_prev to),
+    times-append q (refs_of_node slot.node) (refs_of_prev slot.prev),
+    ap (λ p. times q (refs_of_prev p)) (sym (ap prev_of at) ∙ is),
+  );
+  there = λ slot at q. omega (arith, times-append q (refs_of_node slot.node) (refs_of_prev slot.prev), ap (λ p. times q (refs_of_prev p)) (sym (ap prev_of at) ∙ is));
+}
+
+-- the slots after the change
+abbrev pub changed_by : (Slot → Slot) → List (Option Slot) → Ref → List (Option Slot)
+changed_by change slots r = set slots (slot_of r) (option_map change (get_or slots (slot_of r) None))
+
 module _
     (slots : List (Option Slot)) (counts : List ℕ) (free : Chain) (used : ℕ) (outside : List Ref) (kept : IsKept slots counts free used outside)
     (r : Ref) (has : live slots r ≡ true)
   where
-    within : slot_of r < length slots
-    within = live_within slots r has
-
-    -- the main word that is replaced is found
-    pub main_part : (from : Ref) → is_indirection (node_of (get_or slots (slot_of r) None)) ≡ true → main_of (node_of (get_or slots (slot_of r) None)) ≡ from → (q : Ref) → times q (from ∷ []) ≤ found slots outside q
-    main_part from kind is q =
-        let seen = slot_seen slots r has in
-        part_slot slots outside (slot_of r) (Some seen.0) q (times q (from ∷ [])) seen.1 (live_within slots r has)
-        (main_there seen.0.node (refs_of_prev seen.0.prev) from q (sym (ap (λ o. is_indirection (node_of o)) seen.1) ∙ kind) (sym (ap (λ o. main_of (node_of o)) seen.1) ∙ is))
-
     pub prev_part : (q : Ref) → times q (refs_of_prev (prev_of (get_or slots (slot_of r) None))) ≤ found slots outside q
     prev_part q =
         let seen = slot_seen slots r has in
@@ -79,71 +104,86 @@ module _
         let seen = slot_seen slots r has in
         part_slot slots outside (slot_of r) (Some seen.0) q (times q (refs_of_slot (Some seen.0))) seen.1 (live_within slots r has) (omega arith)
 
-    module _ (counts' : List ℕ) (sizes : length counts' ≡ length counts) where
-      pub main_kept : (to from : Ref) → is_indirection (node_of (get_or slots (slot_of r) None)) ≡ true → main_of (node_of (get_or slots (slot_of r) None)) ≡ from →
-          ((i : ℕ) → slice_index counts' i + naming i (from ∷ []) ≡ slice_index counts i + naming i (to ∷ [])) → live slots to ≡ true →
-          IsKept (set slots (slot_of r) (option_map (main_changed to) (get_or slots (slot_of r) None))) counts' free used outside
-      main_kept to from kind is counted_so gained =
+    module _ (change : Slot → Slot) (minus plus : List Ref) (is : IsChange slots r change minus plus) where
+      -- what goes is found
+      pub word_part : (q : Ref) → times q minus ≤ found slots outside q
+      word_part q =
+          let seen = slot_seen slots r has in
+          part_slot slots outside (slot_of r) (Some seen.0) q (times q minus) seen.1 (live_within slots r has) (is.there seen.0 seen.1 q)
+
+      pub word_within : (n : ℕ) → n ≡ length slots → All (λ q. slot_of q < n) minus
+      word_within n size = all_within slots n minus (sym size) (part_live slots counts outside kept.exact minus word_part)
+
+      pub word_counted : (i : ℕ) → naming i minus ≤ slice_index counts i
+      word_counted = part_counted slots counts outside kept.exact kept.few minus word_part
+
+      pub word_kept : (counts' : List ℕ) → length counts' ≡ length counts → ((i : ℕ) → slice_index counts' i + naming i minus ≡ slice_index counts i + naming i plus) →
+          All (λ q. live slots q ≡ true) plus → IsKept (changed_by change slots r) counts' free used outside
+      word_kept counts' sizes counted_so gained =
           let seen = slot_seen slots r has in
           let slot = seen.0 in
-          subst (λ o. IsKept (set slots (slot_of r) (option_map (main_changed to) o)) counts' free used outside) (sym seen.1)
-          (swap_kept slots counts counts' free used outside (to ∷ []) (from ∷ []) kept (slot_of r) slot (main_changed to slot) seen.1 refl (live_within slots r has)
-          (λ q. main_change slot.node (refs_of_prev slot.prev) to from q (sym (ap (λ o. is_indirection (node_of o)) seen.1) ∙ kind) (sym (ap (λ o. main_of (node_of o)) seen.1) ∙ is))
-          sizes counted_so (All-cons (λ q. live slots q ≡ true) to [] gained (All-nil (λ q. live slots q ≡ true)))
-          (omega (arith, main_few slot.node to, kept.narrow (slot_of r), ap (λ o. length (refs_of_node (node_of o))) seen.1)) (main_part from kind is))
+          subst (λ o. IsKept (set slots (slot_of r) (option_map change o)) counts' free used outside) (sym seen.1)
+          (swap_kept slots counts counts' free used outside plus minus kept (slot_of r) slot (change slot) seen.1 (is.births slot) (live_within slots r has)
+          (is.moves slot seen.1) sizes counted_so gained (omega (arith, is.sizes slot, kept.narrow (slot_of r), ap (λ o. length (refs_of_node (node_of o))) seen.1)) word_part)
 
-      pub prev_kept : (to from : Prev) → prev_of (get_or slots (slot_of r) None) ≡ from →
-          ((i : ℕ) → slice_index counts' i + naming i (refs_of_prev from) ≡ slice_index counts i + naming i (refs_of_prev to)) → All (λ q. live slots q ≡ true) (refs_of_prev to) →
-          IsKept (set slots (slot_of r) (option_map (prev_changed to) (get_or slots (slot_of r) None))) counts' free used outside
-      prev_kept to from is counted_so gained =
-          let seen = slot_seen slots r has in
-          let slot = seen.0 in
-          let was : slot.prev ≡ from = sym (ap prev_of seen.1) ∙ is in
-          subst (λ o. IsKept (set slots (slot_of r) (option_map (prev_changed to) o)) counts' free used outside) (sym seen.1)
-          (swap_kept slots counts counts' free used outside (refs_of_prev to) (refs_of_prev from) kept (slot_of r) slot (prev_changed to slot) seen.1 refl (live_within slots r has)
-          (λ q. omega (arith, times-append q (refs_of_node slot.node) (refs_of_prev to), times-append q (refs_of_node slot.node) (refs_of_prev slot.prev), ap (λ p. times q (refs_of_prev p)) was))
-          sizes counted_so gained
-          (omega (arith, kept.narrow (slot_of r), ap (λ o. length (refs_of_node (node_of o))) seen.1))
-          (λ q. subst (λ p. times q (refs_of_prev p) ≤ found slots outside q) is (prev_part q)))
+module _ (slots : List (Option Slot)) (r : Ref) (change : Slot → Slot) (minus plus : List Ref) (is : IsChange slots r change minus plus) (within : slot_of r < length slots) where
+  kept_birth : (o : Option Slot) → born (option_map change o) ≡ born o
+  kept_birth None = refl
+  kept_birth (Some slot) = ap Some (is.births slot)
 
--- a changed slot keeps its birth
-pub born_main : (slots : List (Option Slot)) (k i : ℕ) (to : Ref) → k < length slots → born (get_or slots i None) ≡ born (get_or (set slots k (option_map (main_changed to) (get_or slots k None))) i None)
-born_main slots k i to within = elim (cases_eq i k) [
-  | inl same ↦ ap (λ j. born (get_or slots j None)) same ∙ kept_birth (get_or slots k None) to ∙ sym (ap (λ j. born (get_or (set slots k (option_map (main_changed to) (get_or slots k None))) j None)) same ∙ ap born (get_or-set_same slots k (option_map (main_changed to) (get_or slots k None)) None within))
-  | inr other ↦ born_set slots k i (option_map (main_changed to) (get_or slots k None)) other
-]
+  kept_ref : (birth : ℕ) (o : Option Slot) → has_birth birth (option_map change o) ≡ has_birth birth o
+  kept_ref birth None = refl
+  kept_ref birth (Some slot) = ap (λ b. b == birth) (is.births slot)
+
+  -- a changed slot keeps its birth
+  pub born_word : (i : ℕ) → born (get_or slots i None) ≡ born (get_or (changed_by change slots r) i None)
+  born_word i = elim (cases_eq i (slot_of r)) [
+    | inl same ↦
+        ap (λ j. born (get_or slots j None)) same ∙ sym (kept_birth (get_or slots (slot_of r) None))
+        ∙ sym (ap (λ j. born (get_or (changed_by change slots r) j None)) same ∙ ap born (get_or-set_same slots (slot_of r) (option_map change (get_or slots (slot_of r) None)) None within))
+    | inr other ↦ born_set slots (slot_of r) i (option_map change (get_or slots (slot_of r) None)) other
+  ]
+
+  -- and its references
+  pub live_word : (q : Ref) → live (changed_by change slots r) q ≡ live slots q
+  live_word q = elim (cases_eq (slot_of q) (slot_of r)) [
+    | inl same ↦
+        live_here slots (slot_of r) (option_map change (get_or slots (slot_of r) None)) q within same ∙ kept_ref (birth_of q) (get_or slots (slot_of r) None)
+        ∙ sym (ap (λ j. has_birth (birth_of q) (get_or slots j None)) same)
+    | inr other ↦ live_there slots (slot_of r) (option_map change (get_or slots (slot_of r) None)) q other
+  ]
+
+-- the main word of an indirection is from, and becomes to
+pub main_changes : (before seen : Contents) → before ≡ seen → (r to from : Ref) → is_indirection (node_at seen.heap r) ≡ true → main_at seen.heap r ≡ from →
+    IsChange before.heap.slots r (main_changed to) (from ∷ []) (to ∷ [])
+main_changes before seen same r to from kind is =
+    let node = ap (λ (a : Contents). node_of (get_or a.heap.slots (slot_of r) None)) same ∙ node_seen seen.heap r in
+    main_is_change before.heap.slots r to from (ap is_indirection node ∙ kind) (ap main_of node ∙ is)
+
+-- the prev word of a main node is from, and becomes to
+pub prev_changes : (before seen : Contents) → before ≡ seen → (r : Ref) (to from : Prev) → prev_at seen.heap r ≡ from →
+    IsChange before.heap.slots r (prev_changed to) (refs_of_prev from) (refs_of_prev to)
+prev_changes before seen same r to from is =
+    prev_is_change before.heap.slots r to from (ap (λ (a : Contents). prev_of (get_or a.heap.slots (slot_of r) None)) same ∙ prev_seen seen.heap r ∙ is)
+
+-- an arena before and after the change
+module _
+    (before seen : Contents) (same : before ≡ seen) (r : Ref) (has : live before.heap.slots r ≡ true) (change : Slot → Slot) (minus plus : List Ref)
+    (is : IsChange before.heap.slots r change minus plus) (slots : List (Option Slot)) (slots_are : slots ≡ changed_by change before.heap.slots r)
   where
-    kept_birth : (o : Option Slot) (m : Ref) → born o ≡ born (option_map (main_changed m) o)
-    kept_birth None m = refl
-    kept_birth (Some slot) m = refl
+    pub word_noted : (counts counts' : List ℕ) (free : Chain) (used : ℕ) (between : Tally) (noted : List ℕ) (ticks : ℕ) →
+        IsKept before.heap.slots counts free used before.outside → IsKept slots counts' free used before.outside →
+        NotesZeros (record { counts = counts; noted = before.noted; ticks = 0 }) between → NotesZeros between (record { counts = counts'; noted = noted; ticks = 0 }) →
+        NotesWaiting seen (record { heap = record { slots = slots; free = before.heap.free; births = before.heap.births }; outside = before.outside; noted = noted; ticks = ticks })
+    word_noted counts counts' free used between noted ticks kept kept' first second =
+        let after : Contents = record { heap = record { slots = slots; free = before.heap.free; births = before.heap.births }; outside = before.outside; noted = noted; ticks = ticks } in
+        subst (λ (a : Contents). NotesWaiting a after) same
+        (notes_waiting before after counts counts' free free used used kept kept'
+        (zeros_trans (record { counts = counts; noted = before.noted; ticks = 0 }) between (record { counts = counts'; noted = noted; ticks = 0 }) first second)
+        (λ i none. born_word before.heap.slots r change minus plus is (live_within before.heap.slots r has) i ∙ sym (ap (λ s. born (get_or s i None)) slots_are)))
 
-pub born_prev : (slots : List (Option Slot)) (k i : ℕ) (to : Prev) → k < length slots → born (get_or slots i None) ≡ born (get_or (set slots k (option_map (prev_changed to) (get_or slots k None))) i None)
-born_prev slots k i to within = elim (cases_eq i k) [
-  | inl same ↦ ap (λ j. born (get_or slots j None)) same ∙ kept_birth (get_or slots k None) to ∙ sym (ap (λ j. born (get_or (set slots k (option_map (prev_changed to) (get_or slots k None))) j None)) same ∙ ap born (get_or-set_same slots k (option_map (prev_changed to) (get_or slots k None)) None within))
-  | inr other ↦ born_set slots k i (option_map (prev_changed to) (get_or slots k None)) other
-]
-  where
-    kept_birth : (o : Option Slot) (p : Prev) → born o ≡ born (option_map (prev_changed p) o)
-    kept_birth None p = refl
-    kept_birth (Some slot) p = refl
-
--- a changed slot keeps its references
-pub live_main : (slots : List (Option Slot)) (k : ℕ) (to : Ref) (q : Ref) → k < length slots → live (set slots k (option_map (main_changed to) (get_or slots k None))) q ≡ live slots q
-live_main slots k to q within = elim (cases_eq (slot_of q) k) [
-  | inl same ↦ live_here slots k (option_map (main_changed to) (get_or slots k None)) q within same ∙ kept_birth (get_or slots k None) ∙ sym (ap (λ j. has_birth (birth_of q) (get_or slots j None)) same)
-  | inr other ↦ live_there slots k (option_map (main_changed to) (get_or slots k None)) q other
-]
-  where
-    kept_birth : (o : Option Slot) → has_birth (birth_of q) (option_map (main_changed to) o) ≡ has_birth (birth_of q) o
-    kept_birth None = refl
-    kept_birth (Some slot) = refl
-
-pub live_prev : (slots : List (Option Slot)) (k : ℕ) (to : Prev) (q : Ref) → k < length slots → live (set slots k (option_map (prev_changed to) (get_or slots k None))) q ≡ live slots q
-live_prev slots k to q within = elim (cases_eq (slot_of q) k) [
-  | inl same ↦ live_here slots k (option_map (prev_changed to) (get_or slots k None)) q within same ∙ kept_birth (get_or slots k None) ∙ sym (ap (λ j. has_birth (birth_of q) (get_or slots j None)) same)
-  | inr other ↦ live_there slots k (option_map (prev_changed to) (get_or slots k None)) q other
-]
-  where
-    kept_birth : (o : Option Slot) → has_birth (birth_of q) (option_map (prev_changed to) o) ≡ has_birth (birth_of q) o
-    kept_birth None = refl
-    kept_birth (Some slot) = refl
+    pub word_stays : (q : Ref) → is_live (record { slots = slots; free = before.heap.free; births = before.heap.births }) q ≡ is_live seen.heap q
+    word_stays q =
+        live_is (record { slots = slots; free = before.heap.free; births = before.heap.births }) q ∙ ap (λ s. live s q) slots_are
+        ∙ live_word before.heap.slots r change minus plus is (live_within before.heap.slots r has) q
+        ∙ ap (λ (a : Contents). live a.heap.slots q) same ∙ sym (live_is seen.heap q)

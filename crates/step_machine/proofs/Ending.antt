@@ -9,8 +9,6 @@ use Rattle.history.specs.declared.calls.Call.TheVariants.{Close, Entries, Count}
 use Rattle.history.specs.declared.replies.Reply.{Reply}
 use Rattle.history.specs.declared.replies.Reply.TheVariants.{Closed, NoSlots}
 use Rattle.machine_model.specs.Calls.{is_close}
-use Rattle.machine_model.specs.Operations.{first_line}
-use Rattle.machine_model.specs.declared.lines.Line.TheVariants as line
 use Rattle.machine_model.specs.declared.operations.Operation.{Operation}
 use Rattle.machine_model.specs.declared.steps.Step.{Step}
 use Rattle.machine_model.specs.declared.steps.Step.TheVariants as step
@@ -26,7 +24,6 @@ use Rattle.machine_model.specs.Machine.{AreLimits, Answer, next, begin_denial, b
 use Rattle.machine_model.specs.States.{State, operation_of}
 use Rattle.step_machine.specs.Beneath.proof_commits.proofs.Known.StepsAt.{begin_own, end_own}
 use Rattle.machine_model.proofs.HeapMoves.{begin_heap}
-use Rattle.machine_model.proofs.Refusals.{IsRefusal, first_refusal}
 use Rattle.step_machine.specs.Beneath.proof_order.proofs.Views.Unconditional.{books_of}
 use Rattle.step_machine.specs.Beneath.proof_order.proofs.History.Recalling.{begin_event}
 use Rattle.std.proofs.lemmas.List.Elements.{All-push}
@@ -34,7 +31,9 @@ use Rattle.std.proofs.lemmas.Option.{none-some}
 use Rattle.step_machine.proofs.Telling.{answered_parts, begun_runs, denied_parts, stepped, unanswered}
 use Rattle.proof_obstruction_free.specs.Closes.{ClosesEnd}
 use Rattle.proof_obstruction_free.specs.Laws.{EachStepLeadsToItsEnd, EndsAt, GoesOnAt, IsOnKeyOrRoot, RunsAlone, alone_after, most_steps_alone}
-use Rattle.proof_obstruction_free.specs.Slots.{EnoughSlots}
+use Rattle.proof_obstruction_free.specs.Slots.{EnoughForTries}
+use Rattle.proof_obstruction_free.proofs.Slots.AtBegin.{tries_first}
+use Rattle.machine_model.specs.Lines.{new_try}
 use Rattle.step_machine.specs.Machines.{Taken, state_of, with_step, Applied}
 use Rattle.step_machine.specs.Callers.{after_go, going_on, Resumes, Completes, CompletesUnless}
 use Rattle.step_machine.specs.Ending.{EndsIfSure, EndsIn, IsAnswer, IsBounded, IsNearer, IsSure, enough_slots}
@@ -157,16 +156,16 @@ module _ (machine : Taken) (actor : ℕ) where
         (suc n, omega (arith, few), subst (EndsIn (suc n) actor) begins (left n 0 n operation.id (omega arith) on last))
 
     -- where enough slots are free none of them is refused for want of slots
-    not_refused : EnoughSlots → operation.line ≢ line.End NoSlots → enough_slots ≤ length (state_of machine).heap.free →
+    not_refused : EnoughForTries → (IsOnKeyOrRoot operation.call → operation.line ≡ new_try) → enough_slots ≤ length (state_of machine).heap.free →
         IsOnKeyOrRoot operation.call ⊎ (is_close operation.call ≡ true) → (n : ℕ) (last : Taken) →
         going_on n actor machine ≡ (Ok (Some NoSlots), last) → ⊥
     not_refused spare stands free (inl call) n last goes =
         let (j, id, state, e) = told_at n 0 NoSlots last (subst (λ m. going_on n actor m ≡ (Ok (Some NoSlots), last)) (sym begins) goes) in
-        spare machine.limits machine.steps actor operation (alone_facts call) stands free j id NoSlots state e refl
+        spare machine.limits machine.steps actor operation (alone_facts call) (stands call) free j id NoSlots state e refl
     not_refused spare stands free (inr closing) n last goes =
         closed_told n operation.id last (alone_after machine.limits machine.steps actor 1) (closes machine.limits machine.steps actor operation runs closing (omega (arith, sure.1))).0 goes
 
-    pub spared : EnoughSlots → operation.line ≢ line.End NoSlots → enough_slots ≤ length (state_of machine).heap.free → (n : ℕ) (last : Taken) →
+    pub spared : EnoughForTries → (IsOnKeyOrRoot operation.call → operation.line ≡ new_try) → enough_slots ≤ length (state_of machine).heap.free → (n : ℕ) (last : Taken) →
         going_on n actor machine ≡ (Ok (Some NoSlots), last) → ⊥
     spared spare stands free = not_refused spare stands free (bounded operation.call sure.0)
 
@@ -236,17 +235,13 @@ module _ (law : EachStepLeadsToItsEnd) (closes : ClosesEnd) (before after : Take
 
 -- ---- enough slots
 
-module _ (law : EachStepLeadsToItsEnd) (closes : ClosesEnd) (spare : EnoughSlots) (before : Taken) (actor : ℕ) (call : Call) (sizes : AreLimits before.limits) (keys : KeysFit before.steps)
+module _ (law : EachStepLeadsToItsEnd) (closes : ClosesEnd) (spare : EnoughForTries) (before : Taken) (actor : ℕ) (call : Call) (sizes : AreLimits before.limits) (keys : KeysFit before.steps)
     (fits : FitsKey (step.Begin actor call)) (sure : IsSure (state_of before) call (1 + most_steps_alone)) (free : enough_slots ≤ length (state_of before).heap.free) where
-  -- the first line of a call refuses nothing
-  first_stands : first_line call ≢ line.End NoSlots
-  first_stands is = first_refusal call (subst IsRefusal (sym is) tt)
-
   -- behind its begin a call isn't refused for want of slots
   pub spared_behind : (d : begin_denial (state_of before) actor call ≡ None) (n : ℕ) (last : Taken) → going_on n actor (middle before actor call d) ≡ (Ok (Some NoSlots), last) → ⊥
   spared_behind d =
       spared (middle before actor call d) actor law closes sizes (All-push FitsKey before.steps (step.Begin actor call) keys fits) (begun_operation (state_of before) call)
-      (begun_runs_on before actor call d) (sure_behind before actor call d most_steps_alone sure) spare first_stands
+      (begun_runs_on before actor call d) (sure_behind before actor call d most_steps_alone sure) spare (tries_first call)
       (subst (λ h. enough_slots ≤ length h.free)
       (sym (ap (λ (s : State). s.heap) (led_so before actor call d) ∙ begin_heap (state_of before) actor call (begun_operation (state_of before) call))) free)
 

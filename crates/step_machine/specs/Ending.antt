@@ -12,6 +12,7 @@ use Rattle.machine_model.specs.declared.steps.Step.TheVariants.{Go}
 use Rattle.machine_model.specs.Machine.{begin_denial}
 use Rattle.machine_model.specs.States.{State, operation_of, step_limit}
 use Rattle.proof_obstruction_free.specs.Laws.{most_steps_alone}
+use Rattle.proof_obstruction_free.specs.Slots.{most_makes_alone}
 use Rattle.step_machine.specs.Machines.{Taken, state_of, with_step, IsTaken}
 
 -- any call but entries and count
@@ -41,9 +42,9 @@ ResumesIfSure machine actor result =
 
 -- ---- slots
 
--- so many free slots are enough for an operation whose actor alone takes steps
+-- so many free slots are enough for an operation whose actor alone takes steps from its begin on
 abbrev pub enough_slots : ℕ
-enough_slots = most_steps_alone
+enough_slots = most_makes_alone
 
 -- a call that is sure to end isn't refused for want of slots where so many are free
 abbrev pub IsSpared : Taken → Call → Result (Option Reply) Refusal → Type 0

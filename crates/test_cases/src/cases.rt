@@ -1,6 +1,8 @@
 //! One case: its files, and what comes of it.
 
-use ctrie_commands::{Counted, Fault, Nothing, check_history, run_script, run_threads};
+use ctrie_commands::{
+    Counted, Fault, Nothing, check_history, draw_history, explain_history, run_script, run_threads,
+};
 use std::alloc::{AllocError, Global};
 use std::rt::Files;
 use std::sync::Wait;
@@ -13,6 +15,8 @@ pub enum Kind {
     Script,
     Threads,
     History,
+    Explanation,
+    Picture,
 }
 
 /// A case by its name, in which no ending stands.
@@ -32,6 +36,8 @@ impl Case {
             "script" => Kind::Script,
             "threads" => Kind::Threads,
             "history" => Kind::History,
+            "explanation" => Kind::Explanation,
+            "svg" => Kind::Picture,
             _ => return Ok(None),
         };
         let name = String::from_str(alloc, name)?;
@@ -52,12 +58,7 @@ impl Case {
         rt: &R,
         folder: &str,
     ) -> io::Result<bool> {
-        let ending = match self.kind {
-            Kind::Script => "script",
-            Kind::Threads => "threads",
-            Kind::History => "history",
-        };
-        let text = self.file(rt, folder, ending)?;
+        let text = self.file(rt, folder, self.given())?;
         let mut written = Vec::new(rt.alloc());
         match self.carried_out(rt, text.as_slice(), &mut written) {
             Ok(()) => Ok(written == self.file(rt, folder, self.wanted())?),
@@ -71,11 +72,22 @@ impl Case {
         }
     }
 
+    /// The ending of the file that it is carried out on.
+    fn given(&self) -> &'static str {
+        match self.kind {
+            Kind::Script => "script",
+            Kind::Threads => "threads",
+            Kind::History | Kind::Explanation | Kind::Picture => "history",
+        }
+    }
+
     /// The ending of the file with what it writes.
     fn wanted(&self) -> &'static str {
         match self.kind {
             Kind::Script | Kind::Threads => "report",
             Kind::History => "verdict",
+            Kind::Explanation => "explanation",
+            Kind::Picture => "svg",
         }
     }
 
@@ -103,6 +115,8 @@ impl Case {
             Kind::Script => run_script(rt.alloc(), &mut input, &mut output),
             Kind::Threads => run_threads(rt, rt.alloc(), &mut input, &mut output, &Nothing),
             Kind::History => check_history(rt.alloc(), &mut input, &mut output).map(|_| ()),
+            Kind::Explanation => explain_history(rt.alloc(), &mut input, &mut output).map(|_| ()),
+            Kind::Picture => draw_history(rt.alloc(), &mut input, &mut output).map(|_| ()),
         }
     }
 }

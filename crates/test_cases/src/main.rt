@@ -3,7 +3,8 @@
 //!
 //! A case is a file: a script NAME.script, a script for threads NAME.threads, or a history NAME.history. What is
 //! wanted lies beside it: what is written, in NAME.report or NAME.verdict; or the fault that is told where
-//! nothing is written, in NAME.fault.
+//! nothing is written, in NAME.fault. What is wanted of a history NAME.history that is explained or drawn is a
+//! case by itself: NAME.explanation, NAME.svg.
 #![tactic(auto)]
 
 mod cases;
@@ -22,6 +23,8 @@ struct Tally {
     scripts: u32,
     threads: u32,
     histories: u32,
+    explanations: u32,
+    pictures: u32,
     others: u32,
 }
 
@@ -32,6 +35,8 @@ impl Tally {
             Kind::Script => &mut self.scripts,
             Kind::Threads => &mut self.threads,
             Kind::History => &mut self.histories,
+            Kind::Explanation => &mut self.explanations,
+            Kind::Picture => &mut self.pictures,
         };
         *count = count.saturating_add(1);
     }
@@ -63,6 +68,8 @@ fn run<R: AllocGlobal + Env + Files + Print + Threads + Wait + Clone + Drop + Sy
         scripts: 0,
         threads: 0,
         histories: 0,
+        explanations: 0,
+        pictures: 0,
         others: 0,
     };
     for case in all_cases(rt, rt.alloc(), folder)? {
@@ -83,10 +90,12 @@ fn main(rt: HostRuntime) -> ExitCode {
         scripts,
         threads,
         histories,
+        explanations,
+        pictures,
         others,
     } = tally;
     let told = println!(rt;
-        "as wanted: {scripts} scripts, {threads} scripts for threads, {histories} histories"
+        "as wanted: {scripts} scripts, {threads} scripts for threads, {histories} histories, {explanations} explanations, {pictures} pictures"
     );
     ExitCode::from(if others == 0 && told.is_ok() { 0 } else { 1 })
 }

@@ -1,9 +1,12 @@
 //! What is told of readers and writers that fail, and of threads whose lines meet.
 
+mod failing;
 mod threads;
 
 use ctrie_base::Refusal;
-use ctrie_commands::{Counted, Fault, check_history, run_script};
+use ctrie_commands::{
+    Counted, Fault, check_history, draw_history, explain_history, run_script,
+};
 use std::io;
 use std::io::{ErrorKind, Read, Write};
 use std::test::Fail;
@@ -62,6 +65,30 @@ fn tells_write_faults(rt: HostRuntime) {
         let mut output = Counted::new(Broken);
         let found = run_script(rt.alloc(), &mut input, &mut output);
         assert_eq!(rt; found, Err(ran));
+    }
+}
+
+/// A history that is explained or drawn meets the same faults.
+#[test]
+fn tells_faults_behind_a_history(rt: HostRuntime) {
+    let mut written = Vec::new(rt.alloc());
+    let mut output = Counted::new(&mut written);
+    let mut input = Counted::new(HISTORY.as_bytes().chain(Broken));
+    let found = explain_history(rt.alloc(), &mut input, &mut output);
+    assert_eq!(rt; found, Err(Fault::Read));
+    let mut input = Counted::new(HISTORY.as_bytes().chain(Broken));
+    let found = draw_history(rt.alloc(), &mut input, &mut output);
+    assert_eq!(rt; found, Err(Fault::Read));
+    assert!(rt; written.is_empty());
+    let line = Fault::Line(1, Refusal::BadHeader);
+    for (text, fault) in [(HISTORY, Fault::Write), (SCRIPT, line)] {
+        let mut input = Counted::new(text.as_bytes());
+        let mut output = Counted::new(Broken);
+        let found = explain_history(rt.alloc(), &mut input, &mut output);
+        assert_eq!(rt; found, Err(fault));
+        let mut input = Counted::new(text.as_bytes());
+        let found = draw_history(rt.alloc(), &mut input, &mut output);
+        assert_eq!(rt; found, Err(fault));
     }
 }
 

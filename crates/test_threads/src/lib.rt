@@ -13,3 +13,5 @@ mod support;
 mod threads;
 #[cfg(test)]
 mod turns;
+#[cfg(test)]
+mod wanting;

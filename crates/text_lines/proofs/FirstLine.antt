@@ -12,7 +12,8 @@ pub no_lines : lines_of [] ≡ []
 unfolding lines_of
 no_lines = refl
 
-kept : (x : List ℕ) (parts : List (List ℕ)) → 0 < length parts → without_empty_last (x ∷ parts) ≡ x ∷ without_empty_last parts
+-- a line that isn't the last is kept
+pub kept : (x : List ℕ) (parts : List (List ℕ)) → 0 < length parts → without_empty_last (x ∷ parts) ≡ x ∷ without_empty_last parts
 kept x [] some = absurd (omega arith)
 kept x (y ∷ more) some = refl
 

@@ -65,58 +65,38 @@ module _ (state : State) (operation : Operation) (G : Ref → Ref → Type 0) (W
 
   key_reads : (l : KeyLine) → So (line.Key l)
   key_reads (key.Read path r) = (refl, refl, λ x. x.0)
-  key_reads (key.Main path main) = tt
-  key_reads (key.Entry path main position) = tt
-  key_reads (key.Listed path main position) = tt
-  key_reads (key.Sibling path main position former) = tt
+  key_reads l = tt
 
   build_reads : (l : BuildLine) → So (line.Build l)
   build_reads (build.Single path main site former) = tt
-  build_reads (build.Pair path main position single depth) = tt
-  build_reads (build.Link path main position below depth) = tt
-  build_reads (build.Rung path main position below depth) = tt
-  build_reads (build.Main path main c former) = tt
+  build_reads l = tt
 
   swap_reads : (why : Purpose) (i a f : Ref) (x : SwapLine) → let s : Swap = record { indirection = i; replaced = a; fresh = f; line = x } in So (line.Swap why s)
   swap_reads why i a f swap.Publish = tt
-  swap_reads why i a f (swap.Deciding x) = tt
-  swap_reads why i a f swap.Check = tt
+  swap_reads why i a f x = tt
 
   renew_reads : (l : RenewLine) → So (line.Renew l)
-  renew_reads (renew.Entry path main done) = tt
   renew_reads (renew.Read path main done r) = (refl, refl, λ x. x.0)
-  renew_reads (renew.Link path main done child) = tt
-  renew_reads (renew.Branch path main done) = tt
+  renew_reads l = tt
 
   clean_reads : (l : CleanLine) → So (line.Clean l)
   clean_reads (clean.Read path r) = (refl, refl, λ x. x.0)
-  clean_reads (clean.Main path main) = tt
-  clean_reads (clean.Entry path main done) = tt
   clean_reads (clean.Child path main done r) = (refl, refl, λ x. x.0)
-  clean_reads (clean.Tomb path main done child) = tt
-  clean_reads (clean.Contracted path main done) = tt
+  clean_reads l = tt
 
   climb_reads : (l : ClimbLine) → So (line.Climb l)
   climb_reads (climb.Read c r) = (refl, refl, λ x. x.0)
-  climb_reads (climb.Main c main) = tt
-  climb_reads (climb.Contracted c main) = tt
-  climb_reads (climb.Root c root.Read) = tt
   climb_reads (climb.Root c (root.Completing x)) = climb_root_reads c x.offer x.line
+  climb_reads l = tt
 
   copy_reads : (l : CopyLine) → So (line.Copy l)
   copy_reads (copy.Read at r) = (refl, refl, λ x. x.0)
-  copy_reads (copy.Successor at main) = tt
-  copy_reads (copy.Second at main successor) = tt
-  copy_reads (copy.Empty at main) = tt
-  copy_reads (copy.Cleared at main branch) = tt
-  copy_reads (copy.Offer offer) = tt
   copy_reads (copy.Complete x) = copy_complete_reads x.offer x.line
+  copy_reads l = tt
 
   walk_reads : (l : WalkLine) → So (line.Walk l)
-  walk_reads walk.Root = tt
   walk_reads (walk.Read r todo pairs) = (refl, refl, λ x. x)
-  walk_reads (walk.Main main todo pairs) = tt
-  walk_reads (walk.Entry todo pairs) = tt
+  walk_reads l = tt
 
   pub line_reads : (l : Line) → So l
   line_reads (line.Root root.Read) = tt

@@ -1,5 +1,6 @@
 -- Where KEY ends without a change it answers what the main node says of its key.
-use Rattle.std.proofs.Common.{◌≡◌, ◌≢◌, ℕ, ◌+◌, ◌-◌, ◌≤◌, ◌==◌, ◌&&◌, nat_lt, nat_le, Bool, true, false, cond, List, [], ◌∷◌, length, take, drop, slice_index_or, Some, None, refl}
+use Rattle.std.proofs.Common.{◌≡◌, ◌≢◌, ℕ, ◌+◌, ◌-◌, ◌≤◌, ◌==◌, ◌&&◌, nat_lt, nat_le, Bool, true, false, cond, List, [], ◌∷◌, length, take, drop, slice_index_or, None, refl}
+use Rattle.std.proofs.lemmas.Bool.{cond_both}
 use Rattle.std.proofs.Common.{sym, ap, ap₂, subst, ◌∙◌, eqb-true, take_all, ltb-false, leb-true, take-append-drop}
 use Rattle.std.proofs.lemmas.Grind.{take_at_read}
 use Rattle.arrayvec.specs.ArrayVec.{ArrayVec}
@@ -16,7 +17,6 @@ use Rattle.proof_contents.specs.Beneath.slot_arena.specs.Heaps.{node_at, entry_a
 use Rattle.proof_contents.specs.Beneath.nodes.specs.Levels.{has_flag}
 use Rattle.machine_model.specs.declared.operations.Operation.{Operation}
 use Rattle.machine_model.specs.declared.building.Site.TheVariants as site
-use Rattle.machine_model.specs.declared.building.Change.TheVariants as change
 use Rattle.machine_model.specs.declared.building.BuildLine.TheVariants as build
 use Rattle.machine_model.specs.declared.finding.KeyLine.TheVariants as key
 use Rattle.machine_model.specs.declared.finding.WhenFound.{WhenFound}
@@ -67,31 +67,14 @@ module _ (state : State) (operation : Operation) (node : Ref → Node) (first : 
     entry_is n position is = ap (λ m. slice_index_or (entries_of m) position no_ref) (sees.main_is ∙ is)
 
     absent_ends : says ≡ Absent → EndsRight (absent operation p main)
-    absent_ends none = by_test (inserts operation.call) refl
-      where
-        by_test : (b : Bool) → inserts operation.call ≡ b → EndsRight (cond b (line.Build (build.Single p main site.Absent None)) (line.End (absent_reply operation.call)))
-        by_test true e = tt
-        by_test false e = a.where_absent none e
+    absent_ends none = cond_both (inserts operation.call) _ _ EndsRight (λ e. tt) (λ e. a.where_absent none e)
 
     beside_ends : (position : ℕ) → says ≡ Absent → EndsRight (absent_beside operation p main position)
-    beside_ends position none = by_test (inserts operation.call) refl
-      where
-        by_test : (b : Bool) → inserts operation.call ≡ b → EndsRight (cond b (line.Build (build.Single p main (site.Beside position) None)) (line.End (absent_reply operation.call)))
-        by_test true e = tt
-        by_test false e = a.where_absent none e
+    beside_ends position none = cond_both (inserts operation.call) _ _ EndsRight (λ e. tt) (λ e. a.where_absent none e)
 
     removing_ends : (position v : ℕ) (n : Node) → EndsRight (removing state p main position v n)
-    removing_ends position v (Branch b es) = by_test (is_below_root p && (length es.items == 2))
-      where
-        by_test : (t : Bool) → EndsRight (cond t (line.Key (key.Sibling p main position v)) (line.Build (build.Main p main (change.Remove position) (Some v))))
-        by_test true = tt
-        by_test false = tt
-    removing_ends position v (Listed ss) = by_test (length ss.items == 2)
-      where
-        by_test : (t : Bool) →
-            EndsRight (cond t (line.Build (build.Main p main (change.Entomb (entry_at state.heap main (1 - position))) (Some v))) (line.Build (build.Main p main (change.Remove position) (Some v))))
-        by_test true = tt
-        by_test false = tt
+    removing_ends position v (Branch b es) = cond_both (is_below_root p && (length es.items == 2)) _ _ EndsRight (λ e. tt) (λ e. tt)
+    removing_ends position v (Listed ss) = cond_both (length ss.items == 2) _ _ EndsRight (λ e. tt) (λ e. tt)
     removing_ends position v (Indirection g w) = tt
     removing_ends position v (Single k w) = tt
     removing_ends position v (Tomb s) = tt

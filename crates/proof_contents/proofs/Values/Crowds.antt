@@ -12,6 +12,7 @@ use Rattle.std.proofs.lemmas.List.Sums.{length-filter}
 use Rattle.std.proofs.lemmas.Bool.{and_parts}
 use Rattle.proof_contents.specs.Beneath.history.specs.Worlds.{KeyMap}
 use Rattle.proof_contents.specs.Beneath.history.specs.Effects.{others}
+use Rattle.proof_contents.specs.Beneath.ctrie_base.proofs.Tests.{same_tests}
 
 -- a key stands in a list
 abbrev pub is_among : List ℕ → ℕ → Bool
@@ -61,11 +62,6 @@ filter_distinct p (y ∷ ks) h = by_test (p y) (filter_distinct p ks h.1)
     by_test : (b : Bool) → AreDistinct (filter p ks) → AreDistinct (cond b (y ∷ filter p ks) (filter p ks))
     by_test true rest = (filter_apart p y ks h.0, rest)
     by_test false rest = rest
-
-same_tests : (a b : Bool) → (a ≡ true → b ≡ true) → (b ≡ true → a ≡ true) → a ≡ b
-same_tests true b f g = sym (f refl)
-same_tests false true f g = g refl
-same_tests false false f g = refl
 
 module _ (hash : ℕ → ℕ) (m : KeyMap) (k : ℕ) where
   abbrev is_other : ℕ → Bool

@@ -81,7 +81,8 @@ one_node limits ok steps more r was now h h' =
 
 -- ---- births
 
-births_later : (b : ℕ) (state : State) → IsSafe state → b ≤ state.heap.births → (s : Step) (o : Outcome) (after : State) → Moves state s o after → b ≤ after.heap.births
+-- no births are taken back
+pub births_later : (b : ℕ) (state : State) → IsSafe state → b ≤ state.heap.births → (s : Step) (o : Outcome) (after : State) → Moves state s o after → b ≤ after.heap.births
 births_later b state I h s o after m = later (births_grow _ _ _ _ _ _ ((step_effect state I s o after m).3)) h
   where
     later : state.heap.births ≤ after.heap.births → b ≤ state.heap.births → b ≤ after.heap.births

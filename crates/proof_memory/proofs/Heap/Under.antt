@@ -17,10 +17,7 @@ use Rattle.machine_model.proofs.Rest.{first_free}
 use Rattle.machine_model.proofs.Slots.{AddsUp}
 use Rattle.machine_model.specs.Grown.{of_birth, standing}
 use Rattle.machine_model.proofs.Grown.{standing_parts}
-
--- a reference is its birth and its slot
-pub same_ref : (r q : Ref) → slot_of r ≡ slot_of q → birth_of r ≡ birth_of q → r ≡ q
-same_ref r q s b = omega arith
+use Rattle.proof_memory.specs.Beneath.slot_arena.proofs.Live.{same_ref}
 
 pub slot_of-ref_to : (birth slot : ℕ) → slot < 2 ^ 16 → slot_of (ref_to birth slot) ≡ slot
 slot_of-ref_to birth slot h = omega arith

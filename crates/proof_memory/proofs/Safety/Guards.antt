@@ -1,5 +1,5 @@
 -- What is safe for an operation: in use, and guarded, which is: wherever it stands in limbo, its count became zero in the operation's epoch or later.
-use Rattle.std.proofs.Common.{◌≡◌, ℕ, zero, suc, ◌<◌, ◌≤◌, ◌==◌, ◌&&◌, Bool, true, false, cond, not, List, [], ◌∷◌, ◌++◌, filter, flat_map, count_by, All, Contains, get_or, Option}
+use Rattle.std.proofs.Common.{◌≡◌, ℕ, zero, suc, ◌<◌, ◌≤◌, ◌==◌, ◌&&◌, Bool, true, false, cond, nat_lt, not, List, [], ◌∷◌, ◌++◌, filter, flat_map, count_by, All, Contains, get_or, Option}
 use Rattle.std.proofs.Common.{Some, None, sym, ap, ◌∙◌, subst, eq-eqb, ne_eqb, arith}
 use Rattle.std.proofs.lemmas.Bool.{and_parts, false≢true}
 use Rattle.std.proofs.lemmas.Option.{none-some}
@@ -16,7 +16,7 @@ use Rattle.machine_model.specs.declared.roots.Root.{Root}
 use Rattle.machine_model.specs.States.{State, root_at}
 use Rattle.machine_model.specs.Counting.{outside, refs_of_root, refs_of_operation}
 use Rattle.machine_model.proofs.Rest.{one_if}
-use Rattle.machine_model.proofs.InUse.{by_birth_all}
+use Rattle.proof_memory.specs.Beneath.ctrie_base.proofs.Sorting.{sorted_all}
 use Rattle.machine_model.specs.Grown.{standing}
 use Rattle.proof_memory.specs.Laws.{IsInUse}
 use Rattle.machine_model.proofs.Grown.{standing_parts}
@@ -51,7 +51,7 @@ zero_of_new heap outside limbo r e = (and_parts _ _ e).0
 new_zeros : (heap : Heap) (outside : List Ref) (limbo : List Zeroed) → All (λ r. is_zero heap outside r ≡ true) (newly_zero heap outside limbo)
 new_zeros heap outside limbo =
     let found = filter (λ r. is_zero heap outside r && not (is_in limbo r)) (in_use heap) in
-    by_birth_all (λ r. is_zero heap outside r ≡ true) found
+    sorted_all (λ r. is_zero heap outside r ≡ true) nat_lt found
     (All-weaker (λ r. (is_zero heap outside r && not (is_in limbo r)) ≡ true) (λ r. is_zero heap outside r ≡ true) (zero_of_new heap outside limbo) found
     (filter_passes (λ r. is_zero heap outside r && not (is_in limbo r)) (in_use heap)))
 

@@ -50,6 +50,7 @@ use Rattle.proof_memory.proofs.Lines.Next.{line_next}
 use Rattle.proof_memory.specs.Making.{made_node}
 use Rattle.proof_memory.proofs.Safety.States.{IsSafe, heaped, word_in, open_word, in_private, node_in, prev_in, stands_in_use, carries, made_safe, used_of, slots_after, births_after}
 use Rattle.machine_model.proofs.Grown.{node_standing}
+use Rattle.proof_memory.specs.Beneath.epochs.proofs.Running.{sweep_rises}
 
 -- ---- what a step does at its end
 
@@ -59,10 +60,6 @@ limbo_is state s o after (Goes d is a g) = refl
 limbo_is state s o after (Ends d is a) = refl
 limbo_is state s o after (Sweeps spent) = refl
 
-swept_grows : (pins : List (Option ℕ)) (r : Reclaimer) (due : Option Ref) → r.epoch ≤ (sweep_by pins r due).1.epoch
-swept_grows pins r (Some at) = omega arith
-swept_grows pins r None = cond_both (nat_le r.cursor (length pins)) _ _ (λ (done : Swept × Reclaimer). r.epoch ≤ done.1.epoch) (λ e. omega arith) (λ e. omega arith)
-
 pub gone_epoch : (state : State) (actor : ℕ) (operation : Operation) → (gone state actor operation).epoch ≡ state.epoch
 gone_epoch state actor operation = (acted_framed _ (handle_of operation.call) (action_of state operation)).epoch
 
@@ -70,7 +67,7 @@ pub epoch_grows : (state : State) (s : Step) (o : Outcome) (after : State) → M
 epoch_grows state s o after (Begins {actor} {call} d) = omega (arith, ap (λ (p : ℕ × ℕ). p.0) (begin_times state actor call (begun_operation state call)))
 epoch_grows state s o after (Goes {actor} {operation} d is a g) = omega (arith, gone_epoch state actor operation)
 epoch_grows state s o after (Ends d is a) = omega arith
-epoch_grows state s o after (Sweeps spent) = swept_grows (map pin_of state.actors) (reclaimer_of state) (ripe state.epoch state.limbo)
+epoch_grows state s o after (Sweeps spent) = sweep_rises (map pin_of state.actors) (reclaimer_of state) (ripe state.epoch state.limbo)
 
 -- ---- the effect of a step
 

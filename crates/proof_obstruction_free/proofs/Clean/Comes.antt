@@ -36,7 +36,7 @@ module _ (a : Lone) (steps : Stepping a) (weight : ℕ → ℕ) (c : ℕ) (heavy
 
     -- ---- where all are done
 
-    unchanged : (done : List Ref) (t : ℕ) → Stands a t g new_try → done ≡ entries → Cleans done t t
+    pub unchanged : (done : List Ref) (t : ℕ) → Stands a t g new_try → done ≡ entries → Cleans done t t
     unchanged done t s same = record {
       to = record {
         done = done;
@@ -49,7 +49,7 @@ module _ (a : Lone) (steps : Stepping a) (weight : ℕ → ℕ) (c : ℕ) (heavy
       kept = λ k lt. refl;
     }
 
-    changed : (done : List Ref) (t u : ℕ) → length done ≡ length entries → Contracts a steps weight c heavy g path main done t u → Cleans done t u
+    pub changed : (done : List Ref) (t u : ℕ) → length done ≡ length entries → Contracts a steps weight c heavy g path main done t u → Cleans done t u
     changed done t u size x = record {
       to = record {
         done = done;
@@ -79,7 +79,7 @@ module _ (a : Lone) (steps : Stepping a) (weight : ℕ → ℕ) (c : ℕ) (heavy
         by_so (inr x) = x.stands.until
 
     -- what comes of more entries comes of those before them
-    one_more : (done : List Ref) (x : Ref) (t v u : ℕ) → Settles a v (slice_index_or entries (length done) no_ref) x → Calm a t v → Cleans (done ++ x ∷ []) v u → Cleans done t u
+    pub one_more : (done : List Ref) (x : Ref) (t v u : ℕ) → Settles a v (slice_index_or entries (length done) no_ref) x → Calm a t v → Cleans (done ++ x ∷ []) v u → Cleans done t u
     one_more done x t v u is calm r =
         let size : length (done ++ x ∷ []) ≡ length done + 1 = length-append done (x ∷ []) in
         let on = calm_on a t v u calm (record { keeps = r.to.keeps; word = r.to.word }) in
@@ -106,7 +106,7 @@ module _ (a : Lone) (steps : Stepping a) (weight : ℕ → ℕ) (c : ℕ) (heavy
     From left = (done : List Ref) (t : ℕ) → length done + left ≡ length entries → Stands a t g (clean_line entries path main done) → W (Cleans done t) (left * (c + 2) + 2) t
 
     -- what the line is
-    abbrev line_by : List Ref → Bool → Line
+    abbrev pub line_by : List Ref → Bool → Line
     line_by done b = cond b (line.Clean (clean.Entry path main done)) (cond (pointwise nat_eq done entries) new_try (line.Clean (clean.Contracted path main done)))
 
     on_within : (left : ℕ) → From left → (done : List Ref) (t u : ℕ) → length done + suc left ≡ length entries → Advanced a steps g path main done t u → W (Cleans done t) (left * (c + 2) + 2) u

@@ -25,14 +25,14 @@ use Rattle.proof_obstruction_free.proofs.Pass.Chains.{one_main, way_apart, chain
 module _ (a : Lone) where
   module _ (steps : Stepping a) (weight : ℕ → ℕ) (c : ℕ) (heavy : IsWeight a weight) (machines : Machines a weight c) (path : List Ref) (r main below tomb single : Ref) (g : ℕ)
       (leads : Leads a (depth_of path) main below) (of : IsOf a below g) (is : node a tomb ≡ Tomb single) where
-    abbrev count : ℕ
+    abbrev pub count : ℕ
     count = length (entries_of (node a main))
 
-    abbrev Up : ℕ → Type 0
+    abbrev pub Up : ℕ → Type 0
     Up = IsCleanedUp a weight c r g path count
 
     -- what is known of the key's path while CLEAN reads
-    record Knows (t : ℕ) : Type 0 where
+    pub record Knows (t : ℕ) : Type 0 where
       pub current_root : IsCurrent a t r (Some g)
       pub chain : Chain a t r g path
       pub has : Has a t (current path) main
@@ -42,7 +42,7 @@ module _ (a : Lone) where
     still_current : (t u : ℕ) → Calm a t u → IsCurrent a t r (Some g) → IsCurrent a u r (Some g)
     still_current t u calm h = record { plain = calm.word r h.plain; own = h.own }
 
-    knows_later : (t u : ℕ) → Calm a t u → Knows t → Knows u
+    pub knows_later : (t u : ℕ) → Calm a t u → Knows t → Knows u
     knows_later t u calm k = record {
       current_root = still_current t u calm k.current_root;
       chain = chain_stays a t u r g path (λ n lt m has. calm.keeps (slice_index_or path n no_ref) m has) k.chain;
@@ -54,13 +54,13 @@ module _ (a : Lone) where
     -- ---- the SWAP
 
     module _ (t u : ℕ) (k : Knows t) (x : Cleans a steps weight c heavy machines (Some g) path main [] t u) where
-      here_too : Knows u
+      pub here_too : Knows u
       here_too = knows_later t u (record { keeps = x.to.keeps; word = x.to.word }) k
 
       each : (n : ℕ) → n < length x.to.done → IsCleaned a u (slice_index_or (entries_of (node a main)) n no_ref) (slice_index_or x.to.done n no_ref)
       each n lt = x.to.each n (omega arith) lt
 
-      swapped_up : (y : IsContracted a weight c (Some g) path main x.to.done u) (v : ℕ) → HasSwapped a weight c u (Some g) purpose.Clean (current path) y.fresh v → Up v
+      pub swapped_up : (y : IsContracted a weight c (Some g) path main x.to.done u) (v : ℕ) → HasSwapped a weight c u (Some g) purpose.Clean (current path) y.fresh v → Up v
       swapped_up y v h =
           let may = is_below_root path && leaves_single a x.to.done in
           record {
@@ -75,14 +75,20 @@ module _ (a : Lone) where
             alone = λ wrong. sym x.to.same_length ∙ one_left a may (bitmap_of (node a main)) x.to.done (subst (λ n. IsNoTomb a n → ⊥) y.branch wrong);
           }
 
-      comes_up : Within a weight Up 5 u
-      comes_up = by_so x.to.so
+      -- an entry has changed
+      pub contracted_there : IsContracted a weight c (Some g) path main x.to.done u
+      contracted_there = by_so x.to.so
         where
-          by_so : (Stands a u (Some g) new_try × (x.to.done ≡ entries_of (node a main))) ⊎ IsContracted a weight c (Some g) path main x.to.done u → Within a weight Up 5 u
+          by_so : (Stands a u (Some g) new_try × (x.to.done ≡ entries_of (node a main))) ⊎ IsContracted a weight c (Some g) path main x.to.done u →
+              IsContracted a weight c (Some g) path main x.to.done u
           by_so (inl s) = absurd (not_same a (depth_of path) main below g leads of u tomb single here_too.tombed is x.to.done x.to.same_length each s.1)
-          by_so (inr y) =
-              map a weight (HasSwapped a weight c u (Some g) purpose.Clean (current path) y.fresh) Up 5 u (λ v past within h. swapped_up y v h)
-              (machines.swaps_current purpose.Clean (current path) main y.fresh r u (Some g) y.stands here_too.current_root here_too.has)
+          by_so (inr y) = y
+
+      comes_up : Within a weight Up 5 u
+      comes_up =
+          let y = contracted_there in
+          map a weight (HasSwapped a weight c u (Some g) purpose.Clean (current path) y.fresh) Up 5 u (λ v past within h. swapped_up y v h)
+          (machines.swaps_current purpose.Clean (current path) main y.fresh r u (Some g) y.stands here_too.current_root here_too.has)
 
     -- ---- the lines before it
 

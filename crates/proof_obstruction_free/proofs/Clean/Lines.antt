@@ -66,7 +66,7 @@ module _ (a : Lone) (steps : Stepping a) (g : Option ℕ) (path : List Ref) (mai
     pub stands : Stands a u g (clean_line (entries_of (node a main)) path main (done ++ put ∷ []))
     pub calm : Calm a t u
 
-  earlier : (t u v : ℕ) → Calm a t u → Advanced u v → Advanced t v
+  pub earlier : (t u v : ℕ) → Calm a t u → Advanced u v → Advanced t v
   earlier t u v calm x = record { put = x.put; settles = x.settles; stands = x.stands; calm = calm_on a t u v calm x.calm }
 
   -- by the branch that is found

@@ -1,5 +1,5 @@
 -- The new main node of CLEAN, where one actor alone takes steps: it is of the entries that are done.
-use Rattle.std.proofs.Common.{◌≡◌, ℕ, suc, ◌<◌, ◌≤◌, ◌&&◌, Bool, true, false, List, [], ◌∷◌, All, Option, Some, None, refl, sym, ap, ◌∙◌, arith}
+use Rattle.std.proofs.Common.{◌≡◌, ℕ, suc, ◌<◌, ◌≤◌, ◌⊎◌, inl, inr, ◌&&◌, Bool, true, false, List, [], ◌∷◌, All, Option, Some, None, refl, sym, ap, ◌∙◌, arith}
 use Rattle.std.proofs.lemmas.Bool.{false≢true}
 use Rattle.std.proofs.lemmas.List.Elements.{All-head}
 use Rattle.proof_obstruction_free.specs.Beneath.history.specs.declared.replies.Reply.TheVariants as reply
@@ -68,14 +68,20 @@ module _ (a : Lone) (steps : Stepping a) where
           ∙ ap (λ b. contracted (is_below_root path && b) (bitmap_of (node_at (a.states t).heap main)) done) (leaves_same t s.until done found.entries)
           ∙ ap (λ n. contracted (is_below_root path && leaves_single a done) (bitmap_of n) done) found.branch
 
-      by_made : (o : Option Ref) → next_ref (a.states t).heap ≡ o → Stands a (suc t) g (clean_after_contracted path main o) → Within a weight (Contracts t) 1 (suc t)
-      by_made None e stands = ended a weight steps (Contracts t) (suc t) g reply.NoSlots stands
-      by_made (Some made) e stands =
-          weaken a weight (Contracts t) 0 1 (suc t) (omega arith)
-          (here a weight (Contracts t) (suc t) (record { so = record { fresh = made; stands = stands; branch = node_made made e }; calm = calm }))
+      by_made : (o : Option Ref) → next_ref (a.states t).heap ≡ o → Stands a (suc t) g (clean_after_contracted path main o) → Contracts t (suc t) ⊎ Stands a (suc t) g (line.End reply.NoSlots)
+      by_made None e stands = inr stands
+      by_made (Some made) e stands = inl (record { so = record { fresh = made; stands = stands; branch = node_made made e }; calm = calm })
+
+      -- its SWAP, or the end where no slot is free
+      pub by_contracted : Contracts t (suc t) ⊎ Stands a (suc t) g (line.End reply.NoSlots)
+      by_contracted = by_made (next_ref (a.states t).heap) refl next
 
       contracted_next : Within a weight (Contracts t) 1 (suc t)
-      contracted_next = by_made (next_ref (a.states t).heap) refl next
+      contracted_next = by by_contracted
+        where
+          by : Contracts t (suc t) ⊎ Stands a (suc t) g (line.End reply.NoSlots) → Within a weight (Contracts t) 1 (suc t)
+          by (inl x) = weaken a weight (Contracts t) 0 1 (suc t) (omega arith) (here a weight (Contracts t) (suc t) x)
+          by (inr stands) = ended a weight steps (Contracts t) (suc t) g reply.NoSlots stands
 
     pub contracted_within : (t : ℕ) → Stands a t g (line.Clean (clean.Contracted path main done)) → Within a weight (Contracts t) 2 t
     contracted_within t s = one a weight heavy (Contracts t) 1 t g (line.Clean (clean.Contracted path main done)) s tt (λ more. contracted_next t s more)

@@ -22,7 +22,7 @@ use Rattle.proof_obstruction_free.specs.Stepping.{Stepping}
 use Rattle.proof_obstruction_free.proofs.Step.Within.{weaken, bind}
 use Rattle.proof_obstruction_free.proofs.Climb.Lines.{climb_read, climb_gives, climb_holds_read, climb_main_on, climb_made_on, climb_swapped, ended_soon}
 
-same_root : (r q : Ref) → Plain r ≡ Plain q → r ≡ q
+pub same_root : (r q : Ref) → Plain r ≡ Plain q → r ≡ q
 same_root r q e = cc e
 
 -- one level higher

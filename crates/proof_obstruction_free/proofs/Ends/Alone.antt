@@ -179,7 +179,7 @@ module _ (limits : Limits) (steps : List Step) (actor : ℕ) (operation : Operat
       let next : n + suc k ≡ suc (n + k) = omega arith in
       ap after next ∙ one_more limits steps actor (n + k) ∙ rests (after (n + k)) (ap (λ (x : State). operation_of x actor) before ∙ idle) ∙ before
 
-  has_ended : (n : ℕ) → EndedBefore n → HasEnded (after n) actor operation.id
+  pub has_ended : (n : ℕ) → EndedBefore n → HasEnded (after n) actor operation.id
   has_ended n ended =
       let rest : suc ended.at + (n - suc ended.at) ≡ n = omega (arith, ended.before) in
       let same : after n ≡ after (suc ended.at) = ap after (sym rest) ∙ stays (suc ended.at) (n - suc ended.at) ended.idle in

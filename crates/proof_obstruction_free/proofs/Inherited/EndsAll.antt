@@ -9,7 +9,7 @@ use Rattle.proof_obstruction_free.specs.Keys.{IsOnKey}
 use Rattle.proof_obstruction_free.specs.Laws.{AloneItEnds, EachStepLeadsToItsEnd, IsOnKeyOrRoot, most_steps_alone}
 use Rattle.proof_obstruction_free.proofs.Copy.Ends.{no_long_copy}
 use Rattle.proof_obstruction_free.proofs.Ends.Alone.{NoneIsLong, ends_alone, steps_lead_to_the_end}
-use Rattle.proof_obstruction_free.proofs.Weights.Fine.{fine, fine_at_most, fine_weighing}
+use Rattle.proof_obstruction_free.proofs.Weights.Fine.{fine, fine_at_most, fine_weighing, quiet}
 use Rattle.proof_obstruction_free.proofs.Reader.Ends.{no_long_reader}
 use Rattle.proof_obstruction_free.proofs.Root.Machines.{machines}
 use Rattle.proof_obstruction_free.proofs.Step.Step.{stepping}
@@ -21,7 +21,7 @@ writes_end a on writes long =
     let weighing = fine_weighing a in
     let at_most = fine_at_most a a.start in
     let actors = a.run.limits_ok.3 in
-    (fine_ends a (fine a) 2 weighing.quiet (stepping a) (machines a (fine a) 5 1 2 weighing (omega arith) (omega arith) (omega arith)) on writes (omega (arith, fine_most_is, at_most, actors, long))).3
+    (fine_ends a (fine a) 2 (quiet a) (stepping a) (machines a (fine a) 5 1 2 weighing (omega arith) (omega arith) (omega arith)) on writes (omega (arith, fine_most_is, at_most, actors, long))).3
 
 by_access : (a : Lone) → IsOnKey a.own.call → (x : Access) → a.own.access ≡ x → a.start + most_steps_alone ≤ a.last → ⊥
 by_access a on Writable e long = writes_end a on e long

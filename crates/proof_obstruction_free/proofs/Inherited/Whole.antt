@@ -15,7 +15,8 @@ use Rattle.proof_obstruction_free.specs.Beneath.machine_model.specs.Lines.{new_t
 use Rattle.proof_obstruction_free.specs.Beneath.machine_model.specs.Paths.{current, depth_of}
 use Rattle.proof_obstruction_free.specs.Beneath.machine_model.specs.Reading.{reading}
 use Rattle.proof_obstruction_free.specs.Beneath.machine_model.specs.Swapping.{swapping}
-use Rattle.proof_obstruction_free.specs.Beneath.proof_shape.proofs.Lines.Placed.{is_below, is_down}
+use Rattle.proof_obstruction_free.specs.Beneath.proof_shape.proofs.Lines.Leads.{is_down}
+use Rattle.proof_obstruction_free.specs.Beneath.proof_shape.proofs.Lines.Placed.{is_below}
 use Rattle.proof_obstruction_free.specs.Beneath.proof_shape.proofs.Lines.Places.{settled_at}
 use Rattle.proof_obstruction_free.specs.Alone.{IsWeight, Lone, Stands, Within}
 use Rattle.proof_obstruction_free.specs.Bounds.{cleaning_most, fresh_most, rooted_most, stale_bottom_most}

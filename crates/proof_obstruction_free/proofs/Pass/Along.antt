@@ -94,7 +94,7 @@ module _ (a : Lone) (weight : ℕ → ℕ) (c : ℕ) (heavy : IsWeight a weight)
           ap (λ p. get_or p (suc (depth_of first)) no_ref) whole ∙ ap (λ n. get_or (first ++ b ∷ rest) n no_ref) place ∙ get_or-append_seam first b rest no_ref
 
       -- the next one, by its main node
-      leads_there : (u : ℕ) (m : Ref) → Chain a u r g path → Has a u (current first) m → Leads a (depth_of first) m b × IsOf a b g
+      pub leads_there : (u : ℕ) (m : Ref) → Chain a u r g path → Has a u (current first) m → Leads a (depth_of first) m b × IsOf a b g
       leads_there u m chain has =
           let (n, there, leads) = chain.links (depth_of first) below_it in
           let same : n ≡ m = one_main a u (current first) n m (subst (λ i. Has a u i n) at there) has in
@@ -131,7 +131,7 @@ module _ (a : Lone) (weight : ℕ → ℕ) (c : ℕ) (heavy : IsWeight a weight)
     own_is : Some (generation a rooted.root) ≡ Some g
     own_is = ap (λ i. Some (generation a i)) root_is ∙ sym current_root.own
 
-    starts : Stands a u (Some g) (line.Key (key.Read (r ∷ []) (reading r)))
+    pub starts : Stands a u (Some g) (line.Key (key.Read (r ∷ []) (reading r)))
     starts = stands_as a u (Some (generation a rooted.root)) (Some g) (from_root a.own.call rooted.root) (going_down [] r) own_is
         (key_begins a.own.call on rooted.root ∙ ap (going_down []) root_is) rooted.stands
 

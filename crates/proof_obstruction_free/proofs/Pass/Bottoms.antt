@@ -48,7 +48,7 @@ module _
       pub current_root : IsCurrent a t r (Some g)
       pub has : Has a t (current path) main
 
-    fresh_on : (t u : ℕ) → Keeps a t u → WordStays a t u → Fresh t → Fresh u
+    pub fresh_on : (t u : ℕ) → Keeps a t u → WordStays a t u → Fresh t → Fresh u
     fresh_on t u keeps word f =
         record { current_root = record { plain = word r f.current_root.plain; own = f.current_root.own }; has = keeps (current path) main f.has }
 
@@ -66,7 +66,7 @@ module _
     abbrev after_build : ℕ
     after_build = 30 + (5 + levels c)
 
-    built_in : (l : BuildLine) (t : ℕ) → Fresh t → Stands a t (Some g) (line.Build l) → build_path l ≡ path → main_of_build l ≡ main → W Nothing after_build t
+    pub built_in : (l : BuildLine) (t : ℕ) → Fresh t → Stands a t (Some g) (line.Build l) → build_path l ≡ path → main_of_build l ≡ main → W Nothing after_build t
     built_in l t f now way is =
         bind a weight (IsBuilt a weight c t (Some g) path main) Nothing 30 (5 + levels c) t
         (subst (λ p. W (IsBuilt a weight c t (Some g) p main) 30 t) way (subst (λ m. W (IsBuilt a weight c t (Some g) (build_path l) m) 30 t) is (builds_on a weight c heavy steps l t (Some g) now)))
@@ -74,57 +74,62 @@ module _
 
     -- ---- the main node
 
-    module _ (t : ℕ) (f : Fresh t) (now : Stands a t (Some g) (line.Key (key.Main path main))) (ends : IsEnd a (depth_of path) main) (no_tomb : IsNoTomb a (node a main)) where
-      main_found : node_at (a.states t).heap main ≡ node a main
-      main_found =
-          let wanted = steps.wants t (Some g) (line.Key (key.Main path main)) now in
-          steps.node_found t main now.until (safe_of wanted.1.1.0) (main_plain (node_at (a.states t).heap main) (meets_of wanted.1.1.0))
+    -- what comes from BUILD within m steps comes from the main node
+    module _ (Q : ℕ → Type 0) (m : ℕ) (some : 1 ≤ m)
+        (follows : (l : BuildLine) (t : ℕ) → Fresh t → Stands a t (Some g) (line.Build l) → build_path l ≡ path → main_of_build l ≡ main → W Q m t) where
+      module _ (t : ℕ) (f : Fresh t) (now : Stands a t (Some g) (line.Key (key.Main path main))) (ends : IsEnd a (depth_of path) main) (no_tomb : IsNoTomb a (node a main)) where
+        main_found : node_at (a.states t).heap main ≡ node a main
+        main_found =
+            let wanted = steps.wants t (Some g) (line.Key (key.Main path main)) now in
+            steps.node_found t main now.until (safe_of wanted.1.1.0) (main_plain (node_at (a.states t).heap main) (meets_of wanted.1.1.0))
 
-      -- the flag is that of the call's key
-      flag_is : flag_in (a.states t) now.operation path ≡ flag_at a (depth_of path)
-      flag_is =
-          ap (λ (l : Limits). flag_of (hash_of l.hash (key_of now.operation.call)) (depth_of path)) (limits_at a.limits a.states a.last a.run t now.until)
-          ∙ ap (λ k. flag_of (hash_of a.limits.hash (key_of k)) (depth_of path)) now.call
+        -- the flag is that of the call's key
+        flag_is : flag_in (a.states t) now.operation path ≡ flag_at a (depth_of path)
+        flag_is =
+            ap (λ (l : Limits). flag_of (hash_of l.hash (key_of now.operation.call)) (depth_of path)) (limits_at a.limits a.states a.last a.run t now.until)
+            ∙ ap (λ k. flag_of (hash_of a.limits.hash (key_of k)) (depth_of path)) now.call
 
-      -- an indirection at the key's place would lead on
-      no_link : (bitmap : ℕ) (entries : ArrayVec Ref) → node a main ≡ Branch bitmap entries → has_flag bitmap (flag_in (a.states t) now.operation path) ≡ true →
-          (h : ℕ) (m : Ref) → node a (slice_index_or (entries_of (node a main)) (position_of (flag_in (a.states t) now.operation path) bitmap) no_ref) ≡ Indirection h m → ⊥
-      no_link bitmap entries is flagged h m link = ends (slice_index_or (entries_of (node a main)) (position_of (flag_in (a.states t) now.operation path) bitmap) no_ref) h (record {
-        bitmap = bitmap;
-        entries = entries;
-        branch = is;
-        flagged = subst (λ x. has_flag bitmap x ≡ true) flag_is flagged;
-        entry = ap (λ n. slice_index_or (entries_of n) (position_of (flag_at a (depth_of path)) bitmap) no_ref) (sym is)
-            ∙ ap (λ x. slice_index_or (entries_of (node a main)) (position_of x bitmap) no_ref) (sym flag_is);
-      }) (m, link)
+        -- an indirection at the key's place would lead on
+        no_link : (bitmap : ℕ) (entries : ArrayVec Ref) → node a main ≡ Branch bitmap entries → has_flag bitmap (flag_in (a.states t) now.operation path) ≡ true →
+            (h : ℕ) (m : Ref) → node a (slice_index_or (entries_of (node a main)) (position_of (flag_in (a.states t) now.operation path) bitmap) no_ref) ≡ Indirection h m → ⊥
+        no_link bitmap entries is flagged h m link = ends (slice_index_or (entries_of (node a main)) (position_of (flag_in (a.states t) now.operation path) bitmap) no_ref) h (record {
+          bitmap = bitmap;
+          entries = entries;
+          branch = is;
+          flagged = subst (λ x. has_flag bitmap x ≡ true) flag_is flagged;
+          entry = ap (λ n. slice_index_or (entries_of n) (position_of (flag_at a (depth_of path)) bitmap) no_ref) (sym is)
+              ∙ ap (λ x. slice_index_or (entries_of (node a main)) (position_of x bitmap) no_ref) (sym flag_is);
+        }) (m, link)
 
-      from_main : Fresh (suc t) → (n : Node) → node a main ≡ n → Stands a (suc t) (Some g) (key_after_main (a.states t) now.operation path main n) → W Nothing (after_build + 33) (suc t)
-      from_main f (Branch bitmap entries) is next = by_flag (has_flag bitmap (flag_in (a.states t) now.operation path)) refl next
-        where
-          by_flag : (b : Bool) → has_flag bitmap (flag_in (a.states t) now.operation path) ≡ b →
-              Stands a (suc t) (Some g) (if b then line.Key (key.Entry path main (position_of (flag_in (a.states t) now.operation path) bitmap)) else absent now.operation path main) →
-              W Nothing (after_build + 33) (suc t)
-          by_flag true flagged next =
-              weaken a weight Nothing (after_build + 2) (after_build + 33) (suc t) (omega arith)
-              (entry_ends a weight heavy steps path main (Some g) Fresh fresh_next Nothing after_build (omega arith) built_in (suc t) f
-              (position_of (flag_in (a.states t) now.operation path) bitmap) next
-              (λ h x link. let (m, its) = entry_link a steps path main (position_of (flag_in (a.states t) now.operation path) bitmap) (suc t)
-              (Some g) next h x link in no_link bitmap entries is flagged h m its))
-          by_flag false flagged next =
-              weaken a weight Nothing after_build (after_build + 33) (suc t) (omega arith)
-              (absent_ends a weight heavy steps path main (Some g) Fresh fresh_next Nothing after_build (omega arith) built_in (suc t) f now.operation next)
-      from_main f (Listed singles) is next = list_ends a weight heavy steps path main (Some g) Fresh fresh_next Nothing after_build (omega arith) built_in (suc t) f 0 next
-      from_main f (Tomb single) is next = absurd (subst (λ n. IsNoTomb a n) is no_tomb)
-      from_main f (Indirection h x) is next = absurd (never a (suc t) (Some g) next)
-      from_main f (Single k v) is next = absurd (never a (suc t) (Some g) next)
+        from_main : Fresh (suc t) → (n : Node) → node a main ≡ n → Stands a (suc t) (Some g) (key_after_main (a.states t) now.operation path main n) → W Q (m + 33) (suc t)
+        from_main f (Branch bitmap entries) is next = by_flag (has_flag bitmap (flag_in (a.states t) now.operation path)) refl next
+          where
+            by_flag : (b : Bool) → has_flag bitmap (flag_in (a.states t) now.operation path) ≡ b →
+                Stands a (suc t) (Some g) (if b then line.Key (key.Entry path main (position_of (flag_in (a.states t) now.operation path) bitmap)) else absent now.operation path main) →
+                W Q (m + 33) (suc t)
+            by_flag true flagged next =
+                weaken a weight Q (m + 2) (m + 33) (suc t) (omega arith)
+                (entry_ends a weight heavy steps path main (Some g) Fresh fresh_next Q m some follows (suc t) f
+                (position_of (flag_in (a.states t) now.operation path) bitmap) next
+                (λ h x link. let (m, its) = entry_link a steps path main (position_of (flag_in (a.states t) now.operation path) bitmap) (suc t)
+                (Some g) next h x link in no_link bitmap entries is flagged h m its))
+            by_flag false flagged next =
+                weaken a weight Q m (m + 33) (suc t) (omega arith)
+                (absent_ends a weight heavy steps path main (Some g) Fresh fresh_next Q m some follows (suc t) f now.operation next)
+        from_main f (Listed singles) is next = list_ends a weight heavy steps path main (Some g) Fresh fresh_next Q m some follows (suc t) f 0 next
+        from_main f (Tomb single) is next = absurd (subst (λ n. IsNoTomb a n) is no_tomb)
+        from_main f (Indirection h x) is next = absurd (never a (suc t) (Some g) next)
+        from_main f (Single k v) is next = absurd (never a (suc t) (Some g) next)
 
-      from_here : W Nothing (after_build + 33 + 1) t
-      from_here =
-          quiet_on a weight heavy steps Nothing (after_build + 33) t (Some g) (line.Key (key.Main path main)) now tt tt tt refl
-          (λ next keeps word. from_main (fresh_next t keeps word f) (node_at (a.states t).heap main) (sym main_found) next)
+        pub from_here : W Q (m + 33 + 1) t
+        from_here =
+            quiet_on a weight heavy steps Q (m + 33) t (Some g) (line.Key (key.Main path main)) now tt tt tt refl
+            (λ next keeps word. from_main (fresh_next t keeps word f) (node_at (a.states t).heap main) (sym main_found) next)
 
 pub bottom_ends : (a : Lone) (weight : ℕ → ℕ) (c : ℕ) → IsWeight a weight → Stepping a → Machines a weight c → BottomEnds a weight c
 bottom_ends a weight c heavy steps machines path r main t g now current_root has ends no_tomb =
     let short = short_way a t (Some g) (line.Key (key.Main path main)) now in
-    weaken a weight (λ u. ⊥) (30 + (5 + (14 * (c + 12) + 3)) + 33 + 1) (14 * (c + 12) + 80) t (omega arith)
-    (from_here a weight c heavy steps machines path r main g short t (record { current_root = current_root; has = has }) now ends no_tomb)
+    let builds = 30 + (5 + (14 * (c + 12) + 3)) in
+    weaken a weight (λ u. ⊥) (builds + 33 + 1) (14 * (c + 12) + 80) t (omega arith)
+    (from_here a weight c heavy steps machines path r main g short (λ u. ⊥) builds (omega arith) (built_in a weight c heavy steps machines path r main g short)
+    t (record { current_root = current_root; has = has }) now ends no_tomb)

@@ -54,13 +54,13 @@ module _ (a : Lone) (weight : ℕ → ℕ) (c : ℕ) (heavy : IsWeight a weight)
   step_stays t g l s more no_end leaves = same_stays a t (suc t) (steps.words t g l s more no_end leaves)
 
   -- after a step from the main node, at its entry
-  record AtEntry (r : Ref) (g : ℕ) (path : List Ref) (main below : Ref) (x : Leads a (depth_of path) main below) (t : ℕ) : Type 0 where
+  pub record AtEntry (r : Ref) (g : ℕ) (path : List Ref) (main below : Ref) (x : Leads a (depth_of path) main below) (t : ℕ) : Type 0 where
     pub stands : Stands a t (Some g) (line.Key (key.Entry path main (position_of (flag_at a (depth_of path)) x.bitmap)))
     pub current_root : IsCurrent a t r (Some g)
     pub chain : Chain a t r g path
     pub has : Has a t (current path) main
 
-  at_entry : (r : Ref) (g : ℕ) (path : List Ref) (main below : Ref) (t : ℕ) → AtMain r g path main t → (x : Leads a (depth_of path) main below) → t < a.last → AtEntry r g path main below x (suc t)
+  pub at_entry : (r : Ref) (g : ℕ) (path : List Ref) (main below : Ref) (t : ℕ) → AtMain r g path main t → (x : Leads a (depth_of path) main below) → t < a.last → AtEntry r g path main below x (suc t)
   at_entry r g path main below t m x more =
       let keeps = steps.keeps t (Some g) (line.Key (key.Main path main)) m.stands more tt tt in
       record {
@@ -71,7 +71,7 @@ module _ (a : Lone) (weight : ℕ → ℕ) (c : ℕ) (heavy : IsWeight a weight)
       }
 
   -- down to an indirection of the root's generation
-  goes_on : (r : Ref) (g : ℕ) (path : List Ref) (main below : Ref) (t : ℕ) (x : Leads a (depth_of path) main below) → AtEntry r g path main below x t →
+  pub goes_on : (r : Ref) (g : ℕ) (path : List Ref) (main below : Ref) (t : ℕ) (x : Leads a (depth_of path) main below) → AtEntry r g path main below x t →
       IsOf a below g → t < a.last → IsDown a weight c r g path (suc t)
   goes_on r g path main below t x e of more =
       let l = line.Key (key.Entry path main (position_of (flag_at a (depth_of path)) x.bitmap)) in
@@ -104,13 +104,13 @@ module _ (a : Lone) (weight : ℕ → ℕ) (c : ℕ) (heavy : IsWeight a weight)
     -- ---- where all entries were renewed
 
     -- what a fresh pass knows as it comes to RENEW
-    record AtRenewal (r : Ref) (g : ℕ) (path : List Ref) (main : Ref) (t : ℕ) : Type 0 where
+    pub record AtRenewal (r : Ref) (g : ℕ) (path : List Ref) (main : Ref) (t : ℕ) : Type 0 where
       pub current_root : IsCurrent a t r (Some g)
       pub chain : Chain a t r g path
       pub has : Has a t (current path) main
 
     -- what a RENEW that swapped left
-    record Renewed (g : ℕ) (main fresh : Ref) : Type 0 where
+    pub record Renewed (g : ℕ) (main fresh : Ref) : Type 0 where
       pub done : List Ref
       pub short : length done ≤ 32
       pub same_length : length done ≡ length (entries_of (node a main))

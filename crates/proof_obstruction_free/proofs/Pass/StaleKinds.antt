@@ -23,7 +23,7 @@ use Rattle.proof_obstruction_free.specs.Beneath.machine_model.proofs.Times.{at_e
 use Rattle.proof_obstruction_free.specs.Beneath.machine_model.specs.Times.{IsRun}
 use Rattle.proof_obstruction_free.specs.Beneath.proof_generations.proofs.Handles.Running.{Comes, began, comes, place_of_actor, rested, went}
 use Rattle.proof_obstruction_free.specs.Beneath.proof_generations.specs.Running.{Runs}
-use Rattle.proof_obstruction_free.specs.Beneath.proof_shape.proofs.Lines.Placed.{build_down, clean_down, climb_down, is_down, key_down, renew_down, swap_down}
+use Rattle.proof_obstruction_free.specs.Beneath.proof_shape.proofs.Lines.Leads.{is_down, key_leads, build_leads, swap_leads, renew_leads, clean_leads, climb_leads}
 use Rattle.proof_obstruction_free.specs.Keys.{IsOnKey}
 
 -- neither of the lines
@@ -53,12 +53,12 @@ root_down operation call e on (Gives r) = absurd on
 
 down_after : (state : State) (operation : Operation) → IsOnKey operation.call → (l : Line) → is_down l ≡ true → is_down (line_after state operation l) ≡ true
 down_after state operation on (line.Root l) e = root_down operation operation.call refl on (root_after state.heap operation.access (word_at state (handle_of operation.call)) l)
-down_after state operation on (line.Key l) e = key_down state operation l
-down_after state operation on (line.Build l) e = build_down state operation l
-down_after state operation on (line.Swap why s) e = swap_down state operation why s
-down_after state operation on (line.Renew l) e = renew_down state operation l
-down_after state operation on (line.Clean l) e = clean_down state operation l
-down_after state operation on (line.Climb l) e = climb_down state operation l
+down_after state operation on (line.Key l) e = (key_leads state operation l).1
+down_after state operation on (line.Build l) e = (build_leads state operation l).1
+down_after state operation on (line.Swap why s) e = (swap_leads state operation why s).0
+down_after state operation on (line.Renew l) e = (renew_leads state operation l).1
+down_after state operation on (line.Clean l) e = (clean_leads state operation l).1
+down_after state operation on (line.Climb l) e = (climb_leads state operation l).0
 down_after state operation on (line.Copy l) e = absurd (false≢true e)
 down_after state operation on (line.Walk l) e = absurd (false≢true e)
 down_after state operation on (line.End answer) e = refl

@@ -16,7 +16,7 @@ use Rattle.proof_obstruction_free.specs.Beneath.machine_model.specs.Reading.{ver
 use Rattle.proof_obstruction_free.specs.Beneath.machine_model.specs.Grown.{grown, main_word, prev_word}
 use Rattle.proof_obstruction_free.specs.Beneath.proof_commits.proofs.Known.Given.{GrownStays, GrownChanges, Either, Decided}
 use Rattle.proof_obstruction_free.specs.Beneath.proof_commits.proofs.Words.OfRuns.{link_made}
-use Rattle.proof_obstruction_free.specs.Alone.{Lone, Stands, Within, IsPlain, IsQuiet, word}
+use Rattle.proof_obstruction_free.specs.Alone.{Lone, Stands, Within, IsPlain, IsStill, word}
 use Rattle.proof_obstruction_free.specs.Machines.{HoldsRead, IsRead, ReadsFirst, lead}
 use Rattle.proof_obstruction_free.specs.Weighing.{Weighing, Sees}
 use Rattle.proof_obstruction_free.proofs.Step.Within.{Comes, at_once, within, keeps_now, keeps_on, stays, stays_on}
@@ -54,7 +54,7 @@ module _ (a : Lone) (weight : ℕ → ℕ) (x f : ℕ) (wt : Weighing a weight x
   given : (t b : ℕ) (m : Ref) → weight t ≤ b → Stands a t g (gives m) → Sees a t i m prev.None → C (P t) b t
   given t b m enough s sees = at_once a weight (P t) b t enough (record { main = m; stands = s; has = sees_has a t i m sees; keeps = keeps_now a t; word = stays a t })
 
-  quiet : (t : ℕ) (l : ReadLine) → S t l → t < a.last → IsQuiet (read_action i l) → weight (suc t) ≤ weight t
+  quiet : (t : ℕ) (l : ReadLine) → S t l → t < a.last → IsStill (read_action i l) → weight (suc t) ≤ weight t
   quiet t l s more is = light a wrap gives i h weight wt.quiet t g l s more is
 
   -- ---- the node before is put back

@@ -14,7 +14,7 @@ use Rattle.proof_obstruction_free.specs.Beneath.machine_model.specs.Grown.{main_
 use Rattle.proof_obstruction_free.specs.Beneath.proof_commits.proofs.Known.Given.{Decided}
 use Rattle.proof_obstruction_free.specs.Beneath.proof_commits.proofs.Words.OfRuns.{link_made}
 use Rattle.proof_obstruction_free.specs.Beneath.proof_generations.proofs.Falling.KnownRoots.{reads_on}
-use Rattle.proof_obstruction_free.specs.Alone.{Lone, Stands, IsPlain, IsQuiet, generation}
+use Rattle.proof_obstruction_free.specs.Alone.{Lone, Stands, IsPlain, IsStill, generation}
 use Rattle.proof_obstruction_free.specs.Machines.{HoldsRead, lead}
 use Rattle.proof_obstruction_free.specs.Weighing.{Weighing, Sees}
 use Rattle.proof_obstruction_free.proofs.Step.Within.{Comes}
@@ -47,7 +47,7 @@ module _ (a : Lone) (weight : ℕ → ℕ) (x f : ℕ) (wt : Weighing a weight x
   given : (t b : ℕ) (m : Ref) → weight t ≤ b → Stands a t g (gives m) → C (P t) b t
   given = On.given a weight x f wt wrap gives i h c g two three seven
 
-  quiet : (t : ℕ) (l : ReadLine) → S t l → t < a.last → IsQuiet (read_action i l) → weight (suc t) ≤ weight t
+  quiet : (t : ℕ) (l : ReadLine) → S t l → t < a.last → IsStill (read_action i l) → weight (suc t) ≤ weight t
   quiet = On.quiet a weight x f wt wrap gives i h c g two three seven
 
   -- the generation that is told stays that of the root

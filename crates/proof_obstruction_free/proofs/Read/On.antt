@@ -17,7 +17,7 @@ use Rattle.proof_obstruction_free.specs.Beneath.proof_commits.proofs.Known.Given
 use Rattle.proof_obstruction_free.specs.Beneath.proof_commits.proofs.Words.Stood.{Stood}
 use Rattle.proof_obstruction_free.specs.Beneath.proof_commits.proofs.Words.OfRuns.{link_made}
 use Rattle.proof_obstruction_free.specs.Beneath.proof_commits.proofs.Lines.Read.{pending_so, not_pending_so}
-use Rattle.proof_obstruction_free.specs.Alone.{Lone, Stands, IsPlain, IsQuiet, word}
+use Rattle.proof_obstruction_free.specs.Alone.{Lone, Stands, IsPlain, IsStill, word}
 use Rattle.proof_obstruction_free.specs.Machines.{HoldsRead, IsRead, WasRead, ReadsOn, lead}
 use Rattle.proof_obstruction_free.specs.Weighing.{Weighing, Sees}
 use Rattle.proof_obstruction_free.proofs.Step.Within.{Comes, at_once, comes_map, within, keeps_now, keeps_on, stays, stays_on}
@@ -55,7 +55,7 @@ module _ (a : Lone) (weight : ℕ → ℕ) (x f : ℕ) (wt : Weighing a weight x
   pub was_read : (t b : ℕ) → C (λ u. IsRead a weight c t g gives i u) b t → C (P t) b t
   was_read t b found = comes_map a weight _ (P t) b t (λ u from to is. record { main = is.main; stands = is.stands; keeps = is.keeps; word = is.word }) found
 
-  pub quiet : (t : ℕ) (l : ReadLine) → S t l → t < a.last → IsQuiet (read_action i l) → weight (suc t) ≤ weight t
+  pub quiet : (t : ℕ) (l : ReadLine) → S t l → t < a.last → IsStill (read_action i l) → weight (suc t) ≤ weight t
   quiet t l s more is = light a wrap gives i h weight wt.quiet t g l s more is
 
   pub from_main : (t b : ℕ) → S t read.Main → c + weight t ≤ b → C (P t) b t

@@ -9,11 +9,11 @@ use Rattle.proof_obstruction_free.specs.Beneath.machine_model.specs.declared.roo
 use Rattle.proof_obstruction_free.specs.Beneath.machine_model.specs.declared.roots.RootWord.TheVariants.{Plain, Offer}
 use Rattle.proof_obstruction_free.specs.Beneath.machine_model.specs.Operations.{line_action}
 use Rattle.proof_obstruction_free.specs.Beneath.machine_model.specs.Reading.{read_action, read_after}
-use Rattle.proof_obstruction_free.specs.Alone.{Lone, Stands, Keeps, WordStays, IsQuiet, IsWeight, word}
+use Rattle.proof_obstruction_free.specs.Alone.{Lone, Stands, Keeps, WordStays, IsStill, IsStillWeight, word}
 use Rattle.proof_obstruction_free.specs.Machines.{HoldsRead, lead}
 use Rattle.proof_obstruction_free.specs.Stepping.{LeavesWords}
 use Rattle.proof_obstruction_free.specs.Weighing.{Acts}
-use Rattle.proof_obstruction_free.proofs.Step.Within.{Comes, lighter, same_stays}
+use Rattle.proof_obstruction_free.proofs.Step.Within.{Comes, lighter_still, same_stays}
 use Rattle.proof_obstruction_free.proofs.Weights.Offers.{stays_plain, taken_back}
 use Rattle.proof_obstruction_free.proofs.Weights.NonePending.{IsNoPublish, none_pending}
 use Rattle.proof_obstruction_free.proofs.Read.Words.{keeps_unless}
@@ -94,6 +94,6 @@ module _ (a : Lone) (wrap : ReadLine → Line) (gives : Ref → Line) (i : Ref) 
     is = ap (line_action (a.states t) s.operation) s.line ∙ action t g l s;
   }
 
-  -- a quiet step adds no weight
-  pub light : (weight : ℕ → ℕ) → IsWeight a weight → (t : ℕ) (g : Option ℕ) (l : ReadLine) → Stands a t g (wrap l) → t < a.last → IsQuiet (read_action i l) → weight (suc t) ≤ weight t
-  light weight quiet t g l s more is = lighter a weight quiet t g (wrap l) s more (subst IsQuiet (sym (action t g l s)) is)
+  -- a still step adds no weight
+  pub light : (weight : ℕ → ℕ) → IsStillWeight a weight → (t : ℕ) (g : Option ℕ) (l : ReadLine) → Stands a t g (wrap l) → t < a.last → IsStill (read_action i l) → weight (suc t) ≤ weight t
+  light weight quiet t g l s more is = lighter_still a weight quiet t g (wrap l) s more (subst IsStill (sym (action t g l s)) is)

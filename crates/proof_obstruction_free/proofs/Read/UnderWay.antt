@@ -10,7 +10,7 @@ use Rattle.proof_obstruction_free.specs.Beneath.machine_model.specs.declared.rea
 use Rattle.proof_obstruction_free.specs.Beneath.machine_model.specs.Reading.{verdict_by, is_licensed, is_pending, read_action, after_ask, after_decide}
 use Rattle.proof_obstruction_free.specs.Beneath.machine_model.specs.Grown.{prev_word}
 use Rattle.proof_obstruction_free.specs.Beneath.proof_commits.proofs.Lines.Read.{pending_so, not_pending_so}
-use Rattle.proof_obstruction_free.specs.Alone.{Lone, Stands, IsPlain, IsQuiet, generation}
+use Rattle.proof_obstruction_free.specs.Alone.{Lone, Stands, IsPlain, IsStill, generation}
 use Rattle.proof_obstruction_free.specs.Machines.{HoldsRead, lead}
 use Rattle.proof_obstruction_free.specs.Weighing.{Weighing}
 use Rattle.proof_obstruction_free.proofs.Step.Within.{Comes}
@@ -42,7 +42,7 @@ module _ (a : Lone) (weight : ℕ → ℕ) (x f : ℕ) (wt : Weighing a weight x
   counts : Counts a wrap gives i h P
   counts = On.counts a weight x f wt wrap gives i h c g two three seven
 
-  quiet : (t : ℕ) (l : ReadLine) → S t l → t < a.last → IsQuiet (read_action i l) → weight (suc t) ≤ weight t
+  quiet : (t : ℕ) (l : ReadLine) → S t l → t < a.last → IsStill (read_action i l) → weight (suc t) ≤ weight t
   quiet = On.quiet a weight x f wt wrap gives i h c g two three seven
 
   -- ---- the generation of the root that stands there was told

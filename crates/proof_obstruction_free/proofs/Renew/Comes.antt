@@ -1,5 +1,5 @@
 -- RENEW, where one actor alone takes steps: it comes to the SWAP of a branch whose entries are renewed.
-use Rattle.std.proofs.Common.{◌≡◌, ℕ, zero, suc, ◌+◌, ◌*◌, ◌<◌, ◌≤◌, inl, inr, cond, List, [], ◌∷◌, ◌++◌, length, slice_index_or, Option, Some, None, refl, sym, ap, subst, ◌∙◌, arith}
+use Rattle.std.proofs.Common.{◌≡◌, ℕ, zero, suc, ◌+◌, ◌*◌, ◌<◌, ◌≤◌, ◌⊎◌, inl, inr, cond, List, [], ◌∷◌, ◌++◌, length, slice_index_or, Option, Some, None, refl, sym, ap, subst, ◌∙◌, arith}
 use Rattle.std.proofs.lemmas.Bool.{cases_lt, lt-ltb, le-ltb}
 use Rattle.std.proofs.lemmas.List.{length-append, get_or_append_left, get_or_push}
 use Rattle.proof_obstruction_free.specs.Beneath.ctrie_base.specs.Hashes.{hash_of}
@@ -51,27 +51,33 @@ module _ (a : Lone) (steps : Stepping a) (weight : ℕ → ℕ) (c : ℕ) (heavy
       node_made made e =
           steps.made t (Some g) (line.Renew (renew.Branch path main done)) s more tt (branch_of (a.states t) main done) made refl refl e ∙ ap (λ n. renewed (bitmap_of n) done) found.branch
 
-      by_made : (o : Option Ref) → next_ref (a.states t).heap ≡ o → Stands a (suc t) (Some g) (renew_after_branch path main o) → W (Renews done t) 1 (suc t)
-      by_made None e stands = ended a weight steps (Renews done t) (suc t) (Some g) reply.NoSlots stands
-      by_made (Some made) e stands =
-          weaken a weight (Renews done t) 0 1 (suc t) (omega arith)
-          (here a weight (Renews done t) (suc t)
-          (record {
-            to = record {
-              fresh = made;
-              stands = stands;
-              done = done;
-              same_length = all;
-              branch = node_made made e;
-              each = λ k low high. absurd (omega arith);
-              keeps = calm.keeps;
-              word = calm.word;
-            };
-            kept = λ k lt. refl;
-          }))
+      by_made : (o : Option Ref) → next_ref (a.states t).heap ≡ o → Stands a (suc t) (Some g) (renew_after_branch path main o) →
+          Renews done t (suc t) ⊎ Stands a (suc t) (Some g) (line.End reply.NoSlots)
+      by_made None e stands = inr stands
+      by_made (Some made) e stands = inl (record {
+        to = record {
+          fresh = made;
+          stands = stands;
+          done = done;
+          same_length = all;
+          branch = node_made made e;
+          each = λ k low high. absurd (omega arith);
+          keeps = calm.keeps;
+          word = calm.word;
+        };
+        kept = λ k lt. refl;
+      })
+
+      -- its SWAP, or the end where no slot is free
+      pub by_branch : Renews done t (suc t) ⊎ Stands a (suc t) (Some g) (line.End reply.NoSlots)
+      by_branch = by_made (next_ref (a.states t).heap) refl branch_next
 
       branch_made : W (Renews done t) 1 (suc t)
-      branch_made = by_made (next_ref (a.states t).heap) refl branch_next
+      branch_made = by by_branch
+        where
+          by : Renews done t (suc t) ⊎ Stands a (suc t) (Some g) (line.End reply.NoSlots) → W (Renews done t) 1 (suc t)
+          by (inl x) = weaken a weight (Renews done t) 0 1 (suc t) (omega arith) (here a weight (Renews done t) (suc t) x)
+          by (inr stands) = ended a weight steps (Renews done t) (suc t) (Some g) reply.NoSlots stands
 
     pub branch_within : (done : List Ref) (t : ℕ) → Stands a t (Some g) (line.Renew (renew.Branch path main done)) → length done ≡ length entries → W (Renews done t) 2 t
     branch_within done t s all = one a weight heavy (Renews done t) 1 t (Some g) (line.Renew (renew.Branch path main done)) s tt (λ more. branch_made done t s all more)
@@ -79,7 +85,7 @@ module _ (a : Lone) (steps : Stepping a) (weight : ℕ → ℕ) (c : ℕ) (heavy
     -- ---- one entry after another
 
     -- what comes of more entries comes of those before them
-    one_more : (done : List Ref) (x : Ref) (t v u : ℕ) → IsRenewed a g x → Calm a t v → Renews (done ++ x ∷ []) v u → Renews done t u
+    pub one_more : (done : List Ref) (x : Ref) (t v u : ℕ) → IsRenewed a g x → Calm a t v → Renews (done ++ x ∷ []) v u → Renews done t u
     one_more done x t v u is calm r =
         let size : length (done ++ x ∷ []) ≡ length done + 1 = length-append done (x ∷ []) in
         let on = calm_on a t v u calm (record { keeps = r.to.keeps; word = r.to.word }) in

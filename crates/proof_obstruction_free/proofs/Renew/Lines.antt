@@ -70,7 +70,7 @@ module _ (a : Lone) (steps : Stepping a) (g : ℕ) (path : List Ref) (main : Ref
   abbrev pub GoesOn : ℕ → ℕ → Type 0
   GoesOn t u = Advanced t u ⊎ IsToEnd u
 
-  earlier : (t u v : ℕ) → Calm a t u → GoesOn u v → GoesOn t v
+  pub earlier : (t u v : ℕ) → Calm a t u → GoesOn u v → GoesOn t v
   earlier t u v calm (inl x) = inl (record { entry = x.entry; renewed = x.renewed; stands = x.stands; calm = calm_on a t u v calm x.calm })
   earlier t u v calm (inr e) = inr e
 

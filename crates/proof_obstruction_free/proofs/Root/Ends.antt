@@ -20,14 +20,14 @@ use Rattle.proof_obstruction_free.specs.Beneath.machine_model.specs.Operations.{
 use Rattle.proof_obstruction_free.specs.Beneath.machine_model.specs.Paths.{is_start}
 use Rattle.proof_obstruction_free.specs.Beneath.machine_model.specs.States.{State, word_at}
 use Rattle.proof_obstruction_free.specs.Beneath.machine_model.specs.Swapping.{root_after, after_root_word}
-use Rattle.proof_obstruction_free.specs.Alone.{Lone, Stands, IsPlain, IsWeight, Within, generation}
+use Rattle.proof_obstruction_free.specs.Alone.{Lone, Stands, IsPlain, IsStillWeight, Within, generation}
 use Rattle.proof_obstruction_free.specs.Machines.{IsRooted, IsRootedSo, RootsPlain, RootsFirst, RootsOn, ClimbRootsPlain, ClimbRootsOn, ReadsFirst, ReadsOn, climbed_or_on}
 use Rattle.proof_obstruction_free.specs.Stepping.{Stepping}
 use Rattle.proof_obstruction_free.proofs.Root.Lines.{HoldsRoot, led}
 use Rattle.proof_obstruction_free.proofs.Root.Plain.{AtPlain, plain_first, plain_on_from}
 use Rattle.proof_obstruction_free.proofs.Swap.Found.{root_generation}
 use Rattle.proof_obstruction_free.proofs.Swap.Lines.{climbing_so, climbed_so}
-use Rattle.proof_obstruction_free.proofs.Step.Within.{here, weaken, map, bind, one, same_stays, keeps_on, stays_on}
+use Rattle.proof_obstruction_free.proofs.Step.Within.{here, weaken, map, bind, one_still, same_stays, keeps_on, stays_on}
 use Rattle.proof_obstruction_free.proofs.Ends.StandsAt.{stands_as}
 
 -- ---- the lines that hold a ROOT
@@ -77,11 +77,11 @@ climb_holds own x = record {
     by state operation (Goes l) = refl
     by state operation (Gives r) = refl
 
-module _ (a : Lone) (steps : Stepping a) (weight : ℕ → ℕ) (heavy : IsWeight a weight) (c : ℕ) where
+module _ (a : Lone) (steps : Stepping a) (weight : ℕ → ℕ) (heavy : IsStillWeight a weight) (c : ℕ) where
   -- ---- the step that reads a root with no offer
 
   pub roots_plain : RootsPlain a weight c
-  roots_plain t g r s plain = one a weight heavy (λ u. IsRooted a weight c t u × IsPlain a u r) 0 t g (line.Root root.Read) s tt (λ h.
+  roots_plain t g r s plain = one_still a weight heavy (λ u. IsRooted a weight c t u × IsPlain a u r) 0 t g (line.Root root.Read) s tt (λ h.
       let same = steps.words t g (line.Root root.Read) s h tt tt in
       let told = root_generation a t g (line.Root root.Read) s refl r plain in
       let it : word_at (a.states t) (handle_of s.operation.call) ≡ Plain r = ap (λ x. word_at (a.states t) (handle_of x)) s.call ∙ plain in
@@ -107,7 +107,7 @@ module _ (a : Lone) (steps : Stepping a) (weight : ℕ → ℕ) (heavy : IsWeigh
       ∙ ap (λ y. cond (option_eq nat_eq g (Some (generation a r))) (climbing a.own x) y) (climbed_so s.operation a.own s.call x.former)
 
   pub climb_roots_plain : ClimbRootsPlain a weight c
-  climb_roots_plain x t g r s plain = one a weight heavy (λ u. IsRootedSo a weight c t g x u × IsPlain a u r) 0 t g l s tt (λ h.
+  climb_roots_plain x t g r s plain = one_still a weight heavy (λ u. IsRootedSo a weight c t g x u × IsPlain a u r) 0 t g l s tt (λ h.
       let same = steps.words t g l s h tt tt in
       let told = root_generation a t g l s refl r plain in
       let it : word_at (a.states t) (handle_of s.operation.call) ≡ Plain r = ap (λ x. word_at (a.states t) (handle_of x)) s.call ∙ plain in

@@ -15,15 +15,15 @@ use Rattle.proof_obstruction_free.specs.Beneath.machine_model.specs.Calls.{handl
 use Rattle.proof_obstruction_free.specs.Beneath.machine_model.specs.States.{State, word_at}
 use Rattle.proof_obstruction_free.specs.Beneath.machine_model.specs.Swapping.{root_action, after_root_word}
 use Rattle.proof_obstruction_free.specs.Beneath.proof_generations.specs.Laws.Roots.{settles}
-use Rattle.proof_obstruction_free.specs.Alone.{Lone, Stands, Keeps, WordStays, IsPlain, IsQuiet, IsWeight, Within, word}
+use Rattle.proof_obstruction_free.specs.Alone.{Lone, Stands, Keeps, WordStays, IsPlain, IsQuiet, IsStill, IsStillWeight, Within, word}
 use Rattle.proof_obstruction_free.specs.Machines.{IsRead, WasRead, ReadsFirst, ReadsOn}
 use Rattle.proof_obstruction_free.specs.Stepping.{Stepping}
 use Rattle.proof_obstruction_free.proofs.Root.Lines.{HoldsRoot, led, reading_line, swapping_line, root_reads}
 use Rattle.proof_obstruction_free.proofs.Root.Words.{NoOffer, plain_on, settles_on, offer_stood}
 use Rattle.proof_obstruction_free.proofs.Ends.StandsAt.{goes_on, stands_as}
-use Rattle.proof_obstruction_free.proofs.Step.Within.{here, weaken, map, bind, one, keeps_now, keeps_on, stays, stays_on}
+use Rattle.proof_obstruction_free.proofs.Step.Within.{here, weaken, map, bind, one_still, keeps_now, keeps_on, stays, stays_on}
 
-module _ (a : Lone) (steps : Stepping a) (weight : ℕ → ℕ) (heavy : IsWeight a weight) (c : ℕ) (reads_first : ReadsFirst a weight c) (reads_on : ReadsOn a weight c)
+module _ (a : Lone) (steps : Stepping a) (weight : ℕ → ℕ) (heavy : IsStillWeight a weight) (c : ℕ) (reads_first : ReadsFirst a weight c) (reads_on : ReadsOn a weight c)
     (wrap : RootLine → Line) (gives : State → Operation → Ref → Line) (holds : HoldsRoot a.own wrap gives) (g : Option ℕ) where
   abbrev W : (ℕ → Type 0) → ℕ → ℕ → Type 0
   W = Within a weight
@@ -77,8 +77,8 @@ module _ (a : Lone) (steps : Stepping a) (weight : ℕ → ℕ) (heavy : IsWeigh
         let l = root.Completing (record { offer = d; line = complete.Swap m }) in
         settles_on a t g (wrap l) s h (goes_on a t g (wrap l) s h) d (ap settles (holds.acts (a.states t) s.operation l)) is
 
-  quiet_step : (Q : ℕ → Type 0) (n t : ℕ) (l : RootLine) (s : Stands a t g (wrap l)) → IsQuiet (root_action l) → (t < a.last → W Q n (suc t)) → W Q (n + 1) t
-  quiet_step Q n t l s quiet then = one a weight heavy Q n t g (wrap l) s (subst IsQuiet (sym (holds.acts (a.states t) s.operation l)) quiet) then
+  quiet_step : (Q : ℕ → Type 0) (n t : ℕ) (l : RootLine) (s : Stands a t g (wrap l)) → IsStill (root_action l) → (t < a.last → W Q n (suc t)) → W Q (n + 1) t
+  quiet_step Q n t l s quiet then = one_still a weight heavy Q n t g (wrap l) s (subst IsStill (sym (holds.acts (a.states t) s.operation l)) quiet) then
 
   -- ---- from each line
 

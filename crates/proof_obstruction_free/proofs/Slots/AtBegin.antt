@@ -2,7 +2,7 @@
 use Rattle.std.proofs.Common.{◌≡◌, ℕ, zero, suc, List, [], ◌∷◌, ◌++◌, length, Some, None, Ok, Err, refl, sym, ap, subst, ◌∙◌, arith}
 use Rattle.std.proofs.lemmas.Option.{none-some}
 use Rattle.proof_obstruction_free.specs.Beneath.history.specs.declared.calls.Call.{Call}
-use Rattle.proof_obstruction_free.specs.Beneath.history.specs.declared.calls.Call.TheVariants.{Clear, Freeze, Snapshot}
+use Rattle.proof_obstruction_free.specs.Beneath.history.specs.declared.calls.Call.TheVariants.{Clear, Close, Count, Entries, Freeze, Snapshot}
 use Rattle.proof_obstruction_free.specs.Beneath.machine_model.specs.declared.lines.Line.TheVariants as line
 use Rattle.proof_obstruction_free.specs.Beneath.machine_model.specs.declared.operations.Operation.{Operation}
 use Rattle.proof_obstruction_free.specs.Beneath.machine_model.specs.declared.steps.Limits.{Limits}
@@ -21,8 +21,10 @@ use Rattle.proof_obstruction_free.specs.Beneath.machine_model.proofs.HeapMoves.{
 use Rattle.proof_obstruction_free.specs.Beneath.machine_model.proofs.Moves.{moves}
 use Rattle.proof_obstruction_free.specs.Beneath.machine_model.proofs.Refusals.{IsRefusal, first_refusal}
 use Rattle.proof_obstruction_free.specs.Copies.{IsCopying}
-use Rattle.proof_obstruction_free.specs.Slots.{CopiesEnoughAtBegin, EnoughAtBegin}
+use Rattle.proof_obstruction_free.specs.Laws.{IsOnKeyOrRoot}
+use Rattle.proof_obstruction_free.specs.Slots.{CopiesEnoughAtBegin, EnoughAtBegin, TriesEnoughAtBegin}
 use Rattle.proof_obstruction_free.proofs.Slots.Few.{enough_for_copies, enough_slots}
+use Rattle.proof_obstruction_free.proofs.Slots.Tries.{enough_for_tries}
 
 -- the operation is the one that the begin brought in, and no slot was taken
 record HasBegun (before after : State) (call : Call) (operation : Operation) : Type 0 where
@@ -66,6 +68,19 @@ enough_at_begin limits steps actor call operation idle r room =
     let b = begun limits steps actor call operation idle r.runs in
     let free = b.free in
     enough_slots limits (steps ++ step.Begin actor call ∷ []) actor operation r (not_refused limits steps actor call operation idle r.runs) (omega (arith, free, room))
+
+-- each call on one key, and each copy, begins with a new try
+pub tries_first : (call : Call) → IsOnKeyOrRoot call → first_line call ≡ new_try
+tries_first (Close h) on = absurd on
+tries_first (Entries h) on = absurd on
+tries_first (Count h) on = absurd on
+tries_first call on = refl
+
+pub tries_enough_at_begin : TriesEnoughAtBegin
+tries_enough_at_begin limits steps actor call operation idle r room =
+    let b = begun limits steps actor call operation idle r.runs in
+    let free = b.free in
+    enough_for_tries limits (steps ++ step.Begin actor call ∷ []) actor operation r (b.line ∙ tries_first call (subst IsOnKeyOrRoot b.its_call r.call)) (omega (arith, free, room))
 
 -- a copy begins with a new try
 begins_new : (call : Call) → IsCopying call → first_line call ≡ new_try

@@ -1,5 +1,5 @@
 -- An operation makes no more nodes than it takes steps.
-use Rattle.std.proofs.Common.{◌≡◌, ℕ, zero, suc, ◌+◌, ◌-◌, ◌≤◌, Bool, true, false, List, None, option_map, inl, inr, sym, subst, ap, ◌∙◌, arith}
+use Rattle.std.proofs.Common.{◌≡◌, ℕ, zero, suc, ◌+◌, ◌-◌, ◌≤◌, false, List, None, option_map, inl, inr, sym, subst, ap, ◌∙◌, arith}
 use Rattle.std.proofs.lemmas.Bool.{cases_lt}
 use Rattle.std.proofs.lemmas.Option.{same_Some}
 use Rattle.proof_obstruction_free.specs.Beneath.machine_model.specs.declared.operations.Operation.{Operation}
@@ -15,14 +15,10 @@ use Rattle.proof_obstruction_free.specs.Beneath.machine_model.proofs.Refusals.{I
 use Rattle.proof_obstruction_free.proofs.Ends.Alone.{stays}
 use Rattle.proof_obstruction_free.proofs.Ends.Bounds.{copies_end_first}
 use Rattle.proof_obstruction_free.proofs.Inherited.EndsAll.{alone_it_ends}
-use Rattle.proof_obstruction_free.proofs.Slots.Free.{bit, made, not_for_want, one_made, none_made, refused_there}
-
-one_at_most : (b : Bool) → bit b ≤ 1
-one_at_most true = omega arith
-one_at_most false = omega arith
+use Rattle.proof_obstruction_free.proofs.Slots.Free.{bit, made, one_at_most, not_for_want, one_made, none_made, refused_there}
 
 -- one in each step at most
-made_steps : (limits : Limits) (steps : List Step) (actor n : ℕ) → made limits steps actor n ≤ n
+pub made_steps : (limits : Limits) (steps : List Step) (actor n : ℕ) → made limits steps actor n ≤ n
 made_steps limits steps actor zero = omega (arith, none_made limits steps actor)
 made_steps limits steps actor (suc n) =
     omega (arith, one_made limits steps actor n, one_at_most (makes_next (alone_after limits steps actor n) actor), made_steps limits steps actor n)
@@ -73,7 +69,7 @@ copies_make_few limits steps actor operation r copies at =
     (λ n within. let low = made_steps limits steps actor n in omega (arith, low, within))
 
 -- where a try begins nothing is refused
-no_refusal : (l : Line) → l ≡ new_try → IsRefusal l → ⊥
+pub no_refusal : (l : Line) → l ≡ new_try → IsRefusal l → ⊥
 no_refusal l at refused = subst IsRefusal at refused
 
 pub enough_for_copies : EnoughForCopies

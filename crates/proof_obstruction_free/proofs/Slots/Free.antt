@@ -62,6 +62,10 @@ not_refused_next state (suc k) h free = not_refused_after state k h free (next s
 abbrev pub bit : Bool → ℕ
 bit b = cond b 1 0
 
+pub one_at_most : (b : Bool) → bit b ≤ 1
+one_at_most true = omega arith
+one_at_most false = omega arith
+
 module _ (limits : Limits) (steps : List Step) (actor : ℕ) where
   abbrev after : ℕ → State
   after n = alone_after limits steps actor n

@@ -2,10 +2,12 @@
 use Rattle.std.proofs.Common.{◌≡◌, ℕ, suc, ◌+◌, ◌<◌, ◌≤◌, Option, sym, subst, ◌∙◌, arith}
 use Rattle.proof_obstruction_free.specs.Beneath.history.specs.declared.replies.Reply.{Reply}
 use Rattle.proof_obstruction_free.specs.Beneath.slot_arena.specs.declared.refs.Ref.{Ref}
+use Rattle.proof_obstruction_free.specs.Beneath.machine_model.specs.declared.actions.Action.{Action}
+use Rattle.proof_obstruction_free.specs.Beneath.machine_model.specs.declared.actions.Action.TheVariants as act
 use Rattle.proof_obstruction_free.specs.Beneath.machine_model.specs.declared.lines.Line.{Line}
 use Rattle.proof_obstruction_free.specs.Beneath.machine_model.specs.declared.lines.Line.TheVariants as line
-use Rattle.proof_obstruction_free.specs.Beneath.machine_model.specs.Operations.{line_action, line_after, generation_from}
-use Rattle.proof_obstruction_free.specs.Alone.{Lone, Stands, Keeps, KeepsBut, WordStays, Within, IsQuiet, IsWeight, word}
+use Rattle.proof_obstruction_free.specs.Beneath.machine_model.specs.Operations.{action_of, line_action, line_after, generation_from}
+use Rattle.proof_obstruction_free.specs.Alone.{Lone, Stands, Keeps, KeepsBut, WordStays, Within, IsQuiet, IsStill, IsStillWeight, IsWeight, word}
 use Rattle.proof_obstruction_free.specs.Stepping.{Stepping, IsNoEnd}
 
 module _ (a : Lone) where
@@ -31,6 +33,18 @@ module _ (a : Lone) where
 
   pub keeps_but_on : (t u v : ℕ) (but : Ref) → KeepsBut a t u but → KeepsBut a u v but → KeepsBut a t v but
   keeps_but_on t u v but first then i m other has = then i m other (first i m other has)
+
+-- a still action is quiet
+still_quiet : (action : Action) → IsStill action → IsQuiet action
+still_quiet (act.Offer offer) still = still
+still_quiet (act.Publish indirection replaced fresh) still = still
+still_quiet (act.Restore indirection main previous) still = still
+still_quiet (act.Decide indirection main previous told) still = still
+still_quiet action still = tt
+
+-- so what no quiet step adds to no still one does
+pub weight_of_still : (a : Lone) (weight : ℕ → ℕ) → IsWeight a weight → IsStillWeight a weight
+weight_of_still a weight heavy t since more operation runs still = heavy t since more operation runs (still_quiet (action_of (a.states t) operation) still)
 
 module _ (a : Lone) (weight : ℕ → ℕ) where
   -- ---- within so many steps
@@ -74,10 +88,24 @@ module _ (a : Lone) (weight : ℕ → ℕ) where
   pub within : (Q : ℕ → Type 0) (n t : ℕ) → Comes Q (n + weight t) t → W Q n t
   within Q n t comes room = let (u, after, soon, q) = comes (omega (arith, room)) in (u, after, omega (arith, soon), q)
 
-  -- a quiet step adds no weight
+  -- a still step adds no weight
+  pub lighter_still : IsStillWeight a weight → (t : ℕ) (g : Option ℕ) (l : Line) (s : Stands a t g l) → t < a.last → IsStill (line_action (a.states t) s.operation l) →
+      weight (suc t) ≤ weight t
+  lighter_still light t g l s more still =
+      light t s.since more s.operation s.runs (subst (λ x. IsStill (line_action (a.states t) s.operation x)) (sym s.line) still)
+
+  -- nor a quiet one
   pub lighter : IsWeight a weight → (t : ℕ) (g : Option ℕ) (l : Line) (s : Stands a t g l) → t < a.last → IsQuiet (line_action (a.states t) s.operation l) → weight (suc t) ≤ weight t
   lighter heavy t g l s more quiet =
       heavy t s.since more s.operation s.runs (subst (λ x. IsQuiet (line_action (a.states t) s.operation x)) (sym s.line) quiet)
+
+  -- a still step
+  pub one_still :
+      IsStillWeight a weight → (Q : ℕ → Type 0) (n t : ℕ) (g : Option ℕ) (l : Line) (s : Stands a t g l) → IsStill (line_action (a.states t) s.operation l) → (t < a.last → W Q n (suc t)) →
+      W Q (n + 1) t
+  one_still light Q n t g l s still then room =
+      let less = lighter_still light t g l s (omega (arith, room)) still in
+      pays Q n (n + 1) t (omega (arith, less)) then room
 
   -- a quiet step
   pub one :

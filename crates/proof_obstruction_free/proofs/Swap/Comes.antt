@@ -12,7 +12,7 @@ use Rattle.proof_obstruction_free.specs.Beneath.machine_model.specs.declared.rea
 use Rattle.proof_obstruction_free.specs.Beneath.machine_model.specs.declared.roots.RootWord.{RootWord}
 use Rattle.proof_obstruction_free.specs.Beneath.machine_model.specs.declared.roots.RootWord.TheVariants.{Plain, Offer}
 use Rattle.proof_obstruction_free.specs.Beneath.machine_model.specs.Grown.{prev_word}
-use Rattle.proof_obstruction_free.specs.Alone.{IsQuiet, Lone, Stands, Has, Keeps, WordStays, IsPlain, IsCurrent, Within, generation, word}
+use Rattle.proof_obstruction_free.specs.Alone.{IsStill, Lone, Stands, Has, Keeps, WordStays, IsPlain, IsCurrent, Within, generation, word}
 use Rattle.proof_obstruction_free.specs.Machines.{HasSwapped, IsSwapped, WasSwapped, WasRead, SwapsCurrent, SwapsFirst, SwapsOn, ReadsOn}
 use Rattle.proof_obstruction_free.specs.Stepping.{Stepping}
 use Rattle.proof_obstruction_free.specs.Weighing.{Acts}
@@ -43,7 +43,7 @@ module _ (a : Lone) (steps : Stepping a) (weight : ℕ → ℕ) (pending failed 
     step_on : (Q : ℕ → Type 0) (n m u : ℕ) → suc n ≤ m → (u < a.last → C Q n (suc u)) → C Q m u
     step_on Q n m u le then = comes_as Q Q (suc n) m u le (λ v q. q) (spends a steps weight pending failed weighing c why i replaced fresh t g Q n u then)
 
-    quiet_on : (u : ℕ) (x : SwapLine) → At x u → u < a.last → IsQuiet (action_at i replaced fresh x) → weight (suc u) ≤ weight u
+    quiet_on : (u : ℕ) (x : SwapLine) → At x u → u < a.last → IsStill (action_at i replaced fresh x) → weight (suc u) ≤ weight u
     quiet_on = quiet_so a steps weight pending failed weighing c why i replaced fresh t g
 
     acts_on : (u : ℕ) (x : SwapLine) → At x u → u < a.last → Acts a u (action_at i replaced fresh x)

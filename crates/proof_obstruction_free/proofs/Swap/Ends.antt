@@ -9,7 +9,7 @@ use Rattle.proof_obstruction_free.specs.Beneath.machine_model.specs.declared.rea
 use Rattle.proof_obstruction_free.specs.Beneath.machine_model.specs.declared.reading.SwapLine.{SwapLine}
 use Rattle.proof_obstruction_free.specs.Beneath.machine_model.specs.declared.reading.SwapLine.TheVariants as swap
 use Rattle.proof_obstruction_free.specs.Beneath.machine_model.specs.Operations.{swapped}
-use Rattle.proof_obstruction_free.specs.Alone.{IsQuiet, IsWeight, Lone, Stands, KeepsBut, WordStays, IsPlain, node, generation, word}
+use Rattle.proof_obstruction_free.specs.Alone.{IsStill, IsStillWeight, Lone, Stands, KeepsBut, WordStays, IsPlain, node, generation, word}
 use Rattle.proof_obstruction_free.specs.Machines.{HasSwapped}
 use Rattle.proof_obstruction_free.specs.Stepping.{Stepping}
 use Rattle.proof_obstruction_free.specs.Beneath.machine_model.specs.Grown.{main_word}
@@ -28,7 +28,7 @@ use Rattle.proof_obstruction_free.proofs.Step.Within.{Comes, at_once, same_stays
 
 -- What is asked of a weight: what an own fresh node weighs while it is pending or failed is added by the SWAP's first step, and taken off by a later one.
 pub record Pays (a : Lone) (weight : ℕ → ℕ) (pending failed : ℕ) : Type 0 where
-  pub quiet : IsWeight a weight
+  pub quiet : IsStillWeight a weight
   pub abort : (t : ℕ) (offer : Descriptor) → Acts a t (act.Abort offer) → word a t ≡ Offer offer → weight (suc t) ≤ weight t
   pub commit : (t : ℕ) (i m q : Ref) (told : Option ℕ) → Acts a t (act.Decide i m q told) → Sees a t i m (over.Pending q) → Sees a (suc t) i m over.None →
       weight (suc t) + pending ≤ weight t
@@ -90,8 +90,8 @@ module _ (a : Lone) (steps : Stepping a) (weight : ℕ → ℕ) (pending failed 
   pub acts_so : (u : ℕ) (x : SwapLine) (s : At x u) → u < a.last → Acts a u (action_at i replaced fresh x)
   acts_so u x s h = record { since = s.since; more = h; operation = s.operation; runs = s.runs; is = ap (line_action (a.states u) s.operation) s.line }
 
-  pub quiet_so : (u : ℕ) (x : SwapLine) (s : At x u) → u < a.last → IsQuiet (action_at i replaced fresh x) → weight (suc u) ≤ weight u
-  quiet_so u x s h quiet = weighing.quiet u s.since h s.operation s.runs (subst IsQuiet (sym (ap (line_action (a.states u) s.operation) s.line)) quiet)
+  pub quiet_so : (u : ℕ) (x : SwapLine) (s : At x u) → u < a.last → IsStill (action_at i replaced fresh x) → weight (suc u) ≤ weight u
+  quiet_so u x s h quiet = weighing.quiet u s.since h s.operation s.runs (subst IsStill (sym (ap (line_action (a.states u) s.operation) s.line)) quiet)
 
   sees : (u : ℕ) (v : Prev) → Held u v → Sees a u i fresh v
   sees u v holds = record { made = holds.made; main = holds.main; prev = holds.prev }

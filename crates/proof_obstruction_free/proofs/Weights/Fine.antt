@@ -24,6 +24,7 @@ pub use Rattle.proof_obstruction_free.proofs.Weights.FinePays.{fine, fine_at_mos
 use Rattle.proof_obstruction_free.proofs.Weights.FinePays.{does, lighter, quiet_lighter, pays, publishes, actor_range}
 use Rattle.proof_obstruction_free.proofs.Weights.FineOwners.{pending_weight, owner, weighs, failed_owner, failed_weight, weighs_failed}
 use Rattle.proof_obstruction_free.specs.Beneath.machine_model.proofs.Basics.{none≢failed}
+use Rattle.proof_obstruction_free.proofs.Step.Within.{weight_of_still}
 
 quiet_publishes : (action : Action) → IsQuiet action → IsNoPublish action
 quiet_publishes (act.Publish i r f) quiet = quiet
@@ -40,7 +41,7 @@ not_same x y apart = by_test (x == y) refl
 module _ (a : Lone) where
   -- ---- the rules
 
-  quiet : IsWeight a (fine a)
+  pub quiet : IsWeight a (fine a)
   quiet t since more operation runs is =
       let acts : Acts a t (action_of (a.states t) operation) = record { since = since; more = more; operation = operation; runs = runs; is = refl } in
       let flat_part = is_weight a t since more operation runs is in
@@ -114,7 +115,7 @@ module _ (a : Lone) where
 
   pub fine_weighing : Weighing a (fine a) 5 1
   fine_weighing = record {
-    quiet = quiet;
+    quiet = weight_of_still a (fine a) quiet;
     weighs = weighs a;
     weighs_failed = weighs_failed a;
     abort = abort;

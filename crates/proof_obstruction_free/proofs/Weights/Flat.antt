@@ -14,6 +14,7 @@ use Rattle.proof_obstruction_free.proofs.Ends.StandsAt.{StandsSome, stands_at, g
 use Rattle.proof_obstruction_free.proofs.Step.Keeps.{words}
 use Rattle.proof_obstruction_free.proofs.Weights.Offers.{flat, is_weight, taken_back}
 use Rattle.proof_obstruction_free.proofs.Read.First.{reads_first}
+use Rattle.proof_obstruction_free.proofs.Step.Within.{weight_of_still}
 
 module _ (a : Lone) where
   -- the line on which it stands does this
@@ -43,7 +44,7 @@ module _ (a : Lone) where
 
   pub flat_weighing : Weighing a (flat a) 0 0
   flat_weighing = record {
-    quiet = is_weight a;
+    quiet = weight_of_still a (flat a) (is_weight a);
     weighs = λ t i m q since until sees. omega arith;
     weighs_failed = λ t i m q since until sees. omega arith;
     abort = aborts;

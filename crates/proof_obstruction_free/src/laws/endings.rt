@@ -1,7 +1,7 @@
 //! Laws of operations that alone take steps, for every list of steps whose keys have 64 bits.
 
 ghost use Rattle.proof_obstruction_free.specs.Laws.{AloneItEnds, EachStepLeadsToItsEnd};
-ghost use Rattle.proof_obstruction_free.specs.Slots.{CopiesEnoughAtBegin, CopiesMakeFew, EnoughAtBegin, EnoughForCopies, EnoughSlots, MakesAtMost};
+ghost use Rattle.proof_obstruction_free.specs.Slots.{CopiesEnoughAtBegin, CopiesMakeFew, EnoughAtBegin, EnoughForCopies, EnoughForTries, EnoughSlots, MakesAtMost, TriesEnoughAtBegin, TriesMakeFew};
 
 /// A law: an operation on one key, a snapshot, a freeze or a clear whose actor alone takes steps has ended after 3,962
 /// of them, whatever others left behind.
@@ -20,6 +20,15 @@ pub fn enough_slots()
     ensures makes { MakesAtMost }
     ensures spare { EnoughSlots }
     ensures begun { EnoughAtBegin }
+{}
+
+/// A law: from where a try begins, so from its begin, an operation on one key, a snapshot, a freeze or a clear whose actor
+/// alone takes steps makes 570 nodes at most (`makes`); so where as many slots are free it isn't refused for want of
+/// slots (`spare`, `begun`).
+pub fn enough_slots_for_tries()
+    ensures makes { TriesMakeFew }
+    ensures spare { EnoughForTries }
+    ensures begun { TriesEnoughAtBegin }
 {}
 
 /// A law: a snapshot, a freeze or a clear makes 23 nodes at most from its begin (`makes`); so where as many slots are free

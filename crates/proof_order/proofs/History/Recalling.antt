@@ -1,15 +1,13 @@
 -- What the whole history says of an operation that runs at some time.
-use Rattle.std.proofs.Common.{◌≡◌, ℕ, suc, ◌+◌, ◌<◌, ◌≤◌, inl, inr, cond, List, [], ◌∷◌, ◌++◌, take, Some, slice_get, refl, sym, ap, ◌∙◌, subst, arith}
-use Rattle.std.proofs.lemmas.Bool.{cases_order}
+use Rattle.std.proofs.Common.{◌≡◌, ℕ, suc, ◌+◌, ◌≤◌, cond, List, [], ◌∷◌, ◌++◌, Some, slice_get, refl, sym, ap, ◌∙◌, subst, arith}
 use Rattle.std.proofs.lemmas.Option.{same_Some}
 use Rattle.std.proofs.lemmas.List.Sums.{sum_by-append}
 use Rattle.proof_order.specs.Beneath.history.specs.declared.calls.Call.{Call}
 use Rattle.proof_order.specs.Beneath.history.specs.declared.replies.Reply.{Reply}
 use Rattle.proof_order.specs.Beneath.history.specs.declared.events.Event.{Event}
 use Rattle.proof_order.specs.Beneath.history.specs.declared.events.Event.TheVariants.{Begin, End}
-use Rattle.proof_order.specs.Beneath.history.specs.Histories.{Operation as Told, EndsAt, HasEnded, MayFollow, IsWellFormed, is_begin, begun}
+use Rattle.proof_order.specs.Beneath.history.specs.Histories.{Operation as Told, HasEnded, is_begin, begun}
 use Rattle.proof_order.specs.Beneath.history.specs.Orders.{Recalls}
-use Rattle.proof_order.specs.Beneath.history.proofs.Places.{in_take}
 use Rattle.proof_order.specs.Beneath.machine_model.specs.declared.operations.Operation.{Operation}
 use Rattle.proof_order.specs.Beneath.machine_model.specs.declared.actions.Action.{Action}
 use Rattle.proof_order.specs.Beneath.machine_model.specs.declared.actions.Action.TheVariants as act
@@ -26,24 +24,7 @@ use Rattle.proof_order.specs.Facts.{Runs, IsReply}
 use Rattle.proof_order.proofs.History.AllBooks.{books_at}
 use Rattle.proof_order.proofs.History.Growing.{IsKept, holds_later, Grows, get_grown, events_grow}
 use Rattle.proof_order.specs.Beneath.machine_model.proofs.Frames.{begin_events}
-
--- ---- an operation ends once
-
-ends_again : (history : List Event) (p q id : ℕ) (a b : Reply) → IsWellFormed history → EndsAt history p id a → EndsAt history q id b → p < q → ⊥
-ends_again history p q id a b well at_p at_q lt =
-    let follows : MayFollow (take q history) (End id b) = well q (End id b) at_q in
-    follows.1.1 a (p, in_take history q p _ lt at_p)
-
-pub ends_once : (history : List Event) (id : ℕ) (a b : Reply) → IsWellFormed history → HasEnded history id a → HasEnded history id b → a ≡ b
-ends_once history id a b well (p, at_p) (q, at_q) = elim (cases_order p q) [
-  | inl same ↦
-      let events : Some (End id a) ≡ Some (End id b) = sym at_p ∙ ap (slice_get history) same ∙ at_q in
-      cc events
-  | inr differ ↦ elim differ [
-    | inl lt ↦ absurd (ends_again history p q id a b well at_p at_q lt)
-    | inr gt ↦ absurd (ends_again history q p id b a well at_q at_p gt)
-  ]
-]
+use Rattle.proof_order.specs.Beneath.history.proofs.OneFault.{reply_once}
 
 -- ---- what is told at one time is told at the end
 
@@ -65,7 +46,7 @@ module _ (limits : Limits) (states : ℕ → State) (last : ℕ) (r : IsRun limi
   -- a reply that is told is the one with which the operation ends
   pub told_reply : (t id : ℕ) (answer : Reply) → t ≤ last → HasEnded (states t).events id answer → IsReply (states last).events id answer
   told_reply t id answer le ended other ends =
-      ends_once (states last).events id answer other (books_at limits states last r last (omega arith)).well_formed
+      reply_once (states last).events id answer other (books_at limits states last r last (omega arith)).well_formed
       (ended.0, event_later t last ended.0 _ le (omega arith) ended.1) ends
 
 -- ---- the events of a step

@@ -5,6 +5,7 @@ use Rattle.proof_order.specs.Beneath.places.specs.declared.place.Place.{Place}
 use Rattle.proof_order.specs.Beneath.places.specs.Places.{number_before, bool_before, is_before, placed, rising}
 use Rattle.proof_order.specs.Beneath.places.proofs.Comparing.{not_both, not_through}
 use Rattle.proof_order.proofs.Places.Elements.{Among, Each, Along, each_of, of_each, each_filter, filter_none, among_either, tested}
+use Rattle.proof_order.specs.Beneath.places.proofs.Cuts.{steps_rise}
 
 -- ---- comparing places
 
@@ -137,15 +138,9 @@ apart_push (y ∷ ys) x apart new = (
 
 -- ---- numbers that rise along rising places
 
-step_along : (p q : Place) → is_before q p ≡ false → p.step ≤ q.step
-step_along p q e = numbers p.step q.step _ e
-  where
-    numbers : (a b : ℕ) (r : Bool) → number_before b a r ≡ false → a ≤ b
-    numbers a b r e = grind arith
-
 pub steps_along : (ps : List Place) → Rises ps → Along (λ p. p.step) ps
 steps_along [] h = tt
-steps_along (p ∷ ps) h = (each_of (λ (q : Place). p.step ≤ q.step) ps (λ q a. step_along p q (of_each (λ q. is_before q p ≡ false) ps h.0 q a)), steps_along ps h.1)
+steps_along (p ∷ ps) h = (each_of (λ (q : Place). p.step ≤ q.step) ps (λ q a. steps_rise p q (of_each (λ q. is_before q p ≡ false) ps h.0 q a)), steps_along ps h.1)
 
 -- the same of a further number where the ones before it are the same
 pub number_of : Bool → ℕ

@@ -1,6 +1,6 @@
 -- What lines know so that no branch below the root is left empty, or with one single alone: what KEY takes out of a pair leaves an indirection, and RENEW
 -- keeps indirections.
-use Rattle.std.proofs.Common.{◌≡◌, ℕ, ◌+◌, ◌-◌, ◌<◌, ◌==◌, ◌&&◌, Bool, true, false, nat_lt, nat_le, List, [], ◌∷◌, ◌++◌, length, slice_index_or, Option, Some, None, refl, sym, ap}
+use Rattle.std.proofs.Common.{◌≡◌, ℕ, ◌+◌, ◌-◌, ◌<◌, ◌==◌, ◌&&◌, true, false, nat_lt, nat_le, List, [], ◌∷◌, ◌++◌, length, slice_index_or, Option, Some, None, refl, sym, ap}
 use Rattle.std.proofs.Common.{ap₂, subst, ◌∙◌, inl, inr, eq-eqb, arith}
 use Rattle.std.proofs.lemmas.Bool.{cases_lt, false≢true, cond_both}
 use Rattle.std.proofs.lemmas.List.{get_or_append_left, get_or_push, length-append}
@@ -10,40 +10,27 @@ use Rattle.proof_shape.specs.Beneath.slot_arena.specs.declared.refs.Ref.{Ref}
 use Rattle.proof_shape.specs.Beneath.slot_arena.specs.declared.nodes.Node.{Node}
 use Rattle.proof_shape.specs.Beneath.slot_arena.specs.declared.nodes.Node.TheVariants.{Indirection, Branch, Single, List as Listed}
 use Rattle.proof_shape.specs.Beneath.slot_arena.specs.Heaps.{node_at, entry_at, entries_of, next_ref, no_ref}
-use Rattle.proof_shape.specs.Beneath.machine_model.specs.declared.building.BuildLine.{BuildLine}
 use Rattle.proof_shape.specs.Beneath.machine_model.specs.declared.building.BuildLine.TheVariants as build
 use Rattle.proof_shape.specs.Beneath.machine_model.specs.declared.building.Change.TheVariants as change
-use Rattle.proof_shape.specs.Beneath.machine_model.specs.declared.copying.CopyLine.{CopyLine}
-use Rattle.proof_shape.specs.Beneath.machine_model.specs.declared.finding.KeyLine.TheVariants as key
 use Rattle.proof_shape.specs.Beneath.machine_model.specs.declared.finding.WhenFound.{WhenFound}
 use Rattle.proof_shape.specs.Beneath.machine_model.specs.declared.finding.WhenFound.TheVariants.{Answers, Sets, Removes}
 use Rattle.proof_shape.specs.Beneath.machine_model.specs.declared.lines.Line.{Line}
 use Rattle.proof_shape.specs.Beneath.machine_model.specs.declared.lines.Line.TheVariants as line
-use Rattle.proof_shape.specs.Beneath.machine_model.specs.declared.lines.Purpose.{Purpose}
 use Rattle.proof_shape.specs.Beneath.machine_model.specs.declared.operations.Operation.{Operation}
 use Rattle.proof_shape.specs.Beneath.machine_model.specs.declared.reading.After.{After}
 use Rattle.proof_shape.specs.Beneath.machine_model.specs.declared.reading.After.TheVariants.{Goes, Gives}
 use Rattle.proof_shape.specs.Beneath.machine_model.specs.declared.reading.Read.{Read}
-use Rattle.proof_shape.specs.Beneath.machine_model.specs.declared.reading.Swap.{Swap}
-use Rattle.proof_shape.specs.Beneath.machine_model.specs.declared.repairs.CleanLine.{CleanLine}
-use Rattle.proof_shape.specs.Beneath.machine_model.specs.declared.repairs.ClimbLine.{ClimbLine}
 use Rattle.proof_shape.specs.Beneath.machine_model.specs.declared.repairs.RenewLine.{RenewLine}
 use Rattle.proof_shape.specs.Beneath.machine_model.specs.declared.repairs.RenewLine.TheVariants as renew
-use Rattle.proof_shape.specs.Beneath.machine_model.specs.declared.roots.RootLine.{RootLine}
-use Rattle.proof_shape.specs.Beneath.machine_model.specs.declared.walking.WalkLine.{WalkLine}
 use Rattle.proof_shape.specs.Beneath.machine_model.specs.Calls.{key_of, inserts, when_found}
 use Rattle.proof_shape.specs.Beneath.machine_model.specs.Paths.{is_below_root, is_start}
 use Rattle.proof_shape.specs.Beneath.machine_model.specs.States.{State}
-use Rattle.proof_shape.specs.Beneath.machine_model.specs.Building.{build_after}
-use Rattle.proof_shape.specs.Beneath.machine_model.specs.Cleaning.{clean_after}
-use Rattle.proof_shape.specs.Beneath.machine_model.specs.Climbing.{climb_after}
-use Rattle.proof_shape.specs.Beneath.machine_model.specs.Copying.{copy_after}
-use Rattle.proof_shape.specs.Beneath.machine_model.specs.Finding.{key_after, key_after_main, absent, removing, found_so, is_passable, key_after_entry, after_listed, after_sibling}
+use Rattle.proof_shape.specs.Beneath.machine_model.specs.Finding.{absent, removing, found_so, is_passable, key_after_entry, after_listed, after_sibling}
 use Rattle.proof_shape.specs.Beneath.machine_model.specs.Renewing.{renew_next, next_entry, renew_after_entry, renew_after_read, renew_after_link, renew_after_branch}
-use Rattle.proof_shape.specs.Beneath.machine_model.specs.Walking.{walk_after}
-use Rattle.proof_shape.specs.Beneath.machine_model.specs.Operations.{line_after, first_line}
+use Rattle.proof_shape.specs.Beneath.machine_model.specs.Operations.{first_line}
 use Rattle.proof_shape.specs.Beneath.proof_memory.specs.Wants.{is_indirection}
 use Rattle.proof_shape.specs.Sites.Lines.{Sites, bare}
+use Rattle.proof_shape.proofs.Lines.Leads.{keeps_entries, first_leads}
 use Rattle.proof_shape.proofs.Shaped.Places.{bare_entries, bare_branch, bare_link}
 
 module _ (s : Sites) where
@@ -69,12 +56,7 @@ module _ (s : Sites) where
   FullLine l = Unit {0}
 
   -- a line that needs to know nothing of that
-  abbrev is_free : Line → Bool
-  is_free (line.Build (build.Main path main (change.Remove position) former)) = false
-  is_free (line.Renew l) = false
-  is_free l = true
-
-  pub free_full : (l : Line) → is_free l ≡ true → FullLine l
+  pub free_full : (l : Line) → keeps_entries l ≡ true → FullLine l
   free_full (line.Build (build.Main path main (change.Remove position) former)) e = absurd (false≢true e)
   free_full (line.Build (build.Main path main (change.Insert x) former)) e = tt
   free_full (line.Build (build.Main path main (change.Update position x) former)) e = tt
@@ -86,40 +68,8 @@ module _ (s : Sites) where
   free_full (line.Renew l) e = absurd (false≢true e)
   free_full l e = tt
 
-  -- ---- programs that lead to such lines alone
-
-  first_free : (call : Call) → is_free (first_line call) ≡ true
-  first_free call = grind arith
-
-  pub root_free : (state : State) (operation : Operation) (l : RootLine) → is_free (line_after state operation (line.Root l)) ≡ true
-  root_free state operation l = grind arith
-
-  pub swap_free : (state : State) (operation : Operation) (why : Purpose) (w : Swap) → is_free (line_after state operation (line.Swap why w)) ≡ true
-  swap_free state operation why w = grind arith
-
-  pub build_free : (state : State) (operation : Operation) (l : BuildLine) → is_free (build_after state operation l) ≡ true
-  build_free state operation l = grind arith
-
-  pub clean_free : (state : State) (operation : Operation) (l : CleanLine) → is_free (clean_after state operation l) ≡ true
-  clean_free state operation l = grind arith
-
-  pub climb_free : (state : State) (operation : Operation) (l : ClimbLine) → is_free (climb_after state operation l) ≡ true
-  climb_free state operation l = grind arith
-
-  pub copy_free : (state : State) (operation : Operation) (l : CopyLine) → is_free (copy_after state operation l) ≡ true
-  copy_free state operation l = grind arith
-
-  pub walk_free : (state : State) (operation : Operation) (l : WalkLine) → is_free (walk_after state operation l) ≡ true
-  walk_free state operation l = grind arith
-
-  pub key_read_free : (state : State) (operation : Operation) (path : List Ref) (r : Read) → is_free (key_after state operation (key.Read path r)) ≡ true
-  key_read_free state operation path r = grind arith
-
-  pub key_main_free : (state : State) (operation : Operation) (path : List Ref) (main : Ref) (node : Node) → is_free (key_after_main state operation path main node) ≡ true
-  key_main_free state operation path main node = grind arith
-
   pub first_full : (call : Call) → FullLine (first_line call)
-  first_full call = free_full (first_line call) (first_free call)
+  first_full call = free_full (first_line call) (first_leads call).1
 
   -- ---- KEY and RENEW, in a state that shows what stands
 

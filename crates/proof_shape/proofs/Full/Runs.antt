@@ -47,8 +47,8 @@ use Rattle.proof_shape.proofs.Shaped.Places.{bare_link}
 use Rattle.proof_shape.proofs.Sites.Runs.{are_bare}
 use Rattle.proof_shape.proofs.Sites.At.{lines_have_sites}
 use Rattle.proof_shape.proofs.Sites.Born.{IsBorn, born}
-use Rattle.proof_shape.proofs.Full.Lines.{FullLine, free_full, first_full, root_free, swap_free, build_free, clean_free, climb_free, copy_free, walk_free, key_read_free}
-use Rattle.proof_shape.proofs.Full.Lines.{key_main_free, entry_full, listed_full, sibling_full, renew_entry_full, renew_read_full, link_full, branch_full}
+use Rattle.proof_shape.proofs.Lines.Leads.{root_leads, swap_leads, build_leads, clean_leads, climb_leads, copy_leads, walk_leads, key_read_leads, key_main_leads}
+use Rattle.proof_shape.proofs.Full.Lines.{FullLine, free_full, first_full, entry_full, listed_full, sibling_full, renew_entry_full, renew_read_full, link_full, branch_full}
 use Rattle.proof_shape.proofs.Full.Made.{FullNode, ActionFull}
 use Rattle.proof_shape.proofs.Full.Acts.{acts_full}
 use Rattle.proof_shape.specs.Beneath.machine_model.proofs.Grown.{node_standing, grown_in_use}
@@ -87,8 +87,8 @@ module _ (limits : Limits) (states : ℕ → State) (steps : ℕ → Step) (last
   line_next t h actor operation go (line.Key (key.Sibling path main position former)) a w f =
       sibling_full s (states t) operation (S t) (same t (omega arith)) path main position former (node_at (states t).heap (entry_at (states t).heap main (1 - position))) refl (safe_of w.1.1.0)
       (at_position (S t) (states t).heap AnEntry (1 - position) (branch_entries (S t) (states t).heap (heaped_in_use (states t) (safe_at limits states last run t (omega arith))) w.1.1.0) w.1.1.1.0).0
-  line_next t h actor operation go (line.Key (key.Read path r)) a w f = free_full s _ (key_read_free s (states t) operation path r)
-  line_next t h actor operation go (line.Key (key.Main path main)) a w f = free_full s _ (key_main_free s (states t) operation path main (node_at (states t).heap main))
+  line_next t h actor operation go (line.Key (key.Read path r)) a w f = free_full s _ (key_read_leads (states t) operation path r).2
+  line_next t h actor operation go (line.Key (key.Main path main)) a w f = free_full s _ (key_main_leads (states t) operation path main (node_at (states t).heap main)).2
   line_next t h actor operation go (line.Renew (renew.Entry path main done)) a w f =
       renew_entry_full s (states t) operation (S t) (same t (omega arith)) path main done (node_at (states t).heap _) (safe_of w.1.1.0) f
   line_next t h actor operation go (line.Renew (renew.Read path main done r)) a w f =
@@ -96,13 +96,13 @@ module _ (limits : Limits) (states : ℕ → State) (steps : ℕ → Step) (last
   line_next t h actor operation go (line.Renew (renew.Link path main done child)) a w f =
       link_full s (states t) operation (S t) (same t (omega arith)) path main done f (λ made e. link_made t h actor operation go (start_of operation) child a made e) (next_ref (states t).heap) refl
   line_next t h actor operation go (line.Renew (renew.Branch path main done)) a w f = branch_full s (states t) operation (S t) (same t (omega arith)) path main (next_ref (states t).heap)
-  line_next t h actor operation go (line.Root l) a w f = free_full s _ (root_free s (states t) operation l)
-  line_next t h actor operation go (line.Build l) a w f = free_full s _ (build_free s (states t) operation l)
-  line_next t h actor operation go (line.Swap why x) a w f = free_full s _ (swap_free s (states t) operation why x)
-  line_next t h actor operation go (line.Clean l) a w f = free_full s _ (clean_free s (states t) operation l)
-  line_next t h actor operation go (line.Climb l) a w f = free_full s _ (climb_free s (states t) operation l)
-  line_next t h actor operation go (line.Copy l) a w f = free_full s _ (copy_free s (states t) operation l)
-  line_next t h actor operation go (line.Walk l) a w f = free_full s _ (walk_free s (states t) operation l)
+  line_next t h actor operation go (line.Root l) a w f = free_full s _ (root_leads (states t) operation l).1
+  line_next t h actor operation go (line.Build l) a w f = free_full s _ (build_leads (states t) operation l).2
+  line_next t h actor operation go (line.Swap why x) a w f = free_full s _ (swap_leads (states t) operation why x).1
+  line_next t h actor operation go (line.Clean l) a w f = free_full s _ (clean_leads (states t) operation l).2
+  line_next t h actor operation go (line.Climb l) a w f = free_full s _ (climb_leads (states t) operation l).1
+  line_next t h actor operation go (line.Copy l) a w f = free_full s _ (copy_leads (states t) operation l).1
+  line_next t h actor operation go (line.Walk l) a w f = free_full s _ (walk_leads (states t) operation l).1
   line_next t h actor operation go (line.End answer) a w f = tt
   line_next t h actor operation go line.Impossible a w f = tt
 

@@ -42,11 +42,10 @@ use Rattle.proof_shape.proofs.Held.Fresh.{IsHeld, NotGiven, NewNames, held_still
 use Rattle.proof_shape.proofs.Held.Lines.{HeldIn, NodeNotGiven, line_still}
 use Rattle.proof_shape.proofs.Held.Build.{quiet_held}
 use Rattle.proof_shape.proofs.Held.Chain.{build_holds}
-use Rattle.proof_shape.proofs.Held.Renew.{renew_holds}
-use Rattle.proof_shape.proofs.Held.Clean.{clean_holds}
+use Rattle.proof_shape.proofs.Held.Repair.{renew_holds, clean_holds}
 use Rattle.proof_shape.proofs.Held.Entries.{renew_begins}
-use Rattle.proof_shape.proofs.Held.Free.{is_free, free_holds, first_free, root_free, key_read_free, key_main_free, key_single_free, key_listed_free, key_sibling_free, swapped_free}
-use Rattle.proof_shape.proofs.Held.Free.{climb_free, copy_free, walk_free}
+use Rattle.proof_shape.proofs.Held.Free.{free_holds, key_single_free, key_listed_free, swapped_free}
+use Rattle.proof_shape.proofs.Lines.Leads.{holds_nothing, first_leads, root_leads, copy_leads, walk_leads, climb_leads, key_read_leads, key_main_leads, key_sibling_leads}
 use Rattle.proof_shape.specs.Beneath.proof_commits.proofs.Known.Acts.{known_run}
 
 module _ (limits : Limits) (states : ℕ → State) (last : ℕ) (run : IsRun limits states last) where
@@ -136,7 +135,7 @@ module _ (limits : Limits) (states : ℕ → State) (last : ℕ) (run : IsRun li
       abbrev Next : Line → Type 0
       Next l = HeldIn limits states last run (suc t) actor operation.id start operation.call l
 
-      free : (l : Line) → is_free l ≡ true → Next l
+      free : (l : Line) → holds_nothing l ≡ true → Next l
       free l e = free_holds limits states last run (suc t) actor operation.id start operation.call l e
 
       key_entry_holds : operation.generation ≡ Some start → (path : List Ref) (main : Ref) (position : ℕ) (n : Node) → Next (key_after_entry (states t) operation path main position n)
@@ -151,12 +150,12 @@ module _ (limits : Limits) (states : ℕ → State) (last : ℕ) (run : IsRun li
       key_entry_holds begun path main position (Listed ss) = tt
 
       key_holds : operation.generation ≡ Some start → (l : KeyLine) → Next (key_after (states t) operation l)
-      key_holds begun (key.Read path r) = free _ (key_read_free (states t) operation path r)
-      key_holds begun (key.Main path main) = free _ (key_main_free (states t) operation path main (node_at (states t).heap main))
+      key_holds begun (key.Read path r) = free _ (key_read_leads (states t) operation path r).3
+      key_holds begun (key.Main path main) = free _ (key_main_leads (states t) operation path main (node_at (states t).heap main)).3
       key_holds begun (key.Entry path main position) = key_entry_holds begun path main position (node_at (states t).heap (entry_at (states t).heap main position))
       key_holds begun (key.Listed path main position) = free _ (key_listed_free (states t) operation path main position (node_at (states t).heap (entry_at (states t).heap main position)))
       key_holds begun (key.Sibling path main position former) =
-          free _ (key_sibling_free path main position former (entry_at (states t).heap main (1 - position)) (node_at (states t).heap (entry_at (states t).heap main (1 - position))))
+          free _ (key_sibling_leads path main position former (entry_at (states t).heap main (1 - position)) (node_at (states t).heap (entry_at (states t).heap main (1 - position)))).2
 
       swap_on : (why : Purpose) (s : Swap) (l : SwapLine) → Next (line.Swap why s) → Next (line.Swap why (record s { line = l }))
       swap_on (purpose.Update path former) s l x = x
@@ -170,7 +169,7 @@ module _ (limits : Limits) (states : ℕ → State) (last : ℕ) (run : IsRun li
 
       line_holds : (l : Line) → operation.line ≡ l → generation_from (states t) operation l ≡ Some start →
           (operation.generation ≡ Some start → HeldIn limits states last run t actor operation.id start operation.call l) → Next (line_after (states t) operation l)
-      line_holds (line.Root l) e begun x = free _ (root_free (states t) operation l)
+      line_holds (line.Root l) e begun x = free _ (root_leads (states t) operation l).2
       line_holds (line.Key l) e begun x = key_holds begun l
       line_holds (line.Build l) e begun x = build_holds limits states last run t h actor operation go takes_it new start begun l e (x begun)
       line_holds (line.Renew l) e begun x = renew_holds limits states last run t h actor operation go takes_it new start begun l e (x begun)
@@ -179,15 +178,15 @@ module _ (limits : Limits) (states : ℕ → State) (last : ℕ) (run : IsRun li
           let held = quiet_held limits states last run t h actor operation go (ap (λ y. is_making (line_action (states t) operation y)) e ∙ swap_quiet (states t) operation why s) start in
           swap_holds why s
           (line_still limits states last run t h actor operation.id start new held operation.call (line.Swap why s) (not_given actor operation go.runs operation.id start held _ e) (x begun)) _
-      line_holds (line.Climb l) e begun x = free _ (climb_free (states t) operation l)
-      line_holds (line.Copy l) e begun x = free _ (copy_free (states t) operation l)
-      line_holds (line.Walk l) e begun x = free _ (walk_free (states t) operation l)
+      line_holds (line.Climb l) e begun x = free _ (climb_leads (states t) operation l).2
+      line_holds (line.Copy l) e begun x = free _ (copy_leads (states t) operation l).2
+      line_holds (line.Walk l) e begun x = free _ (walk_leads (states t) operation l).2
       line_holds (line.End answer) e begun x = tt
       line_holds line.Impossible e begun x = tt
 
   pub holds_at : OfEachAt states last (λ t k operation. (start : ℕ) → operation.generation ≡ Some start → HeldIn limits states last run t k operation.id start operation.call operation.line)
   holds_at =
       each_with limits states last run HoldsAt (λ t k operation x. x)
-      (λ t h actor call d takes e start begun. free_holds limits states last run (suc t) actor _ start call _ (first_free call))
+      (λ t h actor call d takes e start begun. free_holds limits states last run (suc t) actor _ start call _ (first_leads call).2)
       (λ t h actor operation go takes_it all start begun. line_holds t h all actor operation go takes_it start operation.line refl begun (λ b. all actor operation go.runs start b))
       (λ t h k operation is apart all. stays_holding t h all k operation is apart)

@@ -75,9 +75,12 @@ module _ (limits : Limits) (states : ℕ → State) (last : ℕ) (run : IsRun li
           (sym (ap (λ m. slice_index_or (done ++ other ∷ []) m no_ref) at ∙ get_or-append_seam done other [] no_ref)) it
 
   -- the entry itself
-  pub next_came : (v : ℕ) (main : Ref) (done : List Ref) → node_at heap main ≡ node main →
+  next_came : (v : ℕ) (main : Ref) (done : List Ref) → node_at heap main ≡ node main →
       Came node (Held v) (slice_index_or (entries_of (node main)) (length done) no_ref) (next_entry (states t) main done)
   next_came v main done there = same (ap (λ n. slice_index_or (entries_of n) (length done) no_ref) (sym there))
+
+  pub with_next : (v : ℕ) (main : Ref) (done : List Ref) → node_at heap main ≡ node main → Came' v main done → Came' v main (done ++ next_entry (states t) main done ∷ [])
+  with_next v main done there all = one_more v main done (next_entry (states t) main done) all (next_came v main done there)
 
   pub renew_next_holds : (path : List Ref) (main : Ref) (done : List Ref) → Came' (suc t) main done → Next (renew_next (states t) path main done)
   renew_next_holds path main done all = by_test (nat_lt (length done) (length (entries_of (node_at heap main))))

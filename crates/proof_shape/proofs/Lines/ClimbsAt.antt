@@ -49,7 +49,8 @@ use Rattle.proof_shape.proofs.Runs.Seen.{main_seen}
 use Rattle.proof_shape.proofs.Lines.Key.{same_known, claims}
 use Rattle.proof_shape.proofs.Commits.Was.{link_in_end, was_committed}
 use Rattle.proof_shape.proofs.Lines.Climb.{climbing_knows, contracted_single, position_within, climb_knows}
-use Rattle.proof_shape.proofs.Lines.Grounded.{grounded_knows, first_grounded, root_grounded, key_grounded, build_grounded, renew_grounded, clean_grounded, copy_grounded, walk_grounded, climbing_later}
+use Rattle.proof_shape.proofs.Lines.Leads.{first_leads, root_leads, key_leads, build_leads, renew_leads, clean_leads, copy_leads, walk_leads}
+use Rattle.proof_shape.proofs.Lines.Grounded.{grounded_knows, climbing_later}
 use Rattle.proof_shape.specs.Beneath.proof_commits.proofs.Known.Acts.{known_run}
 
 -- ---- a SWAP
@@ -174,13 +175,13 @@ module _ (limits : Limits) (states : ℕ → State) (last : ℕ) (run : IsRun li
   step_climbs : (l : Line) → operation.line ≡ l → KnowsClimbing K (Was states last t) operation.call l → KnowsClimbing K W operation.call (line_after (states t) operation l)
   step_climbs (line.Climb l) e k = climb_knows limits states last run t h actor operation go l e k
   step_climbs (line.Swap why s) e k = swap_knows why s.indirection s.replaced s.fresh s.line e (climbing_later K states last t operation.call (line.Swap why s) k)
-  step_climbs (line.Root l) e k = grounded_knows K W operation.call _ (root_grounded (states t) operation l)
-  step_climbs (line.Key l) e k = grounded_knows K W operation.call _ (key_grounded (states t) operation l)
-  step_climbs (line.Build l) e k = grounded_knows K W operation.call _ (build_grounded (states t) operation l)
-  step_climbs (line.Renew l) e k = grounded_knows K W operation.call _ (renew_grounded (states t) operation l)
-  step_climbs (line.Clean l) e k = grounded_knows K W operation.call _ (clean_grounded (states t) operation l)
-  step_climbs (line.Copy l) e k = grounded_knows K W operation.call _ (copy_grounded (states t) operation l)
-  step_climbs (line.Walk l) e k = grounded_knows K W operation.call _ (walk_grounded (states t) operation l)
+  step_climbs (line.Root l) e k = grounded_knows K W operation.call _ (root_leads (states t) operation l).0
+  step_climbs (line.Key l) e k = grounded_knows K W operation.call _ (key_leads (states t) operation l).0
+  step_climbs (line.Build l) e k = grounded_knows K W operation.call _ (build_leads (states t) operation l).0
+  step_climbs (line.Renew l) e k = grounded_knows K W operation.call _ (renew_leads (states t) operation l).0
+  step_climbs (line.Clean l) e k = grounded_knows K W operation.call _ (clean_leads (states t) operation l).0
+  step_climbs (line.Copy l) e k = grounded_knows K W operation.call _ (copy_leads (states t) operation l).0
+  step_climbs (line.Walk l) e k = grounded_knows K W operation.call _ (walk_leads (states t) operation l).0
   step_climbs (line.End answer) e k = tt
   step_climbs line.Impossible e k = tt
 
@@ -198,5 +199,5 @@ module _ (limits : Limits) (states : ℕ → State) (last : ℕ) (run : IsRun li
   pub climbs_at : ClimbsAt limits states last
   climbs_at =
       each_at Climbs (λ t actor operation k. k) limits states last run
-      (λ t h actor call d. grounded_knows (known_with limits states last (first_main states last)) (Was states last (suc t)) call _ (first_grounded call)) goes_climbs
+      (λ t h actor call d. grounded_knows (known_with limits states last (first_main states last)) (Was states last (suc t)) call _ (first_leads call).0) goes_climbs
       (λ t h actor operation is k. climbing_later (known_with limits states last (first_main states last)) states last t operation.call operation.line k)

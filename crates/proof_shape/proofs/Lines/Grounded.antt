@@ -1,45 +1,23 @@
 -- Lines that climb from nothing; and what is known of a tomb stays known.
-use Rattle.std.proofs.Common.{◌≡◌, ℕ, suc, ◌-◌, List, Bool, true, false, sym, arith}
+use Rattle.std.proofs.Common.{◌≡◌, ℕ, suc, true, false, sym}
 use Rattle.std.proofs.lemmas.Bool.{true≢false}
 use Rattle.proof_shape.specs.Beneath.history.specs.declared.calls.Call.{Call}
 use Rattle.proof_shape.specs.Beneath.slot_arena.specs.declared.refs.Ref.{Ref}
-use Rattle.proof_shape.specs.Beneath.slot_arena.specs.declared.nodes.Node.{Node}
-use Rattle.proof_shape.specs.Beneath.slot_arena.specs.Heaps.{node_at, entry_at}
-use Rattle.proof_shape.specs.Beneath.machine_model.specs.declared.building.BuildLine.{BuildLine}
-use Rattle.proof_shape.specs.Beneath.machine_model.specs.declared.copying.CopyLine.{CopyLine}
-use Rattle.proof_shape.specs.Beneath.machine_model.specs.declared.finding.KeyLine.{KeyLine}
-use Rattle.proof_shape.specs.Beneath.machine_model.specs.declared.finding.KeyLine.TheVariants as key
 use Rattle.proof_shape.specs.Beneath.machine_model.specs.declared.lines.Line.{Line}
 use Rattle.proof_shape.specs.Beneath.machine_model.specs.declared.lines.Line.TheVariants as line
 use Rattle.proof_shape.specs.Beneath.machine_model.specs.declared.lines.Purpose.TheVariants as purpose
-use Rattle.proof_shape.specs.Beneath.machine_model.specs.declared.operations.Operation.{Operation}
 use Rattle.proof_shape.specs.Beneath.machine_model.specs.declared.reading.Read.{Read}
-use Rattle.proof_shape.specs.Beneath.machine_model.specs.declared.repairs.CleanLine.{CleanLine}
-use Rattle.proof_shape.specs.Beneath.machine_model.specs.declared.repairs.RenewLine.{RenewLine}
 use Rattle.proof_shape.specs.Beneath.machine_model.specs.declared.repairs.ClimbLine.{ClimbLine}
 use Rattle.proof_shape.specs.Beneath.machine_model.specs.declared.repairs.ClimbLine.TheVariants as climb
-use Rattle.proof_shape.specs.Beneath.machine_model.specs.declared.roots.RootLine.{RootLine}
-use Rattle.proof_shape.specs.Beneath.machine_model.specs.declared.walking.WalkLine.{WalkLine}
 use Rattle.proof_shape.specs.Beneath.machine_model.specs.States.{State}
 use Rattle.proof_shape.specs.Beneath.machine_model.specs.Paths.{current}
-use Rattle.proof_shape.specs.Beneath.machine_model.specs.Finding.{key_after, key_after_main, key_after_entry, after_listed, after_sibling}
-use Rattle.proof_shape.specs.Beneath.machine_model.specs.Building.{build_after}
-use Rattle.proof_shape.specs.Beneath.machine_model.specs.Renewing.{renew_after}
-use Rattle.proof_shape.specs.Beneath.machine_model.specs.Cleaning.{clean_after}
-use Rattle.proof_shape.specs.Beneath.machine_model.specs.Copying.{copy_after}
-use Rattle.proof_shape.specs.Beneath.machine_model.specs.Walking.{walk_after}
-use Rattle.proof_shape.specs.Beneath.machine_model.specs.Operations.{first_line, line_after}
 use Rattle.proof_shape.specs.Beneath.proof_contents.specs.Lines.Changes.{Known}
 use Rattle.proof_shape.specs.Lines.Given.{Was}
 use Rattle.proof_shape.specs.Lines.Climbing.{WasTombed, KnowsClimb, KnowsClimbing}
 use Rattle.proof_shape.proofs.Commits.Was.{was_later}
+use Rattle.proof_shape.proofs.Lines.Leads.{is_grounded}
 
 -- ---- lines that climb from nothing
-
-abbrev is_grounded : Line → Bool
-is_grounded (line.Climb l) = false
-is_grounded (line.Swap (purpose.Climb c) s) = false
-is_grounded l = true
 
 pub grounded_knows : (k : Known) (W : Ref → Ref → Type 0) (call : Call) (l : Line) → is_grounded l ≡ true → KnowsClimbing k W call l
 grounded_knows k W call (line.Climb l) e = absurd (true≢false (sym e))
@@ -56,52 +34,6 @@ grounded_knows k W call (line.Copy l) e = tt
 grounded_knows k W call (line.Walk l) e = tt
 grounded_knows k W call (line.End answer) e = tt
 grounded_knows k W call line.Impossible e = tt
-
-pub first_grounded : (call : Call) → is_grounded (first_line call) ≡ true
-first_grounded call = grind arith
-
-pub root_grounded : (state : State) (operation : Operation) (l : RootLine) → is_grounded (line_after state operation (line.Root l)) ≡ true
-root_grounded state operation l = grind arith
-
-pub key_read_grounded : (state : State) (operation : Operation) (path : List Ref) (r : Read) → is_grounded (key_after state operation (key.Read path r)) ≡ true
-key_read_grounded state operation path r = grind arith
-
-pub key_main_grounded : (state : State) (operation : Operation) (path : List Ref) (main : Ref) (node : Node) → is_grounded (key_after_main state operation path main node) ≡ true
-key_main_grounded state operation path main node = grind arith
-
-pub key_entry_grounded : (state : State) (operation : Operation) (path : List Ref) (main : Ref) (position : ℕ) (node : Node) →
-    is_grounded (key_after_entry state operation path main position node) ≡ true
-key_entry_grounded state operation path main position node = grind arith
-
-pub key_listed_grounded : (state : State) (operation : Operation) (path : List Ref) (main : Ref) (position : ℕ) (node : Node) →
-    is_grounded (after_listed state operation path main position node) ≡ true
-key_listed_grounded state operation path main position node = grind arith
-
-pub key_sibling_grounded : (path : List Ref) (main : Ref) (position former : ℕ) (other : Ref) (node : Node) → is_grounded (after_sibling path main position former other node) ≡ true
-key_sibling_grounded path main position former other node = grind arith
-
-pub key_grounded : (state : State) (operation : Operation) (l : KeyLine) → is_grounded (key_after state operation l) ≡ true
-key_grounded state operation (key.Read path r) = key_read_grounded state operation path r
-key_grounded state operation (key.Main path main) = key_main_grounded state operation path main (node_at state.heap main)
-key_grounded state operation (key.Entry path main position) = key_entry_grounded state operation path main position (node_at state.heap (entry_at state.heap main position))
-key_grounded state operation (key.Listed path main position) = key_listed_grounded state operation path main position (node_at state.heap (entry_at state.heap main position))
-key_grounded state operation (key.Sibling path main position former) =
-    key_sibling_grounded path main position former (entry_at state.heap main (1 - position)) (node_at state.heap (entry_at state.heap main (1 - position)))
-
-pub build_grounded : (state : State) (operation : Operation) (l : BuildLine) → is_grounded (build_after state operation l) ≡ true
-build_grounded state operation l = grind arith
-
-pub renew_grounded : (state : State) (operation : Operation) (l : RenewLine) → is_grounded (renew_after state operation l) ≡ true
-renew_grounded state operation l = grind arith
-
-pub clean_grounded : (state : State) (operation : Operation) (l : CleanLine) → is_grounded (clean_after state operation l) ≡ true
-clean_grounded state operation l = grind arith
-
-pub copy_grounded : (state : State) (operation : Operation) (l : CopyLine) → is_grounded (copy_after state operation l) ≡ true
-copy_grounded state operation l = grind arith
-
-pub walk_grounded : (state : State) (operation : Operation) (l : WalkLine) → is_grounded (walk_after state operation l) ≡ true
-walk_grounded state operation l = grind arith
 
 -- ---- what once was the main node was so
 

@@ -18,8 +18,8 @@ use Rattle.proof_shape.specs.Beneath.machine_model.specs.Operations.{first_line,
 use Rattle.proof_shape.specs.Beneath.machine_model.specs.Times.{IsRun}
 use Rattle.proof_shape.specs.Lines.Knowing.{OfEachAt, IsPlaced, PlacesAt}
 use Rattle.proof_shape.proofs.Runs.EachAt.{each_at}
-use Rattle.proof_shape.proofs.Lines.Placed.{is_keyed, is_copy, is_below, is_down, is_copying, is_walking, key_down, build_down, swap_down, renew_down, clean_down, climb_down}
-use Rattle.proof_shape.proofs.Lines.Placed.{copy_copying, walk_walking}
+use Rattle.proof_shape.proofs.Lines.Leads.{is_down, is_copying, is_walking, key_leads, build_leads, swap_leads, renew_leads, clean_leads, climb_leads, copy_leads, walk_leads}
+use Rattle.proof_shape.proofs.Lines.Placed.{is_keyed, is_copy, is_below}
 use Rattle.proof_shape.proofs.Lines.Swap.{SwapPlace, is_swap, no_place, line_places}
 use Rattle.proof_shape.specs.Beneath.machine_model.proofs.Basics.{or_first, or_second}
 
@@ -88,14 +88,14 @@ after_root_fits operation e (Gives r) = root_fits operation.call r e
 
 line_fits : (state : State) (operation : Operation) (l : Line) → FitsCall operation.call l → FitsCall operation.call (line_after state operation l)
 line_fits state operation (line.Root l) f = after_root_fits operation f _
-line_fits state operation (line.Key l) f = down_fits operation.call _ f (key_down state operation l)
-line_fits state operation (line.Build l) f = down_fits operation.call _ f (build_down state operation l)
-line_fits state operation (line.Swap why s) f = down_fits operation.call _ f (swap_down state operation why s)
-line_fits state operation (line.Renew l) f = down_fits operation.call _ f (renew_down state operation l)
-line_fits state operation (line.Clean l) f = down_fits operation.call _ f (clean_down state operation l)
-line_fits state operation (line.Climb l) f = down_fits operation.call _ f (climb_down state operation l)
-line_fits state operation (line.Copy l) f = copying_fits operation.call _ f (copy_copying state operation l)
-line_fits state operation (line.Walk l) f = walking_fits operation.call _ (walk_walking state operation l)
+line_fits state operation (line.Key l) f = down_fits operation.call _ f (key_leads state operation l).1
+line_fits state operation (line.Build l) f = down_fits operation.call _ f (build_leads state operation l).1
+line_fits state operation (line.Swap why s) f = down_fits operation.call _ f (swap_leads state operation why s).0
+line_fits state operation (line.Renew l) f = down_fits operation.call _ f (renew_leads state operation l).1
+line_fits state operation (line.Clean l) f = down_fits operation.call _ f (clean_leads state operation l).1
+line_fits state operation (line.Climb l) f = down_fits operation.call _ f (climb_leads state operation l).0
+line_fits state operation (line.Copy l) f = copying_fits operation.call _ f (copy_leads state operation l).3
+line_fits state operation (line.Walk l) f = walking_fits operation.call _ (walk_leads state operation l).3
 line_fits state operation (line.End answer) f = tt
 line_fits state operation line.Impossible f = tt
 
@@ -132,8 +132,8 @@ line_starts state operation (line.Swap why x) s = λ b. s refl
 line_starts state operation (line.Renew l) s = λ b. s refl
 line_starts state operation (line.Clean l) s = λ b. s refl
 line_starts state operation (line.Climb l) s = λ b. s refl
-line_starts state operation (line.Copy l) s = λ b. absurd (copying_above _ (copy_copying state operation l) b)
-line_starts state operation (line.Walk l) s = λ b. absurd (walking_above _ (walk_walking state operation l) b)
+line_starts state operation (line.Copy l) s = λ b. absurd (copying_above _ (copy_leads state operation l).3 b)
+line_starts state operation (line.Walk l) s = λ b. absurd (walking_above _ (walk_leads state operation l).3 b)
 line_starts state operation (line.End answer) s = s
 line_starts state operation line.Impossible s = s
 

@@ -37,7 +37,7 @@ use Rattle.proof_shape.specs.Beneath.machine_model.specs.Cleaning.{clean_after}
 use Rattle.proof_shape.specs.Beneath.machine_model.specs.Climbing.{climb_after, climb_after_main, climb_after_contracted}
 use Rattle.proof_shape.specs.Beneath.machine_model.specs.Operations.{after_swap, swapped, line_after}
 use Rattle.proof_shape.specs.Lines.Knowing.{SwapsAt}
-use Rattle.proof_shape.proofs.Lines.Placed.{is_copying, is_walking, copy_copying, walk_walking}
+use Rattle.proof_shape.proofs.Lines.Leads.{is_copying, is_walking, copy_leads, walk_leads}
 
 -- ---- where it swaps
 
@@ -190,7 +190,7 @@ line_places state operation (line.Swap why x) s = after_swap_places state operat
 line_places state operation (line.Renew l) s = renew_places state operation l
 line_places state operation (line.Clean l) s = clean_places _ (clean_is_clean state operation l)
 line_places state operation (line.Climb l) s = climb_places state operation l
-line_places state operation (line.Copy l) s = no_place _ (copying_no_swap _ (copy_copying state operation l))
-line_places state operation (line.Walk l) s = no_place _ (walking_no_swap _ (walk_walking state operation l))
+line_places state operation (line.Copy l) s = no_place _ (copying_no_swap _ (copy_leads state operation l).3)
+line_places state operation (line.Walk l) s = no_place _ (walking_no_swap _ (walk_leads state operation l).3)
 line_places state operation (line.End answer) s = tt
 line_places state operation line.Impossible s = tt

@@ -1,7 +1,6 @@
 -- What is found along a key's hash in the machine's heap is what the content of a handle has of it.
 use Rattle.std.proofs.Common.{◌≡◌, ℕ, zero, suc, ◌==◌, Bool, true, false, cond, List, [], ◌∷◌, Contains, Option, Some, None, refl, sym, ap, ◌∙◌, subst, arith}
 use Rattle.std.proofs.lemmas.Option.{none-some, same_Some}
-use Rattle.arrayvec.specs.ArrayVec.{ArrayVec}
 use Rattle.proof_shape.specs.Beneath.ctrie_base.specs.Hashes.{hash_of}
 use Rattle.proof_shape.specs.Beneath.nodes.specs.Levels.{flag_of, index_in}
 use Rattle.proof_shape.specs.Beneath.slot_arena.specs.declared.refs.Ref.{Ref}
@@ -43,6 +42,7 @@ use Rattle.proof_generations.proofs.Lines.ReaderKnows.{indirection_is}
 use Rattle.proof_shape.proofs.Shaped.KeysOnce as once
 use Rattle.proof_shape.proofs.Sites.Fixed.{keys_fit}
 use Rattle.proof_shape.proofs.Sites.Stepped.{takes_steps}
+use Rattle.proof_shape.proofs.Shaped.Places.{bare_single, bare_branch, bare_list, bare_tomb}
 
 -- ---- what an entry says, by what is found below it
 
@@ -62,40 +62,11 @@ module _ (q : ℕ) (f g : Ref → Option ℕ) where
   or_same true v x y e = refl
   or_same false v x y e = e
 
--- only an indirection is bared
-bare_branch : (n : Node) (b : ℕ) (es : ArrayVec Ref) → bare n ≡ Branch b es → n ≡ Branch b es
-bare_branch (Indirection h w) b es e = let bad : ⊥ = cc e in absurd bad
-bare_branch (Branch c ds) b es e = e
-bare_branch (Single k v) b es e = e
-bare_branch (Tomb s) b es e = e
-bare_branch (Listed ss) b es e = e
-
-bare_list : (n : Node) (ss : ArrayVec Ref) → bare n ≡ Listed ss → n ≡ Listed ss
-bare_list (Indirection h w) ss e = let bad : ⊥ = cc e in absurd bad
-bare_list (Branch c ds) ss e = e
-bare_list (Single k v) ss e = e
-bare_list (Tomb s) ss e = e
-bare_list (Listed rs) ss e = e
-
-bare_tomb : (n : Node) (s : Ref) → bare n ≡ Tomb s → n ≡ Tomb s
-bare_tomb (Indirection h w) s e = let bad : ⊥ = cc e in absurd bad
-bare_tomb (Branch c ds) s e = e
-bare_tomb (Single k v) s e = e
-bare_tomb (Tomb r) s e = e
-bare_tomb (Listed rs) s e = e
-
-bare_single : (n : Node) (k v : ℕ) → bare n ≡ Single k v → n ≡ Single k v
-bare_single (Indirection h w) k v e = let bad : ⊥ = cc e in absurd bad
-bare_single (Branch c ds) k v e = e
-bare_single (Single l w) k v e = e
-bare_single (Tomb r) k v e = e
-bare_single (Listed rs) k v e = e
-
 no_link : (n : Node) (k v h : ℕ) (w : Ref) {P : Type 0} → n ≡ Single k v → n ≡ Indirection h w → P
 no_link n k v h w a b = let both : Single k v ≡ Indirection h w = sym a ∙ b in let bad : ⊥ = cc both in absurd bad
 
 -- what stands at a place is one of those that stand there
-stands_there : (places : List (Option Ref)) (x : ℕ) (e : Ref) → at_place places x ≡ Some e → Contains (standing places) e
+pub stands_there : (places : List (Option Ref)) (x : ℕ) (e : Ref) → at_place places x ≡ Some e → Contains (standing places) e
 stands_there [] x e at = absurd (none-some e at)
 stands_there (None ∷ places) zero e at = absurd (none-some e at)
 stands_there (None ∷ places) (suc x) e at = stands_there places x e at

@@ -26,7 +26,7 @@ use Rattle.proof_shape.specs.Beneath.proof_contents.proofs.Shapes.Nodes.{list_de
 use Rattle.proof_shape.specs.Sites.Nodes.{path_to, depth_at, level_until, path_until, depth_of_run, path_of_run}
 use Rattle.proof_shape.specs.Sites.Lines.{Sites, sites_of, LineSite}
 use Rattle.proof_shape.specs.Sites.At.{TakesSteps, StepsFit, LinesHaveSites, WaysHaveSites, UpdatesHaveSites, way_of}
-use Rattle.proof_shape.proofs.Sites.LineWays.{way_level, way_site, way_links}
+use Rattle.proof_shape.proofs.Sites.LineWays.{IsWay, line_way}
 use Rattle.proof_shape.proofs.Sites.Given.{levels_there}
 use Rattle.proof_shape.proofs.Sites.Runs.{sites_there}
 use Rattle.proof_shape.proofs.Sites.Grown.{link_same}
@@ -48,13 +48,20 @@ module _ (limits : Limits) (states : ℕ → State) (steps : ℕ → Step) (last
       let sites = (sites_there limits states steps last run takes keys t h).lines k operation found in
       ((levels_there limits states steps last run takes t h).0.lines k operation found, sites.0, sites.1)
 
+  stands_along : (t : ℕ) → t ≤ last → (actor : ℕ) (operation : Operation) → operation_of (states t) actor ≡ Some operation →
+      IsWay s (IsInUse (states t).heap) (states t).heap limits.hash (hash_of limits.hash (key_of operation.call)) (way_of operation.line)
+  stands_along t h actor operation e =
+      let sites = lines_have_sites t h actor operation e in
+      line_way s (IsInUse (states t).heap) (states t).heap limits.hash (hash_of limits.hash (key_of operation.call)) operation.call operation.access operation.line
+      sites.0 sites.1 (line_at limits states last run t h actor operation e)
+
   module _ (t : ℕ) (h : t ≤ last) (actor : ℕ) (operation : Operation) (e : operation_of (states t) actor ≡ Some operation) (d : ℕ) (within : d < length (way_of operation.line)) where
     i : Ref
     i = slice_index_or (way_of operation.line) d no_ref
 
     its : Meets (IsInUse (states t).heap) (states t).heap AnIndirection i
     unfolding i
-    its = way_links (IsInUse (states t).heap) (states t).heap limits.hash operation.call operation.access operation.line (line_at limits states last run t h actor operation e) d no_ref within
+    its = (stands_along t h actor operation e).2 d no_ref within
 
     node_is : is_indirection its.0.0.node ≡ true
     node_is = ap is_indirection (sym (heap_node_under (states t).heap i its.0.0 its.0.1)) ∙ its.1
@@ -64,7 +71,7 @@ module _ (limits : Limits) (states : ℕ → State) (steps : ℕ → Step) (last
 
     level_is : s.level i ≡ d + 1
     unfolding i
-    level_is = way_level s.level operation.line (lines_have_sites t h actor operation e).0 d no_ref within
+    level_is = (stands_along t h actor operation e).0 d no_ref within
 
     high : s.level i ≤ 14
     high =
@@ -80,7 +87,7 @@ module _ (limits : Limits) (states : ℕ → State) (steps : ℕ → Step) (last
     unfolding i
     way_path =
         ap (λ b. cond b (path_until states steps last i) 0) link
-        ∙ way_site limits.hash s (hash_of limits.hash (key_of operation.call)) operation.line (lines_have_sites t h actor operation e).1 d no_ref within
+        ∙ (stands_along t h actor operation e).1 d no_ref within
 
     all_there : (is_indirection (node_under states last (slice_index_or (way_of operation.line) d no_ref)) ≡ true)
         × (depth_of_run states steps last (slice_index_or (way_of operation.line) d no_ref) ≡ d)
@@ -91,9 +98,7 @@ module _ (limits : Limits) (states : ℕ → State) (steps : ℕ → Step) (last
   -- the level and the path of each
   pub way_stands : (t : ℕ) → t ≤ last → (actor : ℕ) (operation : Operation) → operation_of (states t) actor ≡ Some operation → (d : ℕ) → d < length (way_of operation.line) →
       (s.level (slice_index_or (way_of operation.line) d no_ref) ≡ d + 1) × (s.path (slice_index_or (way_of operation.line) d no_ref) ≡ path_to (hash_of limits.hash (key_of operation.call)) d)
-  way_stands t h actor operation e d within =
-      let line = lines_have_sites t h actor operation e in
-      (way_level s.level operation.line line.0 d no_ref within, way_site limits.hash s (hash_of limits.hash (key_of operation.call)) operation.line line.1 d no_ref within)
+  way_stands t h actor operation e d within = let way = stands_along t h actor operation e in (way.0 d no_ref within, way.1 d no_ref within)
 
   pub ways_have_sites : WaysHaveSites limits states steps last
   ways_have_sites t h actor operation e = (short, λ d within. all_there t h actor operation e d within)

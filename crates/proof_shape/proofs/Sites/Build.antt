@@ -50,12 +50,6 @@ module _ (s : Sites) (fits : (i : Ref) → s.path i < 2 ^ (5 * depth_at (s.level
   abbrev hash : ℕ
   hash = hash_in state operation
 
-  abbrev L : Line → Type 0
-  L l = LineSite kind s hash l
-
-  abbrev Place : List Ref → Ref → Type 0
-  Place path main = PlaceSite kind s hash path main
-
   abbrev Wants : Line → Type 0
   Wants l = AllHold S state.heap (line_wants state.limits.hash operation.call operation.access l)
 
@@ -66,7 +60,7 @@ module _ (s : Sites) (fits : (i : Ref) → s.path i < 2 ^ (5 * depth_at (s.level
     K = record { kind = kind; node = s.node; first = first }
 
     -- where the paths of a neighbour and of the key part
-    module _ (path : List Ref) (main : Ref) (position : ℕ) (u : S main) (level : s.level main ≡ depth_of path + 1) (p : Place path main)
+    module _ (path : List Ref) (main : Ref) (position : ℕ) (u : S main) (level : s.level main ≡ depth_of path + 1) (p : PlaceSite kind s hash path main)
         (beside : Neighbour K (depth_of path) (key_of operation.call) main position) where
       deep : depth_at (s.level main) ≡ depth_of path
       deep = omega (arith, level)
@@ -147,7 +141,8 @@ module _ (s : Sites) (fits : (i : Ref) → s.path i < 2 ^ (5 * depth_at (s.level
         (is, subst (InsideSite kind s entry) is (N.inside entry u))
 
     main_made : (path : List Ref) (main : Ref) (former : Option ℕ) (c : Change) (r : Ref) (n : Node) → node_at state.heap main ≡ n → (s.node main ≡ n) × IsShaped (trie_at kind s) main n →
-        s.level main ≡ depth_of path + 1 → Place path main → ChangeLevel s.level path former c → ChangeSite kind s hash path former c → KnowsChange K operation.call (depth_of path) main former c →
+        s.level main ≡ depth_of path + 1 → PlaceSite kind s hash path main → ChangeLevel s.level path former c → ChangeSite kind s hash path former c →
+        KnowsChange K operation.call (depth_of path) main former c →
         s.level r ≡ depth_of path + 1 → IsOnWay kind s hash (depth_of path) r → IsShaped (trie_at kind s) r (changed (flag_in state operation path) n c)
     main_made path main former c r n is both level p cl cs knows level_r on =
         let here : depth_at (s.level r) ≡ depth_of path = omega (arith, level_r) in
@@ -188,8 +183,8 @@ module _ (s : Sites) (fits : (i : Ref) → s.path i < 2 ^ (5 * depth_at (s.level
   abbrev Made : Line → Type 0
   Made l = (made : Ref) → next_ref state.heap ≡ Some made → AtSite s state operation l made
 
-  build_by : (l : BuildLine) → ((made : Ref) → next_ref state.heap ≡ Some made → L (build_after_made state operation l made)) → (o : Option Ref) →
-      next_ref state.heap ≡ o → L (build_if_made state operation l o)
+  build_by : (l : BuildLine) → ((made : Ref) → next_ref state.heap ≡ Some made → LineSite kind s hash (build_after_made state operation l made)) → (o : Option Ref) →
+      next_ref state.heap ≡ o → LineSite kind s hash (build_if_made state operation l o)
   build_by l f None e = tt
   build_by l f (Some made) e = f made e
 
@@ -198,7 +193,7 @@ module _ (s : Sites) (fits : (i : Ref) → s.path i < 2 ^ (5 * depth_at (s.level
   updated_so path (Some value) made e = tt
 
   single_next : (path : List Ref) (main : Ref) (former : Option ℕ) (where_ : Site) (made : Ref) → AllHold S state.heap (site_wants main former where_) →
-      Place path main → L (after_single state operation path main former where_ made)
+      PlaceSite kind s hash path main → LineSite kind s hash (after_single state operation path main former where_ made)
   single_next path main former site.Absent made h p = (p, tt)
   single_next path main former (site.At position) made h p = (p, updated_so path former made (fact_of h.0))
   single_next path main former (site.Beside position) made h p = p
@@ -206,13 +201,13 @@ module _ (s : Sites) (fits : (i : Ref) → s.path i < 2 ^ (5 * depth_at (s.level
   on_way : (depth : ℕ) (made : Ref) → s.path made ≡ path_to hash (depth_at (depth + 1)) → IsOnWay kind s hash depth made
   on_way depth made e = let here : depth_at (depth + 1) ≡ depth = omega arith in e ∙ ap (path_to hash) here
 
-  link_next : (path : List Ref) (main : Ref) (position depth : ℕ) (made : Ref) → Place path main → depth_of path + 1 ≤ depth → IsOnWay kind s hash depth made →
-      L (after_link path main position depth made)
+  link_next : (path : List Ref) (main : Ref) (position depth : ℕ) (made : Ref) → PlaceSite kind s hash path main → depth_of path + 1 ≤ depth → IsOnWay kind s hash depth made →
+      LineSite kind s hash (after_link path main position depth made)
   link_next path main position depth made p le e =
       let back : depth ≡ depth - 1 + 1 = omega arith in
-      cond_both (depth == depth_of path + 1) _ _ L (λ t. (p, e ∙ ap (path_to hash) (eqb-true depth (depth_of path + 1) t))) (λ t. (p, e ∙ ap (path_to hash) back))
+      cond_both (depth == depth_of path + 1) _ _ (LineSite kind s hash) (λ t. (p, e ∙ ap (path_to hash) (eqb-true depth (depth_of path + 1) t))) (λ t. (p, e ∙ ap (path_to hash) back))
 
-  pub build_next : (l : BuildLine) → Wants (line.Build l) → BuildLevel s.level l → BuildSite kind s hash l → Made (line.Build l) → L (build_after state operation l)
+  pub build_next : (l : BuildLine) → Wants (line.Build l) → BuildLevel s.level l → BuildSite kind s hash l → Made (line.Build l) → LineSite kind s hash (build_after state operation l)
   build_next (build.Single path main where_ former) h e p m =
       build_by (build.Single path main where_ former) (λ made n. single_next path main former where_ made h.1.1.1 p) (next_ref state.heap) refl
   build_next (build.Pair path main position single depth) h e p m =

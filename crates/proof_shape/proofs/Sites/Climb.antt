@@ -27,7 +27,6 @@ use Rattle.proof_shape.specs.Beneath.machine_model.specs.declared.roots.RootLine
 use Rattle.proof_shape.specs.Beneath.machine_model.specs.declared.repairs.Climb.{Climb}
 use Rattle.proof_shape.specs.Beneath.machine_model.specs.declared.lines.Purpose.{Purpose}
 use Rattle.proof_shape.specs.Beneath.machine_model.specs.declared.lines.Purpose.TheVariants as purpose
-use Rattle.proof_shape.specs.Beneath.machine_model.specs.declared.lines.Line.{Line}
 use Rattle.proof_shape.specs.Beneath.machine_model.specs.States.{State}
 use Rattle.proof_shape.specs.Beneath.machine_model.specs.Paths.{current, above, depth_of, hash_in, flag_in, is_start, is_below_root}
 use Rattle.proof_shape.specs.Beneath.machine_model.specs.Reading.{at_indirection}
@@ -57,15 +56,12 @@ module _ (s : Sites) (fits : (i : Ref) → s.path i < 2 ^ (5 * depth_at (s.level
   abbrev hash : ℕ
   hash = hash_in state operation
 
-  abbrev L : Line → Type 0
-  L l = LineSite kind s hash l
-
   abbrev Carries : Climb → Type 0
   Carries c = CarriesSite kind s hash c
 
-  climbing_site : (c : Climb) → Carries c → L (climbing operation c)
+  climbing_site : (c : Climb) → Carries c → LineSite kind s hash (climbing operation c)
   climbing_site c p =
-      cond_both (is_below_root c.path) _ _ L (λ below. (p, current_site kind s hash (above c.path) (above_site kind s hash c.path p.0) (above_long c.path below), tt)) (λ e. tt)
+      cond_both (is_below_root c.path) _ _ (LineSite kind s hash) (λ below. (p, current_site kind s hash (above c.path) (above_site kind s hash c.path p.0) (above_long c.path below), tt)) (λ e. tt)
 
   -- the single of a tomb on the way leads as far as the tomb
   tomb_leads : (main single : Ref) (depth k v : ℕ) → S main → node_at state.heap main ≡ Tomb single → s.level main ≡ depth + 1 → IsOnWay kind s hash depth main → s.node single ≡ Single k v →
@@ -78,17 +74,17 @@ module _ (s : Sites) (fits : (i : Ref) → s.path i < 2 ^ (5 * depth_at (s.level
       ap (λ n. path_to (hash_of kind n) depth) (sym key_is) ∙ ap (path_to (hash_of kind t.key)) (sym deep) ∙ t.led ∙ on
 
   pub climb_read_site : (c : Climb) (i : Ref) (a : After ReadLine Ref) → Carries c → IsOnWay kind s hash (depth_of (above c.path)) i → AfterSite s state S N i a →
-      L (climb_after_read c (at_indirection i a))
+      LineSite kind s hash (climb_after_read c (at_indirection i a))
   climb_read_site c i (Goes l) p e h = (p, e, h)
   climb_read_site c i (Gives main) p e h = (p, h ∙ e)
 
   pub climb_main_site : (c : Climb) (main : Ref) (node : Node) → node_at state.heap main ≡ node → S main → s.level main ≡ depth_of (above c.path) + 1 → Carries c →
       IsOnWay kind s hash (depth_of (above c.path)) main →
-      L (climb_after_main state operation c main node)
+      LineSite kind s hash (climb_after_main state operation c main node)
   climb_main_site c main (Tomb single) e u level p on =
       climbing_site (higher c single) (above_site kind s hash c.path p.0, λ k v is. tomb_leads main single (depth_of (above c.path)) k v u e level on is)
   climb_main_site c main (Branch bitmap entries) e u level p on =
-      cond_both (holds_it state operation c main bitmap entries.items) _ _ L
+      cond_both (holds_it state operation c main bitmap entries.items) _ _ (LineSite kind s hash)
       (λ x. (
         p,
         on,
@@ -102,12 +98,13 @@ module _ (s : Sites) (fits : (i : Ref) → s.path i < 2 ^ (5 * depth_at (s.level
           ∙ ap (λ es. slice_index_or es (place_in state operation c main) no_ref) (sym (entries_seen s state S N main u) ∙ ap entries_of e) ∙ same
   climb_main_site c main node e u level p on = tt
 
-  pub climb_root_site : (c : Climb) (a : After RootLine Ref) → Carries c → L (climb_after_root state operation c a)
+  pub climb_root_site : (c : Climb) (a : After RootLine Ref) → Carries c → LineSite kind s hash (climb_after_root state operation c a)
   climb_root_site c (Goes l) p = p
-  climb_root_site c (Gives r) p = cond_both (is_start operation _) _ _ L (λ x. climbing_site c p) (λ x. tt)
+  climb_root_site c (Gives r) p = cond_both (is_start operation _) _ _ (LineSite kind s hash) (λ x. climbing_site c p) (λ x. tt)
 
   pub climbed_by : (c : Climb) (main : Ref) → Carries c → nat_lt 1 (length c.path) ≡ true → IsOnWay kind s hash (depth_of (above c.path)) main →
-      ((made : Ref) → next_ref state.heap ≡ Some made → IsOnWay kind s hash (depth_of (above c.path)) made) → (o : Option Ref) → next_ref state.heap ≡ o → L (climb_after_contracted operation c main o)
+      ((made : Ref) → next_ref state.heap ≡ Some made → IsOnWay kind s hash (depth_of (above c.path)) made) → (o : Option Ref) → next_ref state.heap ≡ o →
+      LineSite kind s hash (climb_after_contracted operation c main o)
   climbed_by c main p long on f None e = tt
   climbed_by c main p long on f (Some made) e =
       let at = current_site kind s hash (above c.path) (above_site kind s hash c.path p.0) (above_long c.path long) in
@@ -204,7 +201,7 @@ module _ (s : Sites) (fits : (i : Ref) → s.path i < 2 ^ (5 * depth_at (s.level
 
   update_site : (path : List Ref) (former : Option ℕ) (i fresh : Ref) (node : Node) → node_at state.heap fresh ≡ node → S fresh → PathSite kind s hash path →
       i ≡ current path → nat_lt 0 (length path) ≡ true →
-      s.level (current path) ≡ depth_of path + 1 → s.level fresh ≡ s.level i → s.path fresh ≡ s.path i → L (after_update operation path former node)
+      s.level (current path) ≡ depth_of path + 1 → s.level fresh ≡ s.level i → s.path fresh ≡ s.path i → LineSite kind s hash (after_update operation path former node)
   update_site path former i fresh (Tomb single) e u p is long level same led =
       climbing_site (record { path = path; single = single; former = former })
       (p, λ k v its. tomb_leads fresh single (depth_of path) k v u e (same ∙ ap s.level is ∙ level) (led ∙ ap s.path is ∙ current_site kind s hash path p long) its)
@@ -221,7 +218,7 @@ module _ (s : Sites) (fits : (i : Ref) → s.path i < 2 ^ (5 * depth_at (s.level
           path_to (hash_of kind k) (suc (depth_of (above c.path))) ≡ path_to hash (suc (depth_of (above c.path)))
       shorter k e = subst (λ d. path_to (hash_of kind k) d ≡ path_to hash d) deep e
 
-  climbed_site : (c : Climb) (node : Node) → is_below_root c.path ≡ true → Carries c → L (climbed_on operation c node)
+  climbed_site : (c : Climb) (node : Node) → is_below_root c.path ≡ true → Carries c → LineSite kind s hash (climbed_on operation c node)
   climbed_site c (Tomb single) below p = climbing_site (higher c c.single) (carried_on c below p)
   climbed_site c node below p = tt
 
@@ -234,7 +231,7 @@ module _ (s : Sites) (fits : (i : Ref) → s.path i < 2 ^ (5 * depth_at (s.level
 
   swapped_site : (w : Swap) (why : Purpose) (done : Bool) → S w.fresh → s.level w.fresh ≡ s.level w.indirection → s.path w.fresh ≡ s.path w.indirection →
       PurposePath why → PurposeSite kind s hash w.indirection why →
-      L (swapped operation (node_at state.heap w.fresh) why done)
+      LineSite kind s hash (swapped operation (node_at state.heap w.fresh) why done)
   swapped_site w (purpose.Update path former) true u same led long p = update_site path former w.indirection w.fresh (node_at state.heap w.fresh) refl u p.0 p.1 long.0 long.1 same led
   swapped_site w (purpose.Update path former) false u same led long p = tt
   swapped_site w (purpose.Renew path) true u same led long p = (p, current_site kind s hash path p long, tt)
@@ -245,6 +242,6 @@ module _ (s : Sites) (fits : (i : Ref) → s.path i < 2 ^ (5 * depth_at (s.level
 
   pub line_swap_site : (why : Purpose) (w : Swap) (a : After SwapLine Bool) → S w.fresh → s.level w.fresh ≡ s.level w.indirection → PurposePath why →
       SwapSite kind s w.indirection w.replaced w.fresh → SwappedSite w a →
-      PurposeSite kind s hash w.indirection why → L (line_after_swap state operation why w (on_line w a))
+      PurposeSite kind s hash w.indirection why → LineSite kind s hash (line_after_swap state operation why w (on_line w a))
   line_swap_site why w (Goes l) u same long h e p = (h, e, p)
   line_swap_site why w (Gives done) u same long h e p = swapped_site w why done u same h.1 long p

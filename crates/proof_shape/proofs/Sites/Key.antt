@@ -18,7 +18,6 @@ use Rattle.proof_shape.specs.Beneath.machine_model.specs.declared.reading.After.
 use Rattle.proof_shape.specs.Beneath.machine_model.specs.declared.reading.ReadLine.{ReadLine}
 use Rattle.proof_shape.specs.Beneath.machine_model.specs.declared.finding.WhenFound.{WhenFound}
 use Rattle.proof_shape.specs.Beneath.machine_model.specs.declared.finding.WhenFound.TheVariants.{Answers, Sets, Removes}
-use Rattle.proof_shape.specs.Beneath.machine_model.specs.declared.lines.Line.{Line}
 use Rattle.proof_shape.specs.Beneath.machine_model.specs.Calls.{key_of, inserts, when_found}
 use Rattle.proof_shape.specs.Beneath.machine_model.specs.States.{State}
 use Rattle.proof_shape.specs.Beneath.machine_model.specs.Paths.{above, depth_of, is_below_root, flag_in, hash_in}
@@ -40,52 +39,46 @@ module _ (s : Sites) (fits : (i : Ref) → s.path i < 2 ^ (5 * depth_at (s.level
   abbrev hash : ℕ
   hash = hash_in state operation
 
-  abbrev L : Line → Type 0
-  L l = LineSite kind s hash l
-
-  abbrev Place : List Ref → Ref → Type 0
-  Place path main = PlaceSite kind s hash path main
-
   pub key_read_site : (path : List Ref) (i : Ref) (a : After ReadLine Ref) → PathSite kind s hash path → IsOnWay kind s hash (depth_of path) i → AfterSite s state S N i a →
-      L (key_after_read path (at_indirection i a))
+      LineSite kind s hash (key_after_read path (at_indirection i a))
   key_read_site path i (Goes l) p e h = (p, e, h)
   key_read_site path i (Gives main) p e h = (p, h ∙ e)
 
-  absent_site : (path : List Ref) (main : Ref) → Place path main → L (absent operation path main)
-  absent_site path main p = cond_both (inserts operation.call) _ _ L (λ e. p) (λ e. tt)
+  absent_site : (path : List Ref) (main : Ref) → PlaceSite kind s hash path main → LineSite kind s hash (absent operation path main)
+  absent_site path main p = cond_both (inserts operation.call) _ _ (LineSite kind s hash) (λ e. p) (λ e. tt)
 
-  removing_site : (path : List Ref) (main : Ref) (position value : ℕ) (node : Node) → Place path main → L (removing state path main position value node)
-  removing_site path main position value (Branch bitmap entries) p = cond_both (is_below_root path && (length entries.items == 2)) _ _ L (λ e. p) (λ e. (p, tt))
-  removing_site path main position value (Listed singles) p = cond_both (length singles.items == 2) _ _ L (λ e. (p, tt)) (λ e. (p, tt))
+  removing_site : (path : List Ref) (main : Ref) (position value : ℕ) (node : Node) → PlaceSite kind s hash path main → LineSite kind s hash (removing state path main position value node)
+  removing_site path main position value (Branch bitmap entries) p = cond_both (is_below_root path && (length entries.items == 2)) _ _ (LineSite kind s hash) (λ e. p) (λ e. (p, tt))
+  removing_site path main position value (Listed singles) p = cond_both (length singles.items == 2) _ _ (LineSite kind s hash) (λ e. (p, tt)) (λ e. (p, tt))
   removing_site path main position value node p = tt
 
-  found_site : (path : List Ref) (main : Ref) (position value : ℕ) (todo : WhenFound) → Place path main → L (found_so state path main position value todo)
+  found_site : (path : List Ref) (main : Ref) (position value : ℕ) (todo : WhenFound) → PlaceSite kind s hash path main → LineSite kind s hash (found_so state path main position value todo)
   found_site path main position value (Answers answer) p = tt
   found_site path main position value Sets p = p
   found_site path main position value Removes p = removing_site path main position value (node_at state.heap main) p
 
-  tomb_site : (access : Access) (path : List Ref) (main : Ref) → Place path main → L (after_tomb access path main)
+  tomb_site : (access : Access) (path : List Ref) (main : Ref) → PlaceSite kind s hash path main → LineSite kind s hash (after_tomb access path main)
   tomb_site Writable path main p =
-      cond_both (is_below_root path) _ _ L
+      cond_both (is_below_root path) _ _ (LineSite kind s hash)
       (λ below. (above_site kind s hash path p.0, current_site kind s hash (above path) (above_site kind s hash path p.0) (above_long path below), tt)) (λ e. tt)
   tomb_site ReadOnly path main p = p
 
-  pub key_main_site : (path : List Ref) (main : Ref) (node : Node) → Place path main → L (key_after_main state operation path main node)
-  key_main_site path main (Branch bitmap entries) p = cond_both (has_flag bitmap (flag_in state operation path)) _ _ L (λ e. p) (λ e. absent_site path main p)
+  pub key_main_site : (path : List Ref) (main : Ref) (node : Node) → PlaceSite kind s hash path main → LineSite kind s hash (key_after_main state operation path main node)
+  key_main_site path main (Branch bitmap entries) p = cond_both (has_flag bitmap (flag_in state operation path)) _ _ (LineSite kind s hash) (λ e. p) (λ e. absent_site path main p)
   key_main_site path main (Tomb single) p = tomb_site operation.access path main p
   key_main_site path main (Listed singles) p = p
   key_main_site path main (Indirection generation word) p = tt
   key_main_site path main (Single k v) p = tt
 
   -- nothing is done at first
-  pub none_done : (path : List Ref) (main : Ref) → Place path main → DoneSite kind s hash path main []
+  pub none_done : (path : List Ref) (main : Ref) → PlaceSite kind s hash path main → DoneSite kind s hash path main []
   none_done path main p = (p, omega arith, λ n lt. absurd (omega arith))
 
-  pub renew_next_site : (path : List Ref) (main : Ref) (done : List Ref) → DoneSite kind s hash path main done → L (renew_next state path main done)
-  renew_next_site path main done d = cond_both (nat_lt (length done) (length (entries_of (node_at state.heap main)))) _ _ L (λ e. d) (λ e. d)
+  pub renew_next_site : (path : List Ref) (main : Ref) (done : List Ref) → DoneSite kind s hash path main done → LineSite kind s hash (renew_next state path main done)
+  renew_next_site path main done d = cond_both (nat_lt (length done) (length (entries_of (node_at state.heap main)))) _ _ (LineSite kind s hash) (λ e. d) (λ e. d)
 
   -- the indirection that is found on the way is the next one on it
-  down : (first : Ref → Ref) (path : List Ref) (main : Ref) (position bitmap : ℕ) (entries : ArrayVec Ref) → S main → s.level main ≡ depth_of path + 1 → Place path main →
+  down : (first : Ref → Ref) (path : List Ref) (main : Ref) (position bitmap : ℕ) (entries : ArrayVec Ref) → S main → s.level main ≡ depth_of path + 1 → PlaceSite kind s hash path main →
       IsFlagged (record { kind = kind; node = s.node; first = first }) (depth_of path) (key_of operation.call) main position bitmap entries →
       is_indirection (s.node (entry_at state.heap main position)) ≡ true → IsOnWay kind s hash (depth_of path + 1) (entry_at state.heap main position)
   down first path main position bitmap entries u level p f link =
@@ -107,34 +100,35 @@ module _ (s : Sites) (fits : (i : Ref) → s.path i < 2 ^ (5 * depth_at (s.level
           ∙ ap (λ n. slice_index_or entries.items n no_ref) (f.at ∙ ap (λ d. position_of (flag_of hash d) bitmap) (sym deep))
 
   pub key_entry_site : (first : Ref → Ref) (path : List Ref) (main : Ref) (position bitmap : ℕ) (entries : ArrayVec Ref) (node : Node) → node_at state.heap (entry_at state.heap main position) ≡ node →
-      S main → S (entry_at state.heap main position) → nat_lt 0 (length path) ≡ true → s.level main ≡ depth_of path + 1 → Place path main →
+      S main → S (entry_at state.heap main position) → nat_lt 0 (length path) ≡ true → s.level main ≡ depth_of path + 1 → PlaceSite kind s hash path main →
       IsFlagged (record { kind = kind; node = s.node; first = first }) (depth_of path) (key_of operation.call) main position bitmap entries →
-      L (key_after_entry state operation path main position node)
+      LineSite kind s hash (key_after_entry state operation path main position node)
   key_entry_site first path main position bitmap entries (Indirection generation word) e u v long level p f =
       let link = link_seen s state S N (entry_at state.heap main position) v ∙ ap is_indirection e in
       let on = down first path main position bitmap entries u level p f link in
       let some : 0 < length path = ltb-true 0 (length path) long in
       let size : depth_of path + 1 ≡ length path = omega arith in
       let next : IsOnWay kind s hash (length path) (entry_at state.heap main position) = on ∙ ap (path_to hash) size in
-      cond_both (is_passable operation generation) _ _ L
+      cond_both (is_passable operation generation) _ _ (LineSite kind s hash)
       (λ e. (pushed_site kind s hash path (entry_at state.heap main position) p.0 next, next ∙ ap (path_to hash) (pushed_depth path (entry_at state.heap main position)), tt))
       (λ e. renew_next_site path main [] (none_done path main p))
     where
       pushed_depth : (path : List Ref) (e : Ref) → length path ≡ depth_of (path ++ e ∷ [])
       pushed_depth path e = omega (arith, length-append path (e ∷ []))
   key_entry_site first path main position bitmap entries (Single k v) e u w long level p f =
-      cond_both (k == key_of operation.call) _ _ L (λ e. found_site path main position v (when_found operation.call v) p)
-      (λ e. cond_both (inserts operation.call) _ _ L (λ e. p) (λ e. tt))
+      cond_both (k == key_of operation.call) _ _ (LineSite kind s hash) (λ e. found_site path main position v (when_found operation.call v) p)
+      (λ e. cond_both (inserts operation.call) _ _ (LineSite kind s hash) (λ e. p) (λ e. tt))
   key_entry_site first path main position bitmap entries node e u v long level p f = tt
 
-  pub listed_site : (path : List Ref) (main : Ref) (position : ℕ) (node : Node) → Place path main → L (after_listed state operation path main position node)
+  pub listed_site : (path : List Ref) (main : Ref) (position : ℕ) (node : Node) → PlaceSite kind s hash path main → LineSite kind s hash (after_listed state operation path main position node)
   listed_site path main position (Single k v) p =
-      cond_both (k == key_of operation.call) _ _ L (λ e. found_site path main position v (when_found operation.call v) p)
-      (λ e. cond_both (nat_lt (position + 1) (length (entries_of (node_at state.heap main)))) _ _ L (λ e. p)
-      (λ e. cond_both (inserts operation.call && nat_le 32 (length (entries_of (node_at state.heap main)))) _ _ L (λ e. tt) (λ e. absent_site path main p)))
+      cond_both (k == key_of operation.call) _ _ (LineSite kind s hash) (λ e. found_site path main position v (when_found operation.call v) p)
+      (λ e. cond_both (nat_lt (position + 1) (length (entries_of (node_at state.heap main)))) _ _ (LineSite kind s hash) (λ e. p)
+      (λ e. cond_both (inserts operation.call && nat_le 32 (length (entries_of (node_at state.heap main)))) _ _ (LineSite kind s hash) (λ e. tt) (λ e. absent_site path main p)))
   listed_site path main position node p = tt
 
-  pub sibling_site : (path : List Ref) (main : Ref) (position former : ℕ) (other : Ref) (node : Node) → Place path main → L (after_sibling path main position former other node)
+  pub sibling_site : (path : List Ref) (main : Ref) (position former : ℕ) (other : Ref) (node : Node) → PlaceSite kind s hash path main →
+      LineSite kind s hash (after_sibling path main position former other node)
   sibling_site path main position former other (Single k v) p = (p, tt)
   sibling_site path main position former other (Indirection generation word) p = (p, tt)
   sibling_site path main position former other node p = tt

@@ -1,5 +1,5 @@
 -- The path of a line: at its levels, on the way to the key, and of indirections.
-use Rattle.std.proofs.Common.{ℕ, All, arith}
+use Rattle.std.proofs.Common.{ℕ, List, [], All, arith}
 use Rattle.std.proofs.lemmas.List.Elements.{All-nil}
 use Rattle.proof_shape.specs.Beneath.ctrie_base.specs.declared.hashes.HashKind.{HashKind}
 use Rattle.proof_shape.specs.Beneath.slot_arena.specs.declared.refs.Ref.{Ref}
@@ -22,119 +22,48 @@ use Rattle.proof_shape.specs.Sites.Lines.{Sites, PathSite, PurposeSite, LineSite
 use Rattle.proof_shape.specs.Sites.At.{way_of}
 use Rattle.proof_generations.specs.Falling.{purpose_path}
 
-module _ (lv : Ref → ℕ) where
-  purpose_level : (why : Purpose) → PurposeLevel lv why → PathLevel lv (purpose_path why)
-  purpose_level (purpose.Update path former) e = e
-  purpose_level (purpose.Renew path) e = e
-  purpose_level purpose.Clean e = λ k d within. absurd (omega arith)
-  purpose_level (purpose.Climb c) e = e
+module _ (s : Sites) (S : Ref → Type 0) (heap : Heap) (kind : HashKind) (hash : ℕ) where
+  -- the path is at its levels, on the way to the hash, and of indirections
+  abbrev pub IsWay : List Ref → Type 0
+  IsWay path = PathLevel s.level path × PathSite kind s hash path × All (Meets S heap AnIndirection) path
 
-  pub way_level : (l : Line) → LineLevel lv l → PathLevel lv (way_of l)
-  way_level (line.Key (key.Read path r)) e = e.0
-  way_level (line.Key (key.Main path main)) e = e.0
-  way_level (line.Key (key.Entry path main position)) e = e.0
-  way_level (line.Key (key.Listed path main position)) e = e.0
-  way_level (line.Key (key.Sibling path main position former)) e = e.0
-  way_level (line.Build (build.Single path main where_ former)) e = e.0
-  way_level (line.Build (build.Pair path main position single depth)) e = e.0.0
-  way_level (line.Build (build.Link path main position below depth)) e = e.0.0
-  way_level (line.Build (build.Rung path main position below depth)) e = e.0.0
-  way_level (line.Build (build.Main path main c former)) e = e.0.0
-  way_level (line.Swap why w) e = purpose_level why e.2
-  way_level (line.Renew (renew.Entry path main done)) e = e.0.0
-  way_level (line.Renew (renew.Read path main done r)) e = e.0.0.0
-  way_level (line.Renew (renew.Link path main done child)) e = e.0.0.0
-  way_level (line.Renew (renew.Branch path main done)) e = e.0.0
-  way_level (line.Clean (clean.Read path r)) e = e.0
-  way_level (line.Clean (clean.Main path main)) e = e.0
-  way_level (line.Clean (clean.Entry path main done)) e = e.0.0
-  way_level (line.Clean (clean.Child path main done r)) e = e.0.0.0
-  way_level (line.Clean (clean.Tomb path main done child)) e = e.0.0
-  way_level (line.Clean (clean.Contracted path main done)) e = e.0.0
-  way_level (line.Climb (climb.Read c r)) e = e.0
-  way_level (line.Climb (climb.Main c main)) e = e.0
-  way_level (line.Climb (climb.Contracted c main)) e = e.0
-  way_level (line.Climb (climb.Root c l)) e = e.0
-  way_level (line.Root l) e = λ k d within. absurd (omega arith)
-  way_level (line.Copy l) e = λ k d within. absurd (omega arith)
-  way_level (line.Walk l) e = λ k d within. absurd (omega arith)
-  way_level (line.End answer) e = λ k d within. absurd (omega arith)
-  way_level line.Impossible e = λ k d within. absurd (omega arith)
+  no_way : IsWay []
+  no_way = ((λ k d within. absurd (omega arith)), (λ k d within. absurd (omega arith)), All-nil (Meets S heap AnIndirection))
 
-module _ (kind : HashKind) (s : Sites) (hash : ℕ) where
-  purpose_site : (i : Ref) (why : Purpose) → PurposeSite kind s hash i why → PathSite kind s hash (purpose_path why)
-  purpose_site i (purpose.Update path former) e = e.0
-  purpose_site i (purpose.Renew path) e = e
-  purpose_site i purpose.Clean e = λ k d within. absurd (omega arith)
-  purpose_site i (purpose.Climb c) e = e.0
+  purpose_way : (i : Ref) (why : Purpose) → PurposeLevel s.level why → PurposeSite kind s hash i why → AllHold S heap (purpose_wants why) → IsWay (purpose_path why)
+  purpose_way i (purpose.Update path former) e a h = (e, a.0, all_of h.0)
+  purpose_way i (purpose.Renew path) e a h = (e, a, all_of h.0)
+  purpose_way i purpose.Clean e a h = no_way
+  purpose_way i (purpose.Climb c) e a h = (e, a.0, all_of h.0)
 
-  pub way_site : (l : Line) → LineSite kind s hash l → PathSite kind s hash (way_of l)
-  way_site (line.Key (key.Read path r)) e = e.0
-  way_site (line.Key (key.Main path main)) e = e.0
-  way_site (line.Key (key.Entry path main position)) e = e.0
-  way_site (line.Key (key.Listed path main position)) e = e.0
-  way_site (line.Key (key.Sibling path main position former)) e = e.0
-  way_site (line.Build (build.Single path main where_ former)) e = e.0
-  way_site (line.Build (build.Pair path main position single depth)) e = e.0
-  way_site (line.Build (build.Link path main position below depth)) e = e.0.0
-  way_site (line.Build (build.Rung path main position below depth)) e = e.0.0
-  way_site (line.Build (build.Main path main c former)) e = e.0.0
-  way_site (line.Swap why w) e = purpose_site w.indirection why e.2
-  way_site (line.Renew (renew.Entry path main done)) e = e.0.0
-  way_site (line.Renew (renew.Read path main done r)) e = e.0.0.0
-  way_site (line.Renew (renew.Link path main done child)) e = e.0.0.0
-  way_site (line.Renew (renew.Branch path main done)) e = e.0.0
-  way_site (line.Clean (clean.Read path r)) e = e.0
-  way_site (line.Clean (clean.Main path main)) e = e.0
-  way_site (line.Clean (clean.Entry path main done)) e = e.0.0
-  way_site (line.Clean (clean.Child path main done r)) e = e.0.0.0
-  way_site (line.Clean (clean.Tomb path main done child)) e = e.0.0.0
-  way_site (line.Clean (clean.Contracted path main done)) e = e.0.0
-  way_site (line.Climb (climb.Read c r)) e = e.0.0
-  way_site (line.Climb (climb.Main c main)) e = e.0.0
-  way_site (line.Climb (climb.Contracted c main)) e = e.0.0
-  way_site (line.Climb (climb.Root c l)) e = e.0
-  way_site (line.Root l) e = λ k d within. absurd (omega arith)
-  way_site (line.Copy l) e = λ k d within. absurd (omega arith)
-  way_site (line.Walk l) e = λ k d within. absurd (omega arith)
-  way_site (line.End answer) e = λ k d within. absurd (omega arith)
-  way_site line.Impossible e = λ k d within. absurd (omega arith)
-
-module _ (S : Ref → Type 0) (heap : Heap) (kind : HashKind) (call : Call) (access : Access) where
-  purpose_links : (why : Purpose) → AllHold S heap (purpose_wants why) → All (Meets S heap AnIndirection) (purpose_path why)
-  purpose_links (purpose.Update path former) h = all_of h.0
-  purpose_links (purpose.Renew path) h = all_of h.0
-  purpose_links purpose.Clean h = All-nil (Meets S heap AnIndirection)
-  purpose_links (purpose.Climb c) h = all_of h.0
-
-  pub way_links : (l : Line) → AllHold S heap (line_wants kind call access l) → All (Meets S heap AnIndirection) (way_of l)
-  way_links (line.Key (key.Read path r)) h = all_of h.0
-  way_links (line.Key (key.Main path main)) h = all_of h.0
-  way_links (line.Key (key.Entry path main position)) h = all_of h.0
-  way_links (line.Key (key.Listed path main position)) h = all_of h.0
-  way_links (line.Key (key.Sibling path main position former)) h = all_of h.0
-  way_links (line.Build (build.Single path main where_ former)) h = all_of h.0
-  way_links (line.Build (build.Pair path main position single depth)) h = all_of h.0
-  way_links (line.Build (build.Link path main position below depth)) h = all_of h.0
-  way_links (line.Build (build.Rung path main position below depth)) h = all_of h.0
-  way_links (line.Build (build.Main path main c former)) h = all_of h.0
-  way_links (line.Swap why w) h = purpose_links why (last_hold S heap (swap_wants w) (purpose_wants why) h)
-  way_links (line.Renew (renew.Entry path main done)) h = all_of h.0
-  way_links (line.Renew (renew.Read path main done r)) h = all_of h.0
-  way_links (line.Renew (renew.Link path main done child)) h = all_of h.0
-  way_links (line.Renew (renew.Branch path main done)) h = all_of h.0
-  way_links (line.Clean (clean.Read path r)) h = all_of h.0
-  way_links (line.Clean (clean.Main path main)) h = all_of h.0
-  way_links (line.Clean (clean.Entry path main done)) h = all_of h.0
-  way_links (line.Clean (clean.Child path main done r)) h = all_of h.0
-  way_links (line.Clean (clean.Tomb path main done child)) h = all_of h.0
-  way_links (line.Clean (clean.Contracted path main done)) h = all_of h.0
-  way_links (line.Climb (climb.Read c r)) h = all_of h.0
-  way_links (line.Climb (climb.Main c main)) h = all_of h.0
-  way_links (line.Climb (climb.Contracted c main)) h = all_of h.0
-  way_links (line.Climb (climb.Root c l)) h = all_of h.0
-  way_links (line.Root l) h = All-nil (Meets S heap AnIndirection)
-  way_links (line.Copy l) h = All-nil (Meets S heap AnIndirection)
-  way_links (line.Walk l) h = All-nil (Meets S heap AnIndirection)
-  way_links (line.End answer) h = All-nil (Meets S heap AnIndirection)
-  way_links line.Impossible h = All-nil (Meets S heap AnIndirection)
+  pub line_way : (call : Call) (access : Access) (l : Line) → LineLevel s.level l → LineSite kind s hash l → AllHold S heap (line_wants kind call access l) → IsWay (way_of l)
+  line_way call access (line.Key (key.Read path r)) e a h = (e.0, a.0, all_of h.0)
+  line_way call access (line.Key (key.Main path main)) e a h = (e.0, a.0, all_of h.0)
+  line_way call access (line.Key (key.Entry path main position)) e a h = (e.0, a.0, all_of h.0)
+  line_way call access (line.Key (key.Listed path main position)) e a h = (e.0, a.0, all_of h.0)
+  line_way call access (line.Key (key.Sibling path main position former)) e a h = (e.0, a.0, all_of h.0)
+  line_way call access (line.Build (build.Single path main where_ former)) e a h = (e.0, a.0, all_of h.0)
+  line_way call access (line.Build (build.Pair path main position single depth)) e a h = (e.0.0, a.0, all_of h.0)
+  line_way call access (line.Build (build.Link path main position below depth)) e a h = (e.0.0, a.0.0, all_of h.0)
+  line_way call access (line.Build (build.Rung path main position below depth)) e a h = (e.0.0, a.0.0, all_of h.0)
+  line_way call access (line.Build (build.Main path main c former)) e a h = (e.0.0, a.0.0, all_of h.0)
+  line_way call access (line.Swap why w) e a h = purpose_way w.indirection why e.2 a.2 (last_hold S heap (swap_wants w) (purpose_wants why) h)
+  line_way call access (line.Renew (renew.Entry path main done)) e a h = (e.0.0, a.0.0, all_of h.0)
+  line_way call access (line.Renew (renew.Read path main done r)) e a h = (e.0.0.0, a.0.0.0, all_of h.0)
+  line_way call access (line.Renew (renew.Link path main done child)) e a h = (e.0.0.0, a.0.0.0, all_of h.0)
+  line_way call access (line.Renew (renew.Branch path main done)) e a h = (e.0.0, a.0.0, all_of h.0)
+  line_way call access (line.Clean (clean.Read path r)) e a h = (e.0, a.0, all_of h.0)
+  line_way call access (line.Clean (clean.Main path main)) e a h = (e.0, a.0, all_of h.0)
+  line_way call access (line.Clean (clean.Entry path main done)) e a h = (e.0.0, a.0.0, all_of h.0)
+  line_way call access (line.Clean (clean.Child path main done r)) e a h = (e.0.0.0, a.0.0.0, all_of h.0)
+  line_way call access (line.Clean (clean.Tomb path main done child)) e a h = (e.0.0, a.0.0.0, all_of h.0)
+  line_way call access (line.Clean (clean.Contracted path main done)) e a h = (e.0.0, a.0.0, all_of h.0)
+  line_way call access (line.Climb (climb.Read c r)) e a h = (e.0, a.0.0, all_of h.0)
+  line_way call access (line.Climb (climb.Main c main)) e a h = (e.0, a.0.0, all_of h.0)
+  line_way call access (line.Climb (climb.Contracted c main)) e a h = (e.0, a.0.0, all_of h.0)
+  line_way call access (line.Climb (climb.Root c l)) e a h = (e.0, a.0, all_of h.0)
+  line_way call access (line.Root l) e a h = no_way
+  line_way call access (line.Copy l) e a h = no_way
+  line_way call access (line.Walk l) e a h = no_way
+  line_way call access (line.End answer) e a h = no_way
+  line_way call access line.Impossible e a h = no_way

@@ -17,7 +17,6 @@ use Rattle.proof_shape.specs.Beneath.machine_model.specs.declared.reading.After.
 use Rattle.proof_shape.specs.Beneath.machine_model.specs.declared.reading.After.TheVariants.{Goes, Gives}
 use Rattle.proof_shape.specs.Beneath.machine_model.specs.declared.reading.ReadLine.{ReadLine}
 use Rattle.proof_shape.specs.Beneath.machine_model.specs.declared.repairs.CleanLine.TheVariants as clean
-use Rattle.proof_shape.specs.Beneath.machine_model.specs.declared.lines.Line.{Line}
 use Rattle.proof_shape.specs.Beneath.machine_model.specs.declared.lines.Line.TheVariants as line
 use Rattle.proof_shape.specs.Beneath.machine_model.specs.States.{State}
 use Rattle.proof_shape.specs.Beneath.machine_model.specs.Paths.{depth_of, hash_in, is_start, is_below_root}
@@ -47,12 +46,6 @@ module _ (s : Sites) (fits : (i : Ref) → s.path i < 2 ^ (5 * depth_at (s.level
   abbrev hash : ℕ
   hash = hash_in state operation
 
-  abbrev L : Line → Type 0
-  L l = LineSite kind s hash l
-
-  abbrev Place : List Ref → Ref → Type 0
-  Place path main = PlaceSite kind s hash path main
-
   abbrev Done : List Ref → Ref → List Ref → Type 0
   Done path main done = DoneSite kind s hash path main done
 
@@ -79,15 +72,16 @@ module _ (s : Sites) (fits : (i : Ref) → s.path i < 2 ^ (5 * depth_at (s.level
   -- ---- RENEW
 
   pub renew_entry_site : (path : List Ref) (main : Ref) (done : List Ref) (node : Node) → node_at state.heap (next_entry state main done) ≡ node → S main → S (next_entry state main done) →
-      length done < length (entries_of (s.node main)) → Done path main done → L (renew_after_entry state operation path main done (next_entry state main done) node)
+      length done < length (entries_of (s.node main)) → Done path main done → LineSite kind s hash (renew_after_entry state operation path main done (next_entry state main done) node)
   renew_entry_site path main done (Indirection generation word) e u v lt d =
-      cond_both (is_start operation generation) _ _ L (λ x. renew_next_site s fits state operation S N path main (done ++ next_entry state main done ∷ []) (keeps path main done u lt d))
+      cond_both (is_start operation generation) _ _ (LineSite kind s hash)
+      (λ x. renew_next_site s fits state operation S N path main (done ++ next_entry state main done ∷ []) (keeps path main done u lt d))
       (λ x. (d, (next_is main done u, link_seen s state S N (next_entry state main done) v ∙ ap is_indirection e), tt))
   renew_entry_site path main done (Single k v) e u w lt d = renew_next_site s fits state operation S N path main (done ++ next_entry state main done ∷ []) (keeps path main done u lt d)
   renew_entry_site path main done node e u v lt d = tt
 
   pub renew_read_site : (path : List Ref) (main : Ref) (done : List Ref) (i : Ref) (a : After ReadLine Ref) → Done path main done → NextSite kind s main done i → AfterSite s state S N i a →
-      L (renew_after_read path main done (at_indirection i a))
+      LineSite kind s hash (renew_after_read path main done (at_indirection i a))
   renew_read_site path main done i (Goes l) d next h = (d, next, h)
   renew_read_site path main done i (Gives child) d next h = (d, (refl, subst (λ x. is_indirection (s.node x) ≡ true) next.0 next.1), h ∙ ap s.path next.0)
 
@@ -117,7 +111,7 @@ module _ (s : Sites) (fits : (i : Ref) → s.path i < 2 ^ (5 * depth_at (s.level
       is_indirection (s.node (entry_in kind s main (length done))) ≡ true → s.level main ≡ depth_of path + 1 →
       ((made : Ref) → next_ref state.heap ≡ Some made → (s.level made ≡ depth_of path + 2)
       × (s.path made ≡ path_to (s.path (next_entry state main done)) (depth_at (depth_of path + 2))) × (bare (s.node made) ≡ Indirection 0 no_ref)) →
-      (o : Option Ref) → next_ref state.heap ≡ o → L (renew_after_link state path main done o)
+      (o : Option Ref) → next_ref state.heap ≡ o → LineSite kind s hash (renew_after_link state path main done o)
   link_by path main done u is lt d link level m None e = tt
   link_by path main done u is lt d link level m (Some made) e =
       let (level_made, path_made, node_made) = m made e in
@@ -158,21 +152,21 @@ module _ (s : Sites) (fits : (i : Ref) → s.path i < 2 ^ (5 * depth_at (s.level
   -- ---- CLEAN
 
   pub clean_read_site : (path : List Ref) (i : Ref) (a : After ReadLine Ref) → PathSite kind s hash path → IsOnWay kind s hash (depth_of path) i →
-      AfterSite s state S N i a → L (clean_after_read path (at_indirection i a))
+      AfterSite s state S N i a → LineSite kind s hash (clean_after_read path (at_indirection i a))
   clean_read_site path i (Goes l) p e h = (p, e, h)
   clean_read_site path i (Gives main) p e h = (p, h ∙ e)
 
-  clean_next_site : (path : List Ref) (main : Ref) (done : List Ref) → Done path main done → L (clean_next state path main done)
+  clean_next_site : (path : List Ref) (main : Ref) (done : List Ref) → Done path main done → LineSite kind s hash (clean_next state path main done)
   clean_next_site path main done d =
-      cond_both (nat_lt (length done) (length (entries_of (node_at state.heap main)))) _ _ L (λ e. d)
-      (λ e. cond_both (pointwise nat_eq done (entries_of (node_at state.heap main))) _ _ L (λ e. tt) (λ e. d))
+      cond_both (nat_lt (length done) (length (entries_of (node_at state.heap main)))) _ _ (LineSite kind s hash) (λ e. d)
+      (λ e. cond_both (pointwise nat_eq done (entries_of (node_at state.heap main))) _ _ (LineSite kind s hash) (λ e. tt) (λ e. d))
 
-  pub clean_main_site : (path : List Ref) (main : Ref) (node : Node) → Place path main → L (clean_after_main state path main node)
+  pub clean_main_site : (path : List Ref) (main : Ref) (node : Node) → PlaceSite kind s hash path main → LineSite kind s hash (clean_after_main state path main node)
   clean_main_site path main (Branch bitmap entries) p = clean_next_site path main [] (none_done s fits state operation S N path main p)
   clean_main_site path main node p = tt
 
   pub clean_entry_site : (path : List Ref) (main : Ref) (done : List Ref) (node : Node) → node_at state.heap (next_entry state main done) ≡ node → S main → S (next_entry state main done) →
-      length done < length (entries_of (s.node main)) → Done path main done → L (clean_after_entry state path main done (next_entry state main done) node)
+      length done < length (entries_of (s.node main)) → Done path main done → LineSite kind s hash (clean_after_entry state path main done (next_entry state main done) node)
   clean_entry_site path main done (Indirection generation word) e u v lt d = (d, (next_is main done u, link_seen s state S N (next_entry state main done) v ∙ ap is_indirection e), tt)
   clean_entry_site path main done (Single k v) e u w lt d = clean_next_site path main (done ++ next_entry state main done ∷ []) (keeps path main done u lt d)
   clean_entry_site path main done node e u v lt d = tt
@@ -183,7 +177,7 @@ module _ (s : Sites) (fits : (i : Ref) → s.path i < 2 ^ (5 * depth_at (s.level
 
   pub child_site : (path : List Ref) (main : Ref) (done : List Ref) (i : Ref) (a : After ReadLine Ref) → Done path main done → NextSite kind s main done i →
       AfterSite s state S N i a → GivesLevel i a →
-      L (after_child path main done (at_indirection i a))
+      LineSite kind s hash (after_child path main done (at_indirection i a))
   child_site path main done i (Goes l) d next h g = (d, next, h)
   child_site path main done i (Gives child) d next h g =
       (d, (refl, subst (λ x. is_indirection (s.node x) ≡ true) next.0 next.1), h ∙ ap s.path next.0, g ∙ ap s.level next.0)
@@ -198,7 +192,7 @@ module _ (s : Sites) (fits : (i : Ref) → s.path i < 2 ^ (5 * depth_at (s.level
 
   pub clean_tomb_site : (path : List Ref) (main : Ref) (done : List Ref) (child : Ref) (node : Node) → node_at state.heap child ≡ node → S main → S child →
       length done < length (entries_of (s.node main)) →
-      LineSite kind s hash (line.Clean (clean.Tomb path main done child)) → L (clean_after_tomb state path main done node)
+      LineSite kind s hash (line.Clean (clean.Tomb path main done child)) → LineSite kind s hash (clean_after_tomb state path main done node)
   clean_tomb_site path main done child (Tomb single) e u v lt (d, next, led, level) =
       clean_next_site path main (done ++ single ∷ [])
       (more_done kind s hash path main done single lt d (single_fits main child single (entry_in kind s main (length done)) v e next.1 led level))
@@ -209,10 +203,12 @@ module _ (s : Sites) (fits : (i : Ref) → s.path i < 2 ^ (5 * depth_at (s.level
   abbrev Makes : List Ref → Type 0
   Makes path = (made : Ref) → next_ref state.heap ≡ Some made → IsOnWay kind s hash (depth_of path) made
 
-  pub renewed_by : (path : List Ref) (main : Ref) → Place path main → nat_lt 0 (length path) ≡ true → Makes path → (o : Option Ref) → next_ref state.heap ≡ o → L (renew_after_branch path main o)
+  pub renewed_by : (path : List Ref) (main : Ref) → PlaceSite kind s hash path main → nat_lt 0 (length path) ≡ true → Makes path → (o : Option Ref) → next_ref state.heap ≡ o →
+      LineSite kind s hash (renew_after_branch path main o)
   renewed_by path main p long f None e = tt
   renewed_by path main p long f (Some made) e = let at = current_site kind s hash path p.0 long in ((p.1 ∙ sym at, f made e ∙ sym at), tt, p.0)
 
-  pub cleaned_by : (path : List Ref) (main : Ref) → Place path main → nat_lt 0 (length path) ≡ true → Makes path → (o : Option Ref) → next_ref state.heap ≡ o → L (clean_after_contracted path main o)
+  pub cleaned_by : (path : List Ref) (main : Ref) → PlaceSite kind s hash path main → nat_lt 0 (length path) ≡ true → Makes path → (o : Option Ref) → next_ref state.heap ≡ o →
+      LineSite kind s hash (clean_after_contracted path main o)
   cleaned_by path main p long f None e = tt
   cleaned_by path main p long f (Some made) e = let at = current_site kind s hash path p.0 long in ((p.1 ∙ sym at, f made e ∙ sym at), tt, tt)

@@ -44,7 +44,8 @@ use Rattle.proof_updates.specs.Beneath.proof_generations.proofs.Roots.Open.{no_c
 use Rattle.proof_updates.specs.Beneath.proof_generations.proofs.Roots.Rooted.{root_given}
 use Rattle.proof_order.specs.Facts.{Runs, standing}
 use Rattle.proof_shape.specs.Lines.Knowing.{known_with, first_main, IsPlaced}
-use Rattle.proof_shape.proofs.Lines.Placed.{is_keyed, is_walking, walk_walking}
+use Rattle.proof_shape.proofs.Lines.Leads.{is_walking, walk_leads}
+use Rattle.proof_shape.proofs.Lines.Placed.{is_keyed}
 use Rattle.proof_shape.proofs.Lines.Knows.{knows_at}
 use Rattle.proof_shape.proofs.Lines.Places.{FitsCall, settled_at, places_at}
 use Rattle.proof_shape.proofs.Runs.Seen.{keyed_get, fits_at}
@@ -197,7 +198,7 @@ module _ (limits : Limits) (states : ℕ → State) (last : ℕ) (depth path : R
     -- ---- WALK
 
     walk_on : (l : WalkLine) → operation.line ≡ line.Walk l → WalksAt states trie t operation.access operation.call l → On (walk_after state operation l)
-    walk_on l e (read_only, walks, knows) = by_line (walk_after state operation l) (walk_walking state operation l) each
+    walk_on l e (read_only, walks, knows) = by_line (walk_after state operation l) (walk_leads state operation l).3 each
       where
         each : (g : ℕ) (stands : standing state (handle_of operation.call) ≡ Some (ReadOnly, g)) →
             Walks' limits states last depth path run ok t k lt operation own read_only walks g next.moment stands (walk_after state operation l)

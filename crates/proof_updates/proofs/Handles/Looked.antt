@@ -18,7 +18,7 @@ use Rattle.proof_updates.specs.Beneath.machine_model.specs.Times.{IsRun, states_
 use Rattle.proof_updates.specs.Beneath.machine_model.proofs.Times.{run_is, run_ends}
 use Rattle.proof_updates.specs.Beneath.proof_memory.specs.Laws.{IsInUse}
 use Rattle.proof_updates.specs.Beneath.proof_memory.specs.Wants.{is_indirection}
-use Rattle.proof_updates.specs.Beneath.proof_contents.specs.Nodes.Branches.{at_place, standing}
+use Rattle.proof_updates.specs.Beneath.proof_contents.specs.Nodes.Branches.{at_place}
 use Rattle.proof_updates.specs.Beneath.proof_contents.specs.Nodes.Looking.{Found, Absent, Has, Below, look_at, look_among, look_in, or_else, value_by, find_at}
 use Rattle.proof_updates.specs.Beneath.proof_contents.specs.Tries.{Trie, IsShaped, branch, list, tomb, map_of, assigned}
 use Rattle.proof_updates.specs.Beneath.proof_contents.proofs.Nodes.Changes.{look_place, look_branch}
@@ -37,6 +37,7 @@ use Rattle.proof_updates.specs.Laws.Values.{FoundAlongHashes}
 use Rattle.proof_updates.proofs.Handles.Finding.{found_alike}
 use Rattle.proof_updates.proofs.Handles.Showing.{node_same, main_same, main_used, entry_used, root_used, root_link, now, is_trie_now, content_now, content_shown}
 use Rattle.proof_updates.proofs.Handles.Values.{value_below}
+use Rattle.proof_shape.proofs.Shaped.Looking.{stands_there}
 
 -- ---- what a node leads to
 
@@ -57,14 +58,6 @@ in_front x xs = (0, omega arith, refl)
 
 behind : {A : Type 0} (x y : A) (xs : List A) → Contains xs y → Contains (x ∷ xs) y
 behind x y xs c = Contains-append_right (x ∷ []) xs y c
-
--- what stands at a place is an entry
-placed : (places : List (Option Ref)) (x : ℕ) (entry : Ref) → at_place places x ≡ Some entry → Contains (standing places) entry
-placed [] x entry e = cc e
-placed (None ∷ places) zero entry e = cc e
-placed (Some first ∷ places) zero entry e = let same : first ≡ entry = cc e in subst (Contains (first ∷ standing places)) same (in_front first (standing places))
-placed (None ∷ places) (suc x) entry e = placed places x entry e
-placed (Some first ∷ places) (suc x) entry e = behind first entry (standing places) (placed places x entry e)
 
 module _ (limits : Limits) (states : ℕ → State) (steps : ℕ → Step) (last : ℕ) (run : IsRun limits states last) (takes : TakesSteps states steps last) (keys : StepsFit steps last)
     (t : ℕ) (within : t ≤ last) (key : ℕ) where
@@ -109,7 +102,7 @@ module _ (limits : Limits) (states : ℕ → State) (steps : ℕ → Step) (last
   shaped_says i n (branch bitmap es places is has deep in_place sites children) used depth =
       let x = index_in (hash key) depth in
       rw is (look_branch (node_at heap) key bitmap x es places has
-      ∙ place_says (at_place places x) (λ r at. used r (subst (λ m. Contains (entries_of m) r) (sym is) (subst (λ xs. Contains xs r) (sym has.stand) (placed places x r at))))
+      ∙ place_says (at_place places x) (λ r at. used r (subst (λ m. Contains (entries_of m) r) (sym is) (subst (λ xs. Contains xs r) (sym has.stand) (stands_there places x r at))))
       ∙ sym (look_branch trie.node key bitmap x es places has))
   shaped_says i n (list singles is are few deep led) used depth = rw is (among_says singles.items (λ r c. used r (subst (λ m. Contains (entries_of m) r) (sym is) c)))
   shaped_says i n (tomb single k v is one led) used depth = rw is (entry_says single (used single (subst (λ m. Contains (entries_of m) single) (sym is) (in_front single []))))
@@ -166,7 +159,7 @@ module _ (limits : Limits) (states : ℕ → State) (steps : ℕ → Step) (last
         look_in trie.node (flag_of (hash key) depth) key n ≡ Below j → IsInUse heap j × (is_indirection (trie.node j) ≡ true)
     below_shaped n (branch bitmap es places is has deep in_place sites children) all depth j e =
         let x = index_in (hash key) depth in
-        below_place (at_place places x) (λ r at. all r (subst (λ m. Contains (entries_of m) r) (sym is) (subst (λ xs. Contains xs r) (sym has.stand) (placed places x r at)))) j
+        below_place (at_place places x) (λ r at. all r (subst (λ m. Contains (entries_of m) r) (sym is) (subst (λ xs. Contains xs r) (sym has.stand) (stands_there places x r at)))) j
         (sym (look_branch trie.node key bitmap x es places has) ∙ (rw is at e))
     below_shaped n (list singles is are few deep led) all depth j e = below_among singles.items (λ r c. all r (subst (λ m. Contains (entries_of m) r) (sym is) c)) j (rw is at e)
     below_shaped n (tomb single k v is one led) all depth j e =

@@ -66,14 +66,8 @@ module _ (limits : Limits) (states : ℕ → State) (last : ℕ) (depth path : R
     abbrev state : State
     state = states t
 
-    abbrev A : Access
-    A = operation.access
-
-    abbrev Q : ℕ
-    Q = key_of operation.call
-
     abbrev On : Line → Type 0
-    On l = LineRoute trie A g Q (suc t) (read_at_after state operation) (moment_after state operation) l
+    On l = LineRoute trie operation.access g (key_of operation.call) (suc t) (read_at_after state operation) (moment_after state operation) l
 
     within : t ≤ last
     within = omega arith
@@ -112,7 +106,7 @@ module _ (limits : Limits) (states : ℕ → State) (last : ℕ) (depth path : R
       from_root_on (Clear h) = tt
       from_root_on (Snapshot h) = tt
       from_root_on (Freeze h) = tt
-      from_root_on call = (route_root trie A g Q (suc t) r its_root generation_is, refl)
+      from_root_on call = (route_root trie operation.access g (key_of operation.call) (suc t) r its_root generation_is, refl)
 
     root_on : (l : RootLine) → operation.line ≡ line.Root l → (after : After RootLine Ref) → root_after state.heap operation.access (word_at state (handle_of operation.call)) l ≡ after →
         given_root state after operation.generation ≡ Some g → On (after_root operation after)
@@ -125,12 +119,13 @@ module _ (limits : Limits) (states : ℕ → State) (last : ℕ) (depth path : R
     same_moment : (l : Line) → operation.line ≡ l → read_of l ≡ None → operation.moment ≡ moment_after state operation
     same_moment l e none = sym (ap (λ x. moment_from state operation (read_of x)) e ∙ ap (moment_from state operation) none)
 
-    at_next : (l : Line) → operation.line ≡ l → read_of l ≡ None → (p : List Ref) (main : Ref) → IsAt trie A g Q t operation.moment p main →
-        IsAt trie A g Q (suc t) (moment_after state operation) p main
+    at_next : (l : Line) → operation.line ≡ l → read_of l ≡ None → (p : List Ref) (main : Ref) → IsAt trie operation.access g (key_of operation.call) t operation.moment p main →
+        IsAt trie operation.access g (key_of operation.call) (suc t) (moment_after state operation) p main
     at_next l e none p main at =
-        subst (λ mu. IsAt trie A g Q (suc t) mu p main) (same_moment l e none) (record { past = omega (arith, at.past); route = at.route; given = at.given })
+        subst (λ mu. IsAt trie operation.access g (key_of operation.call) (suc t) mu p main) (same_moment l e none) (record { past = omega (arith, at.past); route = at.route; given = at.given })
 
-    key_on : (l : KeyLine) → operation.line ≡ line.Key l → operation.generation ≡ Some g → KeyRoute trie A g Q t operation.read_at operation.moment l → On (key_after state operation l)
+    key_on : (l : KeyLine) → operation.line ≡ line.Key l → operation.generation ≡ Some g → KeyRoute trie operation.access g (key_of operation.call) t operation.read_at operation.moment l →
+        On (key_after state operation l)
     key_on (key.Read p r) e begun h = read_on limits states last depth path run ok t k lt operation own g p r e h (read_step state operation r) refl
     key_on (key.Main p main) e begun h =
         main_on trie ok g state operation t (read_at_after state operation) (moment_after state operation) lt p main (at_next (line.Key (key.Main p main)) e refl p main h) (node_at state.heap main)
@@ -148,20 +143,25 @@ module _ (limits : Limits) (states : ℕ → State) (last : ℕ) (depth path : R
 
     -- ---- all lines
 
-    line_on : (l : Line) → operation.line ≡ l → generation_from state operation l ≡ Some g → (operation.generation ≡ Some g → LineRoute trie A g Q t operation.read_at operation.moment l) →
+    line_on : (l : Line) → operation.line ≡ l → generation_from state operation l ≡ Some g → (operation.generation ≡ Some g →
+        LineRoute trie operation.access g (key_of operation.call) t operation.read_at operation.moment l) →
         On (line_after state operation l)
     line_on (line.Root l) e begun h = root_on l e (root_after state.heap operation.access (word_at state (handle_of operation.call)) l) refl begun
     line_on (line.Key l) e begun h = key_on l e begun (h begun)
-    line_on (line.Build l) e begun h = build_on trie A g Q t _ _ state operation l (route_later trie A g Q t (suc t) _ (omega arith) (h begun))
+    line_on (line.Build l) e begun h =
+        build_on trie operation.access g (key_of operation.call) t _ _ state operation l
+        (route_later trie operation.access g (key_of operation.call) t (suc t) _ (omega arith) (h begun))
     line_on (line.Swap why s) e begun h =
-        swap_on trie A g Q t (read_at_after state operation) (moment_after state operation) state operation why s
+        swap_on trie operation.access g (key_of operation.call) t (read_at_after state operation) (moment_after state operation) state operation why s
         (swap_after state.heap operation.access (word_at state (handle_of operation.call)) s)
-        (swap_route trie A g Q t operation.read_at operation.moment (read_at_after state operation) (moment_after state operation) why s (h begun))
-    line_on (line.Renew l) e begun h = renew_on trie A g Q t _ _ state operation l (route_later trie A g Q t (suc t) _ (omega arith) (h begun))
-    line_on (line.Clean l) e begun h = clean_on trie A g Q t _ _ state operation l
-    line_on (line.Climb l) e begun h = climb_on trie A g Q t _ _ state operation l
-    line_on (line.Copy l) e begun h = copy_on trie A g Q t _ _ state operation l
-    line_on (line.Walk l) e begun h = walk_on trie A g Q t _ _ state operation l
+        (swap_route trie operation.access g (key_of operation.call) t operation.read_at operation.moment (read_at_after state operation) (moment_after state operation) why s (h begun))
+    line_on (line.Renew l) e begun h =
+        renew_on trie operation.access g (key_of operation.call) t _ _ state operation l
+        (route_later trie operation.access g (key_of operation.call) t (suc t) _ (omega arith) (h begun))
+    line_on (line.Clean l) e begun h = clean_on trie operation.access g (key_of operation.call) t _ _ state operation l
+    line_on (line.Climb l) e begun h = climb_on trie operation.access g (key_of operation.call) t _ _ state operation l
+    line_on (line.Copy l) e begun h = copy_on trie operation.access g (key_of operation.call) t _ _ state operation l
+    line_on (line.Walk l) e begun h = walk_on trie operation.access g (key_of operation.call) t _ _ state operation l
     line_on (line.End answer) e begun h = tt
     line_on line.Impossible e begun h = tt
 

@@ -1,7 +1,7 @@
 -- Each line of KEY keeps to the key's path.
-use Rattle.std.proofs.Common.{◌≡◌, ℕ, suc, ◌+◌, ◌-◌, ◌<◌, ◌==◌, ◌&&◌, nat_lt, nat_le, Bool, true, false, cond, List, [], ◌∷◌, ◌++◌, length, Some, None, refl, sym, arith}
+use Rattle.std.proofs.Common.{◌≡◌, ℕ, suc, ◌+◌, ◌-◌, ◌<◌, ◌==◌, ◌&&◌, nat_lt, nat_le, Bool, true, false, cond, List, [], ◌∷◌, ◌++◌, length, refl, sym, arith}
+use Rattle.std.proofs.lemmas.Bool.{cond_both}
 use Rattle.proof_updates.specs.Beneath.ctrie_base.specs.Hashes.{hash_of}
-use Rattle.proof_updates.specs.Beneath.ctrie_base.specs.Paths.{position_of}
 use Rattle.proof_updates.specs.Beneath.history.specs.declared.calls.Access.{Access}
 use Rattle.proof_updates.specs.Beneath.history.specs.declared.calls.Access.TheVariants.{Writable, ReadOnly}
 use Rattle.proof_updates.specs.Beneath.slot_arena.specs.declared.refs.Ref.{Ref}
@@ -10,9 +10,6 @@ use Rattle.proof_updates.specs.Beneath.slot_arena.specs.declared.nodes.Node.TheV
 use Rattle.proof_updates.specs.Beneath.slot_arena.specs.Heaps.{node_at, entry_at, entries_of}
 use Rattle.proof_updates.specs.Beneath.nodes.specs.Levels.{has_flag}
 use Rattle.proof_updates.specs.Beneath.machine_model.specs.declared.operations.Operation.{Operation}
-use Rattle.proof_updates.specs.Beneath.machine_model.specs.declared.building.Site.TheVariants as site
-use Rattle.proof_updates.specs.Beneath.machine_model.specs.declared.building.Change.TheVariants as change
-use Rattle.proof_updates.specs.Beneath.machine_model.specs.declared.building.BuildLine.TheVariants as build
 use Rattle.proof_updates.specs.Beneath.machine_model.specs.declared.finding.KeyLine.TheVariants as key
 use Rattle.proof_updates.specs.Beneath.machine_model.specs.declared.finding.WhenFound.{WhenFound}
 use Rattle.proof_updates.specs.Beneath.machine_model.specs.declared.finding.WhenFound.TheVariants.{Answers, Sets, Removes}
@@ -20,8 +17,7 @@ use Rattle.proof_updates.specs.Beneath.machine_model.specs.declared.repairs.Clea
 use Rattle.proof_updates.specs.Beneath.machine_model.specs.declared.repairs.RenewLine.TheVariants as renew
 use Rattle.proof_updates.specs.Beneath.machine_model.specs.declared.lines.Line.{Line}
 use Rattle.proof_updates.specs.Beneath.machine_model.specs.declared.lines.Line.TheVariants as line
-use Rattle.proof_updates.specs.Beneath.history.specs.declared.replies.Reply.TheVariants as reply
-use Rattle.proof_updates.specs.Beneath.machine_model.specs.Calls.{key_of, inserts, absent_reply, when_found}
+use Rattle.proof_updates.specs.Beneath.machine_model.specs.Calls.{key_of, inserts, when_found}
 use Rattle.proof_updates.specs.Beneath.machine_model.specs.States.{State}
 use Rattle.proof_updates.specs.Beneath.machine_model.specs.Paths as path
 use Rattle.proof_updates.specs.Beneath.machine_model.specs.Paths.{is_below_root, above, current}
@@ -51,38 +47,17 @@ module _ (trie : Trie) (ok : IsTrie trie) (g : ℕ) (state : State) (operation :
     there = route_later trie A g Q (suc mu) (suc t) p (omega (arith, at.past)) at.route
 
     absent_on : On (absent operation p main)
-    absent_on = by_test (inserts operation.call)
-      where
-        by_test : (b : Bool) → On (cond b (line.Build (build.Single p main site.Absent None)) (line.End (absent_reply operation.call)))
-        by_test true = there
-        by_test false = tt
+    absent_on = cond_both (inserts operation.call) _ _ On (λ e. there) (λ e. tt)
 
     beside_on : (position : ℕ) → On (absent_beside operation p main position)
-    beside_on position = by_test (inserts operation.call)
-      where
-        by_test : (b : Bool) → On (cond b (line.Build (build.Single p main (site.Beside position) None)) (line.End (absent_reply operation.call)))
-        by_test true = there
-        by_test false = tt
+    beside_on position = cond_both (inserts operation.call) _ _ On (λ e. there) (λ e. tt)
 
     absent_listed_on : (singles : ℕ) → On (absent_listed operation p main singles)
-    absent_listed_on singles = by_test (inserts operation.call && nat_le 32 singles)
-      where
-        by_test : (b : Bool) → On (cond b (line.End reply.Crowded) (absent operation p main))
-        by_test true = tt
-        by_test false = absent_on
+    absent_listed_on singles = cond_both (inserts operation.call && nat_le 32 singles) _ _ On (λ e. tt) (λ e. absent_on)
 
     removing_on : (position v : ℕ) (n : Node) → On (removing state p main position v n)
-    removing_on position v (Branch b es) = by_test (is_below_root p && (length es.items == 2))
-      where
-        by_test : (c : Bool) → On (cond c (line.Key (key.Sibling p main position v)) (line.Build (build.Main p main (change.Remove position) (Some v))))
-        by_test true = at
-        by_test false = there
-    removing_on position v (Listed ss) = by_test (length ss.items == 2)
-      where
-        by_test : (c : Bool) →
-            On (cond c (line.Build (build.Main p main (change.Entomb (entry_at state.heap main (1 - position))) (Some v))) (line.Build (build.Main p main (change.Remove position) (Some v))))
-        by_test true = there
-        by_test false = there
+    removing_on position v (Branch b es) = cond_both (is_below_root p && (length es.items == 2)) _ _ On (λ e. at) (λ e. there)
+    removing_on position v (Listed ss) = cond_both (length ss.items == 2) _ _ On (λ e. there) (λ e. there)
     removing_on position v (Indirection h w) = tt
     removing_on position v (Single k w) = tt
     removing_on position v (Tomb s) = tt
@@ -98,11 +73,7 @@ module _ (trie : Trie) (ok : IsTrie trie) (g : ℕ) (state : State) (operation :
     -- ---- line by line
 
     pub main_on : (n : Node) → On (key_after_main state operation p main n)
-    main_on (Branch b es) = by_test (has_flag b (path.flag_in state operation p))
-      where
-        by_test : (c : Bool) → On (cond c (line.Key (key.Entry p main (position_of (path.flag_in state operation p) b))) (absent operation p main))
-        by_test true = at
-        by_test false = absent_on
+    main_on (Branch b es) = cond_both (has_flag b (path.flag_in state operation p)) _ _ On (λ e. at) (λ e. absent_on)
     main_on (Tomb s) = by_access operation.access
       where
         by_root : (c : Bool) → On (cond c (line.Clean (clean.Read (above p) (reading (current (above p))))) line.Impossible)

@@ -19,7 +19,7 @@ use Rattle.script_text.specs.Headers.{slots_of, actors_of}
 use Rattle.script_text.specs.Commands.{command_of}
 use Rattle.script_text.specs.Reading as script
 use Rattle.script_text.specs.Reading.{command_dialect, script_format, script_of}
-use Rattle.script_text.proofs.FoundCommands.{command_found}
+use Rattle.script_text.proofs.FoundCommands.{command_found, first_is}
 use Rattle.script_text.specs.declared.thread_lines.ThreadLine.{ThreadLine}
 use Rattle.script_text.specs.declared.thread_lines.ThreadLine.TheVariants.{Do, Sweep}
 use Rattle.script_text.specs.declared.reading.Script.{Script}
@@ -37,14 +37,11 @@ from_again actors (Do actor call) (low, high) =
     let fits : ((actor == 0) || nat_lt actors actor) ≡ false = grind (arith, low, high) in rw fits refl
 from_again actors (Sweep times) fits = refl
 
-heads : (x y : List ℕ) (xs ys : List (List ℕ)) → x ∷ xs ≡ y ∷ ys → x ≡ y
-heads x y xs ys e = cc
-
 named_again : (name : List ℕ) (words : List (List ℕ)) (line : ThreadLine) → command_of (name ∷ words) ≡ Ok (command_from line) → is_for_threads name ≡ true
 named_again name words (Do actor call) e =
-    let text = (command_found (name ∷ words) (command.Do actor call) e).text in ap is_for_threads (heads name _ words _ text)
+    let text = (command_found (name ∷ words) (command.Do actor call) e).text in ap is_for_threads (first_is name _ words _ text)
 named_again name words (Sweep times) e =
-    let text = (command_found (name ∷ words) (command.Sweep times) e).text in ap is_for_threads (heads name _ words _ text)
+    let text = (command_found (name ∷ words) (command.Sweep times) e).text in ap is_for_threads (first_is name _ words _ text)
 
 line_again : (actors : ℕ) (words : List (List ℕ)) (line : ThreadLine) → command_of words ≡ Ok (command_from line) → LineFits actors line → thread_line_of actors words ≡ Ok line
 unfolding thread_line_of command_of

@@ -14,7 +14,9 @@ returns-in_err-path c =
     let check = file_met (codes "check") _ _ _ _ is_name (sym c.in_ok-name.ensures.rows) is_file in
     let run = file_met (codes "run") _ _ _ _ is_name (sym c.in_ok-name.ensures.rows) is_file in
     let threads = file_met (codes "threads") _ _ _ _ is_name (sym c.in_ok-name.ensures.rows) is_file in
-    rw none (check ∙ chosen_same _ _, run ∙ chosen_same _ _, threads ∙ chosen_same _ _)
+    let explain = file_met (codes "explain") _ _ _ _ is_name (sym c.in_ok-name.ensures.rows) is_file in
+    let draw = file_met (codes "draw") _ _ _ _ is_name (sym c.in_ok-name.ensures.rows) is_file in
+    rw none (check ∙ chosen_same _ _, run ∙ chosen_same _ _, threads ∙ chosen_same _ _, explain ∙ chosen_same _ _, draw ∙ chosen_same _ _)
 
 pub returns-then-eq : goal.returns-then-eq
 returns-then-eq c =
@@ -36,3 +38,17 @@ returns-then-eq-3 c =
     let is_name = rows-name _ ∙ sym c.in_ok-name.ensures.name in
     let is_file = sym (first_value-rows (found_of c.in_ok-name.found.now) (codes "FILE")) ∙ sym c.in_ok-path.ensures in
     rw is_threads at (file_met (codes "threads") _ _ _ _ is_name (sym c.in_ok-name.ensures.rows) is_file)
+
+pub returns-then-eq-4 : goal.returns-then-eq-4
+returns-then-eq-4 c =
+    let is_explain : bytes_eq c.in_ok-name.name.now (codes "explain") ≡ true = search rules in
+    let is_name = rows-name _ ∙ sym c.in_ok-name.ensures.name in
+    let is_file = sym (first_value-rows (found_of c.in_ok-name.found.now) (codes "FILE")) ∙ sym c.in_ok-path.ensures in
+    rw is_explain at (file_met (codes "explain") _ _ _ _ is_name (sym c.in_ok-name.ensures.rows) is_file)
+
+pub returns-then-eq-5 : goal.returns-then-eq-5
+returns-then-eq-5 c =
+    let is_draw : bytes_eq c.in_ok-name.name.now (codes "draw") ≡ true = search rules in
+    let is_name = rows-name _ ∙ sym c.in_ok-name.ensures.name in
+    let is_file = sym (first_value-rows (found_of c.in_ok-name.found.now) (codes "FILE")) ∙ sym c.in_ok-path.ensures in
+    rw is_draw at (file_met (codes "draw") _ _ _ _ is_name (sym c.in_ok-name.ensures.rows) is_file)

@@ -2,7 +2,7 @@
 use Rattle.std.proofs.Common.{◌≡◌, rules}
 use Rattle.std.specs.Prelude.{Err}
 use Rattle.ctrie_commands.specs.declared.faults.Fault.TheVariants.{Line, Write}
-use Rattle.ctrie.proofs.Telling.{verdict_part, report_told, thread_report_told}
+use Rattle.ctrie.proofs.Telling.{verdict_part, report_told, thread_report_told, explanation_told, explanation_part, picture_told, picture_part}
 use Rattle.ctrie.proofs.outcomes.carry_out.Goals as goal
 
 pub returns-in_err-check_history-in-Check-clause-line : goal.returns-in_err-check_history-in-Check-clause-line
@@ -30,3 +30,23 @@ returns-in_ok-run_script-in-Run-clause-written g c = rw c.in-Run.is (report_told
 
 pub returns-in_ok-run_threads-in-Threads-clause-written : goal.returns-in_ok-run_threads-in-Threads-clause-written
 returns-in_ok-run_threads-in-Threads-clause-written g c = rw c.in-Threads.is (thread_report_told _ _ _ c.in-Threads.field-0 c.in_ok-run_threads-in-Threads.ensures.written)
+
+pub returns-in_err-explain_history-in-Explain-clause-line : goal.returns-in_err-explain_history-in-Explain-clause-line
+returns-in_err-explain_history-in-Explain-clause-line g c = λ number refusal e.
+    let same : c.explain_history.result ≡ Err (Line number refusal) = search rules in
+    rw c.in-Explain.is (c.explain_history.ensures.line number refusal same)
+
+pub returns-in_err-explain_history-in-Explain-clause-part : goal.returns-in_err-explain_history-in-Explain-clause-part
+returns-in_err-explain_history-in-Explain-clause-part g c = λ e.
+    let same : c.explain_history.result ≡ Err Write = search rules in
+    rw c.in-Explain.is (explanation_part _ _ _ c.in-Explain.field-0 (c.explain_history.ensures.part same))
+
+pub returns-in_err-draw_history-in-Draw-clause-line : goal.returns-in_err-draw_history-in-Draw-clause-line
+returns-in_err-draw_history-in-Draw-clause-line g c = λ number refusal e.
+    let same : c.draw_history.result ≡ Err (Line number refusal) = search rules in
+    rw c.in-Draw.is (c.draw_history.ensures.line number refusal same)
+
+pub returns-in_err-draw_history-in-Draw-clause-part : goal.returns-in_err-draw_history-in-Draw-clause-part
+returns-in_err-draw_history-in-Draw-clause-part g c = λ e.
+    let same : c.draw_history.result ≡ Err Write = search rules in
+    rw c.in-Draw.is (picture_part _ _ _ c.in-Draw.field-0 (c.draw_history.ensures.part same))

@@ -1,11 +1,11 @@
 -- So many steps were taken, and none was denied.
 use Rattle.std.proofs.Common.{◌≡◌, ◌+◌}
-use Rattle.ctrie_commands.specs.Working.{IsSameSeat}
+use Rattle.lock_runner.specs.Stepping.{HasGoneOn}
 use Rattle.ctrie_commands.proofs.working.Worker.sweep_often.Given as goal
 
 abbrev pub invariant-loop : goal.invariant-loop
 invariant-loop g l = record {
-  seat : IsSameSeat l.initial.self.seat l.self.seat;
+  seat : HasGoneOn l.initial.self.seat l.self.seat;
   answers : l.self.seat.answers ≡ l.initial.self.seat.answers;
   sweeps : l.self.seat.sweeps ≡ l.initial.self.seat.sweeps + l.counter;
   denied : l.self.denied.items ≡ l.initial.self.denied.items;

@@ -21,4 +21,4 @@ returns-in_err-began g c =
 
 pub returns : goal.returns
 returns g c =
-    begin_goes _ _ _ _ _ _ _ _ _ _ _ _ _ _ c.seat.view_is c.hold.ensures.seat c.reserve.ensures.items c.in_ok-began.ensures.held
+    begin_goes _ _ _ _ _ _ _ _ _ _ _ _ _ _ c.seat.view_is c.hold.ensures.seat c.reserve.ensures.items c.in_ok-began.ensures.held c.in-Began.is

@@ -1,7 +1,8 @@
 use Rattle.std.proofs.Common.{Ok, subst, refl, ◌∙◌}
 use Rattle.std.proofs.lemmas.Result.{err_from_is_err_and}
 use Rattle.lock_runner.specs.Stepping.{Goes}
-use Rattle.lock_runner.proofs.Whole.{untold_same, untold_more, carried_on, carry_stops}
+use Rattle.lock_runner.proofs.Steps.{untold_same}
+use Rattle.lock_runner.proofs.Whole.{untold_more, carried_on, carry_stops}
 use Rattle.lock_runner.proofs.runner.Runner.carry_on.Goals as goal
 
 pub go-requires : goal.go-requires

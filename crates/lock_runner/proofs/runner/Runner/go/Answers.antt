@@ -1,7 +1,7 @@
 use Rattle.std.proofs.Common.{rules, ◌≡◌, [], ◌∷◌, ◌++◌}
 use Rattle.lock_runner.specs.ActorHistory.{answered_at}
 use Rattle.std.proofs.lemmas.Result.{err_from_is_err_and}
-use Rattle.lock_runner.proofs.Steps.{stopped, went, answered, ended_made, go_stops, go_goes, go_ends}
+use Rattle.lock_runner.proofs.Steps.{not_busy, stopped, went, answered, go_idle, go_stops, go_goes, go_ends}
 use Rattle.lock_runner.proofs.runner.Runner.go.Goals as goal
 
 pub invariant_of-seat-in_err-ended : goal.invariant_of-seat-in_err-ended
@@ -11,20 +11,18 @@ invariant_of-seat-in_err-ended g c =
 pub returns-in_err-ended : goal.returns-in_err-ended
 returns-in_err-ended g c =
     let p = err_from_is_err_and c.from_residual-in_err-ended.result c.from_residual-in_err-ended.ensures.1 in
-    rw (p.1, p.2) (go_stops _ _ _ _ _ _ _ _ _ _ _ _ c.seat.view_is c.hold.ensures.seat c.reserve.ensures.items c.seat.invariant c.in_err-ended.ensures.held)
-
-pub invariant_of-seat-in_default : goal.invariant_of-seat-in_default
-invariant_of-seat-in_default g c =
-    went _ _ _ _ _ _ _ _ c.seat.invariant c.reserve.ensures.items c.in_ok-ended.ensures.held c.in_default.not-Ended
+    rw (p.1, p.2) (go_stops _ _ _ _ _ _ _ _ _ _ _ _ _ c.seat.view_is c.hold.ensures.seat c.reserve.ensures.items c.seat.invariant c.in-Some.is c.in_err-ended.ensures.held)
 
 pub returns-in_default : goal.returns-in_default
-returns-in_default g c =
-    go_goes _ _ _ _ _ _ _ _ _ _ _ _ c.seat.view_is c.hold.ensures.seat c.reserve.ensures.items c.seat.invariant c.in_ok-ended.ensures.held c.in_default.not-Ended
+returns-in_default g c = go_idle _ _ _ _ _ _ _ _ c.seat.view_is c.seat.invariant (not_busy _ c.in_default.not-Some)
 
-pub unreachable-requires : goal.unreachable-requires
-unreachable-requires g c =
-    let made = ended_made _ _ _ _ _ _ _ _ c.seat.invariant c.reserve.ensures.items c.in_ok-ended.ensures.held _ _ c.in-Ended.is in
-    c.in_default-running.not-Some made.0 made.1
+pub invariant_of-seat-in_default-outcome : goal.invariant_of-seat-in_default-outcome
+invariant_of-seat-in_default-outcome g c =
+    went _ _ _ _ _ _ _ _ c.seat.invariant c.reserve.ensures.items c.in_ok-ended.ensures.held c.in_default-outcome.not-Ended
+
+pub returns-in_default-outcome : goal.returns-in_default-outcome
+returns-in_default-outcome g c =
+    go_goes _ _ _ _ _ _ _ _ _ _ _ _ c.seat.view_is c.hold.ensures.seat c.reserve.ensures.items c.seat.invariant c.in_ok-ended.ensures.held c.in_default-outcome.not-Ended
 
 pub invariant_of-seat-2 : goal.invariant_of-seat-2
 invariant_of-seat-2 g c =
@@ -34,4 +32,4 @@ invariant_of-seat-2 g c =
 pub returns : goal.returns
 returns g c =
     let pushed : c.push.new.self.items ≡ c.reserve.new.self.items ++ answered_at c.in-Some.running c.in_ok-ended.ended c.in-Ended.reply ∷ [] = search rules in
-    go_ends _ _ _ _ _ _ _ _ _ _ _ _ _ _ _ c.seat.view_is c.hold.ensures.seat c.reserve.ensures.items c.in_ok-ended.ensures.held c.in-Some.is pushed
+    go_ends _ _ _ _ _ _ _ _ _ _ _ _ _ _ _ _ c.seat.view_is c.hold.ensures.seat c.reserve.ensures.items c.seat.invariant c.in_ok-ended.ensures.held c.in-Ended.is c.in-Some.is pushed

@@ -2,7 +2,8 @@ use Rattle.std.proofs.Common.{◌≡◌, ◌++◌, ◌∙◌, ap, arith}
 use Rattle.std.specs.Prelude.{count_by}
 use Rattle.places.specs.Places.{ids_by_place}
 use Rattle.places.specs.Segments.{Listing}
-use Rattle.places.proofs.Rising.{sorted_list_rises, permuted_alike}
+use Rattle.ctrie_base.proofs.Sorting.{permuted_alike}
+use Rattle.places.proofs.Rising.{sorted_list_rises}
 use Rattle.places.proofs.Cuts.{rising_cut, ids_alike, counts_joined}
 use Rattle.places.proofs.places.Places.order.Goals as goal
 

@@ -1,4 +1,4 @@
-use Rattle.std.proofs.Common.{◌≡◌, ◌+◌, ◌<◌, true, List, [], length, get_or, set, slice_index, All, Option, None, is_some, sym, ap, ◌∙◌, subst, arith, rules, tests}
+use Rattle.std.proofs.Common.{◌≡◌, ◌+◌, ◌<◌, true, List, [], ◌∷◌, length, get_or, set, slice_index, All, Option, None, is_some, refl, sym, ap, ◌∙◌, subst, arith, rules, tests}
 use Rattle.std.specs.Prelude.{option_map}
 use Rattle.std.proofs.lemmas.List.{length-set}
 use Rattle.slot_arena.specs.declared.refs.Ref.{Ref}
@@ -16,7 +16,7 @@ use Rattle.slot_arena.proofs.Namings.{naming-cons, raised_at}
 use Rattle.slot_arena.proofs.Times.{once}
 use Rattle.slot_arena.proofs.Waiting.{born, notes_waiting}
 use Rattle.slot_arena.proofs.Marks.{zeros_trans}
-use Rattle.slot_arena.proofs.Words.{prev_part, born_main, born_prev, live_main, live_prev}
+use Rattle.slot_arena.proofs.Words.{IsChange, changed_by, main_changes, prev_is_change, prev_part, born_word, live_word}
 use Rattle.slot_arena.proofs.Publishes.{publish_kept}
 use Rattle.slot_arena.proofs.Reading.{live_inside, live_is, node_seen, used_seen, main_seen, prev_put_seen}
 use Rattle.slot_arena.proofs.arena.Arena.publish.Goals as goal
@@ -72,11 +72,17 @@ set_main-requires c =
 
 -- the slots after the main word was changed
 abbrev first_of : List (Option Slot) → Ref → Ref → List (Option Slot)
-first_of slots at to = set slots (slot_of at) (option_map (main_changed to) (get_or slots (slot_of at) None))
+first_of slots at to = changed_by (main_changed to) slots at
 
 -- and after the prev word was, too
 abbrev second_of : List (Option Slot) → Ref → Ref → List (Option Slot)
-second_of slots to from = set slots (slot_of to) (option_map (prev_changed (prev.Pending from)) (get_or slots (slot_of to) None))
+second_of slots to from = changed_by (prev_changed (prev.Pending from)) slots to
+
+-- the main word that is changed was `from`
+first_change : (c : goal.After-set_prev) → IsChange c.self.inside.cells c.args.at (main_changed c.args.to) (c.args.from ∷ []) (c.args.to ∷ [])
+first_change c =
+    let same : c.main.result ≡ c.args.from = search (rules, tests) in
+    main_changes _ _ c.self.view_is c.args.at c.args.to c.args.from c.requires.kind (sym c.main.ensures ∙ same)
 
 pub set_prev-requires : goal.set_prev-requires
 set_prev-requires c =
@@ -137,8 +143,8 @@ returns-clause-noted c =
     subst (λ (a : Contents). NotesWaiting a now) c.self.view_is
     (notes_waiting was now c.self.inside.tally.counts c.lower_all.new.self.counts c.self.inside.free c.self.inside.free c.self.inside.used c.self.inside.used c.self.invariant (invariant_of-self c)
     (zeros_trans c.self.inside.tally c.raise.new.self c.lower_all.new.self c.raise.ensures.noted c.lower_all.ensures.noted)
-    (λ i none. born_main c.self.inside.cells (slot_of at) i to (live_within c.self.inside.cells at has)
-    ∙ born_prev first (slot_of to) i (prev.Pending c.args.from) (omega (arith, live_within c.self.inside.cells to to_live, size))
+    (λ i none. born_word c.self.inside.cells at _ _ _ (first_change c) (live_within c.self.inside.cells at has) i
+    ∙ born_word first to _ _ _ (prev_is_change first to (prev.Pending c.args.from) _ refl) (omega (arith, live_within c.self.inside.cells to to_live, size)) i
     ∙ sym (ap (λ s. born (get_or s i None)) (slots_are c))))
 
 pub returns-clause-stay : goal.returns-clause-stay
@@ -151,6 +157,6 @@ returns-clause-stay c q =
     let size = length-set c.self.inside.cells (slot_of at) (option_map (main_changed to) (get_or c.self.inside.cells (slot_of at) None)) in
     live_is (record { slots = c.set_prev.new.self; free = c.self.inside.free.slots; births = c.self.inside.births }) q
     ∙ ap (λ s. live s q) (slots_are c)
-    ∙ live_prev first (slot_of to) (prev.Pending c.args.from) q (omega (arith, live_within c.self.inside.cells to to_live, size))
-    ∙ live_main c.self.inside.cells (slot_of at) to q (live_within c.self.inside.cells at has)
+    ∙ live_word first to _ _ _ (prev_is_change first to (prev.Pending c.args.from) _ refl) (omega (arith, live_within c.self.inside.cells to to_live, size)) q
+    ∙ live_word c.self.inside.cells at _ _ _ (first_change c) (live_within c.self.inside.cells at has) q
     ∙ ap (λ (a : Contents). live a.heap.slots q) c.self.view_is ∙ sym (live_is c.args.self.now.heap q)

@@ -1,107 +1,68 @@
-use Rattle.std.proofs.Common.{◌≡◌, ◌+◌, ◌<◌, ◌≤◌, true, length, get_or, set, All, None, sym, ap, ◌∙◌, subst, arith}
-use Rattle.slot_arena.specs.declared.refs.Ref.{Ref}
-use Rattle.slot_arena.specs.Refs.{slot_of}
-use Rattle.slot_arena.specs.Heaps.{prev_of, refs_of_prev}
-use Rattle.slot_arena.specs.Times.{times}
-use Rattle.slot_arena.specs.Tallies.{naming}
-use Rattle.slot_arena.specs.Arenas.{Contents, NotesWaiting}
-use Rattle.slot_arena.specs.Kept.{live, found, IsKept}
-use Rattle.slot_arena.proofs.Live.{live_within, all_within}
-use Rattle.slot_arena.proofs.Exact.{part_live, part_counted}
-use Rattle.slot_arena.proofs.Changed.{counts_small}
-use Rattle.slot_arena.proofs.Waiting.{born, notes_waiting}
-use Rattle.slot_arena.proofs.Reading.{live_inside, all_seen, prev_seen}
+use Rattle.std.proofs.Common.{◌≡◌, ◌<◌, true, length, get_or, set, All, None, sym, ap, ◌∙◌, subst, arith, rules, tests}
 use Rattle.std.specs.Prelude.{option_map}
-use Rattle.slot_arena.proofs.Changed.{one_prev}
-use Rattle.slot_arena.specs.Heaps.{prev_changed}
-use Rattle.slot_arena.proofs.Marks.{zeros_trans}
-use Rattle.slot_arena.proofs.Words.{prev_part, prev_kept, born_prev, live_prev}
-use Rattle.slot_arena.proofs.Reading.{prev_put_seen, live_is}
-use Rattle.std.proofs.Common.{rules, tests}
+use Rattle.slot_arena.specs.declared.nodes.Prev.{Prev}
+use Rattle.slot_arena.specs.Refs.{slot_of}
+use Rattle.slot_arena.specs.Heaps.{prev_changed, refs_of_prev}
+use Rattle.slot_arena.specs.Tallies.{naming}
+use Rattle.slot_arena.specs.Arenas.{Contents, AreLive}
+use Rattle.slot_arena.specs.Kept.{live, IsKept}
+use Rattle.slot_arena.proofs.Live.{live_within, all_within}
+use Rattle.slot_arena.proofs.Changed.{counts_small, one_prev}
+use Rattle.slot_arena.proofs.Reading.{live_inside, all_seen, prev_put_seen}
+use Rattle.slot_arena.proofs.Words.{IsChange, changed_by, prev_changes, word_within, word_counted, word_kept, word_noted, word_stays}
 use Rattle.slot_arena.proofs.arena.Arena.swap_prev.Goals as goal
+
+-- what becomes the prev word is in use
+to_live : (before seen : Contents) → before ≡ seen → (to : Prev) → AreLive seen.heap (refs_of_prev to) → All (λ q. live before.heap.slots q ≡ true) (refs_of_prev to)
+to_live before seen same to has = subst (λ (a : Contents). All (λ q. live a.heap.slots q ≡ true) (refs_of_prev to)) (sym same) (all_seen seen.heap (refs_of_prev to) has)
+
+-- the word that is changed was `from`
+change : (c : goal.After-refs_of_prev-2) → IsChange c.self.inside.cells c.args.at (prev_changed c.args.to) (refs_of_prev c.args.from) (refs_of_prev c.args.to)
+change c = let same : c.prev.result ≡ c.args.from = search (rules, tests) in prev_changes _ _ c.self.view_is c.args.at c.args.to c.args.from (sym c.prev.ensures ∙ same)
+
+changed : (c : goal.After-set_prev) → IsChange c.self.inside.cells c.args.at (prev_changed c.args.to) (refs_of_prev c.args.from) (refs_of_prev c.args.to)
+changed c = let same : c.prev.result ≡ c.args.from = search (rules, tests) in prev_changes _ _ c.self.view_is c.args.at c.args.to c.args.from (sym c.prev.ensures ∙ same)
 
 pub raise_all-requires-clause-within : goal.raise_all-requires-clause-within
 raise_all-requires-clause-within c =
-    let has = live_inside _ _ c.self.view_is c.args.at c.requires.live in
-    subst (λ rs. All (λ r. slot_of r < length c.self.inside.tally.counts) rs) (sym (c.refs_of_prev.ensures))
-    (all_within c.self.inside.cells (length c.self.inside.tally.counts) (refs_of_prev c.args.to) (sym c.self.invariant.sizes) (subst (λ s. All (λ q. live s q ≡ true) (refs_of_prev c.args.to)) (sym (ap (λ (a : Contents). a.heap.slots) c.self.view_is)) (all_seen c.args.self.now.heap (refs_of_prev c.args.to) c.requires.new_live)))
+    subst (λ rs. All (λ r. slot_of r < length c.self.inside.tally.counts) rs) (sym c.refs_of_prev.ensures)
+    (all_within c.self.inside.cells (length c.self.inside.tally.counts) (refs_of_prev c.args.to) (sym c.self.invariant.sizes) (to_live _ _ c.self.view_is c.args.to c.requires.new_live))
 
 pub raise_all-requires-clause-room : goal.raise_all-requires-clause-room
-raise_all-requires-clause-room c slot =
-    omega (arith, one_prev c.args.to, ap length c.refs_of_prev.ensures, counts_small c.self.inside.cells c.self.inside.tally.counts c.self.inside.free c.self.inside.used c.self.inside.outside.items c.self.invariant slot)
+raise_all-requires-clause-room c slot = omega (arith, one_prev c.args.to, ap length c.refs_of_prev.ensures, counts_small _ _ _ _ _ c.self.invariant slot)
 
 pub lower_all-requires-clause-within : goal.lower_all-requires-clause-within
 lower_all-requires-clause-within c =
-    let slots = ap (λ (a : Contents). a.heap.slots) c.self.view_is in
-    let at : Ref = c.args.at in
-    let has = live_inside _ _ c.self.view_is c.args.at c.requires.live in
-    let same : c.prev.result ≡ c.args.from = search (rules, tests) in
-    let is : prev_of (get_or c.self.inside.cells (slot_of at) None) ≡ c.args.from = ap (λ s. prev_of (get_or s (slot_of at) None)) slots ∙ prev_seen c.args.self.now.heap at ∙ sym c.prev.ensures ∙ same in
-    subst (λ rs. All (λ r. slot_of r < length c.raise_all.new.self.counts) rs) (sym (c.refs_of_prev-2.ensures))
-    (all_within c.self.inside.cells (length c.raise_all.new.self.counts) (refs_of_prev c.args.from) (sym (c.raise_all.ensures.size ∙ c.self.invariant.sizes))
-    (part_live c.self.inside.cells c.self.inside.tally.counts c.self.inside.outside.items c.self.invariant.exact (refs_of_prev c.args.from) (λ q. subst (λ p. times q (refs_of_prev p) ≤ found c.self.inside.cells c.self.inside.outside.items q) is (prev_part c.self.inside.cells c.self.inside.tally.counts c.self.inside.free c.self.inside.used c.self.inside.outside.items c.self.invariant at has q))))
+    subst (λ rs. All (λ r. slot_of r < length c.raise_all.new.self.counts) rs) (sym c.refs_of_prev-2.ensures)
+    (word_within _ _ _ _ _ c.self.invariant _ (live_inside _ _ c.self.view_is c.args.at c.requires.live) _ _ _ (change c) _ (c.raise_all.ensures.size ∙ c.self.invariant.sizes))
 
 pub lower_all-requires-clause-some : goal.lower_all-requires-clause-some
 lower_all-requires-clause-some c i =
-    let slots = ap (λ (a : Contents). a.heap.slots) c.self.view_is in
-    let at : Ref = c.args.at in
-    let has = live_inside _ _ c.self.view_is c.args.at c.requires.live in
-    let same : c.prev.result ≡ c.args.from = search (rules, tests) in
-    let is : prev_of (get_or c.self.inside.cells (slot_of at) None) ≡ c.args.from = ap (λ s. prev_of (get_or s (slot_of at) None)) slots ∙ prev_seen c.args.self.now.heap at ∙ sym c.prev.ensures ∙ same in
-    omega (
-      arith,
-      c.raise_all.ensures.counts i,
-      ap (naming i) (c.refs_of_prev-2.ensures),
-      part_counted c.self.inside.cells c.self.inside.tally.counts c.self.inside.outside.items c.self.invariant.exact c.self.invariant.few (refs_of_prev c.args.from) (λ q. subst (λ p. times q (refs_of_prev p) ≤ found c.self.inside.cells c.self.inside.outside.items q) is (prev_part c.self.inside.cells c.self.inside.tally.counts c.self.inside.free c.self.inside.used c.self.inside.outside.items c.self.invariant at has q)) i,
-    )
+    let some = word_counted _ _ _ _ _ c.self.invariant _ (live_inside _ _ c.self.view_is c.args.at c.requires.live) _ _ _ (change c) i in
+    omega (arith, c.raise_all.ensures.counts i, ap (naming i) c.refs_of_prev-2.ensures, some)
 
 pub set_prev-requires : goal.set_prev-requires
-set_prev-requires c =
-    let at : Ref = c.args.at in
-    let has = live_inside _ _ c.self.view_is c.args.at c.requires.live in
-    let within = live_within c.self.inside.cells at has in
-    omega (arith, c.slot.ensures)
+set_prev-requires c = omega (arith, live_within c.self.inside.cells c.args.at (live_inside _ _ c.self.view_is c.args.at c.requires.live), c.slot.ensures)
+
+slots_are : (c : goal.After-set_prev) → c.set_prev.new.self ≡ changed_by (prev_changed c.args.to) c.self.inside.cells c.args.at
+slots_are c = c.set_prev.ensures ∙ ap (λ k. set c.self.inside.cells k (option_map (prev_changed c.args.to) (get_or c.self.inside.cells k None))) c.slot.ensures
 
 pub invariant_of-self : goal.invariant_of-self
 invariant_of-self c =
-    let slots = ap (λ (a : Contents). a.heap.slots) c.self.view_is in
-    let at : Ref = c.args.at in
-    let has = live_inside _ _ c.self.view_is c.args.at c.requires.live in
-    let same : c.prev.result ≡ c.args.from = search (rules, tests) in
-    let is : prev_of (get_or c.self.inside.cells (slot_of at) None) ≡ c.args.from = ap (λ s. prev_of (get_or s (slot_of at) None)) slots ∙ prev_seen c.args.self.now.heap at ∙ sym c.prev.ensures ∙ same in
-    subst (λ s. IsKept s c.lower_all.new.self.counts c.self.inside.free c.self.inside.used c.self.inside.outside.items)
-    (sym (c.set_prev.ensures ∙ ap (λ k. set c.self.inside.cells k (option_map (prev_changed c.args.to) (get_or c.self.inside.cells k None))) c.slot.ensures))
-    (prev_kept c.self.inside.cells c.self.inside.tally.counts c.self.inside.free c.self.inside.used c.self.inside.outside.items c.self.invariant at has c.lower_all.new.self.counts (c.lower_all.ensures.size ∙ c.raise_all.ensures.size)
-    c.args.to c.args.from is
-    (λ i. omega (arith, c.lower_all.ensures.counts i, c.raise_all.ensures.counts i, ap (naming i) (c.refs_of_prev-2.ensures), ap (naming i) (c.refs_of_prev.ensures)))
-    (subst (λ s. All (λ q. live s q ≡ true) (refs_of_prev c.args.to)) (sym (ap (λ (a : Contents). a.heap.slots) c.self.view_is)) (all_seen c.args.self.now.heap (refs_of_prev c.args.to) c.requires.new_live)))
+    subst (λ s. IsKept s c.lower_all.new.self.counts c.self.inside.free c.self.inside.used c.self.inside.outside.items) (sym (slots_are c))
+    (word_kept _ _ _ _ _ c.self.invariant _ (live_inside _ _ c.self.view_is c.args.at c.requires.live) _ _ _ (changed c) _ (c.lower_all.ensures.size ∙ c.raise_all.ensures.size)
+    (λ i. omega (arith, c.lower_all.ensures.counts i, c.raise_all.ensures.counts i, ap (naming i) c.refs_of_prev-2.ensures, ap (naming i) c.refs_of_prev.ensures)) (to_live _ _ c.self.view_is c.args.to c.requires.new_live))
 
 pub returns-clause-heap : goal.returns-clause-heap
 returns-clause-heap c =
-    let slots = ap (λ (a : Contents). a.heap.slots) c.self.view_is in
-    ap (λ s. record { slots = s; free = c.self.inside.free.slots; births = c.self.inside.births })
-    (c.set_prev.ensures ∙ ap (λ k. set c.self.inside.cells k (option_map (prev_changed c.args.to) (get_or c.self.inside.cells k None))) c.slot.ensures)
-    ∙ ap (λ (a : Contents). record { slots = set a.heap.slots (slot_of c.args.at) (option_map (prev_changed c.args.to) (get_or a.heap.slots (slot_of c.args.at) None)); free = a.heap.free; births = a.heap.births }) c.self.view_is
+    ap (λ s. record { slots = s; free = c.self.inside.free.slots; births = c.self.inside.births }) (slots_are c)
+    ∙ ap (λ (a : Contents). record { slots = changed_by (prev_changed c.args.to) a.heap.slots c.args.at; free = a.heap.free; births = a.heap.births }) c.self.view_is
     ∙ sym (prev_put_seen c.args.self.now.heap c.args.at c.args.to)
 
 pub returns-clause-noted : goal.returns-clause-noted
 returns-clause-noted c =
-    let slots = ap (λ (a : Contents). a.heap.slots) c.self.view_is in
-    let at : Ref = c.args.at in
-    let has = live_inside _ _ c.self.view_is c.args.at c.requires.live in
-    let was : Contents = record { heap = record { slots = c.self.inside.cells; free = c.self.inside.free.slots; births = c.self.inside.births }; outside = c.self.inside.outside.items; noted = c.self.inside.tally.noted; ticks = c.self.inside.free.ticks + c.self.inside.tally.ticks } in
-    let now : Contents = record { heap = record { slots = c.set_prev.new.self; free = c.self.inside.free.slots; births = c.self.inside.births }; outside = c.self.inside.outside.items; noted = c.lower_all.new.self.noted; ticks = c.self.inside.free.ticks + c.self.inside.tally.ticks } in
-    let zeros = zeros_trans c.self.inside.tally c.raise_all.new.self c.lower_all.new.self c.raise_all.ensures.noted c.lower_all.ensures.noted in
-    subst (λ (a : Contents). NotesWaiting a now) c.self.view_is
-    (notes_waiting was now c.self.inside.tally.counts c.lower_all.new.self.counts c.self.inside.free c.self.inside.free c.self.inside.used c.self.inside.used c.self.invariant (invariant_of-self c) zeros
-    (λ i none. born_prev c.self.inside.cells (slot_of at) i c.args.to (live_within c.self.inside.cells at has)
-    ∙ sym (ap (λ s. born (get_or s i None)) (c.set_prev.ensures ∙ ap (λ k. set c.self.inside.cells k (option_map (prev_changed c.args.to) (get_or c.self.inside.cells k None))) c.slot.ensures))))
+    word_noted _ _ c.self.view_is _ (live_inside _ _ c.self.view_is c.args.at c.requires.live) _ _ _ (changed c) _ (slots_are c) _ _ _ _ c.raise_all.new.self c.lower_all.new.self.noted 0
+    c.self.invariant (invariant_of-self c) c.raise_all.ensures.noted c.lower_all.ensures.noted
 
 pub returns-clause-stay : goal.returns-clause-stay
-returns-clause-stay c q =
-    let slots = ap (λ (a : Contents). a.heap.slots) c.self.view_is in
-    let at : Ref = c.args.at in
-    let has = live_inside _ _ c.self.view_is c.args.at c.requires.live in
-    live_is (record { slots = c.set_prev.new.self; free = c.self.inside.free.slots; births = c.self.inside.births }) q
-    ∙ ap (λ s. live s q) (c.set_prev.ensures ∙ ap (λ k. set c.self.inside.cells k (option_map (prev_changed c.args.to) (get_or c.self.inside.cells k None))) c.slot.ensures)
-    ∙ live_prev c.self.inside.cells (slot_of at) c.args.to q (live_within c.self.inside.cells at has) ∙ ap (λ s. live s q) slots ∙ sym (live_is c.args.self.now.heap q)
+returns-clause-stay c = word_stays _ _ c.self.view_is _ (live_inside _ _ c.self.view_is c.args.at c.requires.live) _ _ _ (changed c) _ (slots_are c)

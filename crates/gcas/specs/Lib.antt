@@ -1,0 +1,4 @@
+pub mod Acted
+pub mod Kept
+pub mod Reads
+pub mod Swaps

@@ -1,0 +1,206 @@
+//! A try, step by step.
+
+ghost use Rattle.std.specs.Prelude.{◌≡◌, List, None, IfOk, IfErr, OnOk, OnErr};
+ghost use Rattle.machine_model.specs.declared.operations.Operation.{Operation};
+ghost use Rattle.machine_model.specs.declared.lines.Line.TheVariants as line;
+ghost use Rattle.machine_model.specs.Building.{build_after_made};
+ghost use Rattle.machine_model.specs.Operations.{line_action};
+ghost use Rattle.machine_model.specs.States.{State};
+ghost use Rattle.machine_model.specs.Swapping.{swap_action};
+ghost use Rattle.machine_model.specs.declared.actions.Action.TheVariants as act;
+ghost use Rattle.machine_model.specs.declared.finding.KeyLine.TheVariants as key;
+ghost use Rattle.machine_model.specs.declared.lines.Purpose.TheVariants as purpose;
+ghost use Rattle.ctrie_base.specs.declared.hashes.HashKind.{HashKind};
+ghost use Rattle.slot_arena.specs.declared.refs.Ref.{Ref as ARef};
+ghost use Rattle.gcas.specs.declared.read.ReadAt.{ReadAt};
+ghost use Rattle.gcas.specs.declared.swap.Swap.{Swap as ASwap};
+ghost use Rattle.gcas.specs.Swaps.{swap_of, CanSwapOn};
+ghost use Rattle.trie_parts.specs.declared.calls.Task.{Task as ATask};
+ghost use Rattle.trie_parts.specs.Here.{at_heap};
+ghost use Rattle.trie_parts.specs.Holding.{Acts, AreHeld};
+ghost use Rattle.trie_parts.specs.Tasks.{for_task};
+ghost use Rattle.key_change.specs.Built.{build_line, built, depth_for};
+ghost use Rattle.key_change.specs.Lines.{line_of};
+ghost use Rattle.key_change.specs.Steps.{ChangesOn, CanChange, CanChangeAt};
+
+use crate::building::{Building, after_link, after_single, built, depth_ahead};
+use ctrie_base::{Kind, Refusal};
+use epochs::Heap;
+use gcas::Next;
+use machine_model::Change as NodeChange;
+use slot_arena::{Node, Ref};
+use trie_parts::{Task, Work, current, entry_at, node_at};
+
+/// Where a try stands. `former` is the key's value before the change.
+#[derive(Clone, Copy)]
+pub enum ChangeAt {
+    /// The key at this position is to be taken out of a branch of two entries: looks at the other one.
+    Sibling { position: usize, former: u64 },
+    /// Makes a node.
+    Build(Building),
+    /// Swaps the new main node in.
+    Swap { former: Option<u64> },
+}
+
+/// What a try came to.
+#[derive(Clone, Copy)]
+pub enum Tried {
+    /// The key is changed; this was its value before.
+    Changed { former: Option<u64> },
+    /// The main node wasn't replaced: the call has to be tried again.
+    Lost,
+    /// No slot was free.
+    NoSlots,
+    /// A node is of another kind than the program takes it for. No machine comes here.
+    Impossible,
+}
+
+/// One try of an update: a change of one key in a main node that READ gave.
+#[derive(Clone, Copy)]
+pub struct Change {
+    /// That main node.
+    pub main: Ref,
+    pub at: ChangeAt,
+}
+
+impl Change {
+    /// Takes the next step of the try, for a call that has come to the end of this path, unless it has to be
+    /// told the generation of the root first. After an error, which is want of memory, nothing has changed.
+    pub fn step(
+        &mut self,
+        work: &mut Work,
+        heap: &mut Heap,
+        task: Task,
+        path: &[Ref],
+        root_seen: Option<u64>,
+    ) -> Result<Next<Tried>, Refusal>
+        requires can { CanChange heap.old.heap task path.now work.old.swap self.old }
+        requires held { AreHeld work.old.private heap.old }
+        ensures follows { IfOk result (λ next. (state : State) (operation : Operation) → ChangesOn (at_heap state heap.old.heap task.hashes) (for_task task work.old.swap.read.access operation) path.now work.old.swap.fresh (line_of path.now work.old.swap root_seen self.old) (line_of path.now work.new.swap None self.new) work.new.swap.read.at next) }
+        ensures acts { OnOk result ((state : State) (operation : Operation) → Acts heap.old work.old.private (line_action (at_heap state heap.old.heap task.hashes) (for_task task work.old.swap.read.access operation) (line_of path.now work.old.swap root_seen self.old)) heap.new work.new.private) }
+        ensures same { (self.new.main ≡ self.old.main) × (work.new.swap.read.access ≡ work.old.swap.read.access) }
+        ensures err { OnErr result ((self.new ≡ self.old) × (work.new ≡ work.old) × (heap.new ≡ heap.old)) }
+        ensures only_memory { IfErr result (λ refusal. refusal ≡ Refusal.Memory) }
+    {
+        match &self.at {
+            ChangeAt::Sibling { position, former } => {
+                let (position, former) = (*position, *former);
+                Ok(self.look(heap, position, former))
+            }
+            ChangeAt::Build(building) => {
+                let building = *building;
+                self.make(work, heap, task, path, building)
+            }
+            ChangeAt::Swap { former } => {
+                let former = *former;
+                Ok(self.swap(work, heap, root_seen, former))
+            }
+        }
+    }
+
+    /// Looks at the other one of two entries: where it is a single it is entombed.
+    fn look(&mut self, heap: &Heap, position: usize, former: u64) -> Next<Tried>
+        ensures follows { (state : State) (operation : Operation) (hashes : HashKind) (path : List ARef) (s : ASwap) (fresh : ARef) (place : ReadAt) → ChangesOn (at_heap state heap.now.heap hashes) operation path fresh (line.Key (key.Sibling path self.old.main position former)) (line_of path s None self.new) place result }
+        ensures same { self.new.main ≡ self.old.main }
+    {
+        let other = entry_at(heap, self.main, 1usize.saturating_sub(position));
+        let change = match node_at(heap, other) {
+            Some(Node::Single { .. }) => NodeChange::Entomb { single: other },
+            Some(Node::Indirection { .. }) => NodeChange::Remove { position },
+            _ => return Next::Done(Kind::Look, Tried::Impossible),
+        };
+        self.at = ChangeAt::Build(Building::Main {
+            change,
+            former: Some(former),
+        });
+        Next::More(Kind::Look)
+    }
+
+    /// Makes a node, and stands on the line behind that.
+    fn make(
+        &mut self,
+        work: &mut Work,
+        heap: &mut Heap,
+        task: Task,
+        path: &[Ref],
+        building: Building,
+    ) -> Result<Next<Tried>, Refusal>
+        requires can { CanChangeAt heap.old.heap task path.now work.old.swap self.old.main (ChangeAt.Build building) }
+        requires held { AreHeld work.old.private heap.old }
+        ensures follows { IfOk result (λ next. (state : State) (operation : Operation) → ChangesOn (at_heap state heap.old.heap task.hashes) (for_task task work.old.swap.read.access operation) path.now work.old.swap.fresh (line.Build (build_line path.now self.old.main building)) (line_of path.now work.new.swap None self.new) work.new.swap.read.at next) }
+        ensures acts { OnOk result (Acts heap.old work.old.private (act.Make (built heap.old.heap task (build_line path.now self.old.main building))) heap.new work.new.private) }
+        ensures same { (self.new.main ≡ self.old.main) × (work.new.swap.read.access ≡ work.old.swap.read.access) }
+        ensures err { OnErr result ((self.new ≡ self.old) × (work.new ≡ work.old) × (heap.new ≡ heap.old)) }
+        ensures only_memory { IfErr result (λ refusal. refusal ≡ Refusal.Memory) }
+    {
+        let depth = depth_ahead(heap, task, path, self.main, building);
+        let node = built(heap, task, path, self.main, building);
+        match work.private.make(heap, node)? {
+            None => Ok(Next::Done(Kind::Make, Tried::NoSlots)),
+            Some(made) => {
+                self.go_on(work, path, building, depth, made);
+                Ok(Next::More(Kind::Make))
+            }
+        }
+    }
+
+    /// Stands on the line behind the making of a node; two singles part at this depth.
+    fn go_on(
+        &mut self,
+        work: &mut Work,
+        path: &[Ref],
+        building: Building,
+        depth: usize,
+        made: Ref,
+    )
+        ensures follows { (state : State) (operation : Operation) → depth ≡ depth_for state operation (build_line path.now self.old.main building) → line_of path.now work.new.swap None self.new ≡ build_after_made state operation (build_line path.now self.old.main building) made }
+        ensures same { (self.new.main ≡ self.old.main) × (work.new.swap.read.access ≡ work.old.swap.read.access) }
+        ensures private { work.new.private ≡ work.old.private }
+    {
+        self.at = match building {
+            Building::Single { site, former } => {
+                ChangeAt::Build(after_single(site, former, depth, made))
+            }
+            Building::Pair {
+                position, depth, ..
+            }
+            | Building::Rung {
+                position, depth, ..
+            } => ChangeAt::Build(Building::Link {
+                position,
+                below: made,
+                depth,
+            }),
+            Building::Link {
+                position, depth, ..
+            } => ChangeAt::Build(after_link(path, position, depth, made)),
+            Building::Main { former, .. } => {
+                work.swap.begin(current(path), self.main, made);
+                ChangeAt::Swap { former }
+            }
+        };
+    }
+
+    /// Takes a step of the SWAP.
+    fn swap(
+        &mut self,
+        work: &mut Work,
+        heap: &mut Heap,
+        root_seen: Option<u64>,
+        former: Option<u64>,
+    ) -> Next<Tried>
+        requires can { CanSwapOn heap.old.heap work.old.swap }
+        requires held { AreHeld work.old.private heap.old }
+        ensures follows { (state : State) (operation : Operation) (path : List ARef) (hashes : HashKind) (task : ATask) → ChangesOn (at_heap state heap.old.heap hashes) (for_task task work.old.swap.read.access operation) path work.old.swap.fresh (line.Swap (purpose.Update path former) (swap_of work.old.swap root_seen)) (line_of path work.new.swap None self.new) work.new.swap.read.at result }
+        ensures acts { Acts heap.old work.old.private (swap_action (swap_of work.old.swap root_seen)) heap.new work.new.private }
+        ensures same { (self.new.main ≡ self.old.main) × (work.new.swap.read.access ≡ work.old.swap.read.access) }
+    {
+        self.at = ChangeAt::Swap { former };
+        match work.swap(heap, root_seen) {
+            Next::More(kind) => Next::More(kind),
+            Next::AskRoot => Next::AskRoot,
+            Next::Done(kind, true) => Next::Done(kind, Tried::Changed { former }),
+            Next::Done(kind, false) => Next::Done(kind, Tried::Lost),
+        }
+    }
+}

@@ -1,0 +1,48 @@
+-- A READ inside of COMPLETE.
+use Rattle.std.specs.Prelude.{◌≡◌, Some, None}
+use Rattle.std.proofs.Common.{arith, refl, ap, ◌∙◌}
+use Rattle.ctrie_base.specs.declared.kinds.Kind.{Kind}
+use Rattle.history.specs.declared.calls.Access.{Access}
+use Rattle.slot_arena.specs.declared.refs.Ref.{Ref}
+use Rattle.slot_arena.specs.Heaps.{Heap}
+use Rattle.machine_model.specs.declared.reading.After.TheVariants.{Goes, Gives}
+use Rattle.machine_model.specs.declared.reading.ReadLine.{ReadLine}
+use Rattle.machine_model.specs.declared.roots.CompleteLine.TheVariants as complete
+use Rattle.machine_model.specs.declared.roots.Descriptor.{Descriptor}
+use Rattle.machine_model.specs.declared.roots.RootWord.{RootWord}
+use Rattle.machine_model.specs.Swapping.{of_offer, after_reading}
+use Rattle.gcas.specs.declared.next.Next.TheVariants.{More, Done}
+use Rattle.gcas.specs.declared.read.Read.{Read}
+use Rattle.gcas.specs.declared.read.ReadAt.{ReadAt}
+use Rattle.gcas.specs.declared.read.ReadAt.TheVariants as at
+use Rattle.gcas.specs.Reads.{ReadsOn, come_to, given_so, line_at}
+use Rattle.rdcss_root.specs.declared.complete.CompleteAt.TheVariants as place
+use Rattle.rdcss_root.specs.Programs.{CompletesOn, complete_with}
+
+goes : (offer : Descriptor) (access : Access) (p : ReadAt) → given_so p ≡ None →
+    of_offer offer (after_reading (come_to access p)) ≡ Goes (record { offer = offer; line = complete.Reading (line_at access None p) })
+goes offer access at.Main none = refl
+goes offer access (at.Prev main) none = refl
+goes offer access (at.Decide main previous) none = refl
+goes offer access (at.Restore main previous) none = refl
+goes offer access (at.Given main) none = grind (arith, none)
+
+gives : (offer : Descriptor) (access : Access) (main : Ref) (p : ReadAt) → given_so p ≡ Some main →
+    of_offer offer (after_reading (come_to access p)) ≡ Goes (record { offer = offer; line = complete.Swap main })
+gives offer access main at.Main some = grind (arith, some)
+gives offer access main (at.Prev m) some = grind (arith, some)
+gives offer access main (at.Decide m previous) some = grind (arith, some)
+gives offer access main (at.Restore m previous) some = grind (arith, some)
+gives offer access main (at.Given m) some = grind (arith, some)
+
+-- while it is under way COMPLETE reads on
+pub reads_on : (heap : Heap) (offer : Descriptor) (line : ReadLine) (k : Kind) (r : Read) → ReadsOn heap r.access offer.root line r.at (More k) → (word : RootWord) →
+    CompletesOn heap word (complete_with offer place.Reading line) (record { offer = offer; at = place.Reading }) r (More k)
+reads_on heap offer line k r step word =
+    (step.0, ap (λ a. of_offer offer (after_reading a)) (step.1.1.0 word) ∙ goes offer r.access r.at step.1.0, step.1.1)
+
+-- what it gives COMPLETE compares
+pub reads_done : (heap : Heap) (offer : Descriptor) (line : ReadLine) (k : Kind) (main : Ref) (r : Read) → ReadsOn heap r.access offer.root line r.at (Done k main) → (word : RootWord) →
+    CompletesOn heap word (complete_with offer place.Reading line) (record { offer = offer; at = place.Swap main }) r (More k)
+reads_done heap offer line k main r step word =
+    (step.0, ap (λ a. of_offer offer (after_reading a)) (step.1.1.0 word) ∙ gives offer r.access main r.at step.1.0, step.1.1)

@@ -1,0 +1,3 @@
+pub mod Completing
+pub mod Keeping
+pub mod Rewriting

@@ -1,0 +1,70 @@
+-- What is held, where one root word gives way to another.
+use Rattle.std.specs.Prelude.{◌≡◌, ℕ, ◌+◌, ◌*◌, ◌<◌, ◌≤◌, List, [], ◌∷◌, ◌++◌, length, flat_map, slice_set, slice_index_or, Option, Some, None}
+use Rattle.std.specs.List.{sum_by}
+use Rattle.std.proofs.Common.{arith, rules, ◌∙◌, refl, ap}
+use Rattle.std.proofs.lemmas.List.{set_past}
+use Rattle.std.proofs.lemmas.List.Concat.{flat_map-cons}
+use Rattle.std.proofs.lemmas.List.Sums.{sum_by-set, sum_by-cons}
+use Rattle.slot_arena.specs.declared.refs.Ref.{Ref}
+use Rattle.slot_arena.specs.Times.{times}
+use Rattle.slot_arena.proofs.Times.{times-append, times_le}
+use Rattle.slot_arena.specs.Heaps.{Heap, refs_of_option}
+use Rattle.slot_arena.specs.Arenas.{AreLive}
+use Rattle.epochs.specs.Memories.{Memory}
+use Rattle.machine_model.specs.declared.roots.Root.{Root}
+use Rattle.machine_model.specs.declared.roots.RootWord.{RootWord}
+use Rattle.machine_model.specs.declared.roots.RootWord.TheVariants.{Plain, Offer}
+use Rattle.machine_model.specs.declared.roots.Descriptor.{Descriptor}
+use Rattle.machine_model.specs.Counting.{refs_of_root, refs_of_word}
+use Rattle.machine_model.specs.States.{rewritten}
+use Rattle.trie_parts.specs.Holding.{AreHeld}
+use Rattle.rdcss_root.specs.Holds.{Holds, Releases, root_refs, IsReady, Moves}
+use Rattle.rdcss_root.proofs.Keeping.{kept, kept_on}
+
+times_flat : {X : Type 0} (r : Ref) (f : X → List Ref) (xs : List X) → times r (flat_map f xs) ≡ sum_by (λ x. times r (f x)) xs
+times_flat r f [] = refl
+times_flat r f (x ∷ xs) =
+    ap (times r) (flat_map-cons f x xs)
+    ∙ omega (arith, times-append r (f x) (flat_map f xs), times_flat r f xs, sum_by-cons (λ y. times r (f y)) x xs)
+
+-- one of the lists is replaced
+times_set : {X : Type 0} (r : Ref) (f : X → List Ref) (xs : List X) (i : ℕ) (y d : X) → i < length xs →
+    times r (flat_map f (slice_set xs i y)) + times r (f (slice_index_or xs i d)) ≡ times r (flat_map f xs) + times r (f y)
+times_set r f xs i y d within =
+    omega (arith, times_flat r f (slice_set xs i y), times_flat r f xs, sum_by-set (λ x. times r (f x)) xs i y d within)
+
+few_of_word : (word : RootWord) → length (refs_of_word word) ≤ 4
+few_of_word (Plain root) = omega arith
+few_of_word (Offer offer) = by_second offer.second
+  where
+    by_second : (second : Option Ref) → length (offer.root ∷ offer.expected ∷ offer.successor ∷ refs_of_option second) ≤ 4
+    by_second None = omega arith
+    by_second (Some r) = omega arith
+
+few_of_root : (root : Option Root) → length (refs_of_root root) ≤ 4
+few_of_root None = omega arith
+few_of_root (Some root) = few_of_word root.word
+
+-- what stands in one root word is held
+pub found_held : {before held : Memory} {n : ℕ} (roots : List (Option Root)) (i : ℕ) (root : Option Root) → i < length roots → IsReady before roots n →
+    Holds (refs_of_root root) before held → AreHeld (refs_of_root (slice_index_or roots i None)) held
+found_held roots i root within ready holds = λ r. omega (arith, times_set r refs_of_root roots i None None within, ready.held r, holds.outside r)
+
+pub moved : {before held after : Memory} (roots : List (Option Root)) (i : ℕ) (root : Option Root) → i < length roots →
+    Holds (refs_of_root root) before held → Releases (refs_of_root (slice_index_or roots i None)) held after → Moves before after roots (slice_set roots i root) 4
+moved roots i root within holds releases = record {
+  outside = λ r. omega (arith, times_set r refs_of_root roots i root None within, holds.outside r, releases.outside r);
+  more = λ r. omega (arith, holds.outside r, releases.outside r, times_le r (refs_of_root root), few_of_root root);
+  keeps = kept_on 8 holds.keeps releases.keeps (omega (arith, few_of_root root, few_of_root (slice_index_or roots i None)));
+}
+
+pub unmoved : (m : Memory) (roots : List (Option Root)) (n : ℕ) → Moves m m roots roots n
+unmoved m roots n = record { outside = λ r. refl; more = λ r. omega arith; keeps = kept_on (2 * n) (kept m) (kept m) (omega arith) }
+
+pub live_rewritten : (heap : Heap) (word : RootWord) (root : Option Root) → AreLive heap (refs_of_word word) → AreLive heap (refs_of_root (rewritten word root))
+live_rewritten heap word None live = search rules
+live_rewritten heap word (Some root) live = live
+
+-- a write behind the end changes nothing
+pub unwritten : {X : Type 0} (xs : List X) (i : ℕ) (y : X) → length xs ≤ i → slice_set xs i y ≡ xs
+unwritten xs i y past = set_past xs i y past

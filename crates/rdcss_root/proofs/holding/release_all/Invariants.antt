@@ -1,0 +1,10 @@
+use Rattle.std.proofs.Common.{◌≡◌, ◌+◌, ◌≤◌, ℕ, length, take}
+use Rattle.slot_arena.specs.Times.{times}
+use Rattle.rdcss_root.specs.Holds.{KeepsMemory}
+use Rattle.rdcss_root.proofs.holding.release_all.Given as goal
+
+abbrev pub invariant-loop-at : goal.invariant-loop-at
+invariant-loop-at l = record {
+  outside : (r : ℕ) → times r l.heap.outside + times r (take l.at-index l.refs) ≡ times r l.fn.heap.outside;
+  keeps : KeepsMemory l.fn.heap l.heap l.at-index;
+}

@@ -1,0 +1,3 @@
+pub mod Holds
+pub mod Tables
+pub mod Programs

@@ -1,0 +1,113 @@
+//! COMPLETE: brings an offer to its end.
+
+ghost use Rattle.std.specs.Prelude.{◌≡◌, None};
+ghost use Rattle.slot_arena.specs.Arenas.{AreLive};
+ghost use Rattle.machine_model.specs.declared.roots.RootWord.{RootWord};
+ghost use Rattle.machine_model.specs.declared.roots.RootWord.TheVariants.{Offer};
+ghost use Rattle.machine_model.specs.Counting.{refs_of_word};
+ghost use Rattle.machine_model.specs.Swapping.{complete_action, is_carried_out};
+ghost use Rattle.gcas.specs.Acted.{acted_heap};
+ghost use Rattle.gcas.specs.Kept.{KeepsBeside};
+ghost use Rattle.gcas.specs.Reads.{begun, line_of, CanReadOn};
+ghost use Rattle.rdcss_root.specs.Holds.{Moves, IsReady};
+ghost use Rattle.rdcss_root.specs.Tables.{word_in, completed_in};
+ghost use Rattle.rdcss_root.specs.Programs.{complete_of, complete_with, CompletesOn, CanCompleteOn, KeepsUnlessSwapped, completed_at};
+
+use crate::roots::Roots;
+use ctrie_base::Kind;
+use epochs::Heap;
+use gcas::{Next, Read};
+use machine_model::Descriptor;
+use slot_arena::Ref;
+
+/// Where a COMPLETE stands.
+#[derive(Clone, Copy)]
+pub enum CompleteAt {
+    /// Reads the main node of the root that is to be swapped.
+    Reading,
+    /// That node is `main`: swaps the root where it is the expected one, else takes the offer back.
+    Swap { main: Ref },
+}
+
+/// A COMPLETE. Its READ is the operation's.
+#[derive(Clone, Copy)]
+pub struct Complete {
+    pub offer: Descriptor,
+    pub at: CompleteAt,
+}
+
+impl Complete {
+    /// A COMPLETE of this offer, at its beginning.
+    pub fn begin(offer: Descriptor, read: &mut Read) -> Complete
+        ensures complete { result ≡ record { offer = offer; at = CompleteAt.Reading } }
+        ensures read { read.new ≡ begun read.old.access offer.root }
+    {
+        read.begin(offer.root);
+        Complete {
+            offer,
+            at: CompleteAt::Reading,
+        }
+    }
+
+    /// Takes its next step, unless it has to be told the generation of the root first. It gives whether that
+    /// step carried the offer out.
+    pub fn step(
+        &mut self,
+        read: &mut Read,
+        roots: &mut Roots,
+        handle: u16,
+        heap: &mut Heap,
+        root_seen: Option<u64>,
+    ) -> Next<bool>
+        requires { CanCompleteOn heap.old roots.old self.old read.old }
+        ensures follows { CompletesOn heap.old.heap (word_in roots.old handle) (complete_of self.old read.old root_seen) self.new read.new result }
+        ensures same { (self.new.offer ≡ self.old.offer) × (read.new ≡ record read.old { at = read.new.at }) }
+        ensures heap { heap.new.heap ≡ acted_heap heap.old.heap (complete_action (complete_of self.old read.old root_seen)) }
+        ensures table { roots.new ≡ completed_at roots.old handle self.old.offer self.old.at }
+        ensures memory { KeepsUnlessSwapped heap.old heap.new roots.old.roots roots.new.roots self.old.at }
+    {
+        match &self.at {
+            CompleteAt::Reading => self.read(read, heap, root_seen),
+            CompleteAt::Swap { main } => {
+                let main = *main;
+                self.swap(roots, handle, heap, main)
+            }
+        }
+    }
+
+    fn read(&mut self, read: &mut Read, heap: &mut Heap, root_seen: Option<u64>) -> Next<bool>
+        requires { (read.old.indirection ≡ self.old.offer.root) × CanReadOn heap.old.heap read.old }
+        ensures follows { (word : RootWord) → CompletesOn heap.old.heap word (complete_with self.old.offer CompleteAt.Reading (line_of read.old root_seen)) self.new read.new result }
+        ensures same { (self.new.offer ≡ self.old.offer) × (read.new ≡ record read.old { at = read.new.at }) }
+        ensures heap { heap.new.heap ≡ acted_heap heap.old.heap (complete_action (complete_with self.old.offer CompleteAt.Reading (line_of read.old root_seen))) }
+        ensures beside { KeepsBeside heap.old heap.new }
+    {
+        match read.step(heap, root_seen) {
+            Next::More(kind) => {
+                self.at = CompleteAt::Reading;
+                Next::More(kind)
+            }
+            Next::AskRoot => {
+                self.at = CompleteAt::Reading;
+                Next::AskRoot
+            }
+            Next::Done(kind, main) => {
+                self.at = CompleteAt::Swap { main };
+                Next::More(kind)
+            }
+        }
+    }
+
+    fn swap(&mut self, roots: &mut Roots, handle: u16, heap: &mut Heap, main: Ref) -> Next<bool>
+        requires live { AreLive heap.old.heap (refs_of_word (Offer self.old.offer)) }
+        requires ready { IsReady heap.old roots.old.roots 8 }
+        ensures done { result ≡ Next.Done Kind.SwapRoot (is_carried_out (word_in roots.old handle) self.old.offer main) }
+        ensures same { self.new ≡ record self.old { at = CompleteAt.Swap main } }
+        ensures table { roots.new ≡ completed_in roots.old handle self.old.offer main }
+        ensures moves { Moves heap.old heap.new roots.old.roots roots.new.roots 8 }
+    {
+        self.at = CompleteAt::Swap { main };
+        let done = roots.complete(heap, handle, self.offer, main);
+        Next::Done(Kind::SwapRoot, done)
+    }
+}

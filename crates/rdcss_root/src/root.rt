@@ -1,0 +1,101 @@
+//! ROOT: gives the root, behind the end of an offer that stands in its way.
+
+ghost use Rattle.std.specs.Prelude.{◌≡◌, None};
+ghost use Rattle.slot_arena.specs.Heaps.{Heap as Store};
+ghost use Rattle.machine_model.specs.Swapping.{root_action};
+ghost use Rattle.gcas.specs.Acted.{acted_heap};
+ghost use Rattle.rdcss_root.specs.Tables.{word_in};
+ghost use Rattle.rdcss_root.specs.Programs.{root_of, RootsOn, CanRootOn, KeepsUnlessCompleted, rooted_at};
+
+use crate::complete::Complete;
+use crate::roots::Roots;
+use ctrie_base::Kind;
+use epochs::Heap;
+use gcas::{Next, Read};
+use machine_model::RootWord;
+use slot_arena::Ref;
+
+/// A ROOT. Its READ is the operation's.
+#[derive(Clone, Copy)]
+pub enum ReadRoot {
+    /// Reads the root word.
+    Read,
+    /// An offer stands there: completes it, and reads again.
+    Completing(Complete),
+}
+
+impl ReadRoot {
+    /// Takes its next step, unless it has to be told the generation of the root first. It gives the root.
+    pub fn step(
+        &mut self,
+        read: &mut Read,
+        roots: &mut Roots,
+        handle: u16,
+        heap: &mut Heap,
+        root_seen: Option<u64>,
+    ) -> Next<Ref>
+        requires { CanRootOn heap.old roots.old self.old read.old }
+        ensures follows { RootsOn heap.old.heap (word_in roots.old handle) (root_of self.old read.old root_seen) self.new read.new result }
+        ensures access { read.new.access ≡ read.old.access }
+        ensures heap { heap.new.heap ≡ acted_heap heap.old.heap (root_action (root_of self.old read.old root_seen)) }
+        ensures table { roots.new ≡ rooted_at roots.old handle self.old }
+        ensures memory { KeepsUnlessCompleted heap.old heap.new roots.old.roots roots.new.roots self.old }
+    {
+        match &*self {
+            ReadRoot::Read => self.read(read, roots, handle),
+            ReadRoot::Completing(complete) => {
+                let complete = *complete;
+                self.complete(complete, read, roots, handle, heap, root_seen)
+            }
+        }
+    }
+
+    fn read(&mut self, read: &mut Read, roots: &Roots, handle: u16) -> Next<Ref>
+        ensures follows { (heap : Store) → RootsOn heap (word_in roots.now handle) (root_of ReadRoot.Read read.old None) self.new read.new result }
+        ensures access { read.new.access ≡ read.old.access }
+    {
+        match roots.word(handle) {
+            RootWord::Plain(root) => {
+                *self = ReadRoot::Read;
+                Next::Done(Kind::ReadRoot, root)
+            }
+            RootWord::Offer(offer) => {
+                *self = ReadRoot::Completing(Complete::begin(offer, read));
+                Next::More(Kind::ReadRoot)
+            }
+        }
+    }
+
+    fn complete(
+        &mut self,
+        complete: Complete,
+        read: &mut Read,
+        roots: &mut Roots,
+        handle: u16,
+        heap: &mut Heap,
+        root_seen: Option<u64>,
+    ) -> Next<Ref>
+        requires { CanRootOn heap.old roots.old (ReadRoot.Completing complete) read.old }
+        ensures follows { RootsOn heap.old.heap (word_in roots.old handle) (root_of (ReadRoot.Completing complete) read.old root_seen) self.new read.new result }
+        ensures access { read.new.access ≡ read.old.access }
+        ensures heap { heap.new.heap ≡ acted_heap heap.old.heap (root_action (root_of (ReadRoot.Completing complete) read.old root_seen)) }
+        ensures table { roots.new ≡ rooted_at roots.old handle (ReadRoot.Completing complete) }
+        ensures memory { KeepsUnlessCompleted heap.old heap.new roots.old.roots roots.new.roots (ReadRoot.Completing complete) }
+    {
+        let mut complete = complete;
+        match complete.step(read, roots, handle, heap, root_seen) {
+            Next::More(kind) => {
+                *self = ReadRoot::Completing(complete);
+                Next::More(kind)
+            }
+            Next::AskRoot => {
+                *self = ReadRoot::Completing(complete);
+                Next::AskRoot
+            }
+            Next::Done(kind, _) => {
+                *self = ReadRoot::Read;
+                Next::More(kind)
+            }
+        }
+    }
+}

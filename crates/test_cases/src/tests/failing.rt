@@ -1,0 +1,169 @@
+//! A reader and a writer that move one byte a call, and fail at each call in turn.
+
+use ctrie_commands::{Counted, Fault, Nothing, check_history, run_script, run_threads};
+use std::io;
+use std::io::{ErrorKind, Read, Write};
+use std::sync::Wait;
+use std::thread::Threads;
+
+/// A reader that gives one byte a call, and fails at one call; at none for 0.
+#[derive(Drop)]
+struct Source<'a> {
+    rest: &'a [u8],
+    calls: u64,
+    fails_at: u64,
+}
+
+impl<'a> Source<'a> {
+    fn new(text: &'a str, fails_at: u64) -> Source<'a> {
+        Source {
+            rest: text.as_bytes(),
+            calls: 0,
+            fails_at,
+        }
+    }
+}
+
+impl Read for Source<'_> {
+    fn read(&mut self, buf: &mut [u8]) -> io::Result<usize> {
+        self.calls = self.calls.saturating_add(1);
+        if self.calls == self.fails_at {
+            return Err(io::Error::from(ErrorKind::Other));
+        }
+        let room = buf.len().min(1);
+        let rest = &mut self.rest;
+        rest.read(&mut buf[..room])
+    }
+}
+
+/// A writer that takes one byte a call, and fails at one call; at none for 0.
+#[derive(Drop)]
+struct Sink {
+    taken: Vec<u8>,
+    calls: u64,
+    fails_at: u64,
+}
+
+impl Sink {
+    fn new(taken: Vec<u8>, fails_at: u64) -> Sink {
+        Sink {
+            taken,
+            calls: 0,
+            fails_at,
+        }
+    }
+
+    fn call(&mut self) -> io::Result<()> {
+        self.calls = self.calls.saturating_add(1);
+        if self.calls == self.fails_at {
+            return Err(io::Error::from(ErrorKind::Other));
+        }
+        Ok(())
+    }
+}
+
+impl Write for Sink {
+    fn write(&mut self, buf: &[u8]) -> io::Result<usize> {
+        self.call()?;
+        let count = buf.len().min(1);
+        self.taken.extend_from_slice(&buf[..count])?;
+        Ok(count)
+    }
+
+    fn flush(&mut self) -> io::Result<()> {
+        self.call()
+    }
+}
+
+#[derive(Clone, Copy, Debug)]
+enum Command {
+    Check,
+    Run,
+    Threads,
+}
+
+/// A text, and what comes of it.
+#[derive(Clone, Copy)]
+struct Case {
+    command: Command,
+    text: &'static str,
+    written: &'static str,
+}
+
+const SCRIPT: &str = "slots 64\nhash low\nactors 1\ndo 1 put 0 5 50\ndo 1 get 0 5\n";
+
+const REPORT: &str = "hash low\nbegin 0 1 put 0 5 50\nend 0 none\nbegin 1 1 get 0 5\nend 1 some 50\norder 0 1\nslots used 4 free 60 limbo 1\n";
+
+const CASES: [Case; 3] = [
+    Case {
+        command: Command::Check,
+        text: "hash low\nbegin 0 1 put 0 1 10\nend 0 none\nbegin 1 1 get 0 1\nend 1 none\norder 0 1\n",
+        written: "not legal\n",
+    },
+    Case {
+        command: Command::Run,
+        text: SCRIPT,
+        written: REPORT,
+    },
+    Case {
+        command: Command::Threads,
+        text: SCRIPT,
+        written: REPORT,
+    },
+];
+
+/// What the command says of the text, and how many calls of the reader and of the writer it counted as failed.
+fn carried_out<R: AllocGlobal + Threads + Wait + Sync>(
+    rt: &R,
+    case: Case,
+    source: Source<'_>,
+    sink: &mut Sink,
+) -> (Result<(), Fault>, u64, u64) {
+    let mut input = Counted::new(source);
+    let mut output = Counted::new(sink);
+    let (input, output) = (&mut input, &mut output);
+    let found = match case.command {
+        Command::Check => check_history(rt.alloc(), input, output).map(|_| ()),
+        Command::Run => run_script(rt.alloc(), input, output),
+        Command::Threads => run_threads(rt, rt.alloc(), input, output, &Nothing),
+    };
+    (found, input.failed(), output.failed())
+}
+
+/// Byte by byte in and out.
+#[test]
+fn moves_one_byte_a_call(rt: HostRuntime) {
+    for case in CASES {
+        let mut sink = Sink::new(Vec::new(rt.alloc()), 0);
+        let found = carried_out(&rt, case, Source::new(case.text, 0), &mut sink);
+        assert!(rt; found == (Ok(()), 0, 0), "{:?}", case.command);
+        assert!(rt; sink.taken.as_slice() == case.written.as_bytes());
+    }
+}
+
+/// Each read fails in turn, the last at the end: nothing is written.
+#[test]
+fn tells_each_failed_read(rt: HostRuntime) {
+    for case in CASES {
+        for call in 1..=case.text.len() as u64 + 1 {
+            let mut sink = Sink::new(Vec::new(rt.alloc()), 0);
+            let found = carried_out(&rt, case, Source::new(case.text, call), &mut sink);
+            assert!(rt; found == (Err(Fault::Read), 1, 0), "{:?} {call}", case.command);
+            assert!(rt; sink.taken.is_empty());
+        }
+    }
+}
+
+/// Each write fails in turn, the last a flush: a beginning was written.
+#[test]
+fn tells_each_failed_write(rt: HostRuntime) {
+    for case in CASES {
+        for call in 1..=case.written.len() as u64 + 1 {
+            let mut sink = Sink::new(Vec::new(rt.alloc()), call);
+            let found = carried_out(&rt, case, Source::new(case.text, 0), &mut sink);
+            assert!(rt; found == (Err(Fault::Write), 0, 1), "{:?} {call}", case.command);
+            assert!(rt; sink.taken.len() as u64 + 1 == call);
+            assert!(rt; case.written.as_bytes().starts_with(sink.taken.as_slice()));
+        }
+    }
+}

@@ -1,0 +1,107 @@
+//! Memory that is wanting, and there again: all that is given is taken, in ever smaller pieces, and let go. Each test is a
+//! process of its own, so no other test meets it.
+
+ghost use Rattle.std.specs.Prelude.{IfOk};
+ghost use Rattle.lock_runner.specs.Seats.{IsSeatOf};
+
+use crate::records::is_right;
+use crate::support::{is_found, perform, put, two_seats};
+use lock_runner::{Between, Nothing, Runner, Seat, Stop, Unfinished};
+use std::alloc::{AllocError, Global};
+use std::cell::RefCell;
+use std::test::Fail;
+
+/// How many pieces are taken at most.
+const PIECES: usize = 1 << 18;
+
+/// The size of the first piece is beyond what there is of addresses.
+const LARGEST: usize = 1 << 47;
+
+/// Room to note all pieces.
+fn no_pieces(alloc: Global) -> Result<Vec<Vec<u8>>, AllocError> {
+    Vec::with_capacity(alloc, PIECES)
+}
+
+/// Takes all memory, first in pieces of this size, then of half of it, and so on.
+fn take_all(alloc: Global, pieces: &mut Vec<Vec<u8>>) {
+    let mut size = LARGEST;
+    for _ in 0..LARGEST.ilog2() {
+        take_pieces(alloc, pieces, size);
+        size /= 2;
+    }
+}
+
+/// Takes pieces of this size until one is refused.
+fn take_pieces(alloc: Global, pieces: &mut Vec<Vec<u8>>, size: usize) {
+    for _ in pieces.len()..PIECES {
+        let Ok(piece) = Vec::with_capacity(alloc, size) else {
+            return;
+        };
+        let _ = pieces.push(piece);
+    }
+}
+
+/// Takes all memory after the first step of a call.
+struct Starving {
+    alloc: Global,
+    pieces: RefCell<Vec<Vec<u8>>>,
+}
+
+impl Between for Starving {
+    fn between(&self, _seat: u8, taken: u64) {
+        if taken == 1 {
+            if let Ok(mut pieces) = self.pieces.try_borrow_mut() {
+                take_all(self.alloc, &mut pieces);
+            }
+        }
+    }
+}
+
+/// A call that found no memory in its middle runs on, and is answered once there is some.
+#[test]
+fn goes_on_once_there_is_memory(rt: HostRuntime) -> Result<(), Fail> {
+    let (runner, mut one, mut two) = two_seats(rt.alloc())?;
+    perform(&rt, &runner, &mut one, put(1, 10));
+    let starving = Starving {
+        alloc: rt.alloc(),
+        pieces: RefCell::new(no_pieces(rt.alloc())?),
+    };
+    let stop = one.perform(&rt, &runner, put(1, 20), &starving).err();
+    drop(starving);
+    assert!(rt; stop == Some(Stop::Memory));
+    assert_eq!(rt; one.answers().len(), 1);
+    perform(&rt, &runner, &mut two, put(2, 30));
+    let is_right_reply = match one.resume(&rt, &runner, &Nothing) {
+        Ok(reply) => is_found(reply, Some(10)),
+        Err(_) => false,
+    };
+    assert!(rt; is_right_reply);
+    Ok(())
+}
+
+/// Where the order finds no memory the machine comes back, and has taken all steps.
+#[test]
+fn hands_out_the_machine_without_memory(rt: HostRuntime) -> Result<(), Fail> {
+    let (runner, mut one, mut two) = two_seats(rt.alloc())?;
+    perform(&rt, &runner, &mut one, put(1, 10));
+    perform(&rt, &runner, &mut two, put(1, 20));
+    let mut seats = Vec::with_capacity(rt.alloc(), 2)?;
+    seats.push(one)?;
+    seats.push(two)?;
+    let mut pieces = no_pieces(rt.alloc())?;
+    take_all(rt.alloc(), &mut pieces);
+    let found = runner.finish(seats);
+    drop(pieces);
+    let Err(Unfinished::Memory(machine)) = found else {
+        panic!(rt; "the order takes memory")
+    };
+    assert_eq!(rt; machine.events().len(), 4);
+    let steps = machine.steps().len();
+    let Ok(record) = machine.into_record() else {
+        panic!(rt; "there is memory")
+    };
+    assert_eq!(rt; (record.events.len(), record.steps.len()), (4, steps));
+    assert!(rt; record.order.as_slice() == &[0, 1]);
+    assert!(rt; is_right(rt.alloc(), &record)?);
+    Ok(())
+}

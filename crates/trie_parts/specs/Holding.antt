@@ -1,0 +1,39 @@
+-- What a step of a program does to the heap and to its private list.
+use Rattle.std.specs.Prelude.{◌≡◌, ℕ, ◌+◌, ◌≤◌, List, length}
+use Rattle.slot_arena.specs.declared.refs.Ref.{Ref}
+use Rattle.slot_arena.specs.Heaps.{Heap, next_ref}
+use Rattle.slot_arena.specs.Arenas.{IsLive}
+use Rattle.slot_arena.specs.Ticking.{TakesUpTo}
+use Rattle.slot_arena.specs.Times.{times}
+use Rattle.epochs.specs.Memories.{Memory, KeepsEpochs, cleared}
+use Rattle.machine_model.specs.declared.actions.Action.{Action}
+use Rattle.machine_model.specs.declared.actions.Action.TheVariants as act
+use Rattle.machine_model.specs.Acting.{private_after}
+use Rattle.gcas.specs.Acted.{acted_heap}
+use Rattle.trie_parts.specs.Here.{at_heap, no_state}
+use Rattle.ctrie_base.specs.declared.hashes.HashKind.TheVariants.{Low}
+
+-- each reference of the list is held from outside, as often as it stands there
+abbrev pub AreHeld : List Ref → Memory → Type 0
+AreHeld private memory = (r : Ref) → times r private ≤ times r memory.outside
+
+-- what is held from outside beside the private list is as before
+abbrev pub KeepsOthers : List Ref → Memory → List Ref → Memory → Type 0
+KeepsOthers private before private' after = (r : Ref) → times r after.outside + times r private ≡ times r before.outside + times r private'
+
+-- what was set beside the slots, after the action: nothing beside a slot that it takes
+abbrev pub remarked : Heap → Action → List ℕ → List ℕ
+remarked heap (act.Make node) words = cleared (next_ref heap) words
+remarked heap action words = words
+
+-- The step with this action leads from one heap and private list to others. It notes few slots and takes few ticks, however large the heap.
+pub record Acts (before : Memory) (private : List Ref) (action : Action) (after : Memory) (private' : List Ref) : Type 0 where
+  pub heap : after.heap ≡ acted_heap before.heap action
+  pub made : private' ≡ private_after (at_heap no_state before.heap Low) private action
+  pub others : KeepsOthers private before private' after
+  pub stay : (q : Ref) → IsLive before.heap q → IsLive after.heap q
+  pub epochs : KeepsEpochs before after
+  pub owners : after.owners ≡ remarked before.heap action before.owners
+  pub commits : after.commits ≡ remarked before.heap action before.commits
+  pub few : length after.noted ≤ length before.noted + (32 + length private)
+  pub ticks : TakesUpTo (36 + length private) before.ticks after.ticks

@@ -1,0 +1,24 @@
+//! What the programs of the map share: look-ups in a heap, levels of hashes, paths, and the main nodes that
+//! are made from the one before.
+//!
+//! Each call computes the definition of the same name (`Heaps` of `slot_arena`, `Levels` and `Builders` of
+//! `nodes`, `Paths` of `machine_model`), for every heap, path and position, so that none of them asks for
+//! anything. None takes memory.
+#![tactic(auto)]
+
+mod calls;
+mod entries;
+mod levels;
+mod looking;
+mod made;
+mod paths;
+mod private;
+mod work;
+
+pub use calls::{KeyCall, Task};
+pub use levels::{flag_of, index_in, parting};
+pub use looking::{bitmap_at, entries_at, entry_at, entry_count, is_single_at, key_at, node_at};
+pub use made::{changed_at, contracted, pair, renewed, rung};
+pub use paths::{above, current, depth_of, is_below_root};
+pub use private::Private;
+pub use work::Work;

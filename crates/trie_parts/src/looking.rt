@@ -1,0 +1,75 @@
+//! What stands in the slots of a heap. A look-up goes by the slot alone; where nothing stands in it, it gives
+//! what the definition gives.
+
+ghost use Rattle.std.specs.Prelude.{◌≡◌, length, option_map, unwrap_or};
+ghost use Rattle.slot_arena.specs.Heaps.{node_at, node_of, entries_of, entry_at, bitmap_of, empty_branch};
+ghost use Rattle.machine_model.specs.Building.{key_in};
+ghost use Rattle.machine_model.specs.Cleaning.{is_single};
+
+use epochs::Heap;
+use slot_arena::{Node, Ref};
+use std::slice::from_ref;
+
+/// The node that stands in a slot; where none does, the definition has a branch without entries.
+#[tactic(auto, using(crate::proofs::Stored::stands), unfolding(slot_arena::specs::Heaps::node_at))]
+pub fn node_at(heap: &Heap, at: Ref) -> Option<&Node>
+    ensures { node_at heap.now.heap at ≡ unwrap_or (option_map (λ node. node.now) result) empty_branch }
+{
+    heap.stored_node(at)
+}
+
+/// The entries of a main node: those of a branch, the singles of a list, the single of a tomb.
+pub fn entries_at(heap: &Heap, main: Ref) -> &[Ref]
+    ensures { result.now ≡ entries_of (node_at heap.now.heap main) }
+{
+    match node_at(heap, main) {
+        Some(Node::Branch { entries, .. }) => entries.as_slice(),
+        Some(Node::List { singles }) => singles.as_slice(),
+        Some(Node::Tomb { single }) => from_ref(single),
+        _ => &[],
+    }
+}
+
+/// How many entries a main node has.
+pub fn entry_count(heap: &Heap, main: Ref) -> usize
+    ensures { result ≡ length (entries_of (node_at heap.now.heap main)) }
+{
+    entries_at(heap, main).len()
+}
+
+/// The entry of a main node at a position, or the reference that names no slot.
+pub fn entry_at(heap: &Heap, main: Ref, position: usize) -> Ref
+    ensures { result ≡ entry_at heap.now.heap main position }
+{
+    entries_at(heap, main)
+        .get(position)
+        .copied()
+        .unwrap_or(Ref::default())
+}
+
+/// The bitmap of a branch.
+pub fn bitmap_at(heap: &Heap, at: Ref) -> u32
+    ensures { result ≡ bitmap_of (node_at heap.now.heap at) }
+{
+    match node_at(heap, at) {
+        Some(Node::Branch { bitmap, .. }) => *bitmap,
+        _ => 0,
+    }
+}
+
+/// The key of a single.
+pub fn key_at(heap: &Heap, at: Ref) -> u64
+    ensures { result ≡ key_in (node_at heap.now.heap at) }
+{
+    match node_at(heap, at) {
+        Some(Node::Single { key, .. }) => *key,
+        _ => 0,
+    }
+}
+
+/// Whether a single stands there.
+pub fn is_single_at(heap: &Heap, at: Ref) -> bool
+    ensures { result ≡ is_single (node_at heap.now.heap at) }
+{
+    matches!(node_at(heap, at), Some(Node::Single { .. }))
+}

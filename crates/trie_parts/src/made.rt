@@ -1,0 +1,148 @@
+//! Main nodes made from the main node before, and the indirections and branches down to two singles.
+
+ghost use Rattle.std.specs.Prelude.{◌≡◌, ◌<◌, ◌++◌};
+ghost use Rattle.slot_arena.specs.Heaps.{node_at};
+ghost use Rattle.nodes.specs.Builders.{renewed, contracted, by_index, pair, rung};
+ghost use Rattle.machine_model.specs.Building.{changed_branch, changed_list, changed};
+
+use crate::entries::{entries_from, entries_from_parts, with_inserted, with_replaced, without};
+use crate::levels::{flag_of, index_in};
+use crate::looking::node_at;
+use ctrie_base::HashKind;
+use epochs::Heap;
+use machine_model::Change;
+use nodes::{list_depth, position_of};
+use slot_arena::{Node, Ref};
+
+/// A main node after the change, where `flag` is that of the call's key. What is no branch or list stays as
+/// it is.
+pub fn changed_at(heap: &Heap, main: Ref, flag: u32, change: Change) -> Node
+    requires { 0 < flag }
+    ensures { result ≡ changed flag (node_at heap.now.heap main) change }
+{
+    match node_at(heap, main) {
+        Some(node) => changed(flag, node, change),
+        None => changed_branch(flag, 0, &[], change),
+    }
+}
+
+/// The node after the change.
+fn changed(flag: u32, node: &Node, change: Change) -> Node
+    requires { 0 < flag }
+    ensures { result ≡ changed flag node.now change }
+{
+    match node {
+        Node::Branch { bitmap, entries } => {
+            changed_branch(flag, *bitmap, entries.as_slice(), change)
+        }
+        Node::List { singles } => changed_list(singles.as_slice(), change),
+        Node::Indirection { generation, main } => Node::Indirection {
+            generation: *generation,
+            main: *main,
+        },
+        Node::Single { key, value } => Node::Single {
+            key: *key,
+            value: *value,
+        },
+        Node::Tomb { single } => Node::Tomb { single: *single },
+    }
+}
+
+/// A branch after the change, where `flag` is that of the call's key.
+fn changed_branch(flag: u32, bitmap: u32, entries: &[Ref], change: Change) -> Node
+    requires { 0 < flag }
+    ensures { result ≡ changed_branch flag bitmap entries.now change }
+{
+    match change {
+        Change::Insert { single } => Node::Branch {
+            bitmap: bitmap | flag,
+            entries: with_inserted(entries, position_of(flag, bitmap), single),
+        },
+        Change::Update { position, entry } => Node::Branch {
+            bitmap,
+            entries: with_replaced(entries, position, entry),
+        },
+        Change::Remove { position } => Node::Branch {
+            bitmap: bitmap ^ flag,
+            entries: without(entries, position),
+        },
+        Change::Entomb { single } => Node::Tomb { single },
+    }
+}
+
+/// A list after the change: a new single stands at its end.
+fn changed_list(singles: &[Ref], change: Change) -> Node
+    ensures { result ≡ changed_list singles.now change }
+{
+    match change {
+        Change::Insert { single } => Node::List {
+            singles: entries_from_parts(singles, &[single], &[]),
+        },
+        Change::Update { position, entry } => Node::List {
+            singles: with_replaced(singles, position, entry),
+        },
+        Change::Remove { position } => Node::List {
+            singles: without(singles, position),
+        },
+        Change::Entomb { single } => Node::Tomb { single },
+    }
+}
+
+/// The branch with these entries in the same places.
+pub fn renewed(bitmap: u32, entries: &[Ref]) -> Node
+    ensures { result ≡ renewed bitmap entries.now }
+{
+    Node::Branch {
+        bitmap,
+        entries: entries_from(entries),
+    }
+}
+
+/// The branch with these entries in the same places; where it may, and only one is left, its tomb.
+pub fn contracted(may_entomb: bool, bitmap: u32, entries: &[Ref]) -> Node
+    ensures { result ≡ contracted may_entomb bitmap entries.now }
+{
+    match entries {
+        [single] if may_entomb => Node::Tomb { single: *single },
+        _ => renewed(bitmap, entries),
+    }
+}
+
+/// The main node of two singles at a depth: a branch, and below all levels a list, the older one first.
+pub fn pair(kind: HashKind, depth: usize, old_hash: u64, hash: u64, old: Ref, single: Ref) -> Node
+    ensures { result ≡ pair kind depth old_hash hash old single }
+{
+    if depth == list_depth(kind) {
+        return Node::List {
+            singles: entries_from(&[old, single]),
+        };
+    }
+    let both = by_index(
+        index_in(old_hash, depth),
+        index_in(hash, depth),
+        old,
+        single,
+    );
+    Node::Branch {
+        bitmap: flag_of(old_hash, depth) | flag_of(hash, depth),
+        entries: entries_from(&both),
+    }
+}
+
+/// The branch of one entry on the way down to two singles.
+pub fn rung(hash: u64, depth: usize, below: Ref) -> Node
+    ensures { result ≡ rung hash depth below }
+{
+    renewed(flag_of(hash, depth), &[below])
+}
+
+/// The two references by the rising index of what they refer to.
+fn by_index(first_index: u32, other_index: u32, first: Ref, other: Ref) -> [Ref; 2]
+    ensures { result ≡ by_index first_index other_index first other }
+{
+    if first_index < other_index {
+        [first, other]
+    } else {
+        [other, first]
+    }
+}
