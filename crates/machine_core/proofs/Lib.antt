@@ -7,3 +7,8 @@ pub mod Bounded
 pub mod Steps
 pub mod Carried
 pub mod Gone
+pub mod Ends
+pub mod Starts
+pub mod Numbers
+pub mod Gathering
+pub mod Looking

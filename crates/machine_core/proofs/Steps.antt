@@ -55,7 +55,7 @@ begin_answer : (state : State) (actor : ℕ) (call : Call) → begin_denial stat
 unfolding next
 begin_answer state actor call e = ap (λ d. begin_unless state actor call d) e
 
-sweep_answer : (state : State) → is_spent state ≡ false → next state step.Sweep ≡ settled_after state (swept state)
+pub sweep_answer : (state : State) → is_spent state ≡ false → next state step.Sweep ≡ settled_after state (swept state)
 unfolding next
 sweep_answer state e = ap (λ b. if b then Err refuse.Spent else settled_after state (swept state)) e
 

@@ -49,10 +49,7 @@ fn hold_word(heap: &mut Heap, word: RootWord)
         RootWord::Plain(root) => hold_all(heap, &[root]),
         RootWord::Offer(offer) => match offer.second {
             None => hold_all(heap, &[offer.root, offer.expected, offer.successor]),
-            Some(second) => hold_all(
-                heap,
-                &[offer.root, offer.expected, offer.successor, second],
-            ),
+            Some(second) => hold_all(heap, &[offer.root, offer.expected, offer.successor, second]),
         },
     }
 }

@@ -22,16 +22,16 @@ loop-one-preserved c = record {
     arith,
     ap (times r) c.release.ensures.outside,
     times-without r c.one-item.result c.loop-one.heap.outside (
-      let one = c.one-item.result in
-      omega (
-        arith,
-        c.requires one,
-        c.loop-one.invariant.outside one,
-        times_more one c.args.refs.now c.loop-one.one-index c.one-item.result c.loop-one-test.true c.one-item.is,
-        times_left one c.args.refs.now (c.loop-one.one-index + 1),
-        once_same one,
-      )
-    ),
+        let one = c.one-item.result in
+        omega (
+          arith,
+          c.requires one,
+          c.loop-one.invariant.outside one,
+          times_more one c.args.refs.now c.loop-one.one-index c.one-item.result c.loop-one-test.true c.one-item.is,
+          times_left one c.args.refs.now (c.loop-one.one-index + 1),
+          once_same one,
+        )
+        ),
     c.loop-one.invariant.outside r,
     times_more r c.args.refs.now c.loop-one.one-index c.one-item.result c.loop-one-test.true c.one-item.is,
   );

@@ -1,0 +1,100 @@
+//! Why steps are denied.
+
+ghost use Rattle.std.specs.Prelude.{◌≡◌};
+ghost use Rattle.machine_model.specs.Machine.{is_spent, is_access, begin_denial, go_denial, denial_of};
+ghost use Rattle.machine_model.specs.declared.steps.Step.TheVariants as steps;
+ghost use Rattle.plain_state.specs.Seen.{seen};
+
+use crate::actors::{is_actor, is_running, runs_on};
+use crate::handles::{HANDLE_LIMIT, handles_taken};
+use ctrie_base::Refusal;
+use history::{Access, Call};
+use machine_model::Step;
+use plain_reading::{handle_of, is_close, needs_read_only, needs_writable, opens_handle};
+use plain_state::Parts;
+
+/// How many steps a machine takes.
+const STEP_LIMIT: u64 = 1 << 40;
+
+/// Whether the machine has taken all its steps.
+fn is_spent(parts: &Parts) -> bool
+    ensures { result ≡ is_spent (seen parts.now) }
+{
+    STEP_LIMIT <= parts.steps
+}
+
+/// Whether a handle is open with this access.
+pub fn is_access(access: Access, found: Option<Access>) -> bool
+    ensures { result ≡ is_access access found }
+{
+    match (access, found) {
+        (Access::Writable, Some(Access::Writable)) | (Access::ReadOnly, Some(Access::ReadOnly)) => {
+            true
+        }
+        _ => false,
+    }
+}
+
+/// Why a begin is denied, if it is.
+fn begin_denial(parts: &Parts, actor: u8, call: Call) -> Option<Refusal>
+    ensures { result ≡ begin_denial (seen parts.now) actor call }
+{
+    let handle = handle_of(call);
+    let access = parts.access(handle);
+    if !is_actor(parts, actor) {
+        Some(Refusal::NoActor)
+    } else if is_running(parts, actor) {
+        Some(Refusal::ActorBusy)
+    } else if access.is_none() {
+        Some(Refusal::NoHandle)
+    } else if needs_writable(call) && is_access(Access::ReadOnly, access) {
+        Some(Refusal::ReadOnly)
+    } else if needs_read_only(call) && is_access(Access::Writable, access) {
+        Some(Refusal::NotReadOnly)
+    } else if is_close(call) && runs_on(parts, handle) {
+        Some(Refusal::Busy)
+    } else if opens_handle(call) && HANDLE_LIMIT <= handles_taken(parts) {
+        Some(Refusal::HandlesFull)
+    } else if is_spent(parts) {
+        Some(Refusal::Spent)
+    } else {
+        None
+    }
+}
+
+/// Why a step of an actor's operation is denied, if it is.
+fn go_denial(parts: &Parts, actor: u8) -> Option<Refusal>
+    ensures { result ≡ go_denial (seen parts.now) actor }
+{
+    if !is_actor(parts, actor) {
+        Some(Refusal::NoActor)
+    } else if !is_running(parts, actor) {
+        Some(Refusal::Idle)
+    } else if is_spent(parts) {
+        Some(Refusal::Spent)
+    } else {
+        None
+    }
+}
+
+/// Why the step is denied, if it is.
+pub fn denial_of(parts: &Parts, step: Step) -> Option<Refusal>
+    ensures { result ≡ denial_of (seen parts.now) step }
+{
+    match step {
+        Step::Begin { actor, call } => begin_denial(parts, actor, call),
+        Step::Go { actor } => go_denial(parts, actor),
+        Step::Sweep => sweep_denial(parts),
+    }
+}
+
+/// Why a step of the sweep is denied, if it is.
+fn sweep_denial(parts: &Parts) -> Option<Refusal>
+    ensures { result ≡ denial_of (seen parts.now) steps.Sweep }
+{
+    if is_spent(parts) {
+        Some(Refusal::Spent)
+    } else {
+        None
+    }
+}

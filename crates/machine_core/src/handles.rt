@@ -1,0 +1,82 @@
+//! Which handle numbers are taken.
+
+ghost use Rattle.std.specs.Prelude.{◌≡◌};
+ghost use Rattle.std.specs.List.{list_any};
+ghost use Rattle.machine_model.specs.Machine.{reserved_by, is_number, is_taken, handles_taken, least_free};
+ghost use Rattle.plain_state.specs.Seen.{seen};
+
+use machine_model::Operation;
+use plain_state::Parts;
+
+/// How many handles can be open or reserved.
+pub const HANDLE_LIMIT: u16 = 256;
+
+/// The handle that an operation has reserved: it is to open it, and hasn't yet.
+fn reserved_by(operation: &Option<Operation>) -> Option<u16>
+    ensures { result ≡ reserved_by operation.now }
+{
+    match operation {
+        None => None,
+        Some(operation) => {
+            if operation.is_marked {
+                None
+            } else {
+                operation.opens
+            }
+        }
+    }
+}
+
+/// Whether the operation has reserved this handle.
+fn is_reserved(handle: u16, operation: &Option<Operation>) -> bool
+    ensures { result ≡ is_number handle (reserved_by operation.now) }
+{
+    match reserved_by(operation) {
+        None => false,
+        Some(reserved) => reserved == handle,
+    }
+}
+
+/// Whether an operation has reserved this handle.
+fn is_reserved_by_one(parts: &Parts, handle: u16) -> bool
+    ensures { result ≡ list_any (λ operation. is_number handle (reserved_by operation)) (seen parts.now).actors }
+{
+    parts
+        .actors
+        .iter()
+        .any(|operation| is_reserved(handle, operation))
+}
+
+/// Whether the handle number is open or reserved.
+pub fn is_taken(parts: &Parts, handle: u16) -> bool
+    ensures { result ≡ is_taken (seen parts.now) handle }
+{
+    parts.root(handle).is_some() || is_reserved_by_one(parts, handle)
+}
+
+/// How many handles are open or reserved.
+#[tactic(auto, using(crate::proofs::Numbers::none_taken, crate::proofs::Numbers::taken_more))]
+pub fn handles_taken(parts: &Parts) -> u16
+    ensures { result ≡ handles_taken (seen parts.now) }
+{
+    let mut taken = 0;
+    for handle in 0..HANDLE_LIMIT {
+        if is_taken(parts, handle) {
+            taken += 1;
+        }
+    }
+    taken
+}
+
+/// The least handle number that is neither open nor reserved, or 256.
+#[tactic(auto, using(crate::proofs::Numbers::least_at_end, crate::proofs::Numbers::least_behind, crate::proofs::Numbers::least_here))]
+pub fn least_free(parts: &Parts) -> u16
+    ensures exact { result ≡ least_free (seen parts.now) }
+{
+    for handle in 0..HANDLE_LIMIT {
+        if !is_taken(parts, handle) {
+            return handle;
+        }
+    }
+    HANDLE_LIMIT
+}
