@@ -7,6 +7,7 @@ use Rattle.machine_model.specs.declared.roots.Root.{Root}
 use Rattle.machine_model.specs.declared.roots.RootWord.TheVariants.{Plain}
 use Rattle.machine_model.specs.declared.roots.Descriptor.{Descriptor}
 use Rattle.slot_arena.specs.Heaps.{generation_at}
+use Rattle.epochs.specs.Memories.{Memory}
 use Rattle.machine_model.specs.States.{State, with_word}
 use Rattle.places.specs.Places.{on_time}
 use Rattle.machine_model.specs.Acting.{opened, marked, carried_out}
@@ -36,3 +37,10 @@ pub carried : (state : State) (handle : ℕ) (offer : Descriptor) (roots : List 
     (closings : List Closing) (places : List Place) → Carries state handle offer offer.opens roots actors closings places →
     record state { roots = roots; actors = actors; closings = closings; places = places } ≡ carried_out state handle offer
 carried state handle offer roots actors closings places h = carried_for state handle offer offer.opens roots actors closings places h
+
+-- the state over a heap that is as before
+pub same_heap : (state : State) (memory : Memory) (roots : List (Option Root)) (actors : List (Option Operation)) (closings : List Closing) (places : List Place) →
+    memory.heap ≡ state.heap → memory.limbo ≡ state.limbo → memory.epoch ≡ state.epoch → memory.cursor ≡ state.cursor →
+    record state { heap = memory.heap; limbo = memory.limbo; epoch = memory.epoch; cursor = memory.cursor; roots = roots; actors = actors; closings = closings; places = places }
+    ≡ record state { roots = roots; actors = actors; closings = closings; places = places }
+same_heap state memory roots actors closings places heap limbo epoch cursor = rw (heap, limbo, epoch, cursor) refl

@@ -32,6 +32,17 @@ pub limbo_by : (memory : Memory) (state : State) (limbo : List Zeroed) → IsTie
     limbo_after state.heap memory.outside state.epoch limbo ≡ limbo_after state.heap (outside state) state.epoch limbo
 limbo_by memory state limbo tied = counts_alone state.heap memory.outside (outside state) state.epoch limbo (alike memory state tied)
 
+-- what the settling of this heap comes to
+pub record SettledTo (state : State) (before after : Memory) : Type 0 where
+  pub limbo : after.limbo ≡ limbo_after state.heap before.outside state.epoch state.limbo
+  pub heap : after.heap ≡ state.heap
+  pub epoch : after.epoch ≡ state.epoch
+  pub cursor : after.cursor ≡ state.cursor
+
+pub settles : (state : State) (before after : Memory) → IsTied before state.roots state.actors → SettledTo state before after →
+    record state { heap = after.heap; limbo = after.limbo; epoch = after.epoch; cursor = after.cursor; steps = state.steps + 1 } ≡ settled state state
+settles state before after tied to = rw (to.heap, to.epoch, to.cursor, to.limbo ∙ limbo_by before state state.limbo tied) refl
+
 -- ---- a step of the sweep
 
 -- what is freed is the first of limbo
@@ -70,25 +81,36 @@ left pins r held did after small e =
     (sym e) (left_by pins r held (ripe r.epoch r.limbo) small refl)
 
 -- what the heap's step of the sweep and its settling come to
-pub record SweptTo (state : State) (before middle : Memory) (did : Swept) (limbo : List Zeroed) : Type 0 where
+pub record SweptTo (state : State) (before middle after : Memory) (did : Swept) : Type 0 where
   pub swept : (did, record { heap = middle.heap; limbo = before.limbo; epoch = middle.epoch; cursor = middle.cursor }) ≡ swept_once before.pins (reclaimer_of state)
   pub same : before.limbo ≡ state.limbo
   pub left : middle.limbo ≡ drop (freed_by did) before.limbo
   pub outside : middle.outside ≡ before.outside
-  pub settled : limbo ≡ limbo_after middle.heap middle.outside middle.epoch middle.limbo
+  pub settled : after.limbo ≡ limbo_after middle.heap middle.outside middle.epoch middle.limbo
+  pub heap : after.heap ≡ middle.heap
+  pub epoch : after.epoch ≡ middle.epoch
+  pub cursor : after.cursor ≡ middle.cursor
+
+-- the state over this heap, after one step more
+abbrev pub stepped : State → Memory → State
+stepped state memory = record state { heap = memory.heap; limbo = memory.limbo; epoch = memory.epoch; cursor = memory.cursor; steps = state.steps + 1 }
+
+swept_state : (state : State) (before middle after : Memory) (did : Swept) → SweptTo state before middle after did →
+    stepped state after ≡ record state { heap = middle.heap; limbo = after.limbo; epoch = middle.epoch; cursor = middle.cursor; steps = state.steps + 1 }
+swept_state state before middle after did to = rw (to.heap, to.epoch, to.cursor) refl
 
 -- is the definition's step
-pub sweeps : (state : State) (before middle : Memory) (did : Swept) (limbo : List Zeroed) → is_spent state ≡ false → length state.heap.slots ≤ 2 ^ 16 →
-    IsTied before state.roots state.actors → SweptTo state before middle did limbo →
-    next state step.Sweep ≡ Ok (outcome.Swept did, record state { heap = middle.heap; limbo = limbo; epoch = middle.epoch; cursor = middle.cursor; steps = state.steps + 1 })
-sweeps state before middle did limbo unspent small tied to =
+pub sweeps : (state : State) (before middle after : Memory) (did : Swept) → is_spent state ≡ false → length state.heap.slots ≤ 2 ^ 16 →
+    IsTied before state.roots state.actors → SweptTo state before middle after did → next state step.Sweep ≡ Ok (outcome.Swept did, stepped state after)
+sweeps state before middle after did unspent small tied to =
     let r : Reclaimer = reclaimer_of state in
-    let after : Reclaimer = record { heap = middle.heap; limbo = before.limbo; epoch = middle.epoch; cursor = middle.cursor } in
-    let done : (did, after) ≡ swept_once (map pin_of state.actors) r = to.swept ∙ ap (λ ps. swept_once ps r) tied.pins in
-    let held : limbo ≡ limbo_after middle.heap (outside state) middle.epoch state.limbo =
+    let left_with : Reclaimer = record { heap = middle.heap; limbo = before.limbo; epoch = middle.epoch; cursor = middle.cursor } in
+    let done : (did, left_with) ≡ swept_once (map pin_of state.actors) r = to.swept ∙ ap (λ ps. swept_once ps r) tied.pins in
+    let held : after.limbo ≡ limbo_after middle.heap (outside state) middle.epoch state.limbo =
     to.settled ∙ ap (λ rs. limbo_after middle.heap rs middle.epoch middle.limbo) to.outside
     ∙ ap (λ l. limbo_after middle.heap before.outside middle.epoch l) (to.left ∙ ap (drop (freed_by did)) to.same)
-    ∙ left (map pin_of state.actors) r before.outside did after small done
+    ∙ left (map pin_of state.actors) r before.outside did left_with small done
     ∙ counts_alone middle.heap before.outside (outside state) middle.epoch state.limbo (alike before state tied) in
     sweep_answer state unspent ∙ ap (λ d. settled_after state (swept_with state d)) (sym done)
     ∙ ap (λ l. Ok (outcome.Swept did, record state { heap = middle.heap; limbo = l; epoch = middle.epoch; cursor = middle.cursor; steps = state.steps + 1 })) (sym held)
+    ∙ ap (λ x. Ok (outcome.Swept did, x)) (sym (swept_state state before middle after did to))

@@ -50,7 +50,7 @@ unfolding taken
 first_refs n = ap (λ rs. ref_to 1 0 ∷ rs) (none_flat refs_of_slot None n refl)
 
 both_out : (p : Ref → Bool) (a b : Ref) → p a ≡ false → p b ≡ false → filter p (a ∷ b ∷ []) ≡ []
-both_out p a b no neither = rw (no, neither) refl
+both_out p a b out out_too = rw (out, out_too) refl
 
 -- nothing is in limbo: the branch is referred to, and the root is held
 limbo_of : (heap : Heap) → in_use heap ≡ ref_to 1 0 ∷ ref_to 2 1 ∷ [] → heap_refs heap ≡ ref_to 1 0 ∷ [] → limbo_after heap (ref_to 2 1 ∷ []) 0 [] ≡ []

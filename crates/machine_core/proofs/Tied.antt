@@ -1,10 +1,12 @@
 -- What a step leaves tied: the references that the heap holds are those of root words and private lists.
-use Rattle.std.proofs.Common.{◌≡◌, ℕ, zero, suc, ◌+◌, ◌-◌, ◌*◌, ◌<◌, ◌≤◌, ◌^◌, ◌==◌, Bool, true, false, cond, List, [], ◌∷◌, ◌++◌, length, map, set, get_or, flat_map, Option, Some, None, refl, sym, ap, ◌∙◌, subst, arith}
+use Rattle.std.proofs.Common.{◌≡◌, ℕ, zero, suc, ◌+◌, ◌-◌, ◌*◌, ◌<◌, ◌≤◌, ◌^◌, ◌==◌, Bool, true, false, cond, List, [], ◌∷◌, ◌++◌, length, map, set, get_or, flat_map, is_some, Option, Some, None, refl, sym, ap, ◌∙◌, subst, arith}
 use Rattle.std.proofs.Math.Seq.{map-set_same}
-use Rattle.std.proofs.lemmas.List.{map-set}
+use Rattle.std.proofs.lemmas.List.{map-set, length-map}
 use Rattle.std.proofs.lemmas.List.Concat.{flat_map-cons}
+use Rattle.std.proofs.lemmas.Bool.{false≢true}
 use Rattle.std.proofs.lemmas.Option.{none-some}
 use Rattle.slot_arena.specs.declared.refs.Ref.{Ref}
+use Rattle.slot_arena.specs.declared.nodes.Node.{Node}
 use Rattle.slot_arena.specs.Heaps.{Heap, next_ref, refs_of_option}
 use Rattle.slot_arena.specs.Times.{times}
 use Rattle.slot_arena.proofs.Times.{times-append, times-cons}
@@ -21,6 +23,7 @@ use Rattle.machine_model.specs.Acting.{marked, with_made, private_after, operati
 use Rattle.machine_model.specs.Machine.{pin_of}
 use Rattle.machine_model.proofs.Actors.{after_marks, marks_by, gone_actors}
 use Rattle.machine_model.proofs.Found.{found_within}
+use Rattle.machine_core.specs.Actions.{MakesNothing}
 use Rattle.machine_core.specs.Ties.{root_refs, private_refs, IsTied, IsReady, Keeps, StandsAt, made_by, unless_made, given_up}
 use Rattle.machine_core.proofs.Tying.{times_set, times_part}
 
@@ -144,6 +147,17 @@ gone_tied before middle after state now actor operation found tied given is keep
       pins = pins ∙ tied.pins ∙ sym (map-set_same pin_of state.actors (actor - 1) (Some next) None (sym (ap pin_of at.is))) ∙ sym (marks_pins marks stood) ∙ ap (map pin_of) (sym actors);
     }
 
+-- an action that makes nothing
+pub makes_nothing : (action : Action) → ((node : Node) → action ≡ act.Make node → ⊥) → ((main : Ref) → action ≡ act.MakeRoot main → ⊥) → MakesNothing action
+makes_nothing (act.Make node) no_node no_root = no_node node refl
+makes_nothing (act.MakeRoot main) no_node no_root = no_root main refl
+makes_nothing action no_node no_root = tt
+
+pub made_none : (heap : Heap) (action : Action) → MakesNothing action → made_by heap action ≡ []
+made_none heap (act.Make node) h = absurd h
+made_none heap (act.MakeRoot main) h = absurd h
+made_none heap action h = refl
+
 -- ---- an end, and a begin
 
 pub ended_tied : (before after : Memory) (roots : List (Option Root)) (actors : List (Option Operation)) (actor : ℕ) (operation : Operation) →
@@ -167,4 +181,28 @@ begun_tied before after roots now actors actor operation at tied keeps none pins
     ap (times r) none,
   );
   pins = pins ∙ ap (λ ps. set ps (actor - 1) (Some operation.epoch)) tied.pins ∙ sym (map-set pin_of actors (actor - 1) (Some operation));
+}
+
+-- ---- actors
+
+-- an actor that the machine has, with what it runs, can record an epoch
+pub pins_within : (memory : Memory) (roots : List (Option Root)) (actors : List (Option Operation)) (actor : ℕ) (found : Option Operation) → IsTied memory roots actors →
+    StandsAt actors actor found → (1 ≤ actor) × (actor ≤ length memory.pins)
+pins_within memory roots actors actor found tied at = (at.counts, omega (arith, at.within, at.counts, ap length tied.pins, length-map actors pin_of))
+
+running_by : (state : State) (actor : ℕ) (found : Option Operation) → operation_of state actor ≡ found → is_some found ≡ true → (operation : Operation) × (operation_of state actor ≡ Some operation)
+running_by state actor None e some = absurd (false≢true some)
+running_by state actor (Some operation) e some = (operation, e)
+
+-- an actor that runs an operation
+pub running_at : (state : State) (actor : ℕ) → is_some (operation_of state actor) ≡ true → (operation : Operation) × (operation_of state actor ≡ Some operation)
+running_at state actor some = running_by state actor (operation_of state actor) refl some
+
+-- ---- what leaves all tied
+
+pub tied_same : (before after : Memory) (roots : List (Option Root)) (actors : List (Option Operation)) → after.outside ≡ before.outside → after.pins ≡ before.pins →
+    IsTied before roots actors → IsTied after roots actors
+tied_same before after roots actors outside pins tied = record {
+  held = λ r. ap (times r) outside ∙ tied.held r;
+  pins = pins ∙ tied.pins;
 }

@@ -85,3 +85,6 @@ so_by false before after changed h is = absurd (false≢true h)
 -- a `prev` word that is what it was read as is replaced
 pub was_so : (a : Bool) (before after changed : Heap) (at from : Prev) → (IsTrue a ↔ (at ≡ from)) → at ≡ from → after ≡ (if a then changed else before) → after ≡ changed
 was_so a before after changed at from told e is = so_by a before after changed (told.1 e) is
+
+pub no_root_live : (heap : Heap) → AreLive heap (refs_of_root None)
+no_root_live heap = All-nil (IsLive heap)

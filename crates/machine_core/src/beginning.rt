@@ -1,6 +1,6 @@
 //! How an operation begins.
 
-ghost use Rattle.std.specs.Prelude.{◌≡◌, ◌×◌, ◌≤◌, ◌<◌, ◌-◌, [], length, vec_len, vec_capacity, unwrap_or, slice_set, Some, None, if◌then◌else◌};
+ghost use Rattle.std.specs.Prelude.{◌≡◌, ◌≤◌, ◌<◌, ◌-◌, [], length, vec_len, vec_capacity, unwrap_or, slice_set, Some, None, if◌then◌else◌};
 ghost use Rattle.history.specs.Histories.{begun};
 ghost use Rattle.machine_model.specs.States.{root_at};
 ghost use Rattle.machine_model.specs.Calls.{handle_of, opens_handle};

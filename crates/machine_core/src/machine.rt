@@ -34,7 +34,7 @@ pub struct Core {
 }
 
 impl Model for Core {
-    ghost use Rattle.std.specs.Prelude.{◌≡◌, ◌×◌, []};
+    ghost use Rattle.std.specs.Prelude.{◌≡◌, []};
     ghost use Rattle.history.specs.Histories.{begun};
     ghost use Rattle.machine_model.specs.States.{State};
     ghost use Rattle.plain_state.specs.Seen.{seen};

@@ -27,7 +27,7 @@ pub fn are_limits(limits: Limits) -> bool
 
 /// A heap of so many slots, of which the first two have an empty branch and over it the root of handle 0,
 /// which alone is held.
-#[tactic(auto, using(crate::proofs::Starts::next_first, crate::proofs::Starts::next_second, crate::proofs::Starts::first_limbo, crate::proofs::Starts::no_entries, crate::proofs::Words::one_live))]
+#[tactic(auto, using(crate::proofs::Starts::next_first, crate::proofs::Starts::next_second, crate::proofs::Starts::first_limbo, crate::proofs::Words::one_live))]
 fn first_memory(alloc: Global, slots: u32, actors: u8) -> Result<Heap, Refusal>
     requires { AreSizes slots actors }
     ensures heap { IfOk result (λ memory. memory.heap ≡ first_heap slots) }
@@ -79,7 +79,7 @@ fn idle_actors(alloc: Global, actors: u8) -> Result<Vec<Option<Operation>>, Allo
 }
 
 /// The first state, with nothing left to settle.
-#[tactic(auto, using(crate::proofs::Starts::first_tied), unfolding(machine_model::specs::States::first_state))]
+#[tactic(auto, unfolding(machine_model::specs::States::first_state))]
 pub fn first_parts(alloc: Global, limits: Limits) -> Result<Parts, Refusal>
     requires { AreLimits limits }
     ensures first { IfOk result (λ parts. seen parts ≡ first_state limits) }
