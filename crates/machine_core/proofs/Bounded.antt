@@ -83,6 +83,9 @@ pub taken_births : (heap : Heap) (node : Node) → (taken heap node).births ≤ 
 unfolding taken
 taken_births heap node = take_births heap node heap.free
 
+pub taken_most : (before after : Heap) (node : Node) → after ≡ taken before node → after.births ≤ before.births + 1
+taken_most before after node is = omega (arith, ap (λ (h : Heap). h.births) is, taken_births before node)
+
 -- a step draws at most one
 heap_births : (heap : Heap) (due : Option Ref) (after : Heap) → HeapMoves heap due after → after.births ≤ heap.births + 1
 heap_births heap due after Stays = omega arith

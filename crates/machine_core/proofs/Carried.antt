@@ -39,8 +39,6 @@ pub carried : (state : State) (handle : ℕ) (offer : Descriptor) (roots : List 
 carried state handle offer roots actors closings places h = carried_for state handle offer offer.opens roots actors closings places h
 
 -- the state over a heap that is as before
-pub same_heap : (state : State) (memory : Memory) (roots : List (Option Root)) (actors : List (Option Operation)) (closings : List Closing) (places : List Place) →
-    memory.heap ≡ state.heap → memory.limbo ≡ state.limbo → memory.epoch ≡ state.epoch → memory.cursor ≡ state.cursor →
-    record state { heap = memory.heap; limbo = memory.limbo; epoch = memory.epoch; cursor = memory.cursor; roots = roots; actors = actors; closings = closings; places = places }
-    ≡ record state { roots = roots; actors = actors; closings = closings; places = places }
-same_heap state memory roots actors closings places heap limbo epoch cursor = rw (heap, limbo, epoch, cursor) refl
+pub same_heap : (state : State) (memory : Memory) → memory.heap ≡ state.heap → memory.limbo ≡ state.limbo → memory.epoch ≡ state.epoch → memory.cursor ≡ state.cursor →
+    record state { heap = memory.heap; limbo = memory.limbo; epoch = memory.epoch; cursor = memory.cursor } ≡ state
+same_heap state memory heap limbo epoch cursor = rw (heap, limbo, epoch, cursor) refl

@@ -16,7 +16,13 @@ use Rattle.machine_model.specs.declared.roots.Root.{Root}
 use Rattle.machine_model.specs.declared.steps.Limits.{Limits}
 use Rattle.machine_model.specs.Counting.{refs_of_root, refs_of_operation}
 use Rattle.machine_model.specs.Machine.{pin_of}
-use Rattle.machine_model.specs.States.{State, empty_heap, first_heap, first_state}
+use Rattle.history.specs.declared.calls.Access.TheVariants.{Writable}
+use Rattle.history.specs.declared.events.Event.{Event}
+use Rattle.places.specs.declared.place.Place.{Place}
+use Rattle.machine_model.specs.declared.heaps.Commit.{Commit}
+use Rattle.machine_model.specs.declared.heaps.Closing.{Closing}
+use Rattle.machine_model.specs.declared.roots.RootWord.TheVariants.{Plain}
+use Rattle.machine_model.specs.States.{State, handle_limit, empty_heap, first_heap, first_state}
 use Rattle.machine_core.specs.Ties.{IsTied, root_refs, private_refs}
 
 -- ---- the first two references
@@ -83,3 +89,37 @@ tied_at_first memory roots actors root n outside pins word first idle = record {
       omega (arith, ap (times r) outside, ap (λ xs. times r (root_refs xs)) first, ap (times r) (first_root_refs root (ref_to 2 1) word), nothing);
   pins = pins ∙ sym (none_pinned n) ∙ ap (map pin_of) (sym idle);
 }
+
+-- ---- the first state
+
+-- the lists of the state at first
+pub record AreFirst (limits : Limits) (roots : List (Option Root)) (actors : List (Option Operation)) (commits : List Commit) (closings : List Closing) (places : List Place)
+    (events : List Event) : Type 0 where
+  pub roots_are : roots ≡ set (replicate handle_limit None) 0 (Some (record { access = Writable; word = Plain (ref_to 2 1) }))
+  pub actors_are : actors ≡ replicate limits.actors None
+  pub commits_are : commits ≡ []
+  pub closings_are : closings ≡ []
+  pub places_are : places ≡ []
+  pub events_are : events ≡ []
+
+pub first_seen : (limits : Limits) (memory : Memory) (roots : List (Option Root)) (actors : List (Option Operation)) (commits : List Commit) (closings : List Closing) (places : List Place)
+    (events : List Event) → memory.heap ≡ first_heap limits.slots → memory.limbo ≡ [] → memory.epoch ≡ 0 → memory.cursor ≡ 1 →
+    AreFirst limits roots actors commits closings places events →
+    record {
+      limits = limits;
+      heap = memory.heap;
+      generations = 1;
+      limbo = memory.limbo;
+      epoch = memory.epoch;
+      cursor = memory.cursor;
+      roots = roots;
+      actors = actors;
+      commits = commits;
+      closings = closings;
+      places = places;
+      events = events;
+      steps = 0;
+    } ≡ first_state limits
+unfolding first_state
+first_seen limits memory roots actors commits closings places events heap limbo epoch cursor lists =
+    rw (heap, limbo, epoch, cursor, lists.roots_are, lists.actors_are, lists.commits_are, lists.closings_are, lists.places_are, lists.events_are) refl

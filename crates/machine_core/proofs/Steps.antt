@@ -1,5 +1,5 @@
 -- What steps come to.
-use Rattle.std.proofs.Common.{◌≡◌, ℕ, ◌+◌, inl, inr, true, false, List, [], ◌∷◌, length, if◌then◌else◌, Option, Some, None, IfOk, Result, Ok, Err, refl, sym, ap, ◌∙◌, arith, length-set, Bool, map, slice_index_or}
+use Rattle.std.proofs.Common.{◌≡◌, ℕ, ◌+◌, ◌-◌, slice_set, inl, inr, true, false, List, [], ◌∷◌, length, if◌then◌else◌, Option, Some, None, IfOk, Result, Ok, Err, refl, sym, ap, ◌∙◌, arith, length-set, Bool, map, slice_index_or}
 use Rattle.std.proofs.Math.ListN.{get_or-map}
 use Rattle.std.proofs.lemmas.Option.{none-some, same_Some}
 use Rattle.ctrie_base.specs.declared.refusals.Refusal.{Refusal}
@@ -97,6 +97,10 @@ lacks state after s d e = (e, inr (refl, allowed state s d))
 begin_leaves : (state : State) (actor : ℕ) (call : Call) (operation : Operation) →
     ((with_begin state actor call operation).limbo ≡ state.limbo) × ((with_begin state actor call operation).steps ≡ state.steps)
 begin_leaves state actor call operation = grind arith
+
+-- what stands at its actor then
+pub begin_actors : (state : State) (actor : ℕ) (call : Call) (operation : Operation) → (with_begin state actor call operation).actors ≡ slice_set state.actors (actor - 1) (Some operation)
+begin_actors state actor call operation = grind arith
 
 -- a begin that isn't denied
 pub begin_leads : (state after : State) (actor : ℕ) (call : Call) (id : ℕ) → begin_denial state actor call ≡ None → id ≡ begun state.events →

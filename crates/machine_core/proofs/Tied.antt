@@ -1,7 +1,7 @@
 -- What a step leaves tied: the references that the heap holds are those of root words and private lists.
 use Rattle.std.proofs.Common.{◌≡◌, ℕ, zero, suc, ◌+◌, ◌-◌, ◌*◌, ◌<◌, ◌≤◌, ◌^◌, ◌==◌, Bool, true, false, cond, List, [], ◌∷◌, ◌++◌, length, map, set, get_or, flat_map, is_some, Option, Some, None, refl, sym, ap, ◌∙◌, subst, arith}
 use Rattle.std.proofs.Math.Seq.{map-set_same}
-use Rattle.std.proofs.lemmas.List.{map-set, length-map}
+use Rattle.std.proofs.lemmas.List.{map-set, length-map, get_or_default}
 use Rattle.std.proofs.lemmas.List.Concat.{flat_map-cons}
 use Rattle.std.proofs.lemmas.Bool.{false≢true}
 use Rattle.std.proofs.lemmas.Option.{none-some}
@@ -23,6 +23,8 @@ use Rattle.machine_model.specs.Acting.{marked, with_made, private_after, operati
 use Rattle.machine_model.specs.Machine.{pin_of}
 use Rattle.machine_model.proofs.Actors.{after_marks, marks_by, gone_actors}
 use Rattle.machine_model.proofs.Found.{found_within}
+use Rattle.plain_state.specs.declared.parts.Parts.{Parts}
+use Rattle.plain_state.specs.Seen.{seen}
 use Rattle.machine_core.specs.Actions.{MakesNothing}
 use Rattle.machine_core.specs.Ties.{root_refs, private_refs, IsTied, IsReady, Keeps, StandsAt, made_by, unless_made, given_up}
 use Rattle.machine_core.proofs.Tying.{times_set, times_part}
@@ -198,6 +200,19 @@ running_by state actor (Some operation) e some = (operation, e)
 pub running_at : (state : State) (actor : ℕ) → is_some (operation_of state actor) ≡ true → (operation : Operation) × (operation_of state actor ≡ Some operation)
 running_at state actor some = running_by state actor (operation_of state actor) refl some
 
+-- what stands at an actor's place
+pub stands_is : (actors : List (Option Operation)) (actor : ℕ) (found : Option Operation) → actor - 1 < length actors → 1 ≤ actor → found ≡ get_or actors (actor - 1) found →
+    StandsAt actors actor found
+stands_is actors actor found within counts is = record { counts = counts; within = within; is = get_or_default actors (actor - 1) None found within ∙ sym is }
+
+pub stands_same : (actors : List (Option Operation)) (actor : ℕ) (found other : Option Operation) → StandsAt actors actor found → StandsAt actors actor other → found ≡ other
+stands_same actors actor found other a b = sym a.is ∙ b.is
+
+pub held_for : (actors : List (Option Operation)) (actor : ℕ) (found : Option Operation) (rs : List Ref) → StandsAt actors actor found →
+    ((operation : Operation) → StandsAt actors actor (Some operation) → (r : Ref) → times r operation.private ≤ times r rs) → (r : Ref) → times r (refs_of_operation found) ≤ times r rs
+held_for actors actor None rs at each r = omega arith
+held_for actors actor (Some operation) rs at each r = each operation at r
+
 -- ---- what leaves all tied
 
 pub tied_same : (before after : Memory) (roots : List (Option Root)) (actors : List (Option Operation)) → after.outside ≡ before.outside → after.pins ≡ before.pins →
@@ -206,3 +221,9 @@ tied_same before after roots actors outside pins tied = record {
   held = λ r. ap (times r) outside ∙ tied.held r;
   pins = pins ∙ tied.pins;
 }
+
+pub tied_over : (before after : Parts) → seen after ≡ seen before → after.heap ≡ before.heap → IsTied before.heap.memory before.roots.items before.actors.items →
+    IsTied after.heap.memory after.roots.items after.actors.items
+tied_over before after same heap tied =
+    tied_same before.heap.memory after.heap.memory after.roots.items after.actors.items (ap (λ h. h.memory.outside) heap) (ap (λ h. h.memory.pins) heap)
+    (subst (λ (s : State). IsTied before.heap.memory s.roots s.actors) (sym same) tied)

@@ -133,3 +133,8 @@ kept_made before after roots made next is same = record {
     option_few : (r : Ref) (made : Option Ref) → times r (refs_of_option made) ≤ 8
     option_few r None = omega arith
     option_few r (Some made) = omega (arith, times_le r (made ∷ []))
+
+-- what is held from outside didn't change since
+pub kept_on : (before after last : Memory) (roots now : List (Option Root)) (made : List Ref) (more : ℕ) → last.outside ≡ after.outside → Keeps before after roots now made more →
+    Keeps before last roots now made more
+kept_on before after last roots now made more is k = record { outside = λ r. omega (arith, ap (times r) is, k.outside r); few = λ r. omega (arith, ap (times r) is, k.few r) }

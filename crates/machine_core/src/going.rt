@@ -43,6 +43,23 @@ pub fn go_on(parts: &mut Parts, actor: u8) -> Result<Outcome, AllocError>
     ensures noted { OnErr result (parts.new.heap.memory.noted ≡ parts.old.heap.memory.noted) }
 {
     parts.heap.ask_next();
+    take_turn(parts, actor)
+}
+
+/// The same, where it is known which reference the next slot to be taken will have.
+fn take_turn(parts: &mut Parts, actor: u8) -> Result<Outcome, AllocError>
+    requires next { KnowsNext parts.old }
+    requires run { IsOfRun (seen parts.old) }
+    requires tied { IsTied parts.old.heap.memory parts.old.roots.items parts.old.actors.items }
+    requires runs { IsSome (operation_of (seen parts.old) actor) }
+    ensures ok { IfOk result (λ outcome. (operation : Operation) →
+        operation_of (seen parts.old) actor ≡ Some operation →
+        went (seen parts.old) actor operation (action_of (seen parts.old) operation)
+        ≡ (outcome, seen parts.new)) }
+    ensures err { OnErr result (seen parts.new ≡ seen parts.old) }
+    ensures tied { IsTied parts.new.heap.memory parts.new.roots.items parts.new.actors.items }
+    ensures noted { OnErr result (parts.new.heap.memory.noted ≡ parts.old.heap.memory.noted) }
+{
     let action = operation_action(parts, running(parts, actor))?;
     match action {
         Action::End(reply) => finish(parts, actor, reply),
@@ -121,7 +138,8 @@ fn proceed(parts: &mut Parts, actor: u8, action: Action) -> Result<Outcome, Allo
     let turn = turn_of(parts, running(parts, actor), &action)?;
     let kind = kind_of(&action);
     let step = parts.steps;
-    make_room(parts)?;
+    parts.closings.reserve(1)?;
+    parts.commits.reserve(1)?;
     enter(&mut parts.places, &turn.entering)?;
     note_commit(&mut parts.commits, turn.committed, step);
     give_up(&mut parts.heap, parts.actors.as_slice(), actor, &action);
@@ -157,17 +175,6 @@ fn is_emptied(heap: &PlainHeap, action: &Action) -> bool
         Action::Publish { .. } | Action::Offer(_) => true,
         _ => false,
     }
-}
-
-/// Makes room for a closing and a commit. Nothing that is seen changes.
-fn make_room(parts: &mut Parts) -> Result<(), AllocError>
-    ensures same { seen parts.new ≡ seen parts.old }
-    ensures heap { parts.new.heap ≡ parts.old.heap }
-    ensures closings { OnOk result (vec_len parts.new.closings < vec_capacity parts.new.closings) }
-    ensures commits { OnOk result (vec_len parts.new.commits < vec_capacity parts.new.commits) }
-{
-    parts.closings.reserve(1)?;
-    parts.commits.reserve(1)
 }
 
 /// Adds the places, with room for one more. After an error they are as they were.

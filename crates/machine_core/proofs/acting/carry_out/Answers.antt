@@ -9,7 +9,7 @@ returns-clause-does c =
     let closings : c.push.new.self.items ≡ c.args.parts.now.closings.items ++ c.closing_of-closing.result ∷ [] = grind (arith, common_steps) in
     let places : c.push-2.new.self.items ≡ c.args.parts.now.places.items ++ c.on_time-place.result ∷ [] = grind (arith, common_steps) in
     let kept = c.swap_root.ensures.epochs in
-    same_heap (seen c.args.parts.now) c.swap_root.new.heap c.swap_root.new.roots.items c.mark.new.actors.items c.push.new.self.items c.push-2.new.self.items
-    c.swap_root.ensures.heap kept.0 kept.1 kept.2
+    let done = record (seen c.args.parts.now) { roots = c.swap_root.new.roots.items; actors = c.mark.new.actors.items; closings = c.push.new.self.items; places = c.push-2.new.self.items } in
+    same_heap done c.swap_root.new.heap c.swap_root.ensures.heap kept.0 kept.1 kept.2
     ∙ carried (seen c.args.parts.now) c.args.handle c.args.offer.now _ _ _ _
         (c.swap_root.ensures.roots (seen c.args.parts.now) refl, c.mark.ensures, rw c.closing_of-closing.ensures at closings, rw c.on_time-place.ensures at places)
