@@ -22,7 +22,7 @@ use crate::acting::act;
 use crate::holding::release_private;
 use epochs::Heap;
 use history::{Event, Reply};
-use machine_model::{Action, Operation, Outcome};
+use machine_model::{Action, Closing, Commit, Operation, Outcome};
 use places::Place;
 use plain_operations::{ending_of, kind_of, note_commit, operation_action, running, turn_of};
 use plain_state::{Parts, PlainHeap, set_operation};
@@ -138,8 +138,7 @@ fn proceed(parts: &mut Parts, actor: u8, action: Action) -> Result<Outcome, Allo
     let turn = turn_of(parts, running(parts, actor), &action)?;
     let kind = kind_of(&action);
     let step = parts.steps;
-    parts.closings.reserve(1)?;
-    parts.commits.reserve(1)?;
+    make_room(&mut parts.closings, &mut parts.commits)?;
     enter(&mut parts.places, &turn.entering)?;
     note_commit(&mut parts.commits, turn.committed, step);
     give_up(&mut parts.heap, parts.actors.as_slice(), actor, &action);
@@ -175,6 +174,17 @@ fn is_emptied(heap: &PlainHeap, action: &Action) -> bool
         Action::Publish { .. } | Action::Offer(_) => true,
         _ => false,
     }
+}
+
+/// Makes room for a closing and a commit.
+fn make_room(closings: &mut Vec<Closing>, commits: &mut Vec<Commit>) -> Result<(), AllocError>
+    ensures closings { closings.new.items ≡ closings.old.items }
+    ensures commits { commits.new.items ≡ commits.old.items }
+    ensures closing { OnOk result (vec_len closings.new < vec_capacity closings.new) }
+    ensures commit { OnOk result (vec_len commits.new < vec_capacity commits.new) }
+{
+    closings.reserve(1)?;
+    commits.reserve(1)
 }
 
 /// Adds the places, with room for one more. After an error they are as they were.

@@ -1,4 +1,4 @@
-use Rattle.std.proofs.Common.{◌≡◌, ◌×◌, Some, OnErr, IfOk, ap, sym, subst, arith}
+use Rattle.std.proofs.Common.{◌≡◌, Some, OnErr, IfOk, ap, sym, subst, arith}
 use Rattle.epochs.specs.Memories.{Memory}
 use Rattle.machine_model.specs.declared.operations.Operation.{Operation}
 use Rattle.machine_model.specs.States.{State, operation_of}

@@ -59,12 +59,12 @@ returns-clause-ok c = λ operation e.
     let found = c.running.result.now in
     let handle = c.in_ok-turn.turn.handle in
     let same : found ≡ operation = cc (e, c.running.ensures) in
-    let before : State = record state { closings = c.reserve.new.self.items; commits = c.reserve-2.new.self.items } in
+    let before : State = record state { closings = c.make_room.new.closings.items; commits = c.make_room.new.commits.items } in
     let placed : State = record before { actors = c.set_operation.new.actors.items; commits = c.note_commit.new.commits.items; places = c.enter.new.places.items } in
     let done = gone_on state c.args.actor found handle c.args.action before placed.actors placed.commits placed.places (record {
       does = c.requires.does found c.running.ensures;
       on_handle = turn.handle;
-      same = rw (c.reserve.ensures.items, c.reserve-2.ensures.items) refl;
+      same = rw (c.make_room.ensures.closings, c.make_room.ensures.commits) refl;
       stands = rw turn.after at c.set_operation.ensures;
       committed = rw turn.committed at c.note_commit.ensures;
       enters = rw turn.entering at c.in_ok-enter.ensures.ok;
