@@ -3,8 +3,7 @@ use Rattle.std.proofs.Common.{◌≡◌, ℕ, zero, suc, ◌+◌, ◌-◌, ◌<�
 use Rattle.std.specs.List.{flat_map}
 use Rattle.std.proofs.lemmas.List.{drop_more, drop_all, at_drop_more, at_drop_all}
 use Rattle.slot_arena.specs.declared.refs.Ref.{Ref}
-use Rattle.slot_arena.specs.declared.nodes.Slot.{Slot}
-use Rattle.slot_arena.specs.Heaps.{Heap, node_at, named_from}
+use Rattle.slot_arena.specs.Heaps.{Heap, node_at}
 use Rattle.machine_model.specs.Contents.{pairs_at, pairs_below}
 
 -- within no level nothing is reached

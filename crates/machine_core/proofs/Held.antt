@@ -1,18 +1,16 @@
 -- What a state of a run gives: the claims of the next action, how often references are held, who runs no operation.
-use Rattle.std.proofs.Common.{◌≡◌, ℕ, zero, suc, ◌+◌, ◌-◌, ◌*◌, ◌<◌, ◌≤◌, ◌^◌, ◌&&◌, Bool, true, false, nat_lt, nat_le, List, length, get_or, is_some, Option, Some, None, refl, sym, ap, ◌∙◌, subst, arith}
+use Rattle.std.proofs.Common.{◌≡◌, ℕ, zero, suc, ◌-◌, ◌<◌, ◌≤◌, ◌^◌, ◌&&◌, true, false, nat_lt, nat_le, length, get_or, is_some, Option, Some, None, refl, sym, ap, ◌∙◌, subst, arith}
 use Rattle.std.proofs.lemmas.Bool.Decides.{nat_tests}
-use Rattle.std.proofs.lemmas.Option.{none-some}
 use Rattle.history.specs.declared.calls.Call.{Call}
 use Rattle.slot_arena.specs.declared.refs.Ref.{Ref}
 use Rattle.slot_arena.specs.Times.{times}
 use Rattle.slot_arena.specs.Arenas.{IsLive}
 use Rattle.epochs.specs.Memories.{Memory}
 use Rattle.machine_model.specs.declared.operations.Operation.{Operation}
-use Rattle.machine_model.specs.declared.roots.Root.{Root}
 use Rattle.machine_model.specs.States.{State, operation_of, handle_limit}
 use Rattle.machine_model.specs.Counting.{refs_of_root, refs_of_operation}
 use Rattle.machine_model.specs.Operations.{action_of}
-use Rattle.machine_model.specs.Machine.{run, begin_denial, is_actor, is_running}
+use Rattle.machine_model.specs.Machine.{begin_denial, is_actor, is_running}
 use Rattle.proof_memory.specs.Wants.{AllHold, action_wants}
 use Rattle.proof_memory.proofs.Holding.Lives.{lines_live}
 use Rattle.proof_memory.proofs.Holding.Privates.{privates_once}

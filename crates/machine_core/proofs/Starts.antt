@@ -1,10 +1,8 @@
 -- The memory of a machine that has taken no step.
-use Rattle.std.proofs.Common.{◌≡◌, ℕ, zero, suc, ◌+◌, ◌==◌, ◌<◌, ◌≤◌, ◌^◌, ◌&&◌, Bool, true, false, not, List, [], ◌∷◌, ◌++◌, length, map, filter, set, replicate, flat_map, count_by, Option, Some, None, refl, sym, ap, ◌∙◌, subst, arith}
-use Rattle.std.specs.List.{range_with_len}
+use Rattle.std.proofs.Common.{◌≡◌, ℕ, zero, suc, ◌+◌, ◌==◌, ◌≤◌, ◌&&◌, Bool, true, false, not, List, [], ◌∷◌, ◌++◌, map, filter, set, replicate, flat_map, count_by, Option, Some, None, refl, sym, ap, ◌∙◌, arith}
 use Rattle.std.proofs.lemmas.List.Concat.{flat_map-cons}
 use Rattle.slot_arena.specs.declared.refs.Ref.{Ref}
 use Rattle.slot_arena.specs.declared.nodes.Slot.{Slot}
-use Rattle.slot_arena.specs.declared.nodes.Node.TheVariants.{Indirection}
 use Rattle.slot_arena.specs.Refs.{ref_to}
 use Rattle.slot_arena.specs.Heaps.{Heap, taken, empty_branch, next_ref, named_from, in_use, heap_refs, refs_of_slot}
 use Rattle.slot_arena.specs.Counts.{count_of}
@@ -22,7 +20,7 @@ use Rattle.places.specs.declared.place.Place.{Place}
 use Rattle.machine_model.specs.declared.heaps.Commit.{Commit}
 use Rattle.machine_model.specs.declared.heaps.Closing.{Closing}
 use Rattle.machine_model.specs.declared.roots.RootWord.TheVariants.{Plain}
-use Rattle.machine_model.specs.States.{State, handle_limit, empty_heap, first_heap, first_state}
+use Rattle.machine_model.specs.States.{handle_limit, empty_heap, first_heap, first_state}
 use Rattle.machine_core.specs.Ties.{IsTied, root_refs, private_refs}
 
 -- ---- the first two references
@@ -75,7 +73,9 @@ first_limbo (suc (suc n)) low = limbo_of (first_heap (suc (suc n))) (first_used 
 -- ---- what is held
 
 first_root_refs : (root : Option Root) (r : Ref) → refs_of_root root ≡ r ∷ [] → root_refs (set (replicate 256 None) 0 root) ≡ r ∷ []
-first_root_refs root r e = flat_map-cons refs_of_root root (replicate 255 None) ∙ ap (λ rs. rs ++ flat_map refs_of_root (replicate 255 None)) e ∙ ap (λ rs. r ∷ rs) (none_flat refs_of_root None 255 refl)
+first_root_refs root r e =
+    flat_map-cons refs_of_root root (replicate 255 None) ∙ ap (λ rs. rs ++ flat_map refs_of_root (replicate 255 None)) e
+    ∙ ap (λ rs. r ∷ rs) (none_flat refs_of_root None 255 refl)
 
 none_pinned : (n : ℕ) → map pin_of (replicate {A = Option Operation} n None) ≡ replicate n None
 none_pinned zero = refl

@@ -1,15 +1,10 @@
 -- What steps come to.
-use Rattle.std.proofs.Common.{◌≡◌, ℕ, ◌+◌, ◌-◌, slice_set, inl, inr, true, false, List, [], ◌∷◌, length, if◌then◌else◌, Option, Some, None, IfOk, Result, Ok, Err, refl, sym, ap, ◌∙◌, arith, length-set, Bool, map, slice_index_or}
-use Rattle.std.proofs.Math.ListN.{get_or-map}
+use Rattle.std.proofs.Common.{◌≡◌, ℕ, ◌+◌, ◌-◌, slice_set, inl, inr, true, false, if◌then◌else◌, Option, Some, None, IfOk, Result, Ok, Err, refl, sym, ap, ◌∙◌, arith, Bool}
 use Rattle.std.proofs.lemmas.Option.{none-some, same_Some}
 use Rattle.ctrie_base.specs.declared.refusals.Refusal.{Refusal}
 use Rattle.ctrie_base.specs.declared.refusals.Refusal.TheVariants as refuse
 use Rattle.history.specs.declared.calls.Call.{Call}
 use Rattle.history.specs.Histories.{begun}
-use Rattle.slot_arena.specs.Refs.{slot_of}
-use Rattle.slot_arena.specs.declared.refs.Ref.{Ref}
-use Rattle.slot_arena.specs.declared.nodes.Node.{Node}
-use Rattle.slot_arena.specs.declared.nodes.Prev.{Prev}
 use Rattle.machine_model.specs.declared.actions.Action.{Action}
 use Rattle.machine_model.specs.declared.actions.Action.TheVariants as act
 use Rattle.machine_model.specs.declared.operations.Operation.{Operation}
@@ -17,17 +12,14 @@ use Rattle.machine_model.specs.declared.steps.Outcome.{Outcome}
 use Rattle.machine_model.specs.declared.steps.Outcome.TheVariants as outcome
 use Rattle.machine_model.specs.declared.steps.Step.{Step}
 use Rattle.machine_model.specs.declared.steps.Step.TheVariants as step
-use Rattle.slot_arena.specs.Heaps.{Heap, with_main, with_prev, taken, take_from, freed}
 use Rattle.machine_model.specs.States.{State, operation_of}
 use Rattle.machine_model.specs.Calls.{handle_of}
 use Rattle.machine_model.specs.Operations.{action_of}
 use Rattle.machine_model.specs.Acting.{gone}
 use Rattle.epochs.specs.Limbo.{limbo_after}
-use Rattle.epochs.specs.Sweeping.{ripe, sweep_by}
 use Rattle.machine_model.specs.Counting.{outside, settled}
-use Rattle.machine_model.specs.Machine.{next, begin_denial, begin_unless, with_begin, go_denial, go_unless, go_on, went, is_spent, pin_of, reclaimer_of, swept_with, swept, settled_after, is_taken_step, denial_of}
+use Rattle.machine_model.specs.Machine.{next, begin_denial, begin_unless, with_begin, go_denial, go_unless, go_on, went, is_spent, swept, settled_after, is_taken_step, denial_of}
 use Rattle.machine_model.proofs.Frames.{acted_framed}
-use Rattle.machine_model.proofs.HeapMoves.{HeapMoves, Stays, Takes, Publishes, Restores, Commit, Fail, Frees, acted_heap}
 use Rattle.machine_model.specs.Moves.{begun_operation}
 use Rattle.machine_core.specs.Bounds.{Applies, Leads}
 

@@ -1,5 +1,5 @@
 -- What a step leaves tied: the references that the heap holds are those of root words and private lists.
-use Rattle.std.proofs.Common.{◌≡◌, ℕ, zero, suc, ◌+◌, ◌-◌, ◌*◌, ◌<◌, ◌≤◌, ◌^◌, ◌==◌, Bool, true, false, cond, List, [], ◌∷◌, ◌++◌, length, map, set, get_or, flat_map, is_some, Option, Some, None, refl, sym, ap, ◌∙◌, subst, arith}
+use Rattle.std.proofs.Common.{◌≡◌, ℕ, zero, suc, ◌+◌, ◌-◌, ◌<◌, ◌≤◌, ◌^◌, ◌==◌, Bool, true, false, cond, List, [], ◌∷◌, ◌++◌, length, map, set, get_or, is_some, Option, Some, None, refl, sym, ap, ◌∙◌, subst, arith}
 use Rattle.std.proofs.Math.Seq.{map-set_same}
 use Rattle.std.proofs.lemmas.List.{map-set, length-map, get_or_default}
 use Rattle.std.proofs.lemmas.List.Concat.{flat_map-cons}
@@ -9,15 +9,14 @@ use Rattle.slot_arena.specs.declared.refs.Ref.{Ref}
 use Rattle.slot_arena.specs.declared.nodes.Node.{Node}
 use Rattle.slot_arena.specs.Heaps.{Heap, next_ref, refs_of_option}
 use Rattle.slot_arena.specs.Times.{times}
-use Rattle.slot_arena.proofs.Times.{times-append, times-cons}
+use Rattle.slot_arena.proofs.Times.{times-append}
 use Rattle.epochs.specs.Memories.{Memory}
 use Rattle.machine_model.specs.declared.actions.Action.{Action}
 use Rattle.machine_model.specs.declared.actions.Action.TheVariants as act
 use Rattle.machine_model.specs.declared.operations.Operation.{Operation}
 use Rattle.machine_model.specs.declared.roots.Root.{Root}
 use Rattle.machine_model.specs.States.{State, operation_of}
-use Rattle.machine_model.specs.Calls.{handle_of}
-use Rattle.machine_model.specs.Counting.{refs_of_root, refs_of_operation}
+use Rattle.machine_model.specs.Counting.{refs_of_operation}
 use Rattle.machine_model.specs.Operations.{action_of}
 use Rattle.machine_model.specs.Acting.{marked, with_made, private_after, operation_after, gone}
 use Rattle.machine_model.specs.Machine.{pin_of}

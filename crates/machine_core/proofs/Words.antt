@@ -1,5 +1,5 @@
 -- What is live in the words that actions write, and what a write came to.
-use Rattle.std.proofs.Common.{◌≡◌, ◌==◌, Bool, true, false, List, [], ◌∷◌, All, Option, Some, None, IsTrue, ◌↔◌, if◌then◌else◌, refl, sym, ap, ◌∙◌, subst}
+use Rattle.std.proofs.Common.{◌≡◌, Bool, true, false, List, [], ◌∷◌, All, Option, Some, None, IsTrue, ◌↔◌, if◌then◌else◌, ap, ◌∙◌}
 use Rattle.std.proofs.lemmas.Bool.{false≢true}
 use Rattle.std.proofs.lemmas.List.Elements.{All-nil, All-cons, All-weaker}
 use Rattle.slot_arena.specs.declared.refs.Ref.{Ref}
@@ -7,7 +7,7 @@ use Rattle.slot_arena.specs.declared.nodes.Node.{Node}
 use Rattle.slot_arena.specs.declared.nodes.Node.TheVariants.{Indirection, Branch, Single, Tomb, List as Listed}
 use Rattle.slot_arena.specs.declared.nodes.Prev.{Prev}
 use Rattle.slot_arena.specs.declared.nodes.Prev.TheVariants as prev
-use Rattle.slot_arena.specs.Heaps.{Heap, refs_of_node, refs_of_prev, refs_of_option, with_prev}
+use Rattle.slot_arena.specs.Heaps.{Heap, refs_of_node, refs_of_prev, refs_of_option}
 use Rattle.slot_arena.specs.Arenas.{IsLive, AreLive}
 use Rattle.machine_model.specs.declared.roots.Descriptor.{Descriptor}
 use Rattle.machine_model.specs.declared.roots.Root.{Root}

@@ -45,7 +45,8 @@ impl Model for Core {
 
     ghost view = { λ c. seen c.parts };
 
-    ghost invariant = { λ c. IsOfRun (seen c.parts) × IsTied c.parts.heap.memory c.parts.roots.items c.parts.actors.items × (c.parts.heap.memory.noted ≡ []) × (c.next_id ≡ begun c.parts.events.items) };
+    ghost invariant = { λ c. IsOfRun (seen c.parts) × IsTied c.parts.heap.memory c.parts.roots.items c.parts.actors.items
+        × (c.parts.heap.memory.noted ≡ []) × (c.next_id ≡ begun c.parts.events.items) };
 }
 
 impl Core {

@@ -12,4 +12,4 @@ returns-clause-does c =
     let done = record (seen c.args.parts.now) { roots = c.swap_root.new.roots.items; actors = c.mark.new.actors.items; closings = c.push.new.self.items; places = c.push-2.new.self.items } in
     same_heap done c.swap_root.new.heap c.swap_root.ensures.heap kept.0 kept.1 kept.2
     ∙ carried (seen c.args.parts.now) c.args.handle c.args.offer.now _ _ _ _
-        (c.swap_root.ensures.roots (seen c.args.parts.now) refl, c.mark.ensures, rw c.closing_of-closing.ensures at closings, rw c.on_time-place.ensures at places)
+    (c.swap_root.ensures.roots (seen c.args.parts.now) refl, c.mark.ensures, rw c.closing_of-closing.ensures at closings, rw c.on_time-place.ensures at places)

@@ -8,27 +8,31 @@ use Rattle.machine_core.proofs.finding.value_of.Goals as goal
 
 pub returns-in-Absent : goal.returns-in-Absent
 returns-in-Absent c =
-    sym (decides (node_at c.args.parts.now.heap.memory.heap) (logical_main c.args.parts.now.heap.memory.heap) (hash_of c.args.parts.now.limits.hash) c.args.key most_levels c.loop-depth.depth c.loop-depth.at
+    let heap = c.args.parts.now.heap.memory.heap in
+    sym (decides (node_at heap) (logical_main heap) (hash_of c.args.parts.now.limits.hash) c.args.key most_levels c.loop-depth.depth c.loop-depth.at
     c.key_hash-hash.result c.flag_of.result c.logical_main-main.result Absent (omega (arith, c.loop-depth-test.true)) c.key_hash-hash.ensures c.flag_of.ensures c.logical_main-main.ensures
     c.in-Absent.ensures)
     ∙ c.loop-depth.invariant
 
 pub returns-in-Has : goal.returns-in-Has
 returns-in-Has c =
-    sym (decides (node_at c.args.parts.now.heap.memory.heap) (logical_main c.args.parts.now.heap.memory.heap) (hash_of c.args.parts.now.limits.hash) c.args.key most_levels c.loop-depth.depth c.loop-depth.at
+    let heap = c.args.parts.now.heap.memory.heap in
+    sym (decides (node_at heap) (logical_main heap) (hash_of c.args.parts.now.limits.hash) c.args.key most_levels c.loop-depth.depth c.loop-depth.at
     c.key_hash-hash.result c.flag_of.result c.logical_main-main.result (Has c.in-Has.value) (omega (arith, c.loop-depth-test.true)) c.key_hash-hash.ensures c.flag_of.ensures
     c.logical_main-main.ensures c.in-Has.ensures)
     ∙ c.loop-depth.invariant
 
 pub loop-depth-preserved : goal.loop-depth-preserved
 loop-depth-preserved c =
-    sym (decides (node_at c.args.parts.now.heap.memory.heap) (logical_main c.args.parts.now.heap.memory.heap) (hash_of c.args.parts.now.limits.hash) c.args.key most_levels c.loop-depth.depth c.loop-depth.at
+    let heap = c.args.parts.now.heap.memory.heap in
+    sym (decides (node_at heap) (logical_main heap) (hash_of c.args.parts.now.limits.hash) c.args.key most_levels c.loop-depth.depth c.loop-depth.at
     c.key_hash-hash.result c.flag_of.result c.logical_main-main.result (Below c.in-Below.below) (omega (arith, c.loop-depth-test.true)) c.key_hash-hash.ensures c.flag_of.ensures
     c.logical_main-main.ensures c.in-Below.ensures)
     ∙ c.loop-depth.invariant
 
 pub returns : goal.returns
 returns c =
-    sym (nothing_left (node_at c.args.parts.now.heap.memory.heap) (logical_main c.args.parts.now.heap.memory.heap) (hash_of c.args.parts.now.limits.hash) c.args.key most_levels c.loop-depth.depth c.loop-depth.at
+    let heap = c.args.parts.now.heap.memory.heap in
+    sym (nothing_left (node_at heap) (logical_main heap) (hash_of c.args.parts.now.limits.hash) c.args.key most_levels c.loop-depth.depth c.loop-depth.at
     (omega (arith, c.loop-depth-test.false)))
     ∙ c.loop-depth.invariant

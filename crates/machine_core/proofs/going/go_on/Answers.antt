@@ -29,7 +29,7 @@ take_turn-requires-clause-tied c =
 pub returns-clause-ok : goal.returns-clause-ok
 returns-clause-ok c =
     subst (λ (s : State). IfOk c.take_turn.result (λ outcome. (operation : Operation) → operation_of s c.args.actor ≡ Some operation →
-        went s c.args.actor operation (action_of s operation) ≡ (outcome, seen c.take_turn.new.parts)))
+    went s c.args.actor operation (action_of s operation) ≡ (outcome, seen c.take_turn.new.parts)))
     (ap (over (seen c.args.parts.now)) c.ask_next.ensures.same) c.take_turn.ensures.ok
 
 pub returns-clause-err : goal.returns-clause-err

@@ -84,8 +84,9 @@ returns-clause-tied c =
     let does = c.requires.does operation c.running.ensures in
     let at = operation_stands state c.args.actor operation c.running.ensures in
     let there = subst (λ (xs : List (Option Operation)). StandsAt xs c.args.actor (Some operation)) (sym c.as_slice.ensures.value) at in
-    let given = subst (λ (a : Action). (r : Ref) → times r middle.outside + times r (given_up memory.heap operation.private a) ≡ times r memory.outside) does (c.give_up.ensures.outside operation there) in
+    let given = subst (λ (a : Action). (r : Ref) → times r middle.outside + times r (given_up memory.heap operation.private a) ≡ times r memory.outside) does
+    (c.give_up.ensures.outside operation there) in
     let keeps = subst (λ (a : Action). Keeps middle after.heap.memory state.roots after.roots.items (made_by memory.heap a) 8) does
-        (subst (λ (h : Heap). Keeps middle after.heap.memory state.roots after.roots.items (made_by h c.args.action) 8) c.give_up.ensures.heap c.act.ensures.keeps) in
+    (subst (λ (h : Heap). Keeps middle after.heap.memory state.roots after.roots.items (made_by h c.args.action) 8) c.give_up.ensures.heap c.act.ensures.keeps) in
     gone_tied memory middle after.heap.memory state (seen after) c.args.actor operation c.running.ensures c.requires.tied given (returns-clause-ok c operation c.running.ensures) keeps
     (c.act.ensures.pins ∙ c.give_up.ensures.epochs.3)

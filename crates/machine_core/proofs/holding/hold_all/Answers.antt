@@ -1,6 +1,6 @@
 use Rattle.std.proofs.Common.{ap, arith}
 use Rattle.slot_arena.specs.Times.{times}
-use Rattle.slot_arena.proofs.Times.{times-cons, once, times_le}
+use Rattle.slot_arena.proofs.Times.{times-cons, times_le}
 use Rattle.machine_core.proofs.Tying.{times_more, times_left, times_whole}
 use Rattle.machine_core.proofs.holding.hold_all.Goals as goal
 

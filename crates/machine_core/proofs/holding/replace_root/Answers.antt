@@ -1,4 +1,4 @@
-use Rattle.std.proofs.Common.{ap, arith, set, ◌≡◌, subst, sym, [], List, Option}
+use Rattle.std.proofs.Common.{arith, subst, sym, [], List, Option}
 use Rattle.machine_model.specs.declared.roots.Root.{Root}
 use Rattle.machine_core.specs.Ties.{Keeps}
 use Rattle.machine_core.proofs.Tying.{kept_set, root_held}

@@ -1,4 +1,3 @@
-use Rattle.std.proofs.Common.{refl}
 use Rattle.plain_state.specs.Seen.{seen}
 use Rattle.machine_core.proofs.Ends.{settles}
 use Rattle.machine_core.proofs.Tied.{tied_same}

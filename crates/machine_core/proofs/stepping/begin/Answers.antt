@@ -1,5 +1,4 @@
-use Rattle.std.proofs.Common.{◌≡◌, ◌-◌, List, Option, Some, None, [], set, refl, sym, ap, ◌∙◌, subst}
-use Rattle.epochs.specs.Memories.{Memory}
+use Rattle.std.proofs.Common.{◌≡◌, ◌-◌, List, Option, Some, None, set, sym, ap, ◌∙◌, subst}
 use Rattle.machine_model.specs.declared.operations.Operation.{Operation}
 use Rattle.machine_model.specs.declared.steps.Outcome.TheVariants as outcome
 use Rattle.machine_model.specs.declared.steps.Step.TheVariants as steps
@@ -53,6 +52,6 @@ returns-clause-taken c =
     let before = seen c.args.parts.now in
     let begun = seen c.begin_operation.new.parts in
     let is = c.begin_operation.ensures.begun ∙ ap (λ (o : Operation). with_begin (seen c.make_room.new.parts) c.args.actor c.args.call o) c.new_operation-operation.ensures
-        ∙ ap (λ (s : State). with_begin s c.args.actor c.args.call (begun_operation s c.args.call)) c.make_room.ensures.same in
+    ∙ ap (λ (s : State). with_begin s c.args.actor c.args.call (begun_operation s c.args.call)) c.make_room.ensures.same in
     leads_taken before begun (seen c.settle.new.parts) (steps.Begin c.args.actor c.args.call) (outcome.Began c.args.id)
     (begin_leads before begun c.args.actor c.args.call c.args.id c.requires.allowed c.requires.id is) c.settle.ensures.settled

@@ -1,4 +1,4 @@
-use Rattle.std.proofs.Common.{refl, sym, ap, ◌∙◌, arith}
+use Rattle.std.proofs.Common.{refl, ◌∙◌, arith}
 use Rattle.plain_state.specs.Seen.{seen}
 use Rattle.machine_core.proofs.Bounded.{bounded}
 use Rattle.machine_core.proofs.Ends.{sweeps}
