@@ -23,8 +23,8 @@ ghost use Rattle.step_machine.specs.Memory.{UsesWhatItNames, FreesLate, DrawsNew
 
 use ctrie_base::{Kind, Refusal};
 use history::{Access, Event};
-use machine_model::{Limits, Outcome, Step};
 use machine_core::Core;
+use machine_model::{Limits, Outcome, Step};
 use std::alloc::Global;
 use std::marker::Model;
 
