@@ -1,5 +1,5 @@
 -- ABORT's steps inside of any program.
-use Rattle.std.specs.Prelude.{◌≡◌, ◌+◌, ℕ, List, Option, Some, None, refl}
+use Rattle.std.specs.Prelude.{◌≡◌, ℕ, List, Option, refl}
 use Rattle.std.proofs.Common.{arith, sym, ap, subst, ◌∙◌}
 use Rattle.ctrie_base.specs.declared.hashes.HashKind.TheVariants.{Low}
 use Rattle.ctrie_base.specs.declared.kinds.Kind.{Kind}
@@ -15,7 +15,7 @@ use Rattle.machine_model.specs.Acting.{private_after}
 use Rattle.machine_model.specs.Calls.{handle_of}
 use Rattle.machine_model.specs.Operations.{kind_of}
 use Rattle.machine_model.specs.Reading.{read_action, read_after}
-use Rattle.machine_model.specs.States.{State, word_at}
+use Rattle.machine_model.specs.States.{State}
 use Rattle.gcas.specs.declared.next.Next.TheVariants.{More, Done}
 use Rattle.gcas.specs.Acted.{acted_heap}
 use Rattle.trie_parts.specs.Here.{at_heap, no_state}

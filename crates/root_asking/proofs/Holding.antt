@@ -1,5 +1,5 @@
 -- Each line holds the READ that it is in, program by program.
-use Rattle.std.specs.Prelude.{◌≡◌, ℕ, List, Option, Some, refl}
+use Rattle.std.specs.Prelude.{◌≡◌, Some, refl}
 use Rattle.std.proofs.Common.{ap, subst}
 use Rattle.std.proofs.lemmas.Option.{none-some, same_Some}
 use Rattle.slot_arena.specs.declared.refs.Ref.{Ref}
@@ -7,11 +7,9 @@ use Rattle.machine_model.specs.declared.copying.CopyLine.{CopyLine}
 use Rattle.machine_model.specs.declared.copying.CopyLine.TheVariants as copy
 use Rattle.machine_model.specs.declared.finding.KeyLine.{KeyLine}
 use Rattle.machine_model.specs.declared.finding.KeyLine.TheVariants as key
-use Rattle.machine_model.specs.declared.lines.Line.{Line}
 use Rattle.machine_model.specs.declared.lines.Line.TheVariants as line
 use Rattle.machine_model.specs.declared.lines.Purpose.{Purpose}
 use Rattle.machine_model.specs.declared.reading.Read.{Read}
-use Rattle.machine_model.specs.declared.reading.ReadLine.{ReadLine}
 use Rattle.machine_model.specs.declared.reading.Swap.{Swap}
 use Rattle.machine_model.specs.declared.reading.SwapLine.{SwapLine}
 use Rattle.machine_model.specs.declared.reading.SwapLine.TheVariants as swap
@@ -25,7 +23,6 @@ use Rattle.machine_model.specs.declared.repairs.RenewLine.TheVariants as renew
 use Rattle.machine_model.specs.declared.roots.CompleteLine.{CompleteLine}
 use Rattle.machine_model.specs.declared.roots.CompleteLine.TheVariants as complete
 use Rattle.machine_model.specs.declared.roots.Descriptor.{Descriptor}
-use Rattle.machine_model.specs.declared.roots.RootLine.{RootLine}
 use Rattle.machine_model.specs.declared.roots.RootLine.TheVariants as root
 use Rattle.machine_model.specs.declared.walking.WalkLine.{WalkLine}
 use Rattle.machine_model.specs.declared.walking.WalkLine.TheVariants as walk
@@ -33,12 +30,12 @@ use Rattle.machine_model.specs.Cleaning.{clean_after_read, after_child}
 use Rattle.machine_model.specs.Climbing.{climb_after_read, climb_after_root}
 use Rattle.machine_model.specs.Copying.{copy_after_read, copy_after_complete}
 use Rattle.machine_model.specs.Finding.{key_after_read}
-use Rattle.machine_model.specs.Operations.{after_root, after_swap, completing_read, rooting_read, swapping_read, keying_read, renewing_read, cleaning_read, climbing_read, copying_read, walking_read, read_of}
+use Rattle.machine_model.specs.Operations.{after_root, after_swap, completing_read, swapping_read, keying_read, renewing_read, cleaning_read, climbing_read, copying_read, walking_read}
 use Rattle.machine_model.specs.Reading.{at_indirection}
 use Rattle.machine_model.specs.Renewing.{renew_after_read}
 use Rattle.machine_model.specs.Swapping.{of_offer, after_reading, after_completing, after_deciding, on_line}
 use Rattle.machine_model.specs.Walking.{walk_after_read}
-use Rattle.root_asking.specs.Inside.{Holds, EachHolds, read_at}
+use Rattle.root_asking.specs.Inside.{Holds, EachHolds}
 
 -- ---- programs in which the READ is one of its own
 

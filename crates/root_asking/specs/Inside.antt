@@ -1,6 +1,5 @@
 -- A READ inside of a program: the program's line with that READ on another line.
-use Rattle.std.specs.Prelude.{◌≡◌, Option, Some}
-use Rattle.slot_arena.specs.declared.refs.Ref.{Ref}
+use Rattle.std.specs.Prelude.{◌≡◌, Some}
 use Rattle.machine_model.specs.declared.copying.CopyLine.{CopyLine}
 use Rattle.machine_model.specs.declared.copying.CopyLine.TheVariants as copy
 use Rattle.machine_model.specs.declared.finding.KeyLine.{KeyLine}
