@@ -1,1 +1,3 @@
+pub mod Climbs
 pub mod Looks
+pub mod Made

@@ -1,5 +1,5 @@
 -- What is made on a line depends on nothing of the state but heap and hashes, and on nothing of the operation but its task.
-use Rattle.std.specs.Prelude.{◌≡◌, ℕ, List, refl}
+use Rattle.std.specs.Prelude.{◌≡◌, List, refl}
 use Rattle.machine_model.specs.Beneath.history.specs.declared.calls.Access.{Access}
 use Rattle.slot_arena.specs.declared.refs.Ref.{Ref}
 use Rattle.slot_arena.specs.Heaps.{Heap, node_at, entry_at}
@@ -14,33 +14,13 @@ use Rattle.slot_arena.specs.declared.nodes.Node.TheVariants.{Single}
 use Rattle.machine_model.specs.Calls.{handle_of, key_of, value_of}
 use Rattle.machine_model.specs.Paths.{depth_of}
 use Rattle.machine_model.specs.States.{State}
-use Rattle.trie_parts.specs.declared.calls.KeyCall.{KeyCall}
-use Rattle.trie_parts.specs.declared.calls.KeyCall.TheVariants.{Get, Put, PutIfAbsent, Replace, ReplaceIf, Remove, RemoveIf}
 use Rattle.trie_parts.specs.declared.calls.Task.{Task}
 use Rattle.trie_parts.specs.Here.{at_heap}
+use Rattle.trie_parts.proofs.Handles.{key_same, value_same}
 use Rattle.trie_parts.specs.Tasks.{call_of, for_task}
 use Rattle.key_change.specs.declared.building.Building.{Building}
 use Rattle.key_change.specs.declared.building.Building.TheVariants as at
 use Rattle.key_change.specs.Built.{build_line, built}
-
--- the handle doesn't matter
-pub key_same : (call : KeyCall) (a b : ℕ) → key_of (call_of a call) ≡ key_of (call_of b call)
-key_same (Get k) a b = refl
-key_same (Put k v) a b = refl
-key_same (PutIfAbsent k v) a b = refl
-key_same (Replace k v) a b = refl
-key_same (ReplaceIf k v w) a b = refl
-key_same (Remove k) a b = refl
-key_same (RemoveIf k v) a b = refl
-
-pub value_same : (call : KeyCall) (a b : ℕ) → value_of (call_of a call) ≡ value_of (call_of b call)
-value_same (Get k) a b = refl
-value_same (Put k v) a b = refl
-value_same (PutIfAbsent k v) a b = refl
-value_same (Replace k v) a b = refl
-value_same (ReplaceIf k v w) a b = refl
-value_same (Remove k) a b = refl
-value_same (RemoveIf k v) a b = refl
 
 -- the node is that of every state and operation
 pub builds : (heap : Heap) (task : Task) (access : Access) (path : List Ref) (main : Ref) (building : Building) (state : State) (operation : Operation) →

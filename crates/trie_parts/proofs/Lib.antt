@@ -5,3 +5,4 @@ pub mod Stored
 pub mod Partings
 pub mod Unmade
 pub mod Insides
+pub mod Handles

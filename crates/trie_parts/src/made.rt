@@ -1,13 +1,13 @@
 //! Main nodes made from the main node before, and the indirections and branches down to two singles.
 
-ghost use Rattle.std.specs.Prelude.{◌≡◌, ◌<◌, ◌++◌};
-ghost use Rattle.slot_arena.specs.Heaps.{node_at};
+ghost use Rattle.std.specs.Prelude.{◌≡◌, ◌<◌, ◌++◌, slice_set};
+ghost use Rattle.slot_arena.specs.Heaps.{bitmap_of, entries_of, node_at};
 ghost use Rattle.nodes.specs.Builders.{renewed, contracted, by_index, pair, rung};
 ghost use Rattle.machine_model.specs.Building.{changed_branch, changed_list, changed};
 
 use crate::entries::{entries_from, entries_from_parts, with_inserted, with_replaced, without};
 use crate::levels::{flag_of, index_in};
-use crate::looking::node_at;
+use crate::looking::{bitmap_at, entries_at, node_at};
 use ctrie_base::HashKind;
 use epochs::Heap;
 use machine_model::Change;
@@ -106,6 +106,15 @@ pub fn contracted(may_entomb: bool, bitmap: u32, entries: &[Ref]) -> Node
         [single] if may_entomb => Node::Tomb { single: *single },
         _ => renewed(bitmap, entries),
     }
+}
+
+/// The branch with another entry at this position; where it may, and that is the only one, its tomb.
+#[tactic(auto, using(crate::proofs::Capped::contracted_capped))]
+pub fn contracted_at(heap: &Heap, main: Ref, may_entomb: bool, position: usize, single: Ref) -> Node
+    ensures { result ≡ contracted may_entomb (bitmap_of (node_at heap.now.heap main)) (slice_set (entries_of (node_at heap.now.heap main)) position single) }
+{
+    let entries = with_replaced(entries_at(heap, main), position, single);
+    contracted(may_entomb, bitmap_at(heap, main), entries.as_slice())
 }
 
 /// The main node of two singles at a depth: a branch, and below all levels a list, the older one first.

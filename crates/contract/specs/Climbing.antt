@@ -1,0 +1,61 @@
+-- A CLIMB of the code as the definition's, and what a step of it comes to.
+use Rattle.std.specs.Prelude.{ℕ, List, Option}
+use Rattle.slot_arena.specs.declared.refs.Ref.{Ref}
+use Rattle.slot_arena.specs.Heaps.{Heap}
+use Rattle.history.specs.declared.calls.Access.TheVariants.{Writable}
+use Rattle.machine_model.specs.declared.lines.Line.{Line}
+use Rattle.machine_model.specs.declared.lines.Line.TheVariants as line
+use Rattle.machine_model.specs.declared.lines.Purpose.TheVariants as purpose
+use Rattle.machine_model.specs.declared.operations.Operation.{Operation}
+use Rattle.machine_model.specs.declared.repairs.Climb.{Climb as Defined}
+use Rattle.machine_model.specs.declared.repairs.ClimbLine.TheVariants as climb
+use Rattle.machine_model.specs.declared.roots.RootLine.TheVariants as root
+use Rattle.machine_model.specs.Climbing.{climbing, climbed, climbed_node, higher}
+use Rattle.machine_model.specs.Lines.{impossible}
+use Rattle.gcas.specs.declared.swap.Swap.{Swap}
+use Rattle.gcas.specs.Reads.{read_of, CanReadOn}
+use Rattle.gcas.specs.Swaps.{swap_of, CanSwapOn}
+use Rattle.trie_parts.specs.declared.calls.Task.{Task}
+use Rattle.trie_parts.specs.Here.{at_heap, no_state, no_operation}
+use Rattle.trie_parts.specs.Steps.{CanMake}
+use Rattle.trie_parts.specs.Tasks.{for_task}
+use Rattle.contract.specs.declared.climb.Climb.{Climb}
+use Rattle.contract.specs.declared.climb.ClimbAt.{ClimbAt}
+use Rattle.contract.specs.declared.climb.ClimbAt.TheVariants as at
+use Rattle.contract.specs.declared.climb.Climbed.{Climbed as Outcome}
+use Rattle.contract.specs.declared.climb.Climbed.TheVariants.{Higher, Climbed, Lost, Impossible}
+
+-- ---- where it stands
+
+-- the definition's climb from the end of this path
+abbrev pub climb_of : List Ref → Climb → Defined
+climb_of path c = record { path = path; single = c.single; former = c.former }
+
+abbrev pub climb_line_at : Swap → Option ℕ → Defined → ClimbAt → Line
+climb_line_at s told c at.Read = line.Climb (climb.Read c (read_of s.read told))
+climb_line_at s told c (at.Main main) = line.Climb (climb.Main c main)
+climb_line_at s told c (at.Contracted main) = line.Climb (climb.Contracted c main)
+climb_line_at s told c at.Swap = line.Swap (purpose.Climb c) (swap_of s told)
+
+-- the definition's line of a climb from the end of this path, whose READ and SWAP were told this of the root's generation
+abbrev pub climb_line : List Ref → Swap → Option ℕ → Climb → Line
+climb_line path s told c = climb_line_at s told (climb_of path c) c.place
+
+-- the definition's line after a climb that came to this
+abbrev pub line_behind : Operation → Defined → Outcome → Line
+line_behind operation c (Higher single) = climbing operation (higher c single)
+line_behind operation c Climbed = climbed operation c.former
+line_behind operation c Lost = line.Climb (climb.Root c root.Read)
+line_behind operation c Impossible = impossible
+
+-- ---- what it asks of the heap
+
+abbrev pub CanClimbAt : Heap → Task → Swap → Defined → ClimbAt → Type 0
+CanClimbAt heap task s c at.Read = CanReadOn heap s.read
+CanClimbAt heap task s c (at.Main main) = Unit {0}
+CanClimbAt heap task s c (at.Contracted main) = CanMake heap (climbed_node (at_heap no_state heap task.hashes) (for_task task Writable no_operation) c main)
+CanClimbAt heap task s c at.Swap = CanSwapOn heap s
+
+-- what a READ or SWAP is going to change, and what the new node is to refer to, is in use, and of its kind
+abbrev pub CanClimb : Heap → Task → List Ref → Swap → Climb → Type 0
+CanClimb heap task path s c = CanClimbAt heap task s (climb_of path c) c.place
