@@ -1,0 +1,228 @@
+-- ABORT's steps inside of any program whose READ asks for the generation of the root.
+use Rattle.std.specs.Prelude.{◌≡◌, ℕ, ◌+◌, Option, Some, None, refl}
+use Rattle.std.proofs.Common.{sym, ap, subst, ◌∙◌}
+use Rattle.std.proofs.lemmas.Option.{none-some, same_Some}
+use Rattle.ctrie_base.specs.declared.kinds.Kind.{Kind}
+use Rattle.history.specs.declared.calls.Access.{Access}
+use Rattle.history.specs.declared.calls.Access.TheVariants.{Writable, ReadOnly}
+use Rattle.slot_arena.specs.declared.refs.Ref.{Ref}
+use Rattle.slot_arena.specs.Heaps.{Heap}
+use Rattle.epochs.specs.Memories.{Memory}
+use Rattle.machine_model.specs.declared.actions.Action.{Action}
+use Rattle.machine_model.specs.declared.lines.Line.{Line}
+use Rattle.machine_model.specs.declared.lines.Line.TheVariants as line
+use Rattle.machine_model.specs.declared.operations.Operation.{Operation}
+use Rattle.machine_model.specs.declared.reading.Read.{Read}
+use Rattle.machine_model.specs.declared.reading.ReadLine.{ReadLine}
+use Rattle.machine_model.specs.declared.reading.ReadLine.TheVariants as read
+use Rattle.machine_model.specs.declared.roots.CompleteLine.{CompleteLine}
+use Rattle.machine_model.specs.declared.roots.CompleteLine.TheVariants as complete
+use Rattle.machine_model.specs.declared.roots.Descriptor.{Descriptor}
+use Rattle.machine_model.specs.declared.roots.RootLine.{RootLine}
+use Rattle.machine_model.specs.declared.roots.RootLine.TheVariants as root
+use Rattle.machine_model.specs.declared.roots.RootWord.{RootWord}
+use Rattle.machine_model.specs.declared.roots.RootWord.TheVariants.{Plain, Offer}
+use Rattle.machine_model.specs.Acting.{attempt_after}
+use Rattle.machine_model.specs.Calls.{handle_of}
+use Rattle.machine_model.specs.Operations.{generation_from, given_root, kind_of, line_action, line_after, read_of, rooting_read}
+use Rattle.machine_model.specs.Orders.{committed_in}
+use Rattle.machine_model.specs.Reading.{after_ask, read_action}
+use Rattle.machine_model.specs.States.{State, word_at}
+use Rattle.machine_model.specs.Swapping.{root_after}
+use Rattle.gcas.specs.declared.read.Read.{Read as Running}
+use Rattle.gcas.specs.declared.read.ReadAt.{ReadAt}
+use Rattle.gcas.specs.declared.read.ReadAt.TheVariants as at
+use Rattle.gcas.specs.Reads.{IsAsking, line_at, line_of}
+use Rattle.trie_parts.specs.Here.{no_state, no_operation}
+use Rattle.trie_parts.specs.Steps.{IsAskingLine, IsAskingRead}
+use Rattle.rdcss_root.specs.Acts.{ActsInAll}
+use Rattle.rdcss_root.specs.Tables.{Table, acted_table}
+use Rattle.rdcss_root.specs.Programs.{table_after_abort}
+use Rattle.root_asking.specs.declared.asking.Asking.{Asking}
+use Rattle.root_asking.specs.declared.asking.Asking.TheVariants.{Unasked, Met, Told}
+use Rattle.root_asking.specs.Asked.{AsksOn, IsUntold, abort_of, ask_action, asked_at, asked_line, asked_read}
+use Rattle.root_asking.specs.Inside.{rooting_at, with_read}
+use Rattle.root_asking.proofs.Holding.{each_holds}
+use Rattle.snapshot.specs.Copies.{snap_action}
+use Rattle.snapshot.specs.Tasks.{at_roots, drawn_by, with_generation}
+use Rattle.running.specs.declared.job.Job.{Job}
+use Rattle.running.specs.declared.job.Program.{Program}
+use Rattle.running.specs.declared.job.Program.TheVariants.{Snap, Entries, Count, Close}
+use Rattle.running.specs.declared.programs.Programs.{Programs}
+use Rattle.running.specs.declared.programs.Stage.TheVariants.{Runs}
+use Rattle.running.specs.declared.taken.Taken.{Taken}
+use Rattle.running.specs.Places.{IsWaiting, asking_line, call_for, line_for, met_at, operation_for, program_line}
+use Rattle.running.specs.Steps.{Does, Scene, Takes, given_in}
+use Rattle.running.proofs.Lasting.{tells}
+use Rattle.running.proofs.Giving.{asked_gives}
+use Rattle.snapshot.specs.declared.tasks.SnapCall.TheVariants.{Snapshot, Freeze, Clear}
+
+-- ---- that a program's READ asks
+
+-- the READ asks on a writable handle, about this main node pending over that one, and its program's line holds it
+pub record Asks (r : Running) (l : Line) : Type 0 where
+  pub indirection : Ref
+  pub main : Ref
+  pub previous : Ref
+  pub writable : r.access ≡ Writable
+  pub decides : r.at ≡ at.Decide main previous
+  pub reads : read_of l ≡ Some (asked_read indirection main previous Unasked)
+
+asks_by : (r : Running) (l : Line) (indirection : Ref) (access : Access) (place : ReadAt) → r.access ≡ access → r.at ≡ place →
+    read_of l ≡ Some (record { indirection = indirection; line = line_at access None place }) → IsAsking (line_at access None place) → Asks r l
+asks_by r l indirection Writable (at.Decide main previous) writable decides reads asks =
+    record { indirection = indirection; main = main; previous = previous; writable = writable; decides = decides; reads = reads }
+asks_by r l indirection Writable at.Main writable decides reads asks = absurd asks
+asks_by r l indirection Writable (at.Prev main) writable decides reads asks = absurd asks
+asks_by r l indirection Writable (at.Restore main previous) writable decides reads asks = absurd asks
+asks_by r l indirection Writable (at.Given main) writable decides reads asks = absurd asks
+asks_by r l indirection ReadOnly at.Main writable decides reads asks = absurd asks
+asks_by r l indirection ReadOnly (at.Prev main) writable decides reads asks = absurd asks
+asks_by r l indirection ReadOnly (at.Decide main previous) writable decides reads asks = absurd asks
+asks_by r l indirection ReadOnly (at.Restore main previous) writable decides reads asks = absurd asks
+asks_by r l indirection ReadOnly (at.Given main) writable decides reads asks = absurd asks
+
+-- the line of a program that was told this has the READ on the line that it was told
+told_read : (l told : Line) (here : ReadLine) (q : Read) → told ≡ with_read here l → read_of l ≡ Some q → read_of told ≡ Some (record q { line = here })
+told_read l told here q is reads = ap read_of is ∙ (each_holds l q reads).reads here
+
+asks_read : (r : Running) (l : Line) (o : Option Read) → l ≡ with_read (line_of r None) l → read_of l ≡ o → IsAskingRead o → Asks r l
+asks_read r l None same reads asks = absurd asks
+asks_read r l (Some q) same reads asks =
+    let here = told_read l l (line_of r None) q same reads in
+    let is = same_Some q (record q { line = line_of r None }) (sym reads ∙ here) in
+    asks_by r l q.indirection r.access r.at refl refl here (subst (λ (x : Read). IsAsking x.line) is asks)
+
+pub asks : (p : Programs) (program : Program) → IsAskingLine (program_line p None program) → Asks p.work.swap.read (program_line p None program)
+asks p program ask = asks_read p.work.swap.read (program_line p None program) (read_of (program_line p None program)) (tells p None program) refl ask
+
+-- ---- the line while it asks
+
+told_here : (access : Access) (generation : ℕ) (main previous : Ref) (place : ReadAt) → access ≡ Writable → place ≡ at.Decide main previous →
+    line_at access (Some generation) place ≡ read.Decide main previous (Some generation)
+told_here access generation main previous place writable decides =
+    ap (λ a. line_at a (Some generation) place) writable ∙ ap (λ x. line_at Writable (Some generation) x) decides
+
+-- it is that of the program with its READ on ABORT's line
+pub asked : (p : Programs) (program : Program) (asking : Asking) → (h : Asks p.work.swap.read (program_line p None program)) →
+    asking_line p program Runs asking ≡ asked_line h.main h.previous asking (program_line p None program)
+asked p program Unasked h = sym (each_holds (program_line p None program) _ h.reads).here
+asked p program (Met offer) h = ap (λ (x : ReadAt). with_read (met_at x offer) (program_line p None program)) h.decides
+asked p program (Told generation) h =
+    tells p (Some generation) program
+    ∙ ap (λ at. with_read at (program_line p None program)) (told_here p.work.swap.read.access generation h.main h.previous p.work.swap.read.at h.writable h.decides)
+
+-- ---- what ABORT's steps come to
+
+handle_is : (handle : ℕ) (program : Program) → handle_of (call_for handle program) ≡ handle
+handle_is handle (Snap Snapshot) = refl
+handle_is handle (Snap Freeze) = refl
+handle_is handle (Snap Clear) = refl
+handle_is handle Entries = refl
+handle_is handle Count = refl
+handle_is handle Close = refl
+
+commits_none : (state : State) (indirection main previous : Ref) (asking : Asking) → IsUntold asking → committed_in state (Some (asked_read indirection main previous asking)) ≡ None
+commits_none state indirection main previous Unasked untold = refl
+commits_none state indirection main previous (Met offer) untold = refl
+commits_none state indirection main previous (Told generation) untold = absurd untold
+
+gives_none : (state : State) (operation : Operation) (indirection main previous : Ref) (asking : Asking) → IsUntold asking →
+    given_in state operation (Some (asked_read indirection main previous asking)) ≡ None
+gives_none state operation indirection main previous Unasked untold = asked_gives state.heap main previous (word_at state (handle_of operation.call))
+gives_none state operation indirection main previous (Met offer) untold = refl
+gives_none state operation indirection main previous (Told generation) untold = absurd untold
+
+-- a READ that asks gives no root to a ROOT in which it runs
+asks_rooting : (heap : Heap) (access : Access) (word : RootWord) (offer : Descriptor) (l : CompleteLine) (r : Read) (asking : Asking) (state : State) (generation : Option ℕ) (main previous : Ref) → IsUntold asking →
+    rooting_read (root.Completing (record { offer = offer; line = l })) ≡ Some r →
+    given_root state (root_after heap access word (rooting_at (asked_at main previous asking) (root.Completing (record { offer = offer; line = l })))) generation ≡ generation
+asks_rooting heap access (Plain w) offer (complete.Reading q) r Unasked state generation main previous untold is = refl
+asks_rooting heap access (Offer w) offer (complete.Reading q) r Unasked state generation main previous untold is = refl
+asks_rooting heap access word offer (complete.Reading q) r (Met other) state generation main previous untold is = refl
+asks_rooting heap access word offer (complete.Reading q) r (Told g) state generation main previous untold is = absurd untold
+asks_rooting heap access word offer (complete.Swap m) r asking state generation main previous untold is = absurd (none-some r is)
+
+-- so the generation of the root stays
+keeps_generation : (state : State) (operation : Operation) (l : Line) (r : Read) (main previous : Ref) (asking : Asking) → IsUntold asking → read_of l ≡ Some r →
+    generation_from state operation (asked_line main previous asking l) ≡ operation.generation
+keeps_generation state operation (line.Root root.Read) r main previous asking untold is = absurd (none-some r is)
+keeps_generation state operation (line.Root (root.Completing c)) r main previous asking untold is =
+    asks_rooting state.heap operation.access (word_at state (handle_of operation.call)) c.offer c.line r asking state operation.generation main previous untold is
+keeps_generation state operation (line.Key l) r main previous asking untold is = refl
+keeps_generation state operation (line.Build l) r main previous asking untold is = refl
+keeps_generation state operation (line.Swap why s) r main previous asking untold is = refl
+keeps_generation state operation (line.Renew l) r main previous asking untold is = refl
+keeps_generation state operation (line.Clean l) r main previous asking untold is = refl
+keeps_generation state operation (line.Climb l) r main previous asking untold is = refl
+keeps_generation state operation (line.Copy l) r main previous asking untold is = refl
+keeps_generation state operation (line.Walk l) r main previous asking untold is = refl
+keeps_generation state operation (line.End answer) r main previous asking untold is = refl
+keeps_generation state operation line.Impossible r main previous asking untold is = refl
+
+reads_so : (indirection main previous : Ref) (asking : Asking) → IsUntold asking → read_action indirection (asked_at main previous asking) ≡ ask_action asking
+reads_so indirection main previous Unasked untold = refl
+reads_so indirection main previous (Met offer) untold = refl
+reads_so indirection main previous (Told generation) untold = absurd untold
+
+-- what a step of ABORT does, whatever the state
+acts_so : (l : Line) (r : Read) (main previous : Ref) (asking : Asking) → IsUntold asking → read_of l ≡ Some r → snap_action (asked_line main previous asking l) ≡ ask_action asking
+acts_so l r main previous asking untold is =
+    (each_holds l r is).acts no_state no_operation (asked_at main previous asking) ∙ reads_so r.indirection main previous asking untold
+
+draws_none : (heap : Heap) (generation : ℕ) (asking : Asking) → (drawn_by heap generation (ask_action asking) ≡ generation) × (with_generation generation (ask_action asking) ≡ ask_action asking)
+draws_none heap generation Unasked = (refl, refl)
+draws_none heap generation (Met offer) = (refl, refl)
+draws_none heap generation (Told g) = (refl, refl)
+
+offers_none : (attempt : ℕ) (asking : Asking) → attempt_after attempt (ask_action asking) ≡ attempt
+offers_none attempt Unasked = refl
+offers_none attempt (Met offer) = refl
+offers_none attempt (Told g) = refl
+
+table_so : (table : Table) (handle actor : ℕ) (asking : Asking) → IsUntold asking → table_after_abort table handle (abort_of asking) ≡ acted_table table handle actor (ask_action asking)
+table_so table handle actor Unasked untold = refl
+table_so table handle actor (Met offer) untold = refl
+table_so table handle actor (Told g) untold = absurd untold
+
+waits : (asking : Asking) (l : Line) → IsAskingLine l → IsWaiting asking l
+waits Unasked l ask = tt
+waits (Met offer) l ask = ask
+waits (Told g) l ask = ask
+
+-- A step of ABORT in the place of one of the program.
+pub steps : (job : Job) (program : Program) (before : Scene) (asking asking' : Asking) (memory' : Memory) (table' : Table) (k : Kind) →
+    IsAskingLine (program_line before.programs None program) → IsUntold asking →
+    AsksOn before.memory.heap before.table job.handle asking asking' k →
+    table' ≡ table_after_abort before.table job.handle (abort_of asking) →
+    ActsInAll before.memory before.table.roots before.programs.work.private (ask_action asking) memory' table'.roots before.programs.work.private →
+    Does job program (asking_line before.programs program Runs asking) before (record { kind = k; committed = None; given = None })
+    (record { memory = memory'; table = table'; generation = before.generation; programs = record before.programs { stage = Runs; asking = asking' } })
+steps job program before asking asking' memory' table' k ask untold on table acts =
+    let p : Programs = before.programs in
+    let l : Line = program_line p None program in
+    let h : Asks p.work.swap.read l = asks p program ask in
+    let from : asking_line p program Runs asking ≡ asked_line h.main h.previous asking l = asked p program asking h in
+    let action : snap_action (asking_line p program Runs asking) ≡ ask_action asking = ap snap_action from ∙ acts_so l _ h.main h.previous asking untold h.reads in
+    record {
+      takes = λ state operation.
+          let there : State = at_roots state before.memory.heap before.table in
+          let o : Operation = operation_for job program before.table p operation in
+          let step = on state o l h.indirection h.main h.previous h.reads h.writable (handle_is job.handle program) in
+          record {
+            kind = ap (λ m. kind_of (line_action there o m)) from ∙ ap kind_of step.0 ∙ step.1;
+            line = ap (λ m. line_after there o m) from ∙ step.2 ∙ sym (asked p program asking' h);
+            committed = ap (λ m. committed_in there (read_of m)) from ∙ ap (committed_in there) step.3 ∙ commits_none there h.indirection h.main h.previous asking untold;
+            given = ap (λ m. given_in there o (read_of m)) from ∙ ap (given_in there o) step.3 ∙ gives_none there o h.indirection h.main h.previous asking untold;
+          };
+      acts = subst (λ (a : Action). ActsInAll before.memory before.table.roots p.work.private a memory' table'.roots p.work.private)
+          (sym (ap (with_generation before.generation) action ∙ (draws_none before.memory.heap before.generation asking).1)) acts;
+      table = table ∙ table_so before.table job.handle job.actor asking untold ∙ ap (acted_table before.table job.handle job.actor) (sym action);
+      drawn = sym ((draws_none before.memory.heap before.generation asking).0) ∙ ap (drawn_by before.memory.heap before.generation) (sym action);
+      attempt = sym (offers_none p.snap.attempt asking) ∙ ap (attempt_after p.snap.attempt) (sym action);
+      generation = λ state operation.
+          sym (ap (generation_from (at_roots state before.memory.heap before.table) (operation_for job program before.table p operation)) from
+          ∙ keeps_generation (at_roots state before.memory.heap before.table) (operation_for job program before.table p operation) l _ h.main h.previous asking untold h.reads);
+      access = refl;
+      sound = waits asking' l ask;
+    }

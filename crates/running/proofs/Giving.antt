@@ -1,0 +1,132 @@
+-- What an operation's READ gives and commits by a step, of a program that swaps no main node of its own.
+use Rattle.std.specs.Prelude.{◌≡◌, Option, Some, None, refl}
+use Rattle.std.proofs.Common.{sym, ap, subst, ◌∙◌}
+use Rattle.std.proofs.lemmas.Option.{none-some}
+use Rattle.ctrie_base.specs.declared.kinds.Kind.{Kind}
+use Rattle.ctrie_base.specs.declared.kinds.Kind.TheVariants as kind
+use Rattle.history.specs.declared.calls.Access.{Access}
+use Rattle.history.specs.declared.calls.Access.TheVariants.{Writable, ReadOnly}
+use Rattle.slot_arena.specs.declared.refs.Ref.{Ref}
+use Rattle.slot_arena.specs.Heaps.{Heap}
+use Rattle.machine_model.specs.declared.copying.CopyLine.TheVariants as copy
+use Rattle.machine_model.specs.declared.lines.Line.{Line}
+use Rattle.machine_model.specs.declared.lines.Line.TheVariants as line
+use Rattle.machine_model.specs.declared.operations.Operation.{Operation}
+use Rattle.machine_model.specs.declared.reading.Read.{Read}
+use Rattle.machine_model.specs.declared.reading.ReadLine.{ReadLine}
+use Rattle.machine_model.specs.declared.reading.ReadLine.TheVariants as read
+use Rattle.machine_model.specs.declared.roots.CompleteLine.{CompleteLine}
+use Rattle.machine_model.specs.declared.roots.CompleteLine.TheVariants as complete
+use Rattle.machine_model.specs.declared.roots.Descriptor.{Descriptor}
+use Rattle.machine_model.specs.declared.roots.RootLine.TheVariants as root
+use Rattle.machine_model.specs.declared.roots.RootWord.{RootWord}
+use Rattle.machine_model.specs.declared.roots.RootWord.TheVariants.{Plain, Offer}
+use Rattle.machine_model.specs.declared.walking.WalkLine.TheVariants as walk
+use Rattle.machine_model.specs.Calls.{handle_of}
+use Rattle.machine_model.specs.Operations.{kind_of, line_action, read_of}
+use Rattle.machine_model.specs.Orders.{committed_in}
+use Rattle.machine_model.specs.Reading.{after_ask, read_action, read_after}
+use Rattle.machine_model.specs.States.{State, word_at}
+use Rattle.gcas.specs.declared.read.ReadAt.{ReadAt}
+use Rattle.gcas.specs.declared.read.ReadAt.TheVariants as at
+use Rattle.gcas.specs.Reads.{ReadsAlong, come_to, committed_so, given_so}
+use Rattle.trie_parts.specs.Steps.{Leads}
+use Rattle.root_asking.specs.Inside.{Holds}
+use Rattle.root_asking.proofs.Holding.{each_holds}
+use Rattle.running.specs.Steps.{Takes, committed_if, given_by, given_if, given_in, taken_so}
+
+-- the line is of a program that swaps no main node but in its READ
+abbrev pub SwapsNone : Line → Type 0
+SwapsNone (line.Root l) = Unit {0}
+SwapsNone (line.Copy l) = Unit {0}
+SwapsNone (line.Walk l) = Unit {0}
+SwapsNone (line.End answer) = Unit {0}
+SwapsNone line.Impossible = Unit {0}
+SwapsNone l = ⊥
+
+-- ---- outside of its READ
+
+completing_gives : (offer : Descriptor) (l : CompleteLine) (state : State) (operation : Operation) (x : Option Ref) →
+    read_of (line.Copy (copy.Complete (record { offer = offer; line = l }))) ≡ None →
+    given_if (kind_of (line_action state operation (line.Copy (copy.Complete (record { offer = offer; line = l }))))) x ≡ None
+completing_gives offer (complete.Reading q) state operation x none = absurd (none-some _ (sym none))
+completing_gives offer (complete.Swap main) state operation x none = refl
+
+rooting_gives : (offer : Descriptor) (l : CompleteLine) (state : State) (operation : Operation) (x : Option Ref) →
+    read_of (line.Root (root.Completing (record { offer = offer; line = l }))) ≡ None →
+    given_if (kind_of (line_action state operation (line.Root (root.Completing (record { offer = offer; line = l }))))) x ≡ None
+rooting_gives offer (complete.Reading q) state operation x none = absurd (none-some _ (sym none))
+rooting_gives offer (complete.Swap main) state operation x none = refl
+
+-- such a step isn't of a kind that a READ takes
+no_read : (state : State) (operation : Operation) (l : Line) (x : Option Ref) → SwapsNone l → read_of l ≡ None → given_if (kind_of (line_action state operation l)) x ≡ None
+no_read state operation (line.Root root.Read) x own none = refl
+no_read state operation (line.Root (root.Completing c)) x own none = rooting_gives c.offer c.line state operation x none
+no_read state operation (line.Copy (copy.Read r q)) x own none = absurd (none-some q (sym none))
+no_read state operation (line.Copy (copy.Successor r main)) x own none = refl
+no_read state operation (line.Copy (copy.Second r main successor)) x own none = refl
+no_read state operation (line.Copy (copy.Empty r main)) x own none = refl
+no_read state operation (line.Copy (copy.Cleared r main branch)) x own none = refl
+no_read state operation (line.Copy (copy.Offer offer)) x own none = refl
+no_read state operation (line.Copy (copy.Complete c)) x own none = completing_gives c.offer c.line state operation x none
+no_read state operation (line.Walk walk.Root) x own none = refl
+no_read state operation (line.Walk (walk.Read q todo pairs)) x own none = absurd (none-some q (sym none))
+no_read state operation (line.Walk (walk.Main main todo pairs)) x own none = refl
+no_read state operation (line.Walk (walk.Entry todo pairs)) x own none = refl
+no_read state operation (line.End answer) x own none = refl
+no_read state operation line.Impossible x own none = refl
+no_read state operation l x own none = absurd own
+
+-- ---- inside of it
+
+come_gives : (access : Access) (place : ReadAt) → given_by (come_to access place) ≡ given_so place
+come_gives access at.Main = refl
+come_gives access (at.Prev main) = refl
+come_gives access (at.Decide main previous) = refl
+come_gives access (at.Restore main previous) = refl
+come_gives access (at.Given main) = refl
+
+pub asked_gives : (heap : Heap) (main previous : Ref) (word : RootWord) → given_by (after_ask heap main previous word) ≡ None
+asked_gives heap main previous (Plain r) = refl
+asked_gives heap main previous (Offer offer) = refl
+
+-- what a READ gives by its step
+gives : (heap : Heap) (access : Access) (word : RootWord) (indirection : Ref) (l : ReadLine) (k : Kind) (place : ReadAt) →
+    kind_of (read_action indirection l) ≡ k → read_after heap access word indirection l ≡ come_to access place →
+    given_by (read_after heap access word indirection l) ≡ given_if k (given_so place)
+gives heap access word indirection read.Main k place same comes = ap given_by comes ∙ come_gives access place ∙ ap (λ q. given_if q (given_so place)) same
+gives heap access word indirection (read.Prev main) k place same comes = ap given_by comes ∙ come_gives access place ∙ ap (λ q. given_if q (given_so place)) same
+gives heap access word indirection (read.AskRoot main previous) k place same comes = asked_gives heap main previous word ∙ ap (λ q. given_if q (given_so place)) same
+gives heap access word indirection (read.Abort main previous offer) k place same comes = ap (λ q. given_if q (given_so place)) same
+gives heap access word indirection (read.Decide main previous told) k place same comes = ap given_by comes ∙ come_gives access place ∙ ap (λ q. given_if q (given_so place)) same
+gives heap access word indirection (read.Restore main previous) k place same comes = ap given_by comes ∙ come_gives access place ∙ ap (λ q. given_if q (given_so place)) same
+
+commits : (k : Kind) (place : ReadAt) → committed_so k place ≡ committed_if k (given_so place)
+commits kind.SwapPrev place = refl
+commits k place = refl
+
+-- ---- a step
+
+module _ (state : State) (operation : Operation) (l : Line) (k : Kind) (place : ReadAt) where
+
+  committed_by_read : (o : Option Read) → ReadsAlong state.heap operation.access o k place → committed_in state o ≡ committed_if k (given_so place)
+  committed_by_read None along = sym along ∙ commits k place
+  committed_by_read (Some r) along = along.1 ∙ commits k place
+
+  given_by_read : (o : Option Read) → read_of l ≡ o → SwapsNone l → kind_of (line_action state operation l) ≡ k → ReadsAlong state.heap operation.access o k place →
+      given_in state operation o ≡ given_if k (given_so place)
+  given_by_read None is own same along = sym (no_read state operation l (given_so place) own is) ∙ ap (λ q. given_if q (given_so place)) same
+  given_by_read (Some r) is own same along =
+      let holds = each_holds l r is in
+      let acts = sym (holds.acts state operation r.line) ∙ ap (λ m. line_action state operation m) holds.here in
+      gives state.heap operation.access (word_at state (handle_of operation.call)) r.indirection r.line k place (ap kind_of acts ∙ same) (along.0 (word_at state (handle_of operation.call)))
+
+-- a step of such a program, behind which its READ stands here
+pub takes : (state : State) (operation : Operation) (before after : Line) (k : Kind) (place : ReadAt) → SwapsNone before → Leads state operation before k after place →
+    Takes state operation before (taken_so k place) after
+takes state operation before after k place own leads = record {
+  kind = leads.0;
+  line = leads.1;
+  committed = committed_by_read state operation before k place (read_of before) leads.2;
+  given = given_by_read state operation before k place (read_of before) refl own leads.0 leads.2;
+}

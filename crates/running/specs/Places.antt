@@ -1,0 +1,103 @@
+-- Where an operation of the code stands, as the definition's line.
+use Rattle.std.specs.Prelude.{◌≡◌, ℕ, List, [], slice_index_or, false, Option, Some, None}
+use Rattle.history.specs.declared.calls.Access.{Access}
+use Rattle.history.specs.declared.calls.Call.{Call}
+use Rattle.history.specs.declared.calls.Call.TheVariants as calls
+use Rattle.history.specs.declared.replies.Reply.{Reply}
+use Rattle.history.specs.declared.replies.Reply.TheVariants as reply
+use Rattle.slot_arena.specs.declared.refs.Ref.{Ref}
+use Rattle.machine_model.specs.declared.lines.Line.{Line}
+use Rattle.machine_model.specs.declared.lines.Line.TheVariants as line
+use Rattle.machine_model.specs.declared.operations.Operation.{Operation}
+use Rattle.machine_model.specs.declared.reading.ReadLine.{ReadLine}
+use Rattle.machine_model.specs.declared.reading.ReadLine.TheVariants as read
+use Rattle.machine_model.specs.declared.roots.Descriptor.{Descriptor}
+use Rattle.machine_model.specs.Lines.{impossible}
+use Rattle.machine_model.specs.Walking.{walked_reply}
+use Rattle.gcas.specs.declared.read.ReadAt.{ReadAt}
+use Rattle.gcas.specs.declared.read.ReadAt.TheVariants as at
+use Rattle.trie_parts.specs.Steps.{IsAskingLine}
+use Rattle.rdcss_root.specs.Tables.{Table}
+use Rattle.root_asking.specs.declared.asking.Asking.{Asking}
+use Rattle.root_asking.specs.declared.asking.Asking.TheVariants.{Unasked, Met, Told}
+use Rattle.root_asking.specs.Inside.{with_read}
+use Rattle.snapshot.specs.declared.tasks.SnapCall.{SnapCall}
+use Rattle.snapshot.specs.declared.tasks.SnapTask.{SnapTask}
+use Rattle.snapshot.specs.Copies.{snap_line, line_behind}
+use Rattle.snapshot.specs.Tasks.{call_of as snap_call}
+use Rattle.snapshot.specs.Walks.{walk_line}
+use Rattle.running.specs.declared.job.Job.{Job}
+use Rattle.running.specs.declared.job.Program.{Program}
+use Rattle.running.specs.declared.job.Program.TheVariants.{Snap, Entries, Count, Close}
+use Rattle.running.specs.declared.programs.Programs.{Programs}
+use Rattle.running.specs.declared.programs.Stage.{Stage}
+use Rattle.running.specs.declared.programs.Stage.TheVariants.{Runs, Swapped, Walked, Impossible}
+
+-- ---- the call
+
+-- the call with this program on this handle
+abbrev pub call_for : ℕ → Program → Call
+call_for handle (Snap call) = snap_call handle call
+call_for handle Entries = calls.Entries handle
+call_for handle Count = calls.Count handle
+call_for handle Close = calls.Close handle
+
+-- what a call that swaps the root goes by
+abbrev pub task_for : Job → SnapCall → SnapTask
+task_for job call = record { call = call; handle = job.handle; actor = job.actor; operation = job.id; opens = job.opens }
+
+-- The operation, whatever else it has, of this job and program, whose programs stand so. Its mark is the actor's in the table of root words.
+abbrev pub operation_for : Job → Program → Table → Programs → Operation → Operation
+operation_for job program table p operation =
+    record operation {
+      id = job.id;
+      call = call_for job.handle program;
+      access = p.work.swap.read.access;
+      opens = job.opens;
+      attempt = p.snap.attempt;
+      is_marked = slice_index_or table.marks job.actor false;
+      generation = p.snap.generation;
+    }
+
+-- ---- the line
+
+-- the line of a program that was told this of the root's generation
+abbrev pub program_line : Programs → Option ℕ → Program → Line
+program_line p told (Snap call) = snap_line p.work.swap.read told p.snap
+program_line p told Entries = walk_line p.work.swap.read told p.entries.walk
+program_line p told Count = walk_line p.work.swap.read told p.count.walk
+program_line p told Close = line.End reply.Closed
+
+-- the reply to a walk that has met all pairs
+abbrev pub met_all : Programs → Program → Reply
+met_all p Count = walked_reply (calls.Count 0) p.count.walk.pairs
+met_all p program = walked_reply (calls.Entries 0) p.entries.walk.pairs
+
+abbrev pub stage_line : Programs → Option ℕ → Program → Stage → Line
+stage_line p told program Runs = program_line p told program
+stage_line p told program (Swapped answer) = line_behind answer
+stage_line p told program Walked = line.End (met_all p program)
+stage_line p told program Impossible = impossible
+
+-- a READ that has met this offer while it asked takes it back
+abbrev pub met_at : ReadAt → Descriptor → ReadLine
+met_at (at.Decide main previous) offer = read.Abort main previous offer
+met_at place offer = read.Main
+
+abbrev pub asking_line : Programs → Program → Stage → Asking → Line
+asking_line p program stage Unasked = stage_line p None program stage
+asking_line p program stage (Met offer) = with_read (met_at p.work.swap.read.at offer) (stage_line p None program stage)
+asking_line p program stage (Told generation) = stage_line p (Some generation) program stage
+
+-- the definition's line of an operation with this program
+abbrev pub line_for : Program → Programs → Line
+line_for program p = asking_line p program p.stage p.asking
+
+-- only where a READ asks something is known for it
+abbrev pub IsWaiting : Asking → Line → Type 0
+IsWaiting Unasked l = Unit {0}
+IsWaiting (Met offer) l = IsAskingLine l
+IsWaiting (Told generation) l = IsAskingLine l
+
+abbrev pub IsSound : Program → Programs → Type 0
+IsSound program p = IsWaiting p.asking (stage_line p None program p.stage)

@@ -1,0 +1,114 @@
+-- What a step of an operation comes to, does and asks.
+use Rattle.std.specs.Prelude.{◌≡◌, ℕ, ◌<◌, ◌-◌, ◌^◌, Option, Some, None}
+use Rattle.ctrie_base.specs.declared.kinds.Kind.{Kind}
+use Rattle.ctrie_base.specs.declared.kinds.Kind.TheVariants as kind
+use Rattle.slot_arena.specs.declared.refs.Ref.{Ref}
+use Rattle.epochs.specs.Memories.{Memory}
+use Rattle.machine_model.specs.declared.lines.Line.{Line}
+use Rattle.machine_model.specs.declared.operations.Operation.{Operation}
+use Rattle.machine_model.specs.declared.reading.After.{After}
+use Rattle.machine_model.specs.declared.reading.After.TheVariants.{Goes, Gives}
+use Rattle.machine_model.specs.declared.reading.Read.{Read}
+use Rattle.machine_model.specs.declared.reading.ReadLine.{ReadLine}
+use Rattle.machine_model.specs.Acting.{attempt_after}
+use Rattle.machine_model.specs.Calls.{handle_of}
+use Rattle.machine_model.specs.Operations.{kind_of, line_action, line_after, read_of, generation_from}
+use Rattle.machine_model.specs.Orders.{committed_in}
+use Rattle.machine_model.specs.Reading.{read_after}
+use Rattle.machine_model.specs.States.{State, word_at}
+use Rattle.gcas.specs.declared.read.ReadAt.{ReadAt}
+use Rattle.gcas.specs.Reads.{given_so}
+use Rattle.rdcss_root.specs.Acts.{ActsInAll}
+use Rattle.rdcss_root.specs.Programs.{CanAbortOn}
+use Rattle.rdcss_root.specs.Tables.{Table, acted_table}
+use Rattle.root_asking.specs.declared.asking.Asking.{Asking}
+use Rattle.root_asking.specs.declared.asking.Asking.TheVariants.{Unasked, Met, Told}
+use Rattle.root_asking.specs.Asked.{abort_of}
+use Rattle.snapshot.specs.Copies.{CanSnap, IsReadyBeside, snap_action}
+use Rattle.snapshot.specs.Tasks.{at_roots, drawn_by, with_generation}
+use Rattle.snapshot.specs.Walks.{CanWalk}
+use Rattle.running.specs.declared.job.Job.{Job}
+use Rattle.running.specs.declared.job.Program.{Program}
+use Rattle.running.specs.declared.job.Program.TheVariants.{Snap, Entries, Count, Close}
+use Rattle.running.specs.declared.programs.Programs.{Programs}
+use Rattle.running.specs.declared.programs.Stage.{Stage}
+use Rattle.running.specs.declared.programs.Stage.TheVariants.{Runs}
+use Rattle.running.specs.declared.taken.Taken.{Taken}
+use Rattle.running.specs.Places.{IsSound, line_for, operation_for}
+
+-- ---- what it comes to
+
+-- what a READ gives by a step of this kind, behind which it has given this
+abbrev pub given_if : Kind → Option Ref → Option Ref
+given_if kind.ReadMain given = given
+given_if kind.ReadPrev given = given
+given_if kind.SwapPrev given = given
+given_if kind.SwapMain given = given
+given_if k given = None
+
+-- what a READ commits by a step of this kind, behind which it has given this
+abbrev pub committed_if : Kind → Option Ref → Option Ref
+committed_if kind.SwapPrev given = given
+committed_if k given = None
+
+-- a step of this kind, behind which the operation's READ stands here
+abbrev pub taken_so : Kind → ReadAt → Taken
+taken_so k place = record { kind = k; committed = committed_if k (given_so place); given = given_if k (given_so place) }
+
+abbrev pub given_by : After ReadLine Ref → Option Ref
+given_by (Goes l) = None
+given_by (Gives main) = Some main
+
+-- the main node that the operation's READ gives by its step, if it is in one and does
+abbrev pub given_in : State → Operation → Option Read → Option Ref
+given_in state operation None = None
+given_in state operation (Some r) = given_by (read_after state.heap operation.access (word_at state (handle_of operation.call)) r.indirection r.line)
+
+-- A step of the definition from this line is this one, and leads to that line.
+pub record Takes (state : State) (operation : Operation) (before : Line) (taken : Taken) (after : Line) : Type 0 where
+  pub kind : kind_of (line_action state operation before) ≡ taken.kind
+  pub line : line_after state operation before ≡ after
+  pub committed : committed_in state (read_of before) ≡ taken.committed
+  pub given : given_in state operation (read_of before) ≡ taken.given
+
+-- ---- what it does
+
+-- what a step changes: the heap, the root words, the next generation to be drawn, and where the programs stand
+pub record Scene : Type 0 where
+  pub memory : Memory
+  pub table : Table
+  pub generation : ℕ
+  pub programs : Programs
+
+-- The step from this line, of this job and program, was this one, and leads from one scene to another.
+pub record Does (job : Job) (program : Program) (l : Line) (before : Scene) (taken : Taken) (after : Scene) : Type 0 where
+  pub takes : (state : State) (operation : Operation) →
+      Takes (at_roots state before.memory.heap before.table) (operation_for job program before.table before.programs operation) l taken (line_for program after.programs)
+  pub acts : ActsInAll before.memory before.table.roots before.programs.work.private (with_generation before.generation (snap_action l)) after.memory after.table.roots after.programs.work.private
+  pub table : after.table ≡ acted_table before.table job.handle job.actor (snap_action l)
+  pub drawn : after.generation ≡ drawn_by before.memory.heap before.generation (snap_action l)
+  pub attempt : after.programs.snap.attempt ≡ attempt_after before.programs.snap.attempt (snap_action l)
+  pub generation : (state : State) (operation : Operation) →
+      after.programs.snap.generation ≡ generation_from (at_roots state before.memory.heap before.table) (operation_for job program before.table before.programs operation) l
+  pub access : after.programs.work.swap.read.access ≡ before.programs.work.swap.read.access
+  pub sound : IsSound program after.programs
+
+-- ---- what it asks
+
+abbrev pub CanProgram : Scene → Program → Type 0
+CanProgram scene (Snap call) = CanSnap scene.memory scene.table scene.programs.work.swap.read scene.generation scene.programs.snap
+CanProgram scene Entries = CanWalk scene.memory.heap scene.programs.work.swap.read scene.programs.entries.walk
+CanProgram scene Count = CanWalk scene.memory.heap scene.programs.work.swap.read scene.programs.count.walk
+CanProgram scene Close = Unit {0}
+
+abbrev pub CanStage : Scene → Program → Stage → Type 0
+CanStage scene program Runs = CanProgram scene program
+CanStage scene program stage = Unit {0}
+
+-- what is going to be changed, or referred to, is in use, and of its kind, and what is held can be counted
+pub record CanStep (scene : Scene) (program : Program) : Type 0 where
+  pub runs : CanStage scene program scene.programs.stage
+  pub abort : CanAbortOn scene.memory scene.table (abort_of scene.programs.asking)
+  pub ready : IsReadyBeside scene.memory scene.table.roots scene.programs.work.private
+  pub attempts : scene.programs.snap.attempt < 2 ^ 64 - 1
+  pub generations : scene.generation < 2 ^ 64 - 1

@@ -1,0 +1,17 @@
+//! An actor's operation under way, changed in place: each call of `Programs::step` takes one atomic step of the machine.
+//!
+//! A program whose READ has to know the generation of the root before it decides a main node asks for it (`Next::AskRoot`)
+//! and takes no step. Here ABORT's step stands in its place, so that a call is always a step, and the program is told at its
+//! next one. Where a program has come to its end its reply waits for the operation's last step.
+//!
+//! Computed are the definition's `Operations`: the line of any operation, whatever its program, and what a step from it
+//! comes to. `specs/Places` says which line that is, `specs/Steps` what a step does.
+#![tactic(auto)]
+
+mod job;
+mod programs;
+mod taken;
+
+pub use job::{Job, Program};
+pub use programs::{Programs, Stage};
+pub use taken::Taken;

@@ -1,0 +1,73 @@
+//! What a step of an operation was.
+
+ghost use Rattle.std.specs.Prelude.{◌≡◌};
+ghost use Rattle.gcas.specs.Reads.{given_so};
+ghost use Rattle.running.specs.Steps.{taken_so, given_if, committed_if};
+
+use ctrie_base::Kind;
+use gcas::ReadAt;
+use slot_arena::Ref;
+
+/// A step that was taken.
+#[derive(Clone, Copy)]
+pub struct Taken {
+    pub kind: Kind,
+    /// The main node that it committed, if it did.
+    pub committed: Option<Ref>,
+    /// The main node that the operation's READ gave by it, if it did.
+    pub given: Option<Ref>,
+}
+
+impl Taken {
+    /// A step of this kind, behind which the operation's READ stands here.
+    pub(crate) fn by_read(kind: Kind, at: &ReadAt) -> Taken
+        ensures { result ≡ taken_so kind at.now }
+    {
+        Taken {
+            kind,
+            committed: committed_if(kind, given_at(at)),
+            given: given_if(kind, given_at(at)),
+        }
+    }
+
+    /// A step of this kind in which no READ came to its end.
+    pub(crate) fn of_kind(kind: Kind) -> Taken
+        ensures { result ≡ record { kind = kind; committed = None; given = None } }
+    {
+        Taken {
+            kind,
+            committed: None,
+            given: None,
+        }
+    }
+}
+
+/// What a READ that stands here has given, if it has.
+fn given_at(at: &ReadAt) -> Option<Ref>
+    ensures { result ≡ given_so at.now }
+{
+    match at {
+        ReadAt::Given { main } => Some(*main),
+        _ => None,
+    }
+}
+
+/// What a READ gives by a step of this kind.
+fn given_if(kind: Kind, given: Option<Ref>) -> Option<Ref>
+    ensures { result ≡ given_if kind given }
+{
+    match kind {
+        Kind::ReadMain | Kind::ReadPrev | Kind::SwapPrev | Kind::SwapMain => given,
+        _ => None,
+    }
+}
+
+/// What a READ commits by a step of this kind, behind which it has given this.
+fn committed_if(kind: Kind, given: Option<Ref>) -> Option<Ref>
+    ensures { result ≡ committed_if kind given }
+{
+    match kind {
+        Kind::SwapPrev => given,
+        _ => None,
+    }
+}
