@@ -1,8 +1,17 @@
 -- Lines of the programs: what is told comes to them by their READ alone, and they swap no main node of their own.
-use Rattle.std.specs.Prelude.{◌≡◌, ℕ, List, Option, None, refl}
+use Rattle.std.specs.Prelude.{◌≡◌, ℕ, List, Option, Some, None, refl}
+use Rattle.history.specs.declared.calls.Access.{Access}
+use Rattle.history.specs.declared.calls.Access.TheVariants.{Writable, ReadOnly}
 use Rattle.slot_arena.specs.declared.refs.Ref.{Ref}
+use Rattle.machine_model.specs.declared.roots.Descriptor.{Descriptor}
 use Rattle.gcas.specs.declared.read.Read.{Read}
-use Rattle.gcas.specs.Reads.{line_of}
+use Rattle.gcas.specs.declared.read.ReadAt.{ReadAt}
+use Rattle.gcas.specs.declared.read.ReadAt.TheVariants as read
+use Rattle.gcas.specs.Reads.{IsAsking, line_at, line_of}
+use Rattle.trie_parts.specs.Steps.{IsAskingLine}
+use Rattle.rdcss_root.specs.declared.complete.CompleteAt.{CompleteAt}
+use Rattle.rdcss_root.specs.declared.complete.CompleteAt.TheVariants as complete
+use Rattle.rdcss_root.specs.declared.root.ReadRoot.TheVariants as rooting
 use Rattle.root_asking.specs.Inside.{with_read}
 use Rattle.snapshot.specs.declared.snap.Making.TheVariants as making
 use Rattle.snapshot.specs.declared.snap.Snap.{Snap as ASnap}
@@ -47,3 +56,50 @@ walks_at q told todo pairs walk.Entry = tt
 
 pub walk_swaps_none : (q : Read) (told : Option ℕ) (w : Walk) → SwapsNone (walk_line q told w)
 walk_swaps_none q told w = walks_at q told w.todo w.pairs w.at
+
+-- ---- a program that was told the generation doesn't ask for it
+
+told_on : (access : Access) (generation : ℕ) (place : ReadAt) → IsAsking (line_at access (Some generation) place) → ⊥
+told_on Writable generation read.Main asks = asks
+told_on Writable generation (read.Prev main) asks = asks
+told_on Writable generation (read.Decide main previous) asks = asks
+told_on Writable generation (read.Restore main previous) asks = asks
+told_on Writable generation (read.Given main) asks = asks
+told_on ReadOnly generation read.Main asks = asks
+told_on ReadOnly generation (read.Prev main) asks = asks
+told_on ReadOnly generation (read.Decide main previous) asks = asks
+told_on ReadOnly generation (read.Restore main previous) asks = asks
+told_on ReadOnly generation (read.Given main) asks = asks
+
+snap_told : (r : Ref) (q : Read) (generation : ℕ) (place : SnapAt) → IsAskingLine (snap_line_at r q (Some generation) place) → ⊥
+snap_told r q generation (at.Root rooting.Read) asks = asks
+snap_told r q generation (at.Root (rooting.Completing c)) asks = rooted c.offer c.at asks
+  where
+    rooted : (offer : Descriptor) (place : CompleteAt) → IsAskingLine (snap_line_at r q (Some generation) (at.Root (rooting.Completing (record { offer = offer; at = place })))) → ⊥
+    rooted offer complete.Reading h = told_on q.access generation q.at h
+    rooted offer (complete.Swap main) h = h
+snap_told r q generation at.Read asks = told_on q.access generation q.at asks
+snap_told r q generation (at.Make (making.Successor main)) asks = asks
+snap_told r q generation (at.Make (making.Second main successor)) asks = asks
+snap_told r q generation (at.Make (making.Empty main)) asks = asks
+snap_told r q generation (at.Make (making.Cleared main branch)) asks = asks
+snap_told r q generation (at.Offer offer) asks = asks
+snap_told r q generation (at.Complete c) asks = completed c.offer c.at asks
+  where
+    completed : (offer : Descriptor) (place : CompleteAt) → IsAskingLine (snap_line_at r q (Some generation) (at.Complete (record { offer = offer; at = place }))) → ⊥
+    completed offer complete.Reading h = told_on q.access generation q.at h
+    completed offer (complete.Swap main) h = h
+
+walk_told : (q : Read) (generation : ℕ) (todo : List Ref) (pairs : List (ℕ × ℕ)) (place : WalkAt) → IsAskingLine (walk_line_at q (Some generation) todo pairs place) → ⊥
+walk_told q generation todo pairs walk.Root asks = asks
+walk_told q generation todo pairs walk.Read asks = told_on q.access generation q.at asks
+walk_told q generation todo pairs (walk.Main main) asks = asks
+walk_told q generation todo pairs walk.Entry asks = asks
+
+pub snap_untold : (q : Read) (told : Option ℕ) (s : ASnap) → IsAskingLine (snap_line q told s) → told ≡ None
+snap_untold q None s asks = refl
+snap_untold q (Some generation) s asks = absurd (snap_told s.root q generation s.at asks)
+
+pub walk_untold : (q : Read) (told : Option ℕ) (w : Walk) → IsAskingLine (walk_line q told w) → told ≡ None
+walk_untold q None w asks = refl
+walk_untold q (Some generation) w asks = absurd (walk_told q generation w.todo w.pairs w.at asks)

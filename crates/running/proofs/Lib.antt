@@ -1,4 +1,6 @@
--- Giving: what an operation's READ gives and commits by a step. Asks: ABORT's steps inside of any program.
+-- Giving: what an operation's READ gives and commits by a step. Lasting: lines of the programs, and what is told to them.
+-- Asks: ABORT's steps inside of any program. Going: steps of the programs.
 pub mod Giving
-pub mod Asks
 pub mod Lasting
+pub mod Asks
+pub mod Going
