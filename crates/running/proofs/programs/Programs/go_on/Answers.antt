@@ -1,7 +1,7 @@
 use Rattle.running.proofs.programs.Programs.go_on.Goals as goal
 
 pub returns-in-Told-clause-does : goal.returns-in-Told-clause-does
-returns-in-Told-clause-does c = rw c.in-Told.is c.run-in-Told.ensures.does
+returns-in-Told-clause-does c = rw c.in-Told.is (rw c.in-Told.is at c.run-in-Told.ensures.does)
 
 pub returns-in-Met-clause-does : goal.returns-in-Met-clause-does
-returns-in-Met-clause-does c = rw c.in-Met.is c.ask.ensures.does
+returns-in-Met-clause-does c = rw c.in-Met.is (rw c.in-Met.is at c.ask.ensures.does)

@@ -21,7 +21,7 @@ returns-in-AskRoot-clause-does c =
     let asking : IsAskingLine (snap_line p.work.swap.read c.args.told p.snap) = (rw c.in-AskRoot.is at c.in_ok-kind.ensures.follows) no_state no_operation in
     let same = (rw c.in-AskRoot.is at c.in_ok-kind.ensures.asks) (tt {0}) in
     let untold : c.args.told ≡ None = snap_untold p.work.swap.read c.args.told p.snap asking in
-    rw untold (rw (same.0, same.1, same.2, same.3, same.4) at c.ask.ensures.does)
+    rw (untold, same.3) (rw (same.0, same.1, same.2, same.3, same.4) at c.ask.ensures.does)
 
 pub returns-in-More-clause-does : goal.returns-in-More-clause-does
 returns-in-More-clause-does c =
