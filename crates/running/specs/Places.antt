@@ -31,7 +31,7 @@ use Rattle.running.specs.declared.job.Program.{Program}
 use Rattle.running.specs.declared.job.Program.TheVariants.{Snap, Entries, Count, Close}
 use Rattle.running.specs.declared.programs.Programs.{Programs}
 use Rattle.running.specs.declared.programs.Stage.{Stage}
-use Rattle.running.specs.declared.programs.Stage.TheVariants.{Runs, Swapped, Walked, Impossible}
+use Rattle.running.specs.declared.programs.Stage.TheVariants.{Runs, Swapped, Listed, Counted, Impossible}
 
 -- ---- the call
 
@@ -68,15 +68,11 @@ program_line p told Entries = walk_line p.work.swap.read told p.entries.walk
 program_line p told Count = walk_line p.work.swap.read told p.count.walk
 program_line p told Close = line.End reply.Closed
 
--- the reply to a walk that has met all pairs
-abbrev pub met_all : Programs → Program → Reply
-met_all p Count = walked_reply (calls.Count 0) p.count.walk.pairs
-met_all p program = walked_reply (calls.Entries 0) p.entries.walk.pairs
-
 abbrev pub stage_line : Programs → Option ℕ → Program → Stage → Line
 stage_line p told program Runs = program_line p told program
 stage_line p told program (Swapped answer) = line_behind answer
-stage_line p told program Walked = line.End (met_all p program)
+stage_line p told program Listed = line.End (walked_reply (calls.Entries 0) p.entries.walk.pairs)
+stage_line p told program Counted = line.End (walked_reply (calls.Count 0) p.count.walk.pairs)
 stage_line p told program Impossible = impossible
 
 -- a READ that has met this offer while it asked takes it back
@@ -101,3 +97,14 @@ IsWaiting (Told generation) l = IsAskingLine l
 
 abbrev pub IsSound : Program → Programs → Type 0
 IsSound program p = IsWaiting p.asking (stage_line p None program p.stage)
+
+-- ---- the reply
+
+-- the reply with which an operation on this line ends next, if it does
+abbrev pub answer_of : Line → Option Reply
+answer_of (line.End answer) = Some answer
+answer_of l = None
+
+abbrev pub at_once : Program → Option Reply
+at_once Close = Some reply.Closed
+at_once program = None

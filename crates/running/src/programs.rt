@@ -5,19 +5,18 @@ ghost use Rattle.machine_model.specs.Operations.{first_line};
 ghost use Rattle.trie_parts.specs.Steps.{IsAskingLine};
 ghost use Rattle.rdcss_root.specs.Programs.{CanAbortOn};
 ghost use Rattle.root_asking.specs.Asked.{IsUntold, abort_of};
-ghost use Rattle.history.specs.declared.calls.Call.TheVariants.{Entries as EntriesCall, Count as CountCall};
 ghost use Rattle.snapshot.specs.Copies.{CanSnap, IsReadyBeside, snap_line};
-ghost use Rattle.snapshot.specs.Walks.{CanWalk, behind_walk, walk_line};
-ghost use Rattle.running.specs.Places.{asking_line, call_for, line_for, program_line, stage_line, IsSound, IsWaiting};
+ghost use Rattle.snapshot.specs.Tasks.{reply_of};
+ghost use Rattle.snapshot.specs.Walks.{CanWalk, walk_line};
+ghost use Rattle.running.specs.Places.{answer_of, asking_line, at_once, call_for, line_for, program_line, IsSound, IsWaiting};
 ghost use Rattle.running.specs.Steps.{CanProgram, CanStep, Does, taken_so};
-ghost use Rattle.running.specs.declared.programs.Programs.{Programs as AllPrograms};
 
 use crate::job::{Job, Program};
 use crate::taken::Taken;
 use ctrie_base::{Kind, Refusal};
 use epochs::Heap;
 use gcas::{Next, Swap};
-use history::Access;
+use history::{Access, Reply};
 use rdcss_root::Roots;
 use root_asking::Asking;
 use slot_arena::Ref;
@@ -32,8 +31,10 @@ pub enum Stage {
     Runs,
     /// It swapped the root, or found no free slot: it ends with this reply.
     Swapped(SnapReply),
-    /// It met all pairs: it ends with what its walk has met.
-    Walked,
+    /// It met all pairs: it ends with these.
+    Listed,
+    /// It met all pairs: it ends with their number.
+    Counted,
     /// A node is of another kind than the program takes it for. No machine comes here.
     Impossible,
 }
@@ -105,8 +106,22 @@ impl Programs {
     {
         match &self.stage {
             Stage::Runs => self.go_on(job, program, roots, generations, heap),
-            Stage::Swapped(_) | Stage::Walked => Ok(Taken::of_kind(Kind::End)),
+            Stage::Swapped(_) | Stage::Listed | Stage::Counted => Ok(Taken::of_kind(Kind::End)),
             Stage::Impossible => Ok(Taken::of_kind(Kind::ReadRoot)),
+        }
+    }
+
+    /// The reply with which the operation ends by its next step, if it does. An error says that memory was refused.
+    pub fn reply(&self, program: Program) -> Result<Option<Reply>, Refusal>
+        ensures reply { IfOk result (λ found. found ≡ answer_of (line_for program self.now)) }
+        ensures only_memory { IfErr result (λ refusal. refusal ≡ Refusal.Memory) }
+    {
+        match &self.stage {
+            Stage::Runs => Ok(at_once(program)),
+            Stage::Swapped(reply) => Ok(Some(reply_of(*reply))),
+            Stage::Listed => Ok(Some(Reply::Pairs(self.entries.pairs()?))),
+            Stage::Counted => Ok(Some(Reply::Count(self.count.count()))),
+            Stage::Impossible => Ok(None),
         }
     }
 
@@ -224,7 +239,8 @@ impl Programs {
                 let program = Program::Entries;
                 Ok(self.ask(Asking::Unasked, job, program, roots, generation, heap))
             }
-            Next::Done(kind, walked) => Ok(self.come_to(stage_behind(walked), kind)),
+            Next::Done(kind, Walked::All) => Ok(self.come_to(Stage::Listed, kind)),
+            Next::Done(kind, Walked::Impossible) => Ok(self.come_to(Stage::Impossible, kind)),
         }
     }
 
@@ -252,7 +268,8 @@ impl Programs {
                 let program = Program::Count;
                 Ok(self.ask(Asking::Unasked, job, program, roots, generation, heap))
             }
-            Next::Done(kind, walked) => Ok(self.come_to(stage_behind(walked), kind)),
+            Next::Done(kind, Walked::All) => Ok(self.come_to(Stage::Counted, kind)),
+            Next::Done(kind, Walked::Impossible) => Ok(self.come_to(Stage::Impossible, kind)),
         }
     }
 
@@ -289,13 +306,23 @@ impl Programs {
     }
 }
 
-/// The stage behind a walk that came to this.
-fn stage_behind(walked: Walked) -> Stage
-    ensures entries { (p : AllPrograms) (handle : ℕ) → stage_line p None Program.Entries result ≡ behind_walk (EntriesCall handle) p.entries.walk.pairs walked }
-    ensures count { (p : AllPrograms) (handle : ℕ) → stage_line p None Program.Count result ≡ behind_walk (CountCall handle) p.count.walk.pairs walked }
+/// The reply of a call that is done as it begins.
+fn at_once(program: Program) -> Option<Reply>
+    ensures { result ≡ at_once program }
 {
-    match walked {
-        Walked::All => Stage::Walked,
-        Walked::Impossible => Stage::Impossible,
+    match program {
+        Program::Close => Some(Reply::Closed),
+        Program::Snap(_) | Program::Entries | Program::Count => None,
+    }
+}
+
+/// The reply to a call that swaps the root.
+fn reply_of(reply: SnapReply) -> Reply
+    ensures { result ≡ reply_of reply }
+{
+    match reply {
+        SnapReply::Opened(handle) => Reply::Opened(handle),
+        SnapReply::Cleared => Reply::Cleared,
+        SnapReply::NoSlots => Reply::NoSlots,
     }
 }

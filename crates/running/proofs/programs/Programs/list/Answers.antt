@@ -42,9 +42,9 @@ returns-in-More-clause-does c =
     refl
     )
 
-pub returns-in-Done-clause-does : goal.returns-in-Done-clause-does
-returns-in-Done-clause-does c =
-    rw (c.come_to-in-Done.ensures.taken, c.come_to-in-Done.ensures.same) (
+pub returns-in-Done-default-All-clause-does : goal.returns-in-Done-default-All-clause-does
+returns-in-Done-default-All-clause-does c =
+    rw (c.come_to-in-Done-default-All.ensures.taken, c.come_to-in-Done-default-All.ensures.same) (
     walks
     c.args.job
     Entries
@@ -53,8 +53,27 @@ returns-in-Done-clause-does c =
     c.step.new.heap
     c.args.self.now.entries.walk
     _
-    c.in-Done.kind
-    (λ state operation. rw (c.stage_behind.ensures.entries _ c.args.job.handle) ((rw c.in-Done.is at c.in_ok-kind.ensures.follows) state operation))
+    c.in-Done-default-All.kind
+    (rw (c.in-Done-default-All.is, c.in-Done-default-All.field-1-is) at c.in_ok-kind.ensures.follows)
+    c.in_ok-kind.ensures.acts
+    c.step.ensures.access
+    refl
+    refl
+    )
+
+pub returns-in-Done-default-Impossible-clause-does : goal.returns-in-Done-default-Impossible-clause-does
+returns-in-Done-default-Impossible-clause-does c =
+    rw (c.come_to-in-Done-default-Impossible.ensures.taken, c.come_to-in-Done-default-Impossible.ensures.same) (
+    walks
+    c.args.job
+    Entries
+    c.args.told
+    (record { memory = c.args.heap.now; table = c.args.roots.now; generation = c.args.generation; programs = c.args.self.now })
+    c.step.new.heap
+    c.args.self.now.entries.walk
+    _
+    c.in-Done-default-Impossible.kind
+    (rw (c.in-Done-default-Impossible.is, c.in-Done-default-Impossible.field-1-is) at c.in_ok-kind.ensures.follows)
     c.in_ok-kind.ensures.acts
     c.step.ensures.access
     refl
