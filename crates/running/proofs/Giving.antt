@@ -108,7 +108,6 @@ commits k place = refl
 -- ---- a step
 
 module _ (state : State) (operation : Operation) (l : Line) (k : Kind) (place : ReadAt) where
-
   committed_by_read : (o : Option Read) → ReadsAlong state.heap operation.access o k place → committed_in state o ≡ committed_if k (given_so place)
   committed_by_read None along = sym along ∙ commits k place
   committed_by_read (Some r) along = along.1 ∙ commits k place

@@ -52,13 +52,13 @@ pub snaps : (job : Job) (call : SnapCall) (told : Option ℕ) (before : Scene) (
     let after : Programs = record p { stage = stage; asking = Unasked; work = work; snap = snap } in
     let as_task : Operation → Operation = λ operation. for_task task p.snap.attempt (mark_of before.table task) p.work.swap.read.access operation in
     ((state : State) (operation : Operation) →
-        Leads (at_roots state before.memory.heap before.table) (as_task operation) l k (stage_line after None (Snap call) stage) work.swap.read.at) →
+    Leads (at_roots state before.memory.heap before.table) (as_task operation) l k (stage_line after None (Snap call) stage) work.swap.read.at) →
     ActsInAll before.memory before.table.roots p.work.private (with_generation before.generation (snap_action l)) memory table.roots work.private →
     table ≡ acted_table before.table job.handle job.actor (snap_action l) →
     generation ≡ drawn_by before.memory.heap before.generation (snap_action l) →
     snap.attempt ≡ attempt_after p.snap.attempt (snap_action l) →
     ((state : State) (operation : Operation) →
-        snap.generation ≡ generation_from (at_roots state before.memory.heap before.table) (record (as_task operation) { generation = p.snap.generation }) l) →
+    snap.generation ≡ generation_from (at_roots state before.memory.heap before.table) (record (as_task operation) { generation = p.snap.generation }) l) →
     work.swap.read.access ≡ p.work.swap.read.access →
     Does job (Snap call) l before (taken_so k work.swap.read.at) (record { memory = memory; table = table; generation = generation; programs = after })
 snaps job call told before memory table generation work snap k stage leads acts acted drawn attempt kept access =
@@ -116,7 +116,7 @@ pub walks : (job : Job) (program : Program) (told : Option ℕ) (before : Scene)
     let p = before.programs in
     let l = walk_line p.work.swap.read told w in
     ((state : State) (operation : Operation) →
-        Leads (at_roots state before.memory.heap before.table) (on_call (call_for job.handle program) p.work.swap.read.access operation) l k (stage_line after None program after.stage) after.work.swap.read.at) →
+    Leads (at_roots state before.memory.heap before.table) (on_call (call_for job.handle program) p.work.swap.read.access operation) l k (stage_line after None program after.stage) after.work.swap.read.at) →
     Acts before.memory p.work.private (snap_action l) memory after.work.private →
     after.work.swap.read.access ≡ p.work.swap.read.access → after.asking ≡ Unasked → after.snap ≡ p.snap →
     Does job program l before (taken_so k after.work.swap.read.at) (record { memory = memory; table = before.table; generation = before.generation; programs = after })

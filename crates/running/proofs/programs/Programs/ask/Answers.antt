@@ -5,19 +5,19 @@ pub returns : goal.returns
 returns c =
     record {
       does = rw c.of_kind.ensures (
-      steps
-      c.args.job
-      c.args.program
-      (record { memory = c.args.heap.now; table = c.args.roots.now; generation = c.args.generation; programs = c.args.self.now })
-      c.args.asking
-      c.step-kind.new.self
-      c.step-kind.new.heap
-      c.step-kind.new.roots
-      c.step-kind.result
-      c.requires.asks
-      c.requires.untold
-      c.step-kind.ensures.follows
-      c.step-kind.ensures.table
-      (c.step-kind.ensures.acts c.args.self.now.work.private)
-      );
+          steps
+          c.args.job
+          c.args.program
+          (record { memory = c.args.heap.now; table = c.args.roots.now; generation = c.args.generation; programs = c.args.self.now })
+          c.args.asking
+          c.step-kind.new.self
+          c.step-kind.new.heap
+          c.step-kind.new.roots
+          c.step-kind.result
+          c.requires.asks
+          c.requires.untold
+          c.step-kind.ensures.follows
+          c.step-kind.ensures.table
+          (c.step-kind.ensures.acts c.args.self.now.work.private)
+          );
     }
