@@ -1,0 +1,104 @@
+-- What a step of a call on one key comes to, does and asks.
+use Rattle.std.specs.Prelude.{◌≡◌, ℕ, List, Option, None}
+use Rattle.history.specs.declared.calls.Access.{Access}
+use Rattle.slot_arena.specs.declared.refs.Ref.{Ref}
+use Rattle.slot_arena.specs.Heaps.{Heap}
+use Rattle.epochs.specs.Memories.{Memory}
+use Rattle.machine_model.specs.declared.lines.Line.{Line}
+use Rattle.machine_model.specs.declared.lines.Line.TheVariants as line
+use Rattle.machine_model.specs.declared.operations.Operation.{Operation}
+use Rattle.machine_model.specs.declared.roots.Root.{Root}
+use Rattle.machine_model.specs.declared.roots.RootWord.{RootWord}
+use Rattle.machine_model.specs.Calls.{handle_of}
+use Rattle.machine_model.specs.Operations.{generation_from, line_action}
+use Rattle.machine_model.specs.Paths.{above}
+use Rattle.machine_model.specs.States.{State, word_at}
+use Rattle.gcas.specs.declared.next.Next.{Next}
+use Rattle.gcas.specs.declared.next.Next.TheVariants.{More, AskRoot, Done}
+use Rattle.gcas.specs.Reads.{CanReadOn}
+use Rattle.trie_parts.specs.declared.calls.Task.{Task}
+use Rattle.trie_parts.specs.Here.{at_heap}
+use Rattle.trie_parts.specs.Holding.{Acts}
+use Rattle.trie_parts.specs.Steps.{StepsOn}
+use Rattle.trie_parts.specs.Tasks.{for_task}
+use Rattle.rdcss_root.specs.Acts.{ActsInAll}
+use Rattle.rdcss_root.specs.Programs.{CanRootOn, rooted_at}
+use Rattle.rdcss_root.specs.Tables.{Table}
+use Rattle.key_change.specs.Steps.{CanChange}
+use Rattle.contract.specs.Cleaning.{CanClean}
+use Rattle.contract.specs.Climbing.{CanClimb}
+use Rattle.contract.specs.Renewing.{CanRenew}
+use Rattle.key_finding.specs.declared.calls.KeyReply.{KeyReply}
+use Rattle.key_finding.specs.Replies.{reply_of}
+use Rattle.operate.specs.declared.key_op.KeyOp.{KeyOp}
+use Rattle.operate.specs.declared.key_op.KeyAt.{KeyAt}
+use Rattle.operate.specs.declared.key_op.KeyAt.TheVariants as op
+use Rattle.operate.specs.declared.key_op.BelowAt.{BelowAt}
+use Rattle.operate.specs.declared.key_op.BelowAt.TheVariants as at
+use Rattle.operate.specs.Places.{key_line}
+
+-- the definition's line after one that has answered this
+abbrev pub line_behind : KeyReply → Line
+line_behind answer = line.End (reply_of answer)
+
+-- ---- what a step comes to, whatever else stands in the state and in the operation
+
+abbrev pub KeySteps : Heap → Task → Access → Line → KeyOp → Next KeyReply → Type 0
+KeySteps heap task access before after next =
+    (state : State) → (operation : Operation) → StepsOn (at_heap state heap task.hashes) (for_task task access operation) before (key_line after None) after.work.swap.read.at line_behind next
+
+-- the same for a step that may look at the root word
+abbrev pub RootSteps : Heap → RootWord → Task → Access → Line → KeyOp → Next KeyReply → Type 0
+RootSteps heap word task access before after next =
+    (state : State) → (operation : Operation) → word_at state (handle_of operation.call) ≡ word →
+        StepsOn (at_heap state heap task.hashes) (for_task task access operation) before (key_line after None) after.work.swap.read.at line_behind next
+
+-- the generation of the root that ROOT gave last, before a step from this line and behind it
+abbrev pub KeepsGeneration : Heap → RootWord → Task → Access → Line → Task → Next KeyReply → Type 0
+KeepsGeneration heap word task access before after (More k) =
+    (state : State) → (operation : Operation) → word_at state (handle_of operation.call) ≡ word →
+        after.generation ≡ generation_from (at_heap state heap task.hashes) (for_task task access operation) before
+KeepsGeneration heap word task access before after AskRoot = after.generation ≡ task.generation
+KeepsGeneration heap word task access before after (Done k answer) =
+    (state : State) → (operation : Operation) → word_at state (handle_of operation.call) ≡ word →
+        after.generation ≡ generation_from (at_heap state heap task.hashes) (for_task task access operation) before
+
+-- ---- what it does
+
+abbrev pub KeyActs : Memory → List Ref → Task → Access → Line → Memory → List Ref → Type 0
+KeyActs before private task access l after private' =
+    (state : State) → (operation : Operation) → Acts before private (line_action (at_heap state before.heap task.hashes) (for_task task access operation) l) after private'
+
+abbrev pub RootActs : Memory → List (Option Root) → List Ref → Task → Access → Line → Memory → List (Option Root) → List Ref → Type 0
+RootActs before roots private task access l after roots' private' =
+    (state : State) → (operation : Operation) →
+        ActsInAll before roots private (line_action (at_heap state before.heap task.hashes) (for_task task access operation) l) after roots' private'
+
+-- the table of root words behind a step: only ROOT changes it, where it completes an offer
+abbrev pub table_after : Table → ℕ → KeyAt → Table
+table_after table handle (op.Root r) = rooted_at table handle r
+table_after table handle (op.RootAgain single former r) = rooted_at table handle r
+table_after table handle (op.Below place) = table
+
+-- ---- what it asks of the heap and of the root words
+
+abbrev pub CanBelow : Heap → KeyOp → BelowAt → Type 0
+CanBelow heap o at.Read = CanReadOn heap o.work.swap.read
+CanBelow heap o (at.Main main) = Unit {0}
+CanBelow heap o (at.Entry main position) = Unit {0}
+CanBelow heap o (at.Listed main position) = Unit {0}
+CanBelow heap o (at.Change c) = CanChange heap o.task o.path o.work.swap c
+CanBelow heap o at.Renew = CanRenew heap o.work.swap o.renew
+CanBelow heap o at.Clean = CanClean heap (above o.path) o.work.swap o.clean
+CanBelow heap o (at.Climb c) = CanClimb heap o.task o.path o.work.swap c
+CanBelow heap o (at.End answer) = Unit {0}
+CanBelow heap o at.Impossible = Unit {0}
+
+abbrev pub CanKeyAt : Memory → Table → KeyOp → KeyAt → Type 0
+CanKeyAt memory table o (op.Root r) = CanRootOn memory table r o.work.swap.read
+CanKeyAt memory table o (op.RootAgain single former r) = CanRootOn memory table r o.work.swap.read
+CanKeyAt memory table o (op.Below place) = CanBelow memory.heap o place
+
+-- what is going to be changed, or referred to, is in use, and of its kind
+abbrev pub CanKey : Memory → Table → KeyOp → Type 0
+CanKey memory table o = CanKeyAt memory table o o.place
