@@ -20,7 +20,7 @@ use Rattle.key_change.specs.declared.change.Tried.TheVariants.{Changed}
 use Rattle.key_finding.specs.Replies.{reply_of}
 use Rattle.operate.specs.declared.key_op.KeyOp.{KeyOp}
 use Rattle.operate.specs.declared.key_op.KeyAt.{KeyAt}
-use Rattle.operate.specs.declared.key_op.KeyAt.TheVariants.{Root, RootAgain, Below}
+use Rattle.operate.specs.declared.key_op.KeyAt.TheVariants.{Root, RootAgain, Down}
 use Rattle.operate.specs.declared.key_op.BelowAt.{BelowAt}
 use Rattle.operate.specs.declared.key_op.BelowAt.TheVariants as at
 
@@ -39,7 +39,7 @@ below_line op told at.Impossible = impossible
 abbrev pub key_line_at : KeyOp → Option ℕ → KeyAt → Line
 key_line_at op told (Root r) = line.Root (root_of r op.work.swap.read told)
 key_line_at op told (RootAgain single former r) = line.Climb (climb.Root (record { path = op.path; single = single; former = former }) (root_of r op.work.swap.read told))
-key_line_at op told (Below place) = below_line op told place
+key_line_at op told (Down place) = below_line op told place
 
 -- the definition's line of a call whose READ was told this of the root's generation
 abbrev pub key_line : KeyOp → Option ℕ → Line

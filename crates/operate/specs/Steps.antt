@@ -33,8 +33,8 @@ use Rattle.key_finding.specs.Replies.{reply_of}
 use Rattle.operate.specs.declared.key_op.KeyOp.{KeyOp}
 use Rattle.operate.specs.declared.key_op.KeyAt.{KeyAt}
 use Rattle.operate.specs.declared.key_op.KeyAt.TheVariants as op
-use Rattle.operate.specs.declared.key_op.BelowAt.{BelowAt}
-use Rattle.operate.specs.declared.key_op.BelowAt.TheVariants as at
+use Rattle.operate.specs.declared.key_op.DownAt.{BelowAt}
+use Rattle.operate.specs.declared.key_op.DownAt.TheVariants as at
 use Rattle.operate.specs.Places.{key_line}
 
 -- the definition's line after one that has answered this
@@ -51,17 +51,17 @@ KeySteps heap task access before after next =
 abbrev pub RootSteps : Heap → RootWord → Task → Access → Line → KeyOp → Next KeyReply → Type 0
 RootSteps heap word task access before after next =
     (state : State) → (operation : Operation) → word_at state (handle_of operation.call) ≡ word →
-        StepsOn (at_heap state heap task.hashes) (for_task task access operation) before (key_line after None) after.work.swap.read.at line_behind next
+    StepsOn (at_heap state heap task.hashes) (for_task task access operation) before (key_line after None) after.work.swap.read.at line_behind next
 
 -- the generation of the root that ROOT gave last, before a step from this line and behind it
 abbrev pub KeepsGeneration : Heap → RootWord → Task → Access → Line → Task → Next KeyReply → Type 0
 KeepsGeneration heap word task access before after (More k) =
     (state : State) → (operation : Operation) → word_at state (handle_of operation.call) ≡ word →
-        after.generation ≡ generation_from (at_heap state heap task.hashes) (for_task task access operation) before
+    after.generation ≡ generation_from (at_heap state heap task.hashes) (for_task task access operation) before
 KeepsGeneration heap word task access before after AskRoot = after.generation ≡ task.generation
 KeepsGeneration heap word task access before after (Done k answer) =
     (state : State) → (operation : Operation) → word_at state (handle_of operation.call) ≡ word →
-        after.generation ≡ generation_from (at_heap state heap task.hashes) (for_task task access operation) before
+    after.generation ≡ generation_from (at_heap state heap task.hashes) (for_task task access operation) before
 
 -- ---- what it does
 
@@ -72,13 +72,13 @@ KeyActs before private task access l after private' =
 abbrev pub RootActs : Memory → List (Option Root) → List Ref → Task → Access → Line → Memory → List (Option Root) → List Ref → Type 0
 RootActs before roots private task access l after roots' private' =
     (state : State) → (operation : Operation) →
-        ActsInAll before roots private (line_action (at_heap state before.heap task.hashes) (for_task task access operation) l) after roots' private'
+    ActsInAll before roots private (line_action (at_heap state before.heap task.hashes) (for_task task access operation) l) after roots' private'
 
 -- the table of root words behind a step: only ROOT changes it, where it completes an offer
 abbrev pub table_after : Table → ℕ → KeyAt → Table
 table_after table handle (op.Root r) = rooted_at table handle r
 table_after table handle (op.RootAgain single former r) = rooted_at table handle r
-table_after table handle (op.Below place) = table
+table_after table handle (op.Down place) = table
 
 -- ---- what it asks of the heap and of the root words
 
@@ -97,7 +97,7 @@ CanBelow heap o at.Impossible = Unit {0}
 abbrev pub CanKeyAt : Memory → Table → KeyOp → KeyAt → Type 0
 CanKeyAt memory table o (op.Root r) = CanRootOn memory table r o.work.swap.read
 CanKeyAt memory table o (op.RootAgain single former r) = CanRootOn memory table r o.work.swap.read
-CanKeyAt memory table o (op.Below place) = CanBelow memory.heap o place
+CanKeyAt memory table o (op.Down place) = CanBelow memory.heap o place
 
 -- what is going to be changed, or referred to, is in use, and of its kind
 abbrev pub CanKey : Memory → Table → KeyOp → Type 0

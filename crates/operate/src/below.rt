@@ -4,6 +4,7 @@ ghost use Rattle.std.specs.Prelude.{◌≡◌, ℕ, List, Option, None, IfOk, If
 ghost use Rattle.ctrie_base.specs.declared.hashes.HashKind.{HashKind};
 ghost use Rattle.slot_arena.specs.Heaps.{node_at};
 ghost use Rattle.slot_arena.specs.declared.refs.Ref.{Ref as ARef};
+ghost use Rattle.machine_model.specs.Finding.{going_down};
 ghost use Rattle.machine_model.specs.Operations.{after_update};
 ghost use Rattle.machine_model.specs.Paths.{above, current};
 ghost use Rattle.machine_model.specs.Reading.{reading};
@@ -19,9 +20,9 @@ ghost use Rattle.trie_parts.specs.Here.{at_heap};
 ghost use Rattle.trie_parts.specs.Holding.{AreHeld};
 ghost use Rattle.key_change.specs.Lines.{line_of as change_line};
 ghost use Rattle.key_change.specs.Steps.{CanChange, line_behind as line_tried};
-ghost use Rattle.contract.specs.Cleaning.{clean_line, CanClean};
+ghost use Rattle.contract.specs.Cleaning.{clean_line, CanClean, line_behind as line_cleaned};
 ghost use Rattle.contract.specs.Climbing.{climb_line, CanClimb, line_behind as line_climbed};
-ghost use Rattle.contract.specs.Renewing.{renew_line, CanRenew};
+ghost use Rattle.contract.specs.Renewing.{renew_line, CanRenew, line_behind as line_renewed};
 ghost use Rattle.key_finding.specs.Lines.{line_found};
 ghost use Rattle.operate.specs.Places.{key_line, below_line, changed_line, former_of};
 ghost use Rattle.operate.specs.Steps.{KeySteps, KeyActs, CanBelow};
@@ -50,11 +51,11 @@ impl KeyOp {
         ensures follows { IfOk result (λ next. KeySteps heap.old.heap self.old.task self.old.work.swap.read.access (below_line self.old root_seen at.now) self.new next) }
         ensures acts { OnOk result (KeyActs heap.old self.old.work.private self.old.task self.old.work.swap.read.access (below_line self.old root_seen at.now) heap.new self.new.work.private) }
         ensures same { (self.new.task ≡ self.old.task) × (self.new.work.swap.read.access ≡ self.old.work.swap.read.access) }
-        ensures asks { IfOk result (λ next. IsAskingRoot next → (self.new ≡ record self.old { place = KeyAt.Below (at.now) }) × (heap.new ≡ heap.old)) }
+        ensures asks { IfOk result (λ next. IsAskingRoot next → (self.new ≡ record self.old { place = KeyAt.Down (at.now) }) × (heap.new ≡ heap.old)) }
         ensures err { OnErr result ((self.new ≡ self.old) × (heap.new ≡ heap.old)) }
         ensures only_memory { IfErr result (λ refusal. refusal ≡ Refusal.Memory) }
     {
-        self.place = KeyAt::Below(*at);
+        self.place = KeyAt::Down(*at);
         match at {
             BelowAt::Read => Ok(self.read(heap, root_seen)),
             BelowAt::Main { main } => self.look_at_main(heap, *main),
@@ -75,14 +76,14 @@ impl KeyOp {
         ensures follows { KeySteps heap.old.heap self.old.task self.old.work.swap.read.access (line.Key (key.Read self.old.path (read_of self.old.work.swap.read root_seen))) self.new result }
         ensures acts { KeyActs heap.old self.old.work.private self.old.task self.old.work.swap.read.access (line.Key (key.Read self.old.path (read_of self.old.work.swap.read root_seen))) heap.new self.new.work.private }
         ensures same { (self.new.task ≡ self.old.task) × (self.new.work.swap.read.access ≡ self.old.work.swap.read.access) }
-        ensures asks { IsAskingRoot result → (self.new ≡ record self.old { place = KeyAt.Below (BelowAt.Read) }) × (heap.new ≡ heap.old) }
+        ensures asks { IsAskingRoot result → (self.new ≡ record self.old { place = KeyAt.Down (BelowAt.Read) }) × (heap.new ≡ heap.old) }
     {
-        self.place = KeyAt::Below(BelowAt::Read);
+        self.place = KeyAt::Down(BelowAt::Read);
         match self.work.read(heap, root_seen) {
             Next::More(kind) => Next::More(kind),
             Next::AskRoot => Next::AskRoot,
             Next::Done(kind, main) => {
-                self.place = KeyAt::Below(BelowAt::Main { main });
+                self.place = KeyAt::Down(BelowAt::Main { main });
                 Next::More(kind)
             }
         }
@@ -96,33 +97,63 @@ impl KeyOp {
         ensures err { OnErr result (self.new ≡ self.old) }
         ensures only_memory { IfErr result (λ refusal. refusal ≡ Refusal.Memory) }
     {
-        let found = after_main(heap, self.task, self.work.swap.read.access, self.path.as_slice(), main);
+        let found = after_main(
+            heap,
+            self.task,
+            self.work.swap.read.access,
+            self.path.as_slice(),
+            main,
+        );
         self.follow(heap, main, found)?;
         Ok(Next::More(Kind::Look))
     }
 
     /// Looks at a branch's entry.
-    fn look_at_entry(&mut self, heap: &Heap, main: Ref, position: usize) -> Result<Next<KeyReply>, Refusal>
+    fn look_at_entry(
+        &mut self,
+        heap: &Heap,
+        main: Ref,
+        position: usize,
+    ) -> Result<Next<KeyReply>, Refusal>
         ensures follows { IfOk result (λ next. KeySteps heap.now.heap self.old.task self.old.work.swap.read.access (line.Key (key.Entry self.old.path main position)) self.new next) }
         ensures same { (self.new.task ≡ self.old.task) × (self.new.work.private ≡ self.old.work.private) × (self.new.work.swap.read.access ≡ self.old.work.swap.read.access) }
         ensures taken { IfOk result (λ next. IsAskingRoot next → ⊥) }
         ensures err { OnErr result (self.new ≡ self.old) }
         ensures only_memory { IfErr result (λ refusal. refusal ≡ Refusal.Memory) }
     {
-        let found = after_entry(heap, self.task, self.work.swap.read.access, self.path.as_slice(), main, position);
+        let found = after_entry(
+            heap,
+            self.task,
+            self.work.swap.read.access,
+            self.path.as_slice(),
+            main,
+            position,
+        );
         self.follow(heap, main, found)?;
         Ok(Next::More(Kind::Look))
     }
 
     /// Looks at a single of a list, or at a tomb's.
-    fn look_at_single(&mut self, heap: &Heap, main: Ref, position: usize) -> Result<Next<KeyReply>, Refusal>
+    fn look_at_single(
+        &mut self,
+        heap: &Heap,
+        main: Ref,
+        position: usize,
+    ) -> Result<Next<KeyReply>, Refusal>
         ensures follows { IfOk result (λ next. KeySteps heap.now.heap self.old.task self.old.work.swap.read.access (line.Key (key.Listed self.old.path main position)) self.new next) }
         ensures same { (self.new.task ≡ self.old.task) × (self.new.work.private ≡ self.old.work.private) × (self.new.work.swap.read.access ≡ self.old.work.swap.read.access) }
         ensures taken { IfOk result (λ next. IsAskingRoot next → ⊥) }
         ensures err { OnErr result (self.new ≡ self.old) }
         ensures only_memory { IfErr result (λ refusal. refusal ≡ Refusal.Memory) }
     {
-        let found = after_listed(heap, self.task, self.work.swap.read.access, self.path.as_slice(), main, position);
+        let found = after_listed(
+            heap,
+            self.task,
+            self.work.swap.read.access,
+            self.path.as_slice(),
+            main,
+            position,
+        );
         self.follow(heap, main, found)?;
         Ok(Next::More(Kind::Look))
     }
@@ -135,27 +166,48 @@ impl KeyOp {
         ensures only_memory { IfErr result (λ refusal. refusal ≡ Refusal.Memory) }
     {
         match found {
-            Found::Down { below } => {
-                self.path.push(below)?;
-                self.read_next(below);
-            }
+            Found::Down { below } => self.go_down(below),
             Found::Renew => {
                 self.renew.begin(heap, main);
-                self.place = KeyAt::Below(BelowAt::Renew);
+                self.place = KeyAt::Down(BelowAt::Renew);
+                Ok(())
             }
-            Found::Clean => self.clean_parent(),
+            Found::Clean => {
+                self.clean_parent();
+                Ok(())
+            }
             Found::Entry { position } => {
-                self.place = KeyAt::Below(BelowAt::Entry { main, position });
+                self.place = KeyAt::Down(BelowAt::Entry { main, position });
+                Ok(())
             }
             Found::Listed { position } => {
-                self.place = KeyAt::Below(BelowAt::Listed { main, position });
+                self.place = KeyAt::Down(BelowAt::Listed { main, position });
+                Ok(())
             }
             Found::Change(at) => {
-                self.place = KeyAt::Below(BelowAt::Change(Change { main, at }));
+                self.place = KeyAt::Down(BelowAt::Change(Change { main, at }));
+                Ok(())
             }
-            Found::End(reply) => self.place = KeyAt::Below(BelowAt::End(reply)),
-            Found::Impossible => self.place = KeyAt::Below(BelowAt::Impossible),
+            Found::End(reply) => {
+                self.place = KeyAt::Down(BelowAt::End(reply));
+                Ok(())
+            }
+            Found::Impossible => {
+                self.place = KeyAt::Down(BelowAt::Impossible);
+                Ok(())
+            }
         }
+    }
+
+    /// Reads the indirection below the current one next.
+    fn go_down(&mut self, below: Ref) -> Result<(), Refusal>
+        ensures ok { OnOk result (key_line self.new None ≡ going_down self.old.path below) }
+        ensures same { (self.new.task ≡ self.old.task) × (self.new.work.private ≡ self.old.work.private) × (self.new.work.swap.read.access ≡ self.old.work.swap.read.access) }
+        ensures err { OnErr result (self.new ≡ self.old) }
+        ensures only_memory { IfErr result (λ refusal. refusal ≡ Refusal.Memory) }
+    {
+        self.path.push(below)?;
+        self.read_next(below);
         Ok(())
     }
 
@@ -166,7 +218,7 @@ impl KeyOp {
     {
         let parent = current(above(self.path.as_slice()));
         self.clean.begin(&mut self.work, parent);
-        self.place = KeyAt::Below(BelowAt::Clean);
+        self.place = KeyAt::Down(BelowAt::Clean);
     }
 
     /// Takes a step of a change.
@@ -181,19 +233,25 @@ impl KeyOp {
         ensures follows { IfOk result (λ next. KeySteps heap.old.heap self.old.task self.old.work.swap.read.access (change_line self.old.path self.old.work.swap root_seen change) self.new next) }
         ensures acts { OnOk result (KeyActs heap.old self.old.work.private self.old.task self.old.work.swap.read.access (change_line self.old.path self.old.work.swap root_seen change) heap.new self.new.work.private) }
         ensures same { (self.new.task ≡ self.old.task) × (self.new.work.swap.read.access ≡ self.old.work.swap.read.access) }
-        ensures asks { IfOk result (λ next. IsAskingRoot next → (self.new ≡ record self.old { place = KeyAt.Below (BelowAt.Change change) }) × (heap.new ≡ heap.old)) }
+        ensures asks { IfOk result (λ next. IsAskingRoot next → (self.new ≡ record self.old { place = KeyAt.Down (BelowAt.Change change) }) × (heap.new ≡ heap.old)) }
         ensures err { OnErr result ((self.new ≡ self.old) × (heap.new ≡ heap.old)) }
         ensures only_memory { IfErr result (λ refusal. refusal ≡ Refusal.Memory) }
     {
         let mut change = change;
         let tomb = tomb_at(heap, self.work.swap.fresh);
-        match change.step(&mut self.work, heap, self.task, self.path.as_slice(), root_seen)? {
+        match change.step(
+            &mut self.work,
+            heap,
+            self.task,
+            self.path.as_slice(),
+            root_seen,
+        )? {
             Next::More(kind) => {
-                self.place = KeyAt::Below(BelowAt::Change(change));
+                self.place = KeyAt::Down(BelowAt::Change(change));
                 Ok(Next::More(kind))
             }
             Next::AskRoot => {
-                self.place = KeyAt::Below(BelowAt::Change(change));
+                self.place = KeyAt::Down(BelowAt::Change(change));
                 Ok(Next::AskRoot)
             }
             Next::Done(kind, tried) => {
@@ -214,8 +272,8 @@ impl KeyOp {
                 None => self.answer(former),
             },
             Tried::Lost => self.place = KeyAt::Root(ReadRoot::Read),
-            Tried::NoSlots => self.place = KeyAt::Below(BelowAt::End(KeyReply::NoSlots)),
-            Tried::Impossible => self.place = KeyAt::Below(BelowAt::Impossible),
+            Tried::NoSlots => self.place = KeyAt::Down(BelowAt::End(KeyReply::NoSlots)),
+            Tried::Impossible => self.place = KeyAt::Down(BelowAt::Impossible),
         }
     }
 
@@ -226,28 +284,40 @@ impl KeyOp {
         ensures follows { IfOk result (λ next. KeySteps heap.old.heap self.old.task self.old.work.swap.read.access (renew_line self.old.path self.old.work.swap root_seen self.old.renew) self.new next) }
         ensures acts { OnOk result (KeyActs heap.old self.old.work.private self.old.task self.old.work.swap.read.access (renew_line self.old.path self.old.work.swap root_seen self.old.renew) heap.new self.new.work.private) }
         ensures same { (self.new.task ≡ self.old.task) × (self.new.work.swap.read.access ≡ self.old.work.swap.read.access) }
-        ensures asks { IfOk result (λ next. IsAskingRoot next → (self.new ≡ record self.old { place = KeyAt.Below (BelowAt.Renew) }) × (heap.new ≡ heap.old)) }
+        ensures asks { IfOk result (λ next. IsAskingRoot next → (self.new ≡ record self.old { place = KeyAt.Down (BelowAt.Renew) }) × (heap.new ≡ heap.old)) }
         ensures err { OnErr result ((self.new ≡ self.old) × (heap.new ≡ heap.old)) }
         ensures only_memory { IfErr result (λ refusal. refusal ≡ Refusal.Memory) }
     {
-        self.place = KeyAt::Below(BelowAt::Renew);
-        match self.renew.step(&mut self.work, heap, self.task, self.path.as_slice(), root_seen)? {
+        self.place = KeyAt::Down(BelowAt::Renew);
+        match self.renew.step(
+            &mut self.work,
+            heap,
+            self.task,
+            self.path.as_slice(),
+            root_seen,
+        )? {
             Next::More(kind) => Ok(Next::More(kind)),
             Next::AskRoot => Ok(Next::AskRoot),
             Next::Done(kind, renewed) => {
-                match renewed {
-                    Renewed::Renewed => {
-                        let indirection = current(self.path.as_slice());
-                        self.read_next(indirection);
-                    }
-                    Renewed::Lost => self.place = KeyAt::Root(ReadRoot::Read),
-                    Renewed::NoSlots => {
-                        self.place = KeyAt::Below(BelowAt::End(KeyReply::NoSlots));
-                    }
-                    Renewed::Impossible => self.place = KeyAt::Below(BelowAt::Impossible),
-                }
+                self.after_renewing(renewed);
                 Ok(Next::More(kind))
             }
+        }
+    }
+
+    /// After a renewing.
+    fn after_renewing(&mut self, renewed: Renewed)
+        ensures line { key_line self.new None ≡ line_renewed self.old.path renewed }
+        ensures same { (self.new.task ≡ self.old.task) × (self.new.work.private ≡ self.old.work.private) × (self.new.work.swap.read.access ≡ self.old.work.swap.read.access) }
+    {
+        match renewed {
+            Renewed::Renewed => {
+                let indirection = current(self.path.as_slice());
+                self.read_next(indirection);
+            }
+            Renewed::Lost => self.place = KeyAt::Root(ReadRoot::Read),
+            Renewed::NoSlots => self.place = KeyAt::Down(BelowAt::End(KeyReply::NoSlots)),
+            Renewed::Impossible => self.place = KeyAt::Down(BelowAt::Impossible),
         }
     }
 
@@ -258,23 +328,34 @@ impl KeyOp {
         ensures follows { IfOk result (λ next. KeySteps heap.old.heap self.old.task self.old.work.swap.read.access (clean_line (above self.old.path) self.old.work.swap root_seen self.old.clean) self.new next) }
         ensures acts { OnOk result (KeyActs heap.old self.old.work.private self.old.task self.old.work.swap.read.access (clean_line (above self.old.path) self.old.work.swap root_seen self.old.clean) heap.new self.new.work.private) }
         ensures same { (self.new.task ≡ self.old.task) × (self.new.work.swap.read.access ≡ self.old.work.swap.read.access) }
-        ensures asks { IfOk result (λ next. IsAskingRoot next → (self.new ≡ record self.old { place = KeyAt.Below (BelowAt.Clean) }) × (heap.new ≡ heap.old)) }
+        ensures asks { IfOk result (λ next. IsAskingRoot next → (self.new ≡ record self.old { place = KeyAt.Down (BelowAt.Clean) }) × (heap.new ≡ heap.old)) }
         ensures err { OnErr result ((self.new ≡ self.old) × (heap.new ≡ heap.old)) }
         ensures only_memory { IfErr result (λ refusal. refusal ≡ Refusal.Memory) }
     {
-        self.place = KeyAt::Below(BelowAt::Clean);
+        self.place = KeyAt::Down(BelowAt::Clean);
         let parents = above(self.path.as_slice());
-        match self.clean.step(&mut self.work, heap, self.task, parents, root_seen)? {
+        match self
+            .clean
+            .step(&mut self.work, heap, self.task, parents, root_seen)?
+        {
             Next::More(kind) => Ok(Next::More(kind)),
             Next::AskRoot => Ok(Next::AskRoot),
             Next::Done(kind, cleaned) => {
-                self.place = match cleaned {
-                    Cleaned::Cleaned => KeyAt::Root(ReadRoot::Read),
-                    Cleaned::NoSlots => KeyAt::Below(BelowAt::End(KeyReply::NoSlots)),
-                    Cleaned::Impossible => KeyAt::Below(BelowAt::Impossible),
-                };
+                self.after_cleaning(cleaned);
                 Ok(Next::More(kind))
             }
+        }
+    }
+
+    /// After a cleaning.
+    fn after_cleaning(&mut self, cleaned: Cleaned)
+        ensures line { key_line self.new None ≡ line_cleaned cleaned }
+        ensures same { (self.new.task ≡ self.old.task) × (self.new.work ≡ self.old.work) }
+    {
+        match cleaned {
+            Cleaned::Cleaned => self.place = KeyAt::Root(ReadRoot::Read),
+            Cleaned::NoSlots => self.place = KeyAt::Down(BelowAt::End(KeyReply::NoSlots)),
+            Cleaned::Impossible => self.place = KeyAt::Down(BelowAt::Impossible),
         }
     }
 
@@ -290,19 +371,25 @@ impl KeyOp {
         ensures follows { IfOk result (λ next. KeySteps heap.old.heap self.old.task self.old.work.swap.read.access (climb_line self.old.path self.old.work.swap root_seen climb) self.new next) }
         ensures acts { OnOk result (KeyActs heap.old self.old.work.private self.old.task self.old.work.swap.read.access (climb_line self.old.path self.old.work.swap root_seen climb) heap.new self.new.work.private) }
         ensures same { (self.new.task ≡ self.old.task) × (self.new.work.swap.read.access ≡ self.old.work.swap.read.access) }
-        ensures asks { IfOk result (λ next. IsAskingRoot next → (self.new ≡ record self.old { place = KeyAt.Below (BelowAt.Climb climb) }) × (heap.new ≡ heap.old)) }
+        ensures asks { IfOk result (λ next. IsAskingRoot next → (self.new ≡ record self.old { place = KeyAt.Down (BelowAt.Climb climb) }) × (heap.new ≡ heap.old)) }
         ensures err { OnErr result ((self.new ≡ self.old) × (heap.new ≡ heap.old)) }
         ensures only_memory { IfErr result (λ refusal. refusal ≡ Refusal.Memory) }
     {
         let (single, former) = (climb.single, climb.former);
         let mut climb = climb;
-        match climb.step(&mut self.work, heap, self.task, self.path.as_slice(), root_seen)? {
+        match climb.step(
+            &mut self.work,
+            heap,
+            self.task,
+            self.path.as_slice(),
+            root_seen,
+        )? {
             Next::More(kind) => {
-                self.place = KeyAt::Below(BelowAt::Climb(climb));
+                self.place = KeyAt::Down(BelowAt::Climb(climb));
                 Ok(Next::More(kind))
             }
             Next::AskRoot => {
-                self.place = KeyAt::Below(BelowAt::Climb(climb));
+                self.place = KeyAt::Down(BelowAt::Climb(climb));
                 Ok(Next::AskRoot)
             }
             Next::Done(kind, climbed) => {
@@ -330,7 +417,7 @@ impl KeyOp {
                     root: ReadRoot::Read,
                 };
             }
-            Climbed::Impossible => self.place = KeyAt::Below(BelowAt::Impossible),
+            Climbed::Impossible => self.place = KeyAt::Down(BelowAt::Impossible),
         }
     }
 }

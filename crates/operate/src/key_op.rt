@@ -68,7 +68,7 @@ pub enum KeyAt {
         root: ReadRoot,
     },
     /// Below the root.
-    Below(BelowAt),
+    Down(BelowAt),
 }
 
 /// A call on one key, kept in place: an actor has one for all its calls.
@@ -104,7 +104,7 @@ impl KeyOp {
             },
             renew: Renew::new(alloc),
             clean: Clean::new(alloc),
-            place: KeyAt::Below(BelowAt::Impossible),
+            place: KeyAt::Down(BelowAt::Impossible),
         })
     }
 
@@ -153,11 +153,15 @@ impl KeyOp {
                 let root = *root;
                 Ok(self.find_root(root, roots, handle, heap, root_seen))
             }
-            KeyAt::RootAgain { single, former, root } => {
+            KeyAt::RootAgain {
+                single,
+                former,
+                root,
+            } => {
                 let (single, former, root) = (*single, *former, *root);
                 Ok(self.find_root_again(single, former, root, roots, handle, heap, root_seen))
             }
-            KeyAt::Below(at) => {
+            KeyAt::Down(at) => {
                 let at = *at;
                 self.go_on(&at, heap, root_seen)
             }
@@ -202,10 +206,10 @@ impl KeyOp {
 
     /// Reads this indirection next.
     pub(crate) fn read_next(&mut self, indirection: Ref)
-        ensures { self.new ≡ record self.old { work = record self.old.work { swap = record self.old.work.swap { read = begun self.old.work.swap.read.access indirection } }; place = KeyAt.Below BelowAt.Read } }
+        ensures { self.new ≡ record self.old { work = record self.old.work { swap = record self.old.work.swap { read = begun self.old.work.swap.read.access indirection } }; place = KeyAt.Down BelowAt.Read } }
     {
         self.work.swap.read.begin(indirection);
-        self.place = KeyAt::Below(BelowAt::Read);
+        self.place = KeyAt::Down(BelowAt::Read);
     }
 
     /// Takes a step of ROOT after a climb whose swap failed.
@@ -229,11 +233,19 @@ impl KeyOp {
         let mut root = root;
         match root.step(&mut self.work.swap.read, roots, handle, heap, root_seen) {
             Next::More(kind) => {
-                self.place = KeyAt::RootAgain { single, former, root };
+                self.place = KeyAt::RootAgain {
+                    single,
+                    former,
+                    root,
+                };
                 Next::More(kind)
             }
             Next::AskRoot => {
-                self.place = KeyAt::RootAgain { single, former, root };
+                self.place = KeyAt::RootAgain {
+                    single,
+                    former,
+                    root,
+                };
                 Next::AskRoot
             }
             Next::Done(kind, found) => {
@@ -252,7 +264,7 @@ impl KeyOp {
         ensures line { (access : AnAccess) (operation : Operation) → key_line self.new None ≡ climbed (for_task self.old.task access operation) former }
         ensures same { self.new ≡ record self.old { place = self.new.place } }
     {
-        self.place = KeyAt::Below(BelowAt::End(changed_reply(self.task.call, former)));
+        self.place = KeyAt::Down(BelowAt::End(changed_reply(self.task.call, former)));
     }
 
     /// The path's last indirection is tombed, with this single: climbs, if it has a parent.
@@ -261,11 +273,11 @@ impl KeyOp {
         ensures same { (self.new.task ≡ self.old.task) × (self.new.work.private ≡ self.old.work.private) × (self.new.work.swap.read.access ≡ self.old.work.swap.read.access) }
     {
         let path = self.path.as_slice();
-        if !is_below_root(path) {
+        if is_below_root(path) {
+            let climb = Climb::begin(&mut self.work, path, single, former);
+            self.place = KeyAt::Down(BelowAt::Climb(climb));
+        } else {
             self.answer(former);
-            return;
         }
-        let climb = Climb::begin(&mut self.work, path, single, former);
-        self.place = KeyAt::Below(BelowAt::Climb(climb));
     }
 }

@@ -1,0 +1,8 @@
+use Rattle.std.specs.Prelude.{◌≡◌, false}
+use Rattle.machine_model.specs.Paths.{is_below_root}
+use Rattle.operate.proofs.key_op.KeyOp.climb_on.Goals as goal
+
+pub returns-else-is_below_root-clause-line : goal.returns-else-is_below_root-clause-line
+returns-else-is_below_root-clause-line c =
+    let e : is_below_root c.args.self.now.path ≡ false = cc in
+    λ access operation. rw e (c.answer.ensures.line access operation)
