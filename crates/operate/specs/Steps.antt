@@ -33,8 +33,8 @@ use Rattle.key_finding.specs.Replies.{reply_of}
 use Rattle.operate.specs.declared.key_op.KeyOp.{KeyOp}
 use Rattle.operate.specs.declared.key_op.KeyAt.{KeyAt}
 use Rattle.operate.specs.declared.key_op.KeyAt.TheVariants as op
-use Rattle.operate.specs.declared.key_op.DownAt.{BelowAt}
-use Rattle.operate.specs.declared.key_op.DownAt.TheVariants as at
+use Rattle.operate.specs.declared.key_op.BelowAt.{BelowAt}
+use Rattle.operate.specs.declared.key_op.BelowAt.TheVariants as at
 use Rattle.operate.specs.Places.{key_line}
 
 -- the definition's line after one that has answered this

@@ -52,7 +52,7 @@ impl KeyOp {
         ensures acts { OnOk result (KeyActs heap.old self.old.work.private self.old.task self.old.work.swap.read.access (below_line self.old root_seen at.now) heap.new self.new.work.private) }
         ensures same { (self.new.task ≡ self.old.task) × (self.new.work.swap.read.access ≡ self.old.work.swap.read.access) }
         ensures asks { IfOk result (λ next. IsAskingRoot next → (self.new ≡ record self.old { place = KeyAt.Down (at.now) }) × (heap.new ≡ heap.old)) }
-        ensures err { OnErr result ((self.new ≡ self.old) × (heap.new ≡ heap.old)) }
+        ensures err { OnErr result ((self.new ≡ record self.old { place = KeyAt.Down (at.now) }) × (heap.new ≡ heap.old)) }
         ensures only_memory { IfErr result (λ refusal. refusal ≡ Refusal.Memory) }
     {
         self.place = KeyAt::Down(*at);
@@ -285,7 +285,7 @@ impl KeyOp {
         ensures acts { OnOk result (KeyActs heap.old self.old.work.private self.old.task self.old.work.swap.read.access (renew_line self.old.path self.old.work.swap root_seen self.old.renew) heap.new self.new.work.private) }
         ensures same { (self.new.task ≡ self.old.task) × (self.new.work.swap.read.access ≡ self.old.work.swap.read.access) }
         ensures asks { IfOk result (λ next. IsAskingRoot next → (self.new ≡ record self.old { place = KeyAt.Down (BelowAt.Renew) }) × (heap.new ≡ heap.old)) }
-        ensures err { OnErr result ((self.new ≡ self.old) × (heap.new ≡ heap.old)) }
+        ensures err { OnErr result ((self.new ≡ record self.old { place = KeyAt.Down (BelowAt.Renew) }) × (heap.new ≡ heap.old)) }
         ensures only_memory { IfErr result (λ refusal. refusal ≡ Refusal.Memory) }
     {
         self.place = KeyAt::Down(BelowAt::Renew);
@@ -329,7 +329,7 @@ impl KeyOp {
         ensures acts { OnOk result (KeyActs heap.old self.old.work.private self.old.task self.old.work.swap.read.access (clean_line (above self.old.path) self.old.work.swap root_seen self.old.clean) heap.new self.new.work.private) }
         ensures same { (self.new.task ≡ self.old.task) × (self.new.work.swap.read.access ≡ self.old.work.swap.read.access) }
         ensures asks { IfOk result (λ next. IsAskingRoot next → (self.new ≡ record self.old { place = KeyAt.Down (BelowAt.Clean) }) × (heap.new ≡ heap.old)) }
-        ensures err { OnErr result ((self.new ≡ self.old) × (heap.new ≡ heap.old)) }
+        ensures err { OnErr result ((self.new ≡ record self.old { place = KeyAt.Down (BelowAt.Clean) }) × (heap.new ≡ heap.old)) }
         ensures only_memory { IfErr result (λ refusal. refusal ≡ Refusal.Memory) }
     {
         self.place = KeyAt::Down(BelowAt::Clean);

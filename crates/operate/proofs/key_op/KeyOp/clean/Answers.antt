@@ -1,0 +1,10 @@
+use Rattle.operate.proofs.key_op.KeyOp.clean.Goals as goal
+
+pub returns-in-More-clause-follows : goal.returns-in-More-clause-follows
+returns-in-More-clause-follows c = rw (c.above-parents.ensures, c.as_slice.ensures, c.in-More.is) at c.in_ok-kind.ensures.follows
+
+pub returns-in-AskRoot-clause-follows : goal.returns-in-AskRoot-clause-follows
+returns-in-AskRoot-clause-follows c = rw (c.above-parents.ensures, c.as_slice.ensures, c.in-AskRoot.is) at c.in_ok-kind.ensures.follows
+
+pub returns-in-Done-clause-follows : goal.returns-in-Done-clause-follows
+returns-in-Done-clause-follows c = rw c.after_cleaning.ensures.line (rw (c.above-parents.ensures, c.as_slice.ensures, c.in-Done.is) at c.in_ok-kind.ensures.follows)
