@@ -19,7 +19,7 @@ ghost use Rattle.machine_model.specs.declared.lines.Line.TheVariants as line;
 ghost use Rattle.machine_model.specs.declared.lines.Purpose.TheVariants as purpose;
 ghost use Rattle.machine_model.specs.declared.operations.Operation.{Operation};
 ghost use Rattle.machine_model.specs.declared.repairs.ClimbLine.TheVariants as climb;
-ghost use Rattle.gcas.specs.Reads.{read_of, CanReadOn, IsAskingRoot};
+ghost use Rattle.gcas.specs.Reads.{begun, read_of, CanReadOn, IsAskingRoot};
 ghost use Rattle.gcas.specs.Swaps.{swap_of, CanSwapOn};
 ghost use Rattle.gcas.specs.declared.read.ReadAt.{ReadAt};
 ghost use Rattle.gcas.specs.declared.swap.Swap.{Swap as ASwap};
@@ -80,6 +80,7 @@ impl Climb {
     /// the operation has in hand.
     pub fn begin(work: &mut Work, path: &[Ref], single: Ref, former: Option<u64>) -> Climb
         ensures line { climb_line path.now work.new.swap None result ≡ line.Climb (climb.Read (record { path = path.now; single = single; former = former }) (reading (current (above path.now)))) }
+        ensures read { work.new.swap.read ≡ begun work.old.swap.read.access (current (above path.now)) }
         ensures same { (work.new.swap.read.access ≡ work.old.swap.read.access) × (work.new.private ≡ work.old.private) }
     {
         work.swap.read.begin(current(above(path)));

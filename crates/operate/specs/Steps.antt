@@ -1,5 +1,6 @@
 -- What a step of a call on one key comes to, does and asks.
 use Rattle.std.specs.Prelude.{◌≡◌, ℕ, List, Option, None}
+use Rattle.ctrie_base.specs.declared.kinds.Kind.{Kind}
 use Rattle.history.specs.declared.calls.Access.{Access}
 use Rattle.slot_arena.specs.declared.refs.Ref.{Ref}
 use Rattle.slot_arena.specs.Heaps.{Heap}
@@ -15,7 +16,8 @@ use Rattle.machine_model.specs.Paths.{above}
 use Rattle.machine_model.specs.States.{State, word_at}
 use Rattle.gcas.specs.declared.next.Next.{Next}
 use Rattle.gcas.specs.declared.next.Next.TheVariants.{More, AskRoot, Done}
-use Rattle.gcas.specs.Reads.{CanReadOn}
+use Rattle.gcas.specs.declared.read.ReadAt.{ReadAt}
+use Rattle.gcas.specs.Reads.{CanReadOn, committed_so}
 use Rattle.trie_parts.specs.declared.calls.Task.{Task}
 use Rattle.trie_parts.specs.Here.{at_heap}
 use Rattle.trie_parts.specs.Holding.{Acts}
@@ -62,6 +64,10 @@ KeepsGeneration heap word task access before after AskRoot = after.generation �
 KeepsGeneration heap word task access before after (Done k answer) =
     (state : State) → (operation : Operation) → word_at state (handle_of operation.call) ≡ word →
     after.generation ≡ generation_from (at_heap state heap task.hashes) (for_task task access operation) before
+
+-- a READ that stands there has committed nothing by a step, if one that stands here hasn't
+abbrev pub CommitsNoMore : ReadAt → ReadAt → Type 0
+CommitsNoMore place place' = (k : Kind) → committed_so k place ≡ None → committed_so k place' ≡ None
 
 -- ---- what it does
 

@@ -25,7 +25,7 @@ ghost use Rattle.contract.specs.Climbing.{climb_line, CanClimb, line_behind as l
 ghost use Rattle.contract.specs.Renewing.{renew_line, CanRenew, line_behind as line_renewed};
 ghost use Rattle.key_finding.specs.Lines.{line_found};
 ghost use Rattle.operate.specs.Places.{key_line, below_line, changed_line, former_of};
-ghost use Rattle.operate.specs.Steps.{KeySteps, KeyActs, CanBelow};
+ghost use Rattle.operate.specs.Steps.{CommitsNoMore, KeySteps, KeyActs, CanBelow};
 
 use crate::key_op::{BelowAt, KeyAt, KeyOp};
 use contract::{Cleaned, Climb, Climbed, Renewed};
@@ -265,6 +265,7 @@ impl KeyOp {
     fn after_try(&mut self, tried: Tried, tomb: Option<Ref>)
         ensures line { (state : State) (access : AnAccess) (operation : Operation) (fresh : ARef) → after_update (for_task self.old.task access operation) self.old.path (former_of tried) (node_at state.heap fresh) ≡ changed_line (for_task self.old.task access operation) self.old.path (former_of tried) tomb → key_line self.new None ≡ line_tried state (for_task self.old.task access operation) self.old.path fresh tried }
         ensures same { (self.new.task ≡ self.old.task) × (self.new.work.private ≡ self.old.work.private) × (self.new.work.swap.read.access ≡ self.old.work.swap.read.access) }
+        ensures reads { CommitsNoMore self.old.work.swap.read.at self.new.work.swap.read.at }
     {
         match tried {
             Tried::Changed { former } => match tomb {
@@ -309,6 +310,7 @@ impl KeyOp {
     fn after_renewing(&mut self, renewed: Renewed)
         ensures line { key_line self.new None ≡ line_renewed self.old.path renewed }
         ensures same { (self.new.task ≡ self.old.task) × (self.new.work.private ≡ self.old.work.private) × (self.new.work.swap.read.access ≡ self.old.work.swap.read.access) }
+        ensures reads { CommitsNoMore self.old.work.swap.read.at self.new.work.swap.read.at }
     {
         match renewed {
             Renewed::Renewed => {
@@ -403,6 +405,7 @@ impl KeyOp {
     fn after_climb(&mut self, climbed: Climbed, single: Ref, former: Option<u64>)
         ensures line { (access : AnAccess) (operation : Operation) → key_line self.new None ≡ line_climbed (for_task self.old.task access operation) (record { path = self.old.path; single = single; former = former }) climbed }
         ensures same { (self.new.task ≡ self.old.task) × (self.new.work.private ≡ self.old.work.private) × (self.new.work.swap.read.access ≡ self.old.work.swap.read.access) }
+        ensures reads { CommitsNoMore self.old.work.swap.read.at self.new.work.swap.read.at }
     {
         match climbed {
             Climbed::Higher { single } => {

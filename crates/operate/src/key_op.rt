@@ -16,7 +16,7 @@ ghost use Rattle.rdcss_root.specs.Acts.{ActsInAll};
 ghost use Rattle.rdcss_root.specs.Programs.{root_of, CanRootOn, rooted_at};
 ghost use Rattle.rdcss_root.specs.Tables.{word_in};
 ghost use Rattle.operate.specs.Places.{key_line};
-ghost use Rattle.operate.specs.Steps.{RootSteps, RootActs, KeepsGeneration, CanKey, table_after};
+ghost use Rattle.operate.specs.Steps.{RootSteps, RootActs, CommitsNoMore, KeepsGeneration, CanKey, table_after};
 
 use crate::path::Path;
 use contract::{Clean, Climb, Renew};
@@ -271,6 +271,7 @@ impl KeyOp {
     pub(crate) fn climb_on(&mut self, single: Ref, former: Option<u64>)
         ensures line { (access : AnAccess) (operation : Operation) → key_line self.new None ≡ climbing (for_task self.old.task access operation) (record { path = self.old.path; single = single; former = former }) }
         ensures same { (self.new.task ≡ self.old.task) × (self.new.work.private ≡ self.old.work.private) × (self.new.work.swap.read.access ≡ self.old.work.swap.read.access) }
+        ensures reads { CommitsNoMore self.old.work.swap.read.at self.new.work.swap.read.at }
     {
         let path = self.path.as_slice();
         if is_below_root(path) {

@@ -2,6 +2,7 @@ use Rattle.std.specs.Prelude.{◌≡◌, true, false, refl}
 use Rattle.std.proofs.Common.{◌∙◌, ap, sym}
 use Rattle.slot_arena.specs.Heaps.{generation_at}
 use Rattle.machine_model.specs.declared.reading.After.TheVariants.{Gives}
+use Rattle.machine_model.specs.declared.repairs.Climb.{Climb}
 use Rattle.machine_model.specs.Climbing.{climb_after_root}
 use Rattle.trie_parts.specs.Here.{at_heap}
 use Rattle.trie_parts.specs.Tasks.{for_task, is_begun_in}
@@ -18,7 +19,7 @@ returns-then-is_start-clause-follows c =
     let told = c.in-Done.ensures.follows in
     let found = c.in-Done.found in
     let before = root_of c.args.root me.work.swap.read c.args.root_seen in
-    let climb = record { path = me.path; single = c.args.single; former = c.args.former } in
+    let climb : Climb = record { path = me.path; single = c.args.single; former = c.args.former } in
     let same_heap : c.step.new.heap.heap ≡ heap = c.in-Done.ensures.heap ∙ rw told.2 refl in
     let gen : c.generation_at.result ≡ generation_at heap found = c.generation_at.ensures ∙ ap (λ h. generation_at h found) same_heap in
     let test : is_begun_in me.task (generation_at heap found) ≡ true = rw (← gen, ← c.is_start.ensures) c.if-is_start.true in
@@ -38,7 +39,7 @@ returns-else-is_start-clause-follows c =
     let told = c.in-Done.ensures.follows in
     let found = c.in-Done.found in
     let before = root_of c.args.root me.work.swap.read c.args.root_seen in
-    let climb = record { path = me.path; single = c.args.single; former = c.args.former } in
+    let climb : Climb = record { path = me.path; single = c.args.single; former = c.args.former } in
     let same_heap : c.step.new.heap.heap ≡ heap = c.in-Done.ensures.heap ∙ rw told.2 refl in
     let gen : c.generation_at.result ≡ generation_at heap found = c.generation_at.ensures ∙ ap (λ h. generation_at h found) same_heap in
     let test : is_begun_in me.task (generation_at heap found) ≡ false = rw (← gen, ← c.is_start.ensures) c.if-is_start.false in

@@ -1,3 +1,5 @@
+use Rattle.std.proofs.Common.{◌∙◌, sym}
+use Rattle.operate.proofs.Anew.{anew}
 use Rattle.operate.proofs.key_op.KeyOp.renew.Goals as goal
 
 pub returns-in-More-clause-follows : goal.returns-in-More-clause-follows
@@ -5,3 +7,10 @@ returns-in-More-clause-follows c = rw (c.as_slice.ensures, c.in-More.is) at c.in
 
 pub returns-in-AskRoot-clause-follows : goal.returns-in-AskRoot-clause-follows
 returns-in-AskRoot-clause-follows c = rw (c.as_slice.ensures, c.in-AskRoot.is) at c.in_ok-kind.ensures.follows
+
+pub returns-in-Done-clause-follows : goal.returns-in-Done-clause-follows
+returns-in-Done-clause-follows c =
+    let me = c.args.self.now in
+    λ state operation.
+      let leads = (rw (c.as_slice.ensures, c.in-Done.is) at c.in_ok-kind.ensures.follows) state operation in
+      (leads.0, leads.1 ∙ sym c.after_renewing.ensures.line, anew c.args.heap.now.heap me.work.swap.read.access _ c.in-Done.kind _ _ ((rw (c.as_slice.ensures, c.in-Done.is) at c.in_ok-kind.ensures.last) (tt {0})) c.after_renewing.ensures.reads leads.2)
