@@ -1,4 +1,4 @@
-//! The program `ctrie`: scripts for a map, run, and histories of a map, judged.
+//! The program `ctrie`: scripts for a map, run, and histories of a map, judged, explained and drawn.
 #![tactic(auto)]
 
 mod arguments;

@@ -1,10 +1,13 @@
 -- What a thread has done once it has performed one call more.
 use Rattle.std.proofs.Common.{◌≡◌, ℕ, ◌+◌, ◌<◌, ◌==◌, inl, inr, List, [], ◌∷◌, ◌++◌, take, get_or, length, Bool, true, false, if◌then◌else◌, refl, sym, ap, subst, ◌∙◌, append-nil}
 use Rattle.std.proofs.lemmas.List.{take_more, map-append}
+use Rattle.std.proofs.lemmas.List.Elements.{Contains-push, Contains-append_left}
 use Rattle.std.proofs.lemmas.Grind.{flat_map-append}
+use Rattle.std.specs.List.{Contains}
 use Rattle.history.specs.declared.calls.Call.{Call}
 use Rattle.history.specs.declared.calls.Call.TheVariants.{Get}
 use Rattle.ctrie_base.specs.declared.refusals.Refusal.{Refusal}
+use Rattle.ctrie_base.specs.declared.refusals.Refusal.TheVariants.{Spent}
 use Rattle.ctrie_commands.specs.Beneath.step_machine.specs.Machines.{Taken}
 use Rattle.lock_runner.specs.declared.accounts.Answer.{Answer}
 use Rattle.lock_runner.specs.Boards.{GoesOn}
@@ -13,7 +16,7 @@ use Rattle.lock_runner.proofs.Boards.{goes_on_same}
 use Rattle.script_text.specs.declared.thread_lines.ThreadLine.{ThreadLine}
 use Rattle.script_text.specs.declared.thread_lines.ThreadLine.TheVariants.{Do, Sweep}
 use Rattle.ctrie_commands.specs.declared.working.Worker.{Worker}
-use Rattle.ctrie_commands.specs.Working.{calls_in, calls_of, OnTheWay, Denies, Performed, None, Answered, Denied, answered_calls, HasPerformed, HasPerformedLine, HasPerformedAll}
+use Rattle.ctrie_commands.specs.Working.{calls_in, calls_of, OnTheWay, Denies, Performed, None, Answered, Denied, answered_calls, HasPerformed, HasPerformedLine, HasPerformedAll, HasEnded}
 use Rattle.ctrie_commands.proofs.Later.{on_the_way_later}
 
 calls_more : (actor : ℕ) (lines : List ThreadLine) (i : ℕ) (d : ThreadLine) → i < length lines →
@@ -39,11 +42,11 @@ module _ (actor : ℕ) (before after : Worker) (gone : HasGoneOn before.seat aft
   later calls so_far = performed_later actor before.seat.seen after.seat.seen calls (answered_calls before.seat.answers) before.denied.items gone.limits gone.steps so_far
 
   one_more : (calls : List Call) (call : Call) → So calls before → HasPerformed call before after → So (calls ++ call ∷ []) after
-  one_more calls call so_far (inl (answer, last, is, same)) =
+  one_more calls call so_far (inl (answer, last, is, same, idle)) =
       let answers : answered_calls after.seat.answers ≡ answered_calls before.seat.answers ++ call ∷ [] =
       ap answered_calls last ∙ map-append (λ (a : Answer). a.call) before.seat.answers (answer ∷ []) ∙ ap (λ c. answered_calls before.seat.answers ++ c ∷ []) is in
       rw (answers, same) (Answered calls (answered_calls before.seat.answers) before.denied.items call (later calls so_far))
-  one_more calls call so_far (inr (same, refusal, last, denies)) =
+  one_more calls call so_far (inr (same, refusal, last, denies, left)) =
       let why : OnTheWay (Denies actor call refusal) after.seat.seen =
       (after.seat.seen, refl, goes_on_same after.seat.seen.steps, subst (λ a. Denies a call refusal after.seat.seen) owns denies) in
       rw (last, same) (Denied calls (answered_calls before.seat.answers) before.denied.items call refusal (later calls so_far) why)
@@ -69,6 +72,17 @@ module _ (actor : ℕ) (before after : Worker) (gone : HasGoneOn before.seat aft
       subst (λ xs. So xs after) (sym (calls_more actor lines i d below))
       (line_more (calls_of actor (take i lines)) (get_or lines i d) (calls_in actor (get_or lines i d)) refl
       (subst (λ a. HasPerformedLine (calls_in a (get_or lines i d)) before after) is done) so_far)
+
+-- what runs after a line ran before it, or the machine has taken all its steps
+pub ended_more : (before after : Worker) (named : List Call) → HasPerformedLine named before after → HasEnded before → HasEnded after
+ended_more before after [] same (inl idle) = inl (same.2 ∙ idle)
+ended_more before after [] same (inr told) = inr (subst (λ xs. Contains xs Spent) (sym same.1) told)
+ended_more before after (call ∷ more) (inl done) so_far = inl done.4
+ended_more before after (call ∷ more) (inr (same, refusal, last, denies, inr spent)) so_far =
+    inr (subst (λ xs. Contains xs Spent) (sym last) (subst (λ r. Contains (before.denied.items ++ r ∷ []) Spent) (sym spent) (Contains-push before.denied.items Spent)))
+ended_more before after (call ∷ more) (inr (same, refusal, last, denies, inl left)) (inl idle) = inl (left ∙ idle)
+ended_more before after (call ∷ more) (inr (same, refusal, last, denies, inl left)) (inr told) =
+    inr (subst (λ xs. Contains xs Spent) (sym last) (Contains-append_left before.denied.items (refusal ∷ []) Spent told))
 
 pub performed_none : (actor : ℕ) (worker : Worker) → worker.seat.answers ≡ [] → worker.denied.items ≡ [] → HasPerformedAll actor [] worker
 performed_none actor worker answers denied = rw (answers, denied) None

@@ -1,15 +1,17 @@
 -- What the threads of groups of seats have done together.
-use Rattle.std.proofs.Common.{◌≡◌, ℕ, zero, suc, List, [], ◌∷◌, ◌++◌, map, length, refl, sym, ap, subst, ◌∙◌, arith}
-use Rattle.std.specs.Prelude.{Result, Ok, Err, IfOk, Some, slice_get, All}
+use Rattle.std.proofs.Common.{◌≡◌, zero, suc, List, [], ◌∷◌, ◌++◌, map, length, refl, sym, ap, subst, ◌∙◌, inl, inr, arith, append_assoc, append-nil, length-append}
+use Rattle.std.specs.Prelude.{ℕ, ◌↔◌, Bool, false, IsTrue, Result, Ok, Err, IfOk, Some, slice_get, All}
 use Rattle.std.specs.List.{flat_map, AllZip}
 use Rattle.std.specs.declared.alloc.AllocError.{AllocError}
 use Rattle.std.specs.Global.{Vec}
 use Rattle.std.proofs.lemmas.List.{map-append, flat_map_more, length-map}
-use Rattle.std.proofs.lemmas.List.Elements.{All-nil, All-cons, All-head, All-tail}
+use Rattle.std.proofs.lemmas.List.Elements.{All-nil, All-cons, All-head, All-tail, All-same, All-push}
 use Rattle.lock_runner.specs.Seats.{Seated}
+use Rattle.lock_runner.proofs.ActorHistory.Places.{get_push}
+use Rattle.lock_runner.proofs.Ends.{of_each}
 use Rattle.script_text.specs.Threads.Reading.{Reading}
 use Rattle.ctrie_commands.specs.declared.working.Worker.{Worker}
-use Rattle.ctrie_commands.specs.Working.{HasWorked, HaveWorked, all_seats, GroupsHaveWorked, AreJoined}
+use Rattle.ctrie_commands.specs.Working.{HasWork, IsGroup, HasWorked, HaveWorked, all_seats, GroupsHaveWorked, AreJoined}
 use Rattle.ctrie_commands.proofs.Ranks.{to_map}
 
 -- ---- the seats of groups
@@ -30,6 +32,50 @@ each_group P (group ∷ groups) all =
 
 pub all_grouped : (P : Seated → Type 0) (seats : List Seated) (groups : List (Vec Seated)) → seats ≡ all_seats groups → All P seats → All (λ group. All P group.items) groups
 all_grouped P seats groups are all = each_group P groups (subst (All P) are all)
+
+-- ---- one seat more
+
+-- it goes into the group that is begun
+pub joins_group : (groups : List (Vec Seated)) (before after yielded : List Seated) (seat : Seated) → all_seats groups ++ before ≡ yielded → after ≡ before ++ seat ∷ [] →
+    all_seats groups ++ after ≡ yielded ++ seat ∷ []
+joins_group groups before after yielded seat so_far longer =
+    ap (λ xs. all_seats groups ++ xs) longer ∙ sym (append_assoc (all_seats groups) before (seat ∷ [])) ∙ ap (λ ys. ys ++ seat ∷ []) so_far
+
+-- and is its last one
+pub ends_group : (groups after : List (Vec Seated)) (group : Vec Seated) (before new yielded : List Seated) (seat : Seated) → all_seats groups ++ before ≡ yielded →
+    group.items ≡ before ++ seat ∷ [] → after ≡ groups ++ group ∷ [] → new ≡ [] → all_seats after ++ new ≡ yielded ++ seat ∷ []
+ends_group groups after group before new yielded seat so_far longer is none =
+    ap (λ xs. all_seats after ++ xs) none ∙ append-nil (all_seats after) ∙ ap all_seats is ∙ sym (flat_map_more (λ (g : Vec Seated). g.items) [] groups group)
+    ∙ joins_group groups before group.items yielded seat so_far longer
+
+-- ---- who has something to do
+
+abbrev pub HasNone : Reading → Seated → Type 0
+HasNone script seat = ¬ HasWork script seat.actor
+
+abbrev pub AreGroups : Reading → List (Vec Seated) → Type 0
+AreGroups script groups = All (λ group. IsGroup script group.items) groups
+
+pub has_none : (script : Reading) (seat : Seated) (actor : ℕ) (found : Bool) → actor ≡ seat.actor → found ≡ false → (IsTrue found ↔ HasWork script actor) → HasNone script seat
+has_none script seat actor found is none tells work = grind (arith, tells.1 (subst (λ a. HasWork script a) (sym is) work), none)
+
+pub none_more : (script : Reading) (before after : List Seated) (seat : Seated) → All (HasNone script) before → HasNone script seat → after ≡ before ++ seat ∷ [] →
+    All (HasNone script) after
+none_more script before after seat all one is = All-same (HasNone script) after _ is (All-push (HasNone script) before seat all one)
+
+pub is_group : (script : Reading) (before seats : List Seated) (last : Seated) → All (HasNone script) before → seats ≡ before ++ last ∷ [] → IsGroup script seats
+is_group script before seats last none is k seat at below = elim (get_push before last k seat (ap (λ xs. slice_get xs k) (sym is) ∙ at)) [
+  | inl h ↦ of_each (HasNone script) before k seat none h
+  | inr h ↦ absurd (omega (arith, h.0, below, ap (λ xs. length xs) is, length-append before (last ∷ [])))
+]
+
+pub is_idle_group : (script : Reading) (seats : List Seated) → All (HasNone script) seats → IsGroup script seats
+is_idle_group script seats none k seat at below = of_each (HasNone script) seats k seat none at
+
+pub groups_more : (script : Reading) (groups after : List (Vec Seated)) (group : Vec Seated) → AreGroups script groups → IsGroup script group.items → after ≡ groups ++ group ∷ [] →
+    AreGroups script after
+groups_more script groups after group all one is =
+    All-same (λ (g : Vec Seated). IsGroup script g.items) after _ is (All-push (λ (g : Vec Seated). IsGroup script g.items) groups group all one)
 
 -- ---- their workers
 

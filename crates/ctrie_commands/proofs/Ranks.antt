@@ -9,20 +9,20 @@ use Rattle.std.proofs.lemmas.Option.{none-some, same_Some, slice_get-map, slice_
 use Rattle.std.proofs.lemmas.Slice.Zip.{AllZip-long, AllZip-left}
 use Rattle.machine_model.specs.declared.steps.Limits.{Limits}
 use Rattle.atomic_table.specs.Seated.{TableId}
-use Rattle.lock_runner.specs.Seats.{Room, Seated}
+use Rattle.lock_runner.specs.Seats.{Room, Seated, IsIdle}
 use Rattle.lock_runner.specs.Opening.{fresh_seat, fresh_seats, IsMade}
 use Rattle.script_text.specs.Threads.Reading.{Reading}
 use Rattle.ctrie_commands.specs.declared.working.Worker.{Worker}
 use Rattle.ctrie_commands.specs.Reports.{denied_lines}
-use Rattle.ctrie_commands.specs.Working.{IsUnused, HasPerformedAll, HasSweptAll, HasWorked, HaveWorked}
+use Rattle.ctrie_commands.specs.Working.{IsUnused, HasPerformedAll, HasSweptAll, HasEnded, HasWorked, HaveWorked}
 use Rattle.ctrie_commands.specs.Threads.{all_denied}
 
 -- the worker of actor k + 1
 pub record IsWorkerOf (script : Reading) (id : TableId) (k : ℕ) (worker : Worker) : Type 0 where
   pub runner : worker.seat.runner ≡ id
   pub actor : worker.seat.actor ≡ k + 1
-  pub calls : k < script.limits.actors → HasPerformedAll (k + 1) script.lines worker × (worker.seat.sweeps ≡ 0)
-  pub sweeps : k ≡ script.limits.actors → HasSweptAll script.lines worker × (worker.seat.answers ≡ [])
+  pub calls : k < script.limits.actors → HasPerformedAll (k + 1) script.lines worker × (worker.seat.sweeps ≡ 0) × HasEnded worker
+  pub sweeps : k ≡ script.limits.actors → HasSweptAll script.lines worker × (worker.seat.answers ≡ []) × IsIdle worker.seat
 
 pub record AreRanked (script : Reading) (id : TableId) (workers : List Worker) : Type 0 where
   pub number : length workers ≡ script.limits.actors + 1
@@ -43,7 +43,7 @@ fresh_at id limits from (suc n) (suc k) below =
 unused_from : (id : TableId) (limits : Limits) (from n : ℕ) → All IsUnused (fresh_seats id limits from n)
 unused_from id limits from zero = All-nil IsUnused
 unused_from id limits from (suc n) =
-    All-cons IsUnused (fresh_seat id limits from) (fresh_seats id limits (from + 1) n) (record { answers = refl; sweeps = refl; heard = refl }) (unused_from id limits (from + 1) n)
+    All-cons IsUnused (fresh_seat id limits from) (fresh_seats id limits (from + 1) n) (record { answers = refl; sweeps = refl; heard = refl; idle = refl }) (unused_from id limits (from + 1) n)
 
 pub made_unused : (limits : Limits) (number : ℕ) (runner : Room) (seats : List Seated) → IsMade limits number runner seats → All IsUnused seats
 made_unused limits number runner seats made = All-same IsUnused seats _ made.fresh (unused_from runner.id limits 1 number)

@@ -1,10 +1,14 @@
 -- The report of what threads did, from their workers and the record.
-use Rattle.std.proofs.Common.{◌≡◌, ℕ, zero, suc, ◌+◌, ◌-◌, ◌<◌, ◌≤◌, List, [], ◌∷◌, ◌++◌, map, length, refl, sym, ap, subst, ◌∙◌, arith}
+use Rattle.std.proofs.Common.{◌≡◌, ℕ, zero, suc, ◌+◌, ◌-◌, ◌<◌, ◌≤◌, List, [], ◌∷◌, ◌++◌, map, length, inl, inr, ◌⊎◌, refl, sym, ap, subst, ◌∙◌, arith}
 use Rattle.std.specs.Prelude.{Ok, Some, slice_get, All, sum_by}
 use Rattle.std.proofs.lemmas.List.Elements.{All-nil, All-cons, All-same, All-map}
 use Rattle.std.proofs.lemmas.List.{length-map}
+use Rattle.std.proofs.lemmas.Option.{none-some}
+use Rattle.std.specs.List.{Contains}
 use Rattle.ctrie_base.specs.declared.refusals.Refusal.{Refusal}
+use Rattle.ctrie_base.specs.declared.refusals.Refusal.TheVariants.{Spent}
 use Rattle.ctrie_base.specs.declared.hashes.HashKind.{HashKind}
+use Rattle.history.specs.Histories.{IsRunning}
 use Rattle.history_text.specs.Grammar.{EventFits}
 use Rattle.machine_model.specs.declared.steps.Limits.{Limits}
 use Rattle.lock_runner.specs.ActorHistory.Answers.{AreAnswersOf}
@@ -12,14 +16,14 @@ use Rattle.ctrie_commands.specs.Beneath.step_machine.specs.Machines.{Taken, stat
 use Rattle.ctrie_commands.specs.Beneath.step_machine.specs.Records.{IsRecordOf}
 use Rattle.ctrie_commands.specs.Beneath.step_machine.specs.declared.records.Record.{Record}
 use Rattle.lock_runner.specs.Boards.{sweeps_in}
-use Rattle.lock_runner.specs.Seats.{Room, Seated, IsSeatOf, AreSeatsOf}
+use Rattle.lock_runner.specs.Seats.{Room, Seated, IsIdle, IsSeatOf, AreSeatsOf}
 use Rattle.lock_runner.specs.Opening.{IsMade}
 use Rattle.lock_runner.specs.Finishing.{IsHere, IsMissing, IsGathered, IsFinished, recorded}
 use Rattle.script_text.specs.Threads.Reading.{Reading}
 use Rattle.ctrie_commands.specs.declared.working.Worker.{Worker}
 use Rattle.ctrie_commands.specs.Reports.{line, hash_text, event_lines, last_lines, record_report}
-use Rattle.ctrie_commands.specs.Working.{calls_of, Performed, answered_calls, Swept}
-use Rattle.ctrie_commands.specs.Threads.{with_sweeper, IsPerformedBy, IsSweptBy, IsCarriedOut, all_denied, thread_report, IsReportOf}
+use Rattle.ctrie_commands.specs.Working.{calls_of, Performed, answered_calls, HasEnded, Swept}
+use Rattle.ctrie_commands.specs.Threads.{with_sweeper, RunsNothing, IsPerformedBy, IsSweptBy, IsCarriedOut, all_denied, thread_report, IsReportOf}
 use Rattle.ctrie_commands.proofs.Legal.{record_text_legal}
 use Rattle.ctrie_commands.proofs.Advancing.{performed_later}
 use Rattle.ctrie_commands.proofs.Swept.{swept_later}
@@ -59,6 +63,18 @@ none_missing script limits runner made workers seats is ranks are (actor, low, h
 
 -- ---- what was done
 
+-- what the seat doesn't run its actor doesn't
+runs_nothing : (board : Taken) (seats : List Seated) (runner : Room) (k actor : ℕ) (seat : Seated) → IsGathered runner seats board → slice_get seats k ≡ Some seat →
+    seat.actor ≡ actor → IsIdle seat → RunsNothing actor board
+runs_nothing board seats runner k actor seat gathered at owns idle id runs =
+    let found = gathered.running k seat at id (subst (λ a. IsRunning (state_of board).events id a) (sym owns) runs) in
+    none-some found.0 (sym idle ∙ found.1)
+
+runs_unless : (board : Taken) (seats : List Seated) (runner : Room) (k actor : ℕ) (worker : Worker) → IsGathered runner seats board → slice_get seats k ≡ Some worker.seat →
+    worker.seat.actor ≡ actor → HasEnded worker → RunsNothing actor board ⊎ Contains worker.denied.items Spent
+runs_unless board seats runner k actor worker gathered at owns (inl idle) = inl (runs_nothing board seats runner k actor worker.seat gathered at owns idle)
+runs_unless board seats runner k actor worker gathered at owns (inr told) = inr told
+
 calls_done : (script : Reading) (runner : Room) (workers : List Worker) (seats : List Seated) (board : Taken) (k : ℕ) (denied : List Refusal) → AreRanked script runner.id workers →
     seats ≡ map (λ (w : Worker). w.seat) workers → IsGathered runner seats board → k < script.limits.actors →
     slice_get (map (λ (w : Worker). w.denied.items) workers) k ≡ Some denied → IsPerformedBy (k + 1) script board denied
@@ -72,6 +88,7 @@ calls_done script runner workers seats board k denied ranks are gathered below a
       performed_later (k + 1) worker.seat.seen board (calls_of (k + 1) script.lines) (answered_calls worker.seat.answers) denied (gathered.sizes k worker.seat seat)
           (gathered.steps k worker.seat seat)
           (subst (λ ds. Performed (k + 1) worker.seat.seen (calls_of (k + 1) script.lines) (answered_calls worker.seat.answers) ds) found.2 (rank.calls below).0),
+      subst (λ ds. RunsNothing (k + 1) board ⊎ Contains ds Spent) found.2 (runs_unless board seats runner k (k + 1) worker gathered seat rank.actor (rank.calls below).2),
     )
 
 sweeps_done : (script : Reading) (runner : Room) (workers : List Worker) (seats : List Seated) (board : Taken) (denied : List Refusal) → AreRanked script runner.id workers →
@@ -90,6 +107,7 @@ sweeps_done script runner workers seats board denied ranks are gathered at =
           (subst (λ a. AreAnswersOf a (state_of board).events worker.seat.answers) rank.actor (gathered.answers n worker.seat seat)),
       swept_later worker.seat.seen board script.lines (sweeps_in board) denied (gathered.sizes n worker.seat seat) (gathered.steps n worker.seat seat)
           (subst (λ m. Swept worker.seat.seen script.lines m denied) (sym all) (subst (λ ds. Swept worker.seat.seen script.lines worker.seat.sweeps ds) found.2 swept.0)),
+      runs_nothing board seats runner n (n + 1) worker.seat gathered seat rank.actor swept.2,
     )
 
 carried_out : (script : Reading) (runner : Room) (made : List Seated) (workers : List Worker) (seats : List Seated) (told : Record) →

@@ -1,7 +1,10 @@
 -- What a script for threads comes to.
-use Rattle.std.specs.Prelude.{◌≡◌, ℕ, ◌+◌, ◌<◌, ◌≤◌, true, List, [], ◌∷◌, ◌++◌, length, Option, Some, Ok, slice_get}
+use Rattle.std.specs.List.{Contains}
+use Rattle.std.specs.Prelude.{◌≡◌, ℕ, ◌+◌, ◌<◌, ◌⊎◌, true, List, [], ◌∷◌, ◌++◌, length, Option, Some, Ok, slice_get}
 use Rattle.ctrie_base.specs.declared.refusals.Refusal.{Refusal}
+use Rattle.ctrie_base.specs.declared.refusals.Refusal.TheVariants.{Spent}
 use Rattle.ctrie_base.specs.declared.hashes.HashKind.{HashKind}
+use Rattle.history.specs.Histories.{IsRunning}
 use Rattle.ctrie_commands.specs.Faults.{IsFault}
 use Rattle.ctrie_commands.specs.Written.{AppendsSuch, AppendsPartOf}
 use Rattle.machine_model.specs.declared.steps.Limits.{Limits}
@@ -22,16 +25,21 @@ use Rattle.ctrie_commands.specs.Working.{calls_of, Performed, answered_calls, Sw
 abbrev pub with_sweeper : Limits → Limits
 with_sweeper limits = record limits { actors = limits.actors + 1 }
 
--- the answers of the actor in the history are those of its calls in the lines, in their order, but for those that the definition denied
+-- each operation of the actor that has begun has ended
+abbrev pub RunsNothing : ℕ → Taken → Type 0
+RunsNothing actor board = (id : ℕ) → ¬ IsRunning (state_of board).events id actor
+
+-- The answers of the actor in the history are those of its calls in the lines, in their order, but for those that the definition denied. Nothing runs
+-- still, unless the machine has taken all its steps.
 abbrev pub IsPerformedBy : ℕ → Reading → Taken → List Refusal → Type 0
 IsPerformedBy actor script board denied =
     (answers : List Answer) × AreAnswersOf actor (state_of board).events answers
-    × Performed actor board (calls_of actor script.lines) (answered_calls answers) denied
+    × Performed actor board (calls_of actor script.lines) (answered_calls answers) denied × (RunsNothing actor board ⊎ Contains denied Spent)
 
 -- the actor performed nothing, and the steps of the sweep are those that the lines name, unless the definition denied one, for each line one at most
 abbrev pub IsSweptBy : ℕ → Reading → Taken → List Refusal → Type 0
 IsSweptBy actor script board denied =
-    AreAnswersOf actor (state_of board).events [] × Swept board script.lines (sweeps_in board) denied
+    AreAnswersOf actor (state_of board).events [] × Swept board script.lines (sweeps_in board) denied × RunsNothing actor board
 
 -- The machine has taken each of its steps. The denials of actor k + 1 stand at the place k, the sweep's behind all others.
 -- Each actor's calls were performed in the order of the lines, and the last actor took the steps of the sweep.

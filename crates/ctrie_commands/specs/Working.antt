@@ -1,6 +1,6 @@
 -- What a thread does with the lines of a script that are its actor's.
 use Rattle.std.specs.Prelude.{◌≡◌, ℕ, ◌+◌, ◌<◌, ◌≤◌, ◌==◌, ◌⊎◌, Bool, true, false, List, [], ◌∷◌, ◌++◌, map, length, slice_get, Some, Result, Ok, Err, All, sum_by, count_by, if◌then◌else◌}
-use Rattle.std.specs.List.{flat_map, AllZip}
+use Rattle.std.specs.List.{flat_map, AllZip, Contains}
 use Rattle.std.specs.declared.alloc.AllocError.{AllocError}
 use Rattle.std.specs.Global.{Vec}
 use Rattle.ctrie_base.specs.declared.refusals.Refusal.{Refusal}
@@ -11,7 +11,7 @@ use Rattle.machine_model.specs.Machine.{next}
 use Rattle.ctrie_commands.specs.Beneath.step_machine.specs.Machines.{Taken, state_of}
 use Rattle.lock_runner.specs.declared.accounts.Answer.{Answer}
 use Rattle.lock_runner.specs.Boards.{GoesOn}
-use Rattle.lock_runner.specs.Seats.{Seated}
+use Rattle.lock_runner.specs.Seats.{Seated, IsIdle}
 use Rattle.script_text.specs.declared.thread_lines.ThreadLine.{ThreadLine}
 use Rattle.script_text.specs.declared.thread_lines.ThreadLine.TheVariants.{Do, Sweep}
 use Rattle.script_text.specs.Threads.Reading.{Reading}
@@ -79,17 +79,24 @@ pub record IsUnused (seat : Seated) : Type 0 where
   pub answers : seat.answers ≡ []
   pub sweeps : seat.sweeps ≡ 0
   pub heard : seat.heard ≡ 0
+  pub idle : IsIdle seat
+
+-- a call that was denied has left nothing that runs, unless the machine has taken all its steps
+abbrev pub LeavesNothing : Refusal → Worker → Worker → Type 0
+LeavesNothing refusal before after = (after.seat.running ≡ before.seat.running) ⊎ (refusal ≡ Spent)
 
 -- one call more was performed
 abbrev pub HasPerformed : Call → Worker → Worker → Type 0
 HasPerformed call before after =
-    ((answer : Answer) × (after.seat.answers ≡ before.seat.answers ++ answer ∷ []) × (answer.call ≡ call) × (after.denied.items ≡ before.denied.items))
+    ((answer : Answer) × (after.seat.answers ≡ before.seat.answers ++ answer ∷ []) × (answer.call ≡ call) × (after.denied.items ≡ before.denied.items)
+    × IsIdle after.seat)
     ⊎ ((after.seat.answers ≡ before.seat.answers) × (refusal : Refusal) × (after.denied.items ≡ before.denied.items ++ refusal ∷ [])
-    × Denies after.seat.actor call refusal after.seat.seen)
+    × Denies after.seat.actor call refusal after.seat.seen × LeavesNothing refusal before after)
 
 -- the call that a line names, if it names one, was performed
 abbrev pub HasPerformedLine : List Call → Worker → Worker → Type 0
-HasPerformedLine [] before after = (after.seat.answers ≡ before.seat.answers) × (after.denied.items ≡ before.denied.items)
+HasPerformedLine [] before after =
+    (after.seat.answers ≡ before.seat.answers) × (after.denied.items ≡ before.denied.items) × (after.seat.running ≡ before.seat.running)
 HasPerformedLine (call ∷ more) before after = HasPerformed call before after
 
 -- so many steps of the sweep were taken, or it was denied
@@ -108,6 +115,10 @@ HasSweptLine (Sweep times) before after = HasSwept times before after
 abbrev pub HasPerformedAll : ℕ → List ThreadLine → Worker → Type 0
 HasPerformedAll actor lines worker = Performed actor worker.seat.seen (calls_of actor lines) (answered_calls worker.seat.answers) worker.denied.items
 
+-- nothing runs still, unless it was told that the machine has taken all its steps
+abbrev pub HasEnded : Worker → Type 0
+HasEnded worker = IsIdle worker.seat ⊎ Contains worker.denied.items Spent
+
 -- So many steps of the sweep were taken on the way to this board, and these denied: none but the ones that the lines name, and all of them unless one was
 -- denied, for each line one at most.
 pub record Swept (board : Taken) (lines : List ThreadLine) (number : ℕ) (denied : List Refusal) : Type 0 where
@@ -124,8 +135,8 @@ HasSweptAll lines worker = Swept worker.seat.seen lines worker.seat.sweeps worke
 pub record HasWorked (script : Reading) (seat : Seated) (worker : Worker) : Type 0 where
   pub runner : worker.seat.runner ≡ seat.runner
   pub actor : worker.seat.actor ≡ seat.actor
-  pub calls : seat.actor ≤ script.limits.actors → HasPerformedAll seat.actor script.lines worker × (worker.seat.sweeps ≡ 0)
-  pub sweeps : script.limits.actors < seat.actor → HasSweptAll script.lines worker × (worker.seat.answers ≡ [])
+  pub calls : seat.actor ≤ script.limits.actors → HasPerformedAll seat.actor script.lines worker × (worker.seat.sweeps ≡ 0) × HasEnded worker
+  pub sweeps : script.limits.actors < seat.actor → HasSweptAll script.lines worker × (worker.seat.answers ≡ []) × IsIdle worker.seat
 
 -- what was done with each of these seats, in their order
 abbrev pub HaveWorked : Reading → List Seated → List Worker → Type 0

@@ -3,7 +3,7 @@
 ghost use Rattle.std.specs.Prelude.{◌≡◌, OnOk, []};
 ghost use Rattle.lock_runner.specs.Seats.{IsSeatOf};
 ghost use Rattle.lock_runner.specs.Stepping.{HasGoneOn};
-ghost use Rattle.ctrie_commands.specs.Working.{calls_in, IsUnused, HasPerformed, HasPerformedLine, HasSwept, HasSweptLine, HasPerformedAll, HasSweptAll};
+ghost use Rattle.ctrie_commands.specs.Working.{calls_in, IsUnused, HasPerformed, HasPerformedLine, HasSwept, HasSweptLine, HasPerformedAll, HasSweptAll, HasEnded};
 
 use ctrie_base::Refusal;
 use history::Call;
@@ -36,6 +36,7 @@ impl Worker {
         ensures seat { HasGoneOn self.old.seat self.new.seat }
         ensures sweeps { self.new.seat.sweeps ≡ self.old.seat.sweeps }
         ensures done { OnOk result (HasPerformedAll self.old.seat.actor lines.now self.new) }
+        ensures ended { OnOk result (HasEnded self.new) }
     {
         for line in lines {
             self.perform_line(rt, runner, *line, between)?;
@@ -101,6 +102,7 @@ impl Worker {
         requires none { self.old.denied.items ≡ [] }
         ensures seat { HasGoneOn self.old.seat self.new.seat }
         ensures answers { self.new.seat.answers ≡ self.old.seat.answers }
+        ensures running { self.new.seat.running ≡ self.old.seat.running }
         ensures done { OnOk result (HasSweptAll lines.now self.new) }
     {
         for line in lines {
@@ -120,6 +122,7 @@ impl Worker {
         requires seat { IsSeatOf runner.now self.old.seat }
         ensures seat { HasGoneOn self.old.seat self.new.seat }
         ensures answers { self.new.seat.answers ≡ self.old.seat.answers }
+        ensures running { self.new.seat.running ≡ self.old.seat.running }
         ensures done { OnOk result (HasSweptLine line self.old self.new) }
     {
         match line {
@@ -139,6 +142,7 @@ impl Worker {
         requires seat { IsSeatOf runner.now self.old.seat }
         ensures seat { HasGoneOn self.old.seat self.new.seat }
         ensures answers { self.new.seat.answers ≡ self.old.seat.answers }
+        ensures running { self.new.seat.running ≡ self.old.seat.running }
         ensures done { OnOk result (HasSwept times self.old self.new) }
     {
         for _ in 0..times {

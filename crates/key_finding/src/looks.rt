@@ -96,7 +96,12 @@ pub fn after_entry(
 {
     let entry = entry_at(heap, main, position);
     match node_at(heap, entry) {
-        Some(Node::Indirection { generation, .. }) => at_indirection(task, access, *generation, entry),
+        Some(Node::Indirection { generation, .. }) => at_indirection(
+            task,
+            access,
+            *generation,
+            entry,
+        ),
         Some(Node::Single { key, value }) => {
             if *key == task.call.key() {
                 return found(heap, task.call, path, main, position, *value);
@@ -137,7 +142,9 @@ pub fn after_listed(
             }
             let singles = entry_count(heap, main);
             if position.saturating_add(1) < singles {
-                return Found::Listed { position: position + 1 };
+                return Found::Listed {
+                    position: position + 1,
+                };
             }
             absent_listed(task.call, singles)
         }
@@ -156,14 +163,7 @@ fn absent_listed(call: KeyCall, singles: usize) -> Found
 }
 
 /// Where the key stands at this position of the main node, with this value.
-fn found(
-    heap: &Heap,
-    call: KeyCall,
-    path: &[Ref],
-    main: Ref,
-    position: usize,
-    value: u64,
-) -> Found
+fn found(heap: &Heap, call: KeyCall, path: &[Ref], main: Ref, position: usize, value: u64) -> Found
     ensures { (state : State) (hashes : HashKind) (s : Swap) (handle : ℕ) → line_found (at_heap state heap.now.heap hashes) path.now s main result ≡ found_so (at_heap state heap.now.heap hashes) path.now main position value (when_found (call_of handle call) value) }
 {
     match when_found(call, value) {

@@ -4,6 +4,7 @@ pub mod Turns
 pub mod Sound
 pub mod Places
 pub mod Told
+pub mod Runs
 pub mod Steps
 pub mod Totals
 pub mod Counted

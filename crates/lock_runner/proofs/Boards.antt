@@ -1,13 +1,13 @@
 -- Boards that go on.
-use Rattle.std.specs.Prelude.{◌≡◌, ℕ, ◌+◌, ◌≤◌, List, [], ◌∷◌, ◌++◌, All, Result, Ok, Err, count_by, cond}
-use Rattle.std.proofs.Common.{refl, sym, ap, subst, ◌∙◌, inl, inr, append_assoc, append-nil, arith}
+use Rattle.std.specs.Prelude.{◌≡◌, ℕ, ◌+◌, ◌≤◌, List, [], ◌∷◌, ◌++◌, All, Ok, Err, count_by, cond}
+use Rattle.std.proofs.Common.{refl, sym, ap, ◌∙◌, inl, inr, append_assoc, append-nil, arith}
 use Rattle.std.proofs.lemmas.List.Sums.{sum_by-append}
 use Rattle.std.proofs.lemmas.List.Elements.{All-nil, All-cons, All-head, All-tail, All-append}
 use Rattle.machine_model.specs.declared.steps.Limits.{Limits}
 use Rattle.machine_model.specs.declared.steps.Step.{Step}
 use Rattle.machine_model.specs.declared.steps.Step.TheVariants as step
 use Rattle.machine_model.specs.States.{first_state}
-use Rattle.machine_model.specs.Machine.{Answer, next, next_state, state_after, run}
+use Rattle.machine_model.specs.Machine.{Answer, next, state_after, run}
 use Rattle.machine_model.proofs.Along.{run_push}
 use Rattle.step_machine.specs.Machines.{Taken, with_step}
 use Rattle.lock_runner.specs.ActorHistory.{account_of}

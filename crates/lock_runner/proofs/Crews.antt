@@ -65,6 +65,32 @@ each_moved terms board owner seat actor to [] stand others = tt
 each_moved terms board owner seat actor to (e ∷ es) stand others =
     (stand_with terms board owner (moved_to actor to owner) seat seat e stand.0 (moved_else actor to owner e.actor others.0 ∙ stand.0.owned), each_moved terms board owner seat actor to es stand.1 others.1)
 
+-- where other views show what is kept, by other owners
+module _ (terms : Terms) (s : State Taken View) (kept : IsKept terms s) (views : List View) (owner : ℕ → ℕ) where
+  abbrev HasHolder : Type 0
+  HasHolder = (kept.word ≡ 0 → ⊥) → (seat : ℕ) × (view : View) × (get_elem? views seat ≡ some view) × (view.inside ≡ kept.word)
+
+  abbrev HaveSeen : Type 0
+  HaveSeen =
+      (seat : ℕ) (view : View) → get_elem? views seat ≡ some view → (view.inside ≡ 0 → ⊥) → (view.inside ≡ kept.word) × HasSeen view.inside kept.board view.entries
+
+  abbrev HaveEntries : Type 0
+  HaveEntries = (seat : ℕ) (view : View) → get_elem? views seat ≡ some view → EachStands terms kept.board owner seat view.entries
+
+  kept_by : HasHolder → HaveSeen → HaveEntries → all_sweeps views ≡ all_sweeps s.views → IsKept terms (record { words = s.words; homes = s.homes; views = views })
+  kept_by holder insides entries sweeps = record {
+    word = kept.word;
+    board = kept.board;
+    owner = owner;
+    words = kept.words;
+    limits = kept.limits;
+    home = kept.home;
+    holder = holder;
+    insides = insides;
+    entries = entries;
+    sweeps = sweeps ∙ kept.sweeps;
+  }
+
 module _ (terms : Terms) (s : State Taken View) (kept : IsKept terms s) (id : ℕ) (e : Entry) (es : List Entry) (others : AreOthers e.actor es)
     (at_seat : get_elem? s.views id ≡ some (crew_view (e ∷ es))) where
   abbrev parts : List View
@@ -79,7 +105,7 @@ module _ (terms : Terms) (s : State Taken View) (kept : IsKept terms s) (id : �
   stand : EachStands terms kept.board kept.owner id (e ∷ es)
   stand = kept.entries id (crew_view (e ∷ es)) at_seat
 
-  cut_holder : (kept.word ≡ 0 → ⊥) → (seat : ℕ) × (view : View) × (get_elem? views seat ≡ some view) × (view.inside ≡ kept.word)
+  cut_holder : HasHolder terms s kept views owners
   cut_holder busy =
       let h = kept.holder busy in
       let apart : h.0 ≡ id → ⊥ = λ same. busy (sym h.3 ∙ ap (λ (v : View). v.inside) (some-injective _ _ (sym h.2 ∙ ap (λ n. get_elem? s.views n) same ∙ at_seat))) in
@@ -91,7 +117,7 @@ module _ (terms : Terms) (s : State Taken View) (kept : IsKept terms s) (id : �
     | inr h ↦ kept.insides seat view h.1 busy
   ]
 
-  cut_insides : (seat : ℕ) (view : View) → get_elem? views seat ≡ some view → (view.inside ≡ 0 → ⊥) → (view.inside ≡ kept.word) × HasSeen view.inside kept.board view.entries
+  cut_insides : HaveSeen terms s kept views owners
   cut_insides seat view at busy = elim (at_push parts (crew_view (e ∷ [])) view seat at) [
     | inl h ↦ cut_insides_old seat view h.1 busy
     | inr h ↦ absurd (busy (ap (λ (v : View). v.inside) (sym h.1)))
@@ -108,7 +134,7 @@ module _ (terms : Terms) (s : State Taken View) (kept : IsKept terms s) (id : �
     | inr h ↦ each_with terms kept.board kept.owner owners seat seat view.entries (kept.entries seat view h.1) (λ actor own. cut_else seat actor h.0 own)
   ]
 
-  cut_entries : (seat : ℕ) (view : View) → get_elem? views seat ≡ some view → EachStands terms kept.board owners seat view.entries
+  cut_entries : HaveEntries terms s kept views owners
   cut_entries seat view at = elim (at_push parts (crew_view (e ∷ [])) view seat at) [
     | inl h ↦ cut_entries_old seat view h.1
     | inr h ↦ subst (λ (v : View). EachStands terms kept.board owners seat v.entries) h.1
@@ -123,18 +149,7 @@ module _ (terms : Terms) (s : State Taken View) (kept : IsKept terms s) (id : �
       omega (arith, set, all, whole)
 
   cut_kept : IsKept terms (record { words = s.words; homes = s.homes; views = views })
-  cut_kept = record {
-    word = kept.word;
-    board = kept.board;
-    owner = owners;
-    words = kept.words;
-    limits = kept.limits;
-    home = kept.home;
-    holder = cut_holder;
-    insides = cut_insides;
-    entries = cut_entries;
-    sweeps = cut_sweeps ∙ kept.sweeps;
-  }
+  cut_kept = kept_by terms s kept views owners cut_holder cut_insides cut_entries cut_sweeps
 
 pub cut_allowed : (terms : Terms) (id : ℕ) (e : Entry) (es : List Entry) → AreOthers e.actor es → Splits (IsKept terms) id (crew_view (e ∷ es)) (crew_view es) (crew_view (e ∷ []))
 cut_allowed terms id e es others s kept at_seat = cut_kept terms s kept id e es others at_seat
@@ -179,14 +194,14 @@ module _ (terms : Terms) (s : State Taken View) (kept : IsKept terms s) (id othe
   outside_here : (seat : ℕ) (view : View) (n : ℕ) (entries : List Entry) → get_elem? s.views seat ≡ some view → get_elem? s.views n ≡ some (crew_view entries) → seat ≡ n → view.inside ≡ 0
   outside_here seat view n entries at there same = ap (λ (v : View). v.inside) (some-injective _ _ (sym at ∙ ap (λ k. get_elem? s.views k) same ∙ there))
 
-  join_holder : (kept.word ≡ 0 → ⊥) → (seat : ℕ) × (view : View) × (get_elem? joined seat ≡ some view) × (view.inside ≡ kept.word)
+  join_holder : HasHolder terms s kept joined owned
   join_holder busy =
       let h = kept.holder busy in
       let not_id : h.0 ≡ id → ⊥ = λ same. busy (sym h.3 ∙ outside_here h.0 h.1 id es h.2 at_seat same) in
       let not_other : h.0 ≡ other → ⊥ = λ same. busy (sym h.3 ∙ outside_here h.0 h.1 other fs h.2 was_other same) in
       (h.0, h.1, set_else grown other h.0 (crew_view []) not_other ∙ set_else s.views id h.0 (crew_view (es ++ fs)) not_id ∙ h.2, h.3)
 
-  join_insides : (seat : ℕ) (view : View) → get_elem? joined seat ≡ some view → (view.inside ≡ 0 → ⊥) → (view.inside ≡ kept.word) × HasSeen view.inside kept.board view.entries
+  join_insides : HaveSeen terms s kept joined owned
   join_insides seat view at busy = elim (joined_at seat view at) [
     | inl h ↦ absurd (busy (ap (λ (v : View). v.inside) (sym h.1)))
     | inr g ↦ elim g [
@@ -200,7 +215,7 @@ module _ (terms : Terms) (s : State Taken View) (kept : IsKept terms s) (id othe
       (each_with terms kept.board kept.owner owned id id es (kept.entries id (crew_view es) at_seat) (λ actor own. merged_else other id kept.owner actor id own (λ same. apart (sym same))))
       (each_with terms kept.board kept.owner owned other id fs (kept.entries other (crew_view fs) was_other) (λ actor own. merged_here other id kept.owner actor own))
 
-  join_entries : (seat : ℕ) (view : View) → get_elem? joined seat ≡ some view → EachStands terms kept.board owned seat view.entries
+  join_entries : HaveEntries terms s kept joined owned
   join_entries seat view at = elim (joined_at seat view at) [
     | inl h ↦ subst (λ (v : View). EachStands terms kept.board owned seat v.entries) h.1 (subst (λ n. EachStands terms kept.board owned n (es ++ fs)) (sym h.0) join_both)
     | inr g ↦ elim g [
@@ -217,18 +232,7 @@ module _ (terms : Terms) (s : State Taken View) (kept : IsKept terms s) (id othe
       omega (arith, set, out, all)
 
   join_kept : IsKept terms (record { words = s.words; homes = s.homes; views = joined })
-  join_kept = record {
-    word = kept.word;
-    board = kept.board;
-    owner = owned;
-    words = kept.words;
-    limits = kept.limits;
-    home = kept.home;
-    holder = join_holder;
-    insides = join_insides;
-    entries = join_entries;
-    sweeps = join_sweeps ∙ kept.sweeps;
-  }
+  join_kept = kept_by terms s kept joined owned join_holder join_insides join_entries join_sweeps
 
 pub join_allowed : (terms : Terms) (id other : ℕ) (es fs : List Entry) →
     Joins (IsKept terms) id (crew_view es) other (crew_view fs) (gathered (crew_view es) (crew_view fs)) (crew_view [])

@@ -1,5 +1,5 @@
 -- The end of a runner.
-use Rattle.std.specs.Prelude.{◌≡◌, ℕ, zero, suc, List, [], ◌∷◌, ◌++◌, map, Some, slice_get, slice_index_or, unwrap_or, All, sum_by, length, Result, Ok, Err, IfOk, OnOk, IfErr, Vec}
+use Rattle.std.specs.Prelude.{◌≡◌, ℕ, zero, suc, List, [], ◌∷◌, ◌++◌, map, Some, slice_get, slice_index_or, unwrap_or, All, sum_by, length, Ok, Err}
 use Rattle.std.proofs.Common.{refl, sym, ap, subst, ◌∙◌, inl, inr, append_assoc, arith}
 use Rattle.std.proofs.lemmas.List.{map-append}
 use Rattle.std.proofs.lemmas.List.Sums.{sum_by-cons}
@@ -12,9 +12,10 @@ use Rattle.step_machine.specs.declared.records.Record.{Record}
 use Rattle.step_machine.specs.Records.{IsRecordOf}
 use Rattle.step_machine.specs.Legality.{IsLegalRecord}
 use Rattle.lock_runner.specs.declared.finishing.Unfinished.TheVariants.{Memory}
-use Rattle.lock_runner.specs.ActorHistory.Answers.{AreAnswersOf}
+use Rattle.lock_runner.specs.ActorHistory.Answers.{AreAnswersOf, RunsNoOther}
 use Rattle.lock_runner.proofs.ActorHistory.Places.{get_push}
 use Rattle.lock_runner.proofs.ActorHistory.Told.{answers_are_those_of_the_history}
+use Rattle.lock_runner.proofs.ActorHistory.Runs.{runs_no_other}
 use Rattle.lock_runner.specs.declared.gate.Terms.{Terms}
 use Rattle.lock_runner.specs.declared.gate.Entry.{Entry}
 use Rattle.lock_runner.specs.declared.gate.View.{View}
@@ -98,16 +99,24 @@ swept_alike [] = refl
 swept_alike (s ∷ seats) =
     omega (arith, swept_alike seats, sum_by-cons (λ (x : Seated). x.sweeps) s seats, sum_by-cons (λ (e : Entry). e.sweeps) (entry s.actor s.seen s.sweeps) (entries_of seats))
 
+-- what the last board tells of a seat's actor is what the seat has
+last_account : (seats : List Seated) (board : Taken) → AreTold seats → HaveFollowed board (entries_of seats) → (k : ℕ) (seat : Seated) → slice_get seats k ≡ Some seat →
+    account_in seat.actor board ≡ record { answers = seat.answers; running = seat.running }
+last_account seats board told followed k seat e = same_account seat.actor seat.seen board (each_followed board seats followed k seat e) ∙ told k seat e
+
 from_closed : (runner : Room) (terms : Terms) (seats : List Seated) (board : Taken) → terms.limits ≡ runner.limits → AreTold seats → IsClosed terms (entries_of seats) board → IsGathered runner seats board
-from_closed runner terms seats board same told closed = record {
-  limits = closed.limits ∙ same;
-  sizes = λ k seat e. (each_followed board seats closed.followed k seat e).limits;
-  steps = λ k seat e. goes_on_without seat.actor seat.seen.steps board.steps (each_followed board seats closed.followed k seat e).steps;
-  answers = λ k seat e.
-      let account = same_account seat.actor seat.seen board (each_followed board seats closed.followed k seat e) ∙ told k seat e in
-      subst (λ xs. AreAnswersOf seat.actor (state_of board).events xs) (ap (λ a. a.answers) account) (answers_are_those_of_the_history board.limits board.steps seat.actor);
-  sweeps = sym closed.sweeps ∙ swept_alike seats;
-}
+from_closed runner terms seats board same told closed =
+    let account = last_account seats board told closed.followed in
+    record {
+      limits = closed.limits ∙ same;
+      sizes = λ k seat e. (each_followed board seats closed.followed k seat e).limits;
+      steps = λ k seat e. goes_on_without seat.actor seat.seen.steps board.steps (each_followed board seats closed.followed k seat e).steps;
+      answers = λ k seat e.
+          subst (λ xs. AreAnswersOf seat.actor (state_of board).events xs) (ap (λ a. a.answers) (account k seat e)) (answers_are_those_of_the_history board.limits board.steps seat.actor);
+      running = λ k seat e.
+          subst (λ r. RunsNoOther seat.actor (state_of board).events r) (ap (λ a. a.running) (account k seat e)) (runs_no_other board.limits board.steps seat.actor);
+      sweeps = sym closed.sweeps ∙ swept_alike seats;
+    }
 
 pub gathers : (runner : Room) (terms : Terms) (id : ℕ) (me : Me Taken View) (seats yielded : List Seated) (ws : List ℕ) (xs : List Taken) (machine : Taken) →
     terms.limits ≡ runner.limits → terms.seats ≡ runner.seats → yielded ≡ seats → me ≡ (crew_view (entries_of yielded), []) → AreTold yielded → AreHere runner.seats seats →

@@ -16,14 +16,11 @@ use Rattle.lock_runner.proofs.ActorHistory.Turns.{shown}
 use Rattle.lock_runner.proofs.ActorHistory.Sound.{told, sound_along}
 use Rattle.lock_runner.specs.Boards.{account_in}
 use Rattle.lock_runner.proofs.Growing.{run_limits}
+use Rattle.lock_runner.proofs.ActorHistory.Steps.{none_told}
 
 none_shown : (o : Option Operation) → shown o ≡ None → o ≡ None
 none_shown None e = refl
 none_shown (Some operation) e = absurd (none-some _ (sym e))
-
-none_told : (r : Option Running) → told r ≡ None → r ≡ None
-none_told None e = refl
-none_told (Some r) e = absurd (none-some _ (sym e))
 
 -- an account runs nothing exactly where the machine runs nothing of the actor
 idle_alike : (actor : ℕ) (board : Taken) → (operation_of (state_of board) actor ≡ None) ↔ ((account_in actor board).running ≡ None)

@@ -4,7 +4,7 @@ use Rattle.step_machine.specs.declared.records.Record.{Record}
 use Rattle.step_machine.specs.Machines.{Taken, state_of, AreTaken}
 use Rattle.step_machine.specs.Records.{IsRecordOf}
 use Rattle.step_machine.specs.Legality.{IsLegalRecord}
-use Rattle.lock_runner.specs.ActorHistory.Answers.{AreAnswersOf}
+use Rattle.lock_runner.specs.ActorHistory.Answers.{AreAnswersOf, RunsNoOther}
 use Rattle.lock_runner.specs.declared.finishing.Unfinished.{Unfinished}
 use Rattle.lock_runner.specs.declared.finishing.Unfinished.TheVariants.{Missing, Memory}
 use Rattle.lock_runner.specs.Boards.{sweeps_in, GoesOn}
@@ -26,12 +26,13 @@ abbrev pub all_swept : List Seated → ℕ
 all_swept seats = sum_by (λ seat. seat.sweeps) seats
 
 -- The machine has the runner's sizes and goes on from all that its seats have seen; what each was answered are all ended
--- operations of its actor; and its steps of the sweep are those of the seats.
+-- operations of its actor, which runs none but the seat's; and its steps of the sweep are those of the seats.
 pub record IsGathered (runner : Room) (seats : List Seated) (machine : Taken) : Type 0 where
   pub limits : machine.limits ≡ runner.limits
   pub sizes : (k : ℕ) (seat : Seated) → slice_get seats k ≡ Some seat → machine.limits ≡ seat.seen.limits
   pub steps : (k : ℕ) (seat : Seated) → slice_get seats k ≡ Some seat → GoesOn seat.seen.steps machine.steps
   pub answers : (k : ℕ) (seat : Seated) → slice_get seats k ≡ Some seat → AreAnswersOf seat.actor (state_of machine).events seat.answers
+  pub running : (k : ℕ) (seat : Seated) → slice_get seats k ≡ Some seat → RunsNoOther seat.actor (state_of machine).events seat.running
   pub sweeps : sweeps_in machine ≡ all_swept seats
 
 -- the machine that a record tells of

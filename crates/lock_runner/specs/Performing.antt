@@ -1,12 +1,12 @@
 -- What the calls of a runner promise.
-use Rattle.std.specs.Prelude.{◌≡◌, ◌≤◌, ◌⊎◌, [], ◌∷◌, ◌++◌, Some, None, Result, Ok, Err}
+use Rattle.std.specs.Prelude.{◌≡◌, ◌≤◌, ◌⊎◌, [], ◌∷◌, ◌++◌, Some, Result, Ok, Err}
 use denote.Ref.{Bor}
 use Rattle.history.specs.declared.calls.Call.{Call}
 use Rattle.history.specs.declared.replies.Reply.{Reply}
 use Rattle.lock_runner.specs.declared.accounts.Answer.{Answer}
 use Rattle.lock_runner.specs.declared.accounts.Running.{Running}
 use Rattle.lock_runner.specs.declared.seats.Stop.{Stop}
-use Rattle.lock_runner.specs.Seats.{Seated}
+use Rattle.lock_runner.specs.Seats.{Seated, IsIdle}
 use Rattle.lock_runner.specs.Stepping.{HasGoneOn, IsUntold, IsAnswered, HasTakenNone, Runs, IsNotBegun, IsNotTaken}
 
 -- ---- going on
@@ -20,7 +20,7 @@ CarriesOn (Err stop) before after = IsUntold before after × (after.running ≡ 
 -- operation runs still, and it is told why
 abbrev pub AnswersRunning : Result (Bor Reply) Stop → Seated → Seated → Type 0
 AnswersRunning (Ok reply) before after =
-    (operation : Running) × (before.running ≡ Some operation) × (after.running ≡ None)
+    (operation : Running) × (before.running ≡ Some operation) × IsIdle after
     × (answer : Answer) × (after.answers ≡ before.answers ++ answer ∷ []) × (answer.reply ≡ reply.now)
     × (answer.id ≡ operation.id) × (answer.call ≡ operation.call) × (answer.began ≡ operation.began)
 AnswersRunning (Err stop) before after = (after.answers ≡ before.answers) × (after.running ≡ before.running) × IsNotTaken stop after
@@ -34,7 +34,7 @@ Resumes result before after = HasGoneOn before after × (after.sweeps ≡ before
 pub record IsPerformed (asked : Call) (before after : Seated) : Type 0 where
   pub on : HasGoneOn before after
   pub sweeps : after.sweeps ≡ before.sweeps
-  pub idle : after.running ≡ None
+  pub idle : IsIdle after
   pub answer : Answer
   pub last : after.answers ≡ before.answers ++ answer ∷ []
   pub call : answer.call ≡ asked
@@ -53,7 +53,7 @@ CarriesOut (Err stop) before call after = IsUntold before after × HasStopped st
 -- had heard of. Or there is none more, and the call has stopped.
 abbrev pub AnswersCall : Result (Bor Reply) Stop → Seated → Call → Seated → Type 0
 AnswersCall (Ok reply) before call after =
-    (after.running ≡ None) × (answer : Answer) × (after.answers ≡ before.answers ++ answer ∷ []) × (answer.reply ≡ reply.now)
+    IsIdle after × (answer : Answer) × (after.answers ≡ before.answers ++ answer ∷ []) × (answer.reply ≡ reply.now)
     × (answer.call ≡ call) × (before.heard ≤ answer.began)
 AnswersCall (Err stop) before call after = (after.answers ≡ before.answers) × HasStopped stop before call after
 

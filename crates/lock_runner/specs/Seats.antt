@@ -1,5 +1,5 @@
 -- What contracts see of a runner and of a seat.
-use Rattle.std.specs.Prelude.{◌≡◌, ℕ, ◌≤◌, List, [], ◌∷◌, Option, All}
+use Rattle.std.specs.Prelude.{◌≡◌, ℕ, ◌≤◌, List, [], ◌∷◌, Option, None, All}
 use Rattle.ctrie_base.specs.declared.hashes.HashKind.TheVariants.{Low}
 use Rattle.machine_model.specs.declared.steps.Limits.{Limits}
 use Rattle.atomic_table.specs.Table.{Me}
@@ -39,6 +39,10 @@ IsSeatOf runner seat = seat.runner ≡ runner.id
 -- each of these is
 abbrev pub AreSeatsOf : Room → List Seated → Type 0
 AreSeatsOf runner seats = All (λ seat. IsSeatOf runner seat) seats
+
+-- its actor runs nothing
+abbrev pub IsIdle : Seated → Type 0
+IsIdle seat = seat.running ≡ None
 
 -- ---- what a seat keeps
 

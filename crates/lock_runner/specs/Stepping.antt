@@ -16,7 +16,7 @@ use Rattle.lock_runner.specs.declared.accounts.Running.{Running}
 use Rattle.lock_runner.specs.declared.seats.Stop.{Stop}
 use Rattle.lock_runner.specs.declared.seats.Stop.TheVariants.{Denied, Memory, Ahead}
 use Rattle.lock_runner.specs.Boards.{GoesOn, HasFollowed}
-use Rattle.lock_runner.specs.Seats.{Seated}
+use Rattle.lock_runner.specs.Seats.{Seated, IsIdle}
 use Rattle.lock_runner.specs.Holds.{events_in}
 
 -- the seat is the same one, and its runner's machine has gone on
@@ -76,7 +76,7 @@ pub record IsAnswered (operation : Running) (before after : Seated) : Type 0 whe
   pub on : HasGoneOn before after
   pub sweeps : after.sweeps ≡ before.sweeps
   pub ran : before.running ≡ Some operation
-  pub idle : after.running ≡ None
+  pub idle : IsIdle after
   pub answer : Answer
   pub last : after.answers ≡ before.answers ++ answer ∷ []
   pub id : answer.id ≡ operation.id
@@ -86,7 +86,7 @@ pub record IsAnswered (operation : Running) (before after : Seated) : Type 0 whe
 -- why no step was taken: without an operation the seat is idle, else the machine has taken all its steps, or memory was wanting
 abbrev pub IsNotTaken : Stop → Seated → Type 0
 IsNotTaken Ahead seat = ⊥
-IsNotTaken Memory seat = ¬ (seat.running ≡ None)
+IsNotTaken Memory seat = ¬ IsIdle seat
 IsNotTaken (Denied refusal) seat = IsDenied seat (step.Go seat.actor) refusal × MatchOption seat.running (refusal ≡ Idle) (λ operation. refusal ≡ Spent)
 
 abbrev pub Goes : Result Bool Stop → Seated → Seated → Type 0
@@ -94,7 +94,7 @@ Goes (Ok true) before after =
     (operation : Running) × (ended : IsAnswered operation before after)
     × HasTaken (step.Go before.actor) (outcome.Ended operation.id ended.answer.reply) before after
 Goes (Ok false) before after =
-    IsUntold before after × (after.running ≡ before.running) × ¬ (before.running ≡ None)
+    IsUntold before after × (after.running ≡ before.running) × ¬ IsIdle before
     × (kind : Kind) × HasTaken (step.Go before.actor) (outcome.Went kind) before after
 Goes (Err stop) before after = IsUntold before after × (after.running ≡ before.running) × HasTakenNone before after × IsNotTaken stop after
 

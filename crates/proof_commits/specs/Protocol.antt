@@ -18,7 +18,7 @@ pub data Stage : Type 0 where
   -- a READ of its own
   Reads : (indirection : Ref) (line : ReadLine) → Stage
   -- it made a main node, which stands nowhere yet
-  Holds : (fresh : Ref) → Stage
+  Builds : (fresh : Ref) → Stage
   -- a SWAP: about to swap the fresh node in, deciding it, about to see how it was decided
   Publishes : (indirection replaced fresh : Ref) → Stage
   Decides : (indirection replaced fresh : Ref) (line : ReadLine) → Stage
@@ -180,11 +180,11 @@ after_deciding i a f (Gives m) = Checks i a f
 
 -- a main word of what is made names what a READ gave, or the node that is held
 abbrev pub MayName : Words → ℕ → ℕ → Stage → Ref → Type 0
-MayName w t k s m = ((i : Ref) × Given w t k i m) ⊎ (s ≡ Holds m)
+MayName w t k s m = ((i : Ref) × Given w t k i m) ⊎ (s ≡ Builds m)
 
 -- what an actor may be about once it made this node; G says of an indirection and a main node that the node may be replaced there
 abbrev pub HasMade : (Ref → Ref → Type 0) → Ref → Stage → Type 0
-HasMade G n (Holds f) = f ≡ n
+HasMade G n (Builds f) = f ≡ n
 HasMade G n (Publishes i a f) = (f ≡ n) × G i a
 HasMade G n s = IsAtRest s
 

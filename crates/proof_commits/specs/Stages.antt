@@ -25,7 +25,7 @@ use Rattle.proof_commits.specs.Beneath.machine_model.specs.declared.walking.Walk
 use Rattle.proof_commits.specs.Beneath.machine_model.specs.declared.walking.WalkLine.TheVariants as walk
 use Rattle.proof_commits.specs.Beneath.machine_model.specs.declared.lines.Line.{Line}
 use Rattle.proof_commits.specs.Beneath.machine_model.specs.declared.lines.Line.TheVariants as line
-use Rattle.proof_commits.specs.Protocol.{Stage, Rests, Reads, Holds, Publishes, Decides, Checks}
+use Rattle.proof_commits.specs.Protocol.{Stage, Rests, Reads, Builds, Publishes, Decides, Checks}
 
 abbrev pub stage_of_complete : Descriptor → CompleteLine → Stage
 stage_of_complete offer (complete.Reading l) = Reads offer.root l
@@ -46,7 +46,7 @@ stage_of_key l = Rests
 
 -- the main node of two singles, and a branch over it, are held until an indirection names them
 abbrev pub stage_of_build : BuildLine → Stage
-stage_of_build (build.Link path main position below depth) = Holds below
+stage_of_build (build.Link path main position below depth) = Builds below
 stage_of_build l = Rests
 
 abbrev pub stage_of_renew : RenewLine → Stage
@@ -66,7 +66,7 @@ stage_of_climb l = Rests
 -- a clear's empty branch is held until the new root names it
 abbrev pub stage_of_copy : CopyLine → Stage
 stage_of_copy (copy.Read at r) = Reads r.indirection r.line
-stage_of_copy (copy.Cleared at main branch) = Holds branch
+stage_of_copy (copy.Cleared at main branch) = Builds branch
 stage_of_copy (copy.Complete c) = stage_of_complete c.offer c.line
 stage_of_copy l = Rests
 

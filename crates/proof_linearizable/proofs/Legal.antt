@@ -23,9 +23,10 @@ use Rattle.proof_linearizable.proofs.Alone.{acts_alone}
 abbrev shown : Limits → List Step → ℕ → ℕ → KeyMap
 shown limits steps = content (trie_of_run limits (states_of limits steps) (steps_of limits steps) (last_of limits steps))
 
-all_left : (xs ys : List Step) → KeysFit (xs ++ ys) → KeysFit xs
-all_left [] ys fit = All-nil FitsKey
-all_left (s ∷ xs) ys fit = All-cons FitsKey s xs (All-head FitsKey s (xs ++ ys) fit) (all_left xs ys (All-tail FitsKey s (xs ++ ys) fit))
+-- the keys of a beginning fit
+pub fit_in_front : (xs ys : List Step) → KeysFit (xs ++ ys) → KeysFit xs
+fit_in_front [] ys fit = All-nil FitsKey
+fit_in_front (s ∷ xs) ys fit = All-cons FitsKey s xs (All-head FitsKey s (xs ++ ys) fit) (fit_in_front xs ys (All-tail FitsKey s (xs ++ ys) fit))
 
 facts_of : (limits : Limits) (steps : List Step) → AreLimits limits → KeysFit steps → Facts limits (states_of limits steps) (last_of limits steps) (shown limits steps)
 facts_of limits steps ok fit =
@@ -37,6 +38,6 @@ every_order_is_legal limits steps ok fit = legal_by_facts limits steps (shown li
 
 pub alone_it_acts : AloneItActs
 alone_it_acts limits steps more id actor call opens answer ok fit alone =
-    let first : KeysFit steps = all_left steps more fit in
+    let first : KeysFit steps = fit_in_front steps more fit in
     acts_alone limits steps more ok id actor call opens answer alone (shown limits steps) (facts_of limits steps ok first) (shown limits (steps ++ more)) (facts_of limits (steps ++ more) ok fit)
     (every_order_is_legal limits steps ok first) (every_order_is_legal limits (steps ++ more) ok fit)

@@ -1,5 +1,6 @@
 -- READ alone: over within nine steps, twelve from any line.
 pub mod Words
+pub mod Embedded
 pub mod Step
 pub mod Lines
 pub mod First

@@ -12,4 +12,3 @@ pub mod Updating
 pub mod Swapping
 pub mod OfRuns
 pub mod OfLists
-pub mod Looked

@@ -2,7 +2,6 @@
 pub mod Repairing
 pub mod Does
 pub mod EachOperation
-pub mod Seen
 pub mod Updates
 pub mod Facts
 pub mod OfLists

@@ -1,4 +1,3 @@
 -- The laws as statements: over the trie of a run (Tries), and of handles (Handles).
 pub mod Tries
 pub mod Handles
-pub mod Values

@@ -2,4 +2,3 @@
 
 pub mod handles;
 pub mod tries;
-pub mod values;

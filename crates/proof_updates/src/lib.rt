@@ -12,4 +12,4 @@ pub use laws::handles::contents_of_handles;
 pub use laws::tries::{
     contents_follow_updates, each_step_does, paths_lie_on_keys, replies_are_right,
 };
-pub use laws::values::found_along_hashes;
+pub use proof_shape::looking_finds;

@@ -1,5 +1,7 @@
 -- Where things stand in the picture, in pixels: an event is 96 wide, and a lane 72 high.
-use Rattle.std.specs.Prelude.{ℕ, ◌+◌, ◌-◌, ◌*◌, max, length, unwrap_or}
+use Rattle.std.specs.Prelude.{ℕ, ◌+◌, ◌-◌, ◌*◌, max, length, Option, Some, None, unwrap_or, String}
+use Rattle.std.specs.String.{string_bytes}
+use Rattle.std.specs.declared.alloc.Global.{Global}
 use Rattle.history_scene.specs.declared.scenes.Bar.{Bar}
 use Rattle.history_scene.specs.declared.scenes.Scene.{Scene}
 use Rattle.history_scene.specs.declared.scenes.Stand.{Stand}
@@ -20,8 +22,14 @@ bar_y lane = lane_y lane + 24
 abbrev pub span_of : Bar → ℕ → ℕ
 span_of bar events = unwrap_or bar.to events - bar.from
 
+-- a line for the reason, of which a character is less than 8 wide
+abbrev pub reason_width : Option (String Global) → ℕ
+reason_width None = 0
+reason_width (Some reason) = 8 * length (string_bytes reason) + 128
+
+-- as wide as the events and the reason, and at least as the legend
 abbrev pub width_of : Scene → ℕ
-width_of scene = max (96 * scene.events + 128) 820
+width_of scene = max (96 * scene.events + 128) (max (reason_width scene.reason) 820)
 
 -- the bottom of the lanes
 abbrev pub bottom_of : Scene → ℕ

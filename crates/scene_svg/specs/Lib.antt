@@ -3,3 +3,4 @@ pub mod Escapes
 pub mod Marks
 pub mod Bars
 pub mod Documents
+pub mod Laws

@@ -1,7 +1,8 @@
 //! Where things stand in the picture, in pixels.
 
 ghost use Rattle.std.specs.Prelude.{◌≡◌, ◌<◌, ◌^◌};
-ghost use Rattle.scene_svg.specs.Geometry.{x_of, lane_y, bar_y, span_of, width_of, bottom_of, height_of, point_x, point_y};
+ghost use Rattle.std.specs.Option.{option_copied};
+ghost use Rattle.scene_svg.specs.Geometry.{x_of, lane_y, bar_y, span_of, reason_width, width_of, bottom_of, height_of, point_x, point_y};
 
 use history_scene::{Bar, Scene, Stand};
 
@@ -35,11 +36,22 @@ pub fn span_of(bar: &Bar, events: usize) -> u128
     bar.to.unwrap_or(events).saturating_sub(bar.from) as u128
 }
 
-/// How wide the picture is: at least as the legend.
+/// How wide the picture is: as the events and the reason, and at least as the legend.
 pub fn width_of(scene: &Scene) -> u128
     ensures { result ≡ width_of scene.now }
 {
-    (96 * scene.events as u128 + 128).max(820)
+    let events = 96 * scene.events as u128 + 128;
+    events.max(reason_width(scene.reason.as_ref()).max(820))
+}
+
+/// How wide the line with the reason is, at most.
+fn reason_width(reason: Option<&String>) -> u128
+    ensures { result ≡ reason_width (option_copied reason.entry) }
+{
+    match reason {
+        Some(reason) => 8 * reason.len() as u128 + 128,
+        None => 0,
+    }
 }
 
 /// The bottom of the lanes.

@@ -5,10 +5,12 @@ mod bars;
 mod document;
 mod escape;
 mod geometry;
+mod laws;
 mod marks;
 mod style;
 
 pub use document::SceneSvg;
+pub use laws::is_harmless;
 
 #[cfg(test)]
 mod tests;

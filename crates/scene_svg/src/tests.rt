@@ -47,3 +47,8 @@ fn escapes_and_cuts_texts(rt: HostRuntime) -> Result<(), Fail> {
     assert!(rt; svg.ends_with("</svg>\n"));
     Ok(())
 }
+
+#[test]
+fn the_law(_rt: HostRuntime) {
+    is_harmless();
+}

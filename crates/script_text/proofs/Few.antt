@@ -12,6 +12,11 @@ use Rattle.history_text.specs.Lines.{header_of}
 use Rattle.script_text.specs.Headers.{slots_of}
 use Rattle.script_text.specs.Scripts.{Dialect, ScriptOf, Progress, Start, Sized, Hashed, InLines, words_after, all_read, format_of}
 
+-- a fault that is told at a line is no script
+pub at_ok : {A : Type 0} (n : ℕ) (r : Result A Refusal) (x : A) → at_line n r ≡ Ok x → r ≡ Ok x
+at_ok n (Ok y) x e = cc
+at_ok n (Err f) x e = absurd cc
+
 module _ {L : Type 0} (dialect : Dialect L) where
   -- how many lines behind the header were read
   abbrev lines_in : Progress L → ℕ
@@ -33,10 +38,6 @@ module _ {L : Type 0} (dialect : Dialect L) where
   step_adds true ignored p r words e = absurd cc
   step_adds false true p r words e = (refl, omega (arith, ap lines_in (ok_is (Ok p) p r refl e)))
   step_adds false false p r words e = (refl, words_add p r words e)
-
-  at_ok : {A : Type 0} (n : ℕ) (r : Result A Refusal) (x : A) → at_line n r ≡ Ok x → r ≡ Ok x
-  at_ok n (Ok y) x e = cc
-  at_ok n (Err f) x e = absurd cc
 
   line_adds : (n : ℕ) (p r : Progress L) (line : List ℕ) → line_after (format_of dialect) n p line ≡ Ok r → (n ≤ 100000) × (lines_in r ≤ lines_in p + 1)
   unfolding line_after

@@ -1,5 +1,5 @@
 -- What the laws say of a step that was asked for, be it taken or refused.
-use Rattle.std.proofs.Common.{◌≡◌, ◌⊎◌, ℕ, ◌+◌, ◌≤◌, List, ◌++◌, Result, Ok, Err, OnOk, sym, ap, subst, inl, inr, arith}
+use Rattle.std.proofs.Common.{◌≡◌, ◌⊎◌, ◌+◌, ◌≤◌, List, ◌++◌, Result, Ok, Err, OnOk, sym, ap, subst, inl, inr, arith}
 use Rattle.ctrie_base.specs.declared.refusals.Refusal.{Refusal}
 use Rattle.ctrie_base.specs.declared.refusals.Refusal.TheVariants as refuse
 use Rattle.step_machine.specs.Beneath.slot_arena.specs.Refs.{birth_of}
@@ -9,14 +9,13 @@ use Rattle.machine_model.specs.declared.steps.Outcome.{Outcome}
 use Rattle.machine_model.specs.declared.steps.Step.{Step}
 use Rattle.machine_model.specs.Keys.{KeysFit}
 use Rattle.machine_model.specs.Machine.{AreLimits, next, run, state_after}
-use Rattle.machine_model.specs.Moves.{Moves}
 use Rattle.machine_model.specs.States.{State, first_state}
 use Rattle.machine_model.proofs.Along.{run-append}
 use Rattle.machine_model.proofs.Moves.{moved}
 use Rattle.proof_memory.specs.Laws.{IsInUse, HeldInUse, StandingInUse, FreedLate}
-use Rattle.proof_memory.proofs.Heap.Later.{onward}
+use Rattle.proof_memory.proofs.Heap.Later.{onward, births_later}
 use Rattle.proof_memory.proofs.Safety.AtEachTime.{safe_along}
-use Rattle.proof_memory.proofs.Safety.States.{IsSafe, births_grow, stood_or_made}
+use Rattle.proof_memory.proofs.Safety.States.{stood_or_made}
 use Rattle.proof_memory.proofs.Safety.Steps.{step_effect}
 use Rattle.proof_updates.specs.Laws.Handles.{OfEachStep, UntouchedStay, UpdatesChange, RepairsStay, ClearsEmpty, ClosesTake, OpenedCopy}
 use Rattle.step_machine.specs.Contents.{ChangesContents}
@@ -42,13 +41,6 @@ frees_late law result before s after ok is r used freed = elim (outcome_of resul
   | inl taken ↦ law before.limits before.steps s r ok used (subst (λ state. ¬ IsInUse state.heap r) (sym (ap (state_after (state_of before)) taken.2)) freed)
   | inr same ↦ absurd (freed (subst (λ m. Uses m r) (sym same) used))
 ]
-
--- no births are taken back
-births_later : (b : ℕ) (state : State) → IsSafe state → b ≤ state.heap.births → (s : Step) (o : Outcome) (after : State) → Moves state s o after → b ≤ after.heap.births
-births_later b state I h s o after m = later (births_grow _ _ _ _ _ _ (step_effect state I s o after m).3) h
-  where
-    later : state.heap.births ≤ after.heap.births → b ≤ state.heap.births → b ≤ after.heap.births
-    later x y = omega arith
 
 -- what comes into use has the next birth
 next_birth : (limits : Limits) (steps : List Step) (s : Step) (o : Outcome) (after : State) → AreLimits limits → next (run limits steps) s ≡ Ok (o, after) → (r : Ref) →

@@ -5,11 +5,12 @@ use Rattle.std.proofs.lemmas.List.{append-nil, replicate-append-replicate}
 use Rattle.ctrie_base.specs.declared.refusals.Refusal.{Refusal}
 use Rattle.ctrie_base.specs.declared.refusals.Refusal.TheVariants as refuse
 use Rattle.history.specs.declared.calls.Call.{Call}
-use Rattle.history.specs.declared.calls.Call.TheVariants.{Close, Entries, Count}
+use Rattle.history.specs.declared.calls.Call.TheVariants.{Clear, Snapshot, Freeze, Close, Entries, Count}
 use Rattle.history.specs.declared.replies.Reply.{Reply}
 use Rattle.history.specs.declared.replies.Reply.TheVariants.{Closed, NoSlots}
 use Rattle.machine_model.specs.Calls.{is_close}
 use Rattle.machine_model.specs.declared.operations.Operation.{Operation}
+use Rattle.machine_model.specs.declared.steps.Limits.{Limits}
 use Rattle.machine_model.specs.declared.steps.Step.{Step}
 use Rattle.machine_model.specs.declared.steps.Step.TheVariants as step
 use Rattle.machine_model.specs.declared.steps.Outcome.{Outcome}
@@ -20,7 +21,7 @@ use Rattle.machine_model.specs.Acting.{ended as ended_state}
 use Rattle.machine_model.specs.Moves.{Moves, Begins, Goes, Ends, Sweeps, begun_operation}
 use Rattle.machine_model.specs.Counting.{settled}
 use Rattle.machine_model.specs.Going.{go_limit}
-use Rattle.machine_model.specs.Machine.{AreLimits, Answer, next, begin_denial, begin_unless, with_begin}
+use Rattle.machine_model.specs.Machine.{AreLimits, Answer, next, begin_denial, begin_unless, run, with_begin}
 use Rattle.machine_model.specs.States.{State, operation_of}
 use Rattle.step_machine.specs.Beneath.proof_commits.proofs.Known.StepsAt.{begin_own, end_own}
 use Rattle.machine_model.proofs.HeapMoves.{begin_heap}
@@ -30,8 +31,9 @@ use Rattle.std.proofs.lemmas.List.Elements.{All-push}
 use Rattle.std.proofs.lemmas.Option.{none-some}
 use Rattle.step_machine.proofs.Telling.{answered_parts, begun_runs, denied_parts, stepped, unanswered}
 use Rattle.proof_obstruction_free.specs.Closes.{ClosesEnd}
+use Rattle.proof_obstruction_free.specs.Copies.{IsCopying}
 use Rattle.proof_obstruction_free.specs.Laws.{EachStepLeadsToItsEnd, EndsAt, GoesOnAt, IsOnKeyOrRoot, RunsAlone, alone_after, most_steps_alone}
-use Rattle.proof_obstruction_free.specs.Slots.{EnoughForTries}
+use Rattle.proof_obstruction_free.specs.Slots.{EnoughForCopies, EnoughForTries}
 use Rattle.proof_obstruction_free.proofs.Slots.AtBegin.{tries_first}
 use Rattle.machine_model.specs.Lines.{new_try}
 use Rattle.step_machine.specs.Machines.{Taken, state_of, with_step, Applied}
@@ -63,6 +65,24 @@ bounded (Close h) b = inr refl
 bounded (Entries h) b = absurd b
 bounded (Count h) b = absurd b
 bounded call b = inl tt
+
+-- where so many slots are free as its call wants at most, an operation isn't refused for want of slots
+abbrev pub EnoughForCall : Type 0
+EnoughForCall =
+    (limits : Limits) (steps : List Step) (actor : ℕ) (operation : Operation) → RunsAlone limits steps actor operation → operation.line ≡ new_try →
+    enough_slots operation.call ≤ length (run limits steps).heap.free →
+    (n id : ℕ) (answer : Reply) (after : State) → next (alone_after limits steps actor n) (step.Go actor) ≡ Ok (outcome.Ended id answer, after) → answer ≢ NoSlots
+
+pub enough_for_call : EnoughForTries → EnoughForCopies → EnoughForCall
+enough_for_call tries copies limits steps actor operation alone stands = by_call operation.call refl
+  where
+    by_call : (call : Call) → operation.call ≡ call → enough_slots call ≤ length (run limits steps).heap.free →
+        (n id : ℕ) (answer : Reply) (after : State) → next (alone_after limits steps actor n) (step.Go actor) ≡ Ok (outcome.Ended id answer, after) → answer ≢ NoSlots
+    by_call (Clear h) is few = copies limits steps actor operation alone (subst IsCopying (sym is) tt) stands few
+    by_call (Snapshot h) is few = copies limits steps actor operation alone (subst IsCopying (sym is) tt) stands few
+    by_call (Freeze h) is few = copies limits steps actor operation alone (subst IsCopying (sym is) tt) stands few
+    by_call (Close h) is few = absurd (subst IsOnKeyOrRoot is alone.call)
+    by_call call is few = tries limits steps actor operation alone stands few
 
 module _ (machine : Taken) (actor : ℕ) where
   -- the machine after so many steps of this actor
@@ -156,7 +176,7 @@ module _ (machine : Taken) (actor : ℕ) where
         (suc n, omega (arith, few), subst (EndsIn (suc n) actor) begins (left n 0 n operation.id (omega arith) on last))
 
     -- where enough slots are free none of them is refused for want of slots
-    not_refused : EnoughForTries → (IsOnKeyOrRoot operation.call → operation.line ≡ new_try) → enough_slots ≤ length (state_of machine).heap.free →
+    not_refused : EnoughForCall → (IsOnKeyOrRoot operation.call → operation.line ≡ new_try) → enough_slots operation.call ≤ length (state_of machine).heap.free →
         IsOnKeyOrRoot operation.call ⊎ (is_close operation.call ≡ true) → (n : ℕ) (last : Taken) →
         going_on n actor machine ≡ (Ok (Some NoSlots), last) → ⊥
     not_refused spare stands free (inl call) n last goes =
@@ -165,12 +185,12 @@ module _ (machine : Taken) (actor : ℕ) where
     not_refused spare stands free (inr closing) n last goes =
         closed_told n operation.id last (alone_after machine.limits machine.steps actor 1) (closes machine.limits machine.steps actor operation runs closing (omega (arith, sure.1))).0 goes
 
-    pub spared : EnoughForTries → (IsOnKeyOrRoot operation.call → operation.line ≡ new_try) → enough_slots ≤ length (state_of machine).heap.free → (n : ℕ) (last : Taken) →
+    pub spared : EnoughForCall → (IsOnKeyOrRoot operation.call → operation.line ≡ new_try) → enough_slots operation.call ≤ length (state_of machine).heap.free → (n : ℕ) (last : Taken) →
         going_on n actor machine ≡ (Ok (Some NoSlots), last) → ⊥
     spared spare stands free = not_refused spare stands free (bounded operation.call sure.0)
 
     -- so that is what they come to
-    must_be : (result : Result (Option Reply) Refusal) (to : Taken) → going_on go_limit actor machine ≡ (result, to) → (answer : Reply) × (result ≡ Ok (Some answer))
+    pub must_be : (result : Result (Option Reply) Refusal) (to : Taken) → going_on go_limit actor machine ≡ (result, to) → (answer : Reply) × (result ≡ Ok (Some answer))
     must_be result to goes = let (answer, last, e) = answered in (answer, ap (λ g. g.0) (sym goes ∙ e))
 
     -- such steps come to the end, but for want of memory
@@ -235,14 +255,14 @@ module _ (law : EachStepLeadsToItsEnd) (closes : ClosesEnd) (before after : Take
 
 -- ---- enough slots
 
-module _ (law : EachStepLeadsToItsEnd) (closes : ClosesEnd) (spare : EnoughForTries) (before : Taken) (actor : ℕ) (call : Call) (sizes : AreLimits before.limits) (keys : KeysFit before.steps)
-    (fits : FitsKey (step.Begin actor call)) (sure : IsSure (state_of before) call (1 + most_steps_alone)) (free : enough_slots ≤ length (state_of before).heap.free) where
+module _ (law : EachStepLeadsToItsEnd) (closes : ClosesEnd) (spare : EnoughForCall) (before : Taken) (actor : ℕ) (call : Call) (sizes : AreLimits before.limits) (keys : KeysFit before.steps)
+    (fits : FitsKey (step.Begin actor call)) (sure : IsSure (state_of before) call (1 + most_steps_alone)) (free : enough_slots call ≤ length (state_of before).heap.free) where
   -- behind its begin a call isn't refused for want of slots
   pub spared_behind : (d : begin_denial (state_of before) actor call ≡ None) (n : ℕ) (last : Taken) → going_on n actor (middle before actor call d) ≡ (Ok (Some NoSlots), last) → ⊥
   spared_behind d =
       spared (middle before actor call d) actor law closes sizes (All-push FitsKey before.steps (step.Begin actor call) keys fits) (begun_operation (state_of before) call)
       (begun_runs_on before actor call d) (sure_behind before actor call d most_steps_alone sure) spare (tries_first call)
-      (subst (λ h. enough_slots ≤ length h.free)
+      (subst (λ h. enough_slots call ≤ length h.free)
       (sym (ap (λ (s : State). s.heap) (led_so before actor call d) ∙ begin_heap (state_of before) actor call (begun_operation (state_of before) call))) free)
 
   spares_by : (after : Taken) (denial : Option Refusal) → begin_denial (state_of before) actor call ≡ denial → CompletesUnless denial (Ok (Some NoSlots)) before actor call after → ⊥

@@ -36,11 +36,10 @@ use Rattle.step_machine.specs.declared.records.Record.{Record}
 use Rattle.step_machine.specs.Records.{IsRecordOf}
 use Rattle.step_machine.specs.Legality.{IsLegalFor, IsLegalRecord, LeadsToContents, HasInOrder, InOrder, IsInOrder, writable_in, ActedAlone, RestsIfAnswered, WentAlone}
 use Rattle.step_machine.proofs.Going.{HasMore, going-append, has_more}
-use Rattle.step_machine.proofs.Ending.{spared_behind}
+use Rattle.step_machine.proofs.Ending.{EnoughForCall, spared_behind}
 use Rattle.step_machine.specs.Ending.{IsSpared, IsSure, enough_slots}
 use Rattle.proof_obstruction_free.specs.Closes.{ClosesEnd}
 use Rattle.proof_obstruction_free.specs.Laws.{EachStepLeadsToItsEnd, most_steps_alone}
-use Rattle.proof_obstruction_free.specs.Slots.{EnoughForTries}
 use Rattle.step_machine.proofs.Resting.{OnlyRuns, leads_to_rest, only_at_rest, still_only, unanswered_at_rest}
 use Rattle.step_machine.proofs.Telling.{Tells, stepped, tells}
 
@@ -213,8 +212,8 @@ module _ (before machine after : Taken) (actor : ℕ) (call : Call) (went : Went
   in_front : (xs ys : List Step) → KeysFit (xs ++ ys) → KeysFit xs
   in_front xs ys all = λ i d within. All-contains FitsKey (xs ++ ys) (get_or xs i d) all (Contains-append_left xs ys (get_or xs i d) (Contains-get_or xs i d within))
 
-  spared_by : (law : EachStepLeadsToItsEnd) (closes : ClosesEnd) (spare : EnoughForTries) → AreLimits after.limits → KeysFit after.steps → IsSure (state_of before) call (1 + most_steps_alone) →
-      enough_slots ≤ length (state_of before).heap.free → going_on go_limit actor machine ≡ (Ok (Some NoSlots), after) → (denial : Option Refusal) →
+  spared_by : (law : EachStepLeadsToItsEnd) (closes : ClosesEnd) (spare : EnoughForCall) → AreLimits after.limits → KeysFit after.steps → IsSure (state_of before) call (1 + most_steps_alone) →
+      enough_slots call ≤ length (state_of before).heap.free → going_on go_limit actor machine ≡ (Ok (Some NoSlots), after) → (denial : Option Refusal) →
       begin_denial (state_of before) actor call ≡ denial → ⊥
   spared_by law closes spare sizes keys sure free goes (Some why) d =
       not_denied before after actor call went.0 (went.1.0 + go_limit) NoSlots why d (goes_further before after actor call went.0 went.1.0 go_limit machine NoSlots went.1.1 goes)
@@ -225,7 +224,7 @@ module _ (before machine after : Taken) (actor : ℕ) (call : Call) (went : Went
       (All-contains FitsKey (before.steps ++ step.Begin actor call ∷ []) (step.Begin actor call) fit (Contains-push before.steps (step.Begin actor call))) sure free d (went.1.0 + go_limit) after
       (goes_further before after actor call went.0 went.1.0 go_limit machine NoSlots went.1.1 goes)
 
-  pub spares_again : EachStepLeadsToItsEnd → ClosesEnd → EnoughForTries → AreLimits after.limits → KeysFit after.steps → (result : Result (Option Reply) Refusal) → Resumes result machine actor after →
+  pub spares_again : EachStepLeadsToItsEnd → ClosesEnd → EnoughForCall → AreLimits after.limits → KeysFit after.steps → (result : Result (Option Reply) Refusal) → Resumes result machine actor after →
       IsSpared before call result
   spares_again law closes spare sizes keys result goes sure free is =
       spared_by law closes spare sizes keys sure free (subst (λ r. Resumes r machine actor after) is goes) (begin_denial (state_of before) actor call) refl

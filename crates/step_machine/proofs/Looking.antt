@@ -12,13 +12,13 @@ use Rattle.machine_model.specs.Contents.{content_at, most_levels}
 use Rattle.machine_model.specs.Keys.{KeysFit}
 use Rattle.machine_model.specs.Machine.{AreLimits}
 use Rattle.machine_model.specs.States.{root_at, root_of, word_at, word_of}
-use Rattle.plain_machine.specs.Finding.{found_along}
-use Rattle.proof_updates.specs.Laws.Values.{FoundAlongHashes}
+use Rattle.machine_core.specs.Finding.{found_along}
+use Rattle.step_machine.specs.Beneath.proof_shape.specs.Agreeing.{LookingFinds}
 use Rattle.step_machine.specs.Machines.{Taken, state_of}
 use Rattle.machine_model.specs.declared.steps.Limits.{Limits}
 use Rattle.machine_model.proofs.Along.{limits_along}
 
-module _ (law : FoundAlongHashes) (machine : Taken) (ok : AreLimits machine.limits) (keys : KeysFit machine.steps) (handle key : ℕ) where
+module _ (law : LookingFinds) (machine : Taken) (ok : AreLimits machine.limits) (keys : KeysFit machine.steps) (handle key : ℕ) where
   -- what is found there
   abbrev found : Option ℕ
   found = found_along (state_of machine) handle key

@@ -49,7 +49,7 @@ module _ (leaves : SweepLeaves) where
       let to = sym (run_push (first_state machine.limits) machine.steps Sweep) in
       (subst (λ s. LooksSame state s) to same, subst (λ s. is_busy s ≡ is_busy state) to (ap (list_any is_some) alone.1))
 
-  steps_on : (n : ℕ) (machine : Taken) → AreLimits machine.limits →
+  pub steps_on : (n : ℕ) (machine : Taken) → AreLimits machine.limits →
       LooksSame (state_of machine) (state_of (swept n machine)) × (is_busy (state_of (swept n machine)) ≡ is_busy (state_of machine))
       × ((swept n machine).limits ≡ machine.limits)
   unfolding swept

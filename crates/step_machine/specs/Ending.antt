@@ -3,7 +3,7 @@ use Rattle.std.specs.Prelude.{◌≡◌, ◌≢◌, ℕ, zero, suc, ◌+◌, ◌
 use Rattle.ctrie_base.specs.declared.refusals.Refusal.{Refusal}
 use Rattle.ctrie_base.specs.declared.refusals.Refusal.TheVariants.{Memory}
 use Rattle.history.specs.declared.calls.Call.{Call}
-use Rattle.history.specs.declared.calls.Call.TheVariants.{Entries, Count}
+use Rattle.history.specs.declared.calls.Call.TheVariants.{Clear, Snapshot, Freeze, Close, Entries, Count}
 use Rattle.history.specs.declared.replies.Reply.{Reply}
 use Rattle.history.specs.declared.replies.Reply.TheVariants.{NoSlots}
 use Rattle.machine_model.specs.declared.operations.Operation.{Operation}
@@ -12,7 +12,7 @@ use Rattle.machine_model.specs.declared.steps.Step.TheVariants.{Go}
 use Rattle.machine_model.specs.Machine.{begin_denial}
 use Rattle.machine_model.specs.States.{State, operation_of, step_limit}
 use Rattle.proof_obstruction_free.specs.Laws.{most_steps_alone}
-use Rattle.proof_obstruction_free.specs.Slots.{most_makes_alone}
+use Rattle.proof_obstruction_free.specs.Slots.{most_makes_alone, most_steps_of_copies}
 use Rattle.step_machine.specs.Machines.{Taken, state_of, with_step, IsTaken}
 
 -- any call but entries and count
@@ -42,13 +42,17 @@ ResumesIfSure machine actor result =
 
 -- ---- slots
 
--- so many free slots are enough for an operation whose actor alone takes steps from its begin on
-abbrev pub enough_slots : ℕ
-enough_slots = most_makes_alone
+-- so many free slots are enough for such a call whose actor alone takes steps from its begin on: a close wants none
+abbrev pub enough_slots : Call → ℕ
+enough_slots (Close h) = 0
+enough_slots (Clear h) = most_steps_of_copies
+enough_slots (Snapshot h) = most_steps_of_copies
+enough_slots (Freeze h) = most_steps_of_copies
+enough_slots call = most_makes_alone
 
 -- a call that is sure to end isn't refused for want of slots where so many are free
 abbrev pub IsSpared : Taken → Call → Result (Option Reply) Refusal → Type 0
-IsSpared machine call result = IsSure (state_of machine) call (1 + most_steps_alone) → enough_slots ≤ length (state_of machine).heap.free → result ≢ Ok (Some NoSlots)
+IsSpared machine call result = IsSure (state_of machine) call (1 + most_steps_alone) → enough_slots call ≤ length (state_of machine).heap.free → result ≢ Ok (Some NoSlots)
 
 -- ---- step by step
 

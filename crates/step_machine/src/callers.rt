@@ -27,7 +27,8 @@ impl Machine {
     /// an operation that began still runs. `Memory` is answered only where nothing denies the next step. From
     /// rest, an operation that ends enters the order last, and the contents change by its call, with its
     /// reply; where it is refused for want of slots, neither changes. The machine is at rest again then. Nor is a
-    /// call that is sure to end refused so where 570 slots are free.
+    /// call that is sure to end refused so where 570 slots are free; a snapshot, a freeze or a clear isn't where 23
+    /// are, and a close never is.
     pub fn complete(&mut self, actor: u8, call: Call) -> Result<Option<Reply>, Refusal>
         ensures steps { Completes result self.old actor call self.new }
         ensures alone { is_busy (state_of self.old) ≡ false → ActedAlone result self.old call self.new }
@@ -45,6 +46,7 @@ impl Machine {
         proof_obstruction_free::each_step_leads_to_its_end();
         proof_obstruction_free::closes_end();
         proof_obstruction_free::enough_slots_for_tries();
+        proof_obstruction_free::enough_slots_for_copies();
         result
     }
 
@@ -78,6 +80,7 @@ impl Machine {
         proof_obstruction_free::each_step_leads_to_its_end();
         proof_obstruction_free::closes_end();
         proof_obstruction_free::enough_slots_for_tries();
+        proof_obstruction_free::enough_slots_for_copies();
         result
     }
 

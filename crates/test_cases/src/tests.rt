@@ -4,9 +4,7 @@ mod failing;
 mod threads;
 
 use ctrie_base::Refusal;
-use ctrie_commands::{
-    Counted, Fault, check_history, draw_history, explain_history, run_script,
-};
+use ctrie_commands::{Counted, Fault, check_history, draw_history, explain_history, run_script};
 use std::io;
 use std::io::{ErrorKind, Read, Write};
 use std::test::Fail;
@@ -72,11 +70,13 @@ fn tells_write_faults(rt: HostRuntime) {
 #[test]
 fn tells_faults_behind_a_history(rt: HostRuntime) {
     let mut written = Vec::new(rt.alloc());
-    let mut output = Counted::new(&mut written);
     let mut input = Counted::new(HISTORY.as_bytes().chain(Broken));
+    let mut output = Counted::new(&mut written);
     let found = explain_history(rt.alloc(), &mut input, &mut output);
     assert_eq!(rt; found, Err(Fault::Read));
+    let mut output = Counted::new(&mut written);
     let mut input = Counted::new(HISTORY.as_bytes().chain(Broken));
+    let mut output = Counted::new(&mut written);
     let found = draw_history(rt.alloc(), &mut input, &mut output);
     assert_eq!(rt; found, Err(Fault::Read));
     assert!(rt; written.is_empty());
@@ -87,6 +87,7 @@ fn tells_faults_behind_a_history(rt: HostRuntime) {
         let found = explain_history(rt.alloc(), &mut input, &mut output);
         assert_eq!(rt; found, Err(fault));
         let mut input = Counted::new(text.as_bytes());
+        let mut output = Counted::new(Broken);
         let found = draw_history(rt.alloc(), &mut input, &mut output);
         assert_eq!(rt; found, Err(fault));
     }

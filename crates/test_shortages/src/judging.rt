@@ -6,7 +6,7 @@ use std::alloc::Global;
 use step_machine::Machine;
 
 /// A machine has no more handles.
-const HANDLES: u16 = 256;
+pub const HANDLES: u16 = 256;
 
 /// The key of a call on one key.
 fn key_of(call: Call) -> Option<u64> {
@@ -44,7 +44,12 @@ fn world_behind(
     let mut world = World::new(alloc)?;
     for placed in order {
         for event in events {
-            if let Event::Begin { id, call, opens, .. } = event
+            if let Event::Begin {
+                id,
+                call,
+                opens,
+                ..
+            } = event
                 && id == placed
             {
                 reply_of(&mut world, call, *opens, hash)?;
@@ -85,7 +90,9 @@ fn is_shown(
     keys: &[u64],
     hash: HashKind,
 ) -> Result<bool, Refusal> {
-    let writable = world.access(handle).map(|access| access == Access::Writable);
+    let writable = world
+        .access(handle)
+        .map(|access| access == Access::Writable);
     if writable != machine.is_writable(handle) {
         return Ok(false);
     }

@@ -4,15 +4,16 @@
 //! its own or 64, and tells in how many runs the order is legal and leads to the content of each handle. Without a word
 //! it is the folder that it runs in.
 //!
-//! `test_shortages FOLDER NAME` carries out one script twice with its own slots, and tells whether both came to the same
-//! end: so also where one growth of one of them was refused.
+//! `test_shortages FOLDER NAME` carries out one script with its own slots, and tells what it comes to: the same where one
+//! growth of it is refused.
 #![tactic(auto)]
 
 mod carrying;
 mod judging;
 
 use carrying::{Stop, carried_out};
-use judging::is_explained;
+use ctrie_base::Refusal;
+use judging::{HANDLES, is_explained};
 use script_text::{Command, Script, read_script};
 use std::alloc::Global;
 use std::process::ExitCode;
@@ -71,7 +72,10 @@ fn with_few_slots<R: AllocGlobal + Print>(
 }
 
 /// The names of the folder's scripts.
-fn names_in<R: AllocGlobal + Files + Clone + Drop>(rt: &R, folder: &str) -> io::Result<Vec<String>> {
+fn names_in<R: AllocGlobal + Files + Clone + Drop>(
+    rt: &R,
+    folder: &str,
+) -> io::Result<Vec<String>> {
     let mut names = Vec::new(rt.alloc());
     for entry in fs::read_dir(rt, folder)? {
         if let Some((name, "script")) = entry?.file_name().rsplit_once('.') {
@@ -83,7 +87,10 @@ fn names_in<R: AllocGlobal + Files + Clone + Drop>(rt: &R, folder: &str) -> io::
 }
 
 /// Carries out all scripts of the folder.
-fn with_all<R: AllocGlobal + Files + Print + Clone + Drop>(rt: &R, folder: &str) -> io::Result<Tally> {
+fn with_all<R: AllocGlobal + Files + Print + Clone + Drop>(
+    rt: &R,
+    folder: &str,
+) -> io::Result<Tally> {
     let mut tally = Tally {
         scripts: 0,
         explained: 0,
@@ -97,20 +104,21 @@ fn with_all<R: AllocGlobal + Files + Print + Clone + Drop>(rt: &R, folder: &str)
     Ok(tally)
 }
 
-/// What a machine has come to.
+/// What a machine has come to: its steps, history, order and memory, and the contents of its handles.
 fn end_of(alloc: Global, machine: &Machine) -> Result<String, Stop> {
     let order = machine.order()?;
     let events = machine.events();
     let steps = machine.steps();
     let (used, limbo, epoch) = (machine.used(), machine.limbo_len(), machine.epoch());
-    Ok(format!(in alloc; "{steps:?} {events:?} {order:?} {used} {limbo} {epoch}")?)
-}
-
-/// Whether both runs of the script come to the same end.
-fn is_same_twice(alloc: Global, script: &Script<Command>) -> Result<bool, Stop> {
-    let first = carried_out(alloc, script.limits, script.lines.as_slice())?;
-    let second = carried_out(alloc, script.limits, script.lines.as_slice())?;
-    Ok(end_of(alloc, &first)? == end_of(alloc, &second)?)
+    let mut end = format!(in alloc; "{steps:?} {events:?} {order:?} {used} {limbo} {epoch}")?;
+    for handle in 0..HANDLES {
+        match machine.content(handle) {
+            Ok(pairs) => end.push_str(format!(in alloc; " {handle} {pairs:?}")?.as_str())?,
+            Err(Refusal::NoHandle) => {}
+            Err(_) => return Err(Stop::Memory),
+        }
+    }
+    Ok(end)
 }
 
 fn main(rt: HostRuntime) -> ExitCode {
@@ -120,27 +128,33 @@ fn main(rt: HostRuntime) -> ExitCode {
     ExitCode::from(status)
 }
 
+/// Tells what carrying out the script comes to. The exit status is that of `run`.
+fn tell_end<R: AllocGlobal + Print>(rt: &R, script: &Script<Command>) -> io::Result<u8> {
+    let machine = carried_out(rt.alloc(), script.limits, script.lines.as_slice());
+    match machine.and_then(|machine| end_of(rt.alloc(), &machine)) {
+        Ok(end) => {
+            println!(rt; "{end}")?;
+            Ok(0)
+        }
+        Err(Stop::Changed) => Ok(1),
+        Err(Stop::Memory) => Ok(2),
+    }
+}
+
 /// The exit status: 0 where all is right, 1 where something isn't, 2 where no memory was found outside a step.
 fn run<R: AllocGlobal + Env + Files + Print + Clone + Drop>(rt: &R) -> io::Result<u8> {
     let words = env::args(rt)?.collect::<Vec<String>>(rt.alloc())?;
     let folder = words.get(1).map_or(".", |word| word.as_str());
-    match words.get(2) {
-        None => {
-            let Tally {
-                scripts,
-                explained,
-                others,
-            } = with_all(rt, folder)?;
-            println!(rt; "explained: {explained} runs of {scripts} scripts")?;
-            Ok(if others == 0 { 0 } else { 1 })
-        }
-        Some(name) => match script_in(rt, folder, name.as_str())? {
-            None => Ok(2),
-            Some(script) => Ok(match is_same_twice(rt.alloc(), &script) {
-                Ok(true) => 0,
-                Ok(false) | Err(Stop::Changed) => 1,
-                Err(Stop::Memory) => 2,
-            }),
-        },
+    let Some(name) = words.get(2) else {
+        let tally = with_all(rt, folder)?;
+        println!(rt;
+            "explained: {} runs of {} scripts",
+            tally.explained, tally.scripts
+        )?;
+        return Ok(if tally.others == 0 { 0 } else { 1 });
+    };
+    match script_in(rt, folder, name.as_str())? {
+        None => Ok(2),
+        Some(script) => tell_end(rt, &script),
     }
 }

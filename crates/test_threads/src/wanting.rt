@@ -42,6 +42,7 @@ fn take_pieces(alloc: Global, pieces: &mut Vec<Vec<u8>>, size: usize) {
 }
 
 /// Takes all memory after the first step of a call.
+#[derive(Drop)]
 struct Starving {
     alloc: Global,
     pieces: RefCell<Vec<Vec<u8>>>,
@@ -101,7 +102,7 @@ fn hands_out_the_machine_without_memory(rt: HostRuntime) -> Result<(), Fail> {
         panic!(rt; "there is memory")
     };
     assert_eq!(rt; (record.events.len(), record.steps.len()), (4, steps));
-    assert!(rt; record.order.as_slice() == &[0, 1]);
+    assert!(rt; record.order.as_slice() == [0, 1].as_slice());
     assert!(rt; is_right(rt.alloc(), &record)?);
     Ok(())
 }

@@ -66,6 +66,18 @@ pub begin_own : (actor place : ℕ) (account : Account) (id : ℕ) (call : Call)
     account_after actor place account (Begin id actor call opens) ≡ record account { running = Some (begun_at place id call) }
 begin_own actor place account id call opens = rw (eq-eqb actor actor refl) refl
 
+-- the accounts behind a begin: of the actor that begins, and of another one
+pub later_own : (history : List Event) (owner : ℕ) (call : Call) (opens : Option ℕ) → account_of owner (history ++ Begin (begun history) owner call opens ∷ [])
+    ≡ record (account_of owner history) { running = Some (begun_at (length history) (begun history) call) }
+later_own history owner call opens =
+    account_push owner history (Begin (begun history) owner call opens) ∙ begin_own owner (length history) (account_of owner history) (begun history) call opens
+
+pub later_other : (history : List Event) (owner : ℕ) (call : Call) (opens : Option ℕ) (actor : ℕ) → (owner ≡ actor → ⊥) →
+    account_of actor (history ++ Begin (begun history) owner call opens ∷ []) ≡ account_of actor history
+later_other history owner call opens actor other =
+    account_push actor history (Begin (begun history) owner call opens)
+    ∙ begin_other actor (length history) (account_of actor history) (begun history) owner call opens other
+
 pub ended_other : (account : Account) (place id : ℕ) (answer : Reply) (running : Option Running) →
     ((p : Shown) → told running ≡ Some p → p.0 ≡ id → ⊥) → account_ended account place id answer running ≡ account
 ended_other account place id answer None other = refl

@@ -41,7 +41,7 @@ others_leave_the_account limits steps s o after e actor other =
     others_leave state after s o sound (fits_after state after s o m sound.fits) (turns state s o after sound.fits m) actor other
 
 -- an account runs nothing, or something, as the machine does
-none_told : (r : Option Running) → told r ≡ None → r ≡ None
+pub none_told : (r : Option Running) → told r ≡ None → r ≡ None
 none_told None e = refl
 none_told (Some r) e = absurd (none-some _ (sym e))
 

@@ -20,21 +20,20 @@ use Rattle.lock_runner.specs.ActorHistory.{account_of, account_from, begun_at, a
 use Rattle.lock_runner.specs.ActorHistory.Answers.{IsOperationOf, IsToldIn, AreAnswersOf}
 use Rattle.lock_runner.specs.ActorHistory.Laws.{AnswersAreThoseOfTheHistory}
 use Rattle.lock_runner.proofs.ActorHistory.Places.{get_left, get_last, get_push}
-use Rattle.lock_runner.proofs.ActorHistory.Pushes.{account_push}
 use Rattle.lock_runner.proofs.ActorHistory.Turns.{Turns, Comes, Stays, Leaves, Rests, turns}
-use Rattle.lock_runner.proofs.ActorHistory.Sound.{Sound, IsAnswered, sound_along, fits_after, begun_begin, begun_end, begin_own, begin_other, leave_other, leave_own}
+use Rattle.lock_runner.proofs.ActorHistory.Sound.{Sound, IsAnswered, sound_along, fits_after, begun_begin, begun_end, later_own, later_other, leave_other, leave_own}
 
 -- ---- events
 
 -- two begins that are the same
-same_begin : (a b : Event) (id owner jd other : ℕ) (call dall : Call) (opens closes : Option ℕ) → a ≡ Begin id owner call opens → b ≡ Begin jd other dall closes → a ≡ b →
+pub same_begin : (a b : Event) (id owner jd other : ℕ) (call dall : Call) (opens closes : Option ℕ) → a ≡ Begin id owner call opens → b ≡ Begin jd other dall closes → a ≡ b →
     (id ≡ jd) × (owner ≡ other)
 same_begin a b id owner jd other call dall opens closes e f same = (cc, cc)
 
-same_end : (a : Event) (id jd : ℕ) (answer bnswer : Reply) → a ≡ End id answer → a ≡ End jd bnswer → id ≡ jd
+pub same_end : (a : Event) (id jd : ℕ) (answer bnswer : Reply) → a ≡ End id answer → a ≡ End jd bnswer → id ≡ jd
 same_end a id jd answer bnswer e f = cc
 
-apart_events : {A : Type 0} (id owner jd : ℕ) (call : Call) (opens : Option ℕ) (answer : Reply) → Begin id owner call opens ≡ End jd answer → A
+pub apart_events : {A : Type 0} (id owner jd : ℕ) (call : Call) (opens : Option ℕ) (answer : Reply) → Begin id owner call opens ≡ End jd answer → A
 apart_events id owner jd call opens answer e = cc
 
 -- an operation that is shown as its actor's
@@ -163,17 +162,10 @@ module _ (history : List Event) (told : Told history) (owner : ℕ) (call : Call
     ]
   ]
 
-  -- the account of the actor that begins, and of another one
-  later_own : account_of owner later ≡ record (account_of owner history) { running = Some (begun_at (length history) (begun history) call) }
-  later_own = account_push owner history begin ∙ begin_own owner (length history) (account_of owner history) (begun history) call opens
-
-  later_other : (actor : ℕ) → (owner ≡ actor → ⊥) → account_of actor later ≡ account_of actor history
-  later_other actor other = account_push actor history begin ∙ begin_other actor (length history) (account_of actor history) (begun history) owner call opens other
-
   later_begins_own : (running : Running) → (account_of owner later).running ≡ Some running →
       (o : Option ℕ) × BeginsAt later running.began running.id (opened owner running o)
   later_begins_own running e =
-      let same : begun_at (length history) (begun history) call ≡ running = same_Some _ _ (ap (λ a. a.running) (sym later_own) ∙ e) in
+      let same : begun_at (length history) (begun history) call ≡ running = same_Some _ _ (ap (λ a. a.running) (sym (later_own history owner call opens)) ∙ e) in
       (opens, subst (λ r. BeginsAt later r.began r.id (opened owner r opens)) same (get_last history begin))
 
   later_begins_by : (actor : ℕ) → (owner ≡ actor) ⊎ (owner ≡ actor → ⊥) → (running : Running) → (account_of actor later).running ≡ Some running →
@@ -181,12 +173,12 @@ module _ (history : List Event) (told : Told history) (owner : ℕ) (call : Call
   later_begins_by actor (inl own) =
       subst (λ a. (running : Running) → (account_of a later).running ≡ Some running → (o : Option ℕ) × BeginsAt later running.began running.id (opened a running o)) own later_begins_own
   later_begins_by actor (inr other) = λ running e.
-      let was = told.begins actor running (ap (λ a. a.running) (sym (later_other actor other)) ∙ e) in
+      let was = told.begins actor running (ap (λ a. a.running) (sym (later_other history owner call opens actor other)) ∙ e) in
       (was.0, get_left history (begin ∷ []) running.began _ was.1)
 
   later_answers_by : (actor : ℕ) → (owner ≡ actor) ⊎ (owner ≡ actor → ⊥) → (account_of actor later).answers ≡ (account_of actor history).answers
-  later_answers_by actor (inl own) = subst (λ a. (account_of a later).answers ≡ (account_of a history).answers) own (ap (λ a. a.answers) later_own)
-  later_answers_by actor (inr other) = ap (λ a. a.answers) (later_other actor other)
+  later_answers_by actor (inl own) = subst (λ a. (account_of a later).answers ≡ (account_of a history).answers) own (ap (λ a. a.answers) (later_own history owner call opens))
+  later_answers_by actor (inr other) = ap (λ a. a.answers) (later_other history owner call opens actor other)
 
   -- an operation that has ended isn't the new one
   later_old : (actor place id : ℕ) (reply : Reply) → EndsAt history place id reply → IsOperationOf later actor id → IsOperationOf history actor id

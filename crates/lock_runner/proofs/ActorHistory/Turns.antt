@@ -20,11 +20,11 @@ use Rattle.std.specs.Prelude.{◌+◌}
 use Rattle.std.proofs.Common.{leb-true}
 use Rattle.std.proofs.lemmas.Option.{none-some}
 use Rattle.machine_model.specs.Machine.{begin_denial, with_begin, swept}
-use Rattle.machine_model.specs.Operations.{action_of}
 use Rattle.machine_model.specs.Moves.{Begins, Goes, Ends, Sweeps}
 use Rattle.machine_model.specs.Moves.{Moves, begun_operation}
 use Rattle.machine_model.proofs.Actors.{after_marks, marks_by, gone_actors, begin_actors}
-use Rattle.machine_model.proofs.Frames.{acted_framed}
+use Rattle.machine_model.proofs.Frames.{begin_events}
+use Rattle.lock_runner.specs.Beneath.proof_order.proofs.History.AllBooks.{gone_events}
 
 -- the id and the call of an operation
 abbrev pub Shown : Type 0
@@ -87,10 +87,6 @@ begins_as : (state : State) (actor : ℕ) (call : Call) → begin_denial state a
     (0 < actor) × (actor < state.limits.actors + 1) × (operation_of state actor ≡ None)
 begins_as state actor call d = (grind arith, grind (arith, leb-true), grind arith)
 
-begin_events : (state : State) (actor : ℕ) (call : Call) (operation : Operation) →
-    (with_begin state actor call operation).events ≡ state.events ++ Begin operation.id actor call operation.opens ∷ []
-begin_events state actor call operation = grind arith
-
 come : (state : State) (k : ℕ) (call : Call) → length state.actors ≡ state.limits.actors → begin_denial state (suc k) call ≡ None →
     (after : State) → after.actors ≡ (with_begin state (suc k) call (begun_operation state call)).actors →
     after.events ≡ (with_begin state (suc k) call (begun_operation state call)).events →
@@ -117,9 +113,6 @@ gone_ran state k operation is j =
     ap (λ xs. ran xs j) (gone_actors state (suc k) operation) ∙ ran_marks (marks_by state (Some operation)) _ j
     ∙ ap (λ i. ran (set state.actors i (Some (operation_after state operation))) j) (back k)
     ∙ ran_same state.actors k j (Some (operation_after state operation)) (shown_after state operation ∙ ap shown (sym is))
-
-gone_events : (state : State) (actor : ℕ) (operation : Operation) → (gone state actor operation).events ≡ state.events
-gone_events state actor operation = (acted_framed _ _ (action_of state operation)).events
 
 leave : (state : State) (k : ℕ) (operation : Operation) (answer : Reply) → operation_of state (suc k) ≡ Some operation → (after : State) →
     after.actors ≡ (ended state (suc k) operation answer).actors → after.events ≡ (ended state (suc k) operation answer).events →

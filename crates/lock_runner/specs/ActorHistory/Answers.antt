@@ -1,9 +1,10 @@
--- An actor's answers, as the history has them.
+-- An actor's answers and what it runs, as the history has them.
 use Rattle.std.specs.Prelude.{◌≡◌, ℕ, ◌<◌, List, Option, Some, slice_get}
 use Rattle.history.specs.declared.replies.Reply.{Reply}
 use Rattle.history.specs.declared.events.Event.{Event}
-use Rattle.history.specs.Histories.{BeginsAt, EndsAt}
+use Rattle.history.specs.Histories.{BeginsAt, EndsAt, IsRunning}
 use Rattle.lock_runner.specs.declared.accounts.Answer.{Answer}
+use Rattle.lock_runner.specs.declared.accounts.Running.{Running}
 
 -- the operation is one of this actor's
 abbrev pub IsOperationOf : List Event → ℕ → ℕ → Type 0
@@ -22,3 +23,7 @@ pub record AreAnswersOf (actor : ℕ) (history : List Event) (answers : List Ans
       (k : ℕ) × (answer : Answer) × (slice_get answers k ≡ Some answer) × (answer.ended ≡ place)
   pub rising : (j k : ℕ) (earlier later : Answer) → j < k → slice_get answers j ≡ Some earlier → slice_get answers k ≡ Some later →
       earlier.ended < later.ended
+
+-- no operation of the actor but this one has begun and not ended
+abbrev pub RunsNoOther : ℕ → List Event → Option Running → Type 0
+RunsNoOther actor history running = (id : ℕ) → IsRunning history id actor → (operation : Running) × (running ≡ Some operation) × (operation.id ≡ id)

@@ -7,7 +7,7 @@ use Rattle.proof_commits.specs.Beneath.machine_model.specs.declared.reading.Afte
 use Rattle.proof_commits.specs.Beneath.machine_model.specs.declared.reading.After.TheVariants.{Goes, Gives}
 use Rattle.proof_commits.specs.Beneath.machine_model.specs.declared.reading.ReadLine.{ReadLine}
 use Rattle.proof_commits.specs.Beneath.machine_model.specs.declared.reading.ReadLine.TheVariants as read
-use Rattle.proof_commits.specs.Protocol.{Words, Stage, Rests, Reads, Holds, Publishes, Decides, Checks, Leaves, SwapsIn, CommitsNode, ReadTurn, ReadsMain, FindsDecided}
+use Rattle.proof_commits.specs.Protocol.{Words, Stage, Rests, Reads, Builds, Publishes, Decides, Checks, Leaves, SwapsIn, CommitsNode, ReadTurn, ReadsMain, FindsDecided}
 use Rattle.proof_commits.specs.Protocol.{FindsFailed, FindsPending, DecidesAtOnce, Asks, FindsOffer, Aborts, Commits, Fails, Overtaken, Restores, FindsAnother, IsAtRest}
 use Rattle.proof_commits.specs.Protocol.{after_read, after_deciding, MayHave, Moves, Idles, MakesNode, SwapsNode, ReadsOn, DecidesOn, Turn, Acts, Passes, Protocol}
 use Rattle.proof_commits.proofs.Words.Stood.{Stood, none≢pending}
@@ -91,7 +91,7 @@ rest_told w t (Reads i l) r = absurd r
 rest_told w t s r = absurd r
 
 have_told : (w : Words) (t k : ℕ) (n : Ref) (s : Stage) → MayHave w t k n s → ToldIn w (suc t) s
-have_told w t k n (Holds f) have = tt
+have_told w t k n (Builds f) have = tt
 have_told w t k n (Publishes i a f) have = tt
 have_told w t k n Rests have = tt
 have_told w t k n (Reads i l) have = rest_told w (suc t) (Reads i l) have

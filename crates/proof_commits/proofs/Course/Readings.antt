@@ -8,7 +8,7 @@ use Rattle.proof_commits.specs.Beneath.machine_model.specs.declared.reading.Afte
 use Rattle.proof_commits.specs.Beneath.machine_model.specs.declared.reading.After.TheVariants.{Goes, Gives}
 use Rattle.proof_commits.specs.Beneath.machine_model.specs.declared.reading.ReadLine.{ReadLine}
 use Rattle.proof_commits.specs.Beneath.machine_model.specs.declared.reading.ReadLine.TheVariants as read
-use Rattle.proof_commits.specs.Protocol.{Words, logical_at, Stage, Rests, Reads, Holds, Publishes, Decides, Checks, CommitsNode, ReadTurn, ReadsMain, FindsDecided, FindsFailed}
+use Rattle.proof_commits.specs.Protocol.{Words, logical_at, Stage, Rests, Reads, Builds, Publishes, Decides, Checks, CommitsNode, ReadTurn, ReadsMain, FindsDecided, FindsFailed}
 use Rattle.proof_commits.specs.Protocol.{FindsPending, DecidesAtOnce, Asks, FindsOffer, Aborts, Commits, Fails, Overtaken, Restores, FindsAnother, IsAtRest, after_read}
 use Rattle.proof_commits.specs.Protocol.{after_deciding, MayHave, counts_at, Counts, IsSame, Moves, Idles, MakesNode, SwapsNode, ReadsOn, DecidesOn, Turn, Acts, Passes, Protocol}
 use Rattle.proof_commits.proofs.Words.Stood.{Stood, AreSound, none≢pending, over_pending}
@@ -87,7 +87,7 @@ rest_from w t r (Reads i l) e = absurd e
 rest_from w t r s e = absurd e
 
 have_from : (w : Words) (t k : ℕ) (n : Ref) (r : ℕ) (s : Stage) → MayHave w t k n s → FromIn w (suc t) r s
-have_from w t k n r (Holds f) have = tt
+have_from w t k n r (Builds f) have = tt
 have_from w t k n r (Publishes i a f) have = tt
 have_from w t k n r Rests have = tt
 have_from w t k n r (Reads i l) have = rest_from w (suc t) r (Reads i l) have

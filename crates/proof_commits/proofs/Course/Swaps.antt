@@ -6,7 +6,7 @@ use Rattle.proof_commits.specs.Beneath.slot_arena.specs.declared.nodes.Prev.TheV
 use Rattle.proof_commits.specs.Beneath.machine_model.specs.declared.reading.After.{After}
 use Rattle.proof_commits.specs.Beneath.machine_model.specs.declared.reading.After.TheVariants.{Goes, Gives}
 use Rattle.proof_commits.specs.Beneath.machine_model.specs.declared.reading.ReadLine.{ReadLine}
-use Rattle.proof_commits.specs.Protocol.{Words, logical_at, Stage, Rests, Reads, Holds, Publishes, Decides, Checks, CommitsNode, IsAtRest, MayHave, IsSame, Moves, Idles, MakesNode}
+use Rattle.proof_commits.specs.Protocol.{Words, logical_at, Stage, Rests, Reads, Builds, Publishes, Decides, Checks, CommitsNode, IsAtRest, MayHave, IsSame, Moves, Idles, MakesNode}
 use Rattle.proof_commits.specs.Protocol.{SwapsNode, ReadsOn, DecidesOn, Turn, Acts, Passes, after_read, after_deciding, Protocol}
 use Rattle.proof_commits.proofs.Words.Stood.{none≢pending}
 use Rattle.proof_commits.proofs.Words.Effects.{Effect, GoesOn, StaysPending, GetsCommitted, GetsFailed, goes_on, failed_later}
@@ -79,7 +79,7 @@ rest_comes w t k s r = absurd r
 have_comes : (w : Words) (t k : ℕ) (n : Ref) (s : Stage) → MayHave w t k n s → ComesOut w (suc t) k s
 have_comes w t k n Rests have = tt
 have_comes w t k n (Reads i l) have = tt
-have_comes w t k n (Holds f) have = tt
+have_comes w t k n (Builds f) have = tt
 have_comes w t k n (Publishes i a f) have = tt
 have_comes w t k n (Decides i a f l) have = absurd have
 have_comes w t k n (Checks i a f) have = absurd have
@@ -140,7 +140,7 @@ rest_replaces w s r = absurd r
 have_replaces : (w : Words) (t k : ℕ) (n : Ref) (s : Stage) → MayHave w t k n s → Replaces w s
 have_replaces w t k n Rests have = tt
 have_replaces w t k n (Reads i l) have = tt
-have_replaces w t k n (Holds f) have = tt
+have_replaces w t k n (Builds f) have = tt
 have_replaces w t k n (Publishes i a f) have = have.1.1
 have_replaces w t k n (Decides i a f l) have = absurd have
 have_replaces w t k n (Checks i a f) have = absurd have

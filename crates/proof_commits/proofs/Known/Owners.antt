@@ -7,7 +7,7 @@ use Rattle.proof_commits.specs.Beneath.machine_model.specs.declared.reading.Afte
 use Rattle.proof_commits.specs.Beneath.machine_model.specs.declared.reading.After.TheVariants.{Goes, Gives}
 use Rattle.proof_commits.specs.Beneath.machine_model.specs.declared.reading.ReadLine.{ReadLine}
 use Rattle.proof_commits.specs.Beneath.machine_model.specs.declared.reading.ReadLine.TheVariants as read
-use Rattle.proof_commits.specs.Protocol.{Words, Stage, Rests, Reads, Holds, Publishes, Decides, Checks, Makes, SwapsIn, CommitsNode, FailsNode, ReadTurn, ReadsMain, FindsDecided}
+use Rattle.proof_commits.specs.Protocol.{Words, Stage, Rests, Reads, Builds, Publishes, Decides, Checks, Makes, SwapsIn, CommitsNode, FailsNode, ReadTurn, ReadsMain, FindsDecided}
 use Rattle.proof_commits.specs.Protocol.{FindsFailed, FindsPending, DecidesAtOnce, Asks, FindsOffer, Aborts, Commits, Fails, Overtaken, Restores, FindsAnother, Given, IsAtRest}
 use Rattle.proof_commits.specs.Protocol.{after_read, after_deciding, MayName, MayHave, Moves, Idles, MakesNode, SwapsNode, ReadsOn, DecidesOn}
 use Rattle.proof_commits.proofs.Words.Stood.{Stood, Decided, Private, AreSound, stood_later, stands_now, none≢pending, over_failed, not_both}
@@ -28,7 +28,7 @@ OnLine w t i (read.Restore m p) = Stood w t i m × (w.prev t m ≡ over.Failed p
 abbrev pub Staged : Words → ℕ → ℕ → Stage → Type 0
 Staged w t k Rests = Unit {0}
 Staged w t k (Reads i l) = OnLine w t i l
-Staged w t k (Holds f) = Private w t f
+Staged w t k (Builds f) = Private w t f
 Staged w t k (Publishes i a f) = Private w t f × Given w t k i a
 Staged w t k (Decides i a f l) = OnLine w t i l × Stood w t i f × Decided w t i a
 Staged w t k (Checks i a f) = Stood w t i f × Decided w t i a
@@ -37,7 +37,7 @@ Staged w t k (Checks i a f) = Stood w t i f × Decided w t i a
 abbrev pub HasFresh : Stage → Ref → Type 0
 HasFresh Rests q = ⊥
 HasFresh (Reads i l) q = ⊥
-HasFresh (Holds f) q = f ≡ q
+HasFresh (Builds f) q = f ≡ q
 HasFresh (Publishes i a f) q = f ≡ q
 HasFresh (Decides i a f l) q = f ≡ q
 HasFresh (Checks i a f) q = f ≡ q
@@ -260,7 +260,7 @@ line_later w t e i (read.Restore m p) s = (stood_later s.0, failed_later w t e m
 pub staged_later : (w : Words) (t : ℕ) → Effect w t → (j : ℕ) (s : Stage) → ((f : Ref) → HasFresh s f → Private w t f → Private w (suc t) f) → Staged w t j s → Staged w (suc t) j s
 staged_later w t e j Rests keeps st = tt
 staged_later w t e j (Reads i l) keeps st = line_later w t e i l st
-staged_later w t e j (Holds f) keeps st = keeps f refl st
+staged_later w t e j (Builds f) keeps st = keeps f refl st
 staged_later w t e j (Publishes i a f) keeps st = (keeps f refl st.0, given_later st.1)
 staged_later w t e j (Decides i a f l) keeps st = (line_later w t e i l st.0, stood_later st.1, decided_later w t e i a st.2)
 staged_later w t e j (Checks i a f) keeps st = (stood_later st.0, decided_later w t e i a st.1)
@@ -287,7 +287,7 @@ just_made w t h n e s = record {
 made_staged : (w : Words) (t k : ℕ) → (n : Ref) → Private w (suc t) n → (after : Stage) → MayHave w t k n after → Staged w (suc t) k after
 made_staged w t k n p Rests have = tt
 made_staged w t k n p (Reads i l) have = rest_staged w (suc t) k (Reads i l) have
-made_staged w t k n p (Holds f) have = subst (λ x. Private w (suc t) x) (sym have) p
+made_staged w t k n p (Builds f) have = subst (λ x. Private w (suc t) x) (sym have) p
 made_staged w t k n p (Publishes i a f) have = (subst (λ x. Private w (suc t) x) (sym have.0) p, given_later have.1.0)
 made_staged w t k n p (Decides i a f l) have = absurd have
 made_staged w t k n p (Checks i a f) have = absurd have

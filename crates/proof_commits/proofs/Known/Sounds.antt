@@ -7,7 +7,7 @@ use Rattle.proof_commits.specs.Beneath.machine_model.specs.declared.reading.Afte
 use Rattle.proof_commits.specs.Beneath.machine_model.specs.declared.reading.After.TheVariants.{Goes, Gives}
 use Rattle.proof_commits.specs.Beneath.machine_model.specs.declared.reading.ReadLine.{ReadLine}
 use Rattle.proof_commits.specs.Beneath.machine_model.specs.declared.reading.ReadLine.TheVariants as read
-use Rattle.proof_commits.specs.Protocol.{Words, Stage, Rests, Reads, Holds, Publishes, Decides, Checks, Leaves, Makes, SwapsIn, PutsBack, ReadTurn, ReadsMain, FindsDecided}
+use Rattle.proof_commits.specs.Protocol.{Words, Stage, Rests, Reads, Builds, Publishes, Decides, Checks, Leaves, Makes, SwapsIn, PutsBack, ReadTurn, ReadsMain, FindsDecided}
 use Rattle.proof_commits.specs.Protocol.{FindsFailed, FindsPending, DecidesAtOnce, Asks, FindsOffer, Aborts, Commits, Fails, Overtaken, Restores, FindsAnother, IsAtRest}
 use Rattle.proof_commits.specs.Protocol.{after_read, after_deciding, MayHave, Moves, Idles, MakesNode, SwapsNode, ReadsOn, DecidesOn, Turn, Acts, Passes, Protocol}
 use Rattle.proof_commits.proofs.Words.Stood.{Stood, Private, AreSound, none≢pending, pending≢failed, same_pending, over_none, not_both}
@@ -24,7 +24,7 @@ rest_fresh s f r h = r
 have_fresh : (w : Words) (t k : ℕ) (n : Ref) (after : Stage) (f : Ref) → MayHave w t k n after → HasFresh after f → n ≡ f
 have_fresh w t k n Rests f have h = absurd h
 have_fresh w t k n (Reads i l) f have h = absurd h
-have_fresh w t k n (Holds x) f have h = sym have ∙ h
+have_fresh w t k n (Builds x) f have h = sym have ∙ h
 have_fresh w t k n (Publishes i a x) f have h = sym have.0 ∙ h
 have_fresh w t k n (Decides i a x l) f have h = absurd have
 have_fresh w t k n (Checks i a x) f have h = absurd have
@@ -49,7 +49,7 @@ fresh_before w t k s after (DecidesOn {i} {a} {f = x} {l} {out} r) f h = inl (de
 fresh_made : (w : Words) (t k : ℕ) → AreSound w t → (s : Stage) → Staged w t k s → (f : Ref) → HasFresh s f → w.made t f ≡ true
 fresh_made w t k h Rests st f e = absurd e
 fresh_made w t k h (Reads i l) st f e = absurd e
-fresh_made w t k h (Holds x) st f e = subst (λ y. w.made t y ≡ true) e st.made
+fresh_made w t k h (Builds x) st f e = subst (λ y. w.made t y ≡ true) e st.made
 fresh_made w t k h (Publishes i a x) st f e = subst (λ y. w.made t y ≡ true) e st.0.made
 fresh_made w t k h (Decides i a x l) st f e = subst (λ y. w.made t y ≡ true) e (h.made i x st.1)
 fresh_made w t k h (Checks i a x) st f e = subst (λ y. w.made t y ≡ true) e (h.made i x st.0)

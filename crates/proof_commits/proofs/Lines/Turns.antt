@@ -67,7 +67,7 @@ use Rattle.proof_commits.specs.Beneath.machine_model.specs.Operations.{line_acti
 use Rattle.proof_commits.specs.Beneath.machine_model.specs.Acting.{commits_after}
 use Rattle.proof_commits.specs.Beneath.machine_model.specs.Grown.{node_under}
 use Rattle.proof_commits.specs.Beneath.machine_model.specs.Moves.{GoesOn}
-use Rattle.proof_commits.specs.Protocol.{Words, HasMade, Stage, Rests, Reads, Holds, Publishes, Decides, Checks, IsFree, MayName, Given, ReadTurn, Moves, Idles, MakesNode}
+use Rattle.proof_commits.specs.Protocol.{Words, HasMade, Stage, Rests, Reads, Builds, Publishes, Decides, Checks, IsFree, MayName, Given, ReadTurn, Moves, Idles, MakesNode}
 use Rattle.proof_commits.specs.Protocol.{SwapsNode, ReadsOn, DecidesOn, after_read}
 use Rattle.proof_commits.proofs.Lines.Stages.{ReadRemembers, Remembers, key_stage, renew_stage, clean_stage, child_stage, climb_stage, walk_stage, copy_stage}
 use Rattle.proof_commits.proofs.Lines.Stages.{copy_completing_stage, root_completing_stage}
@@ -205,7 +205,7 @@ module _ (limits : Limits) (states : ℕ → State) (last : ℕ) (known : Known 
       make_turn Rests tt _ (build_if_made (states t) operation (build.Pair path main position single depth)) s.commits (tt, tt) (λ n. refl)
       (names_none Rests _ (main_plain _ (pair_main _ depth _ _ _ single))) (next_ref heap) s.acts
   build_turn (build.Link path main position below depth) s =
-      make_turn (Holds below) tt _ (build_if_made (states t) operation (build.Link path main position below depth)) s.commits (tt, tt) (link_has path main position depth)
+      make_turn (Builds below) tt _ (build_if_made (states t) operation (build.Link path main position below depth)) s.commits (tt, tt) (link_has path main position depth)
       (λ l. inr refl) (next_ref heap) s.acts
   build_turn (build.Rung path main position below depth) s =
       make_turn Rests tt _ (build_if_made (states t) operation (build.Rung path main position below depth)) s.commits (tt, tt) (λ n. refl)
@@ -347,7 +347,7 @@ module _ (limits : Limits) (states : ℕ → State) (last : ℕ) (known : Known 
   copy_turn (copy.Empty at main) s =
       make_turn Rests tt _ (copy_if_made operation (copy.Empty at main)) s.commits (tt, tt) (λ n. refl) (λ l. absurd (true≢false (sym l))) (next_ref heap) s.acts
   copy_turn (copy.Cleared at main branch) s =
-      make_turn (Holds branch) tt _ (copy_if_made operation (copy.Cleared at main branch)) s.commits (tt, tt) (λ n. tt) (λ l. inr refl) (next_ref heap) s.acts
+      make_turn (Builds branch) tt _ (copy_if_made operation (copy.Cleared at main branch)) s.commits (tt, tt) (λ n. tt) (λ l. inr refl) (next_ref heap) s.acts
   copy_turn (copy.Offer offer) s = rest_turn Rests _ tt s.acts s.commits (Resting.offer_rest G W offer (is_plain word offer.root))
   copy_turn (copy.Complete c) s = copy_completing c.offer c.line s
 

@@ -1,11 +1,11 @@
 -- Each line of KEY hands on what it knows.
 use Rattle.std.proofs.Common.{◌≡◌, ◌≢◌, ℕ, ◌+◌, ◌-◌, ◌<◌, ◌==◌, ◌&&◌, nat_lt, nat_le, Bool, true, false, cond, List, [], ◌∷◌, length, take, slice_index_or, Option, Some, None, inl}
+use Rattle.std.proofs.lemmas.Bool.{and_parts}
 use Rattle.std.proofs.Common.{inr, refl, sym, ap, ap₂, subst, ◌∙◌, eqb-true, take_all, ltb-true, ltb-false, leb-false}
 use Rattle.std.proofs.lemmas.Grind.{take_at_read}
 use Rattle.arrayvec.specs.ArrayVec.{ArrayVec}
 use Rattle.proof_contents.specs.Beneath.ctrie_base.specs.Paths.{position_of}
-use Rattle.proof_contents.specs.Beneath.history.specs.declared.calls.Access.{Access}
-use Rattle.proof_contents.specs.Beneath.history.specs.declared.calls.Access.TheVariants.{Writable, ReadOnly}
+use Rattle.proof_contents.specs.Beneath.history.specs.declared.calls.Access.TheVariants.{ReadOnly}
 use Rattle.proof_contents.specs.Beneath.history.specs.declared.calls.Call.{Call}
 use Rattle.proof_contents.specs.Beneath.history.specs.declared.calls.Call.TheVariants.{Get}
 use Rattle.proof_contents.specs.Beneath.slot_arena.specs.declared.refs.Ref.{Ref}
@@ -26,15 +26,13 @@ use Rattle.machine_model.specs.declared.finding.WhenFound.{WhenFound}
 use Rattle.machine_model.specs.declared.finding.WhenFound.TheVariants.{Answers, Sets, Removes}
 use Rattle.machine_model.specs.declared.lines.Line.TheVariants as line
 use Rattle.proof_contents.specs.Beneath.history.specs.declared.replies.Reply.TheVariants as reply
-use Rattle.machine_model.specs.declared.repairs.CleanLine.TheVariants as clean
-use Rattle.machine_model.specs.declared.repairs.RenewLine.TheVariants as renew
 use Rattle.machine_model.specs.Calls.{key_of, inserts, absent_reply, when_found}
 use Rattle.machine_model.specs.States.{State}
 use Rattle.machine_model.specs.Paths as path
-use Rattle.machine_model.specs.Paths.{depth_of, is_below_root, above, current}
-use Rattle.machine_model.specs.Reading.{read_step, reading}
+use Rattle.machine_model.specs.Paths.{depth_of, is_below_root}
+use Rattle.machine_model.specs.Reading.{read_step}
 use Rattle.machine_model.specs.Renewing.{renew_next}
-use Rattle.machine_model.specs.Finding.{going_down, absent, absent_beside, absent_listed, removing, found_so, found, key_after_read, after_tomb, key_after_main, is_passable}
+use Rattle.machine_model.specs.Finding.{going_down, absent, absent_beside, absent_listed, removing, found_so, found, key_after_read, key_after_main, is_passable}
 use Rattle.machine_model.specs.Finding.{key_after_entry, after_listed, after_sibling, key_after}
 use Rattle.proof_contents.specs.Nodes.Looking.{Absent, look_among, or_else}
 use Rattle.proof_contents.proofs.Nodes.Branches.{differ}
@@ -42,10 +40,7 @@ use Rattle.proof_contents.proofs.Nodes.Changes.{look-other}
 use Rattle.proof_contents.proofs.Nodes.Lists.{look_among-append}
 use Rattle.proof_contents.specs.Lines.Changes.{Known, IsFlagged, Absence, no_flag, not_listed, Presence, in_branch, in_list, Neighbour, GoesThrough, IsOther, of_branch, of_list}
 use Rattle.proof_contents.specs.Lines.Changes.{KnowsKey, KnowsLine, IsGet, main_of_key}
-
-second_true : (a b : Bool) → (a && b) ≡ true → b ≡ true
-second_true true b e = e
-second_true false b e = absurd (let bad : false ≡ true = e in cc)
+use Rattle.proof_contents.proofs.Lines.Coming.{tomb_comes, renew_comes}
 
 not_full : (a b : Bool) → a ≡ true → (a && b) ≡ false → b ≡ false
 not_full true b is e = e
@@ -114,7 +109,7 @@ module _ (state : State) (operation : Operation) (node : Ref → Node) (first : 
         by_presence both (in_branch b' es' f single) =
             let same : Branch b es ≡ Branch b' es' = sym is ∙ f.is in
             let es_is : es ≡ es' = cc in
-            (b', es', f, single, ap (λ (l : ArrayVec Ref). length l.items) (sym es_is) ∙ eqb-true (length es.items) 2 (second_true (is_below_root p) (length es.items == 2) both), removes)
+            (b', es', f, single, ap (λ (l : ArrayVec Ref). length l.items) (sym es_is) ∙ eqb-true (length es.items) 2 ((and_parts (is_below_root p) (length es.items == 2) both).1), removes)
         by_presence both (in_list ss is' lt single) = absurd (let bad : Branch b es ≡ Listed ss = sym is ∙ is' in cc)
 
         by_test : (t : Bool) → (is_below_root p && (length es.items == 2)) ≡ t →
@@ -156,15 +151,7 @@ module _ (state : State) (operation : Operation) (node : Ref → Node) (first : 
             KnowsLine known Call' (cond t (line.Key (key.Entry p main (position_of (path.flag_in state operation p) b))) (absent operation p main))
         by_test true e = (b, es, record { is = is; flagged = e; at = refl })
         by_test false e = absent_knows (no_flag b es is e)
-    main_knows gets (Tomb s) is = by_access operation.access refl
-      where
-        by_root : (t : Bool) → KnowsLine known Call' (cond t (line.Clean (clean.Read (above p) (reading (current (above p))))) line.Impossible)
-        by_root true = tt
-        by_root false = tt
-
-        by_access : (a : Access) → operation.access ≡ a → KnowsLine known Call' (after_tomb a p main)
-        by_access Writable e = by_root (is_below_root p)
-        by_access ReadOnly e = inr (s, is, refl, gets e)
+    main_knows gets (Tomb s) is = tomb_comes (KnowsLine known Call') operation.access p main (λ e. tt) tt (λ e. inr (s, is, refl, gets e))
     main_knows gets (Listed ss) is = inl (ss, record { is = is; within = sees.filled ss is; none = refl })
     main_knows gets (Indirection g w) is = tt
     main_knows gets (Single k v) is = tt
@@ -174,13 +161,9 @@ module _ (state : State) (operation : Operation) (node : Ref → Node) (first : 
         KnowsLine known Call' (key_after_entry state operation p main position n)
     entry_knows position b es seen f (Indirection g w) e = by_test (is_passable operation g)
       where
-        by_more : (t : Bool) → KnowsLine known Call' (cond t (line.Renew (renew.Entry p main [])) (line.Renew (renew.Branch p main [])))
-        by_more true = tt
-        by_more false = tt
-
         by_test : (t : Bool) → KnowsLine known Call' (cond t (going_down p (entry_at state.heap main position)) (renew_next state p main []))
         by_test true = tt
-        by_test false = by_more (nat_lt 0 (length (entries_of (node_at state.heap main))))
+        by_test false = renew_comes (KnowsLine known Call') state p main [] tt tt
     entry_knows position b es seen f (Single k v) e = by_test (k == Key') refl
       where
         known_single : node (slice_index_or es.items position no_ref) ≡ Single k v

@@ -1,13 +1,11 @@
 -- Where KEY ends without a change it answers what the main node says of its key.
 use Rattle.std.proofs.Common.{◌≡◌, ◌≢◌, ℕ, ◌+◌, ◌-◌, ◌≤◌, ◌==◌, ◌&&◌, nat_lt, nat_le, Bool, true, false, cond, List, [], ◌∷◌, length, take, drop, slice_index_or, None, refl}
-use Rattle.std.proofs.lemmas.Bool.{cond_both}
+use Rattle.std.proofs.lemmas.Bool.{and_parts, cond_both}
 use Rattle.std.proofs.Common.{sym, ap, ap₂, subst, ◌∙◌, eqb-true, take_all, ltb-false, leb-true, take-append-drop}
 use Rattle.std.proofs.lemmas.Grind.{take_at_read}
 use Rattle.arrayvec.specs.ArrayVec.{ArrayVec}
 use Rattle.proof_contents.specs.Beneath.ctrie_base.specs.Paths.{position_of}
 use Rattle.proof_contents.specs.Beneath.ctrie_base.specs.Hashes.{hash_of}
-use Rattle.proof_contents.specs.Beneath.history.specs.declared.calls.Access.{Access}
-use Rattle.proof_contents.specs.Beneath.history.specs.declared.calls.Access.TheVariants.{Writable, ReadOnly}
 use Rattle.proof_contents.specs.Beneath.history.specs.declared.replies.Reply.{Reply}
 use Rattle.proof_contents.specs.Beneath.history.specs.declared.replies.Reply.TheVariants as reply
 use Rattle.proof_contents.specs.Beneath.slot_arena.specs.declared.refs.Ref.{Ref}
@@ -21,17 +19,14 @@ use Rattle.machine_model.specs.declared.building.BuildLine.TheVariants as build
 use Rattle.machine_model.specs.declared.finding.KeyLine.TheVariants as key
 use Rattle.machine_model.specs.declared.finding.WhenFound.{WhenFound}
 use Rattle.machine_model.specs.declared.finding.WhenFound.TheVariants.{Answers, Sets, Removes}
-use Rattle.machine_model.specs.declared.repairs.CleanLine.TheVariants as clean
-use Rattle.machine_model.specs.declared.repairs.RenewLine.TheVariants as renew
 use Rattle.machine_model.specs.declared.lines.Line.{Line}
 use Rattle.machine_model.specs.declared.lines.Line.TheVariants as line
 use Rattle.machine_model.specs.Calls.{key_of, inserts, absent_reply, when_found}
 use Rattle.machine_model.specs.States.{State}
 use Rattle.machine_model.specs.Paths as path
-use Rattle.machine_model.specs.Paths.{depth_of, is_below_root, above, current}
-use Rattle.machine_model.specs.Reading.{reading}
+use Rattle.machine_model.specs.Paths.{depth_of}
 use Rattle.machine_model.specs.Renewing.{renew_next}
-use Rattle.machine_model.specs.Finding.{going_down, absent, absent_beside, absent_listed, removing, found_so, found, after_tomb, key_after_main, is_passable, key_after_entry, after_listed}
+use Rattle.machine_model.specs.Finding.{going_down, absent, absent_beside, absent_listed, found_so, found, key_after_main, is_passable, key_after_entry, after_listed}
 use Rattle.proof_contents.specs.Nodes.Looking.{Found, Absent, Has, look_at, look_among, or_else}
 use Rattle.proof_contents.specs.Nodes.Changing.{look}
 use Rattle.proof_contents.proofs.Nodes.Branches.{differ}
@@ -39,6 +34,7 @@ use Rattle.proof_contents.proofs.Nodes.Changes.{look-same, look-other}
 use Rattle.proof_contents.proofs.Nodes.Lists.{look_among-append}
 use Rattle.proof_contents.specs.Lines.Changes.{Known, IsFlagged, GoesThrough, IsGet}
 use Rattle.proof_contents.proofs.Lines.Key.{known, Sees, SeesSingle, get_answers}
+use Rattle.proof_contents.proofs.Lines.Coming.{tomb_comes, removing_comes, renew_comes}
 
 module _ (state : State) (operation : Operation) (node : Ref → Node) (first : Ref → Ref) (Right : Reply → Type 0) where
   abbrev K : Known
@@ -72,20 +68,13 @@ module _ (state : State) (operation : Operation) (node : Ref → Node) (first : 
     beside_ends : (position : ℕ) → says ≡ Absent → EndsRight (absent_beside operation p main position)
     beside_ends position none = cond_both (inserts operation.call) _ _ EndsRight (λ e. tt) (λ e. a.where_absent none e)
 
-    removing_ends : (position v : ℕ) (n : Node) → EndsRight (removing state p main position v n)
-    removing_ends position v (Branch b es) = cond_both (is_below_root p && (length es.items == 2)) _ _ EndsRight (λ e. tt) (λ e. tt)
-    removing_ends position v (Listed ss) = cond_both (length ss.items == 2) _ _ EndsRight (λ e. tt) (λ e. tt)
-    removing_ends position v (Indirection g w) = tt
-    removing_ends position v (Single k w) = tt
-    removing_ends position v (Tomb s) = tt
-
     found_ends : (position v : ℕ) → says ≡ Has v → EndsRight (found state operation p main position v)
     found_ends position v has = by_case (when_found operation.call v) refl
       where
         by_case : (w : WhenFound) → when_found operation.call v ≡ w → EndsRight (found_so state p main position v w)
         by_case (Answers answer) e = a.where_found v answer has e
         by_case Sets e = tt
-        by_case Removes e = removing_ends position v (node_at state.heap main)
+        by_case Removes e = removing_comes EndsRight state p main position v tt tt (λ other. tt) tt (node_at state.heap main)
 
     -- ---- line by line
 
@@ -100,15 +89,7 @@ module _ (state : State) (operation : Operation) (node : Ref → Node) (first : 
         by_test true e = tt
         by_test false e =
             absent_ends (ap (look node (hash_of state.limits.hash) (depth_of p) Key') is ∙ ap (λ t. cond t (look_at Key' entry (node entry)) Absent) e)
-    main_ends (Tomb s) is = by_access operation.access
-      where
-        by_root : (t : Bool) → EndsRight (cond t (line.Clean (clean.Read (above p) (reading (current (above p))))) line.Impossible)
-        by_root true = tt
-        by_root false = tt
-
-        by_access : (access : Access) → EndsRight (after_tomb access p main)
-        by_access Writable = by_root (is_below_root p)
-        by_access ReadOnly = tt
+    main_ends (Tomb s) is = tomb_comes EndsRight operation.access p main (λ e. tt) tt (λ e. tt)
     main_ends (Listed ss) is = tt
     main_ends (Indirection g w) is = tt
     main_ends (Single k v) is = tt
@@ -117,13 +98,9 @@ module _ (state : State) (operation : Operation) (node : Ref → Node) (first : 
         node_at state.heap (entry_at state.heap main position) ≡ n → EndsRight (key_after_entry state operation p main position n)
     entry_ends position b es seen f (Indirection g w) e = by_test (is_passable operation g)
       where
-        by_more : (t : Bool) → EndsRight (cond t (line.Renew (renew.Entry p main [])) (line.Renew (renew.Branch p main [])))
-        by_more true = tt
-        by_more false = tt
-
         by_test : (t : Bool) → EndsRight (cond t (going_down p (entry_at state.heap main position)) (renew_next state p main []))
         by_test true = tt
-        by_test false = by_more (nat_lt 0 (length (entries_of (node_at state.heap main))))
+        by_test false = renew_comes EndsRight state p main [] tt tt
     entry_ends position b es seen f (Single k v) e = by_test (k == Key') refl
       where
         entry : Ref
@@ -174,14 +151,10 @@ module _ (state : State) (operation : Operation) (node : Ref → Node) (first : 
             ap (look_among node Key') (sym (take_all (position + 1) ss.items (ltb-false (position + 1) (length ss.items) past)))
             ∙ upto Absent (look-other node Key' k v here single (λ same. apart (sym same)))
 
-        both_true : (b c : Bool) → (b && c) ≡ true → (b ≡ true) × (c ≡ true)
-        both_true true c e = (refl, e)
-        both_true false c e = absurd (let bad : false ≡ true = e in cc)
-
         by_room : k ≢ Key' → nat_lt (position + 1) (length ss.items) ≡ false → (t : Bool) → (inserts operation.call && nat_le 32 (length ss.items)) ≡ t →
             EndsRight (cond t (line.End reply.Crowded) (absent operation p main))
         by_room apart past true full =
-            let parts = both_true (inserts operation.call) (nat_le 32 (length ss.items)) full in
+            let parts = and_parts (inserts operation.call) (nat_le 32 (length ss.items)) full in
             a.where_crowded ss go.is (leb-true 32 (length ss.items) parts.1) (none apart past) parts.0
         by_room apart past false room = absent_ends (says_list ∙ none apart past)
 

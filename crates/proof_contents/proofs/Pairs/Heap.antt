@@ -14,7 +14,7 @@ use Rattle.machine_model.specs.declared.roots.RootWord.{RootWord}
 use Rattle.machine_model.specs.declared.roots.RootWord.TheVariants.{Plain, Offer}
 use Rattle.machine_model.specs.declared.steps.Limits.{Limits}
 use Rattle.machine_model.specs.States as state
-use Rattle.machine_model.specs.States.{State, root_of, word_at}
+use Rattle.machine_model.specs.States.{State, root_of}
 use Rattle.machine_model.specs.Counting.{refs_of_word, refs_of_root}
 use Rattle.machine_model.specs.Contents.{pairs_at, pairs_below, most_levels, content_at, IsReached, from_root, from_slot}
 use Rattle.machine_model.specs.Pairs.{by_key}
@@ -42,6 +42,11 @@ entry_refs (Branch bitmap es) r c = c
 entry_refs (Single k v) r c = c
 entry_refs (Tomb s) r c = c
 entry_refs (Listed ss) r c = c
+
+-- a root word names its root
+pub word_root : (w : RootWord) → Contains (refs_of_word w) (root_of w)
+word_root (Plain r) = (0, omega arith, refl)
+word_root (Offer offer) = (0, omega arith, refl)
 
 module _ (states : ℕ → State) (last : ℕ) (reaches : ReachesInUse (states last)) where
   abbrev heap : Heap
@@ -122,10 +127,6 @@ module _ (states : ℕ → State) (last : ℕ) (reaches : ReachesInUse (states l
       by_node rest (Listed ss) is = refl
 
   -- ---- handles
-
-  word_root : (w : RootWord) → Contains (refs_of_word w) (root_of w)
-  word_root (Plain r) = (0, omega arith, refl)
-  word_root (Offer offer) = (0, omega arith, refl)
 
   root_reached : (handle : ℕ) (root : Root) → state.root_at (states last) handle ≡ Some root → Reached (root_of root.word)
   root_reached handle root e =

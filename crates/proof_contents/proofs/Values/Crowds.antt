@@ -9,10 +9,11 @@ use Rattle.std.specs.FinMap.Entries.{below_all}
 use Rattle.std.proofs.lemmas.Map.Made.{length-from_same_keys, length-le_from_is_member}
 use Rattle.std.proofs.lemmas.Map.Views.{any-filter_same}
 use Rattle.std.proofs.lemmas.List.Sums.{length-filter}
-use Rattle.std.proofs.lemmas.Bool.{and_parts}
+use Rattle.std.proofs.lemmas.Bool.{and_parts, not-true}
 use Rattle.proof_contents.specs.Beneath.history.specs.Worlds.{KeyMap}
 use Rattle.proof_contents.specs.Beneath.history.specs.Effects.{others}
-use Rattle.proof_contents.specs.Beneath.ctrie_base.proofs.Tests.{same_tests}
+use Rattle.proof_contents.specs.Beneath.ctrie_base.proofs.SameTests.{same_tests}
+use Rattle.proof_contents.proofs.Nodes.Branches.{differ}
 
 -- a key stands in a list
 abbrev pub is_among : List ℕ → ℕ → Bool
@@ -72,19 +73,12 @@ module _ (hash : ℕ → ℕ) (m : KeyMap) (k : ℕ) where
       any-filter_same (eq_by_cmp nat_cmp q) is_other (is_other q) (λ x same. ap is_other (sym (eqb-true q x (sym (unsigned_tied q x) ∙ same)))) (keys m)
       ∙ ap (λ b. is_other q && b) (sym (contains_key-keys m q))
 
-  not_true : (b : Bool) → not b ≡ true → b ≡ false
-  not_true true e = sym e
-  not_true false e = refl
-
-  differs : (a b : ℕ) → (a == b) ≡ false → a ≢ b
-  differs a b e same = let bad : true ≡ false = sym (eq-eqb a b same) ∙ e in cc
-
   -- what it is to be among the others
   of_others : (q : ℕ) → is_among (filter is_other (keys m)) q ≡ true → hash q ≡ hash k × q ≢ k × is_some (get m q) ≡ true
   of_others q e =
       let parts = and_parts (is_other q) (contains_key m q) (sym (among_others q) ∙ e) in
       let other = and_parts (hash q == hash k) (not (q == k)) parts.0 in
-      (eqb-true (hash q) (hash k) other.0, differs q k (not_true (q == k) other.1), parts.1)
+      (eqb-true (hash q) (hash k) other.0, differ q k (not-true (q == k) other.1), parts.1)
 
   -- there are no more than these, where each stands among them
   pub others_le : (ks : List ℕ) → ((q : ℕ) → hash q ≡ hash k → q ≢ k → is_some (get m q) ≡ true → is_among ks q ≡ true) → others hash m k ≤ length ks

@@ -6,7 +6,6 @@ use Rattle.std.proofs.lemmas.Option.{none-some, same_Some}
 use Rattle.proof_generations.specs.Beneath.slot_arena.specs.declared.refs.Ref.{Ref}
 use Rattle.proof_generations.specs.Beneath.slot_arena.specs.Heaps.{generation_at, generation_of}
 use Rattle.proof_generations.specs.Beneath.machine_model.specs.declared.operations.Operation.{Operation}
-use Rattle.proof_generations.specs.Beneath.machine_model.specs.declared.actions.Action.TheVariants as act
 use Rattle.proof_generations.specs.Beneath.machine_model.specs.declared.roots.Descriptor.{Descriptor}
 use Rattle.proof_generations.specs.Beneath.machine_model.specs.declared.roots.Root.{Root}
 use Rattle.proof_generations.specs.Beneath.machine_model.specs.declared.roots.RootWord.{RootWord}
@@ -28,7 +27,7 @@ use Rattle.proof_generations.specs.Beneath.proof_memory.specs.Laws.{IsInUse}
 use Rattle.proof_generations.specs.Beneath.proof_memory.proofs.Claims.Uses.{safe_of}
 use Rattle.proof_generations.specs.Beneath.proof_memory.proofs.Safety.States.{IsSafe}
 use Rattle.proof_generations.specs.Beneath.proof_memory.proofs.Safety.AtEachTime.{safe_at}
-use Rattle.proof_generations.proofs.Handles.Footings.{CarriesOut, RootFrom, stood, swapped, newly}
+use Rattle.proof_generations.proofs.Handles.Footings.{ActionCarriesOut, RootFrom, stood, swapped, newly, one_carried}
 use Rattle.proof_generations.proofs.Offers.Marks.{carried_stands}
 use Rattle.proof_generations.proofs.Offers.Standing.{StandsBy}
 use Rattle.proof_generations.proofs.Roots.Own.{gen}
@@ -161,7 +160,7 @@ module _ (limits : Limits) (states : ℕ → State) (last : ℕ) (run : IsRun li
     )
 
     -- the old root is closed by the step
-    old_closed : (actor : ℕ) (mover : Operation) (offer : Descriptor) → operation_of (states t) actor ≡ Some mover → CarriesOut (states t) (handle_of mover.call) (action_of (states t) mover) offer →
+    old_closed : (actor : ℕ) (mover : Operation) (offer : Descriptor) → operation_of (states t) actor ≡ Some mover → ActionCarriesOut (states t) (handle_of mover.call) (action_of (states t) mover) offer →
         (states (suc t)).closings ≡ (states t).closings ++ closing_of (states t) offer ∷ [] → WasClosed states (suc t) (generation_at (states t).heap offer.root)
     old_closed actor mover offer is c closings = by (closed_at (states t) (generation_at (states t).heap offer.root)) refl
       where
@@ -181,9 +180,6 @@ module _ (limits : Limits) (states : ℕ → State) (last : ℕ) (run : IsRun li
         stands : StandsBy (states t) (handle_of mover.call) offer
         stands = I.offers.offers (handle_of mover.call) offer (carried_stands (states t) I.offers actor mover offer is c)
 
-        same_carried : (other : Descriptor) → CarriesOut (states t) (handle_of mover.call) (action_of (states t) mover) other → other ≡ offer
-        same_carried other d = let both : act.Complete other d.main ≡ act.Complete offer c.main = sym d.is_it ∙ c.is_it in cc both
-
         at_end : (r : Ref) → root_of now.word ≡ r → generation_of (node_under states last r) ≡ g
         at_end r word = ap (λ x. generation_of (node_under states last x)) (sym word) ∙ standing_generation (suc t) h handle now e ∙ its
 
@@ -198,8 +194,12 @@ module _ (limits : Limits) (states : ℕ → State) (last : ℕ) (run : IsRun li
 
         by : RootFrom (states t) (handle_of mover.call) (action_of (states t) mover) handle now → Opening t g
         by (stood root was access word free) = before (kept_root handle root now was word its)
-        by (swapped root other d at_it was it) = fresh true offer.successor refl (ap (λ (x : Root). root_of x.word) it ∙ ap (λ (x : Descriptor). x.successor) (same_carried other d))
-        by (newly other n d number at_it it) = new_handle offer.second refl (it ∙ ap (λ (x : Descriptor). opened_root x x.second) (same_carried other d))
+        by (swapped root other d at_it was it) =
+            let same = one_carried (states t) (handle_of mover.call) (action_of (states t) mover) offer other c d in
+            fresh true offer.successor refl (ap (λ (x : Root). root_of x.word) it ∙ ap (λ (x : Descriptor). x.successor) same)
+        by (newly other n d number at_it it) =
+            let same = one_carried (states t) (handle_of mover.call) (action_of (states t) mover) offer other c d in
+            new_handle offer.second refl (it ∙ ap (λ (x : Descriptor). opened_root x x.second) same)
 
   opening_turn : (t : ℕ) → t < last → (g : ℕ) → Turn (states t) (states (suc t)) → (handle : ℕ) (now : Root) → root_at (states (suc t)) handle ≡ Some now → gen (states (suc t)) now ≡ g → Opening t g
   opening_turn t h g (turns s o m) =

@@ -17,18 +17,22 @@ use Rattle.proof_generations.specs.Beneath.machine_model.proofs.Found.{found_els
 use Rattle.proof_generations.specs.Laws.Roots.{settles}
 
 -- the action carries this offer out
-pub record CarriesOut (st : State) (at : ℕ) (action : Action) (offer : Descriptor) : Type 0 where
+pub record ActionCarriesOut (st : State) (at : ℕ) (action : Action) (offer : Descriptor) : Type 0 where
   pub main : Ref
   pub is_it : action ≡ act.Complete offer main
   pub carried : is_carried_out (word_at st at) offer main ≡ true
 
+-- it carries out one alone
+pub one_carried : (st : State) (at : ℕ) (action : Action) (offer other : Descriptor) → ActionCarriesOut st at action offer → ActionCarriesOut st at action other → other ≡ offer
+one_carried st at action offer other c d = let both : act.Complete other d.main ≡ act.Complete offer c.main = sym d.is_it ∙ c.is_it in cc both
+
 -- a handle that is open after the action was so before, or is swapped or opened by an offer that is carried out
 pub data RootFrom (st : State) (at : ℕ) (action : Action) (handle : ℕ) (now : Root) : Type 0 where
   stood : (root : Root) → root_at st handle ≡ Some root → now.access ≡ root.access → root_of now.word ≡ root_of root.word →
-      ((offer : Descriptor) → CarriesOut st at action offer → handle ≡ at → ⊥) → RootFrom st at action handle now
-  swapped : (root : Root) (offer : Descriptor) → CarriesOut st at action offer → handle ≡ at → root_at st at ≡ Some root → now ≡ record root { word = Plain offer.successor } →
+      ((offer : Descriptor) → ActionCarriesOut st at action offer → handle ≡ at → ⊥) → RootFrom st at action handle now
+  swapped : (root : Root) (offer : Descriptor) → ActionCarriesOut st at action offer → handle ≡ at → root_at st at ≡ Some root → now ≡ record root { word = Plain offer.successor } →
       RootFrom st at action handle now
-  newly : (offer : Descriptor) (n : ℕ) → CarriesOut st at action offer → offer.opens ≡ Some n → handle ≡ n → now ≡ opened_root offer offer.second → RootFrom st at action handle now
+  newly : (offer : Descriptor) (n : ℕ) → ActionCarriesOut st at action offer → offer.opens ≡ Some n → handle ≡ n → now ≡ opened_root offer offer.second → RootFrom st at action handle now
 
 -- a root behind a write stood there before, elsewhere, or was written
 written : (roots : List (Option Root)) (at handle : ℕ) (put : Option Root) (now : Root) → get_or (set roots at put) handle None ≡ Some now →
@@ -46,7 +50,7 @@ pub plain_root : (word : RootWord) (r : Ref) → is_plain word r ≡ true → r 
 plain_root (Plain root) r e = sym (eqb-true root r e)
 plain_root (Offer offer) r e = absurd (false≢true e)
 
-carried_offer : (st : State) (at : ℕ) (own : Descriptor) (main : Ref) (other : Descriptor) → CarriesOut st at (act.Complete own main) other →
+carried_offer : (st : State) (at : ℕ) (own : Descriptor) (main : Ref) (other : Descriptor) → ActionCarriesOut st at (act.Complete own main) other →
     (stands_in (word_at st at) own ≡ true) × ((main == own.expected) ≡ true)
 carried_offer st at own main other c =
     let same : act.Complete own main ≡ act.Complete other c.main = c.is_it in
@@ -57,7 +61,7 @@ carried_offer st at own main other c =
 
 module _ (st : State) (at handle : ℕ) (now : Root) where
   abbrev NoCarry : Action → Type 0
-  NoCarry action = (offer : Descriptor) → CarriesOut st at action offer → ⊥
+  NoCarry action = (offer : Descriptor) → ActionCarriesOut st at action offer → ⊥
 
   same_root : (action : Action) → NoCarry action → root_at st handle ≡ Some now → RootFrom st at action handle now
   same_root action no_carry e = stood now e refl refl (λ offer c here. no_carry offer c)
@@ -82,13 +86,13 @@ module _ (st : State) (at handle : ℕ) (now : Root) where
   offer_by own true t e = word_from (act.Offer own) (Offer own) (λ offer c. let wrong : ⊥ = cc c.is_it in wrong) (plain_root (word_at st at) own.root t) e
   offer_by own false t e = same_root (act.Offer own) (λ offer c. let wrong : ⊥ = cc c.is_it in wrong) e
 
-  carried_word : (action : Action) (own : Descriptor) → CarriesOut st at action own → root_at (with_word st at (Plain own.successor)) handle ≡ Some now → RootFrom st at action handle now
+  carried_word : (action : Action) (own : Descriptor) → ActionCarriesOut st at action own → root_at (with_word st at (Plain own.successor)) handle ≡ Some now → RootFrom st at action handle now
   carried_word action own c e = elim (written st.roots at handle (rewritten (Plain own.successor) (root_at st at)) now e) [
     | inl old ↦ stood now old.1 refl refl (λ offer d here. old.0 here)
     | inr new ↦ let (root, was, is) = reworded (Plain own.successor) (root_at st at) now new.1 in swapped root own c new.0 was is
   ]
 
-  carried_opens : (action : Action) (own : Descriptor) → CarriesOut st at action own → (n : Option ℕ) → own.opens ≡ n →
+  carried_opens : (action : Action) (own : Descriptor) → ActionCarriesOut st at action own → (n : Option ℕ) → own.opens ≡ n →
       root_at (opened (with_word st at (Plain own.successor)) own n) handle ≡ Some now →
       RootFrom st at action handle now
   carried_opens action own c None is e = carried_word action own c e
@@ -146,10 +150,10 @@ module _ (st : State) (at handle : ℕ) (root : Root) (is_open : root_at st hand
       (now, found_elsewhere (with_word st at (Plain own.successor)).roots n handle (Some (opened_root own own.second)) (λ s. free (ap Some (sym s))) ∙ found, access)
 
   complete_open : (own : Descriptor) (main : Ref) (b e : Bool) → stands_in (word_at st at) own ≡ b → (main == own.expected) ≡ e →
-      (CarriesOut st at (act.Complete own main) own → own.opens ≡ Some handle → ⊥) →
+      (ActionCarriesOut st at (act.Complete own main) own → own.opens ≡ Some handle → ⊥) →
       StaysOpen (if_changed b (cond e (carried_out st at own) (with_word st at (Plain own.root))) st) handle root
   complete_open own main true true stands expected free =
-      let carries : CarriesOut st at (act.Complete own main) own = record { main = main; is_it = refl; carried = and_from _ _ stands expected } in
+      let carries : ActionCarriesOut st at (act.Complete own main) own = record { main = main; is_it = refl; carried = and_from _ _ stands expected } in
       opened_open own own.opens (free carries)
   complete_open own main true false stands expected free = word_open st at handle (Plain own.root) root is_open
   complete_open own main false e stands expected free = (root, is_open, refl)
@@ -158,7 +162,7 @@ module _ (st : State) (at handle : ℕ) (root : Root) (is_open : root_at st hand
   taken_open main None = (root, is_open, refl)
   taken_open main (Some made) = (root, is_open, refl)
 
-  pub stays_open : (action : Action) → ((offer : Descriptor) → CarriesOut st at action offer → offer.opens ≡ Some handle → ⊥) → StaysOpen (acted st at action) handle root
+  pub stays_open : (action : Action) → ((offer : Descriptor) → ActionCarriesOut st at action offer → offer.opens ≡ Some handle → ⊥) → StaysOpen (acted st at action) handle root
   stays_open (act.Abort own) free = test_open (stands_in (word_at st at) own) _ st handle root (word_open st at handle (Plain own.root) root is_open) (root, is_open, refl)
   stays_open (act.Offer own) free = test_open (is_plain (word_at st at) own.root) _ st handle root (word_open st at handle (Offer own) root is_open) (root, is_open, refl)
   stays_open (act.Complete own main) free = complete_open own main (stands_in (word_at st at) own) (main == own.expected) refl refl (free own)

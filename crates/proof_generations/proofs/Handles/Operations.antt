@@ -32,7 +32,7 @@ use Rattle.proof_generations.proofs.Handles.Running.{Comes, began, rested, went,
 use Rattle.proof_generations.specs.Running.{Runs}
 use Rattle.proof_generations.proofs.Offers.Standing.{own_numbers}
 use Rattle.proof_generations.proofs.Offers.Same.{HasOffers, same_offer, has_offers_after, no_offers_at_first}
-use Rattle.proof_generations.proofs.Handles.Footings.{CarriesOut, RootFrom, stood, swapped, newly, root_from, StaysOpen, stays_open}
+use Rattle.proof_generations.proofs.Handles.Footings.{ActionCarriesOut, RootFrom, stood, swapped, newly, root_from, StaysOpen, stays_open}
 use Rattle.proof_generations.proofs.Offers.Marks.{AllDone, done_after, carried_stands, unmarked_before, marks_mark, is_completing, complete_mark}
 
 -- ---- a free number
@@ -181,13 +181,13 @@ module _ (state : State) (I : HasOffers state) (H : HasHandles state) where
 
   -- what is carried out opens no open handle
   opens_new : (actor : ℕ) (operation : Operation) (handle : ℕ) (root : Root) → operation_of state actor ≡ Some operation → root_at state handle ≡ Some root → (offer : Descriptor) →
-      CarriesOut state (handle_of operation.call) (action_of state operation) offer → offer.opens ≡ Some handle → ⊥
+      ActionCarriesOut state (handle_of operation.call) (action_of state operation) offer → offer.opens ≡ Some handle → ⊥
   opens_new actor operation handle root is open_root offer c opening =
       let b = I.offers (handle_of operation.call) offer (carried_stands state I actor operation offer is c) in
       none-some root (sym (H.unopened b.k handle b.owner b.runs b.unmarked (sym (own_numbers b.owner offer (I.own b.k b.owner b.runs) b.completes).number ∙ opening)) ∙ open_root)
 
   here : (actor : ℕ) (operation : Operation) (st : State) (offer : Descriptor) → word_at st (handle_of operation.call) ≡ word_at state (handle_of operation.call) →
-      CarriesOut st (handle_of operation.call) (action_of state operation) offer → CarriesOut state (handle_of operation.call) (action_of state operation) offer
+      ActionCarriesOut st (handle_of operation.call) (action_of state operation) offer → ActionCarriesOut state (handle_of operation.call) (action_of state operation) offer
   here actor operation st offer same c = record { main = c.main; is_it = c.is_it; carried = ap (λ w. is_carried_out w offer c.main) (sym same) ∙ c.carried }
 
   pub stays : (s : Step) (o : Outcome) (after : State) → Moves state s o after → (handle : ℕ) (root : Root) → root_at state handle ≡ Some root →
@@ -201,7 +201,7 @@ module _ (state : State) (I : HasOffers state) (H : HasHandles state) where
 
   pub stays_none : (s : Step) (o : Outcome) (after : State) → Moves state s o after → (n : ℕ) → root_at state n ≡ None →
       ((actor : ℕ) (operation : Operation) (offer : Descriptor) → s ≡ step.Go actor → operation_of state actor ≡ Some operation →
-      CarriesOut state (handle_of operation.call) (action_of state operation) offer → offer.opens ≡ Some n → ⊥) → root_at after n ≡ None
+      ActionCarriesOut state (handle_of operation.call) (action_of state operation) offer → offer.opens ≡ Some n → ⊥) → root_at after n ≡ None
   stays_none s o after (Begins {actor} {call} d) n none not_opened = begun_none state call (begun_operation state call).id n none
   stays_none s o after (Goes {actor} {operation} d is a g) n none not_opened = by (root_at (gone state actor operation) n) refl
     where

@@ -3,8 +3,7 @@ use Rattle.std.proofs.Common.{◌≡◌, ℕ, ◌+◌, ◌==◌, ◌&&◌, nat_l
 use Rattle.std.specs.List.{All}
 use Rattle.std.proofs.lemmas.Bool.{cond_both}
 use Rattle.std.proofs.lemmas.List.Elements.{All-nil}
-use Rattle.proof_generations.specs.Beneath.history.specs.declared.calls.Access.{Access}
-use Rattle.proof_generations.specs.Beneath.history.specs.declared.calls.Access.TheVariants.{Writable, ReadOnly}
+use Rattle.proof_generations.specs.Beneath.history.specs.declared.calls.Access.TheVariants.{Writable}
 use Rattle.proof_generations.specs.Beneath.slot_arena.specs.declared.refs.Ref.{Ref}
 use Rattle.proof_generations.specs.Beneath.slot_arena.specs.declared.nodes.Node.{Node}
 use Rattle.proof_generations.specs.Beneath.slot_arena.specs.declared.nodes.Node.TheVariants.{Indirection, Branch, Single, Tomb, List as Listed}
@@ -19,11 +18,12 @@ use Rattle.proof_generations.specs.Beneath.machine_model.specs.declared.finding.
 use Rattle.proof_generations.specs.Beneath.machine_model.specs.declared.lines.Line.{Line}
 use Rattle.proof_generations.specs.Beneath.machine_model.specs.Calls.{when_found, inserts, key_of}
 use Rattle.proof_generations.specs.Beneath.machine_model.specs.States.{State}
-use Rattle.proof_generations.specs.Beneath.machine_model.specs.Paths.{flag_in, is_below_root, is_start}
-use Rattle.proof_generations.specs.Beneath.machine_model.specs.Finding.{key_after_read, key_after_main, after_tomb, key_after_entry, after_listed, after_sibling, absent}
-use Rattle.proof_generations.specs.Beneath.machine_model.specs.Finding.{absent_beside, absent_listed, removing, found_so, passes}
+use Rattle.proof_generations.specs.Beneath.machine_model.specs.Paths.{flag_in, is_start}
+use Rattle.proof_generations.specs.Beneath.machine_model.specs.Finding.{key_after_read, key_after_main, key_after_entry, after_listed, after_sibling, absent}
+use Rattle.proof_generations.specs.Beneath.machine_model.specs.Finding.{absent_beside, absent_listed, found_so, passes}
 use Rattle.proof_generations.specs.Beneath.machine_model.specs.Renewing.{renew_next}
 use Rattle.proof_generations.proofs.Lines.Knows.{OwnPath, Knows, FallsOn, own_current, own_above, own_pushed}
+use Rattle.proof_generations.specs.Beneath.proof_contents.proofs.Lines.Coming.{tomb_comes, removing_comes}
 
 module _ (state : State) (operation : Operation) (Own Fits Falls : Ref → Type 0) (Late : Read → Type 0) where
   abbrev K : Line → Type 0
@@ -47,28 +47,18 @@ module _ (state : State) (operation : Operation) (Own Fits Falls : Ref → Type 
     listed_falls : (position : ℕ) → K (absent_listed operation path main position)
     listed_falls position = cond_both (inserts operation.call && nat_le 32 position) _ _ K (λ e. tt) (λ e. absent_falls)
 
-    tomb_falls : (access : Access) → K (after_tomb access path main)
-    tomb_falls Writable = cond_both (is_below_root path) _ _ K (λ e. (own_above Own path k.0 e, own_current Own _ (own_above Own path k.0 e))) (λ e. tt)
-    tomb_falls ReadOnly = k
-
     pub key_main_falls : (n : Node) → K (key_after_main state operation path main n)
     key_main_falls (Branch bitmap entries) = cond_both (has_flag bitmap (flag_in state operation path)) _ _ K (λ e. k) (λ e. absent_falls)
-    key_main_falls (Tomb single) = tomb_falls operation.access
+    key_main_falls (Tomb single) =
+        tomb_comes K operation.access path main (λ e. (own_above Own path k.0 e, own_current Own _ (own_above Own path k.0 e))) tt (λ e. k)
     key_main_falls (Listed singles) = k
     key_main_falls (Indirection h word) = tt
     key_main_falls (Single key value) = tt
 
-    removing_falls : (position value : ℕ) (n : Node) → K (removing state path main position value n)
-    removing_falls position value (Branch bitmap entries) = cond_both (is_below_root path && (length entries.items == 2)) _ _ K (λ e. k) (λ e. (k, tt))
-    removing_falls position value (Listed singles) = cond_both (length singles.items == 2) _ _ K (λ e. (k, tt)) (λ e. (k, tt))
-    removing_falls position value (Indirection h word) = tt
-    removing_falls position value (Single key own) = tt
-    removing_falls position value (Tomb single) = tt
-
     found_falls : (position value : ℕ) (found : WhenFound) → K (found_so state path main position value found)
     found_falls position value (Answers answer) = tt
     found_falls position value Sets = k
-    found_falls position value Removes = removing_falls position value (node_at state.heap main)
+    found_falls position value Removes = removing_comes K state path main position value k (k, tt) (λ other. (k, tt)) tt (node_at state.heap main)
 
     -- a writable operation goes down to an indirection of its own generation alone
     pub key_entry_falls : (position : ℕ) → operation.access ≡ Writable → (n : Node) →

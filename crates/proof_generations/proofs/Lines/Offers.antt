@@ -2,7 +2,6 @@
 use Rattle.std.proofs.Common.{◌≡◌, ℕ, ◌+◌, ◌-◌, ◌==◌, ◌&&◌, nat_lt, nat_le, cond, length, ◌⊎◌, Bool, true, false, List, Option, Some, None, refl, sym, ◌∙◌, arith}
 use Rattle.std.proofs.lemmas.Option.{none-some}
 use Rattle.proof_generations.specs.Beneath.history.specs.declared.calls.Access.{Access}
-use Rattle.proof_generations.specs.Beneath.history.specs.declared.calls.Access.TheVariants.{Writable, ReadOnly}
 use Rattle.proof_generations.specs.Beneath.slot_arena.specs.declared.refs.Ref.{Ref}
 use Rattle.proof_generations.specs.Beneath.slot_arena.specs.Heaps.{Heap, node_at, entry_at, entries_of}
 use Rattle.proof_generations.specs.Beneath.machine_model.specs.declared.operations.Operation.{Operation}
@@ -29,8 +28,7 @@ use Rattle.proof_generations.specs.Beneath.slot_arena.specs.declared.nodes.Node.
 use Rattle.proof_generations.specs.Beneath.slot_arena.specs.declared.nodes.Node.TheVariants.{Single, Branch, Tomb}
 use Rattle.proof_generations.specs.Beneath.nodes.specs.Levels.{has_flag}
 use Rattle.proof_generations.specs.Beneath.ctrie_base.specs.Paths.{position_of}
-use Rattle.proof_generations.specs.Beneath.machine_model.specs.Paths.{current, above, is_below_root, flag_in}
-use Rattle.proof_generations.specs.Beneath.machine_model.specs.Lines.{impossible}
+use Rattle.proof_generations.specs.Beneath.machine_model.specs.Paths.{flag_in}
 use Rattle.proof_generations.specs.Beneath.machine_model.specs.Finding.{key_after_read, key_after_entry, after_listed, after_sibling, after_tomb, absent, key_after_main, found}
 use Rattle.proof_generations.specs.Beneath.machine_model.specs.Finding.{found_so, absent_beside, absent_listed}
 use Rattle.proof_generations.specs.Beneath.machine_model.specs.declared.building.BuildLine.{BuildLine}
@@ -46,9 +44,10 @@ use Rattle.proof_generations.specs.Beneath.machine_model.specs.declared.lines.Li
 use Rattle.proof_generations.specs.Beneath.machine_model.specs.declared.lines.Line.TheVariants as line
 use Rattle.proof_generations.specs.Beneath.machine_model.specs.Calls.{handle_of, when_found, inserts, absent_reply, key_of}
 use Rattle.proof_generations.specs.Beneath.machine_model.specs.States.{State, word_at}
-use Rattle.proof_generations.specs.Beneath.machine_model.specs.Reading.{read_after, read_step, reading}
+use Rattle.proof_generations.specs.Beneath.machine_model.specs.Reading.{read_after, read_step}
 use Rattle.proof_generations.specs.Beneath.machine_model.specs.Operations.{line_action, line_after, read_of}
 use Rattle.proof_generations.specs.Laws.Roots.{settles}
+use Rattle.proof_generations.specs.Beneath.proof_contents.proofs.Lines.Coming.{tomb_comes}
 
 -- ---- what a line is to settle
 
@@ -173,12 +172,7 @@ absent_quiet operation path main = by (inserts operation.call)
     by false = (refl, refl, refl)
 
 tomb_quiet : (access : Access) (path : List Ref) (main : Ref) → IsQuiet (after_tomb access path main)
-tomb_quiet Writable path main = by (is_below_root path)
-  where
-    by : (b : Bool) → IsQuiet (cond b (line.Clean (clean.Read (above path) (reading (current (above path))))) impossible)
-    by true = (refl, refl, refl)
-    by false = (refl, refl, refl)
-tomb_quiet ReadOnly path main = (refl, refl, refl)
+tomb_quiet access path main = tomb_comes IsQuiet access path main (λ e. (refl, refl, refl)) (refl, refl, refl) (λ e. (refl, refl, refl))
 
 pub main_quiet : (state : State) (operation : Operation) (path : List Ref) (main : Ref) (node : Node) → IsQuiet (key_after_main state operation path main node)
 main_quiet state operation path main (Branch bitmap entries) = by (has_flag bitmap (flag_in state operation path))

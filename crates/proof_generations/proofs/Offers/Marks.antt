@@ -34,23 +34,23 @@ use Rattle.proof_generations.proofs.Handles.Ids.{one_of_id}
 use Rattle.proof_generations.specs.Laws.Roots.{settles}
 use Rattle.proof_generations.proofs.Offers.Standing.{own_offer, own_numbers, completes_it}
 use Rattle.proof_generations.proofs.Offers.Same.{HasOffers, same_offer}
-use Rattle.proof_generations.proofs.Handles.Footings.{CarriesOut}
+use Rattle.proof_generations.proofs.Handles.Footings.{ActionCarriesOut}
 use Rattle.proof_generations.specs.Beneath.machine_model.proofs.Basics.{or_first, or_second}
 
 -- ---- who is marked
 
 -- an offer that is carried out stands in the word of the handle, and its operation by it
 pub carried_stands : (state : State) → HasOffers state → (actor : ℕ) (operation : Operation) (offer : Descriptor) → operation_of state actor ≡ Some operation →
-    CarriesOut state (handle_of operation.call) (action_of state operation) offer → word_at state (handle_of operation.call) ≡ Offer offer
+    ActionCarriesOut state (handle_of operation.call) (action_of state operation) offer → word_at state (handle_of operation.call) ≡ Offer offer
 carried_stands state I actor operation offer is c =
     same_offer state I actor operation offer is (ap settles c.is_it) (handle_of operation.call)
     (and_parts (stands_in (word_at state (handle_of operation.call)) offer) (c.main == offer.expected) c.carried).0
 
-carries_so : (state : State) (handle : ℕ) (action : Action) (id : ℕ) → marks_of state handle action ≡ Some id → (offer : Descriptor) × CarriesOut state handle action offer × (offer.operation ≡ id)
+carries_so : (state : State) (handle : ℕ) (action : Action) (id : ℕ) → marks_of state handle action ≡ Some id → (offer : Descriptor) × ActionCarriesOut state handle action offer × (offer.operation ≡ id)
 carries_so state handle (act.Complete offer main) id e = by (is_carried_out (word_at state handle) offer main) refl e
   where
     by : (b : Bool) → is_carried_out (word_at state handle) offer main ≡ b → cond b (Some offer.operation) None ≡ Some id →
-        (d : Descriptor) × CarriesOut state handle (act.Complete offer main) d × (d.operation ≡ id)
+        (d : Descriptor) × ActionCarriesOut state handle (act.Complete offer main) d × (d.operation ≡ id)
     by true t e = (offer, record { main = main; is_it = refl; carried = t }, same_Some _ _ e)
     by false t e = absurd (none-some id e)
 carries_so state handle action id e = absurd (none-some id e)
@@ -62,7 +62,7 @@ pub record Marks (state : State) (s : Step) (k : ℕ) (owner : Operation) : Type
   pub offer : Descriptor
   pub is_step : s ≡ step.Go actor
   pub moves : operation_of state actor ≡ Some mover
-  pub carries : CarriesOut state (handle_of mover.call) (action_of state mover) offer
+  pub carries : ActionCarriesOut state (handle_of mover.call) (action_of state mover) offer
   pub completes : own_offer owner.line ≡ Some offer
   pub on_handle : handle_of owner.call ≡ handle_of mover.call
   pub unmarked : owner.is_marked ≡ false

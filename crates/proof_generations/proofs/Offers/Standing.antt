@@ -196,7 +196,7 @@ unmarked_by None operation e other = e
 unmarked_by (Some id) operation e other =
     ap (λ b. (cond b (record operation { is_marked = true }) operation).is_marked) (ne_eqb operation.id id (λ s. other (ap Some (sym s)))) ∙ e
 
-try_itself : (offer : Descriptor) → is_try offer offer ≡ true
+pub try_itself : (offer : Descriptor) → is_try offer offer ≡ true
 try_itself offer = and_from _ _ (eq-eqb offer.operation offer.operation refl) (eq-eqb offer.attempt offer.attempt refl)
 
 -- an action that marks carries an offer out

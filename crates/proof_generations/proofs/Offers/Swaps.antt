@@ -28,7 +28,7 @@ use Rattle.proof_generations.specs.Beneath.machine_model.specs.Moves.{Begins, Go
 use Rattle.proof_generations.specs.Beneath.machine_model.specs.Moves.{Moves, begun_operation}
 use Rattle.proof_generations.specs.Beneath.machine_model.proofs.Found.{found_elsewhere, found_here}
 use Rattle.proof_generations.proofs.Offers.Same.{HasOffers, same_offer}
-use Rattle.proof_generations.proofs.Handles.Footings.{CarriesOut, RootFrom, stood, swapped, newly, root_from}
+use Rattle.proof_generations.proofs.Handles.Footings.{ActionCarriesOut, RootFrom, stood, swapped, newly, root_from}
 use Rattle.proof_generations.proofs.Counter.Below.{opened_closings, root_closings, begin_closings}
 
 -- ---- closings
@@ -86,14 +86,14 @@ closed_last (x ∷ xs) new generation none is = last_closed_by xs x new generati
 -- ---- an action
 
 -- this offer is carried out, or none
-carries_or_not : (st : State) (at : ℕ) (action : Action) → ((offer : Descriptor) × CarriesOut st at action offer) ⊎ ((offer : Descriptor) → CarriesOut st at action offer → ⊥)
+carries_or_not : (st : State) (at : ℕ) (action : Action) → ((offer : Descriptor) × ActionCarriesOut st at action offer) ⊎ ((offer : Descriptor) → ActionCarriesOut st at action offer → ⊥)
 carries_or_not st at (act.Complete own main) = by (is_carried_out (word_at st at) own main) refl
   where
     same_main : (a b : Descriptor) (m n : Ref) → act.Complete a m ≡ act.Complete b n → (a ≡ b) × (m ≡ n)
     same_main a b m n e = (cc e, cc e)
 
     by : (b : Bool) → is_carried_out (word_at st at) own main ≡ b →
-        ((offer : Descriptor) × CarriesOut st at (act.Complete own main) offer) ⊎ ((offer : Descriptor) → CarriesOut st at (act.Complete own main) offer → ⊥)
+        ((offer : Descriptor) × ActionCarriesOut st at (act.Complete own main) offer) ⊎ ((offer : Descriptor) → ActionCarriesOut st at (act.Complete own main) offer → ⊥)
     by true e = inl (own, record { main = main; is_it = refl; carried = e })
     by false e = inr (λ offer c.
         let p = same_main own offer main c.main c.is_it in
@@ -111,7 +111,7 @@ test_same false changed same e = refl
 abbrev pub closing_of : State → Descriptor → Closing
 closing_of st offer = record { generation = generation_at st.heap offer.root; step = st.steps }
 
-closings_same : (st : State) (at : ℕ) (action : Action) → ((offer : Descriptor) → CarriesOut st at action offer → ⊥) → (acted st at action).closings ≡ st.closings
+closings_same : (st : State) (at : ℕ) (action : Action) → ((offer : Descriptor) → ActionCarriesOut st at action offer → ⊥) → (acted st at action).closings ≡ st.closings
 closings_same st at (act.Abort own) none = test_same (stands_in (word_at st at) own) (with_word st at (Plain own.root)) st refl
 closings_same st at (act.Offer own) none = test_same (is_plain (word_at st at) own.root) (with_word st at (Offer own)) st refl
 closings_same st at (act.Complete own main) none = by (stands_in (word_at st at) own) (main == own.expected) refl refl
@@ -129,7 +129,7 @@ completed_closes st at own true true t = ap (λ l. l ++ closing_of st own ∷ []
 completed_closes st at own true false t = absurd (false≢true t)
 completed_closes st at own false e t = absurd (false≢true t)
 
-closings_carried : (st : State) (at : ℕ) (action : Action) (offer : Descriptor) → CarriesOut st at action offer → (acted st at action).closings ≡ st.closings ++ closing_of st offer ∷ []
+closings_carried : (st : State) (at : ℕ) (action : Action) (offer : Descriptor) → ActionCarriesOut st at action offer → (acted st at action).closings ≡ st.closings ++ closing_of st offer ∷ []
 closings_carried st at action offer c =
     ap (λ a. (acted st at a).closings) c.is_it ∙ completed_closes st at offer (stands_in (word_at st at) offer) (c.main == offer.expected) c.carried
 
@@ -141,11 +141,11 @@ Kept state handle now = (root : Root) × (root_at state handle ≡ Some root) ×
 
 pub data StepKind (state : State) (s : Step) (after : State) : Type 0 where
   quiet : after.closings ≡ state.closings → ((handle : ℕ) (now : Root) → root_at after handle ≡ Some now → Kept state handle now) → StepKind state s after
-  swaps : (actor : ℕ) (mover : Operation) (offer : Descriptor) → s ≡ step.Go actor → operation_of state actor ≡ Some mover → CarriesOut state (handle_of mover.call) (action_of state mover) offer →
+  swaps : (actor : ℕ) (mover : Operation) (offer : Descriptor) → s ≡ step.Go actor → operation_of state actor ≡ Some mover → ActionCarriesOut state (handle_of mover.call) (action_of state mover) offer →
       after.closings ≡ state.closings ++ closing_of state offer ∷ [] →
       ((handle : ℕ) (now : Root) → root_at after handle ≡ Some now → RootFrom state (handle_of mover.call) (action_of state mover) handle now) → StepKind state s after
 
-kept_from : (state : State) (at : ℕ) (action : Action) → ((offer : Descriptor) → CarriesOut state at action offer → ⊥) → (handle : ℕ) (now : Root) →
+kept_from : (state : State) (at : ℕ) (action : Action) → ((offer : Descriptor) → ActionCarriesOut state at action offer → ⊥) → (handle : ℕ) (now : Root) →
     RootFrom state at action handle now → Kept state handle now
 kept_from state at action none handle now (stood root e access word free) = (root, e, access, word)
 kept_from state at action none handle now (swapped root offer c at_it e is) = absurd (none offer c)
@@ -164,10 +164,10 @@ begun_kept state call id handle now =
 here_from : (st state : State) → st.roots ≡ state.roots → (at : ℕ) (action : Action) (handle : ℕ) (now : Root) → RootFrom st at action handle now → RootFrom state at action handle now
 here_from st state same at action handle now from = by from
   where
-    there : (offer : Descriptor) → CarriesOut state at action offer → CarriesOut st at action offer
+    there : (offer : Descriptor) → ActionCarriesOut state at action offer → ActionCarriesOut st at action offer
     there offer c = record { main = c.main; is_it = c.is_it; carried = ap (λ r. is_carried_out (word_of (get_or r at None)) offer c.main) same ∙ c.carried }
 
-    here : (offer : Descriptor) → CarriesOut st at action offer → CarriesOut state at action offer
+    here : (offer : Descriptor) → ActionCarriesOut st at action offer → ActionCarriesOut state at action offer
     here offer c = record { main = c.main; is_it = c.is_it; carried = ap (λ r. is_carried_out (word_of (get_or r at None)) offer c.main) (sym same) ∙ c.carried }
 
     by : RootFrom st at action handle now → RootFrom state at action handle now
@@ -190,7 +190,7 @@ module _ (state : State) (I : HasOffers state) (actor : ℕ) (operation : Operat
       here_from (noted state actor operation) state refl at (action_of state operation) handle now
       (root_from (noted state actor operation) at handle now (action_of state operation) (λ own settled stands. same_offer state I actor operation own is settled at stands) e)
 
-  gone_kind : ((offer : Descriptor) × CarriesOut state at (action_of state operation) offer) ⊎ ((offer : Descriptor) → CarriesOut state at (action_of state operation) offer → ⊥) →
+  gone_kind : ((offer : Descriptor) × ActionCarriesOut state at (action_of state operation) offer) ⊎ ((offer : Descriptor) → ActionCarriesOut state at (action_of state operation) offer → ⊥) →
       StepKind state (step.Go actor) (settled state (gone state actor operation))
   gone_kind (inl (offer, c)) =
       swaps actor operation offer refl is c

@@ -35,7 +35,7 @@ use Rattle.proof_generations.specs.Running.{Runs}
 use Rattle.proof_generations.proofs.Offers.Standing.{own_offer, own_numbers, StandsBy}
 use Rattle.proof_generations.proofs.Lines.Copy.{second_fits}
 use Rattle.proof_generations.proofs.Offers.Same.{HasOffers}
-use Rattle.proof_generations.proofs.Handles.Footings.{CarriesOut, RootFrom, stood, swapped, newly}
+use Rattle.proof_generations.proofs.Handles.Footings.{ActionCarriesOut, RootFrom, stood, swapped, newly, one_carried}
 use Rattle.proof_generations.proofs.Offers.Marks.{carried_stands}
 use Rattle.proof_generations.proofs.Handles.Operations.{HasHandles, Ran, ran_or_began}
 use Rattle.proof_generations.proofs.Counter.Below.{IsBelow, looked_up_below, closed_below}
@@ -72,6 +72,12 @@ first_none call x r e = none-some r e
 pub its_fresh : (l : Line) (offer : Descriptor) (x : Bool) (r : Ref) → own_offer l ≡ Some offer → fresh_of x offer ≡ Some r → fresh_in x l ≡ Some r
 its_fresh (line.Copy (copy.Complete c)) offer x r e f = ap (fresh_of x) (same_Some _ _ e) ∙ f
 its_fresh l offer x r e f = absurd (none-some offer e)
+
+-- the roots that an offer brings keep their generations over a step
+pub brought_kept : (state : State) → IsSafe state → (s : Step) (o : Outcome) (after : State) → Moves state s o after → (handle : ℕ) (offer : Descriptor) → StandsBy state handle offer →
+    (x : Bool) (r : Ref) → fresh_of x offer ≡ Some r → generation_at after.heap r ≡ generation_at state.heap r
+brought_kept state S s o after m handle offer stands x r e =
+    fresh_kept state S s o after m stands.k stands.owner x r stands.runs (its_fresh stands.owner.line offer x r stands.completes e)
 
 -- a root that is made has the generation that is drawn
 drawn_by : (state : State) (S : IsSafe state) (s : Step) (o : Outcome) (after : State) → Moves state s o after → (k : ℕ) (was : Operation) → s ≡ step.Go (suc k) → Runs state k was → (main r : Ref) →
@@ -124,12 +130,9 @@ module _ (state : State) (S : IsSafe state) (I : HasOffers state) (H : HasHandle
   -- ---- a swap
 
   module _ (actor : ℕ) (mover : Operation) (offer : Descriptor) (go : s ≡ step.Go actor) (is : operation_of state actor ≡ Some mover)
-      (c : CarriesOut state (handle_of mover.call) (action_of state mover) offer) where
+      (c : ActionCarriesOut state (handle_of mover.call) (action_of state mover) offer) where
     stands : StandsBy state (handle_of mover.call) offer
     stands = I.offers (handle_of mover.call) offer (carried_stands state I actor mover offer is c)
-
-    new_kept : (x : Bool) (r : Ref) → fresh_of x offer ≡ Some r → generation_at after.heap r ≡ generation_at state.heap r
-    new_kept x r e = fresh_kept state S s o after m stands.k stands.owner x r stands.runs (its_fresh stands.owner.line offer x r stands.completes e)
 
     new_unused : (x : Bool) (r : Ref) → fresh_of x offer ≡ Some r → IsUnused state (generation_at state.heap r)
     new_unused x r e = R.fresh stands.k stands.owner x r stands.runs stands.unmarked (its_fresh stands.owner.line offer x r stands.completes e)
@@ -156,24 +159,23 @@ module _ (state : State) (S : IsSafe state) (I : HasOffers state) (H : HasHandle
     old_gen : gen state old_root.0 ≡ generation_at state.heap offer.root
     old_gen = ap (generation_at state.heap) old_root.2
 
-    same_carried : (other : Descriptor) → CarriesOut state (handle_of mover.call) (action_of state mover) other → other ≡ offer
-    same_carried other d = let both : act.Complete other d.main ≡ act.Complete offer c.main = sym d.is_it ∙ c.is_it in cc both
-
     behind_opened : (handle : ℕ) (now : Root) → offer.opens ≡ Some handle → (second : Option Ref) → offer.second ≡ second → now ≡ opened_root offer second → Behind handle now
     behind_opened handle now its None e it =
         frozen (ap (λ (x : Root). x.access) it)
         (ap (λ (x : Root). gen after x) it ∙ ap (generation_at after.heap) (sym old_root.2) ∙ root_kept state S s o after m (handle_of mover.call) old_root.0 old_root.1 ∙ old_gen)
-    behind_opened handle now its (Some q) e it = second q e (ap (λ (x : Root). gen after x) it ∙ new_kept false q e) its (ap (λ (x : Root). x.access) it)
+    behind_opened handle now its (Some q) e it =
+        second q e (ap (λ (x : Root). gen after x) it ∙ brought_kept state S s o after m (handle_of mover.call) offer stands false q e) its (ap (λ (x : Root). x.access) it)
 
     behind : (handle : ℕ) (now : Root) → RootFrom state (handle_of mover.call) (action_of state mover) handle now → Behind handle now
     behind handle now (stood root e access word free) = kept root e access (gen_kept handle root now e word) (free offer c)
     behind handle now (swapped root other d at_it e it) =
-        let same = same_carried other d in
+        let same = one_carried state (handle_of mover.call) (action_of state mover) offer other c d in
         let one = same_Some _ _ (sym e ∙ old_root.1) in
-        first offer.successor refl (ap (λ (x : Root). gen after x) it ∙ ap (λ (x : Descriptor). generation_at after.heap x.successor) same ∙ new_kept true offer.successor refl) at_it
+        let kept = brought_kept state S s o after m (handle_of mover.call) offer stands true offer.successor refl in
+        first offer.successor refl (ap (λ (x : Root). gen after x) it ∙ ap (λ (x : Descriptor). generation_at after.heap x.successor) same ∙ kept) at_it
         (ap (λ (x : Root). x.access) it ∙ ap (λ (x : Root). x.access) one ∙ old_root.3)
     behind handle now (newly other n d its at_it it) =
-        let same = same_carried other d in
+        let same = one_carried state (handle_of mover.call) (action_of state mover) offer other c d in
         behind_opened handle now (ap (λ (x : Descriptor). x.opens) (sym same) ∙ its ∙ ap Some (sym at_it)) offer.second refl (it ∙ ap (λ (x : Descriptor). opened_root x x.second) same)
 
     module _ (closings : after.closings ≡ state.closings ++ closing_of state offer ∷ []) (roots : (handle : ℕ) (now : Root) → root_at after handle ≡ Some now →
@@ -316,7 +318,7 @@ module _ (state : State) (S : IsSafe state) (I : HasOffers state) (H : HasHandle
   -- ---- all of it
 
   fresh_swapped : (actor : ℕ) (mover : Operation) (offer : Descriptor) (go : s ≡ step.Go actor) (is : operation_of state actor ≡ Some mover)
-      (c : CarriesOut state (handle_of mover.call) (action_of state mover) offer) →
+      (c : ActionCarriesOut state (handle_of mover.call) (action_of state mover) offer) →
       (closings : after.closings ≡ state.closings ++ closing_of state offer ∷ []) →
       (roots : (handle : ℕ) (now : Root) → root_at after handle ≡ Some now → RootFrom state (handle_of mover.call) (action_of state mover) handle now) →
       (k : ℕ) (found : Operation) (x : Bool) (r : Ref) → found.is_marked ≡ false → FreshHad k found x r → IsUnused after (generation_at after.heap r)

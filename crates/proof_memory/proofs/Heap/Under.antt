@@ -17,13 +17,7 @@ use Rattle.machine_model.proofs.Rest.{first_free}
 use Rattle.machine_model.proofs.Slots.{AddsUp}
 use Rattle.machine_model.specs.Grown.{of_birth, standing}
 use Rattle.machine_model.proofs.Grown.{standing_parts}
-use Rattle.proof_memory.specs.Beneath.slot_arena.proofs.Live.{same_ref}
-
-pub slot_of-ref_to : (birth slot : ℕ) → slot < 2 ^ 16 → slot_of (ref_to birth slot) ≡ slot
-slot_of-ref_to birth slot h = omega arith
-
-pub birth_of-ref_to : (birth slot : ℕ) → slot < 2 ^ 16 → birth_of (ref_to birth slot) ≡ birth
-birth_of-ref_to birth slot h = omega arith
+use Rattle.proof_memory.specs.Beneath.slot_arena.proofs.Live.{same_ref, slot_of_ref, birth_of_ref}
 
 birth_met : (birth : ℕ) (slot : Slot) → slot.birth ≡ birth → of_birth birth (Some slot) ≡ Some slot
 birth_met birth slot e = rw (eq-eqb slot.birth birth e) refl
@@ -159,10 +153,10 @@ module _ (heap : Heap) (node : Node) (slot : ℕ) (free : List ℕ) (first : IsF
   fresh = ref_to (heap.births + 1) slot
 
   its_slot : slot_of fresh ≡ slot
-  its_slot = slot_of-ref_to (heap.births + 1) slot first.2
+  its_slot = slot_of_ref (heap.births + 1) slot first.2
 
   its_birth : heap.births + 1 ≡ birth_of fresh
-  its_birth = sym (birth_of-ref_to (heap.births + 1) slot first.2)
+  its_birth = sym (birth_of_ref (heap.births + 1) slot first.2)
 
   from_here : standing (take_from heap node (slot ∷ free)) fresh ≡ Some (fresh_slot heap node)
   unfolding stored

@@ -2,7 +2,6 @@
 use Rattle.std.proofs.Common.{◌≡◌, ℕ, ◌+◌, ◌<◌, ◌≤◌, ◌==◌, ◌&&◌, ◌||◌, Bool, true, false, nat_lt, nat_le, nat_eq, List, [], ◌∷◌, ◌++◌, All, length, Option, ap, ◌∙◌, subst, inl, inr, ltb-true, arith}
 use Rattle.std.specs.Cmp.Lexicographic.{pointwise}
 use Rattle.std.proofs.lemmas.Bool.{false≢true, cond_both}
-use Rattle.std.proofs.lemmas.List.{length-append}
 use Rattle.std.proofs.lemmas.List.Elements.{All-nil, All-push}
 use Rattle.proof_memory.specs.Beneath.history.specs.declared.calls.Access.{Access}
 use Rattle.proof_memory.specs.Beneath.history.specs.declared.calls.Access.TheVariants.{Writable, ReadOnly}
@@ -51,7 +50,7 @@ use Rattle.machine_model.specs.Operations.{from_root, after_root, after_update, 
 use Rattle.machine_model.specs.Operations.{after_swap as line_after_swap}
 use Rattle.proof_memory.specs.Wants.{AnIndirection, ABranch, ASingle, meets, Is, Holds, AllHold, node_wants, read_wants, complete_wants, offer_wants, root_wants}
 use Rattle.proof_memory.proofs.Claims.Uses.{safe_of, meets_of, last_hold}
-use Rattle.proof_memory.proofs.Lines.Shared.{above_long}
+use Rattle.proof_memory.proofs.Lines.Shared.{above_long, pushed_depth}
 use Rattle.proof_memory.specs.Levels.{EntryLevel, KindLevel, NodeLevel, PrevLevel, OfferLevel, WordLevel, PairLevel, ReadLevel, CompleteLevel, RootLevel, PathLevel, PlaceLevel}
 use Rattle.proof_memory.specs.Levels.{SwapLineLevel, PurposeLevel, SwapLevel, DoneLevel, LineLevel}
 use Rattle.proof_memory.proofs.Levels.Paths.{current_level, above_level, pushed_level, single_level_by}
@@ -222,9 +221,6 @@ module _ (lv : Ref → ℕ) (state : State) (operation : Operation) (S : Ref →
       cond_both (is_passable operation generation) _ _ L
       (λ e. (pushed_level lv path (entry_at state.heap main position) p.0 next, next ∙ ap (λ n. n + 1) (pushed_depth path (entry_at state.heap main position)), tt))
       (λ e. renew_next_level path main [] (none_done path main p))
-    where
-      pushed_depth : (path : List Ref) (e : Ref) → length path ≡ depth_of (path ++ e ∷ [])
-      pushed_depth path e = omega (arith, length-append path (e ∷ []))
   key_entry_level path main position (Single k v) e s long p h =
       cond_both (k == key_of operation.call) _ _ L (λ e. found_level path main position v (when_found operation.call v) p)
       (λ e. cond_both (inserts operation.call) _ _ L (λ e. p) (λ e. tt))

@@ -19,11 +19,12 @@ use Rattle.machine_model.proofs.Rest.{one_if}
 use Rattle.machine_model.proofs.Found.{found_within}
 use Rattle.machine_model.specs.Grown.{standing}
 use Rattle.proof_memory.specs.Laws.{IsInUse}
-use Rattle.proof_memory.proofs.Heap.Under.{standing_from, slot_of-ref_to, birth_of-ref_to}
+use Rattle.proof_memory.proofs.Heap.Under.{standing_from}
 use Rattle.proof_memory.proofs.Safety.States.{IsSafe}
 use Rattle.proof_memory.proofs.Limbo.Exact.{HasZeros}
 use Rattle.proof_memory.proofs.Safety.Standing.{none_contained, in_root, in_any_slot}
 use Rattle.machine_model.proofs.Grown.{standing_parts}
+use Rattle.proof_memory.specs.Beneath.slot_arena.proofs.Live.{slot_of_ref, birth_of_ref}
 
 -- ---- what is counted stands somewhere
 
@@ -86,7 +87,7 @@ module _ (state : State) (I : IsSafe state) (zeros : HasZeros state) (empty : st
       let small : k < 2 ^ 16 = omega (arith, I.small, I.sound.heap.size) in (
         ref_to slot.birth k,
         slot,
-        standing_from state.heap (ref_to slot.birth k) slot (ap (λ i. get_or state.heap.slots i None) (slot_of-ref_to slot.birth k small) ∙ e) (sym (birth_of-ref_to slot.birth k small)),
+        standing_from state.heap (ref_to slot.birth k) slot (ap (λ i. get_or state.heap.slots i None) (slot_of_ref slot.birth k small) ∙ e) (sym (birth_of_ref slot.birth k small)),
         c,
       )
 

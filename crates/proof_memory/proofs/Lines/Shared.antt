@@ -11,7 +11,7 @@ use Rattle.proof_memory.specs.Beneath.slot_arena.specs.declared.nodes.Node.{Node
 use Rattle.proof_memory.specs.Beneath.slot_arena.specs.declared.nodes.Node.TheVariants.{Branch}
 use Rattle.proof_memory.specs.Beneath.slot_arena.specs.Heaps.{Heap, node_at, no_ref}
 use Rattle.proof_memory.specs.Beneath.nodes.specs.Levels.{has_flag}
-use Rattle.machine_model.specs.Paths.{current, above, is_below_root}
+use Rattle.machine_model.specs.Paths.{current, above, depth_of, is_below_root}
 use Rattle.machine_model.specs.Walking.{first_of}
 use Rattle.proof_memory.specs.Wants.{Wanted, AnIndirection, WithFlag, ToSpare, meets, Is, Each, Holds, is, each}
 use Rattle.proof_memory.proofs.Heap.Ones.{ones_below}
@@ -20,6 +20,10 @@ use Rattle.proof_memory.proofs.Claims.Uses.{Meets, safe_of, meets_of, all_of}
 -- a test that fails
 pub not_zero : (n : ℕ) → not (n == 0) ≡ true → n ≡ 0 → ⊥
 not_zero n h e = false≢true (sym (not_from_true (n == 0) (eq-eqb n 0 e)) ∙ h)
+
+-- a path that goes an indirection further is one deeper
+pub pushed_depth : (path : List Ref) (below : Ref) → length path ≡ depth_of (path ++ below ∷ [])
+pushed_depth path below = omega (arith, length-append path (below ∷ []))
 
 -- the position of a flag that a bitmap has lies within as many entries as it has ones
 pub position_within : (bitmap i n : ℕ) → has_flag bitmap (2 ^ i) ≡ true → nat_le (count_ones bitmap) n ≡ true → nat_lt (position_of (2 ^ i) bitmap) n ≡ true

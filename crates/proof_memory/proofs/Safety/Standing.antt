@@ -13,10 +13,11 @@ use Rattle.machine_model.specs.Grown.{standing}
 use Rattle.proof_memory.specs.Wants.{node_wants, prev_wants}
 use Rattle.proof_memory.specs.Laws.{IsInUse}
 use Rattle.proof_memory.proofs.Claims.Uses.{first_hold, last_hold}
-use Rattle.proof_memory.proofs.Heap.Under.{standing_from, slot_of-ref_to, birth_of-ref_to}
+use Rattle.proof_memory.proofs.Heap.Under.{standing_from}
 use Rattle.proof_memory.proofs.Safety.Held.{node_refs, prev_refs, word_refs}
 use Rattle.proof_memory.proofs.Safety.States.{IsSafe}
 use Rattle.proof_memory.proofs.Safety.Steps.{of_actor}
+use Rattle.proof_memory.specs.Beneath.slot_arena.proofs.Live.{slot_of_ref, birth_of_ref}
 
 pub none_contained : {P : Type 0} (r : Ref) → Contains [] r → P
 none_contained r (i, within, at_i) = absurd (omega arith)
@@ -47,7 +48,7 @@ module _ (state : State) (I : IsSafe state) where
   stored_stands q slot e =
       let small : slot_of q < 2 ^ 16 = omega arith in
       standing_from state.heap (ref_to slot.birth (slot_of q)) slot
-      (ap (λ k. get_or state.heap.slots k None) (slot_of-ref_to slot.birth (slot_of q) small) ∙ e) (sym (birth_of-ref_to slot.birth (slot_of q) small))
+      (ap (λ k. get_or state.heap.slots k None) (slot_of_ref slot.birth (slot_of q) small) ∙ e) (sym (birth_of_ref slot.birth (slot_of q) small))
 
   in_slot_by : (q r : Ref) (o : Option Slot) → stored state.heap q ≡ o → Contains (refs_of_slot o) r → IsInUse state.heap r
   in_slot_by q r None e c = none_contained r c

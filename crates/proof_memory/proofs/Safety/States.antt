@@ -29,12 +29,13 @@ use Rattle.proof_memory.specs.Wants.{AMain, is_formed, Claim, Is, So, Holds, All
 use Rattle.proof_memory.specs.Laws.{SameNode, IsInUse}
 use Rattle.proof_memory.proofs.Claims.Uses.{fact_of, safer, both_hold, first_hold, last_hold, Carries}
 use Rattle.proof_memory.proofs.Claims.Nodes.{Heaped}
-use Rattle.proof_memory.proofs.Heap.Under.{standing_from, slot_of-ref_to, birth_of-ref_to}
+use Rattle.proof_memory.proofs.Heap.Under.{standing_from}
 use Rattle.proof_memory.proofs.Safety.Guards.{Guarded, Safe, AllZero, guarded_after, guarded_if_counted, counted_in_slot, counted_in_root, counted_in_private}
 use Rattle.proof_memory.proofs.Heap.Effects.{Effect, Keeps, Makes, Publishes, Restores, Decides, Frees, stays}
 use Rattle.proof_memory.proofs.Safety.Base.{IsRecent, HasHandle, Fits}
 use Rattle.proof_memory.proofs.Safety.Started.{KnowsRoot}
 use Rattle.machine_model.proofs.Grown.{node_standing, prev_standing}
+use Rattle.proof_memory.specs.Beneath.slot_arena.proofs.Live.{slot_of_ref, birth_of_ref}
 
 pub record IsSafe (state : State) : Type 0 where
   pub sound : IsSound state.limits.slots state
@@ -143,8 +144,8 @@ unfolding stored
 stands_in_use heap r small (k, slot, at_k, e) =
     let within = found_within heap.slots k slot at_k in
     let k_small : k < 2 ^ 16 = omega arith in
-    let its_slot : slot_of r ≡ k = ap slot_of e ∙ slot_of-ref_to slot.birth (0 + k) (omega arith) ∙ zero_add k in
-    let its_birth : birth_of r ≡ slot.birth = ap birth_of e ∙ birth_of-ref_to slot.birth (0 + k) (omega arith) in
+    let its_slot : slot_of r ≡ k = ap slot_of e ∙ slot_of_ref slot.birth (0 + k) (omega arith) ∙ zero_add k in
+    let its_birth : birth_of r ≡ slot.birth = ap birth_of e ∙ birth_of_ref slot.birth (0 + k) (omega arith) in
     (slot, standing_from heap r slot (ap (λ i. get_or heap.slots i None) its_slot ∙ at_k) (sym its_birth))
   where
     zero_add : (k : ℕ) → 0 + k ≡ k

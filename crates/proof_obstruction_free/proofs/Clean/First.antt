@@ -7,21 +7,17 @@ use Rattle.proof_obstruction_free.specs.Beneath.slot_arena.specs.Heaps.{node_at,
 use Rattle.proof_obstruction_free.specs.Beneath.machine_model.specs.declared.lines.Line.{Line}
 use Rattle.proof_obstruction_free.specs.Beneath.machine_model.specs.declared.lines.Line.TheVariants as line
 use Rattle.proof_obstruction_free.specs.Beneath.machine_model.specs.declared.operations.Operation.{Operation}
-use Rattle.proof_obstruction_free.specs.Beneath.machine_model.specs.declared.reading.After.{After}
-use Rattle.proof_obstruction_free.specs.Beneath.machine_model.specs.declared.reading.After.TheVariants.{Goes, Gives}
 use Rattle.proof_obstruction_free.specs.Beneath.machine_model.specs.declared.reading.ReadLine.{ReadLine}
 use Rattle.proof_obstruction_free.specs.Beneath.machine_model.specs.declared.repairs.CleanLine.TheVariants as clean
-use Rattle.proof_obstruction_free.specs.Beneath.machine_model.specs.Calls.{handle_of}
 use Rattle.proof_obstruction_free.specs.Beneath.machine_model.specs.Cleaning.{clean_after_read, clean_after_main}
 use Rattle.proof_obstruction_free.specs.Beneath.machine_model.specs.Lines.{new_try}
-use Rattle.proof_obstruction_free.specs.Beneath.machine_model.specs.Reading.{at_indirection, read_after}
-use Rattle.proof_obstruction_free.specs.Beneath.machine_model.specs.States.{word_at}
 use Rattle.proof_obstruction_free.specs.Beneath.proof_memory.specs.Wants.{is_branch}
 use Rattle.proof_obstruction_free.specs.Alone.{Lone, Stands, Within, IsWeight, node}
-use Rattle.proof_obstruction_free.specs.Machines.{HoldsRead, lead}
+use Rattle.proof_obstruction_free.specs.Machines.{HoldsRead}
 use Rattle.proof_obstruction_free.specs.Stepping.{Stepping}
+use Rattle.proof_obstruction_free.proofs.Read.Embedded.{holds_read}
 use Rattle.proof_obstruction_free.proofs.Renew.Nodes.{main_seen}
-use Rattle.proof_obstruction_free.proofs.Renew.Calm.{Calm, calm_step, step_on, holds_read}
+use Rattle.proof_obstruction_free.proofs.Renew.Calm.{Calm, calm_step, step_on}
 use Rattle.proof_obstruction_free.proofs.Clean.Lines.{clean_line}
 use Rattle.proof_obstruction_free.proofs.Step.Within.{here, one}
 
@@ -32,14 +28,10 @@ current_read path i l = line.Clean (clean.Read path (record { indirection = i; l
 abbrev pub current_main : List Ref → Ref → Line
 current_main path m = line.Clean (clean.Main path m)
 
-current_leads : (path : List Ref) (i : Ref) (x : After ReadLine Ref) → clean_after_read path (at_indirection i x) ≡ lead (current_read path i) (current_main path) x
-current_leads path i (Goes l) = refl
-current_leads path i (Gives m) = refl
-
 pub current_reads : (own : Operation) (path : List Ref) (i : Ref) → HoldsRead own (current_read path i) (current_main path) i
 current_reads own path i =
-    holds_read own (current_read path i) (current_main path) i (λ l. refl) (λ state operation l. refl)
-    (λ state operation l. current_leads path i (read_after state.heap operation.access (word_at state (handle_of operation.call)) i l)) (λ state operation l. refl)
+    holds_read own (λ r. line.Clean (clean.Read path r)) (current_main path) (clean_after_read path) i (λ r. refl) (λ state operation r. refl) (λ state operation r. refl) (λ r. refl) (λ m. refl)
+    (λ state operation r. refl)
 
 module _ (a : Lone) (steps : Stepping a) (g : Option ℕ) (path : List Ref) (main : Ref) where
   -- a branch is cleaned, and nothing else

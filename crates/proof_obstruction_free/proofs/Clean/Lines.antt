@@ -8,26 +8,22 @@ use Rattle.proof_obstruction_free.specs.Beneath.slot_arena.specs.Heaps.{node_at,
 use Rattle.proof_obstruction_free.specs.Beneath.machine_model.specs.declared.lines.Line.{Line}
 use Rattle.proof_obstruction_free.specs.Beneath.machine_model.specs.declared.lines.Line.TheVariants as line
 use Rattle.proof_obstruction_free.specs.Beneath.machine_model.specs.declared.operations.Operation.{Operation}
-use Rattle.proof_obstruction_free.specs.Beneath.machine_model.specs.declared.reading.After.{After}
-use Rattle.proof_obstruction_free.specs.Beneath.machine_model.specs.declared.reading.After.TheVariants.{Goes, Gives}
 use Rattle.proof_obstruction_free.specs.Beneath.machine_model.specs.declared.reading.ReadLine.{ReadLine}
 use Rattle.proof_obstruction_free.specs.Beneath.machine_model.specs.declared.reading.ReadLine.TheVariants as read
 use Rattle.proof_obstruction_free.specs.Beneath.machine_model.specs.declared.repairs.CleanLine.TheVariants as clean
-use Rattle.proof_obstruction_free.specs.Beneath.machine_model.specs.Calls.{handle_of}
 use Rattle.proof_obstruction_free.specs.Beneath.machine_model.specs.Cleaning.{clean_next, clean_after_entry, clean_after_tomb, after_child}
 use Rattle.proof_obstruction_free.specs.Beneath.machine_model.specs.Lines.{new_try}
-use Rattle.proof_obstruction_free.specs.Beneath.machine_model.specs.Reading.{at_indirection, read_after}
 use Rattle.proof_obstruction_free.specs.Beneath.machine_model.specs.Renewing.{next_entry}
-use Rattle.proof_obstruction_free.specs.Beneath.machine_model.specs.States.{word_at}
 use Rattle.proof_obstruction_free.specs.Beneath.proof_memory.specs.Wants.{is_indirection, AMain, Is, done_wants}
 use Rattle.proof_obstruction_free.specs.Beneath.proof_memory.specs.Laws.{IsInUse}
 use Rattle.proof_obstruction_free.specs.Beneath.proof_memory.proofs.Claims.Uses.{first_hold, last_hold}
 use Rattle.proof_obstruction_free.specs.Alone.{Lone, Stands, Has, Keeps, Within, IsWeight, node}
-use Rattle.proof_obstruction_free.specs.Machines.{Machines, HoldsRead, lead, IsRead, WasRead}
+use Rattle.proof_obstruction_free.specs.Machines.{Machines, HoldsRead, IsRead, WasRead}
 use Rattle.proof_obstruction_free.specs.Stepping.{Stepping}
+use Rattle.proof_obstruction_free.proofs.Read.Embedded.{holds_read}
 use Rattle.proof_obstruction_free.proofs.Renew.Nodes.{SeesMore, sees_more, main_seen, tomb_single, looks_at}
 use Rattle.proof_obstruction_free.proofs.Clean.Settled.{Settles, single_free}
-use Rattle.proof_obstruction_free.proofs.Renew.Calm.{Calm, calm_on, calm_step, step_on, holds_read}
+use Rattle.proof_obstruction_free.proofs.Renew.Calm.{Calm, calm_on, calm_step, step_on}
 use Rattle.proof_obstruction_free.proofs.Step.Within.{here, weaken, map, bind, one}
 use Rattle.proof_obstruction_free.proofs.Pass.Chains.{one_main}
 use Rattle.proof_obstruction_free.proofs.Ends.StandsAt.{never}
@@ -39,21 +35,16 @@ child_read path main done i l = line.Clean (clean.Child path main done (record {
 abbrev pub child_tomb : List Ref → Ref → List Ref → Ref → Line
 child_tomb path main done m = line.Clean (clean.Tomb path main done m)
 
-child_leads : (path : List Ref) (main : Ref) (done : List Ref) (i : Ref) (x : After ReadLine Ref) →
-    after_child path main done (at_indirection i x) ≡ lead (child_read path main done i) (child_tomb path main done) x
-child_leads path main done i (Goes l) = refl
-child_leads path main done i (Gives m) = refl
-
-pub child_reads : (own : Operation) (path : List Ref) (main : Ref) (done : List Ref) (i : Ref) → HoldsRead own (child_read path main done i) (child_tomb path main done) i
-child_reads own path main done i =
-    holds_read own (child_read path main done i) (child_tomb path main done) i (λ l. refl) (λ state operation l. refl)
-    (λ state operation l. child_leads path main done i (read_after state.heap operation.access (word_at state (handle_of operation.call)) i l)) (λ state operation l. refl)
-
 -- the next entry after those that are done; where all are, a new main node, if an entry changed
 abbrev pub clean_line : List Ref → List Ref → Ref → List Ref → Line
 clean_line entries path main done =
     if nat_lt (length done) (length entries) then line.Clean (clean.Entry path main done)
     else (if pointwise nat_eq done entries then new_try else line.Clean (clean.Contracted path main done))
+
+pub child_reads : (own : Operation) (path : List Ref) (main : Ref) (done : List Ref) (i : Ref) → HoldsRead own (child_read path main done i) (child_tomb path main done) i
+child_reads own path main done i =
+    holds_read own (λ r. line.Clean (clean.Child path main done r)) (child_tomb path main done) (after_child path main done) i
+    (λ r. refl) (λ state operation r. refl) (λ state operation r. refl) (λ r. refl) (λ m. refl) (λ state operation r. refl)
 
 module _ (a : Lone) (steps : Stepping a) (g : Option ℕ) (path : List Ref) (main : Ref) (done : List Ref) where
   abbrev pub entry : Ref

@@ -1,6 +1,5 @@
 -- The lines of CLIMB, where one actor alone takes steps: what each leads to.
-use Rattle.std.proofs.Common.{◌≡◌, ℕ, suc, ◌+◌, ◌≤◌, Bool, true, false, Option, Some, None, if◌then◌else◌, refl, subst, ap, ◌∙◌}
-use Rattle.proof_obstruction_free.specs.Beneath.history.specs.declared.calls.Access.{Access}
+use Rattle.std.proofs.Common.{◌≡◌, ℕ, suc, ◌+◌, ◌≤◌, Bool, true, false, Option, Some, None, if◌then◌else◌, refl, subst}
 use Rattle.proof_obstruction_free.specs.Beneath.slot_arena.specs.declared.refs.Ref.{Ref}
 use Rattle.proof_obstruction_free.specs.Beneath.slot_arena.specs.declared.nodes.Node.{Node}
 use Rattle.proof_obstruction_free.specs.Beneath.slot_arena.specs.declared.nodes.Node.TheVariants.{Indirection, Branch, Single, Tomb, List as Listed}
@@ -8,22 +7,20 @@ use Rattle.proof_obstruction_free.specs.Beneath.slot_arena.specs.Heaps.{node_at,
 use Rattle.proof_obstruction_free.specs.Beneath.machine_model.specs.declared.lines.Line.{Line}
 use Rattle.proof_obstruction_free.specs.Beneath.machine_model.specs.declared.lines.Line.TheVariants as line
 use Rattle.proof_obstruction_free.specs.Beneath.machine_model.specs.declared.lines.Purpose.TheVariants as purpose
-use Rattle.proof_obstruction_free.specs.Beneath.machine_model.specs.declared.reading.After.{After}
-use Rattle.proof_obstruction_free.specs.Beneath.machine_model.specs.declared.reading.After.TheVariants.{Goes, Gives}
 use Rattle.proof_obstruction_free.specs.Beneath.machine_model.specs.declared.reading.ReadLine.{ReadLine}
 use Rattle.proof_obstruction_free.specs.Beneath.machine_model.specs.declared.repairs.Climb.{Climb}
 use Rattle.proof_obstruction_free.specs.Beneath.machine_model.specs.declared.repairs.ClimbLine.TheVariants as climb
 use Rattle.proof_obstruction_free.specs.Beneath.machine_model.specs.declared.operations.Operation.{Operation}
-use Rattle.proof_obstruction_free.specs.Beneath.machine_model.specs.Calls.{changed_reply, handle_of}
+use Rattle.proof_obstruction_free.specs.Beneath.machine_model.specs.Calls.{changed_reply}
 use Rattle.proof_obstruction_free.specs.Beneath.machine_model.specs.Climbing.{climbing, climbed, higher, holds_it, climb_after_read, climb_after_main, climb_after_contracted}
 use Rattle.proof_obstruction_free.specs.Beneath.machine_model.specs.Operations.{climbed_on}
 use Rattle.proof_obstruction_free.specs.Beneath.machine_model.specs.Paths.{current, above, is_below_root}
-use Rattle.proof_obstruction_free.specs.Beneath.machine_model.specs.Reading.{at_indirection, read_after, reading}
-use Rattle.proof_obstruction_free.specs.Beneath.machine_model.specs.States.{word_at}
+use Rattle.proof_obstruction_free.specs.Beneath.machine_model.specs.Reading.{reading}
 use Rattle.proof_obstruction_free.specs.Beneath.machine_model.specs.Swapping.{swapping}
 use Rattle.proof_obstruction_free.specs.Alone.{Lone, Stands, Keeps, Within, IsWeight}
-use Rattle.proof_obstruction_free.specs.Machines.{HoldsRead, lead}
+use Rattle.proof_obstruction_free.specs.Machines.{HoldsRead}
 use Rattle.proof_obstruction_free.specs.Stepping.{Stepping}
+use Rattle.proof_obstruction_free.proofs.Read.Embedded.{holds_read}
 use Rattle.proof_obstruction_free.proofs.Step.Within.{weaken, ended}
 use Rattle.proof_obstruction_free.proofs.Build.Steps.{quiet_on}
 use Rattle.proof_obstruction_free.proofs.Ends.StandsAt.{never}
@@ -36,20 +33,10 @@ climb_read x i l = line.Climb (climb.Read x (record { indirection = i; line = l 
 abbrev pub climb_gives : Climb → Ref → Line
 climb_gives x m = line.Climb (climb.Main x m)
 
-leads_on : (x : Climb) (i : Ref) (e : After ReadLine Ref) → climb_after_read x (at_indirection i e) ≡ lead (climb_read x i) (climb_gives x) e
-leads_on x i (Goes l) = refl
-leads_on x i (Gives m) = refl
-
 pub climb_holds_read : (own : Operation) (x : Climb) (i : Ref) → HoldsRead own (climb_read x i) (climb_gives x) i
-climb_holds_read own x i = record {
-  reads = λ l. refl;
-  acts = λ state operation l. refl;
-  goes = λ state operation l call access.
-      ap (λ (k : Access). climb_after_read x (at_indirection i (read_after state.heap k (word_at state (handle_of operation.call)) i l))) access
-      ∙ ap (λ k. climb_after_read x (at_indirection i (read_after state.heap own.access (word_at state (handle_of k)) i l))) call
-      ∙ leads_on x i (read_after state.heap own.access (word_at state (handle_of own.call)) i l);
-  stays = λ state operation l. refl;
-}
+climb_holds_read own x i =
+    holds_read own (λ r. line.Climb (climb.Read x r)) (climb_gives x) (climb_after_read x) i (λ r. refl) (λ state operation r. refl) (λ state operation r. refl) (λ r. refl) (λ m. refl)
+    (λ state operation r. refl)
 
 module _ (a : Lone) where
   -- what climbs goes by the call alone

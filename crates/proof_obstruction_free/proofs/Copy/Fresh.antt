@@ -23,11 +23,12 @@ use Rattle.proof_obstruction_free.specs.Alone.{Lone, Stands, Has, Keeps, IsPlain
 use Rattle.proof_obstruction_free.specs.Machines.{HoldsRead, lead}
 use Rattle.proof_obstruction_free.specs.Stepping.{Stepping, LeavesWords}
 use Rattle.proof_obstruction_free.proofs.Copy.Lines.{completing_line, swapping_line, complete_reads}
-use Rattle.proof_obstruction_free.proofs.Root.Words.{same_try, offered_on}
+use Rattle.proof_obstruction_free.proofs.Root.Words.{offered_on}
 use Rattle.proof_obstruction_free.proofs.Swap.Course.{prev_leaves, main_leaves}
 use Rattle.proof_obstruction_free.proofs.Swap.Found.{handle_open}
 use Rattle.proof_obstruction_free.proofs.Swap.Steps.{w, known, facts, keeps_left, read_acts, reads, read_next, same_word}
 use Rattle.proof_obstruction_free.proofs.Ends.StandsAt.{stands_as}
+use Rattle.proof_obstruction_free.specs.Beneath.proof_generations.proofs.Offers.Standing.{try_itself}
 
 -- ---- a READ of an indirection whose main node is decided
 
@@ -68,7 +69,7 @@ module _ (a : Lone) (steps : Stepping a) where
         let l = swapping_line a.own d M in
         let it : word_at (a.states t) (handle_of s.operation.call) ≡ Offer d = ap (λ x. word_at (a.states t) (handle_of x)) s.call ∙ stands in
         let carried : is_carried_out (word_at (a.states t) (handle_of s.operation.call)) d M ≡ true =
-        ap (λ x. is_carried_out x d M) it ∙ and_from (stands_in (Offer d) d) (M == d.expected) (same_try d) (eq-eqb M M refl) in
+        ap (λ x. is_carried_out x d M) it ∙ and_from (stands_in (Offer d) d) (M == d.expected) (try_itself d) (eq-eqb M M refl) in
         steps.ends (suc t) g (copied_reply s.operation.call s.operation.opens)
         (stands_as a (suc t) _ g _ _ s.generation (ap (λ b. copy_after_complete s.operation (of_offer d (Gives b))) carried) (steps.next t g l s (omega (arith, h)) tt)) h
 

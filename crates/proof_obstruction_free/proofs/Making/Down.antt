@@ -110,7 +110,8 @@ module _ (a : Lone) (steps : Stepping a) (machines : Machines a (flat a) 7) (wri
     renewing_level : (t : ℕ) → Renewal r g path main t → Stands a t (Some g) (line.Renew (renew.Entry path main [])) →
         Few a (Goes r g path) (length (entries_of (node a main)) + 1 + 0) t
     renewing_level t e s =
-        bind a (IsRenewing a (flat a) 7 t g path main 0) (Goes r g path) (length (entries_of (node a main)) + 1) 0 t (renews_made a steps machines g path main t s) (λ u after in_time ren. after_swap t u e ren after)
+        bind a (IsRenewing a (flat a) 7 t g path main 0) (Goes r g path) (length (entries_of (node a main)) + 1) 0 t (renews_made a steps machines g path main t s)
+        (λ u after in_time ren. after_swap t u e ren after)
 
   -- ---- a level
 

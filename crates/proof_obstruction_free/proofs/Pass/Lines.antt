@@ -4,9 +4,7 @@ use Rattle.std.proofs.Math.Seq.{get_or-append_seam}
 use Rattle.std.proofs.lemmas.Bool.{lt-ltb}
 use Rattle.std.proofs.lemmas.List.{length-append}
 use Rattle.proof_obstruction_free.specs.Beneath.ctrie_base.specs.Paths.{position_of}
-use Rattle.proof_obstruction_free.specs.Beneath.history.specs.declared.calls.Access.{Access}
 use Rattle.proof_obstruction_free.specs.Beneath.history.specs.declared.calls.Access.TheVariants.{Writable}
-use Rattle.proof_obstruction_free.specs.Beneath.history.specs.declared.calls.Call.{Call}
 use Rattle.proof_obstruction_free.specs.Beneath.slot_arena.specs.declared.refs.Ref.{Ref}
 use Rattle.proof_obstruction_free.specs.Beneath.slot_arena.specs.Heaps.{entries_of, no_ref, node_at}
 use Rattle.proof_obstruction_free.specs.Beneath.nodes.specs.Levels.{has_flag}
@@ -14,22 +12,19 @@ use Rattle.proof_obstruction_free.specs.Beneath.machine_model.specs.declared.fin
 use Rattle.proof_obstruction_free.specs.Beneath.machine_model.specs.declared.lines.Line.{Line}
 use Rattle.proof_obstruction_free.specs.Beneath.machine_model.specs.declared.lines.Line.TheVariants as line
 use Rattle.proof_obstruction_free.specs.Beneath.machine_model.specs.declared.operations.Operation.{Operation}
-use Rattle.proof_obstruction_free.specs.Beneath.machine_model.specs.declared.reading.After.{After}
-use Rattle.proof_obstruction_free.specs.Beneath.machine_model.specs.declared.reading.After.TheVariants.{Gives, Goes}
 use Rattle.proof_obstruction_free.specs.Beneath.machine_model.specs.declared.reading.ReadLine.{ReadLine}
 use Rattle.proof_obstruction_free.specs.Beneath.machine_model.specs.declared.repairs.RenewLine.TheVariants as renew
-use Rattle.proof_obstruction_free.specs.Beneath.machine_model.specs.Calls.{handle_of}
 use Rattle.proof_obstruction_free.specs.Beneath.machine_model.specs.Finding.{absent, going_down, is_passable, key_after_entry, key_after_main, key_after_read}
 use Rattle.proof_obstruction_free.specs.Beneath.machine_model.specs.Operations.{line_after}
 use Rattle.proof_obstruction_free.specs.Beneath.machine_model.specs.Paths.{current, depth_of, flag_in}
-use Rattle.proof_obstruction_free.specs.Beneath.machine_model.specs.Reading.{at_indirection, read_after, reading}
+use Rattle.proof_obstruction_free.specs.Beneath.machine_model.specs.Reading.{reading}
 use Rattle.proof_obstruction_free.specs.Beneath.machine_model.specs.Renewing.{renew_next}
-use Rattle.proof_obstruction_free.specs.Beneath.machine_model.specs.States.{word_at}
 use Rattle.proof_obstruction_free.specs.Beneath.proof_memory.specs.Laws.{IsInUse}
 use Rattle.proof_obstruction_free.specs.Alone.{Lone, Stands, node}
 use Rattle.proof_obstruction_free.specs.Keys.{IsOf, Leads, flag_at}
-use Rattle.proof_obstruction_free.specs.Machines.{HoldsRead, lead}
+use Rattle.proof_obstruction_free.specs.Machines.{HoldsRead}
 use Rattle.proof_obstruction_free.specs.Stepping.{Stepping}
+use Rattle.proof_obstruction_free.proofs.Read.Embedded.{holds_read}
 use Rattle.proof_obstruction_free.proofs.Pass.Sees.{SeesEntry, flag_is, link_seen, main_seen, sees_entry}
 use Rattle.proof_obstruction_free.proofs.Ends.StandsAt.{stands_as}
 
@@ -134,20 +129,10 @@ module _ (a : Lone) where
 
 -- ---- the READ of KEY
 
-leads_on : (path : List Ref) (i : Ref) (x : After ReadLine Ref) → key_after_read path (at_indirection i x) ≡ lead (key_read_of path i) (key_gives path) x
-leads_on path i (Goes l) = refl
-leads_on path i (Gives m) = refl
-
 pub key_holds_read_of : (own : Operation) (path : List Ref) (i : Ref) → HoldsRead own (key_read_of path i) (key_gives path) i
-key_holds_read_of own path i = record {
-  reads = λ l. refl;
-  acts = λ state operation l. refl;
-  goes = λ state operation l call access.
-      ap (λ (k : Access). key_after_read path (at_indirection i (read_after state.heap k (word_at state (handle_of operation.call)) i l))) access
-      ∙ ap (λ (k : Call). key_after_read path (at_indirection i (read_after state.heap own.access (word_at state (handle_of k)) i l))) call
-      ∙ leads_on path i (read_after state.heap own.access (word_at state (handle_of own.call)) i l);
-  stays = λ state operation l. refl;
-}
+key_holds_read_of own path i =
+    holds_read own (λ r. line.Key (key.Read path r)) (key_gives path) (key_after_read path) i (λ r. refl) (λ state operation r. refl) (λ state operation r. refl) (λ r. refl) (λ m. refl)
+    (λ state operation r. refl)
 
 pub key_holds_read : (own : Operation) (path : List Ref) → HoldsRead own (key_read path) (key_gives path) (current path)
 key_holds_read own path = key_holds_read_of own path (current path)

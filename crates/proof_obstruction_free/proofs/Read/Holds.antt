@@ -9,8 +9,6 @@ use Rattle.proof_obstruction_free.specs.Beneath.machine_model.specs.declared.lin
 use Rattle.proof_obstruction_free.specs.Beneath.machine_model.specs.declared.lines.Line.TheVariants as line
 use Rattle.proof_obstruction_free.specs.Beneath.machine_model.specs.declared.lines.Purpose.{Purpose}
 use Rattle.proof_obstruction_free.specs.Beneath.machine_model.specs.declared.operations.Operation.{Operation}
-use Rattle.proof_obstruction_free.specs.Beneath.machine_model.specs.declared.reading.After.{After}
-use Rattle.proof_obstruction_free.specs.Beneath.machine_model.specs.declared.reading.After.TheVariants.{Goes, Gives}
 use Rattle.proof_obstruction_free.specs.Beneath.machine_model.specs.declared.reading.Read.{Read}
 use Rattle.proof_obstruction_free.specs.Beneath.machine_model.specs.declared.reading.ReadLine.{ReadLine}
 use Rattle.proof_obstruction_free.specs.Beneath.machine_model.specs.declared.reading.SwapLine.{SwapLine}
@@ -25,20 +23,17 @@ use Rattle.proof_obstruction_free.specs.Beneath.machine_model.specs.declared.roo
 use Rattle.proof_obstruction_free.specs.Beneath.machine_model.specs.declared.roots.RootLine.{RootLine}
 use Rattle.proof_obstruction_free.specs.Beneath.machine_model.specs.declared.roots.RootLine.TheVariants as root
 use Rattle.proof_obstruction_free.specs.Beneath.machine_model.specs.declared.walking.WalkLine.TheVariants as walk
-use Rattle.proof_obstruction_free.specs.Beneath.machine_model.specs.Calls.{handle_of}
 use Rattle.proof_obstruction_free.specs.Beneath.machine_model.specs.Copying.{after_given}
 use Rattle.proof_obstruction_free.specs.Beneath.machine_model.specs.Operations.{read_of}
-use Rattle.proof_obstruction_free.specs.Beneath.machine_model.specs.Reading.{at_indirection, read_after}
-use Rattle.proof_obstruction_free.specs.Beneath.machine_model.specs.States.{word_at}
 use Rattle.proof_obstruction_free.specs.Beneath.machine_model.specs.Walking.{walk_after_read}
 use Rattle.proof_obstruction_free.specs.Alone.{Lone}
-use Rattle.proof_obstruction_free.specs.Machines.{HoldsRead, lead}
+use Rattle.proof_obstruction_free.specs.Machines.{HoldsRead}
+use Rattle.proof_obstruction_free.proofs.Read.Embedded.{holds_read}
 use Rattle.proof_obstruction_free.proofs.Clean.First.{current_read, current_main, current_reads}
 use Rattle.proof_obstruction_free.proofs.Clean.Lines.{child_read, child_tomb, child_reads}
 use Rattle.proof_obstruction_free.proofs.Climb.Lines.{climb_read, climb_gives, climb_holds_read}
 use Rattle.proof_obstruction_free.proofs.Copy.Lines.{copy_reads, complete_reads}
 use Rattle.proof_obstruction_free.proofs.Pass.Lines.{key_read_of, key_gives, key_holds_read_of}
-use Rattle.proof_obstruction_free.proofs.Renew.Calm.{holds_read}
 use Rattle.proof_obstruction_free.proofs.Renew.Lines.{entry_read, entry_link, entry_reads}
 use Rattle.proof_obstruction_free.proofs.Root.Ends.{first_holds, climb_holds}
 use Rattle.proof_obstruction_free.proofs.Root.Lines.{root_reads}
@@ -52,14 +47,10 @@ walk_read todo pairs i l = line.Walk (walk.Read (record { indirection = i; line 
 abbrev walk_main : List Ref → List (ℕ × ℕ) → Ref → Line
 walk_main todo pairs m = line.Walk (walk.Main m todo pairs)
 
-walk_leads : (todo : List Ref) (pairs : List (ℕ × ℕ)) (i : Ref) (x : After ReadLine Ref) → walk_after_read todo pairs (at_indirection i x) ≡ lead (walk_read todo pairs i) (walk_main todo pairs) x
-walk_leads todo pairs i (Goes l) = refl
-walk_leads todo pairs i (Gives m) = refl
-
 walk_reads : (own : Operation) (todo : List Ref) (pairs : List (ℕ × ℕ)) (i : Ref) → HoldsRead own (walk_read todo pairs i) (walk_main todo pairs) i
 walk_reads own todo pairs i =
-    holds_read own (walk_read todo pairs i) (walk_main todo pairs) i (λ l. refl) (λ state operation l. refl)
-    (λ state operation l. walk_leads todo pairs i (read_after state.heap operation.access (word_at state (handle_of operation.call)) i l)) (λ state operation l. refl)
+    holds_read own (λ r. line.Walk (walk.Read r todo pairs)) (walk_main todo pairs) (walk_after_read todo pairs) i
+    (λ r. refl) (λ state operation r. refl) (λ state operation r. refl) (λ r. refl) (λ m. refl) (λ state operation r. refl)
 
 -- what a copy does with its root's main node reads nothing
 given_reads_none : (call : Call) (r m : Ref) → read_of (after_given call r m) ≡ None

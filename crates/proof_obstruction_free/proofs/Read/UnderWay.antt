@@ -7,15 +7,15 @@ use Rattle.proof_obstruction_free.specs.Beneath.history.specs.declared.calls.Acc
 use Rattle.proof_obstruction_free.specs.Beneath.machine_model.specs.declared.lines.Line.{Line}
 use Rattle.proof_obstruction_free.specs.Beneath.machine_model.specs.declared.reading.ReadLine.{ReadLine}
 use Rattle.proof_obstruction_free.specs.Beneath.machine_model.specs.declared.reading.ReadLine.TheVariants as read
-use Rattle.proof_obstruction_free.specs.Beneath.machine_model.specs.Reading.{verdict_by, is_licensed, is_pending, read_action, after_ask, after_decide}
+use Rattle.proof_obstruction_free.specs.Beneath.machine_model.specs.Reading.{verdict_by, is_licensed, is_pending, after_ask, after_decide}
 use Rattle.proof_obstruction_free.specs.Beneath.machine_model.specs.Grown.{prev_word}
 use Rattle.proof_obstruction_free.specs.Beneath.proof_commits.proofs.Lines.Read.{pending_so, not_pending_so}
-use Rattle.proof_obstruction_free.specs.Alone.{Lone, Stands, IsPlain, IsStill, generation}
+use Rattle.proof_obstruction_free.specs.Alone.{Lone, Stands, IsPlain, generation}
 use Rattle.proof_obstruction_free.specs.Machines.{HoldsRead, lead}
 use Rattle.proof_obstruction_free.specs.Weighing.{Weighing}
 use Rattle.proof_obstruction_free.proofs.Step.Within.{Comes}
 use Rattle.proof_obstruction_free.proofs.Read.Lines.{on_line, asks_writable}
-use Rattle.proof_obstruction_free.proofs.Read.Step.{Counts, acting, stays, on}
+use Rattle.proof_obstruction_free.proofs.Read.Step.{acting, stays, on}
 use Rattle.proof_obstruction_free.proofs.Read.First as First
 use Rattle.proof_obstruction_free.proofs.Read.On as On
 use Rattle.proof_obstruction_free.proofs.Read.Licensed as Licensed
@@ -33,29 +33,20 @@ module _ (a : Lone) (weight : ℕ → ℕ) (x f : ℕ) (wt : Weighing a weight x
   abbrev P : ℕ → ℕ → Type 0
   P = On.P a weight x f wt wrap gives i h c g two three seven
 
-  abbrev C : (ℕ → Type 0) → ℕ → ℕ → Type 0
-  C = Comes a weight
-
   abbrev S : ℕ → ReadLine → Type 0
   S t l = Stands a t g (wrap l)
-
-  counts : Counts a wrap gives i h P
-  counts = On.counts a weight x f wt wrap gives i h c g two three seven
-
-  quiet : (t : ℕ) (l : ReadLine) → S t l → t < a.last → IsStill (read_action i l) → weight (suc t) ≤ weight t
-  quiet = On.quiet a weight x f wt wrap gives i h c g two three seven
 
   -- ---- the generation of the root that stands there was told
 
   -- another decided the node
   overtaken : (t b : ℕ) (m r : Ref) (licensed : Bool) → Stands a t g (lead wrap gives (after_decide m (verdict_by licensed false))) → IsPlain a t r → a.own.access ≡ Writable →
-      (licensed ≡ true → generation a r ≡ generation a i) → c + weight t ≤ b → C (P t) b t
+      (licensed ≡ true → generation a r ≡ generation a i) → c + weight t ≤ b → Comes a weight (P t) b t
   overtaken t b m r true next plain writable same enough =
       Licensed.after_another a weight x f wt wrap gives i h c g two three seven r (same refl) writable t b m next plain (omega (arith, enough, six)) (prev_word a.states t m) refl
   overtaken t b m r false next plain writable same enough = On.from_main a weight x f wt wrap gives i h c g two three seven t b next enough
 
   decide_by : (t b : ℕ) (m q r : Ref) → S t (read.Decide m q (Some (generation a r))) → IsPlain a t r → a.own.access ≡ Writable → c + 1 + weight t ≤ b → t < a.last → (pending : Bool) →
-      is_pending (prev_at (a.states t).heap m) q ≡ pending → C (P t) b t
+      is_pending (prev_at (a.states t).heap m) q ≡ pending → Comes a weight (P t) b t
   decide_by t b m q r s plain writable enough more true e =
       let found = read_acts a wrap gives i h t g (read.Decide m q (Some (generation a r))) s more in
       let stood = on_line a t g (wrap (read.Decide m q (Some (generation a r)))) s _ (h.reads (read.Decide m q (Some (generation a r)))) in
@@ -63,7 +54,7 @@ module _ (a : Lone) (weight : ℕ → ℕ) (x f : ℕ) (wt : Weighing a weight x
       On.was_read a weight x f wt wrap gives i h c g two three seven t b (First.decide a weight x f wt wrap gives i h c g t b m q (Some (generation a r)) s sees (omega (arith, enough, seven)))
   decide_by t b m q r s plain writable enough more false e =
       let told = Some (generation a r) in
-      on a wrap gives i h weight P counts b t g (read.Decide m q told) s (omega (arith, enough))
+      on a wrap gives i h weight P (On.counts a weight x f wt wrap gives i h c g two three seven) b t g (read.Decide m q told) s (omega (arith, enough))
       (λ soon next.
       let found = read_acts a wrap gives i h t g (read.Decide m q told) s soon in
       let less = wt.decided t i m q told (acting a wrap gives i h t g (read.Decide m q told) s soon) (λ is. not_pending_so _ q e (found.1.prev ∙ is)) in
@@ -72,17 +63,17 @@ module _ (a : Lone) (weight : ℕ → ℕ) (x f : ℕ) (wt : Weighing a weight x
       (stays a wrap gives i h t g (read.Decide m q told) s soon r plain) writable
       (λ licensed. told_same _ _ licensed ∙ Licensed.own_so a weight x f wt wrap gives i h c g two three seven t m q told s soon) (omega (arith, enough, less)))
 
-  decide_told : (t b : ℕ) (m q r : Ref) → S t (read.Decide m q (Some (generation a r))) → IsPlain a t r → a.own.access ≡ Writable → c + 1 + weight t ≤ b → C (P t) b t
+  decide_told : (t b : ℕ) (m q r : Ref) → S t (read.Decide m q (Some (generation a r))) → IsPlain a t r → a.own.access ≡ Writable → c + 1 + weight t ≤ b → Comes a weight (P t) b t
   decide_told t b m q r s plain writable enough room =
       decide_by t b m q r s plain writable enough (omega (arith, enough, room)) (is_pending (prev_at (a.states t).heap m) q) refl room
 
   -- ---- the root is asked for
 
-  ask_plain : (t b : ℕ) (m q r : Ref) → S t (read.AskRoot m q) → IsPlain a t r → c + 2 + weight t ≤ b → C (P t) b t
+  ask_plain : (t b : ℕ) (m q r : Ref) → S t (read.AskRoot m q) → IsPlain a t r → c + 2 + weight t ≤ b → Comes a weight (P t) b t
   ask_plain t b m q r s plain enough =
-      on a wrap gives i h weight P counts b t g (read.AskRoot m q) s (omega (arith, enough))
+      on a wrap gives i h weight P (On.counts a weight x f wt wrap gives i h c g two three seven) b t g (read.AskRoot m q) s (omega (arith, enough))
       (λ more next.
-      let less = quiet t (read.AskRoot m q) s more tt in
+      let less = On.quiet a weight x f wt wrap gives i h c g two three seven t (read.AskRoot m q) s more tt in
       let told = Licensed.told_so a weight x f wt wrap gives i h c g two three seven t (read.AskRoot m q) s r plain in
       decide_told (suc t) (b - 1) m q r
       (subst (λ n. S (suc t) (read.Decide m q (Some n))) told (subst (λ y. Stands a (suc t) g (lead wrap gives (after_ask (a.states t).heap m q y))) plain next))
@@ -90,7 +81,7 @@ module _ (a : Lone) (weight : ℕ → ℕ) (x f : ℕ) (wt : Weighing a weight x
 
   -- ---- from any line
 
-  pub soon : (t b : ℕ) (l : ReadLine) → S t l → c + 3 + weight t ≤ b → C (P t) b t
+  pub soon : (t b : ℕ) (l : ReadLine) → S t l → c + 3 + weight t ≤ b → Comes a weight (P t) b t
   soon t b read.Main s enough = On.from_main a weight x f wt wrap gives i h c g two three seven t b s (omega (arith, enough))
   soon t b (read.Prev m) s enough = On.prev_any a weight x f wt wrap gives i h c g two three seven t b m s (omega (arith, enough))
   soon t b (read.AskRoot m q) s enough = On.ask a weight x f wt wrap gives i h c g two three seven 1 ask_plain t b m q s (omega (arith, enough))

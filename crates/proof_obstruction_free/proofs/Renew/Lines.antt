@@ -11,25 +11,21 @@ use Rattle.proof_obstruction_free.specs.Beneath.slot_arena.specs.Heaps.{node_at,
 use Rattle.proof_obstruction_free.specs.Beneath.machine_model.specs.declared.lines.Line.{Line}
 use Rattle.proof_obstruction_free.specs.Beneath.machine_model.specs.declared.lines.Line.TheVariants as line
 use Rattle.proof_obstruction_free.specs.Beneath.machine_model.specs.declared.operations.Operation.{Operation}
-use Rattle.proof_obstruction_free.specs.Beneath.machine_model.specs.declared.reading.After.{After}
-use Rattle.proof_obstruction_free.specs.Beneath.machine_model.specs.declared.reading.After.TheVariants.{Goes, Gives}
 use Rattle.proof_obstruction_free.specs.Beneath.machine_model.specs.declared.reading.ReadLine.{ReadLine}
 use Rattle.proof_obstruction_free.specs.Beneath.machine_model.specs.declared.reading.ReadLine.TheVariants as read
 use Rattle.proof_obstruction_free.specs.Beneath.machine_model.specs.declared.repairs.RenewLine.TheVariants as renew
-use Rattle.proof_obstruction_free.specs.Beneath.machine_model.specs.Calls.{handle_of}
 use Rattle.proof_obstruction_free.specs.Beneath.machine_model.specs.Paths.{is_start}
-use Rattle.proof_obstruction_free.specs.Beneath.machine_model.specs.Reading.{at_indirection, read_after}
 use Rattle.proof_obstruction_free.specs.Beneath.machine_model.specs.Renewing.{next_entry, renew_next, renew_after_entry, renew_after_read, renew_after_link}
-use Rattle.proof_obstruction_free.specs.Beneath.machine_model.specs.States.{word_at}
 use Rattle.proof_obstruction_free.specs.Beneath.proof_memory.specs.Wants.{is_indirection, AMain, Is, done_wants}
 use Rattle.proof_obstruction_free.specs.Beneath.proof_memory.specs.Laws.{IsInUse}
 use Rattle.proof_obstruction_free.specs.Beneath.proof_memory.proofs.Claims.Uses.{first_hold}
 use Rattle.proof_obstruction_free.specs.Alone.{Lone, Stands, Within, IsWeight, node}
 use Rattle.proof_obstruction_free.specs.Keys.{IsOf, IsRenewed}
-use Rattle.proof_obstruction_free.specs.Machines.{Machines, HoldsRead, lead, IsRead, WasRead}
+use Rattle.proof_obstruction_free.specs.Machines.{Machines, HoldsRead, IsRead, WasRead}
 use Rattle.proof_obstruction_free.specs.Stepping.{Stepping}
+use Rattle.proof_obstruction_free.proofs.Read.Embedded.{holds_read}
 use Rattle.proof_obstruction_free.proofs.Renew.Nodes.{SeesMore, sees_more, looks_at}
-use Rattle.proof_obstruction_free.proofs.Renew.Calm.{Calm, calm_on, calm_step, step_on, holds_read}
+use Rattle.proof_obstruction_free.proofs.Renew.Calm.{Calm, calm_on, calm_step, step_on}
 use Rattle.proof_obstruction_free.proofs.Step.Within.{here, weaken, map, bind, one}
 use Rattle.proof_obstruction_free.proofs.Ends.StandsAt.{never}
 
@@ -40,15 +36,10 @@ entry_read path main done i l = line.Renew (renew.Read path main done (record { 
 abbrev pub entry_link : List Ref → Ref → List Ref → Ref → Line
 entry_link path main done m = line.Renew (renew.Link path main done m)
 
-entry_leads : (path : List Ref) (main : Ref) (done : List Ref) (i : Ref) (x : After ReadLine Ref) →
-    renew_after_read path main done (at_indirection i x) ≡ lead (entry_read path main done i) (entry_link path main done) x
-entry_leads path main done i (Goes l) = refl
-entry_leads path main done i (Gives m) = refl
-
 pub entry_reads : (own : Operation) (path : List Ref) (main : Ref) (done : List Ref) (i : Ref) → HoldsRead own (entry_read path main done i) (entry_link path main done) i
 entry_reads own path main done i =
-    holds_read own (entry_read path main done i) (entry_link path main done) i (λ l. refl) (λ state operation l. refl)
-    (λ state operation l. entry_leads path main done i (read_after state.heap operation.access (word_at state (handle_of operation.call)) i l)) (λ state operation l. refl)
+    holds_read own (λ r. line.Renew (renew.Read path main done r)) (entry_link path main done) (renew_after_read path main done) i
+    (λ r. refl) (λ state operation r. refl) (λ state operation r. refl) (λ r. refl) (λ m. refl) (λ state operation r. refl)
 
 -- the next entry after those that are done, or, where all are, the branch
 abbrev pub renew_line : List Ref → List Ref → Ref → List Ref → Line

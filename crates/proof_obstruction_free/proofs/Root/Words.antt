@@ -1,6 +1,5 @@
 -- The root word of an operation's handle over its own steps: an offer comes to stand there by an own offer alone, and goes where it is settled.
 use Rattle.std.proofs.Common.{◌≡◌, ℕ, suc, ◌<◌, ◌≤◌, ◌==◌, ◌⊎◌, true, cond, inl, inr, Option, Some, None, refl, sym, ap, ◌∙◌, subst, eq-eqb, arith}
-use Rattle.std.proofs.lemmas.Bool.{and_from}
 use Rattle.std.proofs.lemmas.Option.{none-some}
 use Rattle.proof_obstruction_free.specs.Beneath.slot_arena.specs.declared.refs.Ref.{Ref}
 use Rattle.proof_obstruction_free.specs.Beneath.machine_model.specs.declared.actions.Action.{Action}
@@ -14,7 +13,7 @@ use Rattle.proof_obstruction_free.specs.Beneath.machine_model.specs.Calls.{handl
 use Rattle.proof_obstruction_free.specs.Beneath.machine_model.specs.States.{State, root_at, word_of, word_at, rewritten, with_word}
 use Rattle.proof_obstruction_free.specs.Beneath.machine_model.specs.Acting.{acted, carried_out, new_root_taken, if_changed}
 use Rattle.proof_obstruction_free.specs.Beneath.machine_model.specs.Operations.{action_of, line_action}
-use Rattle.proof_obstruction_free.specs.Beneath.machine_model.specs.Swapping.{is_plain, is_try, stands_in}
+use Rattle.proof_obstruction_free.specs.Beneath.machine_model.specs.Swapping.{is_plain, stands_in}
 use Rattle.proof_obstruction_free.specs.Beneath.machine_model.specs.declared.roots.Root.{Root}
 use Rattle.proof_obstruction_free.specs.Beneath.machine_model.proofs.Found.{found_within}
 use Rattle.std.proofs.lemmas.List.{get_or-set_same}
@@ -22,7 +21,7 @@ use Rattle.proof_obstruction_free.specs.Beneath.proof_commits.proofs.Course.Fina
 use Rattle.proof_obstruction_free.specs.Beneath.proof_generations.specs.Laws.Roots.{settles}
 use Rattle.proof_obstruction_free.specs.Beneath.proof_generations.proofs.Lines.Copy.{IsOwn, LineFits}
 use Rattle.proof_obstruction_free.specs.Beneath.proof_generations.proofs.Handles.Ids.{one_of_id}
-use Rattle.proof_obstruction_free.specs.Beneath.proof_generations.proofs.Offers.Standing.{OfferFrom, stood, put, offer_from, own_offer, own_numbers, offer_line}
+use Rattle.proof_obstruction_free.specs.Beneath.proof_generations.proofs.Offers.Standing.{OfferFrom, stood, put, offer_from, own_offer, own_numbers, offer_line, try_itself}
 use Rattle.proof_obstruction_free.specs.Beneath.proof_generations.proofs.Handles.Running.{place_of_actor}
 use Rattle.proof_obstruction_free.specs.Beneath.proof_generations.proofs.Offers.Same.{has_offers_at}
 use Rattle.proof_obstruction_free.specs.Beneath.proof_generations.proofs.Offers.Swaps.{noted}
@@ -56,9 +55,6 @@ module _ (st : State) (h : ℕ) where
 open_written : (st : State) (h : ℕ) (x : RootWord) (root : Root) → root_at st h ≡ Some root → word_at (with_word st h x) h ≡ x
 open_written st h x root e =
     ap word_of (get_or-set_same st.roots h (rewritten x (root_at st h)) None (found_within st.roots h root e)) ∙ ap (λ o. word_of (rewritten x o)) e
-
-pub same_try : (d : Descriptor) → is_try d d ≡ true
-same_try d = and_from _ _ (eq-eqb d.operation d.operation refl) (eq-eqb d.attempt d.attempt refl)
 
 -- ---- at an own step
 
@@ -98,7 +94,7 @@ module _ (a : Lone) where
     settles_on d settled stands = by_word (word a (suc t)) refl
       where
         gone : (e : Descriptor) → OfferFrom st.roots handle action handle e → ⊥
-        gone e (stood was unsettled) = unsettled d settled refl (ap (λ x. stands_in x d) stands ∙ same_try d)
+        gone e (stood was unsettled) = unsettled d settled refl (ap (λ x. stands_in x d) stands ∙ try_itself d)
         gone e (put is here plain) = let wrong = sym (ap settles is) ∙ settled in none-some d wrong
 
         by_word : (x : RootWord) → word a (suc t) ≡ x → (r : Ref) × IsPlain a (suc t) r

@@ -7,7 +7,7 @@ use Rattle.proof_obstruction_free.specs.Beneath.slot_arena.specs.declared.nodes.
 use Rattle.proof_obstruction_free.specs.Beneath.machine_model.specs.declared.reading.After.{After}
 use Rattle.proof_obstruction_free.specs.Beneath.machine_model.specs.declared.reading.After.TheVariants.{Goes, Gives}
 use Rattle.proof_obstruction_free.specs.Beneath.machine_model.specs.declared.reading.ReadLine.{ReadLine}
-use Rattle.proof_obstruction_free.specs.Beneath.proof_commits.specs.Protocol.{Words, Stage, Rests, Reads, Holds, Publishes, Decides, Checks, Moves, Idles, MakesNode, SwapsNode}
+use Rattle.proof_obstruction_free.specs.Beneath.proof_commits.specs.Protocol.{Words, Stage, Rests, Reads, Builds, Publishes, Decides, Checks, Moves, Idles, MakesNode, SwapsNode}
 use Rattle.proof_obstruction_free.specs.Beneath.proof_commits.specs.Protocol.{ReadsOn, DecidesOn, IsAtRest, MayHave, after_read, after_deciding}
 use Rattle.proof_obstruction_free.specs.Beneath.proof_commits.proofs.Words.Stood.{Stood}
 use Rattle.proof_obstruction_free.specs.Beneath.proof_commits.proofs.Words.Effects.{Effect, Becomes, Same, GoesIn, IsCommitted, IsFailed, becomes, link_later}
@@ -36,7 +36,7 @@ pub stage_most : (w : Words) (t : ℕ) (s : Stage) → stage_weight w t s ≤ 5
 stage_most w t (Decides i below fresh l) = node_most (w.prev t fresh) (w.main t i == fresh)
 stage_most w t Rests = omega arith
 stage_most w t (Reads i l) = omega arith
-stage_most w t (Holds f) = omega arith
+stage_most w t (Builds f) = omega arith
 stage_most w t (Publishes i a f) = omega arith
 stage_most w t (Checks i a f) = omega arith
 
@@ -80,7 +80,7 @@ pub still_lighter : (w : Words) (t k : ℕ) → IsSound w t → Effect w t → (
 still_lighter w t k h e (Decides i below f l) staged = node_by w t h e i below f staged.1 (becomes w t e f)
 still_lighter w t k h e Rests staged = omega arith
 still_lighter w t k h e (Reads i l) staged = omega arith
-still_lighter w t k h e (Holds f) staged = omega arith
+still_lighter w t k h e (Builds f) staged = omega arith
 still_lighter w t k h e (Publishes i x f) staged = omega arith
 still_lighter w t k h e (Checks i x f) staged = omega arith
 
@@ -90,7 +90,7 @@ rest_weight : (w : Words) (t : ℕ) (s : Stage) → IsAtRest s → stage_weight 
 rest_weight w t (Decides i x f l) rest = absurd rest
 rest_weight w t Rests rest = refl
 rest_weight w t (Reads i l) rest = refl
-rest_weight w t (Holds f) rest = refl
+rest_weight w t (Builds f) rest = refl
 rest_weight w t (Publishes i x f) rest = refl
 rest_weight w t (Checks i x f) rest = refl
 
@@ -98,7 +98,7 @@ made_weight : (w : Words) (u t k : ℕ) (n : Ref) (s : Stage) → MayHave w t k 
 made_weight w u t k n (Decides i x f l) have = absurd have
 made_weight w u t k n Rests have = refl
 made_weight w u t k n (Reads i l) have = refl
-made_weight w u t k n (Holds f) have = refl
+made_weight w u t k n (Builds f) have = refl
 made_weight w u t k n (Publishes i x f) have = refl
 made_weight w u t k n (Checks i x f) have = refl
 

@@ -80,7 +80,7 @@ module _ (limits : Limits) (states : ℕ → State) (last : ℕ) (r : IsRun limi
   mover = carried_of (states t) swap.step handle offer swap.carries
 
   -- it is just what the laws of generations call so
-  pub carries : Footings.CarriesOut (states t) (handle_of mover.mover.call) (action_of (states t) mover.mover) offer
+  pub carries : Footings.ActionCarriesOut (states t) (handle_of mover.mover.call) (action_of (states t) mover.mover) offer
   carries = record { main = mover.main; is_it = mover.completes; carried = ap (λ h. is_carried_out (word_at (states t) h) offer mover.main) mover.on ∙ mover.carried }
 
   pub word : word_at (states t) handle ≡ Offer offer

@@ -22,7 +22,7 @@ use Rattle.proof_order.specs.Beneath.machine_model.specs.Times.{turns}
 use Rattle.proof_order.specs.Beneath.machine_model.specs.Times.{IsRun, Turn}
 use Rattle.proof_order.specs.Beneath.proof_memory.proofs.Safety.AtEachTime.{safe_along}
 use Rattle.proof_order.specs.Beneath.proof_memory.proofs.Safety.States.{IsSafe}
-use Rattle.proof_generations.proofs.Handles.Footings.{CarriesOut}
+use Rattle.proof_generations.proofs.Handles.Footings.{ActionCarriesOut}
 use Rattle.proof_generations.proofs.Roots.Along.{IsOrdered, ordered_at, ordered_along, closed_stays}
 use Rattle.proof_generations.proofs.Offers.Swaps.{StepKind, quiet, swaps, step_kind, closing_of, closed_in, closed_new}
 use Rattle.proof_order.specs.Openings.{IsSwap}
@@ -66,7 +66,7 @@ differ_push state after new is none so_far m n a b e f same =
 
 -- the generation that a swap closes is open
 module _ (state : State) (S : IsSafe state) (I : IsOrdered state) (s : Step) (o : Outcome) (after : State) (m : Moves state s o after) where
-  open_before : (actor : ℕ) (mover : Operation) (offer : Descriptor) → operation_of state actor ≡ Some mover → CarriesOut state (handle_of mover.call) (action_of state mover) offer →
+  open_before : (actor : ℕ) (mover : Operation) (offer : Descriptor) → operation_of state actor ≡ Some mover → ActionCarriesOut state (handle_of mover.call) (action_of state mover) offer →
       closed_at state (generation_at state.heap offer.root) ≡ None
   open_before actor mover offer is c =
       let b = old state S I s o after m actor mover offer is c in

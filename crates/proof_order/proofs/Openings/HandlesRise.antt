@@ -5,7 +5,6 @@ use Rattle.std.proofs.lemmas.Option.{same_Some}
 use Rattle.proof_order.specs.Beneath.history.specs.declared.calls.Access.TheVariants.{Writable, ReadOnly}
 use Rattle.proof_order.specs.Beneath.slot_arena.specs.declared.refs.Ref.{Ref}
 use Rattle.proof_order.specs.Beneath.slot_arena.specs.Heaps.{generation_at}
-use Rattle.proof_order.specs.Beneath.machine_model.specs.declared.actions.Action.TheVariants as act
 use Rattle.proof_order.specs.Beneath.machine_model.specs.declared.operations.Operation.{Operation}
 use Rattle.proof_order.specs.Beneath.machine_model.specs.declared.roots.Descriptor.{Descriptor}
 use Rattle.proof_order.specs.Beneath.machine_model.specs.declared.roots.Root.{Root}
@@ -22,8 +21,8 @@ use Rattle.proof_order.specs.Beneath.machine_model.specs.Times.{IsRun, Turn}
 use Rattle.proof_order.specs.Beneath.proof_memory.proofs.Safety.AtEachTime.{safe_at}
 use Rattle.proof_order.specs.Beneath.proof_memory.proofs.Safety.States.{IsSafe}
 use Rattle.proof_generations.proofs.Offers.Standing.{StandsBy, own_numbers, completes_it}
-use Rattle.proof_generations.proofs.Handles.Footings.{CarriesOut, RootFrom, stood, swapped, newly}
-use Rattle.proof_generations.proofs.Roots.Own.{gen, its_fresh}
+use Rattle.proof_generations.proofs.Handles.Footings.{ActionCarriesOut, RootFrom, stood, swapped, newly, one_carried}
+use Rattle.proof_generations.proofs.Roots.Own.{gen, its_fresh, brought_kept}
 use Rattle.proof_generations.proofs.Roots.Kept.{fresh_of, root_kept}
 use Rattle.proof_generations.proofs.Roots.Along.{IsOrdered, ordered_at}
 use Rattle.proof_generations.proofs.Offers.Swaps.{StepKind, quiet, swaps, step_kind, Kept}
@@ -32,7 +31,7 @@ use Rattle.proof_order.specs.Laws.Openings.{HandlesRiseIn}
 use Rattle.proof_order.proofs.Openings.Carried.{IsOffered}
 use Rattle.proof_order.proofs.Openings.Copy.{copied}
 use Rattle.proof_order.proofs.Openings.NeverStood.{IsNew, new_at}
-use Rattle.proof_order.proofs.Openings.OneRoot.{stands, old, brought_kept}
+use Rattle.proof_order.proofs.Openings.OneRoot.{stands, old}
 use Rattle.proof_order.proofs.Openings.RootOf.{roots_are_one}
 
 read_only : (second : Option Ref) (offer : Descriptor) → second ≡ None → (opened_root offer second).access ≡ Writable → ⊥
@@ -71,7 +70,7 @@ module _ (limits : Limits) (states : ℕ → State) (last : ℕ) (run : IsRun li
 
     -- where it is brought
     module _ (actor : ℕ) (mover : Operation) (offer : Descriptor) (is : operation_of (states t) actor ≡ Some mover)
-        (c : CarriesOut (states t) (handle_of mover.call) (action_of (states t) mover) offer) where
+        (c : ActionCarriesOut (states t) (handle_of mover.call) (action_of (states t) mover) offer) where
       by : StandsBy (states t) (handle_of mover.call) offer
       by = stands (states t) (safe t (omega arith)) (ordered t (omega arith)) s o (states (suc t)) m actor mover offer is c
 
@@ -82,7 +81,7 @@ module _ (limits : Limits) (states : ℕ → State) (last : ℕ) (run : IsRun li
       is_new x q e = new_at limits states last run t (omega arith) by.k by.owner x q by.runs by.unmarked (its_fresh by.owner.line offer x q by.completes e)
 
       kept : (x : _) (q : Ref) → fresh_of x offer ≡ Some q → generation_at (states (suc t)).heap q ≡ generation_at (states t).heap q
-      kept x q e = brought_kept (states t) (safe t (omega arith)) (ordered t (omega arith)) s o (states (suc t)) m actor mover offer is c x q e
+      kept x q e = brought_kept (states t) (safe t (omega arith)) s o (states (suc t)) m (handle_of mover.call) offer by x q e
 
       copied_is : (copied by.owner.line).0 ≡ offer.root
       copied_is = let (d, at_line, its) = completes_it by.owner.line offer by.completes in ap (λ l. (copied l).0) at_line ∙ ap (λ (o : Descriptor). o.root) its
@@ -101,9 +100,6 @@ module _ (limits : Limits) (states : ℕ → State) (last : ℕ) (run : IsRun li
               omega (arith, same_generation u t handle (handle_of mover.call) a before.root (omega arith) (omega arith) at_u before.is_open (sym same), old_is, newer)
           by_old old_is newer (inr less) = omega (arith, less, old_is, newer)
 
-      same_carried : (other : Descriptor) → CarriesOut (states t) (handle_of mover.call) (action_of (states t) mover) other → other ≡ offer
-      same_carried other d = let both : act.Complete other d.main ≡ act.Complete offer c.main = sym d.is_it ∙ c.is_it in cc both
-
       by_second : (second : Option Ref) → offer.second ≡ second → offer.opens ≡ Some handle → now ≡ opened_root offer second → Rises u (suc t) handle a now
       by_second None e opens it = absurd (read_only None offer refl (ap (λ (x : Root). x.access) (sym it) ∙ writable))
       by_second (Some q) e opens it =
@@ -118,11 +114,11 @@ module _ (limits : Limits) (states : ℕ → State) (last : ℕ) (run : IsRun li
             over_old here,
             kept true offer.successor refl,
             ap (gen (states (suc t))) it,
-            ap (λ (x : Descriptor). generation_at (states (suc t)).heap x.successor) (same_carried other d),
+            ap (λ (x : Descriptor). generation_at (states (suc t)).heap x.successor) (one_carried (states t) (handle_of mover.call) (action_of (states t) mover) offer other c d),
           ))
       by_from (newly other n d its at_it it) =
-          by_second offer.second refl (ap (λ (x : Descriptor). x.opens) (sym (same_carried other d)) ∙ its ∙ ap Some (sym at_it))
-          (it ∙ ap (λ (x : Descriptor). opened_root x x.second) (same_carried other d))
+          by_second offer.second refl (ap (λ (x : Descriptor). x.opens) (sym (one_carried (states t) (handle_of mover.call) (action_of (states t) mover) offer other c d)) ∙ its ∙ ap Some (sym at_it))
+          (it ∙ ap (λ (x : Descriptor). opened_root x x.second) (one_carried (states t) (handle_of mover.call) (action_of (states t) mover) offer other c d))
 
     rise_next : StepKind (states t) s (states (suc t)) → Rises u (suc t) handle a now
     rise_next (quiet closings roots) = by_kept (roots handle now at_now)

@@ -6,7 +6,6 @@ use Rattle.proof_order.specs.Beneath.history.specs.declared.calls.Access.TheVari
 use Rattle.proof_order.specs.Beneath.slot_arena.specs.Refs.{ref_to}
 use Rattle.proof_order.specs.Beneath.slot_arena.specs.declared.refs.Ref.{Ref}
 use Rattle.proof_order.specs.Beneath.slot_arena.specs.Heaps.{generation_at}
-use Rattle.proof_order.specs.Beneath.machine_model.specs.declared.actions.Action.TheVariants as act
 use Rattle.proof_order.specs.Beneath.machine_model.specs.declared.operations.Operation.{Operation}
 use Rattle.proof_order.specs.Beneath.machine_model.specs.declared.roots.Descriptor.{Descriptor}
 use Rattle.proof_order.specs.Beneath.machine_model.specs.declared.roots.Root.{Root}
@@ -24,10 +23,10 @@ use Rattle.proof_order.specs.Beneath.machine_model.specs.Times.{IsRun}
 use Rattle.proof_order.specs.Beneath.proof_memory.proofs.Safety.AtEachTime.{safe_at}
 use Rattle.proof_order.specs.Beneath.proof_memory.proofs.Safety.States.{IsSafe}
 use Rattle.proof_generations.proofs.Offers.Standing.{StandsBy}
-use Rattle.proof_generations.proofs.Handles.Footings.{CarriesOut, RootFrom, stood, swapped, newly}
+use Rattle.proof_generations.proofs.Handles.Footings.{ActionCarriesOut, RootFrom, stood, swapped, newly, one_carried}
 use Rattle.proof_generations.proofs.Offers.Marks.{carried_stands}
-use Rattle.proof_generations.proofs.Roots.Own.{gen, its_fresh}
-use Rattle.proof_generations.proofs.Roots.Kept.{fresh_of, root_kept, fresh_kept}
+use Rattle.proof_generations.proofs.Roots.Own.{gen, its_fresh, brought_kept}
+use Rattle.proof_generations.proofs.Roots.Kept.{fresh_of, root_kept}
 use Rattle.proof_generations.proofs.Roots.Along.{IsOrdered, ordered_at}
 use Rattle.proof_generations.proofs.Offers.Swaps.{StepKind, quiet, swaps, step_kind, Kept}
 use Rattle.proof_order.specs.Openings.{IsRootOf}
@@ -38,7 +37,7 @@ use Rattle.proof_order.proofs.Openings.NeverStood.{new_at}
 -- ---- what a swap brings
 
 module _ (state : State) (S : IsSafe state) (I : IsOrdered state) (s : Step) (o : Outcome) (after : State) (m : Moves state s o after) (actor : ℕ) (mover : Operation)
-    (offer : Descriptor) (is : operation_of state actor ≡ Some mover) (c : CarriesOut state (handle_of mover.call) (action_of state mover) offer) where
+    (offer : Descriptor) (is : operation_of state actor ≡ Some mover) (c : ActionCarriesOut state (handle_of mover.call) (action_of state mover) offer) where
   word_is : word_at state (handle_of mover.call) ≡ Offer offer
   word_is = carried_stands state I.offers actor mover offer is c
 
@@ -48,34 +47,29 @@ module _ (state : State) (S : IsSafe state) (I : IsOrdered state) (s : Step) (o 
   pub old : IsOffered state (handle_of mover.call) offer
   old = offered_root state S I (handle_of mover.call) offer word_is
 
-  -- the roots that it brings keep their generations
-  pub brought_kept : (x : Bool) (r : Ref) → fresh_of x offer ≡ Some r → generation_at after.heap r ≡ generation_at state.heap r
-  brought_kept x r e = fresh_kept state S s o after m stands.k stands.owner x r stands.runs (its_fresh stands.owner.line offer x r stands.completes e)
-
   -- a root behind the swap stood before, or is brought
   pub data Behind (r : Ref) (g : ℕ) : Type 0 where
     from_before : (handle : ℕ) (root : Root) → root_at state handle ≡ Some root → root_of root.word ≡ r → gen state root ≡ g → Behind r g
     brought : (x : Bool) → fresh_of x offer ≡ Some r → generation_at state.heap r ≡ g → Behind r g
-
-  same_carried : (other : Descriptor) → CarriesOut state (handle_of mover.call) (action_of state mover) other → other ≡ offer
-  same_carried other d = let both : act.Complete other d.main ≡ act.Complete offer c.main = sym d.is_it ∙ c.is_it in cc both
 
   behind_opened : (second : Option Ref) → offer.second ≡ second → (r : Ref) (g : ℕ) → root_of (opened_root offer second).word ≡ r → generation_at after.heap r ≡ g → Behind r g
   behind_opened None e r g is its =
       let word = ap root_of old.word in
       from_before (handle_of mover.call) old.root old.is_open (word ∙ is)
       (sym (root_kept state S s o after m (handle_of mover.call) old.root old.is_open) ∙ ap (generation_at after.heap) (word ∙ is) ∙ its)
-  behind_opened (Some q) e r g is its = brought false (e ∙ ap Some is) (sym (brought_kept false r (e ∙ ap Some is)) ∙ its)
+  behind_opened (Some q) e r g is its = brought false (e ∙ ap Some is) (sym (brought_kept state S s o after m (handle_of mover.call) offer stands false r (e ∙ ap Some is)) ∙ its)
 
   pub behind_swap : (handle : ℕ) (now : Root) → RootFrom state (handle_of mover.call) (action_of state mover) handle now → Behind (root_of now.word) (gen after now)
   behind_swap handle now (stood root e access word free) =
       from_before handle root e (sym word) (sym (root_kept state S s o after m handle root e) ∙ ap (generation_at after.heap) (sym word))
   behind_swap handle now (swapped root other d at_it e it) =
-      let is : Some offer.successor ≡ Some (root_of now.word) = ap (λ (x : Descriptor). Some x.successor) (sym (same_carried other d)) ∙ ap (λ (x : Root). Some (root_of x.word)) (sym it) in
-      brought true is (sym (brought_kept true (root_of now.word) is))
+      let same = one_carried state (handle_of mover.call) (action_of state mover) offer other c d in
+      let is : Some offer.successor ≡ Some (root_of now.word) = ap (λ (x : Descriptor). Some x.successor) (sym same) ∙ ap (λ (x : Root). Some (root_of x.word)) (sym it) in
+      brought true is (sym (brought_kept state S s o after m (handle_of mover.call) offer stands true (root_of now.word) is))
   behind_swap handle now (newly other n d its at_it it) =
+      let same = one_carried state (handle_of mover.call) (action_of state mover) offer other c d in
       behind_opened offer.second refl (root_of now.word) (gen after now)
-      (ap (λ (x : Descriptor). root_of (opened_root x x.second).word) (sym (same_carried other d)) ∙ ap (λ (x : Root). root_of x.word) (sym it)) refl
+      (ap (λ (x : Descriptor). root_of (opened_root x x.second).word) (sym same) ∙ ap (λ (x : Root). root_of x.word) (sym it)) refl
 
 -- ---- at first
 
@@ -133,7 +127,7 @@ module _ (limits : Limits) (states : ℕ → State) (last : ℕ) (run : IsRun li
         ]
 
     module _ (actor : ℕ) (mover : Operation) (offer : Descriptor) (is : operation_of (states t) actor ≡ Some mover)
-        (c : CarriesOut (states t) (handle_of mover.call) (action_of (states t) mover) offer)
+        (c : ActionCarriesOut (states t) (handle_of mover.call) (action_of (states t) mover) offer)
         (roots : (handle : ℕ) (now : Root) → root_at (states (suc t)) handle ≡ Some now → RootFrom (states t) (handle_of mover.call) (action_of (states t) mover) handle now) where
       abbrev B : Ref → ℕ → Type 0
       B r g = HasRoot t r g ⊎ ((x : Bool) × (fresh_of x offer ≡ Some r) × (generation_at (states t).heap r ≡ g))

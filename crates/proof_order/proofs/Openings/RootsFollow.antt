@@ -29,6 +29,7 @@ use Rattle.proof_order.proofs.Openings.RootOf.{root_in_use}
 use Rattle.proof_order.proofs.Openings.SwapState.{old_stands, successor_stands, second_stands}
 use Rattle.proof_order.specs.Beneath.machine_model.proofs.Grown.{grown_in_use, node_standing, prev_standing}
 use Rattle.proof_generations.proofs.Falling.Nodes.{nodes_stay}
+use Rattle.proof_order.specs.Beneath.proof_commits.proofs.Words.OfRuns.{link_kept}
 
 -- the logical main node of an indirection in use is in use
 pub logical_in_use : (state : State) → IsSafe state → (r : Ref) → IsInUse state.heap r → is_indirection (node_at state.heap r) ≡ true → IsInUse state.heap (logical_main state.heap r)
@@ -80,12 +81,8 @@ module _ (limits : Limits) (states : ℕ → State) (last : ℕ) (run : IsRun li
     link_then : is_indirection (node_at (states t).heap r) ≡ true
     link_then =
         let now = nodes_stay limits states last run t last within (omega arith) r used.0 (grown_in_use states t r used.0 used.1) in
-        ap is_indirection (node_standing (states t).heap r used.0 used.1) ∙ sym (kept now.2.0 used.0.node) ∙ ap is_indirection (sym now.2.1)
+        ap is_indirection (node_standing (states t).heap r used.0 used.1) ∙ sym (link_kept now.2.0 used.0.node) ∙ ap is_indirection (sym now.2.1)
         ∙ sym (ap (λ o. is_indirection (node_of o)) now.1) ∙ link
-      where
-        kept : (m : Ref) (n : Node) → is_indirection (with_main_word m n) ≡ is_indirection n
-        kept m (Indirection g word) = refl
-        kept m n = refl
 
     -- what it is for ever it is now
     empty_now : node_under states last (trie.counting_main states last t r) ≡ empty_branch → node_at (states t).heap (logical_main (states t).heap r) ≡ empty_branch

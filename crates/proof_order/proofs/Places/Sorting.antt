@@ -1,17 +1,12 @@
 -- Placing sorts: the places rise, and each stands there once.
-use Rattle.std.proofs.Common.{◌≡◌, ℕ, ◌<◌, ◌≤◌, Bool, true, false, cond, ◌⊎◌, inl, inr, List, ◌∷◌, ◌++◌, filter, refl, sym, ap, ◌∙◌, subst, arith, []}
+use Rattle.std.proofs.Common.{◌≡◌, ℕ, ◌<◌, ◌≤◌, Bool, true, false, cond, ◌⊎◌, inl, inr, List, ◌∷◌, ◌++◌, filter, refl, sym, ap, ◌∙◌, arith, []}
 use Rattle.std.proofs.lemmas.Bool.{true≢false, false≢true}
 use Rattle.proof_order.specs.Beneath.places.specs.declared.place.Place.{Place}
 use Rattle.proof_order.specs.Beneath.places.specs.Places.{number_before, bool_before, is_before, placed, rising}
-use Rattle.proof_order.specs.Beneath.places.proofs.Comparing.{not_both, not_through}
+use Rattle.proof_order.specs.Beneath.places.proofs.Comparing.{not_through}
 use Rattle.proof_order.proofs.Places.Elements.{Among, Each, Along, each_of, of_each, each_filter, filter_none, among_either, tested}
 use Rattle.proof_order.specs.Beneath.places.proofs.Cuts.{steps_rise}
-
--- ---- comparing places
-
--- what isn't before one isn't before what stands before that
-not_after : (p q r : Place) → is_before p q ≡ true → is_before r q ≡ false → is_before r p ≡ false
-not_after p q r h n = not_through r q p n (not_both p q h)
+use Rattle.proof_order.specs.Beneath.places.proofs.Rising as sorted
 
 -- ---- sorted
 
@@ -42,25 +37,20 @@ pub placed_among : (p : Place) (qs : List Place) (x : Place) → (x ≡ p) ⊎ A
 placed_among p [] x a = a
 placed_among p (q ∷ qs) x a = placed_among_by p q qs (is_before p q) x (placed_among p qs x) a
 
-placed_rises_by : (p q : Place) (qs : List Place) (b : Bool) → is_before p q ≡ b → Rises (q ∷ qs) → Rises (placed p qs) → Rises (cond b (p ∷ q ∷ qs) (q ∷ placed p qs))
-placed_rises_by p q qs true e h rest =
-    ((not_both p q e, each_of (λ r. is_before r p ≡ false) qs (λ r a. not_after p q r e (of_each (λ r. is_before r q ≡ false) qs h.0 r a))), h)
-placed_rises_by p q qs false e h rest = (
-  each_of (λ r. is_before r q ≡ false) (placed p qs) (λ r a. elim (among_placed p qs r a) [
-    | inl is ↦ subst (λ x. is_before x q ≡ false) (sym is) e
-    | inr old ↦ of_each (λ r. is_before r q ≡ false) qs h.0 r old
-  ]),
-  rest,
-)
+-- each is behind all in front of it, where it is behind the one in front of it
+front_is_first : (p : Place) (ps : List Place) → sorted.Rises (p ∷ ps) → Each (λ q. is_before q p ≡ false) ps
+front_is_first p [] up = tt
+front_is_first p (q ∷ qs) up =
+    (up.0, each_of (λ r. is_before r p ≡ false) qs (λ r a. not_through r q p (of_each (λ r. is_before r q ≡ false) qs (front_is_first q qs up.1) r a) up.0))
 
-placed_rises : (p : Place) (qs : List Place) → Rises qs → Rises (placed p qs)
-placed_rises p [] h = (tt, tt)
-placed_rises p (q ∷ qs) h = placed_rises_by p q qs (is_before p q) refl h (placed_rises p qs h.1)
+all_rise : (ps : List Place) → sorted.Rises ps → Rises ps
+all_rise [] up = tt
+all_rise (p ∷ []) up = (tt, tt)
+all_rise (p ∷ q ∷ qs) up = (front_is_first p (q ∷ qs) up, all_rise (q ∷ qs) up.1)
 
 -- the rising places rise
 pub rising_rises : (ps : List Place) → Rises (rising ps)
-rising_rises [] = tt
-rising_rises (p ∷ ps) = placed_rises p (rising ps) (rising_rises ps)
+rising_rises ps = all_rise (rising ps) (sorted.rising_rises ps)
 
 -- and are the same places
 pub among_rising : (ps : List Place) (x : Place) → Among x (rising ps) → Among x ps

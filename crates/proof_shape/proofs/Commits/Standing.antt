@@ -4,7 +4,7 @@ use Rattle.std.proofs.lemmas.Bool.{cases_eq}
 use Rattle.proof_shape.specs.Beneath.slot_arena.specs.declared.refs.Ref.{Ref}
 use Rattle.proof_shape.specs.Beneath.machine_model.specs.declared.reading.After.{After}
 use Rattle.proof_shape.specs.Beneath.machine_model.specs.declared.reading.ReadLine.{ReadLine}
-use Rattle.proof_shape.specs.Beneath.proof_commits.specs.Protocol.{Words, Stage, Holds, ReadTurn, Given, MayName, Moves, Idles, MakesNode, SwapsNode, ReadsOn, DecidesOn, Turn, Acts, Passes, Protocol}
+use Rattle.proof_shape.specs.Beneath.proof_commits.specs.Protocol.{Words, Stage, Builds, ReadTurn, Given, MayName, Moves, Idles, MakesNode, SwapsNode, ReadsOn, DecidesOn, Turn, Acts, Passes, Protocol}
 use Rattle.proof_shape.specs.Beneath.proof_commits.proofs.Words.Stood.{Stood, Private, AreSound, stood_cases, stands_now}
 use Rattle.proof_shape.specs.Beneath.proof_commits.proofs.Words.Effects.{Brings, comes}
 use Rattle.proof_shape.specs.Beneath.proof_commits.proofs.Known.Owners.{OnLine, Staged, IsSound, read_effect, read_brings}
@@ -34,7 +34,7 @@ by_moves w t k h s after st (MakesNode made e free name have) i n now = by_cases
   where
     by_name : (m : Ref) → m ≡ n → MayName w t k s m → HowStands w t i n
     by_name m same (inl (q, g)) = given k q (subst (λ x. Given w t k q x) same g)
-    by_name m same (inr holds) = private (subst (λ x. Staged w t k x) (holds ∙ ap (λ x. Holds x) same) st)
+    by_name m same (inr holds) = private (subst (λ x. Staged w t k x) (holds ∙ ap (λ x. Builds x) same) st)
 
     by_cases : Stood w t i n ⊎ ((w.link (suc t) i ≡ true) × (w.main (suc t) i ≡ n)) → HowStands w t i n
     by_cases (inl before) = stood before

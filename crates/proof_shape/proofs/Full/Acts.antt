@@ -1,5 +1,5 @@
 -- What any line makes below the root is full.
-use Rattle.std.proofs.Common.{◌≡◌, ℕ, ◌+◌, ◌≤◌, true, List, length, set, sym, ap, subst, ◌∙◌, length-set, lt-ltb, leb-true, arith}
+use Rattle.std.proofs.Common.{◌≡◌, ℕ, ◌+◌, ◌≤◌, true, List, length, set, ap, subst, length-set, lt-ltb, leb-true, arith}
 use Rattle.proof_shape.specs.Beneath.slot_arena.specs.declared.refs.Ref.{Ref}
 use Rattle.proof_shape.specs.Beneath.slot_arena.specs.Heaps.{node_at, entries_of, bitmap_of}
 use Rattle.proof_shape.specs.Beneath.machine_model.specs.declared.operations.Operation.{Operation}
@@ -33,7 +33,7 @@ use Rattle.proof_shape.specs.Beneath.proof_memory.proofs.Claims.Uses.{safe_of, m
 use Rattle.proof_shape.specs.Beneath.proof_memory.specs.Levels.{LineLevel, made_level}
 use Rattle.proof_shape.specs.Beneath.proof_contents.specs.Lines.Changes.{Known, KnowsLine}
 use Rattle.proof_shape.specs.Sites.Lines.{Sites, bare, LineSite, DoneSite}
-use Rattle.proof_shape.proofs.Shaped.Places.{bare_entries}
+use Rattle.proof_shape.proofs.Shaped.Places.{entries_alike}
 use Rattle.proof_shape.proofs.Full.Lines.{FullLine}
 use Rattle.proof_shape.proofs.Full.Lists.{IsFull, alone}
 use Rattle.proof_shape.proofs.Full.Made.{FullNode, ActionFull, pair_full, change_full, entries_full, renewed_full, cleaned_full, climbed_full}
@@ -75,16 +75,13 @@ module _ (s : Sites) where
     old_entries : (level : ℕ) (main : Ref) → S main → meets ABranch (node_at state.heap main) ≡ true → s.level main ≡ level → 2 ≤ level → IsFull s.node (entries_of (s.node main))
     old_entries level main u is e = entries_full s level main (node_at state.heap main) (same main u) is (old_at level main u e)
 
-    entries_are : (main : Ref) → S main → entries_of (node_at state.heap main) ≡ entries_of (s.node main)
-    entries_are main u = sym (bare_entries (node_at state.heap main)) ∙ ap entries_of (sym (same main u)) ∙ bare_entries (s.node main)
-
     below : (path : List Ref) → 2 ≤ depth_of path + 1 → is_below_root path ≡ true
     below path h = lt-ltb 1 (length path) (omega (arith, h))
 
     all_done : (path : List Ref) (main : Ref) (done : List Ref) → S main → length (entries_of (node_at state.heap main)) ≤ length done →
         DoneSite state.limits.hash s (hash_in state operation) path main done →
         length done ≡ length (entries_of (s.node main))
-    all_done path main done u most d = omega (arith, most, d.1, ap length (entries_are main u))
+    all_done path main done u most d = omega (arith, most, d.1, ap length (entries_alike (s.node main) (node_at state.heap main) (same main u)))
 
     pub acts_full : (l : Line) → Wants l → LineLevel s.level l → LineSite state.limits.hash s (hash_in state operation) l → KnowsLine K operation.call l →
         FullLine s l → ActionFull s (made_level l) (line_action state operation l)
@@ -125,7 +122,8 @@ module _ (s : Sites) where
         (set (entries_of (node_at state.heap main)) (place_in state operation c main) c.single)
         (below (above c.path))
         (λ deep. let some = old_entries (depth_of (above c.path) + 1) main (safe_of h.1.1.1.0) (meets_of h.1.1.1.0) e.1 deep in
-        omega (arith, some.0, ap length (entries_are main (safe_of h.1.1.1.0)), length-set (entries_of (node_at state.heap main)) (place_in state operation c main) c.single))
+        let alike = entries_alike (s.node main) (node_at state.heap main) (same main (safe_of h.1.1.1.0)) in
+        omega (arith, some.0, ap length alike, length-set (entries_of (node_at state.heap main)) (place_in state operation c main) c.single))
     acts_full (line.Climb (climb.Root c l)) h e p knows f = root_full 0 l
     acts_full (line.Copy (copy.Read q l)) h e p knows f = read_full 1 l.indirection l.line
     acts_full (line.Copy (copy.Successor q main)) h e p knows f = tt

@@ -31,7 +31,7 @@ use Rattle.proof_shape.specs.Beneath.machine_model.specs.Operations.{first_line}
 use Rattle.proof_shape.specs.Beneath.proof_memory.specs.Wants.{is_indirection}
 use Rattle.proof_shape.specs.Sites.Lines.{Sites, bare}
 use Rattle.proof_shape.proofs.Lines.Leads.{keeps_entries, first_leads}
-use Rattle.proof_shape.proofs.Shaped.Places.{bare_entries, bare_branch, bare_link}
+use Rattle.proof_shape.proofs.Shaped.Places.{bare_entries, bare_branch, link_alike}
 
 module _ (s : Sites) where
   -- of two entries of a branch below the root the one that is left is an indirection
@@ -133,10 +133,8 @@ module _ (s : Sites) where
     sibling_full path main position former (Indirection generation word) e u v = λ below b es is two.
         let its : entry_at state.heap main (1 - position) ≡ slice_index_or es.items (1 - position) no_ref =
         entry_same main (1 - position) u ∙ ap (λ n. slice_index_or (entries_of n) (1 - position) no_ref) is in
-        ap (λ r. is_indirection (s.node r)) (sym its) ∙ link_there (entry_at state.heap main (1 - position)) v ∙ ap is_indirection e
-      where
-        link_there : (r : Ref) → S r → is_indirection (s.node r) ≡ is_indirection (node_at state.heap r)
-        link_there r v = sym (bare_link (s.node r)) ∙ ap is_indirection (same r v) ∙ bare_link (node_at state.heap r)
+        let other : Ref = entry_at state.heap main (1 - position) in
+        ap (λ r. is_indirection (s.node r)) (sym its) ∙ link_alike (s.node other) (node_at state.heap other) (same other v) ∙ ap is_indirection e
     sibling_full path main position former (Single k v) e u w = tt
     sibling_full path main position former node e u v = tt
 

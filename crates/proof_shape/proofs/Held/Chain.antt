@@ -57,9 +57,6 @@ module _ (limits : Limits) (states : ℕ → State) (last : ℕ) (run : IsRun li
   abbrev heap : Heap
   heap = (states t).heap
 
-  abbrev node : Ref → Node
-  node = node_under states last
-
   abbrev K : Known
   K = known_with limits states last (first_main states last)
 
@@ -105,10 +102,10 @@ module _ (limits : Limits) (states : ℕ → State) (last : ℕ) (run : IsRun li
       where
         by_leads : {beside : Neighbour K (depth_of path) (key_of operation.call) main position} {s : Ref} → LeadsBelow K operation.call (depth_of path) main position beside s depth below →
             IsChain limits states last run (suc t) start made
-        by_leads (by_pair is parts above deep alike) = ends made (λ hash d r bad. pair_not_rung _ _ _ _ _ _ hash d r (sym is ∙ sym (ap node first_below) ∙ bad))
+        by_leads (by_pair is parts above deep alike) = ends made (λ hash d r bad. pair_not_rung _ _ _ _ _ _ hash d r (sym is ∙ sym (ap (node_under states last) first_below) ∙ bad))
         by_leads (by_link link is both above alike) =
             let it = later _ depth link is in
-            goes_on made link _ depth (ap node first_below ∙ is) (subst (λ n. IsNamed limits states last run (suc t) start link n) (sym first_below) it.0)
+            goes_on made link _ depth (ap (node_under states last) first_below ∙ is) (subst (λ n. IsNamed limits states last run (suc t) start link n) (sym first_below) it.0)
             (subst (λ n. StandsIn limits states last run (suc t) n made) (sym first_below)
             (new_stands limits states last run t h actor operation go below a made next takes_it start begun (below_private path main position below depth e)))
             it.1
@@ -133,16 +130,16 @@ module _ (limits : Limits) (states : ℕ → State) (last : ℕ) (run : IsRun li
     made_next (build.Link path main position below depth) e x lv = by_test path main position below depth e x made next (depth == depth_of path + 1) lv
     made_next (build.Rung path main position below depth) e x lv = λ hash d r is. by_entry hash d r is
       where
-        rung_is : node made ≡ rung (hash_in (states t) operation) depth below
+        rung_is : node_under states last made ≡ rung (hash_in (states t) operation) depth below
         rung_is = made_node limits states last run t h actor operation go _ (acts _ e) made next (λ g w bad. let wrong : rung (hash_in (states t) operation) depth below ≡ Indirection g w = bad in cc)
 
-        names : Contains (entries_of (node made)) below
+        names : Contains (entries_of (node_under states last made)) below
         names = subst (λ n. Contains (entries_of n) below) (sym rung_is) (0, omega arith, refl)
 
         chain : IsChain limits states last run (suc t) start below
         chain = chain_still limits states last run t start h new below (held_closed limits states last run t actor start below (omega arith) x.0) x.1
 
-        by_entry : (hash d r : ℕ) → node made ≡ rung hash d r → IsNamed limits states last run (suc t) start r made × IsChain limits states last run (suc t) start r
+        by_entry : (hash d r : ℕ) → node_under states last made ≡ rung hash d r → IsNamed limits states last run (suc t) start r made × IsChain limits states last run (suc t) start r
         by_entry hash d r is =
             let it : below ≡ r = one_entry r below (subst (λ n. Contains (entries_of n) below) is names) in (
               subst (λ j. IsNamed limits states last run (suc t) start j made) it (made_named limits states last run t h actor operation go _ (acts _ e) made next start below names x.0),
@@ -156,7 +153,7 @@ module _ (limits : Limits) (states : ℕ → State) (last : ℕ) (run : IsRun li
         n : Node
         n = changed (flag_in (states t) operation path) (node_at heap main) c
 
-        made_is : node made ≡ changed (Knowing.flag_in K (depth_of path) (key_of operation.call)) (node main) c
+        made_is : node_under states last made ≡ changed (Knowing.flag_in K (depth_of path) (key_of operation.call)) (node_under states last main) c
         made_is =
             let claim = (claims limits states last run t h actor operation go _ e).1.1.0 in
             made_node limits states last run t h actor operation go n (acts _ e) made next

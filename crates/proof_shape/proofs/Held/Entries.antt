@@ -15,7 +15,6 @@ use Rattle.proof_shape.specs.Beneath.machine_model.specs.declared.lines.Line.{Li
 use Rattle.proof_shape.specs.Beneath.machine_model.specs.declared.lines.Line.TheVariants as line
 use Rattle.proof_shape.specs.Beneath.machine_model.specs.declared.operations.Operation.{Operation}
 use Rattle.proof_shape.specs.Beneath.machine_model.specs.declared.repairs.CleanLine.TheVariants as clean
-use Rattle.proof_shape.specs.Beneath.machine_model.specs.declared.repairs.RenewLine.TheVariants as renew
 use Rattle.proof_shape.specs.Beneath.machine_model.specs.declared.steps.Limits.{Limits}
 use Rattle.proof_shape.specs.Beneath.machine_model.specs.States.{State}
 use Rattle.proof_shape.specs.Beneath.machine_model.specs.Lines.{new_try}
@@ -28,6 +27,7 @@ use Rattle.proof_shape.specs.Beneath.proof_memory.specs.Laws.{IsInUse}
 use Rattle.proof_shape.specs.Beneath.proof_memory.specs.Wants.{ABranch, Holds, Is}
 use Rattle.proof_shape.specs.Beneath.proof_contents.specs.Lines.Repairs.{IsDone, keeps, renews, cleans, AllDone, KnowsRepair}
 use Rattle.proof_shape.specs.Beneath.proof_memory.proofs.Claims.Nodes.{branch_main}
+use Rattle.proof_shape.specs.Beneath.proof_contents.proofs.Lines.Coming.{renew_comes}
 use Rattle.proof_shape.specs.Lines.Given.{GaveBelow}
 use Rattle.proof_shape.specs.Lines.Knowing.{first_main}
 use Rattle.proof_shape.proofs.Runs.EachAt.{GoesAt}
@@ -39,58 +39,53 @@ use Rattle.proof_shape.proofs.Held.Fresh.{IsHeld, NewNames, IsUncommitted}
 use Rattle.proof_shape.proofs.Held.Lines.{Came, same, single, anew, DoneWith, kept, renewed, cleaned as cleaned_entry, AllCame, NamedOrHeld, HeldRepair, HeldIn, all_still}
 use Rattle.proof_shape.proofs.Held.Build.{quiet_held, named_or_held}
 
-module _ (limits : Limits) (states : ℕ → State) (last : ℕ) (run : IsRun limits states last) (t : ℕ) (h : t < last) (actor : ℕ) (operation : Operation) (go : GoesAt states t actor operation)
-    (takes_it : taker limits states last run t ≡ actor) (new : NewNames limits states last run t) (start : ℕ) (begun : operation.generation ≡ Some start) where
-  abbrev heap : Heap
-  heap = (states t).heap
-
-  abbrev node : Ref → Node
-  node = node_under states last
-
+module _ (limits : Limits) (states : ℕ → State) (last : ℕ) (run : IsRun limits states last) (actor start : ℕ) where
   abbrev Held : ℕ → Ref → Type 0
   Held v j = IsHeld limits states last run v actor start j
 
-  abbrev pub Came' : ℕ → Ref → List Ref → Type 0
-  Came' v main done = AllCame limits states last run (IsHeld limits states last run v actor start) main done
+  -- the entries that are done came of those of the main node
+  abbrev pub AreCome : ℕ → Ref → List Ref → Type 0
+  AreCome v main done = AllCame limits states last run (Held v) main done
 
-  abbrev Next : Line → Type 0
-  Next l = HeldIn limits states last run (suc t) actor operation.id start operation.call l
+  -- this one stands for the main node's entry at this place
+  abbrev CameAt : ℕ → Ref → ℕ → Ref → Type 0
+  CameAt v main n other = Came (node_under states last) (Held v) (slice_index_or (entries_of (node_under states last main)) n no_ref) other
 
-  -- ---- lists of entries
-
-  pub none_came : (v : ℕ) (main : Ref) → Came' v main []
+  pub none_came : (v : ℕ) (main : Ref) → AreCome v main []
   none_came v main n lt = absurd (omega (arith, lt))
 
-  pub one_more : (v : ℕ) (main : Ref) (done : List Ref) (other : Ref) → Came' v main done →
-      Came node (Held v) (slice_index_or (entries_of (node main)) (length done) no_ref) other → Came' v main (done ++ other ∷ [])
+  pub one_more : (v : ℕ) (main : Ref) (done : List Ref) (other : Ref) → AreCome v main done →
+      CameAt v main (length done) other → AreCome v main (done ++ other ∷ [])
   one_more v main done other all it n lt = by_place (nat_lt n (length done)) refl
     where
-      by_place : (b : Bool) → nat_lt n (length done) ≡ b → Came node (Held v) (slice_index_or (entries_of (node main)) n no_ref) (slice_index_or (done ++ other ∷ []) n no_ref)
+      by_place : (b : Bool) → nat_lt n (length done) ≡ b → CameAt v main n (slice_index_or (done ++ other ∷ []) n no_ref)
       by_place true below =
-          subst (λ r. Came node (Held v) (slice_index_or (entries_of (node main)) n no_ref) r) (sym (get_or_append_left done (other ∷ []) no_ref n (ltb-true n (length done) below)))
+          subst (CameAt v main n) (sym (get_or_append_left done (other ∷ []) no_ref n (ltb-true n (length done) below)))
           (all n (ltb-true n (length done) below))
       by_place false above =
           let at : n ≡ length done = omega (arith, length-append done (other ∷ []), ltb-false n (length done) above) in
-          subst₂ (λ e r. Came node (Held v) e r) (ap (λ m. slice_index_or (entries_of (node main)) m no_ref) (sym at))
+          subst₂ (CameAt v main) (sym at)
           (sym (ap (λ m. slice_index_or (done ++ other ∷ []) m no_ref) at ∙ get_or-append_seam done other [] no_ref)) it
 
   -- the entry itself
-  next_came : (v : ℕ) (main : Ref) (done : List Ref) → node_at heap main ≡ node main →
-      Came node (Held v) (slice_index_or (entries_of (node main)) (length done) no_ref) (next_entry (states t) main done)
-  next_came v main done there = same (ap (λ n. slice_index_or (entries_of n) (length done) no_ref) (sym there))
+  next_came : (t v : ℕ) (main : Ref) (done : List Ref) → node_at (states t).heap main ≡ node_under states last main →
+      CameAt v main (length done) (next_entry (states t) main done)
+  next_came t v main done there = same (ap (λ n. slice_index_or (entries_of n) (length done) no_ref) (sym there))
 
-  pub with_next : (v : ℕ) (main : Ref) (done : List Ref) → node_at heap main ≡ node main → Came' v main done → Came' v main (done ++ next_entry (states t) main done ∷ [])
-  with_next v main done there all = one_more v main done (next_entry (states t) main done) all (next_came v main done there)
+  pub with_next : (t v : ℕ) (main : Ref) (done : List Ref) → node_at (states t).heap main ≡ node_under states last main → AreCome v main done →
+      AreCome v main (done ++ next_entry (states t) main done ∷ [])
+  with_next t v main done there all = one_more v main done (next_entry (states t) main done) all (next_came t v main done there)
 
-  pub renew_next_holds : (path : List Ref) (main : Ref) (done : List Ref) → Came' (suc t) main done → Next (renew_next (states t) path main done)
-  renew_next_holds path main done all = by_test (nat_lt (length done) (length (entries_of (node_at heap main))))
-    where
-      by_test : (b : Bool) → Next (cond b (line.Renew (renew.Entry path main done)) (line.Renew (renew.Branch path main done)))
-      by_test true = all
-      by_test false = all
+-- the line after entries that are done
+module _ (limits : Limits) (states : ℕ → State) (last : ℕ) (run : IsRun limits states last) (t actor : ℕ) (operation : Operation) (start : ℕ) where
+  abbrev Next : Line → Type 0
+  Next l = HeldIn limits states last run (suc t) actor operation.id start operation.call l
 
-  pub clean_next_holds : (path : List Ref) (main : Ref) (done : List Ref) → Came' (suc t) main done → Next (clean_next (states t) path main done)
-  clean_next_holds path main done all = by_test (nat_lt (length done) (length (entries_of (node_at heap main)))) (pointwise nat_eq done (entries_of (node_at heap main)))
+  pub renew_next_holds : (path : List Ref) (main : Ref) (done : List Ref) → AreCome limits states last run actor start (suc t) main done → Next (renew_next (states t) path main done)
+  renew_next_holds path main done all = renew_comes Next (states t) path main done all all
+
+  pub clean_next_holds : (path : List Ref) (main : Ref) (done : List Ref) → AreCome limits states last run actor start (suc t) main done → Next (clean_next (states t) path main done)
+  clean_next_holds path main done all = by_test (nat_lt (length done) (length (entries_of (node_at (states t).heap main)))) (pointwise nat_eq done (entries_of (node_at (states t).heap main)))
     where
       by_change : (b : Bool) → Next (cond b new_try (line.Clean (clean.Contracted path main done)))
       by_change true = tt
@@ -99,6 +94,17 @@ module _ (limits : Limits) (states : ℕ → State) (last : ℕ) (run : IsRun li
       by_test : (b c : Bool) → Next (cond b (line.Clean (clean.Entry path main done)) (cond c new_try (line.Clean (clean.Contracted path main done))))
       by_test true c = all
       by_test false c = by_change c
+
+module _ (limits : Limits) (states : ℕ → State) (last : ℕ) (run : IsRun limits states last) (t : ℕ) (h : t < last) (actor : ℕ) (operation : Operation) (go : GoesAt states t actor operation)
+    (takes_it : taker limits states last run t ≡ actor) (new : NewNames limits states last run t) (start : ℕ) (begun : operation.generation ≡ Some start) where
+  abbrev heap : Heap
+  heap = (states t).heap
+
+  abbrev node : Ref → Node
+  node = node_under states last
+
+  abbrev Came' : ℕ → Ref → List Ref → Type 0
+  Came' = AreCome limits states last run actor start
 
   -- where the step makes nothing
   pub quiet_all : (l : Line) → operation.line ≡ l → is_making (line_action (states t) operation l) ≡ false → (main : Ref) (done : List Ref) → Came' t main done → Came' (suc t) main done
@@ -118,14 +124,14 @@ module _ (limits : Limits) (states : ℕ → State) (last : ℕ) (run : IsRun li
       entries = entries;
       is = are.is;
       each = λ m lt. by_done m (slice_index_or done m no_ref) (are.each m lt)
-          (subst (λ e. Came node (Held t) (slice_index_or e m no_ref) (slice_index_or done m no_ref)) (ap entries_of are.is) (all m lt));
+          (subst (λ e. Came node (IsHeld limits states last run t actor start) (slice_index_or e m no_ref) (slice_index_or done m no_ref)) (ap entries_of are.is) (all m lt));
       all = count;
       may_entomb = b;
       made = is_made bitmap entries are.is;
     }
       where
         by_done : (m : ℕ) (other : Ref) → IsDone node (first_main states last) (GaveBelow states last t actor operation.id start) start (slice_index_or entries.items m no_ref) other →
-            Came node (Held t) (slice_index_or entries.items m no_ref) other →
+            Came node (IsHeld limits states last run t actor start) (slice_index_or entries.items m no_ref) other →
             DoneWith node (first_main states last) (GaveBelow states last (suc t) actor operation.id start)
             (λ r. IsUncommitted limits states last run (suc t) made → NamedOrHeld limits states last run (suc t) actor start made r) start (slice_index_or entries.items m no_ref) other
         by_done m other (keeps e) c = kept e
@@ -152,4 +158,4 @@ module _ (limits : Limits) (states : ℕ → State) (last : ℕ) (run : IsRun li
 
   -- KEY begins a repair with none done
   pub renew_begins : (path : List Ref) (main : Ref) → HeldIn limits states last run (suc t) actor operation.id start operation.call (renew_next (states t) path main [])
-  renew_begins path main = renew_next_holds path main [] (none_came (suc t) main)
+  renew_begins path main = renew_next_holds limits states last run t actor operation start path main [] (none_came limits states last run actor start (suc t) main)

@@ -1,5 +1,6 @@
 -- RENEW and CLEAN, and what they hold of the entries that they have done.
-use Rattle.std.proofs.Common.{◌≡◌, ℕ, suc, ◌<◌, ◌&&◌, true, List, ◌∷◌, ◌++◌, Option, Some, None, refl, sym, ◌∙◌, ap, subst, arith, [], ◌+◌, ◌≤◌, nat_lt, Bool, false, cond, length, Contains, inl, inr, length-append}
+use Rattle.std.proofs.Common.{◌≡◌, ℕ, suc, ◌<◌, ◌&&◌, true, List, ◌∷◌, ◌++◌, Option, Some, None, refl, sym, ◌∙◌}
+use Rattle.std.proofs.Common.{ap, subst, arith, [], ◌+◌, ◌≤◌, nat_lt, Bool, false, cond, length, Contains, inl, inr, length-append}
 use Rattle.std.proofs.lemmas.Bool.{true≢false}
 use Rattle.proof_shape.specs.Beneath.slot_arena.specs.declared.refs.Ref.{Ref}
 use Rattle.proof_shape.specs.Beneath.slot_arena.specs.declared.nodes.Node.{Node}
@@ -19,7 +20,8 @@ use Rattle.proof_shape.specs.Beneath.machine_model.specs.States.{State}
 use Rattle.proof_shape.specs.Beneath.machine_model.specs.Paths.{is_below_root, depth_of, is_start, start_of}
 use Rattle.proof_shape.specs.Beneath.machine_model.specs.Reading.{read_step, reading}
 use Rattle.proof_shape.specs.Beneath.machine_model.specs.Renewing.{next_entry, renew_next, branch_of, renew_after, renew_after_entry, renew_after_read, renew_after_link, renew_after_branch}
-use Rattle.proof_shape.specs.Beneath.machine_model.specs.Cleaning.{cleaned, leaves_single, clean_after, clean_next, clean_after_read, clean_after_main, clean_after_entry, after_child, clean_after_tomb, clean_after_contracted}
+use Rattle.proof_shape.specs.Beneath.machine_model.specs.Cleaning.{cleaned, leaves_single, clean_after, clean_next, clean_after_read}
+use Rattle.proof_shape.specs.Beneath.machine_model.specs.Cleaning.{clean_after_main, clean_after_entry, after_child, clean_after_tomb, clean_after_contracted}
 use Rattle.proof_shape.specs.Beneath.machine_model.specs.Operations.{line_action, action_of, line_after}
 use Rattle.proof_shape.specs.Beneath.machine_model.specs.Grown.{node_under}
 use Rattle.proof_shape.specs.Beneath.machine_model.specs.Times.{IsRun}
@@ -35,9 +37,9 @@ use Rattle.proof_shape.proofs.Runs.Takers.{taker}
 use Rattle.proof_shape.proofs.Runs.Seen.{single_seen}
 use Rattle.proof_shape.proofs.Lines.Key.{claims}
 use Rattle.proof_shape.proofs.Runs.NewNodes.{read_quiet}
-use Rattle.proof_shape.proofs.Held.Fresh.{IsHeld, NewNames}
-use Rattle.proof_shape.proofs.Held.Lines.{single, AllCame, HeldClean, HeldIn, anew, HeldRenew, all_still}
-use Rattle.proof_shape.proofs.Held.Entries.{none_came, one_more, with_next, clean_next_holds, quiet_all, fresh_repair, repairs, branch_there, renew_next_holds}
+use Rattle.proof_shape.proofs.Held.Fresh.{NewNames}
+use Rattle.proof_shape.proofs.Held.Lines.{single, HeldClean, HeldIn, anew, HeldRenew, all_still}
+use Rattle.proof_shape.proofs.Held.Entries.{AreCome, none_came, one_more, with_next, clean_next_holds, quiet_all, fresh_repair, repairs, branch_there, renew_next_holds}
 use Rattle.std.proofs.Math.Seq.{get_or-append_seam}
 use Rattle.proof_shape.specs.Beneath.machine_model.specs.declared.actions.Action.TheVariants as act
 use Rattle.proof_shape.specs.Beneath.machine_model.specs.declared.repairs.RenewLine.{RenewLine}
@@ -59,27 +61,24 @@ module _ (limits : Limits) (states : ℕ → State) (last : ℕ) (run : IsRun li
   abbrev heap : Heap
   heap = (states t).heap
 
-  abbrev node : Ref → Node
-  node = node_under states last
-
   abbrev Came' : ℕ → Ref → List Ref → Type 0
-  Came' v main done = AllCame limits states last run (IsHeld limits states last run v actor start) main done
+  Came' = AreCome limits states last run actor start
 
   abbrev Next : Line → Type 0
   Next l = HeldIn limits states last run (suc t) actor operation.id start operation.call l
 
   -- ---- RENEW
 
-  renew_entry_holds : (path : List Ref) (main : Ref) (done : List Ref) → node_at heap main ≡ node main → Came' (suc t) main done → (n : Node) →
+  renew_entry_holds : (path : List Ref) (main : Ref) (done : List Ref) → node_at heap main ≡ node_under states last main → Came' (suc t) main done → (n : Node) →
       Next (renew_after_entry (states t) operation path main done (next_entry (states t) main done) n)
   renew_entry_holds path main done there all (Indirection g w) = by_test (is_start operation g)
     where
       by_test : (b : Bool) →
           Next (cond b (renew_next (states t) path main (done ++ next_entry (states t) main done ∷ [])) (line.Renew (renew.Read path main done (reading (next_entry (states t) main done)))))
-      by_test true = renew_next_holds limits states last run t h actor operation go takes_it new start begun path main _ (with_next limits states last run t h actor operation go takes_it new start begun (suc t) main done there all)
+      by_test true = renew_next_holds limits states last run t actor operation start path main _ (with_next limits states last run actor start t (suc t) main done there all)
       by_test false = all
   renew_entry_holds path main done there all (Single k v) =
-      renew_next_holds limits states last run t h actor operation go takes_it new start begun path main _ (with_next limits states last run t h actor operation go takes_it new start begun (suc t) main done there all)
+      renew_next_holds limits states last run t actor operation start path main _ (with_next limits states last run actor start t (suc t) main done there all)
   renew_entry_holds path main done there all (Branch b es) = tt
   renew_entry_holds path main done there all (Tomb s) = tt
   renew_entry_holds path main done there all (Listed ss) = tt
@@ -150,7 +149,7 @@ module _ (limits : Limits) (states : ℕ → State) (last : ℕ) (run : IsRun li
           by_level (inl zero_is) = absurd (omega (arith, zero_is, kind))
           by_level (inr below) = omega (arith, below)
 
-      link_names : (made : Ref) → next_ref heap ≡ Some made → (j : Ref) → Contains (entries_of (node made)) j → ⊥
+      link_names : (made : Ref) → next_ref heap ≡ Some made → (j : Ref) → Contains (entries_of (node_under states last made)) j → ⊥
       link_names made next j names =
           let link = made_link limits states last run t h actor operation go _ a made next (start_of operation) child refl in
           no_entry j (subst (λ n. Contains (entries_of n) j) link.1 names)
@@ -158,8 +157,8 @@ module _ (limits : Limits) (states : ℕ → State) (last : ℕ) (run : IsRun li
       by_made : (o : Option Ref) → next_ref heap ≡ o → LineLevel (level limits states last run) (renew_after_link (states t) path main done o) → Next (renew_after_link (states t) path main done o)
       by_made None next lv = tt
       by_made (Some made) next lv =
-          renew_next_holds limits states last run t h actor operation go takes_it new start begun path main (done ++ made ∷ [])
-          (one_more limits states last run t h actor operation go takes_it new start begun (suc t) main done made
+          renew_next_holds limits states last run t actor operation start path main (done ++ made ∷ [])
+          (one_more limits states last run actor start (suc t) main done made
           (all_still limits states last run t h actor operation.id start new
           (λ j held. made_held limits states last run t h actor operation go _ a made next start j (λ names. link_names made next j names) held) main done x)
           (anew (new_held limits states last run t h actor operation go child a made next takes_it start begun
@@ -179,11 +178,11 @@ module _ (limits : Limits) (states : ℕ → State) (last : ℕ) (run : IsRun li
   -- ---- CLEAN
 
   -- the next entry stays
-  clean_still : (path : List Ref) (main : Ref) (done : List Ref) → node_at heap main ≡ node main → Came' (suc t) main done →
+  clean_still : (path : List Ref) (main : Ref) (done : List Ref) → node_at heap main ≡ node_under states last main → Came' (suc t) main done →
       Next (clean_next (states t) path main (done ++ next_entry (states t) main done ∷ []))
-  clean_still path main done there all = clean_next_holds limits states last run t h actor operation go takes_it new start begun path main _ (with_next limits states last run t h actor operation go takes_it new start begun (suc t) main done there all)
+  clean_still path main done there all = clean_next_holds limits states last run t actor operation start path main _ (with_next limits states last run actor start t (suc t) main done there all)
 
-  clean_entry_holds : (path : List Ref) (main : Ref) (done : List Ref) → node_at heap main ≡ node main → Came' (suc t) main done → (n : Node) →
+  clean_entry_holds : (path : List Ref) (main : Ref) (done : List Ref) → node_at heap main ≡ node_under states last main → Came' (suc t) main done → (n : Node) →
       Next (clean_after_entry (states t) path main done (next_entry (states t) main done) n)
   clean_entry_holds path main done there all (Indirection g w) = all
   clean_entry_holds path main done there all (Single k v) = clean_still path main done there all
@@ -196,26 +195,26 @@ module _ (limits : Limits) (states : ℕ → State) (last : ℕ) (run : IsRun li
   child_holds path main done all (Gives child) = all
 
   -- a tomb's single is one
-  tomb_single : (child s : Ref) → IsInUse heap child → node_at heap child ≡ Tomb s → (k : ℕ) × (v : ℕ) × (node s ≡ Single k v)
+  tomb_single : (child s : Ref) → IsInUse heap child → node_at heap child ≡ Tomb s → (k : ℕ) × (v : ℕ) × (node_under states last s ≡ Single k v)
   tomb_single child s used is =
       let wants : AllHold (IsInUse heap) heap (node_wants (Tomb s)) =
       subst (λ n. AllHold (IsInUse heap) heap (node_wants n)) is ((heaped_in_use (states t) (safe_at limits states last run t (omega arith))).inside child used) in
       by_node (node_at heap s) refl (safe_of wants.0) (meets_of wants.0)
     where
-      by_node : (n : Node) → node_at heap s ≡ n → IsInUse heap s → meets ASingle n ≡ true → (k : ℕ) × (v : ℕ) × (node s ≡ Single k v)
+      by_node : (n : Node) → node_at heap s ≡ n → IsInUse heap s → meets ASingle n ≡ true → (k : ℕ) × (v : ℕ) × (node_under states last s ≡ Single k v)
       by_node (Single k v) e used m = (k, v, single_seen limits states last run t (omega arith) s used k v e)
       by_node (Indirection g w) e used m = absurd (true≢false (sym m))
       by_node (Branch b es) e used m = absurd (true≢false (sym m))
       by_node (Tomb q) e used m = absurd (true≢false (sym m))
       by_node (Listed ss) e used m = absurd (true≢false (sym m))
 
-  clean_tomb_holds : (path : List Ref) (main : Ref) (done : List Ref) (child : Ref) → node_at heap main ≡ node main → IsInUse heap child → Came' (suc t) main done →
+  clean_tomb_holds : (path : List Ref) (main : Ref) (done : List Ref) (child : Ref) → node_at heap main ≡ node_under states last main → IsInUse heap child → Came' (suc t) main done →
       (n : Node) → node_at heap child ≡ n →
       Next (clean_after_tomb (states t) path main done n)
   clean_tomb_holds path main done child there used all (Tomb s) is =
       let one = tomb_single child s used is in
-      clean_next_holds limits states last run t h actor operation go takes_it new start begun path main (done ++ s ∷ [])
-      (one_more limits states last run t h actor operation go takes_it new start begun (suc t) main done s all (single one.0 one.1 one.2))
+      clean_next_holds limits states last run t actor operation start path main (done ++ s ∷ [])
+      (one_more limits states last run actor start (suc t) main done s all (single one.0 one.1 one.2))
   clean_tomb_holds path main done child there used all (Indirection g w) is = clean_still path main done there all
   clean_tomb_holds path main done child there used all (Branch b es) is = clean_still path main done there all
   clean_tomb_holds path main done child there used all (Single k v) is = clean_still path main done there all
@@ -227,8 +226,8 @@ module _ (limits : Limits) (states : ℕ → State) (last : ℕ) (run : IsRun li
 
   clean_main_holds : (path : List Ref) (main : Ref) (n : Node) → Next (clean_after_main (states t) path main n)
   clean_main_holds path main (Branch b es) =
-      clean_next_holds limits states last run t h actor operation go takes_it new start begun path main []
-      (none_came limits states last run t h actor operation go takes_it new start begun (suc t) main)
+      clean_next_holds limits states last run t actor operation start path main []
+      (none_came limits states last run actor start (suc t) main)
   clean_main_holds path main (Indirection g w) = tt
   clean_main_holds path main (Single k v) = tt
   clean_main_holds path main (Tomb s) = tt

@@ -31,7 +31,7 @@ use Rattle.proof_shape.specs.Beneath.proof_memory.proofs.Safety.Steps.{of_actor}
 use Rattle.proof_shape.specs.Beneath.proof_memory.proofs.Levels.States.{heaped_in_use}
 use Rattle.proof_shape.specs.Beneath.proof_memory.proofs.Safety.AtEachTime.{safe_at}
 use Rattle.proof_shape.specs.Beneath.proof_memory.specs.Levels.{LineLevel}
-use Rattle.proof_shape.specs.Beneath.proof_commits.specs.Protocol.{Holds as HoldsNode}
+use Rattle.proof_shape.specs.Beneath.proof_commits.specs.Protocol.{Builds}
 use Rattle.proof_shape.specs.Beneath.proof_commits.proofs.Known.Owners.{Staged}
 use Rattle.proof_shape.specs.Beneath.proof_commits.proofs.Known.Sounds.{sound_at}
 use Rattle.proof_shape.specs.Beneath.proof_commits.specs.Stages.{stage_of, stage_of_actor}
@@ -128,7 +128,7 @@ module _ (limits : Limits) (states : ℕ → State) (last : ℕ) (run : IsRun li
     held_none : (path : List Ref) (main : Ref) (position : ℕ) (below : Ref) (depth : ℕ) → operation.line ≡ line.Build (build.Link path main position below depth) → prev_word states t below ≡ over.None
     held_none path main position below depth e =
         let p = protocol limits states last (known_run limits states last run) in
-        let stage : p.words.stage t actor ≡ HoldsNode below = ap stage_of_actor go.runs ∙ ap stage_of e in
+        let stage : p.words.stage t actor ≡ Builds below = ap stage_of_actor go.runs ∙ ap stage_of e in
         (subst (λ s. Staged p.words t actor s) stage ((sound_at p t (omega arith)).staged actor)).none
 
     made_step : (l : BuildLine) (e : operation.line ≡ line.Build l) → KnowsBuild K operation.call l → NextOf l made

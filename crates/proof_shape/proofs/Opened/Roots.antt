@@ -1,5 +1,5 @@
 -- ROOT, COPY and WALK lead to lines that may come to read what the line before might, or what stands in a root word.
-use Rattle.std.proofs.Common.{◌≡◌, ℕ, zero, suc, ◌<◌, ◌||◌, nat_lt, Bool, true, false, List, [], ◌∷◌, ◌++◌, length, get_or, Option, Some, None, refl, sym, ◌∙◌, subst, arith}
+use Rattle.std.proofs.Common.{◌≡◌, ℕ, ◌<◌, ◌||◌, nat_lt, Bool, true, false, List, [], ◌∷◌, ◌++◌, length, Option, Some, None, refl, sym, ◌∙◌, subst, arith}
 use Rattle.std.proofs.lemmas.Bool.{true≢false, cond_both}
 use Rattle.std.specs.List.{All}
 use Rattle.std.proofs.lemmas.List.Elements.{All-nil, All-cons, All-tail, All-append}
@@ -41,6 +41,7 @@ use Rattle.proof_shape.specs.Beneath.proof_memory.proofs.Claims.Uses.{safe_of, f
 use Rattle.proof_shape.specs.Beneath.proof_commits.proofs.Lines.Stages.{Remembers}
 use Rattle.proof_shape.specs.Beneath.proof_contents.proofs.Lines.Repair.{read_stays}
 use Rattle.proof_shape.proofs.Opened.Lines.{RootOpens, CopyOpens, WalkOpens, Opens}
+use Rattle.std.proofs.lemmas.List.{get_or_default}
 
 module _ (kind : HashKind) (state : State) (operation : Operation) (O : Ref → Type 0) (G : Ref → Ref → Type 0)
     (entry_opens : (i m : Ref) → G i m → IsInUse state.heap m → (p : ℕ) → p < length (entries_of (node_at state.heap m)) → O (entry_at state.heap m p))
@@ -184,12 +185,7 @@ module _ (kind : HashKind) (state : State) (operation : Operation) (O : Ref → 
   walk_entry_opens todo pairs o all (Listed ss) = tt
 
   entries_all : (i m : Ref) → G i m → IsInUse heap m → All O (entries_of (node_at heap m))
-  entries_all i m g used k d within = subst O (default_same (entries_of (node_at heap m)) k d within) (entry_opens i m g used k within)
-    where
-      default_same : (es : List Ref) (k : ℕ) (d : Ref) → k < length es → get_or es k no_ref ≡ get_or es k d
-      default_same [] k d lt = absurd (omega arith)
-      default_same (e ∷ es) zero d lt = refl
-      default_same (e ∷ es) (suc k) d lt = default_same es k d (omega arith)
+  entries_all i m g used k d within = subst O (get_or_default (entries_of (node_at heap m)) k no_ref d within) (entry_opens i m g used k within)
 
   pub walk_opens : (l : WalkLine) → Claims (line.Walk l) → Kept (line.Walk l) → WalkOpens O l → Opens O (walk_after state operation l)
   walk_opens walk.Root c g o = (All-nil O, word_opens)

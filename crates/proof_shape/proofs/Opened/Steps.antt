@@ -5,8 +5,7 @@ use Rattle.std.specs.List.{All}
 use Rattle.std.proofs.lemmas.List.Elements.{All-push}
 use Rattle.proof_shape.specs.Beneath.ctrie_base.specs.declared.hashes.HashKind.{HashKind}
 use Rattle.arrayvec.specs.ArrayVec.{ArrayVec}
-use Rattle.proof_shape.specs.Beneath.history.specs.declared.calls.Access.TheVariants.{Writable, ReadOnly}
-use Rattle.proof_shape.specs.Beneath.history.specs.declared.calls.Access.{Access}
+use Rattle.proof_shape.specs.Beneath.history.specs.declared.calls.Access.TheVariants.{Writable}
 use Rattle.proof_shape.specs.Beneath.slot_arena.specs.declared.refs.Ref.{Ref}
 use Rattle.proof_shape.specs.Beneath.slot_arena.specs.declared.nodes.Node.{Node}
 use Rattle.proof_shape.specs.Beneath.slot_arena.specs.declared.nodes.Node.TheVariants.{Indirection, Branch, Single, Tomb, List as Listed}
@@ -27,16 +26,15 @@ use Rattle.proof_shape.specs.Beneath.machine_model.specs.declared.reading.After.
 use Rattle.proof_shape.specs.Beneath.machine_model.specs.declared.reading.Read.{Read}
 use Rattle.proof_shape.specs.Beneath.machine_model.specs.declared.reading.Swap.{Swap}
 use Rattle.proof_shape.specs.Beneath.machine_model.specs.declared.reading.SwapLine.{SwapLine}
-use Rattle.proof_shape.specs.Beneath.machine_model.specs.declared.repairs.CleanLine.TheVariants as clean
 use Rattle.proof_shape.specs.Beneath.machine_model.specs.declared.repairs.Climb.{Climb}
 use Rattle.proof_shape.specs.Beneath.machine_model.specs.declared.repairs.RenewLine.{RenewLine}
 use Rattle.proof_shape.specs.Beneath.machine_model.specs.declared.repairs.RenewLine.TheVariants as renew
 use Rattle.proof_shape.specs.Beneath.machine_model.specs.Calls.{handle_of, key_of}
-use Rattle.proof_shape.specs.Beneath.machine_model.specs.Paths.{current, above, is_below_root, is_start}
+use Rattle.proof_shape.specs.Beneath.machine_model.specs.Paths.{current, is_start}
 use Rattle.proof_shape.specs.Beneath.machine_model.specs.States.{State, word_at, root_of}
 use Rattle.proof_shape.specs.Beneath.machine_model.specs.Reading.{read_step, reading}
 use Rattle.proof_shape.specs.Beneath.machine_model.specs.Swapping.{on_line}
-use Rattle.proof_shape.specs.Beneath.machine_model.specs.Finding.{going_down, is_passable, key_after, key_after_read, key_after_main, after_tomb, key_after_entry, after_listed}
+use Rattle.proof_shape.specs.Beneath.machine_model.specs.Finding.{going_down, is_passable, key_after, key_after_read, key_after_main, key_after_entry, after_listed}
 use Rattle.proof_shape.specs.Beneath.machine_model.specs.Finding.{after_sibling, found, absent_listed}
 use Rattle.proof_shape.specs.Beneath.machine_model.specs.Building.{build_after, build_if_made}
 use Rattle.proof_shape.specs.Beneath.machine_model.specs.Renewing.{next_entry, renew_next, renew_after, renew_after_entry, renew_after_read, renew_after_link, renew_after_branch}
@@ -49,6 +47,7 @@ use Rattle.proof_shape.specs.Beneath.proof_memory.proofs.Claims.Uses.{safe_of, m
 use Rattle.proof_shape.specs.Beneath.proof_commits.proofs.Lines.Stages.{Remembers}
 use Rattle.proof_shape.specs.Beneath.proof_contents.proofs.Lines.Repair.{read_stays}
 use Rattle.proof_shape.proofs.Opened.Lines.{KeyOpens, BuildOpens, WhyOpens, RenewOpens, Opens, current_opens, above_opens, above_current, climbing_opens, OnPath, on_path}
+use Rattle.proof_shape.specs.Beneath.proof_contents.proofs.Lines.Coming.{tomb_comes}
 
 -- ---- steps on the same path
 
@@ -109,13 +108,8 @@ module _ (kind : HashKind) (state : State) (operation : Operation) (O : Ref → 
 
   key_main_opens : (path : List Ref) (main : Ref) → All O path → (n : Node) → Opens O (key_after_main state operation path main n)
   key_main_opens path main all (Branch bitmap entries) = on_path O path _ (main_on O state operation path main bitmap entries) all
-  key_main_opens path main all (Tomb single) = by_access operation.access
-    where
-      by_access : (access : Access) → Opens O (after_tomb access path main)
-      by_access Writable =
-          cond_both (is_below_root path) (line.Clean (clean.Read (above path) (reading (current (above path))))) line.Impossible (Opens O)
-          (λ e. (above_opens O path all, above_current O path e all)) (λ e. tt)
-      by_access ReadOnly = all
+  key_main_opens path main all (Tomb single) =
+      tomb_comes (Opens O) operation.access path main (λ e. (above_opens O path all, above_current O path e all)) tt (λ e. all)
   key_main_opens path main all (Listed ss) = all
   key_main_opens path main all (Indirection g w) = tt
   key_main_opens path main all (Single k v) = tt

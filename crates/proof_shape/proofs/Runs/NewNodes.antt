@@ -1,6 +1,6 @@
 -- A node that a line makes names what may be read, and what the line holds.
-use Rattle.std.proofs.Common.{◌≡◌, ℕ, zero, suc, ◌<◌, ◌⊎◌, ◌&&◌, true, false, List, ◌∷◌, length, slice_set, slice_index_or, get_or, Contains, Option, Some, None, inl, inr, refl}
-use Rattle.std.proofs.Common.{sym, ◌∙◌, ap, subst, arith, []}
+use Rattle.std.proofs.Common.{◌≡◌, ℕ, suc, ◌<◌, ◌⊎◌, ◌&&◌, true, false, List, slice_set, slice_index_or, Contains, Option, Some, None, inl, inr, refl}
+use Rattle.std.proofs.Common.{sym, ◌∙◌, ap, subst, arith}
 use Rattle.std.proofs.lemmas.Bool.{true≢false}
 use Rattle.std.proofs.lemmas.List.Elements.{Contains-get_or}
 use Rattle.proof_shape.specs.Beneath.slot_arena.specs.declared.refs.Ref.{Ref}
@@ -61,6 +61,7 @@ use Rattle.proof_shape.proofs.Runs.MadeNodes.{is_making, quiet_step, new_names, 
 use Rattle.proof_shape.proofs.Held.Fresh.{IsHeld}
 use Rattle.proof_shape.proofs.Held.Lines.{Came, same, single, anew, AllCame, HeldChange, HeldBuild, HeldRenew, HeldClean, HeldIn}
 use Rattle.proof_shape.specs.Beneath.proof_commits.proofs.Known.Acts.{known_run}
+use Rattle.std.proofs.lemmas.List.{get_or_default}
 
 -- ---- lines that make nothing
 
@@ -127,13 +128,8 @@ module _ (limits : Limits) (states : ℕ → State) (last : ℕ) (run : IsRun li
     -- an entry that was done
     by_done : (i main : Ref) → Given (words_of states last (known_run limits states last run).closing) t actor i main → (done : List Ref) →
         AllCame limits states last run (IsHeld limits states last run t actor start) main done → Contains done r → NamesWell r
-    by_done i main given done all (n, lt, at) = by_came (slice_index_or done n no_ref) (default_same done n r lt ∙ at) (all n lt)
+    by_done i main given done all (n, lt, at) = by_came (slice_index_or done n no_ref) (get_or_default done n no_ref r lt ∙ at) (all n lt)
       where
-        default_same : (es : List Ref) (k : ℕ) (d : Ref) → k < length es → get_or es k no_ref ≡ get_or es k d
-        default_same [] k d lt = absurd (omega arith)
-        default_same (e ∷ es) zero d lt = refl
-        default_same (e ∷ es) (suc k) d lt = default_same es k d (omega arith)
-
         by_came : (other : Ref) → other ≡ r →
             Came (node_under states last) (IsHeld limits states last run t actor start) (slice_index_or (entries_of (node_under states last main)) n no_ref) other → NamesWell r
         by_came other other_is (same e) =

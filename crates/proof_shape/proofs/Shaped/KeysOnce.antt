@@ -8,14 +8,12 @@ use Rattle.proof_shape.specs.Beneath.slot_arena.specs.declared.nodes.Node.{Node}
 use Rattle.proof_shape.specs.Beneath.slot_arena.specs.declared.nodes.Node.TheVariants.{Indirection, Branch, Single, Tomb, List as Listed}
 use Rattle.proof_shape.specs.Beneath.slot_arena.specs.Heaps.{node_of, entries_of, no_ref}
 use Rattle.proof_shape.specs.Beneath.machine_model.specs.declared.roots.Root.{Root}
-use Rattle.proof_shape.specs.Beneath.machine_model.specs.declared.roots.RootWord.{RootWord}
-use Rattle.proof_shape.specs.Beneath.machine_model.specs.declared.roots.RootWord.TheVariants.{Plain, Offer}
 use Rattle.proof_shape.specs.Beneath.machine_model.specs.declared.steps.Limits.{Limits}
 use Rattle.proof_shape.specs.Beneath.machine_model.specs.declared.steps.Step.{Step}
 use Rattle.proof_shape.specs.Beneath.machine_model.specs.States.{State, root_of}
 use Rattle.proof_shape.specs.Beneath.machine_model.specs.States.{root_at as handle_at, word_of}
 use Rattle.proof_shape.specs.Beneath.machine_model.specs.Contents.{from_root, from_slot, content_at, pairs_below, most_levels}
-use Rattle.proof_shape.specs.Beneath.machine_model.specs.Counting.{refs_of_root, refs_of_word}
+use Rattle.proof_shape.specs.Beneath.machine_model.specs.Counting.{refs_of_root}
 use Rattle.proof_shape.specs.Beneath.machine_model.specs.Pairs.{by_key}
 use Rattle.proof_shape.specs.Beneath.machine_model.specs.Times.{IsRun}
 use Rattle.proof_shape.specs.Beneath.machine_model.specs.Grown.{node_under}
@@ -30,7 +28,7 @@ use Rattle.proof_shape.specs.Beneath.proof_contents.specs.Steps.{IsTrie}
 use Rattle.proof_shape.specs.Beneath.proof_contents.specs.Runs.{counting_main}
 use Rattle.proof_shape.specs.Beneath.proof_contents.specs.Pairs.{pairs_of, pairs_from}
 use Rattle.proof_shape.specs.Beneath.proof_contents.specs.InUse.{ReachesInUse}
-use Rattle.proof_shape.specs.Beneath.proof_contents.proofs.Pairs.Heap.{pairs_are, flat_map-same}
+use Rattle.proof_shape.specs.Beneath.proof_contents.proofs.Pairs.Heap.{pairs_are, flat_map-same, word_root as names_root}
 use Rattle.proof_shape.specs.Beneath.proof_contents.proofs.Pairs.Shown.{reached_entries}
 use Rattle.proof_shape.specs.Sites.Nodes.{depth_at, level_until, path_until}
 use Rattle.proof_shape.specs.Sites.Lines.{Sites, sites_of, bare}
@@ -111,12 +109,8 @@ module _ (limits : Limits) (states : ℕ → State) (steps : ℕ → Step) (last
 
   pub reached : (levels : ℕ) → pairs_below levels (states last).heap r ≡ pairs_from trie.node (λ i. counting_main states last last i) levels r
   reached levels =
-      pairs_are states last (reaches_in_use (states last) I) levels r (from_root handle r (subst (λ o. Contains (refs_of_root o) r) (sym at) (word_has root.word)))
+      pairs_are states last (reaches_in_use (states last) I) levels r (from_root handle r (subst (λ o. Contains (refs_of_root o) r) (sym at) (names_root root.word)))
       ∙ sym (bare_pairs (node_under states last) (λ i. counting_main states last last i) levels r)
-    where
-      word_has : (w : RootWord) → Contains (refs_of_word w) (root_of w)
-      word_has (Plain q) = (0, omega arith, refl)
-      word_has (Offer offer) = (0, omega arith, refl)
 
   content_is : content_at (states last) handle ≡ entries (content trie 0 0)
   content_is =

@@ -10,9 +10,7 @@ use Rattle.proof_shape.specs.Beneath.slot_arena.specs.Heaps.{Heap, entries_of, l
 use Rattle.proof_shape.specs.Beneath.machine_model.specs.declared.roots.Root.{Root}
 use Rattle.proof_shape.specs.Beneath.machine_model.specs.declared.steps.Limits.{Limits}
 use Rattle.proof_shape.specs.Beneath.machine_model.specs.declared.steps.Step.{Step}
-use Rattle.proof_shape.specs.Beneath.machine_model.specs.declared.roots.RootWord.{RootWord}
-use Rattle.proof_shape.specs.Beneath.machine_model.specs.declared.roots.RootWord.TheVariants.{Offer, Plain}
-use Rattle.proof_shape.specs.Beneath.machine_model.specs.Counting.{refs_of_root, refs_of_word}
+use Rattle.proof_shape.specs.Beneath.machine_model.specs.Counting.{refs_of_root}
 use Rattle.proof_shape.specs.Beneath.machine_model.specs.Contents.{IsReached, content_at, from_root, most_levels, pairs_below}
 use Rattle.proof_shape.specs.Beneath.machine_model.specs.Grown.{node_under}
 use Rattle.proof_shape.specs.Beneath.machine_model.specs.Pairs.{by_key}
@@ -43,6 +41,7 @@ use Rattle.proof_shape.proofs.Shaped.KeysOnce as once
 use Rattle.proof_shape.proofs.Sites.Fixed.{keys_fit}
 use Rattle.proof_shape.proofs.Sites.Stepped.{takes_steps}
 use Rattle.proof_shape.proofs.Shaped.Places.{bare_single, bare_branch, bare_list, bare_tomb}
+use Rattle.proof_shape.specs.Beneath.proof_contents.proofs.Pairs.Heap.{word_root as names_root}
 
 -- ---- what an entry says, by what is found below it
 
@@ -192,11 +191,7 @@ module _ (limits : Limits) (states : ℕ → State) (steps : ℕ → Step) (last
   r = root_of root.word
 
   root_reached : Reached r
-  root_reached = from_root handle r (subst (λ o. Contains (refs_of_root o) r) (sym at) (word_has root.word))
-    where
-      word_has : (w : RootWord) → Contains (refs_of_word w) (root_of w)
-      word_has (Plain q) = (0, omega arith, refl)
-      word_has (Offer offer) = (0, omega arith, refl)
+  root_reached = from_root handle r (subst (λ o. Contains (refs_of_root o) r) (sym at) (names_root root.word))
 
   abbrev all : List (ℕ × ℕ)
   all = pairs_from trie.node last_main most_levels r

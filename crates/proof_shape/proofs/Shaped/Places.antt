@@ -33,6 +33,13 @@ pub bare_link : (n : Node) → is_indirection (bare n) ≡ is_indirection n
 bare_link (Indirection g w) = refl
 bare_link n = refl
 
+-- nodes that are alike but for generations and main words
+pub entries_alike : (n m : Node) → bare n ≡ bare m → entries_of m ≡ entries_of n
+entries_alike n m e = sym (bare_entries m) ∙ ap entries_of (sym e) ∙ bare_entries n
+
+pub link_alike : (n m : Node) → bare n ≡ bare m → is_indirection n ≡ is_indirection m
+link_alike n m e = sym (bare_link n) ∙ ap is_indirection e ∙ bare_link m
+
 pub bare_generation : (n : Node) → generation_of (bare n) ≡ 0
 bare_generation (Indirection g w) = refl
 bare_generation n = refl

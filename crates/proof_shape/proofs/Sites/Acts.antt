@@ -1,5 +1,5 @@
 -- What a line makes, swaps and decides stands at its site.
-use Rattle.std.proofs.Common.{◌≡◌, ℕ, ◌+◌, ◌-◌, ◌*◌, ◌^◌, ◌<◌, ◌&&◌, true, false, nat_lt, length, refl, sym, ap, subst, ◌∙◌, ltb-true, lt-ltb, leb-true, arith}
+use Rattle.std.proofs.Common.{◌≡◌, ℕ, ◌-◌, ◌*◌, ◌^◌, ◌<◌, ◌&&◌, true, false, nat_lt, length, refl, sym, ap, subst, ◌∙◌, ltb-true, lt-ltb, leb-true, arith}
 use Rattle.std.proofs.lemmas.Bool.{false≢true}
 use Rattle.proof_shape.specs.Beneath.ctrie_base.specs.declared.hashes.HashKind.{HashKind}
 use Rattle.proof_shape.specs.Beneath.slot_arena.specs.declared.refs.Ref.{Ref}
@@ -38,8 +38,9 @@ use Rattle.proof_shape.specs.Beneath.proof_memory.proofs.Levels.Paths.{current_l
 use Rattle.proof_shape.specs.Beneath.proof_memory.proofs.Levels.Shapes.{LineShape, deep_low}
 use Rattle.proof_shape.specs.Beneath.proof_contents.specs.Lines.Changes.{Known, KnowsLine}
 use Rattle.proof_shape.specs.Beneath.proof_contents.proofs.Shapes.Builders.{empty_shaped}
-use Rattle.proof_shape.specs.Sites.Nodes.{path_to, depth_at}
-use Rattle.proof_shape.specs.Sites.Lines.{Sites, trie_at, ReadSite, SwapSite, SwapLineSite, LineSite, IsOnWay}
+use Rattle.proof_shape.specs.Sites.Nodes.{depth_at}
+use Rattle.proof_shape.specs.Sites.Lines.{Sites, trie_at, ReadSite, SwapSite, SwapLineSite, LineSite}
+use Rattle.proof_shape.proofs.Sites.Ways.{on_way}
 use Rattle.proof_shape.proofs.Sites.Seen.{Sees, link_seen}
 use Rattle.proof_shape.proofs.Sites.Made.{AtSite, ActionSite, read_acts, shaped_inside}
 use Rattle.proof_shape.proofs.Sites.Build.{build_makes}
@@ -98,9 +99,6 @@ module _ (s : Sites) (fits : (i : Ref) → s.path i < 2 ^ (5 * depth_at (s.level
     abbrev Wants : Line → Type 0
     Wants l = AllHold S state.heap (line_wants state.limits.hash operation.call operation.access l)
 
-    on_way : (depth : ℕ) (r : Ref) → s.path r ≡ path_to hash (depth_at (depth + 1)) → IsOnWay kind s hash depth r
-    on_way depth r e = let here : depth_at (depth + 1) ≡ depth = omega arith in e ∙ ap (path_to hash) here
-
     pub line_acts : (l : Line) → Wants l → LineLevel s.level l → LineShape (list_depth kind) l → LineSite kind s hash l → KnowsLine K operation.call l →
         ActionSite kind s (AtSite s state operation l) (line_action state operation l)
     line_acts (line.Root l) h e g p knows = root_acts kind _ l e
@@ -119,7 +117,7 @@ module _ (s : Sites) (fits : (i : Ref) → s.path i < 2 ^ (5 * depth_at (s.level
         p.2 ∙ sym stands.led
     line_acts (line.Renew (renew.Branch path main done)) h e g p knows = λ r at.
         repair_makes s fits state operation S N false path main done r (safe_of h.1.1.0) (meets_of h.1.1.0)
-        (leb-true _ (length done) (meets_of h.1.1.1.1.0)) p e.0.1 at.0 (on_way (depth_of path) r at.1)
+        (leb-true _ (length done) (meets_of h.1.1.1.1.0)) p e.0.1 at.0 (on_way s kind hash (depth_of path) r at.1)
         (λ single bad. absurd (false≢true bad))
     line_acts (line.Clean (clean.Read path x)) h e g p knows = read_acts kind s _ x.indirection x.line p.2
     line_acts (line.Clean (clean.Main path main)) h e g p knows = tt
@@ -130,7 +128,7 @@ module _ (s : Sites) (fits : (i : Ref) → s.path i < 2 ^ (5 * depth_at (s.level
         shaped_inside kind s r _
         (repair_makes s fits state operation S N (is_below_root path && leaves_single state done) path main done r (safe_of h.1.1.0) (meets_of h.1.1.0)
         (leb-true _ (length done) (meets_of h.1.1.1.1.0)) p e.0.1 at.0
-        (on_way (depth_of path) r at.1) (left_alone s fits state operation S N path done (all_of h.1.1.1.0)))
+        (on_way s kind hash (depth_of path) r at.1) (left_alone s fits state operation S N path done (all_of h.1.1.1.0)))
     line_acts (line.Climb (climb.Read c x)) h e g p knows = read_acts kind s _ x.indirection x.line p.2
     line_acts (line.Climb (climb.Main c main)) h e g p knows = tt
     line_acts (line.Climb (climb.Contracted c main)) h e g p knows = λ r at.
@@ -141,7 +139,7 @@ module _ (s : Sites) (fits : (i : Ref) → s.path i < 2 ^ (5 * depth_at (s.level
         (climb_makes s fits state operation S N c main r (safe_of h.1.1.1.0) (meets_of h.1.1.1.0) (flags_bitmap _ (node_at state.heap main) (meets_of h.1.1.1.1.0)) long (safe_of h.1.1.0)
         (single_is s fits state operation S N c.single (node_at state.heap c.single) refl (safe_of h.1.1.0) (meets_of h.1.1.0))
         (link_seen s state S N (current c.path) last.0 ∙ last.1) (current_level s.level c.path e.0 some) e.1 p.0 p.1 p.2
-        at.0 (on_way (depth_of (above c.path)) r at.1))
+        at.0 (on_way s kind hash (depth_of (above c.path)) r at.1))
     line_acts (line.Climb (climb.Root c l)) h e g p knows = root_acts kind _ l e.1
     line_acts (line.Copy (copy.Read q l)) h e g p knows = read_acts kind s _ l.indirection l.line (root_read kind l.indirection l.line e.1 e.2)
     line_acts (line.Copy (copy.Successor q main)) h e g p knows = λ r at. roots_alike main r e.1 at.0

@@ -37,7 +37,7 @@ use Rattle.proof_shape.specs.Beneath.proof_contents.proofs.Shapes.Builders.{pair
 use Rattle.proof_shape.specs.Beneath.proof_contents.proofs.Shapes.Lists.{shape_moves}
 use Rattle.proof_shape.specs.Sites.Nodes.{path_to, depth_at}
 use Rattle.proof_shape.specs.Sites.Lines.{Sites, bare, trie_at, InsideSite, IsOnWay, PlaceSite, UpdateSite, ChangeSite, BuildSite, LineSite}
-use Rattle.proof_shape.proofs.Sites.Ways.{path_longer, path_alike}
+use Rattle.proof_shape.proofs.Sites.Ways.{on_way, path_longer, path_alike}
 use Rattle.proof_shape.proofs.Shaped.Places.{bare_single}
 use Rattle.proof_shape.proofs.Sites.Seen.{Sees, branch_seen, entries_seen, current_site}
 use Rattle.proof_shape.proofs.Shaped.Changed.{whole_path, EntryIsChild, LinkIsChild, change_shaped}
@@ -198,9 +198,6 @@ module _ (s : Sites) (fits : (i : Ref) → s.path i < 2 ^ (5 * depth_at (s.level
   single_next path main former (site.At position) made h p = (p, updated_so path former made (fact_of h.0))
   single_next path main former (site.Beside position) made h p = p
 
-  on_way : (depth : ℕ) (made : Ref) → s.path made ≡ path_to hash (depth_at (depth + 1)) → IsOnWay kind s hash depth made
-  on_way depth made e = let here : depth_at (depth + 1) ≡ depth = omega arith in e ∙ ap (path_to hash) here
-
   link_next : (path : List Ref) (main : Ref) (position depth : ℕ) (made : Ref) → PlaceSite kind s hash path main → depth_of path + 1 ≤ depth → IsOnWay kind s hash depth made →
       LineSite kind s hash (after_link path main position depth made)
   link_next path main position depth made p le e =
@@ -211,13 +208,13 @@ module _ (s : Sites) (fits : (i : Ref) → s.path i < 2 ^ (5 * depth_at (s.level
   build_next (build.Single path main where_ former) h e p m =
       build_by (build.Single path main where_ former) (λ made n. single_next path main former where_ made h.1.1.1 p) (next_ref state.heap) refl
   build_next (build.Pair path main position single depth) h e p m =
-      build_by (build.Pair path main position single depth) (λ made n. (p, on_way depth made (m made n).1)) (next_ref state.heap) refl
+      build_by (build.Pair path main position single depth) (λ made n. (p, on_way s kind hash depth made (m made n).1)) (next_ref state.heap) refl
   build_next (build.Link path main position below depth) h e p m =
-      build_by (build.Link path main position below depth) (λ made n. link_next path main position depth made p.0 e.1 (on_way depth made (m made n).1)) (next_ref state.heap) refl
+      build_by (build.Link path main position below depth) (λ made n. link_next path main position depth made p.0 e.1 (on_way s kind hash depth made (m made n).1)) (next_ref state.heap) refl
   build_next (build.Rung path main position below depth) h e p m =
-      build_by (build.Rung path main position below depth) (λ made n. (p.0, on_way depth made (m made n).1)) (next_ref state.heap) refl
+      build_by (build.Rung path main position below depth) (λ made n. (p.0, on_way s kind hash depth made (m made n).1)) (next_ref state.heap) refl
   build_next (build.Main path main c former) h e p m =
       build_by (build.Main path main c former)
       (λ made n.
       let at = current_site kind s hash path p.0.0 (fact_of h.1.0) in
-      ((p.0.1 ∙ sym at, on_way (depth_of path) made (m made n).1 ∙ sym at), tt, (p.0.0, refl))) (next_ref state.heap) refl
+      ((p.0.1 ∙ sym at, on_way s kind hash (depth_of path) made (m made n).1 ∙ sym at), tt, (p.0.0, refl))) (next_ref state.heap) refl

@@ -56,10 +56,7 @@ module _ (s : Sites) (fits : (i : Ref) → s.path i < 2 ^ (5 * depth_at (s.level
   abbrev hash : ℕ
   hash = hash_in state operation
 
-  abbrev Carries : Climb → Type 0
-  Carries c = CarriesSite kind s hash c
-
-  climbing_site : (c : Climb) → Carries c → LineSite kind s hash (climbing operation c)
+  climbing_site : (c : Climb) → CarriesSite kind s hash c → LineSite kind s hash (climbing operation c)
   climbing_site c p =
       cond_both (is_below_root c.path) _ _ (LineSite kind s hash) (λ below. (p, current_site kind s hash (above c.path) (above_site kind s hash c.path p.0) (above_long c.path below), tt)) (λ e. tt)
 
@@ -73,12 +70,12 @@ module _ (s : Sites) (fits : (i : Ref) → s.path i < 2 ^ (5 * depth_at (s.level
       let deep : depth_at (s.level main) ≡ depth = omega (arith, level) in
       ap (λ n. path_to (hash_of kind n) depth) (sym key_is) ∙ ap (path_to (hash_of kind t.key)) (sym deep) ∙ t.led ∙ on
 
-  pub climb_read_site : (c : Climb) (i : Ref) (a : After ReadLine Ref) → Carries c → IsOnWay kind s hash (depth_of (above c.path)) i → AfterSite s state S N i a →
+  pub climb_read_site : (c : Climb) (i : Ref) (a : After ReadLine Ref) → CarriesSite kind s hash c → IsOnWay kind s hash (depth_of (above c.path)) i → AfterSite s state S N i a →
       LineSite kind s hash (climb_after_read c (at_indirection i a))
   climb_read_site c i (Goes l) p e h = (p, e, h)
   climb_read_site c i (Gives main) p e h = (p, h ∙ e)
 
-  pub climb_main_site : (c : Climb) (main : Ref) (node : Node) → node_at state.heap main ≡ node → S main → s.level main ≡ depth_of (above c.path) + 1 → Carries c →
+  pub climb_main_site : (c : Climb) (main : Ref) (node : Node) → node_at state.heap main ≡ node → S main → s.level main ≡ depth_of (above c.path) + 1 → CarriesSite kind s hash c →
       IsOnWay kind s hash (depth_of (above c.path)) main →
       LineSite kind s hash (climb_after_main state operation c main node)
   climb_main_site c main (Tomb single) e u level p on =
@@ -98,11 +95,11 @@ module _ (s : Sites) (fits : (i : Ref) → s.path i < 2 ^ (5 * depth_at (s.level
           ∙ ap (λ es. slice_index_or es (place_in state operation c main) no_ref) (sym (entries_seen s state S N main u) ∙ ap entries_of e) ∙ same
   climb_main_site c main node e u level p on = tt
 
-  pub climb_root_site : (c : Climb) (a : After RootLine Ref) → Carries c → LineSite kind s hash (climb_after_root state operation c a)
+  pub climb_root_site : (c : Climb) (a : After RootLine Ref) → CarriesSite kind s hash c → LineSite kind s hash (climb_after_root state operation c a)
   climb_root_site c (Goes l) p = p
   climb_root_site c (Gives r) p = cond_both (is_start operation _) _ _ (LineSite kind s hash) (λ x. climbing_site c p) (λ x. tt)
 
-  pub climbed_by : (c : Climb) (main : Ref) → Carries c → nat_lt 1 (length c.path) ≡ true → IsOnWay kind s hash (depth_of (above c.path)) main →
+  pub climbed_by : (c : Climb) (main : Ref) → CarriesSite kind s hash c → nat_lt 1 (length c.path) ≡ true → IsOnWay kind s hash (depth_of (above c.path)) main →
       ((made : Ref) → next_ref state.heap ≡ Some made → IsOnWay kind s hash (depth_of (above c.path)) made) → (o : Option Ref) → next_ref state.heap ≡ o →
       LineSite kind s hash (climb_after_contracted operation c main o)
   climbed_by c main p long on f None e = tt
@@ -115,7 +112,7 @@ module _ (s : Sites) (fits : (i : Ref) → s.path i < 2 ^ (5 * depth_at (s.level
   pub climb_makes : (c : Climb) (main r : Ref) → S main → meets ABranch (node_at state.heap main) ≡ true →
       has_flag (bitmap_of (node_at state.heap main)) (flag_in state operation (above c.path)) ≡ true →
       nat_lt 1 (length c.path) ≡ true → S c.single → IsSingle (trie_at kind s) c.single → is_indirection (s.node (current c.path)) ≡ true → s.level (current c.path) ≡ depth_of c.path + 1 →
-      s.level main ≡ depth_of (above c.path) + 1 → Carries c → IsOnWay kind s hash (depth_of (above c.path)) main → HoldsTombed kind s hash c main →
+      s.level main ≡ depth_of (above c.path) + 1 → CarriesSite kind s hash c → IsOnWay kind s hash (depth_of (above c.path)) main → HoldsTombed kind s hash c main →
       s.level r ≡ depth_of (above c.path) + 1 → IsOnWay kind s hash (depth_of (above c.path)) r → IsShaped (trie_at kind s) r (climbed_node state operation c main)
   climb_makes c main r u is flag long v single link level_current level p on held level_r on_r = by_branch (branch_there s fits state operation S N main u is)
     where
@@ -208,7 +205,7 @@ module _ (s : Sites) (fits : (i : Ref) → s.path i < 2 ^ (5 * depth_at (s.level
   update_site path former i fresh node e u p is long level same led = tt
 
   -- one level up the single leads still
-  carried_on : (c : Climb) → is_below_root c.path ≡ true → Carries c → Carries (higher c c.single)
+  carried_on : (c : Climb) → is_below_root c.path ≡ true → CarriesSite kind s hash c → CarriesSite kind s hash (higher c c.single)
   carried_on c below p = (above_site kind s hash c.path p.0, λ k v is. path_shorter (hash_of kind k) hash (depth_of (above c.path)) (shorter k (p.1 k v is)))
     where
       deep : depth_of c.path ≡ suc (depth_of (above c.path))
@@ -218,7 +215,7 @@ module _ (s : Sites) (fits : (i : Ref) → s.path i < 2 ^ (5 * depth_at (s.level
           path_to (hash_of kind k) (suc (depth_of (above c.path))) ≡ path_to hash (suc (depth_of (above c.path)))
       shorter k e = subst (λ d. path_to (hash_of kind k) d ≡ path_to hash d) deep e
 
-  climbed_site : (c : Climb) (node : Node) → is_below_root c.path ≡ true → Carries c → LineSite kind s hash (climbed_on operation c node)
+  climbed_site : (c : Climb) (node : Node) → is_below_root c.path ≡ true → CarriesSite kind s hash c → LineSite kind s hash (climbed_on operation c node)
   climbed_site c (Tomb single) below p = climbing_site (higher c c.single) (carried_on c below p)
   climbed_site c node below p = tt
 

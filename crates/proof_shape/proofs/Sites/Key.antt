@@ -1,12 +1,9 @@
 -- Sites after a step of KEY.
-use Rattle.std.proofs.Common.{◌≡◌, ℕ, suc, ◌+◌, ◌*◌, ◌^◌, ◌<◌, ◌==◌, ◌&&◌, true, nat_lt, nat_le, List, [], ◌∷◌, ◌++◌, length, slice_index_or, sym, ap, subst, ◌∙◌, ltb-true, arith}
+use Rattle.std.proofs.Common.{◌≡◌, ℕ, suc, ◌+◌, ◌*◌, ◌^◌, ◌<◌, ◌==◌, ◌&&◌, true, nat_lt, nat_le, List, [], length, slice_index_or, sym, ap, subst, ◌∙◌, ltb-true, arith}
 use Rattle.std.proofs.lemmas.Bool.{cond_both}
-use Rattle.std.proofs.lemmas.List.{length-append}
 use Rattle.arrayvec.specs.ArrayVec.{ArrayVec}
 use Rattle.proof_shape.specs.Beneath.ctrie_base.specs.declared.hashes.HashKind.{HashKind}
 use Rattle.proof_shape.specs.Beneath.ctrie_base.specs.Paths.{position_of}
-use Rattle.proof_shape.specs.Beneath.history.specs.declared.calls.Access.{Access}
-use Rattle.proof_shape.specs.Beneath.history.specs.declared.calls.Access.TheVariants.{Writable, ReadOnly}
 use Rattle.proof_shape.specs.Beneath.slot_arena.specs.declared.refs.Ref.{Ref}
 use Rattle.proof_shape.specs.Beneath.slot_arena.specs.declared.nodes.Node.{Node}
 use Rattle.proof_shape.specs.Beneath.slot_arena.specs.declared.nodes.Node.TheVariants.{Indirection, Branch, Single, Tomb, List as Listed}
@@ -20,17 +17,18 @@ use Rattle.proof_shape.specs.Beneath.machine_model.specs.declared.finding.WhenFo
 use Rattle.proof_shape.specs.Beneath.machine_model.specs.declared.finding.WhenFound.TheVariants.{Answers, Sets, Removes}
 use Rattle.proof_shape.specs.Beneath.machine_model.specs.Calls.{key_of, inserts, when_found}
 use Rattle.proof_shape.specs.Beneath.machine_model.specs.States.{State}
-use Rattle.proof_shape.specs.Beneath.machine_model.specs.Paths.{above, depth_of, is_below_root, flag_in, hash_in}
+use Rattle.proof_shape.specs.Beneath.machine_model.specs.Paths.{above, depth_of, flag_in, hash_in}
 use Rattle.proof_shape.specs.Beneath.machine_model.specs.Reading.{at_indirection}
 use Rattle.proof_shape.specs.Beneath.machine_model.specs.Renewing.{renew_next}
-use Rattle.proof_shape.specs.Beneath.machine_model.specs.Finding.{absent, removing, found_so, key_after_read, after_tomb, key_after_main, is_passable, key_after_entry, after_listed, after_sibling}
+use Rattle.proof_shape.specs.Beneath.machine_model.specs.Finding.{absent, found_so, key_after_read, key_after_main, is_passable, key_after_entry, after_listed, after_sibling}
 use Rattle.proof_shape.specs.Beneath.proof_memory.specs.Wants.{is_indirection}
-use Rattle.proof_shape.specs.Beneath.proof_memory.proofs.Lines.Shared.{above_long}
+use Rattle.proof_shape.specs.Beneath.proof_memory.proofs.Lines.Shared.{above_long, pushed_depth}
 use Rattle.proof_shape.specs.Beneath.proof_contents.specs.Lines.Changes.{IsFlagged}
 use Rattle.proof_shape.specs.Sites.Nodes.{path_to, depth_at}
 use Rattle.proof_shape.specs.Sites.Lines.{Sites, IsOnWay, PathSite, PlaceSite, DoneSite, LineSite}
 use Rattle.proof_shape.proofs.Sites.Seen.{Sees, AfterSite, branch_seen, entries_seen, link_seen, current_site, above_site, pushed_site}
 use Rattle.proof_shape.proofs.Shaped.Places.{leads_there}
+use Rattle.proof_shape.specs.Beneath.proof_contents.proofs.Lines.Coming.{tomb_comes, removing_comes}
 
 module _ (s : Sites) (fits : (i : Ref) → s.path i < 2 ^ (5 * depth_at (s.level i))) (state : State) (operation : Operation) (S : Ref → Type 0) (N : Sees s state S) where
   abbrev kind : HashKind
@@ -47,25 +45,16 @@ module _ (s : Sites) (fits : (i : Ref) → s.path i < 2 ^ (5 * depth_at (s.level
   absent_site : (path : List Ref) (main : Ref) → PlaceSite kind s hash path main → LineSite kind s hash (absent operation path main)
   absent_site path main p = cond_both (inserts operation.call) _ _ (LineSite kind s hash) (λ e. p) (λ e. tt)
 
-  removing_site : (path : List Ref) (main : Ref) (position value : ℕ) (node : Node) → PlaceSite kind s hash path main → LineSite kind s hash (removing state path main position value node)
-  removing_site path main position value (Branch bitmap entries) p = cond_both (is_below_root path && (length entries.items == 2)) _ _ (LineSite kind s hash) (λ e. p) (λ e. (p, tt))
-  removing_site path main position value (Listed singles) p = cond_both (length singles.items == 2) _ _ (LineSite kind s hash) (λ e. (p, tt)) (λ e. (p, tt))
-  removing_site path main position value node p = tt
-
   found_site : (path : List Ref) (main : Ref) (position value : ℕ) (todo : WhenFound) → PlaceSite kind s hash path main → LineSite kind s hash (found_so state path main position value todo)
   found_site path main position value (Answers answer) p = tt
   found_site path main position value Sets p = p
-  found_site path main position value Removes p = removing_site path main position value (node_at state.heap main) p
-
-  tomb_site : (access : Access) (path : List Ref) (main : Ref) → PlaceSite kind s hash path main → LineSite kind s hash (after_tomb access path main)
-  tomb_site Writable path main p =
-      cond_both (is_below_root path) _ _ (LineSite kind s hash)
-      (λ below. (above_site kind s hash path p.0, current_site kind s hash (above path) (above_site kind s hash path p.0) (above_long path below), tt)) (λ e. tt)
-  tomb_site ReadOnly path main p = p
+  found_site path main position value Removes p = removing_comes (LineSite kind s hash) state path main position value p (p, tt) (λ other. (p, tt)) tt (node_at state.heap main)
 
   pub key_main_site : (path : List Ref) (main : Ref) (node : Node) → PlaceSite kind s hash path main → LineSite kind s hash (key_after_main state operation path main node)
   key_main_site path main (Branch bitmap entries) p = cond_both (has_flag bitmap (flag_in state operation path)) _ _ (LineSite kind s hash) (λ e. p) (λ e. absent_site path main p)
-  key_main_site path main (Tomb single) p = tomb_site operation.access path main p
+  key_main_site path main (Tomb single) p =
+      tomb_comes (LineSite kind s hash) operation.access path main
+      (λ below. (above_site kind s hash path p.0, current_site kind s hash (above path) (above_site kind s hash path p.0) (above_long path below), tt)) tt (λ e. p)
   key_main_site path main (Listed singles) p = p
   key_main_site path main (Indirection generation word) p = tt
   key_main_site path main (Single k v) p = tt
@@ -112,9 +101,6 @@ module _ (s : Sites) (fits : (i : Ref) → s.path i < 2 ^ (5 * depth_at (s.level
       cond_both (is_passable operation generation) _ _ (LineSite kind s hash)
       (λ e. (pushed_site kind s hash path (entry_at state.heap main position) p.0 next, next ∙ ap (path_to hash) (pushed_depth path (entry_at state.heap main position)), tt))
       (λ e. renew_next_site path main [] (none_done path main p))
-    where
-      pushed_depth : (path : List Ref) (e : Ref) → length path ≡ depth_of (path ++ e ∷ [])
-      pushed_depth path e = omega (arith, length-append path (e ∷ []))
   key_entry_site first path main position bitmap entries (Single k v) e u w long level p f =
       cond_both (k == key_of operation.call) _ _ (LineSite kind s hash) (λ e. found_site path main position v (when_found operation.call v) p)
       (λ e. cond_both (inserts operation.call) _ _ (LineSite kind s hash) (λ e. p) (λ e. tt))

@@ -1,5 +1,5 @@
 -- Sites after any line's step.
-use Rattle.std.proofs.Common.{◌≡◌, ℕ, ◌+◌, ◌-◌, ◌*◌, ◌^◌, ◌<◌, ◌||◌, Bool, true, false, List, [], ◌∷◌, ◌++◌, length, Option, Some, None, refl, sym, ap, ◌∙◌, arith}
+use Rattle.std.proofs.Common.{◌≡◌, ℕ, ◌+◌, ◌-◌, ◌*◌, ◌^◌, ◌<◌, ◌||◌, Bool, true, false, List, [], ◌∷◌, ◌++◌, length, Option, Some, None, refl, sym, ◌∙◌, arith}
 use Rattle.std.proofs.lemmas.Bool.{cond_both}
 use Rattle.proof_shape.specs.Beneath.ctrie_base.specs.declared.hashes.HashKind.{HashKind}
 use Rattle.proof_shape.specs.Beneath.history.specs.declared.calls.Call.{Call}
@@ -51,7 +51,7 @@ use Rattle.proof_shape.specs.Beneath.proof_memory.proofs.Levels.Steps.{root_next
 use Rattle.proof_shape.specs.Beneath.proof_contents.specs.Lines.Changes.{Known, KnowsLine}
 use Rattle.proof_shape.specs.Sites.Nodes.{path_to, depth_at}
 use Rattle.proof_shape.specs.Sites.Lines.{Sites, bare, ReadSite, SwapSite, SwapLineSite, LineSite, IsOnWay}
-use Rattle.proof_shape.proofs.Sites.Ways.{path_fits}
+use Rattle.proof_shape.proofs.Sites.Ways.{on_way, path_fits}
 use Rattle.proof_shape.proofs.Sites.Seen.{Sees, AfterSite, read_next, pushed_site}
 use Rattle.proof_shape.proofs.Sites.Made.{AtSite}
 use Rattle.proof_shape.proofs.Sites.Key.{key_read_site, key_main_site, key_entry_site, listed_site, sibling_site}
@@ -77,9 +77,6 @@ module _ (s : Sites) (fits : (i : Ref) → s.path i < 2 ^ (5 * depth_at (s.level
 
   abbrev Wants : Line → Type 0
   Wants l = AllHold S state.heap (line_wants state.limits.hash operation.call operation.access l)
-
-  on_way : (depth : ℕ) (r : Ref) → s.path r ≡ path_to hash (depth_at (depth + 1)) → IsOnWay kind s hash depth r
-  on_way depth r e = let here : depth_at (depth + 1) ≡ depth = omega arith in e ∙ ap (path_to hash) here
 
   -- ---- the root
 
@@ -201,7 +198,7 @@ module _ (s : Sites) (fits : (i : Ref) → s.path i < 2 ^ (5 * depth_at (s.level
         (more_left s fits state operation S N main done (safe_of h.1.1.0) (meets_of h.1.1.1.1.0)) p.0 p.1.1 e.0.0.1
         (λ made n. let its = m _ made refl n in (its.0.0, its.0.1, its.1)) (next_ref state.heap) refl
     line_next (line.Renew (renew.Branch path main done)) h e p knows m =
-        renewed_by s fits state operation S N path main p.0 (fact_of h.1.0) (λ made n. on_way (depth_of path) made (m _ made refl n).0.1) (next_ref state.heap) refl
+        renewed_by s fits state operation S N path main p.0 (fact_of h.1.0) (λ made n. on_way s kind hash (depth_of path) made (m _ made refl n).0.1) (next_ref state.heap) refl
     line_next (line.Clean (clean.Read path r)) h e p knows m = clean_read_site s fits state operation S N path r.indirection _ p.0 p.1 (reads r.indirection r.line h.1.1 p.2)
     line_next (line.Clean (clean.Main path main)) h e p knows m = clean_main_site s fits state operation S N path main (node_at state.heap main) p
     line_next (line.Clean (clean.Entry path main done)) h e p knows m =
@@ -215,11 +212,11 @@ module _ (s : Sites) (fits : (i : Ref) → s.path i < 2 ^ (5 * depth_at (s.level
         clean_tomb_site s fits state operation S N path main done child (node_at state.heap child) refl (safe_of h.1.1.0) (safe_of h.1.1.1.1.1.0)
         (more_left s fits state operation S N main done (safe_of h.1.1.0) (meets_of h.1.1.1.1.0)) p
     line_next (line.Clean (clean.Contracted path main done)) h e p knows m =
-        cleaned_by s fits state operation S N path main p.0 (fact_of h.1.0) (λ made n. on_way (depth_of path) made (m _ made refl n).0.1) (next_ref state.heap) refl
+        cleaned_by s fits state operation S N path main p.0 (fact_of h.1.0) (λ made n. on_way s kind hash (depth_of path) made (m _ made refl n).0.1) (next_ref state.heap) refl
     line_next (line.Climb (climb.Read c r)) h e p knows m = climb_read_site s fits state operation S N c r.indirection _ p.0 p.1 (reads r.indirection r.line h.1.1.1 p.2)
     line_next (line.Climb (climb.Main c main)) h e p knows m = climb_main_site s fits state operation S N c main (node_at state.heap main) refl (safe_of h.1.1.1.0) e.1 p.0 p.1
     line_next (line.Climb (climb.Contracted c main)) h e p knows m =
-        climbed_by s fits state operation S N c main p.0 (fact_of h.1.0) p.1 (λ made n. on_way (depth_of (above c.path)) made (m _ made refl n).0.1) (next_ref state.heap) refl
+        climbed_by s fits state operation S N c main p.0 (fact_of h.1.0) p.1 (λ made n. on_way s kind hash (depth_of (above c.path)) made (m _ made refl n).0.1) (next_ref state.heap) refl
     line_next (line.Climb (climb.Root c l)) h e p knows m = climb_root_site s fits state operation S N c _ p
     line_next (line.Copy (copy.Read r l)) h e p knows m = copy_read_site r l.indirection _
     line_next (line.Copy (copy.Offer offer)) h e p knows m = offer_site offer _

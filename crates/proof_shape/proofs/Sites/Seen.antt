@@ -27,7 +27,7 @@ use Rattle.proof_shape.specs.Beneath.proof_memory.proofs.Claims.Uses.{safe_of, m
 use Rattle.proof_shape.specs.Beneath.proof_memory.specs.Levels.{NodeLevel, PrevLevel}
 use Rattle.proof_shape.specs.Sites.Lines.{Sites, bare, trie_at, InsideSite, PrevSite, ReadSite, IsOnWay, PathSite}
 use Rattle.proof_shape.specs.Sites.Nodes.{path_to}
-use Rattle.proof_shape.proofs.Shaped.Places.{bare_entries, bare_bitmap, bare_link, bare_branch}
+use Rattle.proof_shape.proofs.Shaped.Places.{bare_bitmap, bare_branch, entries_alike, link_alike}
 
 -- of the references that are in use
 pub record Sees (s : Sites) (state : State) (S : Ref → Type 0) : Type 0 where
@@ -41,13 +41,13 @@ module _ (s : Sites) (state : State) (S : Ref → Type 0) (N : Sees s state S) w
   kind = state.limits.hash
 
   pub entries_seen : (r : Ref) → S r → entries_of (node_at state.heap r) ≡ entries_of (s.node r)
-  entries_seen r u = sym (bare_entries (node_at state.heap r)) ∙ ap entries_of (sym (N.same r u)) ∙ bare_entries (s.node r)
+  entries_seen r u = entries_alike (s.node r) (node_at state.heap r) (N.same r u)
 
   pub bitmap_seen : (r : Ref) → S r → bitmap_of (node_at state.heap r) ≡ bitmap_of (s.node r)
   bitmap_seen r u = sym (bare_bitmap (node_at state.heap r)) ∙ ap bitmap_of (sym (N.same r u)) ∙ bare_bitmap (s.node r)
 
   pub link_seen : (r : Ref) → S r → is_indirection (s.node r) ≡ is_indirection (node_at state.heap r)
-  link_seen r u = sym (bare_link (s.node r)) ∙ ap is_indirection (N.same r u) ∙ bare_link (node_at state.heap r)
+  link_seen r u = link_alike (s.node r) (node_at state.heap r) (N.same r u)
 
   -- a main node has its shape
   pub branch_seen : (r : Ref) (b : ℕ) (es : ArrayVec Ref) → S r → s.node r ≡ Branch b es → IsShaped (trie_at kind s) r (Branch b es)

@@ -2,7 +2,10 @@
 use Rattle.std.proofs.Common.{◌≡◌, ℕ, zero, suc, ◌+◌, ◌*◌, ◌%◌, ◌^◌, ◌<◌, ◌≤◌, sym, ap, ap₂, subst, ◌∙◌, arith, pow_pos, mod-lt, mod-eq_of_lt}
 use Rattle.std.proofs.lemmas.Nat.{mod-pow-add, mod-mul-add}
 use Rattle.proof_shape.specs.Beneath.nodes.specs.Levels.{index_in}
-use Rattle.proof_shape.specs.Sites.Nodes.{path_to}
+use Rattle.proof_shape.specs.Beneath.ctrie_base.specs.declared.hashes.HashKind.{HashKind}
+use Rattle.proof_shape.specs.Beneath.slot_arena.specs.declared.refs.Ref.{Ref}
+use Rattle.proof_shape.specs.Sites.Nodes.{path_to, depth_at}
+use Rattle.proof_shape.specs.Sites.Lines.{Sites, IsOnWay}
 
 -- a path is that to the level above, and the index there
 pub path_parts : (h d : ℕ) → path_to h (suc d) ≡ index_in h d * 2 ^ (5 * d) + path_to h d
@@ -30,3 +33,7 @@ path_fits h d = mod-lt h (pow_pos (5 * d))
 -- a path is its own
 pub path_again : (p d : ℕ) → p < 2 ^ (5 * d) → path_to p d ≡ p
 path_again p d lt = mod-eq_of_lt lt
+
+-- what stands at a hash's path at its level is on the way to it
+pub on_way : (s : Sites) (kind : HashKind) (hash depth : ℕ) (r : Ref) → s.path r ≡ path_to hash (depth_at (depth + 1)) → IsOnWay kind s hash depth r
+on_way s kind hash depth r e = let here : depth_at (depth + 1) ≡ depth = omega arith in e ∙ ap (path_to hash) here

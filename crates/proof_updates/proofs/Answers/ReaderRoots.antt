@@ -25,9 +25,8 @@ use Rattle.proof_updates.specs.Beneath.proof_generations.proofs.Roots.Along.{ord
 use Rattle.proof_order.specs.Facts.{Runs, standing, standing_of}
 use Rattle.proof_order.proofs.Phases.Standing.{read_only_stays}
 use Rattle.proof_updates.specs.Beneath.proof_contents.specs.Runs.{root_of_generation}
-use Rattle.proof_updates.proofs.Tries.Seen.{seen_link}
+use Rattle.proof_shape.proofs.Runs.Nodes.{link_known}
 use Rattle.proof_order.proofs.Openings.ClosedRoots.{root_is}
-use Rattle.proof_updates.specs.Beneath.proof_generations.proofs.Falling.Nodes.{nodes_stay}
 
 -- an open handle with this standing
 pub record StandsOn (state : State) (handle : ℕ) (access : Access) (g : ℕ) : Type 0 where
@@ -98,7 +97,7 @@ module _ (limits : Limits) (states : ℕ → State) (last : ℕ) (run : IsRun li
           by_node : (n : Node) → node_at (states t).heap (root_of on.root.word) ≡ n → meets AnIndirection n ≡ true →
               (h : ℕ) × (w : Ref) × (node_under states last (root_of (word_at (states t) handle)) ≡ Indirection h w)
           by_node (Indirection h w) found m =
-              let link = seen_link states last (nodes_stay limits states last run) t within (root_of on.root.word) (safe_of used) h w found in
+              let link = link_known limits states last run t within (root_of on.root.word) (safe_of used) h w found in
               (h, link.0, ap (λ x. node_under states last (root_of x)) word_is ∙ link.1)
           by_node (Branch b es) found m = absurd (true≢false (sym m))
           by_node (Single q v) found m = absurd (true≢false (sym m))

@@ -45,10 +45,9 @@ use Rattle.proof_updates.proofs.Tries.EachOperation.{OwnStep}
 use Rattle.proof_updates.proofs.Answers.Given.{given_at, own_after}
 use Rattle.proof_updates.proofs.Answers.Key.{AnswersSo}
 use Rattle.proof_updates.proofs.Answers.ReaderRoots.{IsRoot, root_stands}
-use Rattle.proof_updates.proofs.Tries.Seen.{seen_link}
+use Rattle.proof_shape.proofs.Runs.Nodes.{link_known}
 use Rattle.proof_updates.proofs.Answers.WalkSteps.{below, below_main, walked_right, KnowsWalk}
 use Rattle.proof_updates.specs.Beneath.proof_generations.proofs.Falling.Final.{given_for_ever}
-use Rattle.proof_updates.specs.Beneath.proof_generations.proofs.Falling.Nodes.{nodes_stay}
 
 -- a step of an operation that goes on, in the words of the lines
 pub goes_at : (states : ℕ → State) (t k : ℕ) (operation : Operation) → OwnStep states t k operation → GoesAt states t (suc k) operation
@@ -114,7 +113,7 @@ module _ (limits : Limits) (states : ℕ → State) (last : ℕ) (depth path : R
 
         by_node : (n : Node) → node_at (states t).heap r.indirection ≡ n → meets AnIndirection n ≡ true → (h : ℕ) × (w : Ref) × (node_under states last r.indirection ≡ Indirection h w)
         by_node (Indirection h w) found m =
-            let known = seen_link states last (nodes_stay limits states last run) t (omega arith) r.indirection (safe_of used) h w found in
+            let known = link_known limits states last run t (omega arith) r.indirection (safe_of used) h w found in
             (h, known.0, known.1)
         by_node (Branch b es) found m = absurd (true≢false (sym m))
         by_node (Single q v) found m = absurd (true≢false (sym m))

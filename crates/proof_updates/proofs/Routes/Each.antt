@@ -42,14 +42,13 @@ use Rattle.proof_updates.specs.Beneath.proof_contents.specs.Steps.{IsTrie}
 use Rattle.proof_updates.specs.Beneath.proof_contents.specs.Runs.{trie_of}
 use Rattle.proof_updates.specs.Beneath.proof_generations.proofs.Roots.Rooted.{root_given}
 use Rattle.proof_updates.proofs.Tries.EachOperation.{OwnStep, each_operation}
-use Rattle.proof_updates.proofs.Tries.Seen.{seen_link}
+use Rattle.proof_shape.proofs.Runs.Nodes.{link_known}
 use Rattle.proof_updates.proofs.Routes.Known.{IsAt, KeyRoute, LineRoute, route_later, route_root}
 use Rattle.proof_updates.proofs.Routes.Key.{main_on, entry_on, listed_on, sibling_on}
 use Rattle.proof_updates.proofs.Routes.Lines.{clean_on, climb_on, copy_on, walk_on, build_on, renew_on, swap_on}
 use Rattle.proof_updates.proofs.Routes.Reads.{read_on, leads_there}
 use Rattle.proof_updates.proofs.Routes.Times.{later}
 use Rattle.proof_order.proofs.Openings.ClosedRoots.{root_is}
-use Rattle.proof_updates.specs.Beneath.proof_generations.proofs.Falling.Nodes.{nodes_stay}
 
 -- a SWAP's path is no matter of moments
 swap_route : (trie : Trie) (access : Access) (g q t b mu c nu : ℕ) (why : Purpose) (s : Swap) → LineRoute trie access g q t b mu (line.Swap why s) → LineRoute trie access g q t c nu (line.Swap why s)
@@ -96,7 +95,7 @@ module _ (limits : Limits) (states : ℕ → State) (last : ℕ) (depth path : R
         where
           by_node : (n : Node) → node_at state.heap r ≡ n → meets AnIndirection n ≡ true → generation_of (node_at state.heap r) ≡ g → generation trie r ≡ g
           by_node (Indirection h w) is m own_generation =
-              ap generation_of (seen_link states last (nodes_stay limits states last run) t within r (safe_of root_used) h w is).1 ∙ sym (ap generation_of is) ∙ own_generation
+              ap generation_of (link_known limits states last run t within r (safe_of root_used) h w is).1 ∙ sym (ap generation_of is) ∙ own_generation
           by_node (Branch b es) is m own_generation = absurd (true≢false (sym m))
           by_node (Single q v) is m own_generation = absurd (true≢false (sym m))
           by_node (Tomb s) is m own_generation = absurd (true≢false (sym m))

@@ -3,7 +3,6 @@ use Rattle.std.proofs.Common.{◌≡◌, ℕ, suc, ◌+◌, ◌-◌, ◌<◌, �
 use Rattle.std.proofs.lemmas.Bool.{cond_both}
 use Rattle.proof_updates.specs.Beneath.ctrie_base.specs.Hashes.{hash_of}
 use Rattle.proof_updates.specs.Beneath.history.specs.declared.calls.Access.{Access}
-use Rattle.proof_updates.specs.Beneath.history.specs.declared.calls.Access.TheVariants.{Writable, ReadOnly}
 use Rattle.proof_updates.specs.Beneath.slot_arena.specs.declared.refs.Ref.{Ref}
 use Rattle.proof_updates.specs.Beneath.slot_arena.specs.declared.nodes.Node.{Node}
 use Rattle.proof_updates.specs.Beneath.slot_arena.specs.declared.nodes.Node.TheVariants.{Indirection, Branch, Single, Tomb, List as Listed}
@@ -13,23 +12,20 @@ use Rattle.proof_updates.specs.Beneath.machine_model.specs.declared.operations.O
 use Rattle.proof_updates.specs.Beneath.machine_model.specs.declared.finding.KeyLine.TheVariants as key
 use Rattle.proof_updates.specs.Beneath.machine_model.specs.declared.finding.WhenFound.{WhenFound}
 use Rattle.proof_updates.specs.Beneath.machine_model.specs.declared.finding.WhenFound.TheVariants.{Answers, Sets, Removes}
-use Rattle.proof_updates.specs.Beneath.machine_model.specs.declared.repairs.CleanLine.TheVariants as clean
-use Rattle.proof_updates.specs.Beneath.machine_model.specs.declared.repairs.RenewLine.TheVariants as renew
 use Rattle.proof_updates.specs.Beneath.machine_model.specs.declared.lines.Line.{Line}
 use Rattle.proof_updates.specs.Beneath.machine_model.specs.declared.lines.Line.TheVariants as line
 use Rattle.proof_updates.specs.Beneath.machine_model.specs.Calls.{key_of, inserts, when_found}
 use Rattle.proof_updates.specs.Beneath.machine_model.specs.States.{State}
 use Rattle.proof_updates.specs.Beneath.machine_model.specs.Paths as path
-use Rattle.proof_updates.specs.Beneath.machine_model.specs.Paths.{is_below_root, above, current}
-use Rattle.proof_updates.specs.Beneath.machine_model.specs.Reading.{reading}
 use Rattle.proof_updates.specs.Beneath.machine_model.specs.Renewing.{renew_next}
-use Rattle.proof_updates.specs.Beneath.machine_model.specs.Finding.{going_down, absent, absent_beside, absent_listed, removing, found_so, found, after_tomb, key_after_main}
+use Rattle.proof_updates.specs.Beneath.machine_model.specs.Finding.{going_down, absent, absent_beside, absent_listed, found_so, found, key_after_main}
 use Rattle.proof_updates.specs.Beneath.machine_model.specs.Finding.{is_passable, key_after_entry, after_listed, after_sibling}
 use Rattle.proof_updates.specs.Beneath.proof_contents.specs.Nodes.Looking.{Below}
 use Rattle.proof_updates.specs.Beneath.proof_contents.specs.Nodes.Changing.{look}
 use Rattle.proof_updates.specs.Beneath.proof_contents.specs.Tries.{Trie}
 use Rattle.proof_updates.specs.Beneath.proof_contents.specs.Steps.{IsTrie}
 use Rattle.proof_updates.proofs.Routes.Known.{Route, IsAt, IsOf, LineRoute, route_later, route_down, current-append}
+use Rattle.proof_updates.specs.Beneath.proof_contents.proofs.Lines.Coming.{tomb_comes, removing_comes, renew_comes}
 
 module _ (trie : Trie) (ok : IsTrie trie) (g : ℕ) (state : State) (operation : Operation) (t ra mu : ℕ) (before : t < trie.last) where
   abbrev A : Access
@@ -55,34 +51,19 @@ module _ (trie : Trie) (ok : IsTrie trie) (g : ℕ) (state : State) (operation :
     absent_listed_on : (singles : ℕ) → On (absent_listed operation p main singles)
     absent_listed_on singles = cond_both (inserts operation.call && nat_le 32 singles) _ _ On (λ e. tt) (λ e. absent_on)
 
-    removing_on : (position v : ℕ) (n : Node) → On (removing state p main position v n)
-    removing_on position v (Branch b es) = cond_both (is_below_root p && (length es.items == 2)) _ _ On (λ e. at) (λ e. there)
-    removing_on position v (Listed ss) = cond_both (length ss.items == 2) _ _ On (λ e. there) (λ e. there)
-    removing_on position v (Indirection h w) = tt
-    removing_on position v (Single k w) = tt
-    removing_on position v (Tomb s) = tt
-
     found_on : (position v : ℕ) → On (found state operation p main position v)
     found_on position v = by_case (when_found operation.call v)
       where
         by_case : (w : WhenFound) → On (found_so state p main position v w)
         by_case (Answers answer) = tt
         by_case Sets = there
-        by_case Removes = removing_on position v (node_at state.heap main)
+        by_case Removes = removing_comes On state p main position v at there (λ other. there) tt (node_at state.heap main)
 
     -- ---- line by line
 
     pub main_on : (n : Node) → On (key_after_main state operation p main n)
     main_on (Branch b es) = cond_both (has_flag b (path.flag_in state operation p)) _ _ On (λ e. at) (λ e. absent_on)
-    main_on (Tomb s) = by_access operation.access
-      where
-        by_root : (c : Bool) → On (cond c (line.Clean (clean.Read (above p) (reading (current (above p))))) line.Impossible)
-        by_root true = tt
-        by_root false = tt
-
-        by_access : (a : Access) → On (after_tomb a p main)
-        by_access Writable = by_root (is_below_root p)
-        by_access ReadOnly = at
+    main_on (Tomb s) = tomb_comes On operation.access p main (λ e. tt) tt (λ e. at)
     main_on (Listed ss) = at
     main_on (Indirection h w) = tt
     main_on (Single k v) = tt
@@ -97,10 +78,6 @@ module _ (trie : Trie) (ok : IsTrie trie) (g : ℕ) (state : State) (operation :
         entry : Ref
         entry = entry_at state.heap main position
 
-        by_more : (c : Bool) → On (cond c (line.Renew (renew.Entry p main [])) (line.Renew (renew.Branch p main [])))
-        by_more true = there
-        by_more false = there
-
         by_test : (c : Bool) → is_passable operation h ≡ c → On (cond c (going_down p (entry_at state.heap main position)) (renew_next state p main []))
         by_test true e =
             let led = leads h w refl e in (
@@ -108,7 +85,7 @@ module _ (trie : Trie) (ok : IsTrie trie) (g : ℕ) (state : State) (operation :
                   (route_down trie ok g Q mu (omega (arith, at.past)) A p main entry at.route at.given led.0 led.1),
               sym (current-append p entry),
             )
-        by_test false e = by_more (nat_lt 0 (length (entries_of (node_at state.heap main))))
+        by_test false e = renew_comes On state p main [] there there
     entry_on position (Single k v) leads = by_test (k == Q)
       where
         by_test : (c : Bool) → On (cond c (found state operation p main position v) (absent_beside operation p main position))

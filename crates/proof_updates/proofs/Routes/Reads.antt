@@ -43,18 +43,17 @@ use Rattle.proof_updates.specs.Beneath.proof_contents.specs.Runs.{trie_of}
 use Rattle.proof_updates.specs.Beneath.proof_contents.specs.Lines.Changes.{KnowsKey, KnowsLine}
 use Rattle.proof_updates.specs.Beneath.proof_contents.proofs.Shapes.Nodes.{leads}
 use Rattle.proof_updates.specs.Beneath.proof_contents.proofs.Lines.Repair.{read_stays}
-use Rattle.proof_updates.specs.Beneath.proof_memory.proofs.Claims.Nodes.{branch_main}
+use Rattle.proof_updates.specs.Beneath.proof_memory.proofs.Claims.Nodes.{branch_main, main_no_link}
 use Rattle.proof_updates.specs.Beneath.proof_commits.proofs.Course.OfLists.{given_read}
 use Rattle.proof_shape.specs.Lines.Knowing.{known_with, first_main}
 use Rattle.proof_shape.proofs.Lines.Knows.{knows_at}
 use Rattle.proof_updates.specs.Beneath.proof_generations.specs.Falling.{GivesAt}
 use Rattle.proof_updates.proofs.Tries.EachOperation.{OwnStep}
 use Rattle.proof_updates.proofs.Answers.Given.{GivenAt, given_at}
-use Rattle.proof_updates.proofs.Tries.Seen.{seen_link, seen_main}
+use Rattle.proof_shape.proofs.Runs.Nodes.{link_known, node_known}
 use Rattle.proof_updates.proofs.Routes.Times.{counts_since, since_next}
 use Rattle.proof_updates.proofs.Routes.Known.{IsGiven, IsOf, since, KeyRoute, LineRoute, route_later}
 use Rattle.proof_updates.specs.Beneath.proof_generations.proofs.Falling.Final.{given_for_ever}
-use Rattle.proof_updates.specs.Beneath.proof_generations.proofs.Falling.Nodes.{nodes_stay}
 
 -- ---- its own step
 
@@ -151,7 +150,7 @@ module _ (limits : Limits) (states : ℕ → State) (last : ℕ) (depth path : R
           wants.1.1.0
 
       main_is : trie.node main ≡ node_at state.heap main
-      main_is = seen_main states last (nodes_stay limits states last run) t within main (safe_of main_used) (branch_main (node_at state.heap main) (meets_of main_used))
+      main_is = node_known limits states last run t within main (safe_of main_used) (main_no_link (node_at state.heap main) (branch_main (node_at state.heap main) (meets_of main_used)))
 
       entry_used : IsInUse state.heap (entry_at state.heap main position)
       entry_used =
@@ -166,10 +165,10 @@ module _ (limits : Limits) (states : ℕ → State) (last : ℕ) (depth path : R
       leads_there h w is passes begun = by_known known_entry
         where
           word : Ref
-          word = (seen_link states last (nodes_stay limits states last run) t within (entry_at state.heap main position) entry_used h w is).0
+          word = (link_known limits states last run t within (entry_at state.heap main position) entry_used h w is).0
 
           link : trie.node (entry_at state.heap main position) ≡ Indirection h word
-          link = (seen_link states last (nodes_stay limits states last run) t within (entry_at state.heap main position) entry_used h w is).1
+          link = (link_known limits states last run t within (entry_at state.heap main position) entry_used h w is).1
 
           own_generation : (a : Access) → operation.access ≡ a → IsOf trie a g (entry_at state.heap main position)
           own_generation Writable writable =

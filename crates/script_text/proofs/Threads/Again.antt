@@ -28,7 +28,8 @@ use Rattle.script_text.specs.Scripts.{Progress, Start, Sized, Hashed, InLines, w
 use Rattle.script_text.specs.Threads.Reading.{Reading, thread_dialect, thread_format, thread_script_of}
 use Rattle.script_text.specs.Threads.Grammar.{command_from, as_script, LineFits, FitsThreads}
 use Rattle.script_text.specs.Views.{read}
-use Rattle.script_text.proofs.Threads.Found.{as_progress, at_ok}
+use Rattle.script_text.proofs.Threads.Found.{as_progress}
+use Rattle.script_text.proofs.Few.{at_ok}
 
 -- ---- a line behind the header
 

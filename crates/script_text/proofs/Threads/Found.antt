@@ -28,6 +28,7 @@ use Rattle.script_text.specs.Scripts.{Progress, Start, Sized, Hashed, InLines, w
 use Rattle.script_text.specs.Threads.Reading.{Reading, thread_dialect, thread_format, thread_script_of}
 use Rattle.script_text.specs.Threads.Grammar.{command_from, as_script, LineFits, FitsThreads}
 use Rattle.script_text.specs.Views.{read}
+use Rattle.script_text.proofs.Few.{at_ok}
 
 -- what the lines so far have said, as those of any script
 abbrev pub as_progress : Progress ThreadLine → Progress Command
@@ -124,10 +125,6 @@ step_found : (long ignored : Bool) (p r : Progress ThreadLine) (words : List (Li
 step_found true ignored p r words e fit = absurd cc
 step_found false true p r words e fit = let same : p ≡ r = ok_is (Ok p) p r refl e in (ap (λ q. Ok (as_progress q)) same, subst HasFit same fit)
 step_found false false p r words e fit = words_found p r words e fit
-
-pub at_ok : {A : Type 0} (n : ℕ) (r : Result A Refusal) (x : A) → at_line n r ≡ Ok x → r ≡ Ok x
-at_ok n (Ok y) x e = cc
-at_ok n (Err f) x e = absurd cc
 
 line_after_found : (n : ℕ) (p r : Progress ThreadLine) (line : List ℕ) → line_after thread_format n p line ≡ Ok r → HasFit p →
     (line_after script_format n (as_progress p) line ≡ Ok (as_progress r)) × HasFit r

@@ -1,6 +1,8 @@
 //! A reader and a writer that move one byte a call, and fail at each call in turn.
 
-use ctrie_commands::{Counted, Fault, Nothing, check_history, run_script, run_threads};
+use ctrie_commands::{
+    Counted, Fault, Nothing, check_history, explain_history, run_script, run_threads,
+};
 use std::io;
 use std::io::{ErrorKind, Read, Write};
 use std::sync::Wait;
@@ -78,6 +80,7 @@ impl Write for Sink {
 #[derive(Clone, Copy, Debug)]
 enum Command {
     Check,
+    Explain,
     Run,
     Threads,
 }
@@ -92,13 +95,22 @@ struct Case {
 
 const SCRIPT: &str = "slots 64\nhash low\nactors 1\ndo 1 put 0 5 50\ndo 1 get 0 5\n";
 
-const REPORT: &str = "hash low\nbegin 0 1 put 0 5 50\nend 0 none\nbegin 1 1 get 0 5\nend 1 some 50\norder 0 1\nslots used 4 free 60 limbo 1\n";
+const REPORT: &str =
+    "hash low\nbegin 0 1 put 0 5 50\nend 0 none\nbegin 1 1 get 0 5\nend 1 some 50\norder 0 1\nslots used 4 free 60 limbo 1\n";
 
-const CASES: [Case; 3] = [
+const HISTORY: &str =
+    "hash low\nbegin 0 1 put 0 1 10\nend 0 none\nbegin 1 1 get 0 1\nend 1 none\norder 0 1\n";
+
+const CASES: [Case; 4] = [
     Case {
         command: Command::Check,
-        text: "hash low\nbegin 0 1 put 0 1 10\nend 0 none\nbegin 1 1 get 0 1\nend 1 none\norder 0 1\n",
+        text: HISTORY,
         written: "not legal\n",
+    },
+    Case {
+        command: Command::Explain,
+        text: HISTORY,
+        written: "not legal\noperation 1, get 0 1, was answered none; the maps before it give some 10\n",
     },
     Case {
         command: Command::Run,
@@ -124,6 +136,7 @@ fn carried_out<R: AllocGlobal + Threads + Wait + Sync>(
     let (input, output) = (&mut input, &mut output);
     let found = match case.command {
         Command::Check => check_history(rt.alloc(), input, output).map(|_| ()),
+        Command::Explain => explain_history(rt.alloc(), input, output).map(|_| ()),
         Command::Run => run_script(rt.alloc(), input, output),
         Command::Threads => run_threads(rt, rt.alloc(), input, output, &Nothing),
     };
@@ -148,7 +161,11 @@ fn tells_each_failed_read(rt: HostRuntime) {
         for call in 1..=case.text.len() as u64 + 1 {
             let mut sink = Sink::new(Vec::new(rt.alloc()), 0);
             let found = carried_out(&rt, case, Source::new(case.text, call), &mut sink);
-            assert!(rt; found == (Err(Fault::Read), 1, 0), "{:?} {call}", case.command);
+            assert!(rt;
+                found == (Err(Fault::Read), 1, 0),
+                "{:?} {call}",
+                case.command
+            );
             assert!(rt; sink.taken.is_empty());
         }
     }
@@ -161,7 +178,11 @@ fn tells_each_failed_write(rt: HostRuntime) {
         for call in 1..=case.written.len() as u64 + 1 {
             let mut sink = Sink::new(Vec::new(rt.alloc()), call);
             let found = carried_out(&rt, case, Source::new(case.text, 0), &mut sink);
-            assert!(rt; found == (Err(Fault::Write), 0, 1), "{:?} {call}", case.command);
+            assert!(rt;
+                found == (Err(Fault::Write), 0, 1),
+                "{:?} {call}",
+                case.command
+            );
             assert!(rt; sink.taken.len() as u64 + 1 == call);
             assert!(rt; case.written.as_bytes().starts_with(sink.taken.as_slice()));
         }

@@ -50,3 +50,13 @@ pub returns-in_err-draw_history-in-Draw-clause-part : goal.returns-in_err-draw_h
 returns-in_err-draw_history-in-Draw-clause-part g c = λ e.
     let same : c.draw_history.result ≡ Err Write = search rules in
     rw c.in-Draw.is (picture_part _ _ _ c.in-Draw.field-0 (c.draw_history.ensures.part same))
+
+pub returns-in_ok-explain_history-in-Explain-clause-written : goal.returns-in_ok-explain_history-in-Explain-clause-written
+returns-in_ok-explain_history-in-Explain-clause-written g c =
+    rw (c.in-Explain.is, c.judged-in-Explain.ensures)
+    (explanation_told _ _ _ _ c.in-Explain.field-0 c.in_ok-explain_history-in-Explain.ensures.verdict c.in_ok-explain_history-in-Explain.ensures.written)
+
+pub returns-in_ok-draw_history-in-Draw-clause-written : goal.returns-in_ok-draw_history-in-Draw-clause-written
+returns-in_ok-draw_history-in-Draw-clause-written g c =
+    rw (c.in-Draw.is, c.judged-in-Draw.ensures)
+    (picture_told _ _ _ _ c.in-Draw.field-0 c.in_ok-draw_history-in-Draw.ensures.verdict c.in_ok-draw_history-in-Draw.ensures.written)

@@ -9,7 +9,7 @@ loop-worker-preserved c =
     let denied = c.deref.ensures.value in
     let told : string_bytes c.tell_denied.new.text
     ≡ string_bytes c.loop-worker.denied ++ denied_lines c.in-Some.worker.seat.actor c.in-Some.worker.denied.items =
-    c.in_ok-tell_denied.ensures ∙ ap (λ a. string_bytes c.loop-worker.denied ++ denied_lines a c.deref.result.now) c.actor.ensures
+    c.in_ok-tell_denied.ensures ∙ ap (λ a. string_bytes c.loop-worker.denied ++ denied_lines a c.deref.result.now) c.actor.ensures.number
     ∙ ap (λ d. string_bytes c.loop-worker.denied ++ denied_lines c.in-Some.worker.seat.actor d) denied in
     record {
       so_far = gathered_more _ _ _ _ _ _ c.loop-worker.invariant.so_far c.in_ok-push.ensures.items told;

@@ -8,6 +8,7 @@ pub loop-line-init : goal.loop-line-init
 loop-line-init g c = record {
   seat = gone_same c.args.self.now.seat;
   answers = refl;
+  running = refl;
   done = swept_none c.args.self.now c.requires.unused.sweeps c.requires.none;
 }
 
@@ -16,5 +17,6 @@ loop-line-preserved g c =
     let so_far = c.loop-line.invariant in record {
       seat = gone_more _ _ _ so_far.seat c.sweep_line.ensures.seat;
       answers = search rules;
+      running = search rules;
       done = swept_more _ c.sweep_line.new.self c.args.lines.now c.loop-line.line-index _ c.loop-line-test.true c.sweep_line.ensures.seat so_far.done c.in_ok-sweep_line.ensures.done;
     }

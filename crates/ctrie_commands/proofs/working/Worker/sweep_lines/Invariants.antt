@@ -8,5 +8,6 @@ abbrev pub invariant-loop-line : goal.invariant-loop-line
 invariant-loop-line g l = record {
   seat : HasGoneOn l.initial.self.seat l.self.seat;
   answers : l.self.seat.answers ≡ l.initial.self.seat.answers;
+  running : l.self.seat.running ≡ l.initial.self.seat.running;
   done : HasSweptAll (take l.line-index l.lines) l.self;
 }

@@ -1,4 +1,4 @@
-use Rattle.std.proofs.Common.{List, arith, rules, ap}
+use Rattle.std.proofs.Common.{arith, rules, ap}
 use Rattle.std.proofs.Output.{has_written_append, has_written_of_eq}
 use Rattle.std.proofs.lemmas.List.{take_all}
 use Rattle.scene_svg.specs.Escapes.{escape, escaped}

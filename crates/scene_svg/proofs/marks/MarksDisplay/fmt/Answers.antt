@@ -1,6 +1,5 @@
-use Rattle.std.proofs.Common.{◌≡◌, ℕ, sym, ap, ◌∙◌, arith}
+use Rattle.std.proofs.Common.{◌≡◌, sym, ap, ◌∙◌, arith}
 use Rattle.std.proofs.Output.{has_written_of_eq}
-use Rattle.scene_svg.specs.Geometry.{bottom_of}
 use Rattle.scene_svg.specs.Marks.{first_marks}
 use Rattle.scene_svg.proofs.Loops.{marks_are}
 use Rattle.scene_svg.proofs.marks.MarksDisplay.fmt.Goals as goal

@@ -1,5 +1,4 @@
 use Rattle.std.specs.Fmt.{HasWritten, IsPlainFormatter}
-use Rattle.scene_svg.specs.Geometry.{bottom_of}
 use Rattle.scene_svg.specs.Marks.{first_marks}
 use Rattle.scene_svg.proofs.marks.MarksDisplay.fmt.Given as goal
 

@@ -3,5 +3,5 @@ use Rattle.step_machine.proofs.machine.Machine.found_at.Goals as goal
 
 pub returns-clause-value : goal.returns-clause-value
 returns-clause-value c =
-    if_found c.found_along_hashes.ensures c.args.self.now c.limits.ensures.in_range c.steps.ensures.keys c.args.handle c.args.key c.looked_up.result c.looked_up.ensures.found
+    if_found c.looking_finds.ensures c.args.self.now c.limits.ensures.in_range c.steps.ensures.keys c.args.handle c.args.key c.looked_up.result c.looked_up.ensures.found
     c.looked_up.ensures.open

@@ -1,0 +1,147 @@
+-- Calls that change the map of a writable handle, seen in the finite map.
+use Rattle.std.specs.Prelude.{◌≡◌, ◌⊎◌, ℕ, Bool, true, false, cond, Option, Some, None, option_and_then, Result, Ok, Err, IfOk, IfErr}
+use Rattle.std.specs.Cmp.{nat_cmp_total, unsigned_tied}
+use Rattle.std.specs.FinMap as map
+use Rattle.std.specs.FinMap.{get-insert, same_map, nat_cmp-IsAntisymmetric}
+use Rattle.std.proofs.Common.{refl, sym, ap, subst, inl, inr, eqb, eqb-true, ◌∙◌}
+use Rattle.std.proofs.lemmas.Option.{same_Some}
+use Rattle.ctrie_base.specs.Hashes.{hash_of}
+use Rattle.history.specs.declared.calls.Access.{Access}
+use Rattle.history.specs.declared.calls.Access.TheVariants.{Writable, ReadOnly}
+use Rattle.history.specs.declared.calls.Call.{Call}
+use Rattle.history.specs.declared.replies.Reply.{Reply}
+use Rattle.history.specs.declared.replies.Reply.TheVariants.{Crowded, NoSlots}
+use Rattle.history.specs.Effects.{changing, effect, naming, with_access}
+use Rattle.history.specs.Worlds.{HandleMap, HandleState, KeyMap}
+use Rattle.step_machine.specs.Ending.{enough_slots}
+use Rattle.ctrie_map.specs.declared.errors.MapError.{MapError}
+use Rattle.ctrie_map.specs.declared.errors.MapError.TheVariants as error
+use Rattle.ctrie_map.specs.Changes.{Changes, IsReady, IsTight, Refused}
+use Rattle.ctrie_map.specs.Maps.{MapState, Becomes}
+use Rattle.ctrie_map.specs.Performing.{Answers, IsBegun, Performs, denial_in}
+use Rattle.ctrie_map.proofs.Denying.{stays_if_ready, told_of}
+
+-- ---- results
+
+-- one thing holds of what is told, and another one of an error
+abbrev pub ComesTo : {A : Type 0} → (A → Type 0) → (MapError → Type 0) → Result A MapError → Type 0
+ComesTo P Q (Ok told) = P told
+ComesTo P Q (Err why) = Q why
+
+if_ok : {A : Type 0} (P : A → Type 0) (Q : MapError → Type 0) (result : Result A MapError) → ComesTo P Q result → IfOk result P
+if_ok P Q (Ok told) p = p
+if_ok P Q (Err why) p = tt
+
+if_err : {A : Type 0} (P : A → Type 0) (Q : MapError → Type 0) (result : Result A MapError) → ComesTo P Q result → IfErr result Q
+if_err P Q (Ok told) p = tt
+if_err P Q (Err why) p = p
+
+-- the same, of what is told
+pub done_so : {A : Type 0} (P : A → Type 0) (Q : MapError → Type 0) (said told : Result A MapError) → told ≡ said → ComesTo P Q said → IfOk told P
+done_so P Q said told is p = if_ok P Q told (subst (ComesTo P Q) (sym is) p)
+
+pub refused_so : {A : Type 0} (P : A → Type 0) (Q : MapError → Type 0) (said told : Result A MapError) → told ≡ said → ComesTo P Q said → IfErr told Q
+refused_so P Q said told is p = if_err P Q told (subst (ComesTo P Q) (sym is) p)
+
+-- ---- what a change says
+
+-- the handle names this writable map
+abbrev pub Writes : HandleMap → ℕ → KeyMap → Type 0
+Writes world handle m = map.get world handle ≡ Some (record { access = Writable; pairs = m })
+
+abbrev writing : KeyMap → HandleState
+writing m = record { access = Writable; pairs = m }
+
+-- a handle that names it already names it
+pub naming_same : (world : HandleMap) (handle : ℕ) (m : KeyMap) → Writes world handle m → naming world handle Writable m ≡ world
+naming_same world handle m at =
+    same_map nat_cmp_total nat_cmp-IsAntisymmetric (naming world handle Writable m) world
+    (λ q. get-insert nat_cmp_total world handle (writing m) q ∙ ap (λ b. cond b (Some (writing m)) (map.get world q)) (unsigned_tied q handle) ∙ by_key q (eqb q handle) refl)
+  where
+    by_key : (q : ℕ) (b : Bool) → eqb q handle ≡ b → cond b (Some (writing m)) (map.get world q) ≡ map.get world q
+    by_key q true e = sym at ∙ ap (map.get world) (sym (eqb-true q handle e))
+    by_key q false e = refl
+
+module _ (world : HandleMap) (handle : ℕ) (change : KeyMap → Reply × KeyMap) (answer : Reply) (next : HandleMap) where
+  abbrev Says : Option HandleState → Type 0
+  Says shown = (m : KeyMap) × (shown ≡ Some (record { access = Writable; pairs = m })) × (answer ≡ (change m).0) × (next ≡ naming world handle Writable (change m).1)
+
+  abbrev result_of : Option KeyMap → Option (Reply × HandleMap)
+  result_of = option_and_then (λ m. Some ((change m).0, naming world handle Writable (change m).1))
+
+  by_access : (access : Access) (pairs : KeyMap) → result_of (with_access Writable access pairs) ≡ Some (answer, next) → Says (Some (record { access = access; pairs = pairs }))
+  by_access Writable pairs e =
+      let same = same_Some ((change pairs).0, naming world handle Writable (change pairs).1) (answer, next) e in (pairs, refl, ap (λ p. p.0) (sym same), ap (λ p. p.1) (sym same))
+  by_access ReadOnly pairs e = cc e
+
+  by_shown : (shown : Option HandleState) → result_of (option_and_then (λ s. with_access Writable s.access s.pairs) shown) ≡ Some (answer, next) → Says shown
+  by_shown None e = cc e
+  by_shown (Some shown) e = by_access shown.access shown.pairs e
+
+  -- a change that has an effect is one of a writable map
+  pub says : changing world handle change ≡ Some (answer, next) → Says (map.get world handle)
+  says e = by_shown (map.get world handle) e
+
+-- ---- what a call comes to
+
+module _ {A : Type 0} (said : Result Reply MapError → Result A MapError) (full : said (Ok NoSlots) ≡ Err error.Full) (crowded : said (Ok Crowded) ≡ Err error.Crowded)
+    (as_told : (why : MapError) → said (Err why) ≡ Err why) (before : MapState) (handle : ℕ) (c : Call) (change : KeyMap → Reply × KeyMap)
+    (is : (opens : Option ℕ) → effect (hash_of before.hash) before.handles c opens ≡ changing before.handles handle change) (Crowds : Type 0)
+    (Room : KeyMap → Type 0) (Told : A → KeyMap → Type 0) (to : KeyMap → KeyMap) where
+  -- it is crowded there, or the change is done
+  abbrev pub Outcome : KeyMap → Type 0
+  Outcome m = (Crowds × (change m ≡ (Crowded, m))) ⊎ (Room m × ((a : A) × (said (Ok (change m).0) ≡ Ok a) × Told a m × ((change m).1 ≡ to m)))
+
+  abbrev pub Comes : MapState → Result A MapError → Type 0
+  Comes after =
+      ComesTo (λ a. IsReady before after × Changes before handle (Told a) to after)
+      (Refused (denial_in before c) (enough_slots c) Crowds (Changes before handle Room to) before after)
+
+  module _ (outcome : (m : KeyMap) → Writes before.handles handle m → Outcome m) (after : MapState) where
+    -- the three ways of an answer
+    data Way (answer : Reply) : Type 0 where
+      wants : IsTight (enough_slots c) before → Becomes before before.handles after → said (Ok answer) ≡ Err error.Full → Way answer
+      crowds : Crowds → Becomes before before.handles after → said (Ok answer) ≡ Err error.Crowded → Way answer
+      does : (m : KeyMap) (a : A) → Writes before.handles handle m → Room m → Told a m → Becomes before (naming before.handles handle Writable (to m)) after →
+          said (Ok answer) ≡ Ok a → Way answer
+
+    by_outcome : (answer : Reply) (m : KeyMap) → Writes before.handles handle m → answer ≡ (change m).0 →
+        Becomes before (naming before.handles handle Writable (change m).1) after → Outcome m → Way answer
+    by_outcome answer m at e becomes (inl (crowd, same)) =
+        let stays : Becomes before before.handles after =
+        subst (λ w. Becomes before w after) (ap (λ (p : Reply × KeyMap). naming before.handles handle Writable p.1) same ∙ naming_same before.handles handle m at) becomes in
+        crowds crowd stays (ap (λ a. said (Ok a)) (e ∙ ap (λ (p : Reply × KeyMap). p.0) same) ∙ crowded)
+    by_outcome answer m at e becomes (inr (room, (a, told, so, there))) =
+        does m a at room so (subst (λ n. Becomes before (naming before.handles handle Writable n) after) there becomes) (ap (λ r. said (Ok r)) e ∙ told)
+
+    by_effect : (answer : Reply) (opens : Option ℕ) (next : HandleMap) → effect (hash_of before.hash) before.handles c opens ≡ Some (answer, next) →
+        Becomes before next after → Way answer
+    by_effect answer opens next effect_is becomes =
+        let (m, at, e, there) = says before.handles handle change answer next (sym (is opens) ∙ effect_is) in
+        by_outcome answer m at e (subst (λ w. Becomes before w after) there becomes) (outcome m at)
+
+    way : (answer : Reply) → Answers before c answer after → Way answer
+    way NoSlots p = wants p.0 p.1 full
+    way answer p = by_effect answer p.0 p.1 p.2 p.3
+
+    by_way : (answer : Reply) → IsBegun before c → after.is_finished ≡ true → Way answer → Comes after (said (Ok answer))
+    by_way answer begun ready (wants tight stays e) = subst (Comes after) (sym e) (begun.0, begun.1, tight, stays_if_ready before after stays ready)
+    by_way answer begun ready (crowds crowd stays e) = subst (Comes after) (sym e) (begun.0, begun.1, crowd, stays_if_ready before after stays ready)
+    by_way answer begun ready (does m a at room so becomes e) = subst (Comes after) (sym e) ((begun.1, ready), (m, at, so, becomes))
+
+    untold : (answer : Reply) → Way answer → Changes before handle Room to after ⊎ ((Crowds ⊎ IsTight (enough_slots c) before) × Becomes before before.handles after)
+    untold answer (wants tight stays e) = inr (inr tight, stays)
+    untold answer (crowds crowd stays e) = inr (inl crowd, stays)
+    untold answer (does m a at room so becomes e) = inl (m, at, room, becomes)
+
+    by_error : (why : MapError) → Performs (Err why) before c after → Comes after (Err why)
+    by_error error.Memory p = p
+    by_error error.WornOut p = p
+    by_error error.Unfinished p = (p.0.0, p.0.1, p.1, untold p.2.0 (way p.2.0 p.2.1))
+    by_error error.Full p = absurd (told_of before c error.Full p.0)
+    by_error error.Crowded p = absurd (told_of before c error.Crowded p.0)
+    by_error why p = p
+
+    pub comes : (result : Result Reply MapError) → Performs result before c after → Comes after (said result)
+    comes (Ok answer) p = by_way answer p.0 p.2 (way answer p.1)
+    comes (Err why) p = subst (Comes after) (sym (as_told why)) (by_error why p)

@@ -1,0 +1,196 @@
+-- What denies a call in the machine is what denies it in the map.
+use Rattle.std.specs.Prelude.{◌≡◌, ◌⊎◌, ℕ, Bool, true, false, not, ◌&&◌, is_some, nat_le, if◌then◌else◌, List, [], ◌∷◌, Option, Some, None, option_map, Err}
+use Rattle.std.specs.FinMap as map
+use Rattle.std.specs.List.{list_any}
+use Rattle.std.proofs.Common.{refl, sym, ap, subst, arith, inl, inr, ◌∙◌}
+use Rattle.std.proofs.lemmas.Bool.{false≢true}
+use Rattle.std.proofs.lemmas.Option.{same_Some}
+use Rattle.ctrie_base.specs.declared.refusals.Refusal.{Refusal}
+use Rattle.ctrie_base.specs.declared.refusals.Refusal.TheVariants as refuse
+use Rattle.history.specs.declared.calls.Access.{Access}
+use Rattle.history.specs.declared.calls.Access.TheVariants.{Writable, ReadOnly}
+use Rattle.history.specs.declared.calls.Call.{Call}
+use Rattle.history.specs.declared.calls.Call.TheVariants as call
+use Rattle.history.specs.Worlds.{HandleState}
+use Rattle.machine_model.specs.declared.operations.Operation.{Operation}
+use Rattle.machine_model.specs.declared.roots.Root.{Root}
+use Rattle.machine_model.specs.declared.steps.Limits.{Limits}
+use Rattle.machine_model.specs.Calls.{handle_of, needs_writable, needs_read_only, opens_handle, is_close}
+use Rattle.machine_model.specs.Machine.{access_of, begin_denial, first_reason, handles_taken, is_access, is_actor, is_busy, is_running, is_spent, names, runs_on}
+use Rattle.machine_model.specs.States.{State, handle_limit, operation_of, root_at}
+use Rattle.machine_model.proofs.Along.{limits_along}
+use Rattle.map_worlds.specs.Worlds.{named_at, world_of}
+use Rattle.map_worlds.proofs.Counted.{handles_at_rest}
+use Rattle.map_worlds.proofs.Shown.{shows_roots}
+use Rattle.step_machine.specs.Machines.{Taken, state_of}
+use Rattle.step_machine.proofs.Resting.{only_at_rest}
+use Rattle.ctrie_map.specs.declared.errors.MapError.{MapError}
+use Rattle.ctrie_map.specs.declared.errors.MapError.TheVariants as error
+use Rattle.ctrie_map.specs.Changes.{denial_by, is_frozen}
+use Rattle.ctrie_map.specs.Machines.{state_by, the_actor}
+use Rattle.ctrie_map.specs.Maps.{MapState, Becomes, Stays}
+use Rattle.ctrie_map.specs.Performing.{IsChange, Performs, denial_in, of_refusal}
+use Rattle.ctrie_map.proofs.Finishing.{finished_at_rest}
+use Rattle.ctrie_map.proofs.Sweeping.{worn_when_spent}
+
+-- ---- the machine's reasons, at rest
+
+abbrev reasons : Bool → Bool → Option Access → Bool → Bool → Bool → Bool → Bool → Bool → Option Refusal
+reasons actor runs access writes reads blocked opens full spent = first_reason (
+    (not actor, refuse.NoActor) ∷ (runs, refuse.ActorBusy) ∷ (not (is_some access), refuse.NoHandle) ∷ (writes && is_access ReadOnly access, refuse.ReadOnly)
+    ∷ (reads && is_access Writable access, refuse.NotReadOnly) ∷ (blocked, refuse.Busy) ∷ (opens && full, refuse.HandlesFull) ∷ (spent, refuse.Spent) ∷ [])
+
+-- the map's reason is the machine's, but that the machine knows when all steps were taken
+abbrev pub Due : Option MapError → Bool → Option Refusal → Type 0
+Due (Some told) spent (Some refusal) = of_refusal refusal ≡ told
+Due (Some told) spent None = ⊥
+Due None spent (Some refusal) = (refusal ≡ refuse.Spent) × (spent ≡ true)
+Due None spent None = Unit {0}
+
+due_open : (access : Access) (writes opens full spent : Bool) (shown : HandleState) → shown.access ≡ access → (taken : ℕ) → nat_le handle_limit taken ≡ full →
+    Due (denial_by writes opens (Some shown) taken) spent (reasons true false (Some access) writes false false opens full spent)
+due_open ReadOnly true opens full spent shown is taken e = rw is refl
+due_open ReadOnly false true true spent shown is taken e = rw e refl
+due_open ReadOnly false true false true shown is taken e = rw e (refl, refl)
+due_open ReadOnly false true false false shown is taken e = rw e tt
+due_open ReadOnly false false full true shown is taken e = (refl, refl)
+due_open ReadOnly false false full false shown is taken e = tt
+due_open Writable true true true spent shown is taken e = rw is (rw e refl)
+due_open Writable true true false true shown is taken e = rw is (rw e (refl, refl))
+due_open Writable true true false false shown is taken e = rw is (rw e tt)
+due_open Writable true false full true shown is taken e = rw is (refl, refl)
+due_open Writable true false full false shown is taken e = rw is tt
+due_open Writable false true true spent shown is taken e = rw e refl
+due_open Writable false true false true shown is taken e = rw e (refl, refl)
+due_open Writable false true false false shown is taken e = rw e tt
+due_open Writable false false full true shown is taken e = (refl, refl)
+due_open Writable false false full false shown is taken e = tt
+
+due_by : (state : State) (handle : ℕ) (o : Option Root) (writes opens spent : Bool) (taken : ℕ) →
+    Due (denial_by writes opens (option_map (named_at state handle) o) taken) spent (reasons true false (access_of o) writes false false opens (nat_le handle_limit taken) spent)
+due_by state handle None writes opens spent taken = refl
+due_by state handle (Some root) writes opens spent taken =
+    due_open root.access writes opens (nat_le handle_limit taken) spent (named_at state handle root) refl taken refl
+
+-- ---- what is false at rest
+
+none_named : (handle : ℕ) (actors : List (Option Operation)) → list_any is_some actors ≡ false → list_any (names handle) actors ≡ false
+none_named handle [] e = refl
+none_named handle (None ∷ more) e = none_named handle more e
+none_named handle (Some operation ∷ more) e = absurd (false≢true (sym e))
+
+and_false : (a b : Bool) → b ≡ false → (a && b) ≡ false
+and_false true b e = e
+and_false false b e = refl
+
+not_reading : (c : Call) → IsChange c → needs_read_only c ≡ false
+not_reading (call.Entries h) change = absurd change
+not_reading (call.Count h) change = absurd change
+not_reading c change = refl
+
+module _ (machine : Taken) (rest : is_busy (state_of machine) ≡ false) where
+  idle_by : (found : Option Operation) → operation_of (state_of machine) the_actor ≡ found → is_some found ≡ false
+  idle_by None e = refl
+  idle_by (Some operation) e = let same : the_actor ≡ 0 = only_at_rest (state_of machine) rest 0 the_actor operation e in absurd (omega (arith, same))
+
+  runs_nothing : is_running (state_of machine) the_actor ≡ false
+  runs_nothing = idle_by (operation_of (state_of machine) the_actor) refl
+
+  module _ (one : machine.limits.actors ≡ 1) (c : Call) (change : IsChange c) where
+    is_the_actor : is_actor (state_of machine) the_actor ≡ true
+    is_the_actor =
+        let actors : (state_of machine).limits.actors ≡ 1 = ap (λ (l : Limits). l.actors) (limits_along machine.limits machine.steps) ∙ one in
+        ap (λ n. nat_le the_actor n) actors
+
+    denial_so : begin_denial (state_of machine) the_actor c ≡ reasons true false (access_of (root_at (state_of machine) (handle_of c))) (needs_writable c) false false (opens_handle c)
+        (nat_le handle_limit (map.len (world_of (state_of machine)))) (is_spent (state_of machine))
+    denial_so =
+        let access = access_of (root_at (state_of machine) (handle_of c)) in
+        let writes = needs_writable c in
+        let opens = opens_handle c in
+        let spent = is_spent (state_of machine) in
+        let running = is_running (state_of machine) the_actor in
+        let reads = needs_read_only c in
+        let blocked = is_close c && runs_on (state_of machine) (handle_of c) in
+        let full = nat_le handle_limit (handles_taken (state_of machine)) in
+        ap (λ a. reasons a running access writes reads blocked opens full spent) is_the_actor ∙ ap (λ a. reasons true a access writes reads blocked opens full spent) runs_nothing
+        ∙ ap (λ a. reasons true false access writes a blocked opens full spent) (not_reading c change)
+        ∙ ap (λ a. reasons true false access writes false a opens full spent) (and_false (is_close c) _ (none_named (handle_of c) (state_of machine).actors rest))
+        ∙ ap (λ n. reasons true false access writes false false opens (nat_le handle_limit n) spent) (handles_at_rest machine.limits machine.steps rest)
+
+    seen : (state_by machine).handles ≡ world_of (state_of machine)
+    seen = ap (λ m. world_of (state_of m)) (finished_at_rest machine rest)
+
+    -- so it is due in the map
+    pub due : Due (denial_in (state_by machine) c) (is_spent (state_of machine)) (begin_denial (state_of machine) the_actor c)
+    due =
+        let world = world_of (state_of machine) in
+        let spent = is_spent (state_of machine) in
+        let at : denial_in (state_by machine) c
+        ≡ denial_by (needs_writable c) (opens_handle c) (option_map (named_at (state_of machine) (handle_of c)) (root_at (state_of machine) (handle_of c))) (map.len world) =
+        ap (λ w. denial_by (needs_writable c) (opens_handle c) (map.get w (handle_of c)) (map.len w)) seen
+        ∙ ap (λ s. denial_by (needs_writable c) (opens_handle c) s (map.len world)) (shows_roots (state_of machine) (handle_of c)) in
+        let by_root = denial_by (needs_writable c) (opens_handle c) (option_map (named_at (state_of machine) (handle_of c)) (root_at (state_of machine) (handle_of c))) (map.len world) in
+        subst (λ d. Due d spent (begin_denial (state_of machine) the_actor c)) (sym at) (subst (Due by_root spent) (sym denial_so)
+        (due_by (state_of machine) (handle_of c) (root_at (state_of machine) (handle_of c)) (needs_writable c) (opens_handle c) spent (map.len world)))
+
+-- ---- what is told
+
+-- only these are told
+denied_with : (writes opens : Bool) (o : Option HandleState) (taken : ℕ) (told : MapError) → denial_by writes opens o taken ≡ Some told →
+    (told ≡ error.NoHandle) ⊎ ((told ≡ error.ReadOnly) ⊎ (told ≡ error.HandlesFull))
+denied_with writes opens None taken told e = inl (same_Some told error.NoHandle (sym e))
+denied_with writes opens (Some shown) taken told e = by_tests (writes && is_frozen shown.access) (opens && nat_le handle_limit taken) e
+  where
+    by_tests : (a b : Bool) → (if a then Some error.ReadOnly else (if b then Some error.HandlesFull else None)) ≡ Some told →
+        (told ≡ error.NoHandle) ⊎ ((told ≡ error.ReadOnly) ⊎ (told ≡ error.HandlesFull))
+    by_tests true b e = inr (inl (same_Some told error.ReadOnly (sym e)))
+    by_tests false true e = inr (inr (same_Some told error.HandlesFull (sym e)))
+    by_tests false false e = cc e
+
+-- so of these only
+abbrev pub IsDenial : MapError → Type 0
+IsDenial error.NoHandle = Unit {0}
+IsDenial error.ReadOnly = Unit {0}
+IsDenial error.HandlesFull = Unit {0}
+IsDenial told = ⊥
+
+pub told_of : (before : MapState) (c : Call) (told : MapError) → denial_in before c ≡ Some told → IsDenial told
+told_of before c told e = elim (denied_with (needs_writable c) (opens_handle c) (map.get before.handles (handle_of c)) (map.len before.handles) told e) [
+  | inl is ↦ subst IsDenial (sym is) tt
+  | inr (inl is) ↦ subst IsDenial (sym is) tt
+  | inr (inr is) ↦ subst IsDenial (sym is) tt
+]
+
+told_so : (told : MapError) (before : MapState) (c : Call) (after : MapState) → (told ≡ error.NoHandle) ⊎ ((told ≡ error.ReadOnly) ⊎ (told ≡ error.HandlesFull)) →
+    denial_in before c ≡ Some told → Stays before after → Performs (Err told) before c after
+told_so told before c after (inl is) e stays = rw is (subst (λ t. denial_in before c ≡ Some t) is e, stays)
+told_so told before c after (inr (inl is)) e stays = rw is (subst (λ t. denial_in before c ≡ Some t) is e, stays)
+told_so told before c after (inr (inr is)) e stays = rw is (subst (λ t. denial_in before c ≡ Some t) is e, stays)
+
+pub stays_put : (state : MapState) → Stays state state
+stays_put state = ((refl, refl, refl), λ r. r)
+
+pub stays_if_ready : (before after : MapState) → Becomes before before.handles after → after.is_finished ≡ true → Stays before after
+stays_if_ready before after becomes ready = (becomes, λ r. ready)
+
+module _ (machine : Taken) (rest : is_busy (state_of machine) ≡ false) (one : machine.limits.actors ≡ 1) (c : Call) (change : IsChange c) where
+  performs_by : (d : Option MapError) (why : Refusal) → denial_in (state_by machine) c ≡ d → Due d (is_spent (state_of machine)) (Some why) →
+      Performs (Err (of_refusal why)) (state_by machine) c (state_by machine)
+  performs_by (Some told) why e due_so =
+      subst (λ t. Performs (Err t) (state_by machine) c (state_by machine)) (sym due_so)
+      (told_so told (state_by machine) c (state_by machine)
+      (denied_with (needs_writable c) (opens_handle c) (map.get (state_by machine).handles (handle_of c)) (map.len (state_by machine).handles) told e) e (stays_put (state_by machine)))
+  performs_by None why e due_so = rw due_so.0 (e, worn_when_spent machine rest due_so.1, stays_put (state_by machine))
+
+  -- a call that is denied
+  pub denied : (why : Refusal) → begin_denial (state_of machine) the_actor c ≡ Some why → Performs (Err (of_refusal why)) (state_by machine) c (state_by machine)
+  denied why e = performs_by (denial_in (state_by machine) c) why refl (subst (Due (denial_in (state_by machine) c) (is_spent (state_of machine))) e (due machine rest one c change))
+
+  -- a call that isn't
+  pub not_denied : begin_denial (state_of machine) the_actor c ≡ None → denial_in (state_by machine) c ≡ None
+  not_denied e = none_by (denial_in (state_by machine) c) refl (subst (Due (denial_in (state_by machine) c) (is_spent (state_of machine))) e (due machine rest one c change))
+    where
+      none_by : (d : Option MapError) → denial_in (state_by machine) c ≡ d → Due d (is_spent (state_of machine)) None → denial_in (state_by machine) c ≡ None
+      none_by None is due_so = is
+      none_by (Some told) is due_so = absurd due_so

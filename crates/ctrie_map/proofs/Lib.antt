@@ -1,0 +1,14 @@
+pub mod Going
+pub mod Finishing
+pub mod Sweeping
+pub mod Denying
+pub mod Carrying
+pub mod Composing
+pub mod Changing
+pub mod Puts
+pub mod Replaces
+pub mod Removes
+pub mod Copies
+pub mod Closings
+pub mod Lookups
+pub mod Firsts

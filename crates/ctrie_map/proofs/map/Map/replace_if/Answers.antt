@@ -1,0 +1,15 @@
+use Rattle.std.proofs.Common.{subst}
+use Rattle.history.specs.declared.calls.Call.TheVariants.{ReplaceIf}
+use Rattle.ctrie_map.specs.Performing.{Performs}
+use Rattle.ctrie_map.proofs.Replaces.{replace_if_done, replace_if_refused}
+use Rattle.ctrie_map.proofs.map.Map.replace_if.Goals as goal
+
+pub returns-clause-done : goal.returns-clause-done
+returns-clause-done c =
+    replace_if_done c.args.self.now c.args.handle c.args.key c.args.old c.args.new c.perform.new.self c.perform.result c.truth.result c.truth.ensures
+    (subst (λ h. Performs c.perform.result c.args.self.now (ReplaceIf h c.args.key c.args.old c.args.new) c.perform.new.self) c.number.ensures c.perform.ensures)
+
+pub returns-clause-refused : goal.returns-clause-refused
+returns-clause-refused c =
+    replace_if_refused c.args.self.now c.args.handle c.args.key c.args.old c.args.new c.perform.new.self c.perform.result c.truth.result c.truth.ensures
+    (subst (λ h. Performs c.perform.result c.args.self.now (ReplaceIf h c.args.key c.args.old c.args.new) c.perform.new.self) c.number.ensures c.perform.ensures)

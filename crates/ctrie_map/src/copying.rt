@@ -1,0 +1,44 @@
+//! Calls that open and close handles.
+
+ghost use Rattle.std.specs.Prelude.{IfOk, IfErr};
+ghost use Rattle.history.specs.declared.calls.Access.TheVariants.{Writable, ReadOnly};
+ghost use Rattle.ctrie_map.specs.Changes.{Closes, Copies, IsReady, RefusesClose, RefusesCopy};
+
+use crate::errors::MapError;
+use crate::handle::Handle;
+use crate::map::Map;
+use crate::telling::{done, opened};
+use history::Call;
+
+impl Map {
+    /// Opens a writable copy. It is changed on its own, as is the map that was copied.
+    pub fn snapshot(&mut self, handle: Handle) -> Result<Handle, MapError>
+        ensures done { IfOk result (λ copy. IsReady self.old self.new × Copies self.old handle Writable copy self.new) }
+        ensures refused { IfErr result (RefusesCopy self.old handle Writable self.new) }
+    {
+        opened(self.perform(Call::Snapshot {
+            handle: handle.number(),
+        }))
+    }
+
+    /// Opens a read-only copy.
+    pub fn freeze(&mut self, handle: Handle) -> Result<Handle, MapError>
+        ensures done { IfOk result (λ copy. IsReady self.old self.new × Copies self.old handle ReadOnly copy self.new) }
+        ensures refused { IfErr result (RefusesCopy self.old handle ReadOnly self.new) }
+    {
+        opened(self.perform(Call::Freeze {
+            handle: handle.number(),
+        }))
+    }
+
+    /// Takes the handle away, and its map. What only this map had is free again then. It wants no slot, so it is never
+    /// `Full`.
+    pub fn close(&mut self, handle: Handle) -> Result<(), MapError>
+        ensures done { IfOk result (λ _. IsReady self.old self.new × Closes self.old handle self.new) }
+        ensures refused { IfErr result (RefusesClose self.old handle self.new) }
+    {
+        done(self.perform(Call::Close {
+            handle: handle.number(),
+        }))
+    }
+}

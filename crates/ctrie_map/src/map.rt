@@ -1,0 +1,64 @@
+//! The map, and the one way by which its calls reach the machine below it.
+
+ghost use Rattle.std.specs.Prelude.{◌≡◌, IfOk, IfErr, OnOk};
+ghost use Rattle.ctrie_map.specs.Maps.{AreSlots, IsNew, RefusesSizes};
+ghost use Rattle.ctrie_map.specs.Performing.{IsChange, Performs};
+
+use crate::errors::MapError;
+use crate::performing::{ACTOR, perform};
+use ctrie_base::HashKind;
+use history::{Call, Reply};
+use std::alloc::Global;
+use std::marker::Model;
+use step_machine::{Limits, Machine};
+
+/// Maps from 64-bit numbers to 64-bit numbers, named by handles. At first handle 0 is open, writable and empty. A
+/// snapshot or a freeze of a handle's map takes the same time whatever it has.
+#[derive(Drop)]
+pub struct Map {
+    pub(crate) machine: Machine,
+}
+
+impl Model for Map {
+    ghost use Rattle.ctrie_map.specs.Maps.{MapState};
+    ghost use Rattle.ctrie_map.specs.Codes.{map_state_code};
+
+    ghost Value = { MapState };
+
+    ghost coded = { map_state_code };
+
+    ghost use Rattle.ctrie_map.specs.Machines.{IsForOne, state_by};
+
+    ghost view = { λ m. state_by m.machine };
+
+    ghost invariant = { λ m. IsForOne m.machine };
+}
+
+impl Map {
+    /// A map with so many slots for nodes, from 2 to 65,536, whose keys are hashed so. Handle 0 is open, writable and
+    /// empty.
+    #[tactic(auto, using(crate::proofs::Firsts::is_new, crate::proofs::Firsts::for_one, crate::proofs::Firsts::refuses))]
+    pub fn new(alloc: Global, slots: u32, hash: HashKind) -> Result<Map, MapError>
+        ensures made { IfOk result (IsNew slots hash) }
+        ensures in_range { OnOk result (AreSlots slots) }
+        ensures refused { IfErr result (RefusesSizes slots) }
+    {
+        let machine = Machine::new(
+            alloc,
+            Limits {
+                slots,
+                actors: ACTOR,
+                hash,
+            },
+        )?;
+        Ok(Map { machine })
+    }
+
+    /// A call from its begin to its end.
+    pub(crate) fn perform(&mut self, call: Call) -> Result<Reply, MapError>
+        requires { IsChange call }
+        ensures { Performs result self.old call self.new }
+    {
+        perform(&mut self.machine, call)
+    }
+}

@@ -1,0 +1,44 @@
+//! Calls that give a key a value which may have none.
+
+ghost use Rattle.std.specs.Prelude.{◌≡◌, IfOk, IfErr};
+ghost use Rattle.std.specs.FinMap as map;
+ghost use Rattle.ctrie_map.specs.Changes.{Changes, HasRoom, IsCrowdedAt, IsReady, RefusesChange, set_if_absent};
+
+use crate::errors::MapError;
+use crate::handle::Handle;
+use crate::map::Map;
+use crate::telling::found;
+use history::Call;
+
+impl Map {
+    /// Sets the key's value. The value before, if it had one.
+    pub fn put(&mut self, handle: Handle, key: u64, value: u64) -> Result<Option<u64>, MapError>
+        ensures done { IfOk result (λ before. IsReady self.old self.new
+            × Changes self.old handle (λ m. (before ≡ map.get m key) × HasRoom self.old key m) (λ m. map.insert m key value) self.new) }
+        ensures refused { IfErr result (RefusesChange self.old handle (IsCrowdedAt self.old handle key) (HasRoom self.old key) (λ m. map.insert m key value) self.new) }
+    {
+        found(self.perform(Call::Put {
+            handle: handle.number(),
+            key,
+            value,
+        }))
+    }
+
+    /// Sets the value of a key that has none. The value that it has already, if it has one.
+    pub fn put_if_absent(
+        &mut self,
+        handle: Handle,
+        key: u64,
+        value: u64,
+    ) -> Result<Option<u64>, MapError>
+        ensures done { IfOk result (λ before. IsReady self.old self.new
+            × Changes self.old handle (λ m. (before ≡ map.get m key) × HasRoom self.old key m) (set_if_absent key value) self.new) }
+        ensures refused { IfErr result (RefusesChange self.old handle (IsCrowdedAt self.old handle key) (HasRoom self.old key) (set_if_absent key value) self.new) }
+    {
+        found(self.perform(Call::PutIfAbsent {
+            handle: handle.number(),
+            key,
+            value,
+        }))
+    }
+}

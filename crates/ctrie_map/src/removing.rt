@@ -1,0 +1,47 @@
+//! Calls that remove keys.
+
+ghost use Rattle.std.specs.Prelude.{◌≡◌, IfOk, IfErr};
+ghost use Rattle.std.specs.FinMap as map;
+ghost use Rattle.history.specs.Effects.{has_value};
+ghost use Rattle.ctrie_map.specs.Changes.{Changes, IsAny, IsReady, RefusesChange, RefusesClear, removed_if_it_has};
+
+use crate::errors::MapError;
+use crate::handle::Handle;
+use crate::map::Map;
+use crate::telling::{done, found, truth};
+use history::Call;
+
+impl Map {
+    /// Removes the key. The value before, if it had one.
+    pub fn remove(&mut self, handle: Handle, key: u64) -> Result<Option<u64>, MapError>
+        ensures done { IfOk result (λ before. IsReady self.old self.new × Changes self.old handle (λ m. before ≡ map.get m key) (λ m. map.remove m key) self.new) }
+        ensures refused { IfErr result (RefusesChange self.old handle ⊥ IsAny (λ m. map.remove m key) self.new) }
+    {
+        found(self.perform(Call::Remove {
+            handle: handle.number(),
+            key,
+        }))
+    }
+
+    /// Removes a key that has this value. Whether it had it.
+    pub fn remove_if(&mut self, handle: Handle, key: u64, value: u64) -> Result<bool, MapError>
+        ensures done { IfOk result (λ done. IsReady self.old self.new × Changes self.old handle (λ m. done ≡ has_value m key value) (removed_if_it_has key value) self.new) }
+        ensures refused { IfErr result (RefusesChange self.old handle ⊥ IsAny (removed_if_it_has key value) self.new) }
+    {
+        truth(self.perform(Call::RemoveIf {
+            handle: handle.number(),
+            key,
+            value,
+        }))
+    }
+
+    /// Removes all keys.
+    pub fn clear(&mut self, handle: Handle) -> Result<(), MapError>
+        ensures done { IfOk result (λ _. IsReady self.old self.new × Changes self.old handle IsAny (λ m. map.empty) self.new) }
+        ensures refused { IfErr result (RefusesClear self.old handle self.new) }
+    {
+        done(self.perform(Call::Clear {
+            handle: handle.number(),
+        }))
+    }
+}

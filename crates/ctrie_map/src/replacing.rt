@@ -1,0 +1,45 @@
+//! Calls that change the value of a key which has one.
+
+ghost use Rattle.std.specs.Prelude.{◌≡◌, IfOk, IfErr};
+ghost use Rattle.std.specs.FinMap as map;
+ghost use Rattle.history.specs.Effects.{has_value};
+ghost use Rattle.ctrie_map.specs.Changes.{Changes, IsAny, IsReady, RefusesChange, set_if_it_has, set_if_there};
+
+use crate::errors::MapError;
+use crate::handle::Handle;
+use crate::map::Map;
+use crate::telling::{found, truth};
+use history::Call;
+
+impl Map {
+    /// Sets the value of a key that has one. The value before, if it had one.
+    pub fn replace(&mut self, handle: Handle, key: u64, value: u64) -> Result<Option<u64>, MapError>
+        ensures done { IfOk result (λ before. IsReady self.old self.new × Changes self.old handle (λ m. before ≡ map.get m key) (set_if_there key value) self.new) }
+        ensures refused { IfErr result (RefusesChange self.old handle ⊥ IsAny (set_if_there key value) self.new) }
+    {
+        found(self.perform(Call::Replace {
+            handle: handle.number(),
+            key,
+            value,
+        }))
+    }
+
+    /// Sets the value of a key that has the value `old`. Whether it had it.
+    pub fn replace_if(
+        &mut self,
+        handle: Handle,
+        key: u64,
+        old: u64,
+        new: u64,
+    ) -> Result<bool, MapError>
+        ensures done { IfOk result (λ done. IsReady self.old self.new × Changes self.old handle (λ m. done ≡ has_value m key old) (set_if_it_has key old new) self.new) }
+        ensures refused { IfErr result (RefusesChange self.old handle ⊥ IsAny (set_if_it_has key old new) self.new) }
+    {
+        truth(self.perform(Call::ReplaceIf {
+            handle: handle.number(),
+            key,
+            old,
+            new,
+        }))
+    }
+}

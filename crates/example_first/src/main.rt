@@ -1,0 +1,16 @@
+//! The plain map in ten lines.
+#![tactic(auto)]
+
+use ctrie_map::{Handle, HashKind, Map, MapError};
+
+fn main(rt: HostRuntime) -> Result<(), MapError> {
+    let stock = Handle::first();
+    let mut map = Map::new(rt.alloc(), 1_024, HashKind::Fold)?;
+    map.put(stock, 7, 250)?;
+    let morning = map.freeze(stock)?;
+    map.put(stock, 7, 300)?;
+    map.remove(stock, 8)?;
+    let (then, now) = (map.get(morning, 7)?, map.get(stock, 7)?);
+    let _ = println!(rt; "{then:?} in the morning, {now:?} now");
+    Ok(())
+}

@@ -1,0 +1,85 @@
+//! Each refusal once, but for want of memory.
+
+use crate::map_of_two;
+use ctrie_map::{Handle, HashKind, Map, MapError};
+use std::test::Fail;
+
+#[test]
+fn refuses_a_closed_handle(rt: HostRuntime) -> Result<(), Fail> {
+    let other = Handle::new(7);
+    let mut map = map_of_two(rt.alloc())?;
+    assert_eq!(rt; map.put(other, 1, 1).err(), Some(MapError::NoHandle));
+    assert_eq!(rt; map.close(other).err(), Some(MapError::NoHandle));
+    assert_eq!(rt; map.get(other, 1).err(), Some(MapError::NoHandle));
+    assert_eq!(rt; map.count(other).err(), Some(MapError::NoHandle));
+    Ok(())
+}
+
+#[test]
+fn refuses_a_frozen_handle(rt: HostRuntime) -> Result<(), Fail> {
+    let mut map = map_of_two(rt.alloc())?;
+    let frozen = map.freeze(Handle::first())?;
+    assert_eq!(rt; map.put(frozen, 1, 1).err(), Some(MapError::ReadOnly));
+    assert_eq!(rt; map.clear(frozen).err(), Some(MapError::ReadOnly));
+    assert_eq!(rt; map.snapshot(frozen).err(), Some(MapError::ReadOnly));
+    Ok(())
+}
+
+/// A 33rd key of one hash.
+#[test]
+fn refuses_a_crowd(rt: HostRuntime) -> Result<(), Fail> {
+    let all = Handle::first();
+    let mut map = Map::new(rt.alloc(), 128, HashKind::Block)?;
+    for key in 0..32 {
+        map.put(all, key, key)?;
+    }
+    assert_eq!(rt; map.put(all, 32, 32).err(), Some(MapError::Crowded));
+    assert_eq!(rt;
+        map.put_if_absent(all, 33, 33).err(),
+        Some(MapError::Crowded)
+    );
+    assert_eq!(rt; map.put(all, 31, 1)?, Some(31));
+    assert_eq!(rt; map.put(all, 64, 64)?, None);
+    Ok(())
+}
+
+#[test]
+fn refuses_sizes(rt: HostRuntime) -> Result<(), Fail> {
+    assert_eq!(rt;
+        Map::new(rt.alloc(), 1, HashKind::Low).err(),
+        Some(MapError::BadSizes)
+    );
+    assert_eq!(rt;
+        Map::new(rt.alloc(), 65_537, HashKind::Low).err(),
+        Some(MapError::BadSizes)
+    );
+    Ok(())
+}
+
+/// Slots that are all reached: of eight, an empty map uses two, and each key one. A put makes two nodes before the old
+/// branch can be freed.
+#[test]
+fn refuses_without_slots(rt: HostRuntime) -> Result<(), Fail> {
+    let all = Handle::first();
+    let mut map = Map::new(rt.alloc(), 8, HashKind::Low)?;
+    for key in 0..5 {
+        map.put(all, key, key)?;
+    }
+    assert_eq!(rt; map.put(all, 5, 5).err(), Some(MapError::Full));
+    assert_eq!(rt; map.get(all, 4)?, Some(4));
+    assert!(rt; !map.has_room()?);
+    Ok(())
+}
+
+/// A 257th handle.
+#[test]
+fn refuses_handles_without_end(rt: HostRuntime) -> Result<(), Fail> {
+    let all = Handle::first();
+    let mut map = Map::new(rt.alloc(), 1_024, HashKind::Low)?;
+    for _ in 0..255 {
+        map.freeze(all)?;
+    }
+    assert_eq!(rt; map.freeze(all).err(), Some(MapError::HandlesFull));
+    assert_eq!(rt; map.handles()?, 256);
+    Ok(())
+}
