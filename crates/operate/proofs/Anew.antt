@@ -29,5 +29,6 @@ pub stays : (place : ReadAt) → CommitsNoMore place place
 stays place k h = h
 
 -- where no READ was taken by a step, the code's READ may begin anew behind it
-pub anew : (heap : Heap) (access : Access) (reads : Option Read) (k : Kind) (place place' : ReadAt) → reads ≡ None → CommitsNoMore place place' → ReadsAlong heap access reads k place → ReadsAlong heap access reads k place'
+pub anew : (heap : Heap) (access : Access) (reads : Option Read) (k : Kind) (place place' : ReadAt) → reads ≡ None →
+    CommitsNoMore place place' → ReadsAlong heap access reads k place → ReadsAlong heap access reads k place'
 anew heap access reads k place place' none more along = rw none (more k (rw none at along))

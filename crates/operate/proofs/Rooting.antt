@@ -47,7 +47,8 @@ below (Remove k) handle r = refl
 below (RemoveIf k v) handle r = refl
 
 -- the root word of the operation is that of the handle
-word_same : (state : State) (operation : Operation) (call : KeyCall) (word : RootWord) → word_at state (handle_of operation.call) ≡ word → word_at state (handle_of (call_of (handle_of operation.call) call)) ≡ word
+word_same : (state : State) (operation : Operation) (call : KeyCall) (word : RootWord) → word_at state (handle_of operation.call) ≡ word →
+    word_at state (handle_of (call_of (handle_of operation.call) call)) ≡ word
 word_same state operation call word e = ap (word_at state) (handle_same call (handle_of operation.call)) ∙ e
 
 -- what ROOT comes to, in the state of the operation
@@ -58,7 +59,8 @@ came state operation heap task access word r before next e same told =
     ap (λ w. root_after heap access w before) (word_same state operation task.call word e) ∙ ap (λ a. root_after heap a word before) (sym same) ∙ told
 
 -- where ROOT has read the root, no READ was taken
-pub unread : (heap : Heap) (access : Access) (before : RootLine) (k : Kind) (place : ReadAt) → before ≡ root.Read → kind_of (root_action before) ≡ k → ReadsAlong heap access (rooting_read before) k place
+pub unread : (heap : Heap) (access : Access) (before : RootLine) (k : Kind) (place : ReadAt) → before ≡ root.Read → kind_of (root_action before) ≡ k →
+    ReadsAlong heap access (rooting_read before) k place
 unread heap access before k place e kinds =
     let looks : kind.ReadRoot ≡ k = rw e at kinds in
     rw (e, ← looks) refl

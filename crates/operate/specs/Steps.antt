@@ -1,7 +1,6 @@
 -- What a step of a call on one key comes to, does and asks.
 use Rattle.std.specs.Prelude.{◌≡◌, ℕ, List, Option, None}
 use Rattle.ctrie_base.specs.declared.kinds.Kind.{Kind}
-use Rattle.history.specs.declared.calls.Access.{Access}
 use Rattle.slot_arena.specs.declared.refs.Ref.{Ref}
 use Rattle.slot_arena.specs.Heaps.{Heap}
 use Rattle.epochs.specs.Memories.{Memory}
@@ -43,27 +42,32 @@ use Rattle.operate.specs.Places.{key_line}
 abbrev pub line_behind : KeyReply → Line
 line_behind answer = line.End (reply_of answer)
 
+-- the operation, whatever else it has, of this call
+abbrev pub operation_for : KeyOp → Operation → Operation
+operation_for op operation = for_task op.task op.work.swap.read.access operation
+
 -- ---- what a step comes to, whatever else stands in the state and in the operation
 
-abbrev pub KeySteps : Heap → Task → Access → Line → KeyOp → Next KeyReply → Type 0
-KeySteps heap task access before after next =
-    (state : State) → (operation : Operation) → StepsOn (at_heap state heap task.hashes) (for_task task access operation) before (key_line after None) after.work.swap.read.at line_behind next
+abbrev pub KeySteps : Heap → KeyOp → Line → KeyOp → Next KeyReply → Type 0
+KeySteps heap op before after next =
+    (state : State) → (operation : Operation) →
+    StepsOn (at_heap state heap op.task.hashes) (operation_for op operation) before (key_line after None) after.work.swap.read.at line_behind next
 
 -- the same for a step that may look at the root word
-abbrev pub RootSteps : Heap → RootWord → Task → Access → Line → KeyOp → Next KeyReply → Type 0
-RootSteps heap word task access before after next =
+abbrev pub RootSteps : Heap → RootWord → KeyOp → Line → KeyOp → Next KeyReply → Type 0
+RootSteps heap word op before after next =
     (state : State) → (operation : Operation) → word_at state (handle_of operation.call) ≡ word →
-    StepsOn (at_heap state heap task.hashes) (for_task task access operation) before (key_line after None) after.work.swap.read.at line_behind next
+    StepsOn (at_heap state heap op.task.hashes) (operation_for op operation) before (key_line after None) after.work.swap.read.at line_behind next
 
 -- the generation of the root that ROOT gave last, before a step from this line and behind it
-abbrev pub KeepsGeneration : Heap → RootWord → Task → Access → Line → Task → Next KeyReply → Type 0
-KeepsGeneration heap word task access before after (More k) =
+abbrev pub KeepsGeneration : Heap → RootWord → KeyOp → Line → Task → Next KeyReply → Type 0
+KeepsGeneration heap word op before after (More k) =
     (state : State) → (operation : Operation) → word_at state (handle_of operation.call) ≡ word →
-    after.generation ≡ generation_from (at_heap state heap task.hashes) (for_task task access operation) before
-KeepsGeneration heap word task access before after AskRoot = after.generation ≡ task.generation
-KeepsGeneration heap word task access before after (Done k answer) =
+    after.generation ≡ generation_from (at_heap state heap op.task.hashes) (operation_for op operation) before
+KeepsGeneration heap word op before after AskRoot = after.generation ≡ op.task.generation
+KeepsGeneration heap word op before after (Done k answer) =
     (state : State) → (operation : Operation) → word_at state (handle_of operation.call) ≡ word →
-    after.generation ≡ generation_from (at_heap state heap task.hashes) (for_task task access operation) before
+    after.generation ≡ generation_from (at_heap state heap op.task.hashes) (operation_for op operation) before
 
 -- a READ that stands there has committed nothing by a step, if one that stands here hasn't
 abbrev pub CommitsNoMore : ReadAt → ReadAt → Type 0
@@ -71,14 +75,15 @@ CommitsNoMore place place' = (k : Kind) → committed_so k place ≡ None → co
 
 -- ---- what it does
 
-abbrev pub KeyActs : Memory → List Ref → Task → Access → Line → Memory → List Ref → Type 0
-KeyActs before private task access l after private' =
-    (state : State) → (operation : Operation) → Acts before private (line_action (at_heap state before.heap task.hashes) (for_task task access operation) l) after private'
-
-abbrev pub RootActs : Memory → List (Option Root) → List Ref → Task → Access → Line → Memory → List (Option Root) → List Ref → Type 0
-RootActs before roots private task access l after roots' private' =
+abbrev pub KeyActs : Memory → KeyOp → Line → Memory → List Ref → Type 0
+KeyActs before op l after private' =
     (state : State) → (operation : Operation) →
-    ActsInAll before roots private (line_action (at_heap state before.heap task.hashes) (for_task task access operation) l) after roots' private'
+    Acts before op.work.private (line_action (at_heap state before.heap op.task.hashes) (operation_for op operation) l) after private'
+
+abbrev pub RootActs : Memory → List (Option Root) → KeyOp → Line → Memory → List (Option Root) → List Ref → Type 0
+RootActs before roots op l after roots' private' =
+    (state : State) → (operation : Operation) →
+    ActsInAll before roots op.work.private (line_action (at_heap state before.heap op.task.hashes) (operation_for op operation) l) after roots' private'
 
 -- the table of root words behind a step: only ROOT changes it, where it completes an offer
 abbrev pub table_after : Table → ℕ → KeyAt → Table

@@ -9,8 +9,6 @@ ghost use Rattle.machine_model.specs.Operations.{after_update};
 ghost use Rattle.machine_model.specs.Paths.{above, current};
 ghost use Rattle.machine_model.specs.Reading.{reading};
 ghost use Rattle.machine_model.specs.declared.repairs.CleanLine.TheVariants as clean;
-ghost use Rattle.history.specs.declared.calls.Access.{Access as AnAccess};
-ghost use Rattle.trie_parts.specs.Tasks.{for_task};
 ghost use Rattle.machine_model.specs.States.{State};
 ghost use Rattle.machine_model.specs.declared.finding.KeyLine.TheVariants as key;
 ghost use Rattle.machine_model.specs.declared.lines.Line.TheVariants as line;
@@ -20,15 +18,12 @@ ghost use Rattle.trie_parts.specs.Here.{at_heap};
 ghost use Rattle.trie_parts.specs.Holding.{AreHeld};
 ghost use Rattle.key_change.specs.Lines.{line_of as change_line};
 ghost use Rattle.key_change.specs.Steps.{CanChange, line_behind as line_tried};
-ghost use Rattle.contract.specs.Cleaning.{clean_line, CanClean, line_behind as line_cleaned};
-ghost use Rattle.contract.specs.Climbing.{climb_line, CanClimb, line_behind as line_climbed};
-ghost use Rattle.contract.specs.Renewing.{renew_line, CanRenew, line_behind as line_renewed};
 ghost use Rattle.key_finding.specs.Lines.{line_found};
 ghost use Rattle.operate.specs.Places.{key_line, below_line, changed_line, former_of};
-ghost use Rattle.operate.specs.Steps.{CommitsNoMore, KeySteps, KeyActs, CanBelow};
+ghost use Rattle.operate.specs.Steps.{CommitsNoMore, KeySteps, KeyActs, CanBelow, operation_for};
 
 use crate::key_op::{BelowAt, KeyAt, KeyOp};
-use contract::{Cleaned, Climb, Climbed, Renewed};
+use contract::Climb;
 use ctrie_base::{Kind, Refusal};
 use epochs::Heap;
 use gcas::Next;
@@ -48,8 +43,8 @@ impl KeyOp {
     ) -> Result<Next<KeyReply>, Refusal>
         requires can { CanBelow heap.old.heap self.old at.now }
         requires held { AreHeld self.old.work.private heap.old }
-        ensures follows { IfOk result (λ next. KeySteps heap.old.heap self.old.task self.old.work.swap.read.access (below_line self.old root_seen at.now) self.new next) }
-        ensures acts { OnOk result (KeyActs heap.old self.old.work.private self.old.task self.old.work.swap.read.access (below_line self.old root_seen at.now) heap.new self.new.work.private) }
+        ensures follows { IfOk result (λ next. KeySteps heap.old.heap self.old (below_line self.old root_seen at.now) self.new next) }
+        ensures acts { OnOk result (KeyActs heap.old self.old (below_line self.old root_seen at.now) heap.new self.new.work.private) }
         ensures same { (self.new.task ≡ self.old.task) × (self.new.work.swap.read.access ≡ self.old.work.swap.read.access) }
         ensures asks { IfOk result (λ next. IsAskingRoot next → (self.new ≡ record self.old { place = KeyAt.Down (at.now) }) × (heap.new ≡ heap.old)) }
         ensures err { OnErr result ((self.new ≡ record self.old { place = KeyAt.Down (at.now) }) × (heap.new ≡ heap.old)) }
@@ -73,8 +68,8 @@ impl KeyOp {
     /// Takes a step of the current indirection's READ.
     fn read(&mut self, heap: &mut Heap, root_seen: Option<u64>) -> Next<KeyReply>
         requires can { CanReadOn heap.old.heap self.old.work.swap.read }
-        ensures follows { KeySteps heap.old.heap self.old.task self.old.work.swap.read.access (line.Key (key.Read self.old.path (read_of self.old.work.swap.read root_seen))) self.new result }
-        ensures acts { KeyActs heap.old self.old.work.private self.old.task self.old.work.swap.read.access (line.Key (key.Read self.old.path (read_of self.old.work.swap.read root_seen))) heap.new self.new.work.private }
+        ensures follows { KeySteps heap.old.heap self.old (line.Key (key.Read self.old.path (read_of self.old.work.swap.read root_seen))) self.new result }
+        ensures acts { KeyActs heap.old self.old (line.Key (key.Read self.old.path (read_of self.old.work.swap.read root_seen))) heap.new self.new.work.private }
         ensures same { (self.new.task ≡ self.old.task) × (self.new.work.swap.read.access ≡ self.old.work.swap.read.access) }
         ensures asks { IsAskingRoot result → (self.new ≡ record self.old { place = KeyAt.Down (BelowAt.Read) }) × (heap.new ≡ heap.old) }
     {
@@ -91,7 +86,7 @@ impl KeyOp {
 
     /// Looks at the main node.
     fn look_at_main(&mut self, heap: &Heap, main: Ref) -> Result<Next<KeyReply>, Refusal>
-        ensures follows { IfOk result (λ next. KeySteps heap.now.heap self.old.task self.old.work.swap.read.access (line.Key (key.Main self.old.path main)) self.new next) }
+        ensures follows { IfOk result (λ next. KeySteps heap.now.heap self.old (line.Key (key.Main self.old.path main)) self.new next) }
         ensures same { (self.new.task ≡ self.old.task) × (self.new.work.private ≡ self.old.work.private) × (self.new.work.swap.read.access ≡ self.old.work.swap.read.access) }
         ensures taken { IfOk result (λ next. IsAskingRoot next → ⊥) }
         ensures err { OnErr result (self.new ≡ self.old) }
@@ -115,7 +110,7 @@ impl KeyOp {
         main: Ref,
         position: usize,
     ) -> Result<Next<KeyReply>, Refusal>
-        ensures follows { IfOk result (λ next. KeySteps heap.now.heap self.old.task self.old.work.swap.read.access (line.Key (key.Entry self.old.path main position)) self.new next) }
+        ensures follows { IfOk result (λ next. KeySteps heap.now.heap self.old (line.Key (key.Entry self.old.path main position)) self.new next) }
         ensures same { (self.new.task ≡ self.old.task) × (self.new.work.private ≡ self.old.work.private) × (self.new.work.swap.read.access ≡ self.old.work.swap.read.access) }
         ensures taken { IfOk result (λ next. IsAskingRoot next → ⊥) }
         ensures err { OnErr result (self.new ≡ self.old) }
@@ -140,7 +135,7 @@ impl KeyOp {
         main: Ref,
         position: usize,
     ) -> Result<Next<KeyReply>, Refusal>
-        ensures follows { IfOk result (λ next. KeySteps heap.now.heap self.old.task self.old.work.swap.read.access (line.Key (key.Listed self.old.path main position)) self.new next) }
+        ensures follows { IfOk result (λ next. KeySteps heap.now.heap self.old (line.Key (key.Listed self.old.path main position)) self.new next) }
         ensures same { (self.new.task ≡ self.old.task) × (self.new.work.private ≡ self.old.work.private) × (self.new.work.swap.read.access ≡ self.old.work.swap.read.access) }
         ensures taken { IfOk result (λ next. IsAskingRoot next → ⊥) }
         ensures err { OnErr result (self.new ≡ self.old) }
@@ -230,8 +225,8 @@ impl KeyOp {
     ) -> Result<Next<KeyReply>, Refusal>
         requires can { CanChange heap.old.heap self.old.task self.old.path self.old.work.swap change }
         requires held { AreHeld self.old.work.private heap.old }
-        ensures follows { IfOk result (λ next. KeySteps heap.old.heap self.old.task self.old.work.swap.read.access (change_line self.old.path self.old.work.swap root_seen change) self.new next) }
-        ensures acts { OnOk result (KeyActs heap.old self.old.work.private self.old.task self.old.work.swap.read.access (change_line self.old.path self.old.work.swap root_seen change) heap.new self.new.work.private) }
+        ensures follows { IfOk result (λ next. KeySteps heap.old.heap self.old (change_line self.old.path self.old.work.swap root_seen change) self.new next) }
+        ensures acts { OnOk result (KeyActs heap.old self.old (change_line self.old.path self.old.work.swap root_seen change) heap.new self.new.work.private) }
         ensures same { (self.new.task ≡ self.old.task) × (self.new.work.swap.read.access ≡ self.old.work.swap.read.access) }
         ensures asks { IfOk result (λ next. IsAskingRoot next → (self.new ≡ record self.old { place = KeyAt.Down (BelowAt.Change change) }) × (heap.new ≡ heap.old)) }
         ensures err { OnErr result ((self.new ≡ self.old) × (heap.new ≡ heap.old)) }
@@ -263,7 +258,10 @@ impl KeyOp {
 
     /// After a try, where `tomb` is the single of the node that was made last, if that is a tomb.
     fn after_try(&mut self, tried: Tried, tomb: Option<Ref>)
-        ensures line { (state : State) (access : AnAccess) (operation : Operation) (fresh : ARef) → after_update (for_task self.old.task access operation) self.old.path (former_of tried) (node_at state.heap fresh) ≡ changed_line (for_task self.old.task access operation) self.old.path (former_of tried) tomb → key_line self.new None ≡ line_tried state (for_task self.old.task access operation) self.old.path fresh tried }
+        ensures line { (state : State) (operation : Operation) (fresh : ARef) →
+            after_update (operation_for self.old operation) self.old.path (former_of tried) (node_at state.heap fresh)
+            ≡ changed_line (operation_for self.old operation) self.old.path (former_of tried) tomb →
+            key_line self.new None ≡ line_tried state (operation_for self.old operation) self.old.path fresh tried }
         ensures same { (self.new.task ≡ self.old.task) × (self.new.work.private ≡ self.old.work.private) × (self.new.work.swap.read.access ≡ self.old.work.swap.read.access) }
         ensures reads { CommitsNoMore self.old.work.swap.read.at self.new.work.swap.read.at }
     {
@@ -275,152 +273,6 @@ impl KeyOp {
             Tried::Lost => self.place = KeyAt::Root(ReadRoot::Read),
             Tried::NoSlots => self.place = KeyAt::Down(BelowAt::End(KeyReply::NoSlots)),
             Tried::Impossible => self.place = KeyAt::Down(BelowAt::Impossible),
-        }
-    }
-
-    /// Takes a step of a renewing.
-    fn renew(&mut self, heap: &mut Heap, root_seen: Option<u64>) -> Result<Next<KeyReply>, Refusal>
-        requires can { CanRenew heap.old.heap self.old.work.swap self.old.renew }
-        requires held { AreHeld self.old.work.private heap.old }
-        ensures follows { IfOk result (λ next. KeySteps heap.old.heap self.old.task self.old.work.swap.read.access (renew_line self.old.path self.old.work.swap root_seen self.old.renew) self.new next) }
-        ensures acts { OnOk result (KeyActs heap.old self.old.work.private self.old.task self.old.work.swap.read.access (renew_line self.old.path self.old.work.swap root_seen self.old.renew) heap.new self.new.work.private) }
-        ensures same { (self.new.task ≡ self.old.task) × (self.new.work.swap.read.access ≡ self.old.work.swap.read.access) }
-        ensures asks { IfOk result (λ next. IsAskingRoot next → (self.new ≡ record self.old { place = KeyAt.Down (BelowAt.Renew) }) × (heap.new ≡ heap.old)) }
-        ensures err { OnErr result ((self.new ≡ record self.old { place = KeyAt.Down (BelowAt.Renew) }) × (heap.new ≡ heap.old)) }
-        ensures only_memory { IfErr result (λ refusal. refusal ≡ Refusal.Memory) }
-    {
-        self.place = KeyAt::Down(BelowAt::Renew);
-        match self.renew.step(
-            &mut self.work,
-            heap,
-            self.task,
-            self.path.as_slice(),
-            root_seen,
-        )? {
-            Next::More(kind) => Ok(Next::More(kind)),
-            Next::AskRoot => Ok(Next::AskRoot),
-            Next::Done(kind, renewed) => {
-                self.after_renewing(renewed);
-                Ok(Next::More(kind))
-            }
-        }
-    }
-
-    /// After a renewing.
-    fn after_renewing(&mut self, renewed: Renewed)
-        ensures line { key_line self.new None ≡ line_renewed self.old.path renewed }
-        ensures same { (self.new.task ≡ self.old.task) × (self.new.work.private ≡ self.old.work.private) × (self.new.work.swap.read.access ≡ self.old.work.swap.read.access) }
-        ensures reads { CommitsNoMore self.old.work.swap.read.at self.new.work.swap.read.at }
-    {
-        match renewed {
-            Renewed::Renewed => {
-                let indirection = current(self.path.as_slice());
-                self.read_next(indirection);
-            }
-            Renewed::Lost => self.place = KeyAt::Root(ReadRoot::Read),
-            Renewed::NoSlots => self.place = KeyAt::Down(BelowAt::End(KeyReply::NoSlots)),
-            Renewed::Impossible => self.place = KeyAt::Down(BelowAt::Impossible),
-        }
-    }
-
-    /// Takes a step of a cleaning.
-    fn clean(&mut self, heap: &mut Heap, root_seen: Option<u64>) -> Result<Next<KeyReply>, Refusal>
-        requires can { CanClean heap.old.heap (above self.old.path) self.old.work.swap self.old.clean }
-        requires held { AreHeld self.old.work.private heap.old }
-        ensures follows { IfOk result (λ next. KeySteps heap.old.heap self.old.task self.old.work.swap.read.access (clean_line (above self.old.path) self.old.work.swap root_seen self.old.clean) self.new next) }
-        ensures acts { OnOk result (KeyActs heap.old self.old.work.private self.old.task self.old.work.swap.read.access (clean_line (above self.old.path) self.old.work.swap root_seen self.old.clean) heap.new self.new.work.private) }
-        ensures same { (self.new.task ≡ self.old.task) × (self.new.work.swap.read.access ≡ self.old.work.swap.read.access) }
-        ensures asks { IfOk result (λ next. IsAskingRoot next → (self.new ≡ record self.old { place = KeyAt.Down (BelowAt.Clean) }) × (heap.new ≡ heap.old)) }
-        ensures err { OnErr result ((self.new ≡ record self.old { place = KeyAt.Down (BelowAt.Clean) }) × (heap.new ≡ heap.old)) }
-        ensures only_memory { IfErr result (λ refusal. refusal ≡ Refusal.Memory) }
-    {
-        self.place = KeyAt::Down(BelowAt::Clean);
-        let parents = above(self.path.as_slice());
-        match self
-            .clean
-            .step(&mut self.work, heap, self.task, parents, root_seen)?
-        {
-            Next::More(kind) => Ok(Next::More(kind)),
-            Next::AskRoot => Ok(Next::AskRoot),
-            Next::Done(kind, cleaned) => {
-                self.after_cleaning(cleaned);
-                Ok(Next::More(kind))
-            }
-        }
-    }
-
-    /// After a cleaning.
-    fn after_cleaning(&mut self, cleaned: Cleaned)
-        ensures line { key_line self.new None ≡ line_cleaned cleaned }
-        ensures same { (self.new.task ≡ self.old.task) × (self.new.work ≡ self.old.work) }
-    {
-        match cleaned {
-            Cleaned::Cleaned => self.place = KeyAt::Root(ReadRoot::Read),
-            Cleaned::NoSlots => self.place = KeyAt::Down(BelowAt::End(KeyReply::NoSlots)),
-            Cleaned::Impossible => self.place = KeyAt::Down(BelowAt::Impossible),
-        }
-    }
-
-    /// Takes a step of a climb.
-    fn climb(
-        &mut self,
-        climb: Climb,
-        heap: &mut Heap,
-        root_seen: Option<u64>,
-    ) -> Result<Next<KeyReply>, Refusal>
-        requires can { CanClimb heap.old.heap self.old.task self.old.path self.old.work.swap climb }
-        requires held { AreHeld self.old.work.private heap.old }
-        ensures follows { IfOk result (λ next. KeySteps heap.old.heap self.old.task self.old.work.swap.read.access (climb_line self.old.path self.old.work.swap root_seen climb) self.new next) }
-        ensures acts { OnOk result (KeyActs heap.old self.old.work.private self.old.task self.old.work.swap.read.access (climb_line self.old.path self.old.work.swap root_seen climb) heap.new self.new.work.private) }
-        ensures same { (self.new.task ≡ self.old.task) × (self.new.work.swap.read.access ≡ self.old.work.swap.read.access) }
-        ensures asks { IfOk result (λ next. IsAskingRoot next → (self.new ≡ record self.old { place = KeyAt.Down (BelowAt.Climb climb) }) × (heap.new ≡ heap.old)) }
-        ensures err { OnErr result ((self.new ≡ self.old) × (heap.new ≡ heap.old)) }
-        ensures only_memory { IfErr result (λ refusal. refusal ≡ Refusal.Memory) }
-    {
-        let (single, former) = (climb.single, climb.former);
-        let mut climb = climb;
-        match climb.step(
-            &mut self.work,
-            heap,
-            self.task,
-            self.path.as_slice(),
-            root_seen,
-        )? {
-            Next::More(kind) => {
-                self.place = KeyAt::Down(BelowAt::Climb(climb));
-                Ok(Next::More(kind))
-            }
-            Next::AskRoot => {
-                self.place = KeyAt::Down(BelowAt::Climb(climb));
-                Ok(Next::AskRoot)
-            }
-            Next::Done(kind, climbed) => {
-                self.after_climb(climbed, single, former);
-                Ok(Next::More(kind))
-            }
-        }
-    }
-
-    /// After a climb of one indirection.
-    fn after_climb(&mut self, climbed: Climbed, single: Ref, former: Option<u64>)
-        ensures line { (access : AnAccess) (operation : Operation) → key_line self.new None ≡ line_climbed (for_task self.old.task access operation) (record { path = self.old.path; single = single; former = former }) climbed }
-        ensures same { (self.new.task ≡ self.old.task) × (self.new.work.private ≡ self.old.work.private) × (self.new.work.swap.read.access ≡ self.old.work.swap.read.access) }
-        ensures reads { CommitsNoMore self.old.work.swap.read.at self.new.work.swap.read.at }
-    {
-        match climbed {
-            Climbed::Higher { single } => {
-                self.path.pop();
-                self.climb_on(single, former);
-            }
-            Climbed::Climbed => self.answer(former),
-            Climbed::Lost => {
-                self.place = KeyAt::RootAgain {
-                    single,
-                    former,
-                    root: ReadRoot::Read,
-                };
-            }
-            Climbed::Impossible => self.place = KeyAt::Down(BelowAt::Impossible),
         }
     }
 }

@@ -6,7 +6,6 @@ ghost use Rattle.history.specs.declared.calls.Access.{Access as AnAccess};
 ghost use Rattle.machine_model.specs.Climbing.{climbed, climbing};
 ghost use Rattle.machine_model.specs.Lines.{new_try};
 ghost use Rattle.machine_model.specs.Swapping.{root_action};
-ghost use Rattle.machine_model.specs.declared.repairs.ClimbLine.TheVariants as climb;
 ghost use Rattle.machine_model.specs.declared.lines.Line.TheVariants as line;
 ghost use Rattle.machine_model.specs.declared.operations.Operation.{Operation};
 ghost use Rattle.gcas.specs.Reads.{begun, IsAskingRoot};
@@ -15,7 +14,7 @@ ghost use Rattle.trie_parts.specs.Tasks.{for_task};
 ghost use Rattle.rdcss_root.specs.Acts.{ActsInAll};
 ghost use Rattle.rdcss_root.specs.Programs.{root_of, CanRootOn, rooted_at};
 ghost use Rattle.rdcss_root.specs.Tables.{word_in};
-ghost use Rattle.operate.specs.Places.{key_line};
+ghost use Rattle.operate.specs.Places.{key_line, key_line_at};
 ghost use Rattle.operate.specs.Steps.{RootSteps, RootActs, CommitsNoMore, KeepsGeneration, CanKey, table_after};
 
 use crate::path::Path;
@@ -139,10 +138,10 @@ impl KeyOp {
     ) -> Result<Next<KeyReply>, Refusal>
         requires can { CanKey heap.old roots.old self.old }
         requires held { AreHeld self.old.work.private heap.old }
-        ensures follows { IfOk result (λ next. RootSteps heap.old.heap (word_in roots.old handle) self.old.task self.old.work.swap.read.access (key_line self.old root_seen) self.new next) }
-        ensures acts { OnOk result (RootActs heap.old roots.old.roots self.old.work.private self.old.task self.old.work.swap.read.access (key_line self.old root_seen) heap.new roots.new.roots self.new.work.private) }
+        ensures follows { IfOk result (λ next. RootSteps heap.old.heap (word_in roots.old handle) self.old (key_line self.old root_seen) self.new next) }
+        ensures acts { OnOk result (RootActs heap.old roots.old.roots self.old (key_line self.old root_seen) heap.new roots.new.roots self.new.work.private) }
         ensures table { OnOk result (roots.new ≡ table_after roots.old handle self.old.place) }
-        ensures generation { IfOk result (λ next. KeepsGeneration heap.old.heap (word_in roots.old handle) self.old.task self.old.work.swap.read.access (key_line self.old root_seen) self.new.task next) }
+        ensures generation { IfOk result (λ next. KeepsGeneration heap.old.heap (word_in roots.old handle) self.old (key_line self.old root_seen) self.new.task next) }
         ensures access { self.new.work.swap.read.access ≡ self.old.work.swap.read.access }
         ensures asks { IfOk result (λ next. IsAskingRoot next → (self.new ≡ self.old) × (roots.new ≡ roots.old) × (heap.new ≡ heap.old)) }
         ensures err { OnErr result ((self.new ≡ self.old) × (roots.new ≡ roots.old) × (heap.new ≡ heap.old)) }
@@ -178,10 +177,10 @@ impl KeyOp {
         root_seen: Option<u64>,
     ) -> Next<KeyReply>
         requires { CanRootOn heap.old roots.old root self.old.work.swap.read }
-        ensures follows { RootSteps heap.old.heap (word_in roots.old handle) self.old.task self.old.work.swap.read.access (line.Root (root_of root self.old.work.swap.read root_seen)) self.new result }
+        ensures follows { RootSteps heap.old.heap (word_in roots.old handle) self.old (line.Root (root_of root self.old.work.swap.read root_seen)) self.new result }
         ensures acts { (private : List ARef) → ActsInAll heap.old roots.old.roots private (root_action (root_of root self.old.work.swap.read root_seen)) heap.new roots.new.roots private }
         ensures table { roots.new ≡ rooted_at roots.old handle root }
-        ensures generation { KeepsGeneration heap.old.heap (word_in roots.old handle) self.old.task self.old.work.swap.read.access (line.Root (root_of root self.old.work.swap.read root_seen)) self.new.task result }
+        ensures generation { KeepsGeneration heap.old.heap (word_in roots.old handle) self.old (line.Root (root_of root self.old.work.swap.read root_seen)) self.new.task result }
         ensures same { (self.new.work.private ≡ self.old.work.private) × (self.new.work.swap.read.access ≡ self.old.work.swap.read.access) }
         ensures asks { IsAskingRoot result → (self.new ≡ record self.old { place = KeyAt.Root root }) × (roots.new ≡ roots.old) × (heap.new ≡ heap.old) }
     {
@@ -206,7 +205,10 @@ impl KeyOp {
 
     /// Reads this indirection next.
     pub(crate) fn read_next(&mut self, indirection: Ref)
-        ensures { self.new ≡ record self.old { work = record self.old.work { swap = record self.old.work.swap { read = begun self.old.work.swap.read.access indirection } }; place = KeyAt.Down BelowAt.Read } }
+        ensures { self.new ≡ record self.old {
+          place = KeyAt.Down BelowAt.Read;
+          work = record self.old.work { swap = record self.old.work.swap { read = begun self.old.work.swap.read.access indirection } };
+        } }
     {
         self.work.swap.read.begin(indirection);
         self.place = KeyAt::Down(BelowAt::Read);
@@ -224,11 +226,12 @@ impl KeyOp {
         root_seen: Option<u64>,
     ) -> Next<KeyReply>
         requires { CanRootOn heap.old roots.old root self.old.work.swap.read }
-        ensures follows { RootSteps heap.old.heap (word_in roots.old handle) self.old.task self.old.work.swap.read.access (line.Climb (climb.Root (record { path = self.old.path; single = single; former = former }) (root_of root self.old.work.swap.read root_seen))) self.new result }
+        ensures follows { RootSteps heap.old.heap (word_in roots.old handle) self.old (key_line_at self.old root_seen (KeyAt.RootAgain single former root)) self.new result }
         ensures acts { (private : List ARef) → ActsInAll heap.old roots.old.roots private (root_action (root_of root self.old.work.swap.read root_seen)) heap.new roots.new.roots private }
         ensures table { roots.new ≡ rooted_at roots.old handle root }
         ensures same { (self.new.task ≡ self.old.task) × (self.new.work.private ≡ self.old.work.private) × (self.new.work.swap.read.access ≡ self.old.work.swap.read.access) }
-        ensures asks { IsAskingRoot result → (self.new ≡ record self.old { place = KeyAt.RootAgain single former root }) × (roots.new ≡ roots.old) × (heap.new ≡ heap.old) }
+        ensures asks { IsAskingRoot result → (self.new ≡ record self.old { place = KeyAt.RootAgain single former root })
+            × (roots.new ≡ roots.old) × (heap.new ≡ heap.old) }
     {
         let mut root = root;
         match root.step(&mut self.work.swap.read, roots, handle, heap, root_seen) {
@@ -269,7 +272,8 @@ impl KeyOp {
 
     /// The path's last indirection is tombed, with this single: climbs, if it has a parent.
     pub(crate) fn climb_on(&mut self, single: Ref, former: Option<u64>)
-        ensures line { (access : AnAccess) (operation : Operation) → key_line self.new None ≡ climbing (for_task self.old.task access operation) (record { path = self.old.path; single = single; former = former }) }
+        ensures line { (access : AnAccess) (operation : Operation) → key_line self.new None
+            ≡ climbing (for_task self.old.task access operation) (record { path = self.old.path; single = single; former = former }) }
         ensures same { (self.new.task ≡ self.old.task) × (self.new.work.private ≡ self.old.work.private) × (self.new.work.swap.read.access ≡ self.old.work.swap.read.access) }
         ensures reads { CommitsNoMore self.old.work.swap.read.at self.new.work.swap.read.at }
     {

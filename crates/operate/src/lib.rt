@@ -12,6 +12,7 @@
 mod below;
 mod key_op;
 mod path;
+mod repairs;
 
 pub use key_finding::KeyReply;
 pub use key_op::{BelowAt, KeyAt, KeyOp};

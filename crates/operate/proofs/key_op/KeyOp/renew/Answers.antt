@@ -12,5 +12,9 @@ pub returns-in-Done-clause-follows : goal.returns-in-Done-clause-follows
 returns-in-Done-clause-follows c =
     let me = c.args.self.now in
     λ state operation.
-      let leads = (rw (c.as_slice.ensures, c.in-Done.is) at c.in_ok-kind.ensures.follows) state operation in
-      (leads.0, leads.1 ∙ sym c.after_renewing.ensures.line, anew c.args.heap.now.heap me.work.swap.read.access _ c.in-Done.kind _ _ ((rw (c.as_slice.ensures, c.in-Done.is) at c.in_ok-kind.ensures.last) (tt {0})) c.after_renewing.ensures.reads leads.2)
+    let leads = (rw (c.as_slice.ensures, c.in-Done.is) at c.in_ok-kind.ensures.follows) state operation in
+    let none = (rw (c.as_slice.ensures, c.in-Done.is) at c.in_ok-kind.ensures.last) (tt {0}) in (
+      leads.0,
+      leads.1 ∙ sym c.after_renewing.ensures.line,
+      anew c.args.heap.now.heap me.work.swap.read.access _ c.in-Done.kind _ _ none c.after_renewing.ensures.reads leads.2,
+    )
