@@ -18,11 +18,10 @@ use Rattle.snapshot.specs.declared.walk.WalkAt.TheVariants as walk
 use Rattle.snapshot.specs.Copies.{snap_line_at}
 use Rattle.snapshot.specs.Walks.{walk_line_at}
 use Rattle.running.specs.declared.job.Program.{Program}
-use Rattle.running.specs.declared.job.Program.TheVariants.{Snap, Entries, Count, Close}
 use Rattle.running.specs.declared.programs.Programs.{Programs}
 use Rattle.running.specs.declared.programs.Stage.{Stage}
-use Rattle.running.specs.declared.programs.Stage.TheVariants.{Runs}
-use Rattle.running.specs.Places.{answer_of, asking_line, at_once, met_at, program_line, stage_line}
+use Rattle.operate.specs.Places.{answer_of}
+use Rattle.running.specs.Places.{asking_line, met_at, stage_line}
 
 -- the line on which its READ stands doesn't matter to that
 same_answer : (here : ReadLine) (l : Line) → answer_of (with_read here l) ≡ answer_of l
@@ -38,7 +37,7 @@ same_answer here (line.Walk w) = refl
 same_answer here (line.End answer) = refl
 same_answer here line.Impossible = refl
 
-snap_goes_on : (r : Ref) (q : Read) (told : Option ℕ) (place : SnapAt) → answer_of (snap_line_at r q told place) ≡ None
+pub snap_goes_on : (r : Ref) (q : Read) (told : Option ℕ) (place : SnapAt) → answer_of (snap_line_at r q told place) ≡ None
 snap_goes_on r q told (at.Root l) = refl
 snap_goes_on r q told at.Read = refl
 snap_goes_on r q told (at.Make (making.Successor main)) = refl
@@ -48,27 +47,15 @@ snap_goes_on r q told (at.Make (making.Cleared main branch)) = refl
 snap_goes_on r q told (at.Offer offer) = refl
 snap_goes_on r q told (at.Complete c) = refl
 
-walk_goes_on : (q : Read) (told : Option ℕ) (todo : List Ref) (pairs : List (ℕ × ℕ)) (place : WalkAt) → answer_of (walk_line_at q told todo pairs place) ≡ None
+pub walk_goes_on : (q : Read) (told : Option ℕ) (todo : List Ref) (pairs : List (ℕ × ℕ)) (place : WalkAt) → answer_of (walk_line_at q told todo pairs place) ≡ None
 walk_goes_on q told todo pairs walk.Root = refl
 walk_goes_on q told todo pairs walk.Read = refl
 walk_goes_on q told todo pairs (walk.Main main) = refl
 walk_goes_on q told todo pairs walk.Entry = refl
 
-goes_on : (p : Programs) (told : Option ℕ) (program : Program) → answer_of (program_line p told program) ≡ at_once program
-goes_on p told (Snap call) = snap_goes_on p.snap.root p.work.swap.read told p.snap.at
-goes_on p told Entries = walk_goes_on p.work.swap.read told p.entries.walk.todo p.entries.walk.pairs p.entries.walk.at
-goes_on p told Count = walk_goes_on p.work.swap.read told p.count.walk.todo p.count.walk.pairs p.count.walk.at
-goes_on p told Close = refl
-
--- while its program runs only a close does
-pub runs_on : (p : Programs) (program : Program) (asking : Asking) → answer_of (asking_line p program Runs asking) ≡ at_once program
-runs_on p program Unasked = goes_on p None program
-runs_on p program (Met offer) = same_answer (met_at p.work.swap.read.at offer) (program_line p None program) ∙ goes_on p None program
-runs_on p program (Told generation) = goes_on p (Some generation) program
-
--- behind its program it ends, whatever is asked
+-- a line stays one of an end, or doesn't, whatever is asked
 pub ends : (p : Programs) (program : Program) (stage : Stage) (asking : Asking) (answer : Option Reply) → ((told : Option ℕ) → answer_of (stage_line p told program stage) ≡ answer) →
     answer_of (asking_line p program stage asking) ≡ answer
 ends p program stage Unasked answer is = is None
-ends p program stage (Met offer) answer is = same_answer (met_at p.work.swap.read.at offer) (stage_line p None program stage) ∙ is None
+ends p program stage (Met offer) answer is = same_answer (met_at p.key.work.swap.read.at offer) (stage_line p None program stage) ∙ is None
 ends p program stage (Told generation) answer is = is (Some generation)

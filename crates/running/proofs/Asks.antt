@@ -33,8 +33,10 @@ use Rattle.gcas.specs.declared.read.Read.{Read as Running}
 use Rattle.gcas.specs.declared.read.ReadAt.{ReadAt}
 use Rattle.gcas.specs.declared.read.ReadAt.TheVariants as at
 use Rattle.gcas.specs.Reads.{IsAsking, line_at, line_of}
-use Rattle.trie_parts.specs.Here.{no_state, no_operation}
 use Rattle.trie_parts.specs.Steps.{IsAskingLine, IsAskingRead}
+use Rattle.trie_parts.specs.Tasks.{call_of as key_call}
+use Rattle.trie_parts.specs.declared.calls.KeyCall.{KeyCall}
+use Rattle.trie_parts.specs.declared.calls.KeyCall.TheVariants.{Get, Put, PutIfAbsent, Replace, ReplaceIf, Remove, RemoveIf}
 use Rattle.rdcss_root.specs.Acts.{ActsInAll}
 use Rattle.rdcss_root.specs.Tables.{Table, acted_table}
 use Rattle.rdcss_root.specs.Programs.{table_after_abort}
@@ -43,16 +45,15 @@ use Rattle.root_asking.specs.declared.asking.Asking.TheVariants.{Unasked, Met, T
 use Rattle.root_asking.specs.Asked.{AsksOn, IsUntold, abort_of, ask_action, asked_at, asked_line, asked_read}
 use Rattle.root_asking.specs.Inside.{rooting_at, with_read}
 use Rattle.root_asking.proofs.Holding.{each_holds}
-use Rattle.snapshot.specs.Copies.{snap_action}
-use Rattle.snapshot.specs.Tasks.{at_roots, drawn_by, with_generation}
+use Rattle.snapshot.specs.Tasks.{drawn_by, with_generation}
 use Rattle.running.specs.declared.job.Job.{Job}
 use Rattle.running.specs.declared.job.Program.{Program}
-use Rattle.running.specs.declared.job.Program.TheVariants.{Snap, Entries, Count, Close}
+use Rattle.running.specs.declared.job.Program.TheVariants.{Key, Snap, Entries, Count, Close}
 use Rattle.running.specs.declared.programs.Programs.{Programs}
 use Rattle.running.specs.declared.programs.Stage.TheVariants.{Runs}
 use Rattle.running.specs.declared.taken.Taken.{Taken}
-use Rattle.running.specs.Places.{IsWaiting, asking_line, call_for, line_for, met_at, operation_for, program_line}
-use Rattle.running.specs.Steps.{Does, Scene, Takes, given_in}
+use Rattle.running.specs.Places.{IsBegun, IsWaiting, asking_line, call_for, met_at, program_line}
+use Rattle.running.specs.Steps.{Changes, Does, Scene, at_scene, given_in, operation_in}
 use Rattle.running.proofs.Lasting.{tells}
 use Rattle.running.proofs.Giving.{asked_gives}
 use Rattle.snapshot.specs.declared.tasks.SnapCall.TheVariants.{Snapshot, Freeze, Clear}
@@ -93,8 +94,8 @@ asks_read r l (Some q) same reads asks =
     let is = same_Some q (record q { line = line_of r None }) (sym reads ∙ here) in
     asks_by r l q.indirection r.access r.at refl refl here (subst (λ (x : Read). IsAsking x.line) is asks)
 
-pub asks : (p : Programs) (program : Program) → IsAskingLine (program_line p None program) → Asks p.work.swap.read (program_line p None program)
-asks p program ask = asks_read p.work.swap.read (program_line p None program) (read_of (program_line p None program)) (tells p None program) refl ask
+pub asks : (p : Programs) (program : Program) → IsAskingLine (program_line p None program) → Asks p.key.work.swap.read (program_line p None program)
+asks p program ask = asks_read p.key.work.swap.read (program_line p None program) (read_of (program_line p None program)) (tells p None program) refl ask
 
 -- ---- the line while it asks
 
@@ -104,17 +105,27 @@ told_here access generation main previous place writable decides =
     ap (λ a. line_at a (Some generation) place) writable ∙ ap (λ x. line_at Writable (Some generation) x) decides
 
 -- it is that of the program with its READ on ABORT's line
-pub asked : (p : Programs) (program : Program) (asking : Asking) → (h : Asks p.work.swap.read (program_line p None program)) →
+pub asked : (p : Programs) (program : Program) (asking : Asking) → (h : Asks p.key.work.swap.read (program_line p None program)) →
     asking_line p program Runs asking ≡ asked_line h.main h.previous asking (program_line p None program)
 asked p program Unasked h = sym (each_holds (program_line p None program) _ h.reads).here
 asked p program (Met offer) h = ap (λ (x : ReadAt). with_read (met_at x offer) (program_line p None program)) h.decides
 asked p program (Told generation) h =
     tells p (Some generation) program
-    ∙ ap (λ at. with_read at (program_line p None program)) (told_here p.work.swap.read.access generation h.main h.previous p.work.swap.read.at h.writable h.decides)
+    ∙ ap (λ at. with_read at (program_line p None program)) (told_here p.key.work.swap.read.access generation h.main h.previous p.key.work.swap.read.at h.writable h.decides)
 
 -- ---- what ABORT's steps come to
 
+pub key_handle : (handle : ℕ) (call : KeyCall) → handle_of (key_call handle call) ≡ handle
+key_handle handle (Get k) = refl
+key_handle handle (Put k v) = refl
+key_handle handle (PutIfAbsent k v) = refl
+key_handle handle (Replace k v) = refl
+key_handle handle (ReplaceIf k a b) = refl
+key_handle handle (Remove k) = refl
+key_handle handle (RemoveIf k v) = refl
+
 handle_is : (handle : ℕ) (program : Program) → handle_of (call_for handle program) ≡ handle
+handle_is handle (Key call) = key_handle handle call
 handle_is handle (Snap Snapshot) = refl
 handle_is handle (Snap Freeze) = refl
 handle_is handle (Snap Clear) = refl
@@ -134,7 +145,8 @@ gives_none state operation indirection main previous (Met offer) untold = refl
 gives_none state operation indirection main previous (Told generation) untold = absurd untold
 
 -- a READ that asks gives no root to a ROOT in which it runs
-asks_rooting : (heap : Heap) (access : Access) (word : RootWord) (offer : Descriptor) (l : CompleteLine) (r : Read) (asking : Asking) (state : State) (generation : Option ℕ) (main previous : Ref) → IsUntold asking →
+asks_rooting : (heap : Heap) (access : Access) (word : RootWord) (offer : Descriptor) (l : CompleteLine) (r : Read) (asking : Asking) (state : State) (generation : Option ℕ)
+    (main previous : Ref) → IsUntold asking →
     rooting_read (root.Completing (record { offer = offer; line = l })) ≡ Some r →
     given_root state (root_after heap access word (rooting_at (asked_at main previous asking) (root.Completing (record { offer = offer; line = l })))) generation ≡ generation
 asks_rooting heap access (Plain w) offer (complete.Reading q) r Unasked state generation main previous untold is = refl
@@ -166,9 +178,10 @@ reads_so indirection main previous (Met offer) untold = refl
 reads_so indirection main previous (Told generation) untold = absurd untold
 
 -- what a step of ABORT does, whatever the state
-acts_so : (l : Line) (r : Read) (main previous : Ref) (asking : Asking) → IsUntold asking → read_of l ≡ Some r → snap_action (asked_line main previous asking l) ≡ ask_action asking
-acts_so l r main previous asking untold is =
-    (each_holds l r is).acts no_state no_operation (asked_at main previous asking) ∙ reads_so r.indirection main previous asking untold
+acts_so : (state : State) (operation : Operation) (l : Line) (r : Read) (main previous : Ref) (asking : Asking) → IsUntold asking → read_of l ≡ Some r →
+    line_action state operation (asked_line main previous asking l) ≡ ask_action asking
+acts_so state operation l r main previous asking untold is =
+    (each_holds l r is).acts state operation (asked_at main previous asking) ∙ reads_so r.indirection main previous asking untold
 
 draws_none : (heap : Heap) (generation : ℕ) (asking : Asking) → (drawn_by heap generation (ask_action asking) ≡ generation) × (with_generation generation (ask_action asking) ≡ ask_action asking)
 draws_none heap generation Unasked = (refl, refl)
@@ -192,37 +205,47 @@ waits (Told g) l ask = ask
 
 -- A step of ABORT in the place of one of the program.
 pub steps : (job : Job) (program : Program) (before : Scene) (asking asking' : Asking) (memory' : Memory) (table' : Table) (k : Kind) →
-    IsAskingLine (program_line before.programs None program) → IsUntold asking →
+    IsAskingLine (program_line before.programs None program) → IsUntold asking → IsBegun program before.programs →
     AsksOn before.memory.heap before.table job.handle asking asking' k →
     table' ≡ table_after_abort before.table job.handle (abort_of asking) →
-    ActsInAll before.memory before.table.roots before.programs.work.private (ask_action asking) memory' table'.roots before.programs.work.private →
+    ActsInAll before.memory before.table.roots before.programs.key.work.private (ask_action asking) memory' table'.roots before.programs.key.work.private →
     Does job program (asking_line before.programs program Runs asking) before (record { kind = k; committed = None; given = None })
     (record { memory = memory'; table = table'; generation = before.generation; programs = record before.programs { stage = Runs; asking = asking' } })
-steps job program before asking asking' memory' table' k ask untold on table acts =
+steps job program before asking asking' memory' table' k ask untold begun on table acts =
     let p : Programs = before.programs in
     let l : Line = program_line p None program in
-    let h : Asks p.work.swap.read l = asks p program ask in
+    let h : Asks p.key.work.swap.read l = asks p program ask in
     let from : asking_line p program Runs asking ≡ asked_line h.main h.previous asking l = asked p program asking h in
-    let action : snap_action (asking_line p program Runs asking) ≡ ask_action asking = ap snap_action from ∙ acts_so l _ h.main h.previous asking untold h.reads in
+    let after : Scene = record { memory = memory'; table = table'; generation = before.generation; programs = record p { stage = Runs; asking = asking' } } in
+    let does : Changes job before (ask_action asking) after =
+        record {
+          acts = subst (λ (a : Action). ActsInAll before.memory before.table.roots p.key.work.private a memory' table'.roots p.key.work.private)
+              (sym (draws_none before.memory.heap before.generation asking).1) acts;
+          table = table ∙ table_so before.table job.handle job.actor asking untold;
+          drawn = sym ((draws_none before.memory.heap before.generation asking).0);
+          attempt = sym (offers_none p.snap.attempt asking);
+        } in
     record {
       takes = λ state operation.
-          let there : State = at_roots state before.memory.heap before.table in
-          let o : Operation = operation_for job program before.table p operation in
-          let step = on state o l h.indirection h.main h.previous h.reads h.writable (handle_is job.handle program) in
+          let there : State = at_scene state before in
+          let o : Operation = operation_in job program before operation in
+          let step = on there o l h.indirection h.main h.previous h.reads h.writable (handle_is job.handle program) in
           record {
             kind = ap (λ m. kind_of (line_action there o m)) from ∙ ap kind_of step.0 ∙ step.1;
             line = ap (λ m. line_after there o m) from ∙ step.2 ∙ sym (asked p program asking' h);
-            committed = ap (λ m. committed_in there (read_of m)) from ∙ ap (committed_in there) step.3 ∙ commits_none there h.indirection h.main h.previous asking untold;
+            committed = ap (λ m. committed_in there (read_of m)) from ∙ ap (committed_in there) step.3
+                ∙ commits_none there h.indirection h.main h.previous asking untold;
             given = ap (λ m. given_in there o (read_of m)) from ∙ ap (given_in there o) step.3 ∙ gives_none there o h.indirection h.main h.previous asking untold;
           };
-      acts = subst (λ (a : Action). ActsInAll before.memory before.table.roots p.work.private a memory' table'.roots p.work.private)
-          (sym (ap (with_generation before.generation) action ∙ (draws_none before.memory.heap before.generation asking).1)) acts;
-      table = table ∙ table_so before.table job.handle job.actor asking untold ∙ ap (acted_table before.table job.handle job.actor) (sym action);
-      drawn = sym ((draws_none before.memory.heap before.generation asking).0) ∙ ap (drawn_by before.memory.heap before.generation) (sym action);
-      attempt = sym (offers_none p.snap.attempt asking) ∙ ap (attempt_after p.snap.attempt) (sym action);
+      changes = λ state operation.
+          let there : State = at_scene state before in
+          let o : Operation = operation_in job program before operation in
+          subst (λ (a : Action). Changes job before a after)
+          (sym (ap (line_action there o) from ∙ acts_so there o l _ h.main h.previous asking untold h.reads)) does;
       generation = λ state operation.
-          sym (ap (generation_from (at_roots state before.memory.heap before.table) (operation_for job program before.table p operation)) from
-          ∙ keeps_generation (at_roots state before.memory.heap before.table) (operation_for job program before.table p operation) l _ h.main h.previous asking untold h.reads);
+          sym (ap (generation_from (at_scene state before) (operation_in job program before operation)) from
+          ∙ keeps_generation (at_scene state before) (operation_in job program before operation) l _ h.main h.previous asking untold h.reads);
       access = refl;
-      sound = waits asking' l ask;
+      hashes = refl;
+      sound = (begun, waits asking' l ask);
     }

@@ -1,5 +1,5 @@
 -- What an operation's READ gives and commits by a step, of a program that swaps no main node of its own.
-use Rattle.std.specs.Prelude.{◌≡◌, Option, Some, None, refl}
+use Rattle.std.specs.Prelude.{◌≡◌, Bool, is_some, Option, Some, None, refl}
 use Rattle.std.proofs.Common.{sym, ap, subst, ◌∙◌}
 use Rattle.std.proofs.lemmas.Option.{none-some}
 use Rattle.ctrie_base.specs.declared.kinds.Kind.{Kind}
@@ -33,7 +33,8 @@ use Rattle.gcas.specs.Reads.{ReadsAlong, come_to, committed_so, given_so}
 use Rattle.trie_parts.specs.Steps.{Leads}
 use Rattle.root_asking.specs.Inside.{Holds}
 use Rattle.root_asking.proofs.Holding.{each_holds}
-use Rattle.running.specs.Steps.{Takes, committed_if, given_by, given_if, given_in, taken_so}
+use Rattle.snapshot.specs.Copies.{snap_action}
+use Rattle.running.specs.Steps.{Takes, committed_if, given_by, given_if, given_in, if_reading, taken_in, taken_so}
 
 -- the line is of a program that swaps no main node but in its READ
 abbrev pub SwapsNone : Line → Type 0
@@ -105,6 +106,15 @@ commits : (k : Kind) (place : ReadAt) → committed_so k place ≡ committed_if 
 commits kind.SwapPrev place = refl
 commits k place = refl
 
+-- what such a program does doesn't depend on the state, nor on the operation
+pub same_action : (state : State) (operation : Operation) (l : Line) → SwapsNone l → line_action state operation l ≡ snap_action l
+same_action state operation (line.Root l) own = refl
+same_action state operation (line.Copy l) own = refl
+same_action state operation (line.Walk l) own = refl
+same_action state operation (line.End answer) own = refl
+same_action state operation line.Impossible own = refl
+same_action state operation l own = absurd own
+
 -- ---- a step
 
 module _ (state : State) (operation : Operation) (l : Line) (k : Kind) (place : ReadAt) where
@@ -112,13 +122,17 @@ module _ (state : State) (operation : Operation) (l : Line) (k : Kind) (place : 
   committed_by_read None along = sym along ∙ commits k place
   committed_by_read (Some r) along = along.1 ∙ commits k place
 
-  given_by_read : (o : Option Read) → read_of l ≡ o → SwapsNone l → kind_of (line_action state operation l) ≡ k → ReadsAlong state.heap operation.access o k place →
-      given_in state operation o ≡ given_if k (given_so place)
-  given_by_read None is own same along = sym (no_read state operation l (given_so place) own is) ∙ ap (λ q. given_if q (given_so place)) same
-  given_by_read (Some r) is own same along =
+  read_gives : (r : Read) → read_of l ≡ Some r → kind_of (line_action state operation l) ≡ k → ReadsAlong state.heap operation.access (Some r) k place →
+      given_in state operation (Some r) ≡ given_if k (given_so place)
+  read_gives r is same along =
       let holds = each_holds l r is in
       let acts = sym (holds.acts state operation r.line) ∙ ap (λ m. line_action state operation m) holds.here in
       gives state.heap operation.access (word_at state (handle_of operation.call)) r.indirection r.line k place (ap kind_of acts ∙ same) (along.0 (word_at state (handle_of operation.call)))
+
+  given_by_read : (o : Option Read) → read_of l ≡ o → SwapsNone l → kind_of (line_action state operation l) ≡ k → ReadsAlong state.heap operation.access o k place →
+      given_in state operation o ≡ given_if k (given_so place)
+  given_by_read None is own same along = sym (no_read state operation l (given_so place) own is) ∙ ap (λ q. given_if q (given_so place)) same
+  given_by_read (Some r) is own same along = read_gives r is same along
 
 -- a step of such a program, behind which its READ stands here
 pub takes : (state : State) (operation : Operation) (before after : Line) (k : Kind) (place : ReadAt) → SwapsNone before → Leads state operation before k after place →
@@ -128,4 +142,21 @@ takes state operation before after k place own leads = record {
   line = leads.1;
   committed = committed_by_read state operation before k place (read_of before) leads.2;
   given = given_by_read state operation before k place (read_of before) refl own leads.0 leads.2;
+}
+
+-- ---- a step of a program that may swap a main node of its own
+
+reading_gives : (state : State) (operation : Operation) (l : Line) (k : Kind) (place : ReadAt) (o : Option Read) → read_of l ≡ o →
+    kind_of (line_action state operation l) ≡ k → ReadsAlong state.heap operation.access o k place → given_in state operation o ≡ if_reading (is_some o) (given_if k (given_so place))
+reading_gives state operation l k place None is same along = refl
+reading_gives state operation l k place (Some r) is same along = read_gives state operation l k place r is same along
+
+-- such a step, which was in a READ or not
+pub takes_reading : (state : State) (operation : Operation) (before after : Line) (k : Kind) (place : ReadAt) (reading : Bool) → reading ≡ is_some (read_of before) →
+    Leads state operation before k after place → Takes state operation before (taken_in reading k place) after
+takes_reading state operation before after k place reading reads leads = record {
+  kind = leads.0;
+  line = leads.1;
+  committed = committed_by_read state operation before k place (read_of before) leads.2;
+  given = reading_gives state operation before k place (read_of before) refl leads.0 leads.2 ∙ ap (λ b. if_reading b (given_if k (given_so place))) (sym reads);
 }

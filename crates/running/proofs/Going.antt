@@ -1,30 +1,43 @@
 -- Steps of the programs, with all that they do.
-use Rattle.std.specs.Prelude.{◌≡◌, ℕ, List, Option, Some, None, refl}
+use Rattle.std.specs.Prelude.{◌≡◌, ℕ, Bool, is_some, List, [], ◌∷◌, Option, Some, None, refl}
 use Rattle.std.proofs.Common.{sym, ap, subst, ◌∙◌}
 use Rattle.ctrie_base.specs.declared.kinds.Kind.{Kind}
+use Rattle.history.specs.declared.calls.Call.{Call}
 use Rattle.history.specs.declared.calls.Access.{Access}
 use Rattle.history.specs.declared.calls.Access.TheVariants.{Writable, ReadOnly}
 use Rattle.slot_arena.specs.declared.refs.Ref.{Ref}
 use Rattle.slot_arena.specs.Heaps.{Heap}
 use Rattle.epochs.specs.Memories.{Memory}
 use Rattle.machine_model.specs.declared.actions.Action.{Action}
+use Rattle.machine_model.specs.declared.actions.Action.TheVariants as act
 use Rattle.machine_model.specs.declared.lines.Line.{Line}
 use Rattle.machine_model.specs.declared.operations.Operation.{Operation}
+use Rattle.machine_model.specs.declared.roots.RootWord.{RootWord}
 use Rattle.machine_model.specs.Acting.{attempt_after}
-use Rattle.machine_model.specs.Operations.{generation_from}
+use Rattle.machine_model.specs.Calls.{handle_of}
+use Rattle.machine_model.specs.Operations.{generation_from, line_action, read_of}
 use Rattle.machine_model.specs.Reading.{read_action}
-use Rattle.machine_model.specs.States.{State}
+use Rattle.machine_model.specs.States.{State, word_at}
 use Rattle.gcas.specs.declared.read.Read.{Read}
 use Rattle.gcas.specs.declared.read.ReadAt.{ReadAt}
 use Rattle.gcas.specs.declared.read.ReadAt.TheVariants as read
 use Rattle.gcas.specs.Reads.{line_at}
 use Rattle.trie_parts.specs.declared.work.Work.{Work}
+use Rattle.trie_parts.specs.declared.calls.KeyCall.{KeyCall}
+use Rattle.trie_parts.specs.declared.calls.Task.{Task}
+use Rattle.trie_parts.specs.Here.{at_heap, no_state}
 use Rattle.trie_parts.specs.Holding.{Acts}
 use Rattle.trie_parts.specs.Steps.{Leads}
+use Rattle.trie_parts.specs.Tasks.{call_of as key_call}
 use Rattle.rdcss_root.specs.Acts.{ActsInAll}
-use Rattle.rdcss_root.specs.Tables.{Table, acted_table}
+use Rattle.rdcss_root.specs.Tables.{Table, acted_table, word_in}
 use Rattle.rdcss_root.proofs.Together.{by_parts}
 use Rattle.root_asking.specs.declared.asking.Asking.TheVariants.{Unasked}
+use Rattle.operate.specs.declared.key_op.KeyOp.{KeyOp}
+use Rattle.operate.specs.Places.{key_line}
+use Rattle.operate.specs.Reach.{IsOfKey, SwapsNoRoot}
+use Rattle.operate.specs.Steps.{operation_for as as_key, table_after}
+use Rattle.operate.proofs.Wherever.{acts as key_acts}
 use Rattle.snapshot.specs.declared.snap.Snap.{Snap as ASnap}
 use Rattle.snapshot.specs.declared.tasks.SnapCall.{SnapCall}
 use Rattle.snapshot.specs.declared.walk.Walk.{Walk}
@@ -35,46 +48,49 @@ use Rattle.snapshot.specs.Tasks.{at_roots, drawn_by, for_task, mark_of, with_gen
 use Rattle.snapshot.specs.Walks.{on_call, walk_line, walk_line_at}
 use Rattle.running.specs.declared.job.Job.{Job}
 use Rattle.running.specs.declared.job.Program.{Program}
-use Rattle.running.specs.declared.job.Program.TheVariants.{Snap, Entries, Count}
+use Rattle.running.specs.declared.job.Program.TheVariants.{Key, Snap}
 use Rattle.running.specs.declared.programs.Programs.{Programs}
 use Rattle.running.specs.declared.programs.Stage.{Stage}
-use Rattle.running.specs.Places.{call_for, operation_for, stage_line, task_for}
-use Rattle.running.specs.Steps.{Does, Scene, taken_so}
-use Rattle.running.proofs.Giving.{takes}
+use Rattle.running.specs.Places.{IsBegun, call_for, generation_in, stage_line, task_for}
+use Rattle.running.specs.Steps.{Changes, Does, Scene, at_scene, operation_in, taken_in, taken_so}
+use Rattle.running.proofs.Asks.{key_handle}
+use Rattle.running.proofs.Giving.{SwapsNone, same_action, takes, takes_reading}
 use Rattle.running.proofs.Lasting.{snap_swaps_none, walk_swaps_none}
 
 -- ---- a snapshot, a freeze or a clear
 
 pub snaps : (job : Job) (call : SnapCall) (told : Option ℕ) (before : Scene) (memory : Memory) (table : Table) (generation : ℕ) (work : Work) (snap : ASnap) (k : Kind) (stage : Stage) →
     let p = before.programs in
-    let l = snap_line p.work.swap.read told p.snap in
+    let l = snap_line p.key.work.swap.read told p.snap in
     let task = task_for job call in
-    let after : Programs = record p { stage = stage; asking = Unasked; work = work; snap = snap } in
-    let as_task : Operation → Operation = λ operation. for_task task p.snap.attempt (mark_of before.table task) p.work.swap.read.access operation in
+    let after : Programs = record p { stage = stage; asking = Unasked; key = record p.key { work = work }; snap = snap } in
+    let as_task : Operation → Operation = λ operation. for_task task p.snap.attempt (mark_of before.table task) p.key.work.swap.read.access operation in
     ((state : State) (operation : Operation) →
-    Leads (at_roots state before.memory.heap before.table) (as_task operation) l k (stage_line after None (Snap call) stage) work.swap.read.at) →
-    ActsInAll before.memory before.table.roots p.work.private (with_generation before.generation (snap_action l)) memory table.roots work.private →
+        Leads (at_roots state before.memory.heap before.table) (as_task operation) l k (stage_line after None (Snap call) stage) work.swap.read.at) →
+    ActsInAll before.memory before.table.roots p.key.work.private (with_generation before.generation (snap_action l)) memory table.roots work.private →
     table ≡ acted_table before.table job.handle job.actor (snap_action l) →
     generation ≡ drawn_by before.memory.heap before.generation (snap_action l) →
     snap.attempt ≡ attempt_after p.snap.attempt (snap_action l) →
     ((state : State) (operation : Operation) →
-    snap.generation ≡ generation_from (at_roots state before.memory.heap before.table) (record (as_task operation) { generation = p.snap.generation }) l) →
-    work.swap.read.access ≡ p.work.swap.read.access →
+        snap.generation ≡ generation_from (at_roots state before.memory.heap before.table) (record (as_task operation) { generation = p.snap.generation }) l) →
+    work.swap.read.access ≡ p.key.work.swap.read.access →
     Does job (Snap call) l before (taken_so k work.swap.read.at) (record { memory = memory; table = table; generation = generation; programs = after })
 snaps job call told before memory table generation work snap k stage leads acts acted drawn attempt kept access =
     let p : Programs = before.programs in
+    let l : Line = snap_line p.key.work.swap.read told p.snap in
+    let after : Scene = record { memory = memory; table = table; generation = generation; programs = record p { stage = stage; asking = Unasked; key = record p.key { work = work }; snap = snap } } in
+    let does : Changes job before (snap_action l) after = record { acts = acts; table = acted; drawn = drawn; attempt = attempt } in
+    let none : SwapsNone l = snap_swaps_none p.key.work.swap.read told p.snap in
     record {
       takes = λ state operation.
-          let o : Operation = operation_for job (Snap call) before.table p operation in
-          takes (at_roots state before.memory.heap before.table) o (snap_line p.work.swap.read told p.snap) _ k work.swap.read.at
-          (snap_swaps_none p.work.swap.read told p.snap) (leads state o);
-      acts = acts;
-      table = acted;
-      drawn = drawn;
-      attempt = attempt;
-      generation = λ state operation. kept state (operation_for job (Snap call) before.table p operation);
+          let o : Operation = operation_in job (Snap call) before operation in
+          takes (at_scene state before) o l _ k work.swap.read.at none (leads (at_scene state before) o);
+      changes = λ state operation.
+          subst (λ (a : Action). Changes job before a after) (sym (same_action (at_scene state before) (operation_in job (Snap call) before operation) l none)) does;
+      generation = λ state operation. kept (at_scene state before) (operation_in job (Snap call) before operation);
       access = access;
-      sound = tt;
+      hashes = refl;
+      sound = (tt, tt);
     }
 
 -- ---- a walk
@@ -114,29 +130,108 @@ walk_keeps state operation q told todo pairs walk.Entry = refl
 -- a step of the walk that this program has
 pub walks : (job : Job) (program : Program) (told : Option ℕ) (before : Scene) (memory : Memory) (w : Walk) (after : Programs) (k : Kind) →
     let p = before.programs in
-    let l = walk_line p.work.swap.read told w in
+    let l = walk_line p.key.work.swap.read told w in
     ((state : State) (operation : Operation) →
-    Leads (at_roots state before.memory.heap before.table) (on_call (call_for job.handle program) p.work.swap.read.access operation) l k (stage_line after None program after.stage) after.work.swap.read.at) →
-    Acts before.memory p.work.private (snap_action l) memory after.work.private →
-    after.work.swap.read.access ≡ p.work.swap.read.access → after.asking ≡ Unasked → after.snap ≡ p.snap →
-    Does job program l before (taken_so k after.work.swap.read.at) (record { memory = memory; table = before.table; generation = before.generation; programs = after })
-walks job program told before memory w after k leads acts access unasked same =
+        Leads (at_roots state before.memory.heap before.table) (on_call (call_for job.handle program) p.key.work.swap.read.access operation) l k (stage_line after None program after.stage)
+        after.key.work.swap.read.at) →
+    Acts before.memory p.key.work.private (snap_action l) memory after.key.work.private →
+    after.key.work.swap.read.access ≡ p.key.work.swap.read.access → after.key.task ≡ p.key.task → after.asking ≡ Unasked → after.snap ≡ p.snap →
+    generation_in program p ≡ p.snap.generation → generation_in program after ≡ after.snap.generation → IsBegun program after →
+    Does job program l before (taken_so k after.key.work.swap.read.at) (record { memory = memory; table = before.table; generation = before.generation; programs = after })
+walks job program told before memory w after k leads acts access task unasked same mine mine' begun =
     let p : Programs = before.programs in
-    let q : Read = p.work.swap.read in
+    let q : Read = p.key.work.swap.read in
     let l : Line = walk_line q told w in
     let calm : Calm (snap_action l) = walk_calm q told w in
+    let none : SwapsNone l = walk_swaps_none q told w in
+    let then : Scene = record { memory = memory; table = before.table; generation = before.generation; programs = after } in
+    let does : Changes job before (snap_action l) then =
+        record {
+          acts = subst (λ (a : Action). ActsInAll before.memory before.table.roots p.key.work.private a memory before.table.roots after.key.work.private)
+              (sym (calm.plain before.generation)) (by_parts before.table.roots acts);
+          table = sym (calm.table before.table job.handle job.actor);
+          drawn = sym (calm.draws before.memory.heap before.generation);
+          attempt = ap (λ (s : ASnap). s.attempt) same ∙ sym (calm.offers p.snap.attempt);
+        } in
     record {
       takes = λ state operation.
-          let o : Operation = operation_for job program before.table p operation in
-          rw unasked (takes (at_roots state before.memory.heap before.table) o l _ k after.work.swap.read.at (walk_swaps_none q told w) (leads state o));
-      acts = subst (λ (a : Action). ActsInAll before.memory before.table.roots p.work.private a memory before.table.roots after.work.private)
-          (sym (calm.plain before.generation)) (by_parts before.table.roots acts);
-      table = sym (calm.table before.table job.handle job.actor);
-      drawn = sym (calm.draws before.memory.heap before.generation);
-      attempt = ap (λ (s : ASnap). s.attempt) same ∙ sym (calm.offers p.snap.attempt);
+          let o : Operation = operation_in job program before operation in
+          rw unasked (takes (at_scene state before) o l _ k after.key.work.swap.read.at none (leads (at_scene state before) o));
+      changes = λ state operation.
+          subst (λ (a : Action). Changes job before a then) (sym (same_action (at_scene state before) (operation_in job program before operation) l none)) does;
       generation = λ state operation.
-          ap (λ (s : ASnap). s.generation) same
-          ∙ sym (walk_keeps (at_roots state before.memory.heap before.table) (operation_for job program before.table p operation) q told w.todo w.pairs w.at);
+          mine' ∙ ap (λ (s : ASnap). s.generation) same ∙ sym mine
+          ∙ sym (walk_keeps (at_scene state before) (operation_in job program before operation) q told w.todo w.pairs w.at);
       access = access;
-      sound = rw unasked tt;
+      hashes = ap (λ (t : Task). t.hashes) task;
+      sound = (begun, rw unasked tt);
+    }
+
+-- ---- a call on one key
+
+-- a state in which this is the root word of handle 0
+pub with_word : RootWord → State
+with_word word = record no_state { roots = Some (record { access = Writable; word = word }) ∷ [] }
+
+key_operation : (job : Job) (call : KeyCall) (before : Scene) (operation : Operation) → before.programs.key.task.call ≡ call →
+    as_key before.programs.key (operation_in job (Key call) before operation) ≡ operation_in job (Key call) before operation
+key_operation job call before operation begun =
+    let o : Operation = operation_in job (Key call) before operation in
+    ap (λ (c : Call). record o { call = c }) (ap (key_call (handle_of (key_call job.handle call))) begun ∙ ap (λ n. key_call n call) (key_handle job.handle call))
+
+plain_action : (heap : Heap) (generation : ℕ) (action : Action) → SwapsNoRoot action → (with_generation generation action ≡ action) × (drawn_by heap generation action ≡ generation)
+plain_action heap generation (act.MakeRoot main) none = absurd none
+plain_action heap generation action none = (refl, refl)
+
+-- such a call took a step of its program
+pub keys : (job : Job) (call : KeyCall) (told : Option ℕ) (before : Scene) (memory : Memory) (table : Table) (key : KeyOp) (reading : Bool) (k : Kind) (stage : Stage) →
+    let p = before.programs in
+    let l = key_line p.key told in
+    let after : Programs = record p { stage = stage; asking = Unasked; key = key } in
+    p.key.task.call ≡ call →
+    reading ≡ is_some (read_of l) →
+    ((state : State) (operation : Operation) → word_at state (handle_of operation.call) ≡ word_in before.table job.handle →
+        Leads (at_heap state before.memory.heap p.key.task.hashes) (as_key p.key operation) l k (stage_line after None (Key call) stage) key.work.swap.read.at) →
+    ((state : State) (operation : Operation) →
+        ActsInAll before.memory before.table.roots p.key.work.private (line_action (at_heap state before.memory.heap p.key.task.hashes) (as_key p.key operation) l)
+        memory table.roots key.work.private) →
+    table ≡ table_after before.table job.handle p.key.place →
+    ((state : State) (operation : Operation) → word_at state (handle_of operation.call) ≡ word_in before.table job.handle →
+        key.task.generation ≡ generation_from (at_heap state before.memory.heap p.key.task.hashes) (as_key p.key operation) l) →
+    key.work.swap.read.access ≡ p.key.work.swap.read.access →
+    key.task ≡ record p.key.task { generation = key.task.generation } →
+    Does job (Key call) l before (taken_in reading k key.work.swap.read.at)
+    (record { memory = memory; table = table; generation = before.generation; programs = after })
+keys job call told before memory table key reading k stage begun reads leads acts acted kept access task =
+    let p : Programs = before.programs in
+    let l : Line = key_line p.key told in
+    let then : Scene = record { memory = memory; table = table; generation = before.generation; programs = record p { stage = stage; asking = Unasked; key = key } } in
+    let word : (state : State) (operation : Operation) → word_at (at_scene state before) (handle_of (key_call job.handle call)) ≡ word_in before.table job.handle =
+        λ state operation. ap (word_in before.table) (key_handle job.handle call) in
+    record {
+      takes = λ state operation.
+          let o : Operation = operation_in job (Key call) before operation in
+          let led =
+              subst (λ (x : Operation). Leads (at_scene state before) x l k (stage_line then.programs None (Key call) stage) key.work.swap.read.at)
+              (key_operation job call before operation begun) (leads (at_scene state before) o (word state operation)) in
+          takes_reading (at_scene state before) o l _ k key.work.swap.read.at reading reads led;
+      changes = λ state operation.
+          let o : Operation = operation_in job (Key call) before operation in
+          let a : Action = line_action (at_scene state before) o l in
+          let of : IsOfKey before.table job.handle p.key.place a = key_acts (at_scene state before) o before.table job.handle p.key told in
+          let plain = plain_action before.memory.heap before.generation a of.beside in
+          record {
+            acts = subst (λ (x : Action). ActsInAll before.memory before.table.roots p.key.work.private x memory table.roots key.work.private) (sym plain.0)
+                (subst (λ (x : Operation). ActsInAll before.memory before.table.roots p.key.work.private (line_action (at_scene state before) x l) memory table.roots key.work.private)
+                (key_operation job call before operation begun) (acts (at_scene state before) o));
+            table = acted ∙ sym (of.words job.actor);
+            drawn = sym plain.1;
+            attempt = sym (of.tries p.snap.attempt);
+          };
+      generation = λ state operation.
+          let o : Operation = operation_in job (Key call) before operation in
+          kept (at_scene state before) o (word state operation) ∙ ap (λ (x : Operation). generation_from (at_scene state before) x l) (key_operation job call before operation begun);
+      access = access;
+      hashes = ap (λ (t : Task). t.hashes) task;
+      sound = (ap (λ (t : Task). t.call) task ∙ begun, tt);
     }

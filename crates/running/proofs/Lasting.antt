@@ -22,17 +22,19 @@ use Rattle.snapshot.specs.declared.walk.WalkAt.{WalkAt}
 use Rattle.snapshot.specs.declared.walk.WalkAt.TheVariants as walk
 use Rattle.snapshot.specs.Copies.{snap_line, snap_line_at}
 use Rattle.snapshot.specs.Walks.{walk_line, walk_line_at}
+use Rattle.operate.proofs.Wherever.{tells as key_tells}
 use Rattle.snapshot.proofs.Told.{tells_snap, tells_walk}
 use Rattle.running.specs.declared.job.Program.{Program}
-use Rattle.running.specs.declared.job.Program.TheVariants.{Snap, Entries, Count, Close}
+use Rattle.running.specs.declared.job.Program.TheVariants.{Key, Snap, Entries, Count, Close}
 use Rattle.running.specs.declared.programs.Programs.{Programs}
 use Rattle.running.specs.Places.{program_line}
 use Rattle.running.proofs.Giving.{SwapsNone}
 
-pub tells : (p : Programs) (told : Option ℕ) (program : Program) → program_line p told program ≡ with_read (line_of p.work.swap.read told) (program_line p None program)
-tells p told (Snap call) = tells_snap p.work.swap.read told p.snap
-tells p told Entries = tells_walk p.work.swap.read told p.entries.walk
-tells p told Count = tells_walk p.work.swap.read told p.count.walk
+pub tells : (p : Programs) (told : Option ℕ) (program : Program) → program_line p told program ≡ with_read (line_of p.key.work.swap.read told) (program_line p None program)
+tells p told (Key call) = key_tells p.key told
+tells p told (Snap call) = tells_snap p.key.work.swap.read told p.snap
+tells p told Entries = tells_walk p.key.work.swap.read told p.entries.walk
+tells p told Count = tells_walk p.key.work.swap.read told p.count.walk
 tells p told Close = refl
 
 snaps_at : (r : Ref) (q : Read) (told : Option ℕ) (place : SnapAt) → SwapsNone (snap_line_at r q told place)

@@ -1,11 +1,8 @@
 -- Where an operation of the code stands, as the definition's line.
-use Rattle.std.specs.Prelude.{◌≡◌, ℕ, List, [], slice_index_or, false, Option, Some, None}
-use Rattle.history.specs.declared.calls.Access.{Access}
+use Rattle.std.specs.Prelude.{◌≡◌, ℕ, slice_index_or, false, Option, Some, None}
 use Rattle.history.specs.declared.calls.Call.{Call}
 use Rattle.history.specs.declared.calls.Call.TheVariants as calls
-use Rattle.history.specs.declared.replies.Reply.{Reply}
 use Rattle.history.specs.declared.replies.Reply.TheVariants as reply
-use Rattle.slot_arena.specs.declared.refs.Ref.{Ref}
 use Rattle.machine_model.specs.declared.lines.Line.{Line}
 use Rattle.machine_model.specs.declared.lines.Line.TheVariants as line
 use Rattle.machine_model.specs.declared.operations.Operation.{Operation}
@@ -17,10 +14,13 @@ use Rattle.machine_model.specs.Walking.{walked_reply}
 use Rattle.gcas.specs.declared.read.ReadAt.{ReadAt}
 use Rattle.gcas.specs.declared.read.ReadAt.TheVariants as at
 use Rattle.trie_parts.specs.Steps.{IsAskingLine}
+use Rattle.trie_parts.specs.Tasks.{call_of as key_call}
 use Rattle.rdcss_root.specs.Tables.{Table}
 use Rattle.root_asking.specs.declared.asking.Asking.{Asking}
 use Rattle.root_asking.specs.declared.asking.Asking.TheVariants.{Unasked, Met, Told}
 use Rattle.root_asking.specs.Inside.{with_read}
+use Rattle.operate.specs.Places.{key_line}
+use Rattle.operate.specs.Steps.{line_behind as line_answered}
 use Rattle.snapshot.specs.declared.tasks.SnapCall.{SnapCall}
 use Rattle.snapshot.specs.declared.tasks.SnapTask.{SnapTask}
 use Rattle.snapshot.specs.Copies.{snap_line, line_behind}
@@ -28,15 +28,16 @@ use Rattle.snapshot.specs.Tasks.{call_of as snap_call}
 use Rattle.snapshot.specs.Walks.{walk_line}
 use Rattle.running.specs.declared.job.Job.{Job}
 use Rattle.running.specs.declared.job.Program.{Program}
-use Rattle.running.specs.declared.job.Program.TheVariants.{Snap, Entries, Count, Close}
+use Rattle.running.specs.declared.job.Program.TheVariants.{Key, Snap, Entries, Count, Close}
 use Rattle.running.specs.declared.programs.Programs.{Programs}
 use Rattle.running.specs.declared.programs.Stage.{Stage}
-use Rattle.running.specs.declared.programs.Stage.TheVariants.{Runs, Swapped, Listed, Counted, Impossible}
+use Rattle.running.specs.declared.programs.Stage.TheVariants.{Runs, Answered, Swapped, Listed, Counted, Impossible}
 
 -- ---- the call
 
 -- the call with this program on this handle
 abbrev pub call_for : ℕ → Program → Call
+call_for handle (Key call) = key_call handle call
 call_for handle (Snap call) = snap_call handle call
 call_for handle Entries = calls.Entries handle
 call_for handle Count = calls.Count handle
@@ -46,30 +47,37 @@ call_for handle Close = calls.Close handle
 abbrev pub task_for : Job → SnapCall → SnapTask
 task_for job call = record { call = call; handle = job.handle; actor = job.actor; operation = job.id; opens = job.opens }
 
+-- the generation of the root that ROOT gave last
+abbrev pub generation_in : Program → Programs → Option ℕ
+generation_in (Key call) p = p.key.task.generation
+generation_in program p = p.snap.generation
+
 -- The operation, whatever else it has, of this job and program, whose programs stand so. Its mark is the actor's in the table of root words.
 abbrev pub operation_for : Job → Program → Table → Programs → Operation → Operation
 operation_for job program table p operation =
     record operation {
       id = job.id;
       call = call_for job.handle program;
-      access = p.work.swap.read.access;
+      access = p.key.work.swap.read.access;
       opens = job.opens;
       attempt = p.snap.attempt;
       is_marked = slice_index_or table.marks job.actor false;
-      generation = p.snap.generation;
+      generation = generation_in program p;
     }
 
 -- ---- the line
 
 -- the line of a program that was told this of the root's generation
 abbrev pub program_line : Programs → Option ℕ → Program → Line
-program_line p told (Snap call) = snap_line p.work.swap.read told p.snap
-program_line p told Entries = walk_line p.work.swap.read told p.entries.walk
-program_line p told Count = walk_line p.work.swap.read told p.count.walk
+program_line p told (Key call) = key_line p.key told
+program_line p told (Snap call) = snap_line p.key.work.swap.read told p.snap
+program_line p told Entries = walk_line p.key.work.swap.read told p.entries.walk
+program_line p told Count = walk_line p.key.work.swap.read told p.count.walk
 program_line p told Close = line.End reply.Closed
 
 abbrev pub stage_line : Programs → Option ℕ → Program → Stage → Line
 stage_line p told program Runs = program_line p told program
+stage_line p told program (Answered answer) = line_answered answer
 stage_line p told program (Swapped answer) = line_behind answer
 stage_line p told program Listed = line.End (walked_reply (calls.Entries 0) p.entries.walk.pairs)
 stage_line p told program Counted = line.End (walked_reply (calls.Count 0) p.count.walk.pairs)
@@ -82,7 +90,7 @@ met_at place offer = read.Main
 
 abbrev pub asking_line : Programs → Program → Stage → Asking → Line
 asking_line p program stage Unasked = stage_line p None program stage
-asking_line p program stage (Met offer) = with_read (met_at p.work.swap.read.at offer) (stage_line p None program stage)
+asking_line p program stage (Met offer) = with_read (met_at p.key.work.swap.read.at offer) (stage_line p None program stage)
 asking_line p program stage (Told generation) = stage_line p (Some generation) program stage
 
 -- the definition's line of an operation with this program
@@ -95,16 +103,10 @@ IsWaiting Unasked l = Unit {0}
 IsWaiting (Met offer) l = IsAskingLine l
 IsWaiting (Told generation) l = IsAskingLine l
 
+-- a call on one key was begun as such
+abbrev pub IsBegun : Program → Programs → Type 0
+IsBegun (Key call) p = p.key.task.call ≡ call
+IsBegun program p = Unit {0}
+
 abbrev pub IsSound : Program → Programs → Type 0
-IsSound program p = IsWaiting p.asking (stage_line p None program p.stage)
-
--- ---- the reply
-
--- the reply with which an operation on this line ends next, if it does
-abbrev pub answer_of : Line → Option Reply
-answer_of (line.End answer) = Some answer
-answer_of l = None
-
-abbrev pub at_once : Program → Option Reply
-at_once Close = Some reply.Closed
-at_once program = None
+IsSound program p = IsBegun program p × IsWaiting p.asking (stage_line p None program p.stage)

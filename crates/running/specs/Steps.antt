@@ -1,9 +1,10 @@
 -- What a step of an operation comes to, does and asks.
-use Rattle.std.specs.Prelude.{◌≡◌, ℕ, ◌<◌, ◌-◌, ◌^◌, Option, Some, None}
+use Rattle.std.specs.Prelude.{◌≡◌, ℕ, Bool, true, false, ◌<◌, ◌-◌, ◌^◌, Option, Some, None}
 use Rattle.ctrie_base.specs.declared.kinds.Kind.{Kind}
 use Rattle.ctrie_base.specs.declared.kinds.Kind.TheVariants as kind
 use Rattle.slot_arena.specs.declared.refs.Ref.{Ref}
 use Rattle.epochs.specs.Memories.{Memory}
+use Rattle.machine_model.specs.declared.actions.Action.{Action}
 use Rattle.machine_model.specs.declared.lines.Line.{Line}
 use Rattle.machine_model.specs.declared.operations.Operation.{Operation}
 use Rattle.machine_model.specs.declared.reading.After.{After}
@@ -24,17 +25,18 @@ use Rattle.rdcss_root.specs.Tables.{Table, acted_table}
 use Rattle.root_asking.specs.declared.asking.Asking.{Asking}
 use Rattle.root_asking.specs.declared.asking.Asking.TheVariants.{Unasked, Met, Told}
 use Rattle.root_asking.specs.Asked.{abort_of}
-use Rattle.snapshot.specs.Copies.{CanSnap, IsReadyBeside, snap_action}
-use Rattle.snapshot.specs.Tasks.{at_roots, drawn_by, with_generation}
+use Rattle.operate.specs.Steps.{CanKey}
+use Rattle.snapshot.specs.Copies.{CanSnap, IsReadyBeside}
+use Rattle.snapshot.specs.Tasks.{drawn_by, with_generation}
 use Rattle.snapshot.specs.Walks.{CanWalk}
 use Rattle.running.specs.declared.job.Job.{Job}
 use Rattle.running.specs.declared.job.Program.{Program}
-use Rattle.running.specs.declared.job.Program.TheVariants.{Snap, Entries, Count, Close}
+use Rattle.running.specs.declared.job.Program.TheVariants.{Key, Snap, Entries, Count, Close}
 use Rattle.running.specs.declared.programs.Programs.{Programs}
 use Rattle.running.specs.declared.programs.Stage.{Stage}
 use Rattle.running.specs.declared.programs.Stage.TheVariants.{Runs}
 use Rattle.running.specs.declared.taken.Taken.{Taken}
-use Rattle.running.specs.Places.{IsSound, line_for, operation_for}
+use Rattle.running.specs.Places.{IsSound, generation_in, line_for, operation_for}
 
 -- ---- what it comes to
 
@@ -51,7 +53,16 @@ abbrev pub committed_if : Kind → Option Ref → Option Ref
 committed_if kind.SwapPrev given = given
 committed_if k given = None
 
--- a step of this kind, behind which the operation's READ stands here
+-- what a READ gives, if the step is one of a READ
+abbrev pub if_reading : Bool → Option Ref → Option Ref
+if_reading true given = given
+if_reading false given = None
+
+-- a step of this kind of a call on one key, which was in a READ or not, and behind which its READ stands here
+abbrev pub taken_in : Bool → Kind → ReadAt → Taken
+taken_in reading k place = record { kind = k; committed = committed_if k (given_so place); given = if_reading reading (given_if k (given_so place)) }
+
+-- a step of this kind of any other call, behind which the operation's READ stands here
 abbrev pub taken_so : Kind → ReadAt → Taken
 taken_so k place = record { kind = k; committed = committed_if k (given_so place); given = given_if k (given_so place) }
 
@@ -80,25 +91,40 @@ pub record Scene : Type 0 where
   pub generation : ℕ
   pub programs : Programs
 
+abbrev pub scene : Memory → Table → ℕ → Programs → Scene
+scene memory table generation programs = record { memory = memory; table = table; generation = generation; programs = programs }
+
+-- the state, whatever else it has, in which all this stands
+abbrev pub at_scene : State → Scene → State
+at_scene state scene =
+    record state { heap = scene.memory.heap; roots = scene.table.roots; limits = record state.limits { hash = scene.programs.key.task.hashes } }
+
+abbrev pub operation_in : Job → Program → Scene → Operation → Operation
+operation_in job program scene operation = operation_for job program scene.table scene.programs operation
+
+-- The action of an operation of this job leads from one scene to another.
+pub record Changes (job : Job) (before : Scene) (action : Action) (after : Scene) : Type 0 where
+  pub acts : ActsInAll before.memory before.table.roots before.programs.key.work.private (with_generation before.generation action) after.memory after.table.roots after.programs.key.work.private
+  pub table : after.table ≡ acted_table before.table job.handle job.actor action
+  pub drawn : after.generation ≡ drawn_by before.memory.heap before.generation action
+  pub attempt : after.programs.snap.attempt ≡ attempt_after before.programs.snap.attempt action
+
 -- The step from this line, of this job and program, was this one, and leads from one scene to another.
 pub record Does (job : Job) (program : Program) (l : Line) (before : Scene) (taken : Taken) (after : Scene) : Type 0 where
-  pub takes : (state : State) (operation : Operation) →
-      Takes (at_roots state before.memory.heap before.table) (operation_for job program before.table before.programs operation) l taken (line_for program after.programs)
-  pub acts : ActsInAll before.memory before.table.roots before.programs.work.private (with_generation before.generation (snap_action l)) after.memory after.table.roots after.programs.work.private
-  pub table : after.table ≡ acted_table before.table job.handle job.actor (snap_action l)
-  pub drawn : after.generation ≡ drawn_by before.memory.heap before.generation (snap_action l)
-  pub attempt : after.programs.snap.attempt ≡ attempt_after before.programs.snap.attempt (snap_action l)
-  pub generation : (state : State) (operation : Operation) →
-      after.programs.snap.generation ≡ generation_from (at_roots state before.memory.heap before.table) (operation_for job program before.table before.programs operation) l
-  pub access : after.programs.work.swap.read.access ≡ before.programs.work.swap.read.access
+  pub takes : (state : State) (operation : Operation) → Takes (at_scene state before) (operation_in job program before operation) l taken (line_for program after.programs)
+  pub changes : (state : State) (operation : Operation) → Changes job before (line_action (at_scene state before) (operation_in job program before operation) l) after
+  pub generation : (state : State) (operation : Operation) → generation_in program after.programs ≡ generation_from (at_scene state before) (operation_in job program before operation) l
+  pub access : after.programs.key.work.swap.read.access ≡ before.programs.key.work.swap.read.access
+  pub hashes : after.programs.key.task.hashes ≡ before.programs.key.task.hashes
   pub sound : IsSound program after.programs
 
 -- ---- what it asks
 
 abbrev pub CanProgram : Scene → Program → Type 0
-CanProgram scene (Snap call) = CanSnap scene.memory scene.table scene.programs.work.swap.read scene.generation scene.programs.snap
-CanProgram scene Entries = CanWalk scene.memory.heap scene.programs.work.swap.read scene.programs.entries.walk
-CanProgram scene Count = CanWalk scene.memory.heap scene.programs.work.swap.read scene.programs.count.walk
+CanProgram scene (Key call) = CanKey scene.memory scene.table scene.programs.key
+CanProgram scene (Snap call) = CanSnap scene.memory scene.table scene.programs.key.work.swap.read scene.generation scene.programs.snap
+CanProgram scene Entries = CanWalk scene.memory.heap scene.programs.key.work.swap.read scene.programs.entries.walk
+CanProgram scene Count = CanWalk scene.memory.heap scene.programs.key.work.swap.read scene.programs.count.walk
 CanProgram scene Close = Unit {0}
 
 abbrev pub CanStage : Scene → Program → Stage → Type 0
@@ -109,6 +135,6 @@ CanStage scene program stage = Unit {0}
 pub record CanStep (scene : Scene) (program : Program) : Type 0 where
   pub runs : CanStage scene program scene.programs.stage
   pub abort : CanAbortOn scene.memory scene.table (abort_of scene.programs.asking)
-  pub ready : IsReadyBeside scene.memory scene.table.roots scene.programs.work.private
+  pub ready : IsReadyBeside scene.memory scene.table.roots scene.programs.key.work.private
   pub attempts : scene.programs.snap.attempt < 2 ^ 64 - 1
   pub generations : scene.generation < 2 ^ 64 - 1

@@ -3,11 +3,14 @@
 ghost use Rattle.std.specs.Prelude.{◌≡◌};
 ghost use Rattle.running.specs.Places.{task_for};
 
+use operate::KeyCall;
 use snapshot::{SnapCall, SnapTask};
 
 /// The program of a call.
 #[derive(Clone, Copy, Debug, PartialEq, Eq)]
 pub enum Program {
+    /// A call on one key.
+    Key(KeyCall),
     /// A snapshot, a freeze or a clear.
     Snap(SnapCall),
     /// All pairs.

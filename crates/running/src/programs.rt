@@ -1,34 +1,38 @@
 //! The programs of an actor's operations, changed in place.
 
-ghost use Rattle.std.specs.Prelude.{◌≡◌, ◌<◌, ◌-◌, ◌^◌, ℕ, [], None, Some, IfOk, IfErr, OnErr};
+ghost use Rattle.std.specs.Prelude.{◌≡◌, ◌<◌, ◌-◌, ◌^◌, ℕ, [], Option, None, Some, IfOk, IfErr, OnErr};
 ghost use Rattle.machine_model.specs.Operations.{first_line};
 ghost use Rattle.trie_parts.specs.Steps.{IsAskingLine};
 ghost use Rattle.rdcss_root.specs.Programs.{CanAbortOn};
 ghost use Rattle.root_asking.specs.Asked.{IsUntold, abort_of};
+ghost use Rattle.key_finding.specs.Replies.{reply_of as key_reply};
+ghost use Rattle.operate.specs.Places.{answer_of, key_line};
+ghost use Rattle.operate.specs.Steps.{CanKey};
 ghost use Rattle.snapshot.specs.Copies.{CanSnap, IsReadyBeside, snap_line};
 ghost use Rattle.snapshot.specs.Tasks.{reply_of};
 ghost use Rattle.snapshot.specs.Walks.{CanWalk, walk_line};
-ghost use Rattle.running.specs.Places.{answer_of, asking_line, at_once, call_for, line_for, program_line, IsSound, IsWaiting};
-ghost use Rattle.running.specs.Steps.{CanProgram, CanStep, Does, taken_so};
+ghost use Rattle.running.specs.Places.{asking_line, call_for, generation_in, line_for, program_line, IsBegun, IsSound, IsWaiting};
+ghost use Rattle.running.specs.Steps.{CanProgram, CanStep, Does, scene, taken_in, taken_so};
 
 use crate::job::{Job, Program};
 use crate::taken::Taken;
-use ctrie_base::{Kind, Refusal};
+use ctrie_base::{HashKind, Kind, Refusal};
 use epochs::Heap;
-use gcas::{Next, Swap};
+use gcas::Next;
 use history::{Access, Reply};
+use operate::{KeyCall, KeyOp, KeyReply};
 use rdcss_root::Roots;
 use root_asking::Asking;
-use slot_arena::Ref;
 use snapshot::{Count, Entries, Snap, SnapCall, SnapReply, Walked};
 use std::alloc::Global;
-use trie_parts::{Private, Work};
 
 /// How far an operation has come.
 #[derive(Clone, Copy)]
 pub enum Stage {
     /// Its program runs.
     Runs,
+    /// It was a call on one key, and has ended with this reply.
+    Answered(KeyReply),
     /// It swapped the root, or found no free slot: it ends with this reply.
     Swapped(SnapReply),
     /// It met all pairs: it ends with these.
@@ -44,45 +48,47 @@ pub enum Stage {
 pub struct Programs {
     pub(crate) stage: Stage,
     pub(crate) asking: Asking,
-    pub(crate) work: Work,
+    /// The calls on one key; its READ and its private list are those of all.
+    pub(crate) key: KeyOp,
     pub(crate) snap: Snap,
     pub(crate) entries: Entries,
     pub(crate) count: Count,
 }
 
 impl Programs {
-    /// None of them has begun. It takes no memory.
-    pub fn new(alloc: Global) -> Programs
-        ensures { result.work.private ≡ [] }
+    /// None of them has begun.
+    pub fn new(alloc: Global, hashes: HashKind) -> Result<Programs, Refusal>
+        ensures hashes { IfOk result (λ programs. programs.key.task.hashes ≡ hashes) }
+        ensures private { IfOk result (λ programs. programs.key.work.private ≡ []) }
+        ensures only_memory { IfErr result (λ refusal. refusal ≡ Refusal.Memory) }
     {
-        let nowhere = Ref::default();
-        Programs {
+        let key = KeyOp::new(alloc, hashes)?;
+        Ok(Programs {
             stage: Stage::Impossible,
             asking: Asking::Unasked,
-            work: Work {
-                private: Private::new(alloc),
-                swap: Swap::new(Access::ReadOnly, nowhere, nowhere, nowhere),
-            },
+            key,
             snap: Snap::new(),
             entries: Entries::new(alloc),
             count: Count::new(alloc),
-        }
+        })
     }
 
     /// Begins this one, on a handle of this kind.
     pub fn begin(&mut self, program: Program, access: Access)
         ensures line { (handle : ℕ) → line_for program self.new ≡ first_line (call_for handle program) }
         ensures attempt { self.new.snap.attempt ≡ 0 }
-        ensures generation { self.new.snap.generation ≡ None }
-        ensures access { self.new.work.swap.read.access ≡ access }
-        ensures private { self.new.work.private ≡ self.old.work.private }
+        ensures generation { generation_in program self.new ≡ None }
+        ensures hashes { self.new.key.task.hashes ≡ self.old.key.task.hashes }
+        ensures access { self.new.key.work.swap.read.access ≡ access }
+        ensures private { self.new.key.work.private ≡ self.old.key.work.private }
         ensures sound { IsSound program self.new }
     {
         self.stage = Stage::Runs;
         self.asking = Asking::Unasked;
-        self.work.swap.read.access = access;
+        self.key.work.swap.read.access = access;
         self.snap = Snap::new();
         match program {
+            Program::Key(call) => self.key.begin(access, call),
             Program::Entries => self.entries.begin(),
             Program::Count => self.count.begin(),
             Program::Snap(_) | Program::Close => {}
@@ -98,15 +104,18 @@ impl Programs {
         generations: &mut u64,
         heap: &mut Heap,
     ) -> Result<Taken, Refusal>
-        requires can { CanStep (record { memory = heap.old; table = roots.old; generation = generations.old; programs = self.old }) program }
+        requires can { CanStep (scene heap.old roots.old generations.old self.old) program }
         requires sound { IsSound program self.old }
-        ensures does { IfOk result (λ taken. Does job program (line_for program self.old) (record { memory = heap.old; table = roots.old; generation = generations.old; programs = self.old }) taken (record { memory = heap.new; table = roots.new; generation = generations.new; programs = self.new })) }
+        ensures does { IfOk result (λ taken. Does job program (line_for program self.old)
+            (scene heap.old roots.old generations.old self.old) taken (scene heap.new roots.new generations.new self.new)) }
         ensures err { OnErr result ((self.new ≡ self.old) × (roots.new ≡ roots.old) × (generations.new ≡ generations.old) × (heap.new ≡ heap.old)) }
         ensures only_memory { IfErr result (λ refusal. refusal ≡ Refusal.Memory) }
     {
         match &self.stage {
             Stage::Runs => self.go_on(job, program, roots, generations, heap),
-            Stage::Swapped(_) | Stage::Listed | Stage::Counted => Ok(Taken::of_kind(Kind::End)),
+            Stage::Answered(_) | Stage::Swapped(_) | Stage::Listed | Stage::Counted => {
+                Ok(Taken::of_kind(Kind::End))
+            }
             Stage::Impossible => Ok(Taken::of_kind(Kind::ReadRoot)),
         }
     }
@@ -117,11 +126,28 @@ impl Programs {
         ensures only_memory { IfErr result (λ refusal. refusal ≡ Refusal.Memory) }
     {
         match &self.stage {
-            Stage::Runs => Ok(at_once(program)),
+            Stage::Runs => Ok(self.at_once(program)),
+            Stage::Answered(reply) => Ok(Some(key_reply(*reply))),
             Stage::Swapped(reply) => Ok(Some(reply_of(*reply))),
             Stage::Listed => Ok(Some(Reply::Pairs(self.entries.pairs()?))),
             Stage::Counted => Ok(Some(Reply::Count(self.count.count()))),
             Stage::Impossible => Ok(None),
+        }
+    }
+
+    /// The reply with which the program ends by its next step, if it does.
+    fn at_once(&self, program: Program) -> Option<Reply>
+        ensures { (told : Option ℕ) → answer_of (program_line self.now told program) ≡ result }
+    {
+        match program {
+            Program::Key(_) => match self.key.reply() {
+                Some(reply) => Some(key_reply(reply)),
+                None => None,
+            },
+            Program::Close => Some(Reply::Closed),
+            Program::Snap(_) => None,
+            Program::Entries => None,
+            Program::Count => None,
         }
     }
 
@@ -134,13 +160,15 @@ impl Programs {
         generations: &mut u64,
         heap: &mut Heap,
     ) -> Result<Taken, Refusal>
-        requires program { CanProgram (record { memory = heap.old; table = roots.old; generation = generations.old; programs = self.old }) program }
+        requires program { CanProgram (scene heap.old roots.old generations.old self.old) program }
         requires abort { CanAbortOn heap.old roots.old (abort_of self.old.asking) }
-        requires ready { IsReadyBeside heap.old roots.old.roots self.old.work.private }
+        requires ready { IsReadyBeside heap.old roots.old.roots self.old.key.work.private }
         requires attempts { self.old.snap.attempt < 2 ^ 64 - 1 }
         requires generations { generations.old < 2 ^ 64 - 1 }
+        requires begun { IsBegun program self.old }
         requires sound { IsWaiting self.old.asking (program_line self.old None program) }
-        ensures does { IfOk result (λ taken. Does job program (asking_line self.old program Stage.Runs self.old.asking) (record { memory = heap.old; table = roots.old; generation = generations.old; programs = self.old }) taken (record { memory = heap.new; table = roots.new; generation = generations.new; programs = self.new })) }
+        ensures does { IfOk result (λ taken. Does job program (asking_line self.old program Stage.Runs self.old.asking)
+            (scene heap.old roots.old generations.old self.old) taken (scene heap.new roots.new generations.new self.new)) }
         ensures err { OnErr result ((self.new ≡ self.old) × (roots.new ≡ roots.old) × (generations.new ≡ generations.old) × (heap.new ≡ heap.old)) }
         ensures only_memory { IfErr result (λ refusal. refusal ≡ Refusal.Memory) }
     {
@@ -167,20 +195,64 @@ impl Programs {
         generations: &mut u64,
         heap: &mut Heap,
     ) -> Result<Taken, Refusal>
-        requires program { CanProgram (record { memory = heap.old; table = roots.old; generation = generations.old; programs = self.old }) program }
-        requires ready { IsReadyBeside heap.old roots.old.roots self.old.work.private }
+        requires program { CanProgram (scene heap.old roots.old generations.old self.old) program }
+        requires ready { IsReadyBeside heap.old roots.old.roots self.old.key.work.private }
         requires attempts { self.old.snap.attempt < 2 ^ 64 - 1 }
+        requires begun { IsBegun program self.old }
         requires generations { generations.old < 2 ^ 64 - 1 }
-        ensures does { IfOk result (λ taken. Does job program (program_line self.old told program) (record { memory = heap.old; table = roots.old; generation = generations.old; programs = self.old }) taken (record { memory = heap.new; table = roots.new; generation = generations.new; programs = self.new })) }
+        ensures does { IfOk result (λ taken. Does job program (program_line self.old told program)
+            (scene heap.old roots.old generations.old self.old) taken (scene heap.new roots.new generations.new self.new)) }
         ensures err { OnErr result ((self.new ≡ self.old) × (roots.new ≡ roots.old) × (generations.new ≡ generations.old) × (heap.new ≡ heap.old)) }
         ensures only_memory { IfErr result (λ refusal. refusal ≡ Refusal.Memory) }
     {
         match program {
+            Program::Key(call) => self.change_key(call, told, job, roots, *generations, heap),
             Program::Snap(call) => self.swap_root(call, told, job, roots, generations, heap),
             Program::Entries => self.list(told, job, roots, *generations, heap),
             Program::Count => self.count_up(told, job, roots, *generations, heap),
             Program::Close => Ok(self.come_to(Stage::Runs, Kind::End)),
         }
+    }
+
+    /// Takes a step of a call on one key.
+    fn change_key(
+        &mut self,
+        call: KeyCall,
+        told: Option<u64>,
+        job: Job,
+        roots: &mut Roots,
+        generation: u64,
+        heap: &mut Heap,
+    ) -> Result<Taken, Refusal>
+        requires can { CanKey heap.old roots.old self.old.key }
+        requires ready { IsReadyBeside heap.old roots.old.roots self.old.key.work.private }
+        requires begun { self.old.key.task.call ≡ call }
+        ensures does { IfOk result (λ taken. Does job (Program.Key call) (key_line self.old.key told)
+            (scene heap.old roots.old generation self.old) taken (scene heap.new roots.new generation self.new)) }
+        ensures err { OnErr result ((self.new ≡ self.old) × (roots.new ≡ roots.old) × (heap.new ≡ heap.old)) }
+        ensures only_memory { IfErr result (λ refusal. refusal ≡ Refusal.Memory) }
+    {
+        let is_reading = self.key.is_reading();
+        match self.key.step(roots, job.handle, heap, told)? {
+            Next::More(kind) => Ok(self.come_by_key(Stage::Runs, is_reading, kind)),
+            Next::AskRoot => {
+                let program = Program::Key(call);
+                Ok(self.ask(Asking::Unasked, job, program, roots, generation, heap))
+            }
+            Next::Done(kind, reply) => {
+                Ok(self.come_by_key(Stage::Answered(reply), is_reading, kind))
+            }
+        }
+    }
+
+    /// The call on one key took a step of this kind, was in a READ or not, and has come to this stage.
+    fn come_by_key(&mut self, stage: Stage, is_reading: bool, kind: Kind) -> Taken
+        ensures same { self.new ≡ record self.old { stage = stage; asking = Asking.Unasked } }
+        ensures taken { result ≡ taken_in is_reading kind self.old.key.work.swap.read.at }
+    {
+        self.stage = stage;
+        self.asking = Asking::Unasked;
+        Taken::by_key(is_reading, kind, &self.key.work.swap.read.at)
     }
 
     /// Takes a step of a snapshot, a freeze or a clear.
@@ -193,18 +265,19 @@ impl Programs {
         generations: &mut u64,
         heap: &mut Heap,
     ) -> Result<Taken, Refusal>
-        requires can { CanSnap heap.old roots.old self.old.work.swap.read generations.old self.old.snap }
-        requires ready { IsReadyBeside heap.old roots.old.roots self.old.work.private }
+        requires can { CanSnap heap.old roots.old self.old.key.work.swap.read generations.old self.old.snap }
+        requires ready { IsReadyBeside heap.old roots.old.roots self.old.key.work.private }
         requires attempts { self.old.snap.attempt < 2 ^ 64 - 1 }
         requires generations { generations.old < 2 ^ 64 - 1 }
-        ensures does { IfOk result (λ taken. Does job (Program.Snap call) (snap_line self.old.work.swap.read told self.old.snap) (record { memory = heap.old; table = roots.old; generation = generations.old; programs = self.old }) taken (record { memory = heap.new; table = roots.new; generation = generations.new; programs = self.new })) }
+        ensures does { IfOk result (λ taken. Does job (Program.Snap call) (snap_line self.old.key.work.swap.read told self.old.snap)
+            (scene heap.old roots.old generations.old self.old) taken (scene heap.new roots.new generations.new self.new)) }
         ensures err { OnErr result ((self.new ≡ self.old) × (roots.new ≡ roots.old) × (generations.new ≡ generations.old) × (heap.new ≡ heap.old)) }
         ensures only_memory { IfErr result (λ refusal. refusal ≡ Refusal.Memory) }
     {
         let task = job.swapping(call);
         match self
             .snap
-            .step(&mut self.work, roots, generations, heap, task, told)?
+            .step(&mut self.key.work, roots, generations, heap, task, told)?
         {
             Next::More(kind) => Ok(self.come_to(Stage::Runs, kind)),
             Next::AskRoot => {
@@ -224,15 +297,16 @@ impl Programs {
         generation: u64,
         heap: &mut Heap,
     ) -> Result<Taken, Refusal>
-        requires can { CanWalk heap.old.heap self.old.work.swap.read self.old.entries.walk }
-        requires room { IsReadyBeside heap.old roots.old.roots self.old.work.private }
-        ensures does { IfOk result (λ taken. Does job Program.Entries (walk_line self.old.work.swap.read told self.old.entries.walk) (record { memory = heap.old; table = roots.old; generation = generation; programs = self.old }) taken (record { memory = heap.new; table = roots.new; generation = generation; programs = self.new })) }
+        requires can { CanWalk heap.old.heap self.old.key.work.swap.read self.old.entries.walk }
+        requires room { IsReadyBeside heap.old roots.old.roots self.old.key.work.private }
+        ensures does { IfOk result (λ taken. Does job Program.Entries (walk_line self.old.key.work.swap.read told self.old.entries.walk)
+            (scene heap.old roots.old generation self.old) taken (scene heap.new roots.new generation self.new)) }
         ensures err { OnErr result ((self.new ≡ self.old) × (roots.new ≡ roots.old) × (heap.new ≡ heap.old)) }
         ensures only_memory { IfErr result (λ refusal. refusal ≡ Refusal.Memory) }
     {
         match self
             .entries
-            .step(&mut self.work, roots, job.handle, heap, told)?
+            .step(&mut self.key.work, roots, job.handle, heap, told)?
         {
             Next::More(kind) => Ok(self.come_to(Stage::Runs, kind)),
             Next::AskRoot => {
@@ -253,15 +327,16 @@ impl Programs {
         generation: u64,
         heap: &mut Heap,
     ) -> Result<Taken, Refusal>
-        requires can { CanWalk heap.old.heap self.old.work.swap.read self.old.count.walk }
-        requires room { IsReadyBeside heap.old roots.old.roots self.old.work.private }
-        ensures does { IfOk result (λ taken. Does job Program.Count (walk_line self.old.work.swap.read told self.old.count.walk) (record { memory = heap.old; table = roots.old; generation = generation; programs = self.old }) taken (record { memory = heap.new; table = roots.new; generation = generation; programs = self.new })) }
+        requires can { CanWalk heap.old.heap self.old.key.work.swap.read self.old.count.walk }
+        requires room { IsReadyBeside heap.old roots.old.roots self.old.key.work.private }
+        ensures does { IfOk result (λ taken. Does job Program.Count (walk_line self.old.key.work.swap.read told self.old.count.walk)
+            (scene heap.old roots.old generation self.old) taken (scene heap.new roots.new generation self.new)) }
         ensures err { OnErr result ((self.new ≡ self.old) × (roots.new ≡ roots.old) × (heap.new ≡ heap.old)) }
         ensures only_memory { IfErr result (λ refusal. refusal ≡ Refusal.Memory) }
     {
         match self
             .count
-            .step(&mut self.work, roots, job.handle, heap, told)?
+            .step(&mut self.key.work, roots, job.handle, heap, told)?
         {
             Next::More(kind) => Ok(self.come_to(Stage::Runs, kind)),
             Next::AskRoot => {
@@ -276,11 +351,11 @@ impl Programs {
     /// The program took a step of this kind, and has come to this stage.
     fn come_to(&mut self, stage: Stage, kind: Kind) -> Taken
         ensures same { self.new ≡ record self.old { stage = stage; asking = Asking.Unasked } }
-        ensures taken { result ≡ taken_so kind self.old.work.swap.read.at }
+        ensures taken { result ≡ taken_so kind self.old.key.work.swap.read.at }
     {
         self.stage = stage;
         self.asking = Asking::Unasked;
-        Taken::by_read(kind, &self.work.swap.read.at)
+        Taken::by_read(kind, &self.key.work.swap.read.at)
     }
 
     /// Takes a step of ABORT, for a program whose READ asks.
@@ -295,8 +370,10 @@ impl Programs {
     ) -> Taken
         requires asks { IsAskingLine (program_line self.old None program) }
         requires untold { IsUntold asking }
+        requires begun { IsBegun program self.old }
         requires can { CanAbortOn heap.old roots.old (abort_of asking) }
-        ensures does { Does job program (asking_line self.old program Stage.Runs asking) (record { memory = heap.old; table = roots.old; generation = generation; programs = self.old }) result (record { memory = heap.new; table = roots.new; generation = generation; programs = self.new }) }
+        ensures does { Does job program (asking_line self.old program Stage.Runs asking)
+            (scene heap.old roots.old generation self.old) result (scene heap.new roots.new generation self.new) }
     {
         let mut asking = asking;
         let kind = asking.step(roots, job.handle, heap);
@@ -306,13 +383,15 @@ impl Programs {
     }
 }
 
-/// The reply of a call that is done as it begins.
-fn at_once(program: Program) -> Option<Reply>
-    ensures { result ≡ at_once program }
+/// The reply to a call on one key.
+fn key_reply(reply: KeyReply) -> Reply
+    ensures { result ≡ key_reply reply }
 {
-    match program {
-        Program::Close => Some(Reply::Closed),
-        Program::Snap(_) | Program::Entries | Program::Count => None,
+    match reply {
+        KeyReply::Found(value) => Reply::Found(value),
+        KeyReply::Truth(done) => Reply::Truth(done),
+        KeyReply::Crowded => Reply::Crowded,
+        KeyReply::NoSlots => Reply::NoSlots,
     }
 }
 

@@ -2,7 +2,7 @@
 
 ghost use Rattle.std.specs.Prelude.{◌≡◌};
 ghost use Rattle.gcas.specs.Reads.{given_so};
-ghost use Rattle.running.specs.Steps.{taken_so, given_if, committed_if};
+ghost use Rattle.running.specs.Steps.{taken_so, taken_in, if_reading, given_if, committed_if};
 
 use ctrie_base::Kind;
 use gcas::ReadAt;
@@ -27,6 +27,17 @@ impl Taken {
             kind,
             committed: committed_if(kind, given_at(at)),
             given: given_if(kind, given_at(at)),
+        }
+    }
+
+    /// A step of this kind of a call on one key, which was in a READ or not, and behind which its READ stands here.
+    pub(crate) fn by_key(is_reading: bool, kind: Kind, at: &ReadAt) -> Taken
+        ensures { result ≡ taken_in is_reading kind at.now }
+    {
+        Taken {
+            kind,
+            committed: committed_if(kind, given_at(at)),
+            given: if_reading(is_reading, given_if(kind, given_at(at))),
         }
     }
 
@@ -70,4 +81,14 @@ fn committed_if(kind: Kind, given: Option<Ref>) -> Option<Ref>
         Kind::SwapPrev => given,
         _ => None,
     }
+}
+
+/// What a READ gives, if the step is one of a READ.
+fn if_reading(is_reading: bool, given: Option<Ref>) -> Option<Ref>
+    ensures { result ≡ if_reading is_reading given }
+{
+    if is_reading {
+        return given;
+    }
+    None
 }

@@ -16,8 +16,9 @@ returns c =
           c.step-kind.result
           c.requires.asks
           c.requires.untold
+      c.requires.begun
           c.step-kind.ensures.follows
           c.step-kind.ensures.table
-          (c.step-kind.ensures.acts c.args.self.now.work.private)
+          (c.step-kind.ensures.acts c.args.self.now.key.work.private)
           );
     }

@@ -10,17 +10,17 @@ use Rattle.running.proofs.programs.Programs.list.Goals as goal
 pub ask-requires-clause-asks : goal.ask-requires-clause-asks
 ask-requires-clause-asks c =
     let p = c.args.self.now in
-    let asking : IsAskingLine (walk_line p.work.swap.read c.args.told p.entries.walk) = (rw c.in-AskRoot.is at c.in_ok-kind.ensures.follows) no_state no_operation in
+    let asking : IsAskingLine (walk_line p.key.work.swap.read c.args.told p.entries.walk) = (rw c.in-AskRoot.is at c.in_ok-kind.ensures.follows) no_state no_operation in
     let same = (rw c.in-AskRoot.is at c.in_ok-kind.ensures.asks) (tt {0}) in
-    let untold : c.args.told ≡ None = walk_untold p.work.swap.read c.args.told p.entries.walk asking in
+    let untold : c.args.told ≡ None = walk_untold p.key.work.swap.read c.args.told p.entries.walk asking in
     rw (same.0, same.1) (rw untold at asking)
 
 pub returns-in-AskRoot-clause-does : goal.returns-in-AskRoot-clause-does
 returns-in-AskRoot-clause-does c =
     let p = c.args.self.now in
-    let asking : IsAskingLine (walk_line p.work.swap.read c.args.told p.entries.walk) = (rw c.in-AskRoot.is at c.in_ok-kind.ensures.follows) no_state no_operation in
+    let asking : IsAskingLine (walk_line p.key.work.swap.read c.args.told p.entries.walk) = (rw c.in-AskRoot.is at c.in_ok-kind.ensures.follows) no_state no_operation in
     let same = (rw c.in-AskRoot.is at c.in_ok-kind.ensures.asks) (tt {0}) in
-    let untold : c.args.told ≡ None = walk_untold p.work.swap.read c.args.told p.entries.walk asking in
+    let untold : c.args.told ≡ None = walk_untold p.key.work.swap.read c.args.told p.entries.walk asking in
     rw untold (rw (same.0, same.1, same.2) at c.ask.ensures.does)
 
 pub returns-in-More-clause-does : goal.returns-in-More-clause-does
@@ -40,6 +40,10 @@ returns-in-More-clause-does c =
     c.step.ensures.access
     refl
     refl
+    refl
+    refl
+    refl
+    tt
     )
 
 pub returns-in-Done-default-All-clause-does : goal.returns-in-Done-default-All-clause-does
@@ -59,6 +63,10 @@ returns-in-Done-default-All-clause-does c =
     c.step.ensures.access
     refl
     refl
+    refl
+    refl
+    refl
+    tt
     )
 
 pub returns-in-Done-default-Impossible-clause-does : goal.returns-in-Done-default-Impossible-clause-does
@@ -78,4 +86,8 @@ returns-in-Done-default-Impossible-clause-does c =
     c.step.ensures.access
     refl
     refl
+    refl
+    refl
+    refl
+    tt
     )

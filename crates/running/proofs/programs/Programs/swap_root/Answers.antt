@@ -10,17 +10,17 @@ use Rattle.running.proofs.programs.Programs.swap_root.Goals as goal
 pub ask-requires-clause-asks : goal.ask-requires-clause-asks
 ask-requires-clause-asks c =
     let p = c.args.self.now in
-    let asking : IsAskingLine (snap_line p.work.swap.read c.args.told p.snap) = (rw c.in-AskRoot.is at c.in_ok-kind.ensures.follows) no_state no_operation in
+    let asking : IsAskingLine (snap_line p.key.work.swap.read c.args.told p.snap) = (rw c.in-AskRoot.is at c.in_ok-kind.ensures.follows) no_state no_operation in
     let same = (rw c.in-AskRoot.is at c.in_ok-kind.ensures.asks) (tt {0}) in
-    let untold : c.args.told ≡ None = snap_untold p.work.swap.read c.args.told p.snap asking in
+    let untold : c.args.told ≡ None = snap_untold p.key.work.swap.read c.args.told p.snap asking in
     rw (same.0, same.1) (rw untold at asking)
 
 pub returns-in-AskRoot-clause-does : goal.returns-in-AskRoot-clause-does
 returns-in-AskRoot-clause-does c =
     let p = c.args.self.now in
-    let asking : IsAskingLine (snap_line p.work.swap.read c.args.told p.snap) = (rw c.in-AskRoot.is at c.in_ok-kind.ensures.follows) no_state no_operation in
+    let asking : IsAskingLine (snap_line p.key.work.swap.read c.args.told p.snap) = (rw c.in-AskRoot.is at c.in_ok-kind.ensures.follows) no_state no_operation in
     let same = (rw c.in-AskRoot.is at c.in_ok-kind.ensures.asks) (tt {0}) in
-    let untold : c.args.told ≡ None = snap_untold p.work.swap.read c.args.told p.snap asking in
+    let untold : c.args.told ≡ None = snap_untold p.key.work.swap.read c.args.told p.snap asking in
     rw (untold, same.3) (rw (same.0, same.1, same.2, same.3, same.4) at c.ask.ensures.does)
 
 pub returns-in-More-clause-does : goal.returns-in-More-clause-does
