@@ -1,6 +1,5 @@
 -- What a call on one key is told, asks and does, wherever it stands.
 use Rattle.std.specs.Prelude.{◌≡◌, ℕ, Option, Some, None, refl}
-use Rattle.slot_arena.specs.declared.refs.Ref.{Ref}
 use Rattle.machine_model.specs.declared.operations.Operation.{Operation}
 use Rattle.machine_model.specs.declared.repairs.Climb.{Climb}
 use Rattle.machine_model.specs.declared.repairs.ClimbLine.TheVariants as climbing
@@ -16,7 +15,7 @@ use Rattle.rdcss_root.specs.declared.complete.CompleteAt.{CompleteAt}
 use Rattle.rdcss_root.specs.declared.complete.CompleteAt.TheVariants as complete
 use Rattle.rdcss_root.specs.declared.root.ReadRoot.{ReadRoot}
 use Rattle.rdcss_root.specs.declared.root.ReadRoot.TheVariants as rooting
-use Rattle.rdcss_root.specs.Programs.{rooted_at, root_of}
+use Rattle.rdcss_root.specs.Programs.{root_of}
 use Rattle.rdcss_root.specs.Tables.{Table}
 use Rattle.trie_parts.specs.Steps.{IsAskingLine}
 use Rattle.root_asking.specs.Inside.{with_read}
@@ -27,10 +26,10 @@ use Rattle.operate.specs.declared.key_op.BelowAt.TheVariants as at
 use Rattle.operate.specs.declared.key_op.KeyAt.{KeyAt}
 use Rattle.operate.specs.declared.key_op.KeyAt.TheVariants as key
 use Rattle.operate.specs.declared.key_op.KeyOp.{KeyOp}
-use Rattle.operate.specs.Places.{below_line, key_line, key_line_at}
+use Rattle.operate.specs.Places.{below_line, key_line_at}
 use Rattle.operate.specs.Reach.{ActsOfKey, IsOfKey}
 use Rattle.operate.specs.Telling.{AsksUntold, TellsKey}
-use Rattle.operate.proofs.Going.{IsCalm, IsKnown, looks, ends, reads_root, reads, told_on, changes, renews, cleans, climbs}
+use Rattle.operate.proofs.Going.{IsCalm, looks, ends, reads_root, reads, told_on, changes, renews, cleans, climbs}
 
 -- ---- below the root
 

@@ -21,13 +21,13 @@ use crate::path::Path;
 use contract::{Clean, Climb, Renew};
 use ctrie_base::{HashKind, Kind, Refusal};
 use epochs::Heap;
+use gcas::{Next, Swap, generation_at};
 use history::Access;
 use key_change::Change;
 use key_finding::{KeyReply, changed_reply};
 use rdcss_root::{ReadRoot, Roots};
 use slot_arena::Ref;
 use std::alloc::Global;
-use gcas::{Next, Swap, generation_at};
 use trie_parts::{KeyCall, Private, Task, Work, is_below_root};
 
 /// Where a call stands below its root.
@@ -209,8 +209,10 @@ impl KeyOp {
 
     /// Reads this indirection next.
     pub(crate) fn read_next(&mut self, indirection: Ref)
-        ensures { self.new ≡ record self.old { place = KeyAt.Down BelowAt.Read;
-            work = record self.old.work { swap = record self.old.work.swap { read = begun self.old.work.swap.read.access indirection } } } }
+        ensures { self.new ≡ record self.old {
+          place = KeyAt.Down BelowAt.Read;
+          work = record self.old.work { swap = record self.old.work.swap { read = begun self.old.work.swap.read.access indirection } };
+        } }
     {
         self.work.swap.read.begin(indirection);
         self.place = KeyAt::Down(BelowAt::Read);

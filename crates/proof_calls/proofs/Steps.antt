@@ -3,14 +3,10 @@ use Rattle.std.specs.Prelude.{◌≡◌, ℕ, Option, Some, None, refl}
 use Rattle.std.proofs.Common.{◌∙◌, ap, sym, subst}
 use Rattle.std.proofs.lemmas.Option.{none-some}
 use Rattle.proof_calls.specs.Beneath.history.specs.declared.calls.Call.TheVariants.{Close}
-use Rattle.proof_calls.specs.Beneath.slot_arena.specs.declared.refs.Ref.{Ref}
-use Rattle.proof_calls.specs.Beneath.machine_model.specs.declared.actions.Action.{Action}
-use Rattle.proof_calls.specs.Beneath.machine_model.specs.declared.actions.Action.TheVariants as act
 use Rattle.proof_calls.specs.Beneath.machine_model.specs.declared.lines.Line.TheVariants as line
 use Rattle.proof_calls.specs.Beneath.machine_model.specs.declared.lines.Purpose.{Purpose}
 use Rattle.proof_calls.specs.Beneath.machine_model.specs.declared.lines.Purpose.TheVariants as purpose
 use Rattle.proof_calls.specs.Beneath.machine_model.specs.declared.operations.Operation.{Operation}
-use Rattle.proof_calls.specs.Beneath.machine_model.specs.declared.roots.Descriptor.{Descriptor}
 use Rattle.proof_calls.specs.Beneath.machine_model.specs.declared.steps.Step.{Step}
 use Rattle.proof_calls.specs.Beneath.machine_model.specs.declared.steps.Step.TheVariants as step
 use Rattle.proof_calls.specs.Beneath.machine_model.specs.Operations.{action_of, line_action, read_of}
@@ -19,7 +15,7 @@ use Rattle.proof_calls.specs.Beneath.machine_model.specs.Paths.{above}
 use Rattle.proof_calls.specs.Beneath.machine_model.specs.States.{State, operation_of}
 use Rattle.proof_calls.specs.Beneath.gcas.specs.Swaps.{swap_of}
 use Rattle.proof_calls.specs.Beneath.proof_order.specs.Facts.{committed_by_step, committed_of}
-use Rattle.proof_updates.specs.Touching.{CommitsRepair, CommitsUpdate, Touches}
+use Rattle.proof_updates.specs.Touching.{Touches}
 use Rattle.proof_updates.specs.Touching.Touches.{updates, clears, closes}
 use Rattle.proof_updates.proofs.Handles.OfLists.{untouched_stay, updates_change, repairs_stay}
 use Rattle.proof_calls.specs.Beneath.key_change.specs.Lines.{line_at as change_at}

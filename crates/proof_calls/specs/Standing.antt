@@ -1,5 +1,5 @@
 -- Where a call on one key stands in a machine, when it takes a step below its root.
-use Rattle.std.specs.Prelude.{◌≡◌, ℕ, Option, Some, None}
+use Rattle.std.specs.Prelude.{◌≡◌, ℕ, Option, Some}
 use Rattle.proof_calls.specs.Beneath.slot_arena.specs.declared.refs.Ref.{Ref}
 use Rattle.proof_calls.specs.Beneath.machine_model.specs.declared.operations.Operation.{Operation}
 use Rattle.proof_calls.specs.Beneath.machine_model.specs.declared.steps.Step.{Step}
