@@ -52,7 +52,7 @@ use Rattle.running.specs.declared.job.Program.TheVariants.{Key, Snap, Entries, C
 use Rattle.running.specs.declared.programs.Programs.{Programs}
 use Rattle.running.specs.declared.programs.Stage.TheVariants.{Runs}
 use Rattle.running.specs.declared.taken.Taken.{Taken}
-use Rattle.running.specs.Places.{IsBegun, IsWaiting, asking_line, call_for, met_at, program_line}
+use Rattle.running.specs.Places.{IsBegun, IsWaiting, generation_in, asking_line, call_for, met_at, program_line}
 use Rattle.running.specs.Steps.{Changes, Does, Scene, at_scene, given_in, operation_in}
 use Rattle.running.proofs.Lasting.{tells}
 use Rattle.running.proofs.Giving.{asked_gives}
@@ -203,6 +203,21 @@ waits Unasked l ask = tt
 waits (Met offer) l ask = ask
 waits (Told g) l ask = ask
 
+-- where it stands matters neither to the generation that it was told nor to its call
+same_generation : (program : Program) (p : Programs) (asking : Asking) → generation_in program (record p { stage = Runs; asking = asking }) ≡ generation_in program p
+same_generation (Key call) p asking = refl
+same_generation (Snap call) p asking = refl
+same_generation Entries p asking = refl
+same_generation Count p asking = refl
+same_generation Close p asking = refl
+
+same_call : (program : Program) (p : Programs) (asking : Asking) → IsBegun program p → IsBegun program (record p { stage = Runs; asking = asking })
+same_call (Key call) p asking begun = begun
+same_call (Snap call) p asking begun = tt
+same_call Entries p asking begun = tt
+same_call Count p asking begun = tt
+same_call Close p asking begun = tt
+
 -- A step of ABORT in the place of one of the program.
 pub steps : (job : Job) (program : Program) (before : Scene) (asking asking' : Asking) (memory' : Memory) (table' : Table) (k : Kind) →
     IsAskingLine (program_line before.programs None program) → IsUntold asking → IsBegun program before.programs →
@@ -243,9 +258,9 @@ steps job program before asking asking' memory' table' k ask untold begun on tab
           subst (λ (a : Action). Changes job before a after)
           (sym (ap (line_action there o) from ∙ acts_so there o l _ h.main h.previous asking untold h.reads)) does;
       generation = λ state operation.
-          sym (ap (generation_from (at_scene state before) (operation_in job program before operation)) from
+          same_generation program p asking' ∙ sym (ap (generation_from (at_scene state before) (operation_in job program before operation)) from
           ∙ keeps_generation (at_scene state before) (operation_in job program before operation) l _ h.main h.previous asking untold h.reads);
       access = refl;
       hashes = refl;
-      sound = (begun, waits asking' l ask);
+      sound = (same_call program p asking' begun, waits asking' l ask);
     }

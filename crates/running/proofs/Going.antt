@@ -170,7 +170,7 @@ walks job program told before memory w after k leads acts access task unasked sa
 -- ---- a call on one key
 
 -- a state in which this is the root word of handle 0
-pub with_word : RootWord → State
+unfoldable pub with_word : RootWord → State
 with_word word = record no_state { roots = Some (record { access = Writable; word = word }) ∷ [] }
 
 key_operation : (job : Job) (call : KeyCall) (before : Scene) (operation : Operation) → before.programs.key.task.call ≡ call →

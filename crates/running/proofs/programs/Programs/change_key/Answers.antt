@@ -9,6 +9,7 @@ use Rattle.running.proofs.Going.{keys, with_word}
 use Rattle.running.proofs.programs.Programs.change_key.Goals as goal
 
 pub ask-requires-clause-asks : goal.ask-requires-clause-asks
+unfolding with_word
 ask-requires-clause-asks c =
     let p = c.args.self.now in
     let asking : IsAskingLine (key_line p.key c.args.told) =
@@ -18,6 +19,7 @@ ask-requires-clause-asks c =
     rw same.0 (rw none at asking)
 
 pub returns-in-AskRoot-clause-does : goal.returns-in-AskRoot-clause-does
+unfolding with_word
 returns-in-AskRoot-clause-does c =
     let p = c.args.self.now in
     let asking : IsAskingLine (key_line p.key c.args.told) =
