@@ -10,7 +10,7 @@ ghost use Rattle.ctrie_base.specs.Paths.{position_of};
 ghost use Rattle.nodes.specs.Levels.{flag_of};
 ghost use Rattle.machine_model.specs.Calls.{key_of};
 ghost use Rattle.machine_model.specs.Climbing.{climbed_node, holds_it};
-ghost use Rattle.machine_model.specs.Operations.{climbed_on, line_action};
+ghost use Rattle.machine_model.specs.Operations.{climbed_on, line_action, read_of as reading_of, swapping_read};
 ghost use Rattle.machine_model.specs.Paths.{above, current, depth_of};
 ghost use Rattle.machine_model.specs.declared.actions.Action.TheVariants as act;
 ghost use Rattle.machine_model.specs.Reading.{reading};
@@ -19,13 +19,13 @@ ghost use Rattle.machine_model.specs.declared.lines.Line.TheVariants as line;
 ghost use Rattle.machine_model.specs.declared.lines.Purpose.TheVariants as purpose;
 ghost use Rattle.machine_model.specs.declared.operations.Operation.{Operation};
 ghost use Rattle.machine_model.specs.declared.repairs.ClimbLine.TheVariants as climb;
-ghost use Rattle.gcas.specs.Reads.{read_of, CanReadOn, IsAskingRoot};
+ghost use Rattle.gcas.specs.Reads.{begun, read_of, CanReadOn, IsAskingRoot};
 ghost use Rattle.gcas.specs.Swaps.{swap_of, CanSwapOn};
 ghost use Rattle.gcas.specs.declared.read.ReadAt.{ReadAt};
 ghost use Rattle.gcas.specs.declared.swap.Swap.{Swap as ASwap};
 ghost use Rattle.trie_parts.specs.Here.{at_heap, no_state, no_operation};
 ghost use Rattle.trie_parts.specs.Holding.{Acts, AreHeld};
-ghost use Rattle.trie_parts.specs.Steps.{StepsOn};
+ghost use Rattle.trie_parts.specs.Steps.{IsLast, StepsOn};
 ghost use Rattle.trie_parts.specs.Tasks.{call_of, for_task};
 ghost use Rattle.trie_parts.specs.declared.calls.Task.{Task as ATask};
 ghost use Rattle.contract.specs.Climbing.{climb_of, climb_line, line_behind, CanClimb, CanClimbAt};
@@ -80,6 +80,7 @@ impl Climb {
     /// the operation has in hand.
     pub fn begin(work: &mut Work, path: &[Ref], single: Ref, former: Option<u64>) -> Climb
         ensures line { climb_line path.now work.new.swap None result ≡ line.Climb (climb.Read (record { path = path.now; single = single; former = former }) (reading (current (above path.now)))) }
+        ensures read { work.new.swap.read ≡ begun work.old.swap.read.access (current (above path.now)) }
         ensures same { (work.new.swap.read.access ≡ work.old.swap.read.access) × (work.new.private ≡ work.old.private) }
     {
         work.swap.read.begin(current(above(path)));
@@ -108,6 +109,7 @@ impl Climb {
         ensures err { OnErr result ((self.new ≡ self.old) × (work.new ≡ work.old) × (heap.new ≡ heap.old)) }
         ensures only_memory { IfErr result (λ refusal. refusal ≡ Refusal.Memory) }
         ensures asks { IfOk result (λ next. IsAskingRoot next → (self.new ≡ self.old) × (work.new ≡ work.old) × (heap.new ≡ heap.old)) }
+        ensures last { IfOk result (λ next. IsLast next → reading_of (climb_line path.now work.old.swap root_seen self.old) ≡ None) }
     {
         match &self.place {
             ClimbAt::Read => Ok(self.read(work, heap, root_seen)),
@@ -130,6 +132,7 @@ impl Climb {
         ensures acts { (state : State) (operation : Operation) (path : List ARef) → Acts heap.old work.old.private (line_action state operation (line.Climb (climb.Read (climb_of path self.old) (read_of work.old.swap.read root_seen)))) heap.new work.new.private }
         ensures same { (self.new.single ≡ self.old.single) × (self.new.former ≡ self.old.former) × (work.new.swap.read.access ≡ work.old.swap.read.access) }
         ensures asks { IsAskingRoot result → (self.new ≡ record self.old { place = ClimbAt.Read }) × (work.new ≡ work.old) × (heap.new ≡ heap.old) }
+        ensures last { IsLast result → ⊥ }
     {
         self.place = ClimbAt::Read;
         match work.read(heap, root_seen) {
@@ -210,6 +213,7 @@ impl Climb {
         ensures acts { (state : State) (operation : Operation) (path : List ARef) → Acts heap.old work.old.private (line_action state operation (line.Swap (purpose.Climb (climb_of path self.old)) (swap_of work.old.swap root_seen))) heap.new work.new.private }
         ensures same { (self.new.single ≡ self.old.single) × (self.new.former ≡ self.old.former) × (work.new.swap.read.access ≡ work.old.swap.read.access) }
         ensures asks { IsAskingRoot result → (self.new ≡ record self.old { place = ClimbAt.Swap }) × (work.new ≡ work.old) × (heap.new ≡ heap.old) }
+        ensures last { IsLast result → swapping_read work.old.swap.read.indirection (swap_of work.old.swap root_seen).line ≡ None }
     {
         self.place = ClimbAt::Swap;
         let climbed = climbed_by(heap, work.swap.fresh, self.single);

@@ -3,7 +3,7 @@
 ghost use Rattle.std.specs.Prelude.{◌≡◌, [], ◌∷◌, ◌++◌, List, length, None, IfOk, IfErr, OnOk, OnErr};
 ghost use Rattle.ctrie_base.specs.declared.hashes.HashKind.{HashKind};
 ghost use Rattle.slot_arena.specs.declared.refs.Ref.{Ref as ARef};
-ghost use Rattle.machine_model.specs.Operations.{line_action};
+ghost use Rattle.machine_model.specs.Operations.{line_action, read_of as reading_of, swapping_read};
 ghost use Rattle.machine_model.specs.Renewing.{renew_next};
 ghost use Rattle.machine_model.specs.States.{State};
 ghost use Rattle.machine_model.specs.declared.lines.Line.TheVariants as line;
@@ -15,7 +15,7 @@ ghost use Rattle.gcas.specs.Swaps.{swap_of, CanSwapOn};
 ghost use Rattle.gcas.specs.declared.swap.Swap.{Swap as ASwap};
 ghost use Rattle.trie_parts.specs.Here.{at_heap};
 ghost use Rattle.trie_parts.specs.Holding.{Acts, AreHeld};
-ghost use Rattle.trie_parts.specs.Steps.{StepsOn};
+ghost use Rattle.trie_parts.specs.Steps.{IsLast, StepsOn};
 ghost use Rattle.trie_parts.specs.Tasks.{for_task};
 ghost use Rattle.trie_parts.specs.declared.calls.Task.{Task as ATask};
 ghost use Rattle.contract.specs.Renewing.{renew_line, next_of, line_behind, CanRenew, CanRenewAt};
@@ -105,6 +105,7 @@ impl Renew {
         ensures err { OnErr result ((self.new ≡ self.old) × (work.new ≡ work.old) × (heap.new ≡ heap.old)) }
         ensures only_memory { IfErr result (λ refusal. refusal ≡ Refusal.Memory) }
         ensures asks { IfOk result (λ next. IsAskingRoot next → (self.new ≡ self.old) × (work.new ≡ work.old) × (heap.new ≡ heap.old)) }
+        ensures last { IfOk result (λ next. IsLast next → reading_of (renew_line path.now work.old.swap root_seen self.old) ≡ None) }
     {
         match &self.place {
             RenewAt::Entry => self.look(work, heap, task),
@@ -159,6 +160,7 @@ impl Renew {
         ensures acts { (state : State) (operation : Operation) (path : List ARef) → Acts heap.old work.old.private (line_action state operation (line.Renew (renew.Read path self.old.main self.old.done (read_of work.old.swap.read root_seen)))) heap.new work.new.private }
         ensures same { work.new.swap.read.access ≡ work.old.swap.read.access }
         ensures asks { IsAskingRoot result → (self.new ≡ record self.old { place = RenewAt.Read }) × (work.new ≡ work.old) × (heap.new ≡ heap.old) }
+        ensures last { IsLast result → ⊥ }
     {
         self.place = RenewAt::Read;
         match work.read(heap, root_seen) {
@@ -237,6 +239,7 @@ impl Renew {
         ensures acts { (state : State) (operation : Operation) (path : List ARef) → Acts heap.old work.old.private (line_action state operation (line.Swap (purpose.Renew path) (swap_of work.old.swap root_seen))) heap.new work.new.private }
         ensures same { work.new.swap.read.access ≡ work.old.swap.read.access }
         ensures asks { IsAskingRoot result → (self.new ≡ record self.old { place = RenewAt.Swap }) × (work.new ≡ work.old) × (heap.new ≡ heap.old) }
+        ensures last { IsLast result → swapping_read work.old.swap.read.indirection (swap_of work.old.swap root_seen).line ≡ None }
     {
         self.place = RenewAt::Swap;
         match work.swap(heap, root_seen) {

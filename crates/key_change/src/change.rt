@@ -4,7 +4,7 @@ ghost use Rattle.std.specs.Prelude.{◌≡◌, ◌+◌, ◌<◌, ◌^◌, List, 
 ghost use Rattle.machine_model.specs.declared.operations.Operation.{Operation};
 ghost use Rattle.machine_model.specs.declared.lines.Line.TheVariants as line;
 ghost use Rattle.machine_model.specs.Building.{build_after_made};
-ghost use Rattle.machine_model.specs.Operations.{line_action};
+ghost use Rattle.machine_model.specs.Operations.{line_action, read_of, swapping_read};
 ghost use Rattle.machine_model.specs.States.{State};
 ghost use Rattle.machine_model.specs.Swapping.{swap_action};
 ghost use Rattle.machine_model.specs.declared.actions.Action.TheVariants as act;
@@ -19,6 +19,7 @@ ghost use Rattle.gcas.specs.Swaps.{swap_of, CanSwapOn};
 ghost use Rattle.trie_parts.specs.declared.calls.Task.{Task as ATask};
 ghost use Rattle.trie_parts.specs.Here.{at_heap};
 ghost use Rattle.trie_parts.specs.Holding.{Acts, AreHeld};
+ghost use Rattle.trie_parts.specs.Steps.{IsLast};
 ghost use Rattle.trie_parts.specs.Tasks.{for_task};
 ghost use Rattle.key_change.specs.Built.{build_line, built, depth_for};
 ghost use Rattle.key_change.specs.Lines.{line_of};
@@ -83,6 +84,7 @@ impl Change {
         ensures err { OnErr result ((self.new ≡ self.old) × (work.new ≡ work.old) × (heap.new ≡ heap.old)) }
         ensures only_memory { IfErr result (λ refusal. refusal ≡ Refusal.Memory) }
         ensures asks { IfOk result (λ next. IsAskingRoot next → (self.new ≡ self.old) × (work.new ≡ work.old) × (heap.new ≡ heap.old)) }
+        ensures last { IfOk result (λ next. IsLast next → read_of (line_of path.now work.old.swap root_seen self.old) ≡ None) }
     {
         match &self.at {
             ChangeAt::Sibling { position, former } => {
@@ -198,6 +200,7 @@ impl Change {
         ensures acts { Acts heap.old work.old.private (swap_action (swap_of work.old.swap root_seen)) heap.new work.new.private }
         ensures same { (self.new.main ≡ self.old.main) × (work.new.swap.read.access ≡ work.old.swap.read.access) }
         ensures asks { IsAskingRoot result → (self.new ≡ record self.old { at = ChangeAt.Swap former }) × (work.new ≡ work.old) × (heap.new ≡ heap.old) }
+        ensures last { IsLast result → swapping_read work.old.swap.read.indirection (swap_of work.old.swap root_seen).line ≡ None }
     {
         self.at = ChangeAt::Swap { former };
         match work.swap(heap, root_seen) {

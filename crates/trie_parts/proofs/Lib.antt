@@ -6,3 +6,4 @@ pub mod Partings
 pub mod Unmade
 pub mod Insides
 pub mod Handles
+pub mod Ends

@@ -54,3 +54,9 @@ ReadsInside heap access before after (Done k main) =
 -- what a node that is made asks of the heap: that what it is to refer to is in use
 abbrev pub CanMake : Heap → Node → Type 0
 CanMake heap node = (heap.births + 1 < 2 ^ 48) × AreLive heap (refs_of_node node)
+
+-- the step was the program's last one
+abbrev pub IsLast : {T : Type 0} → Next T → Type 0
+IsLast (More k) = ⊥
+IsLast AskRoot = ⊥
+IsLast (Done k given) = Unit {0}

@@ -1,6 +1,6 @@
 //! What an operation has in hand while it changes the map.
 
-ghost use Rattle.std.specs.Prelude.{◌≡◌, ◌+◌, ◌≤◌, length, IfOk, IfErr, OnOk, OnErr};
+ghost use Rattle.std.specs.Prelude.{◌≡◌, ◌+◌, ◌≤◌, length, None, IfOk, IfErr, OnOk, OnErr};
 ghost use Rattle.slot_arena.specs.declared.refs.Ref.{Ref as ARef};
 ghost use Rattle.slot_arena.specs.Arenas.{is_live};
 ghost use Rattle.slot_arena.specs.Heaps.{next_ref};
@@ -9,13 +9,14 @@ ghost use Rattle.epochs.specs.Memories.{KeepsEpochs, KeepsRemarks};
 ghost use Rattle.machine_model.specs.Acting.{private_after};
 ghost use Rattle.machine_model.specs.declared.actions.Action.TheVariants as act;
 ghost use Rattle.machine_model.specs.States.{State};
+ghost use Rattle.machine_model.specs.Operations.{swapping_read};
 ghost use Rattle.machine_model.specs.Reading.{read_action};
 ghost use Rattle.machine_model.specs.Swapping.{swap_action};
 ghost use Rattle.gcas.specs.Acted.{acted_heap};
 ghost use Rattle.gcas.specs.Reads.{CanReadOn, IsAskingRoot, line_of, read_of};
 ghost use Rattle.gcas.specs.Swaps.{swap_of, SwapsOn, CanSwapOn};
 ghost use Rattle.trie_parts.specs.Holding.{Acts, AreHeld, KeepsOthers};
-ghost use Rattle.trie_parts.specs.Steps.{CanMake, ReadsInside};
+ghost use Rattle.trie_parts.specs.Steps.{CanMake, IsLast, ReadsInside};
 
 use crate::private::Private;
 use ctrie_base::Refusal;
@@ -67,6 +68,7 @@ impl Work {
         ensures same { self.new.swap ≡ record self.old.swap { read = record self.old.swap.read { at = self.new.swap.read.at }; at = self.new.swap.at } }
         ensures acts { Acts heap.old self.old.private (swap_action (swap_of self.old.swap root_seen)) heap.new self.new.private }
         ensures asks { IsAskingRoot result → (self.new ≡ self.old) × (heap.new ≡ heap.old) }
+        ensures last { IsLast result → swapping_read self.old.swap.read.indirection (swap_of self.old.swap root_seen).line ≡ None }
     {
         self.step_swap(heap, root_seen)
     }
@@ -86,6 +88,7 @@ impl Work {
         ensures few { length heap.new.noted ≤ length heap.old.noted + (2 + length self.old.private) }
         ensures ticks { TakesUpTo (2 + length self.old.private) heap.old.ticks heap.new.ticks }
         ensures asks { IsAskingRoot result → (self.new ≡ self.old) × (heap.new ≡ heap.old) }
+        ensures last { IsLast result → swapping_read self.old.swap.read.indirection (swap_of self.old.swap root_seen).line ≡ None }
     {
         let is_first = matches!(&self.swap.at, SwapAt::Publish);
         let next = self.swap.step(heap, root_seen);

@@ -1,5 +1,7 @@
 use Rattle.std.proofs.Common.{arith, ap}
 use Rattle.slot_arena.specs.Times.{times}
+use Rattle.gcas.specs.Swaps.{swap_of}
+use Rattle.trie_parts.proofs.Ends.{ended}
 use Rattle.trie_parts.proofs.work.Work.step_swap.Goals.{in-Publish, in_default}
 use Rattle.trie_parts.proofs.work.Work.step_swap.Goals as goal
 
@@ -17,3 +19,11 @@ returns-then-is_first-clause-others c = λ r. elim c.match-matches.branch [
   | in-Publish w ↦ omega (arith, c.give_up.ensures.others r, ap (times r) c.step-next.ensures.beside.outside, ap (λ s. times r s.private) w.self-is)
   | in_default w ↦ omega (arith, c.give_up.ensures.others r, ap (times r) c.step-next.ensures.beside.outside, ap (λ s. times r s.private) w.self-is)
 ]
+
+pub returns-else-is_first-clause-last : goal.returns-else-is_first-clause-last
+returns-else-is_first-clause-last c =
+    let s = c.args.self.now.swap in
+    λ last. elim c.match-matches.branch [
+      | in-Publish w ↦ ended c.args.heap.now.heap s.read.access s.read.indirection s.replaced s.fresh (swap_of s c.args.root_seen).line c.step-next.new.self c.step-next.result (rw w.self-is at c.step-next.ensures.follows) last
+      | in_default w ↦ ended c.args.heap.now.heap s.read.access s.read.indirection s.replaced s.fresh (swap_of s c.args.root_seen).line c.step-next.new.self c.step-next.result (rw w.self-is at c.step-next.ensures.follows) last
+    ]

@@ -1,0 +1,66 @@
+-- What ROOT comes to, as a call on one key sees it in which it runs.
+use Rattle.std.specs.Prelude.{◌≡◌, ℕ, [], Option, Some, None, refl}
+use Rattle.std.proofs.Common.{ap, sym, ◌∙◌}
+use Rattle.ctrie_base.specs.declared.kinds.Kind.{Kind}
+use Rattle.ctrie_base.specs.declared.kinds.Kind.TheVariants as kind
+use Rattle.history.specs.declared.calls.Access.{Access}
+use Rattle.slot_arena.specs.declared.refs.Ref.{Ref}
+use Rattle.slot_arena.specs.Heaps.{Heap, generation_at}
+use Rattle.machine_model.specs.declared.lines.Line.{Line}
+use Rattle.machine_model.specs.declared.lines.Line.TheVariants as line
+use Rattle.machine_model.specs.declared.operations.Operation.{Operation}
+use Rattle.machine_model.specs.declared.reading.After.{After}
+use Rattle.machine_model.specs.declared.reading.After.TheVariants.{Goes, Gives}
+use Rattle.machine_model.specs.declared.repairs.Climb.{Climb}
+use Rattle.machine_model.specs.declared.repairs.ClimbLine.TheVariants as climb
+use Rattle.machine_model.specs.declared.roots.RootLine.{RootLine}
+use Rattle.machine_model.specs.declared.roots.RootLine.TheVariants as root
+use Rattle.machine_model.specs.declared.roots.RootWord.{RootWord}
+use Rattle.machine_model.specs.Calls.{handle_of}
+use Rattle.machine_model.specs.Climbing.{climb_after_root}
+use Rattle.machine_model.specs.Finding.{going_down}
+use Rattle.machine_model.specs.Operations.{from_root, kind_of, rooting_read}
+use Rattle.machine_model.specs.States.{State, word_at}
+use Rattle.machine_model.specs.Swapping.{root_action, root_after}
+use Rattle.gcas.specs.declared.next.Next.TheVariants.{More, Done}
+use Rattle.gcas.specs.declared.read.Read.{Read}
+use Rattle.gcas.specs.declared.read.ReadAt.{ReadAt}
+use Rattle.gcas.specs.Reads.{ReadsAlong}
+use Rattle.trie_parts.specs.declared.calls.KeyCall.{KeyCall}
+use Rattle.trie_parts.specs.declared.calls.KeyCall.TheVariants.{Get, Put, PutIfAbsent, Replace, ReplaceIf, Remove, RemoveIf}
+use Rattle.trie_parts.specs.declared.calls.Task.{Task}
+use Rattle.trie_parts.specs.Here.{at_heap}
+use Rattle.trie_parts.specs.Steps.{Leads}
+use Rattle.trie_parts.specs.Tasks.{call_of, for_task}
+use Rattle.trie_parts.proofs.Handles.{handle_same}
+use Rattle.rdcss_root.specs.declared.root.ReadRoot.{ReadRoot}
+use Rattle.rdcss_root.specs.Programs.{RootsOn}
+
+-- a call on one key goes down from the root
+pub below : (call : KeyCall) (handle : ℕ) (r : Ref) → from_root (call_of handle call) r ≡ going_down [] r
+below (Get k) handle r = refl
+below (Put k v) handle r = refl
+below (PutIfAbsent k v) handle r = refl
+below (Replace k v) handle r = refl
+below (ReplaceIf k v w) handle r = refl
+below (Remove k) handle r = refl
+below (RemoveIf k v) handle r = refl
+
+-- the root word of the operation is that of the handle
+word_same : (state : State) (operation : Operation) (call : KeyCall) (word : RootWord) → word_at state (handle_of operation.call) ≡ word →
+    word_at state (handle_of (call_of (handle_of operation.call) call)) ≡ word
+word_same state operation call word e = ap (word_at state) (handle_same call (handle_of operation.call)) ∙ e
+
+-- what ROOT comes to, in the state of the operation
+pub came : (state : State) (operation : Operation) (heap : Heap) (task : Task) (access : Access) (word : RootWord) (r : Read) (before : RootLine) (next : After RootLine Ref) →
+    word_at state (handle_of operation.call) ≡ word → r.access ≡ access → root_after heap r.access word before ≡ next →
+    root_after heap access (word_at state (handle_of (call_of (handle_of operation.call) task.call))) before ≡ next
+came state operation heap task access word r before next e same told =
+    ap (λ w. root_after heap access w before) (word_same state operation task.call word e) ∙ ap (λ a. root_after heap a word before) (sym same) ∙ told
+
+-- where ROOT has read the root, no READ was taken
+pub unread : (heap : Heap) (access : Access) (before : RootLine) (k : Kind) (place : ReadAt) → before ≡ root.Read → kind_of (root_action before) ≡ k →
+    ReadsAlong heap access (rooting_read before) k place
+unread heap access before k place e kinds =
+    let looks : kind.ReadRoot ≡ k = rw e at kinds in
+    rw (e, ← looks) refl

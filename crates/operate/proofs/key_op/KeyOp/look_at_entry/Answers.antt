@@ -1,0 +1,12 @@
+use Rattle.std.specs.Prelude.{refl}
+use Rattle.std.proofs.Common.{◌∙◌, sym}
+use Rattle.operate.proofs.key_op.KeyOp.look_at_entry.Goals as goal
+
+pub returns-clause-follows : goal.returns-clause-follows
+returns-clause-follows c =
+    let me = c.args.self.now in
+    λ state operation. (
+      refl,
+      sym (rw c.as_slice.ensures at (c.after_entry-found.ensures state operation me.work.swap)) ∙ sym (c.in_ok-follow.ensures.ok state me.task.hashes),
+      refl,
+    )

@@ -1,0 +1,56 @@
+-- Where a call on one key stands, as the definition's lines.
+use Rattle.std.specs.Prelude.{ℕ, List, Option, Some, None}
+use Rattle.slot_arena.specs.declared.refs.Ref.{Ref}
+use Rattle.machine_model.specs.declared.finding.KeyLine.TheVariants as key
+use Rattle.machine_model.specs.declared.lines.Line.{Line}
+use Rattle.machine_model.specs.declared.lines.Line.TheVariants as line
+use Rattle.machine_model.specs.declared.operations.Operation.{Operation}
+use Rattle.machine_model.specs.declared.repairs.ClimbLine.TheVariants as climb
+use Rattle.machine_model.specs.Climbing.{climbing, climbed}
+use Rattle.machine_model.specs.Lines.{impossible}
+use Rattle.machine_model.specs.Paths.{above}
+use Rattle.gcas.specs.Reads.{read_of}
+use Rattle.rdcss_root.specs.Programs.{root_of}
+use Rattle.contract.specs.Cleaning.{clean_line}
+use Rattle.contract.specs.Climbing.{climb_line}
+use Rattle.contract.specs.Renewing.{renew_line}
+use Rattle.key_change.specs.Lines.{line_of as change_line}
+use Rattle.key_change.specs.declared.change.Tried.{Tried}
+use Rattle.key_change.specs.declared.change.Tried.TheVariants.{Changed}
+use Rattle.key_finding.specs.Replies.{reply_of}
+use Rattle.operate.specs.declared.key_op.KeyOp.{KeyOp}
+use Rattle.operate.specs.declared.key_op.KeyAt.{KeyAt}
+use Rattle.operate.specs.declared.key_op.KeyAt.TheVariants.{Root, RootAgain, Down}
+use Rattle.operate.specs.declared.key_op.BelowAt.{BelowAt}
+use Rattle.operate.specs.declared.key_op.BelowAt.TheVariants as at
+
+abbrev pub below_line : KeyOp → Option ℕ → BelowAt → Line
+below_line op told at.Read = line.Key (key.Read op.path (read_of op.work.swap.read told))
+below_line op told (at.Main main) = line.Key (key.Main op.path main)
+below_line op told (at.Entry main position) = line.Key (key.Entry op.path main position)
+below_line op told (at.Listed main position) = line.Key (key.Listed op.path main position)
+below_line op told (at.Change c) = change_line op.path op.work.swap told c
+below_line op told at.Renew = renew_line op.path op.work.swap told op.renew
+below_line op told at.Clean = clean_line (above op.path) op.work.swap told op.clean
+below_line op told (at.Climb c) = climb_line op.path op.work.swap told c
+below_line op told (at.End answer) = line.End (reply_of answer)
+below_line op told at.Impossible = impossible
+
+abbrev pub key_line_at : KeyOp → Option ℕ → KeyAt → Line
+key_line_at op told (Root r) = line.Root (root_of r op.work.swap.read told)
+key_line_at op told (RootAgain single former r) = line.Climb (climb.Root (record { path = op.path; single = single; former = former }) (root_of r op.work.swap.read told))
+key_line_at op told (Down place) = below_line op told place
+
+-- the definition's line of a call whose READ was told this of the root's generation
+abbrev pub key_line : KeyOp → Option ℕ → Line
+key_line op told = key_line_at op told op.place
+
+-- the definition's line after a change was committed, of a main node that is a tomb of this single, if it is one
+abbrev pub changed_line : Operation → List Ref → Option ℕ → Option Ref → Line
+changed_line operation path former None = climbed operation former
+changed_line operation path former (Some single) = climbing operation (record { path = path; single = single; former = former })
+
+-- the value before of a key that a try changed
+abbrev pub former_of : Tried → Option ℕ
+former_of (Changed former) = former
+former_of tried = None

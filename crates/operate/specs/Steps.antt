@@ -1,0 +1,115 @@
+-- What a step of a call on one key comes to, does and asks.
+use Rattle.std.specs.Prelude.{◌≡◌, ℕ, List, Option, None}
+use Rattle.ctrie_base.specs.declared.kinds.Kind.{Kind}
+use Rattle.slot_arena.specs.declared.refs.Ref.{Ref}
+use Rattle.slot_arena.specs.Heaps.{Heap}
+use Rattle.epochs.specs.Memories.{Memory}
+use Rattle.machine_model.specs.declared.lines.Line.{Line}
+use Rattle.machine_model.specs.declared.lines.Line.TheVariants as line
+use Rattle.machine_model.specs.declared.operations.Operation.{Operation}
+use Rattle.machine_model.specs.declared.roots.Root.{Root}
+use Rattle.machine_model.specs.declared.roots.RootWord.{RootWord}
+use Rattle.machine_model.specs.Calls.{handle_of}
+use Rattle.machine_model.specs.Operations.{generation_from, line_action}
+use Rattle.machine_model.specs.Paths.{above}
+use Rattle.machine_model.specs.States.{State, word_at}
+use Rattle.gcas.specs.declared.next.Next.{Next}
+use Rattle.gcas.specs.declared.next.Next.TheVariants.{More, AskRoot, Done}
+use Rattle.gcas.specs.declared.read.ReadAt.{ReadAt}
+use Rattle.gcas.specs.Reads.{CanReadOn, committed_so}
+use Rattle.trie_parts.specs.declared.calls.Task.{Task}
+use Rattle.trie_parts.specs.Here.{at_heap}
+use Rattle.trie_parts.specs.Holding.{Acts}
+use Rattle.trie_parts.specs.Steps.{StepsOn}
+use Rattle.trie_parts.specs.Tasks.{for_task}
+use Rattle.rdcss_root.specs.Acts.{ActsInAll}
+use Rattle.rdcss_root.specs.Programs.{CanRootOn, rooted_at}
+use Rattle.rdcss_root.specs.Tables.{Table}
+use Rattle.key_change.specs.Steps.{CanChange}
+use Rattle.contract.specs.Cleaning.{CanClean}
+use Rattle.contract.specs.Climbing.{CanClimb}
+use Rattle.contract.specs.Renewing.{CanRenew}
+use Rattle.key_finding.specs.declared.calls.KeyReply.{KeyReply}
+use Rattle.key_finding.specs.Replies.{reply_of}
+use Rattle.operate.specs.declared.key_op.KeyOp.{KeyOp}
+use Rattle.operate.specs.declared.key_op.KeyAt.{KeyAt}
+use Rattle.operate.specs.declared.key_op.KeyAt.TheVariants as op
+use Rattle.operate.specs.declared.key_op.BelowAt.{BelowAt}
+use Rattle.operate.specs.declared.key_op.BelowAt.TheVariants as at
+use Rattle.operate.specs.Places.{key_line}
+
+-- the definition's line after one that has answered this
+abbrev pub line_behind : KeyReply → Line
+line_behind answer = line.End (reply_of answer)
+
+-- the operation, whatever else it has, of this call
+abbrev pub operation_for : KeyOp → Operation → Operation
+operation_for op operation = for_task op.task op.work.swap.read.access operation
+
+-- ---- what a step comes to, whatever else stands in the state and in the operation
+
+abbrev pub KeySteps : Heap → KeyOp → Line → KeyOp → Next KeyReply → Type 0
+KeySteps heap op before after next =
+    (state : State) → (operation : Operation) →
+    StepsOn (at_heap state heap op.task.hashes) (operation_for op operation) before (key_line after None) after.work.swap.read.at line_behind next
+
+-- the same for a step that may look at the root word
+abbrev pub RootSteps : Heap → RootWord → KeyOp → Line → KeyOp → Next KeyReply → Type 0
+RootSteps heap word op before after next =
+    (state : State) → (operation : Operation) → word_at state (handle_of operation.call) ≡ word →
+    StepsOn (at_heap state heap op.task.hashes) (operation_for op operation) before (key_line after None) after.work.swap.read.at line_behind next
+
+-- the generation of the root that ROOT gave last, before a step from this line and behind it
+abbrev pub KeepsGeneration : Heap → RootWord → KeyOp → Line → Task → Next KeyReply → Type 0
+KeepsGeneration heap word op before after (More k) =
+    (state : State) → (operation : Operation) → word_at state (handle_of operation.call) ≡ word →
+    after.generation ≡ generation_from (at_heap state heap op.task.hashes) (operation_for op operation) before
+KeepsGeneration heap word op before after AskRoot = after.generation ≡ op.task.generation
+KeepsGeneration heap word op before after (Done k answer) =
+    (state : State) → (operation : Operation) → word_at state (handle_of operation.call) ≡ word →
+    after.generation ≡ generation_from (at_heap state heap op.task.hashes) (operation_for op operation) before
+
+-- a READ that stands there has committed nothing by a step, if one that stands here hasn't
+abbrev pub CommitsNoMore : ReadAt → ReadAt → Type 0
+CommitsNoMore place place' = (k : Kind) → committed_so k place ≡ None → committed_so k place' ≡ None
+
+-- ---- what it does
+
+abbrev pub KeyActs : Memory → KeyOp → Line → Memory → List Ref → Type 0
+KeyActs before op l after private' =
+    (state : State) → (operation : Operation) →
+    Acts before op.work.private (line_action (at_heap state before.heap op.task.hashes) (operation_for op operation) l) after private'
+
+abbrev pub RootActs : Memory → List (Option Root) → KeyOp → Line → Memory → List (Option Root) → List Ref → Type 0
+RootActs before roots op l after roots' private' =
+    (state : State) → (operation : Operation) →
+    ActsInAll before roots op.work.private (line_action (at_heap state before.heap op.task.hashes) (operation_for op operation) l) after roots' private'
+
+-- the table of root words behind a step: only ROOT changes it, where it completes an offer
+abbrev pub table_after : Table → ℕ → KeyAt → Table
+table_after table handle (op.Root r) = rooted_at table handle r
+table_after table handle (op.RootAgain single former r) = rooted_at table handle r
+table_after table handle (op.Down place) = table
+
+-- ---- what it asks of the heap and of the root words
+
+abbrev pub CanBelow : Heap → KeyOp → BelowAt → Type 0
+CanBelow heap o at.Read = CanReadOn heap o.work.swap.read
+CanBelow heap o (at.Main main) = Unit {0}
+CanBelow heap o (at.Entry main position) = Unit {0}
+CanBelow heap o (at.Listed main position) = Unit {0}
+CanBelow heap o (at.Change c) = CanChange heap o.task o.path o.work.swap c
+CanBelow heap o at.Renew = CanRenew heap o.work.swap o.renew
+CanBelow heap o at.Clean = CanClean heap (above o.path) o.work.swap o.clean
+CanBelow heap o (at.Climb c) = CanClimb heap o.task o.path o.work.swap c
+CanBelow heap o (at.End answer) = Unit {0}
+CanBelow heap o at.Impossible = Unit {0}
+
+abbrev pub CanKeyAt : Memory → Table → KeyOp → KeyAt → Type 0
+CanKeyAt memory table o (op.Root r) = CanRootOn memory table r o.work.swap.read
+CanKeyAt memory table o (op.RootAgain single former r) = CanRootOn memory table r o.work.swap.read
+CanKeyAt memory table o (op.Down place) = CanBelow memory.heap o place
+
+-- what is going to be changed, or referred to, is in use, and of its kind
+abbrev pub CanKey : Memory → Table → KeyOp → Type 0
+CanKey memory table o = CanKeyAt memory table o o.place

@@ -1,0 +1,288 @@
+//! The steps of a call on one key below its root.
+
+ghost use Rattle.std.specs.Prelude.{◌≡◌, ℕ, List, Option, None, IfOk, IfErr, OnOk, OnErr};
+ghost use Rattle.ctrie_base.specs.declared.hashes.HashKind.{HashKind};
+ghost use Rattle.slot_arena.specs.Heaps.{node_at};
+ghost use Rattle.slot_arena.specs.declared.refs.Ref.{Ref as ARef};
+ghost use Rattle.machine_model.specs.Finding.{going_down};
+ghost use Rattle.machine_model.specs.Operations.{after_update};
+ghost use Rattle.machine_model.specs.Paths.{above, current};
+ghost use Rattle.machine_model.specs.Reading.{reading};
+ghost use Rattle.machine_model.specs.declared.repairs.CleanLine.TheVariants as clean;
+ghost use Rattle.machine_model.specs.States.{State};
+ghost use Rattle.machine_model.specs.declared.finding.KeyLine.TheVariants as key;
+ghost use Rattle.machine_model.specs.declared.lines.Line.TheVariants as line;
+ghost use Rattle.machine_model.specs.declared.operations.Operation.{Operation};
+ghost use Rattle.gcas.specs.Reads.{read_of, CanReadOn, IsAskingRoot};
+ghost use Rattle.trie_parts.specs.Here.{at_heap};
+ghost use Rattle.trie_parts.specs.Holding.{AreHeld};
+ghost use Rattle.key_change.specs.Lines.{line_of as change_line};
+ghost use Rattle.key_change.specs.Steps.{CanChange, line_behind as line_tried};
+ghost use Rattle.key_finding.specs.Lines.{line_found};
+ghost use Rattle.operate.specs.Places.{key_line, below_line, changed_line, former_of};
+ghost use Rattle.operate.specs.Steps.{CommitsNoMore, KeySteps, KeyActs, CanBelow, operation_for};
+
+use crate::key_op::{BelowAt, KeyAt, KeyOp};
+use contract::Climb;
+use ctrie_base::{Kind, Refusal};
+use epochs::Heap;
+use gcas::Next;
+use key_change::{Change, Tried};
+use key_finding::{Found, KeyReply, after_entry, after_listed, after_main};
+use rdcss_root::ReadRoot;
+use slot_arena::{Node, Ref};
+use trie_parts::{above, current, node_at};
+
+impl KeyOp {
+    /// Takes a step from this place below the root.
+    pub(crate) fn go_on(
+        &mut self,
+        at: &BelowAt,
+        heap: &mut Heap,
+        root_seen: Option<u64>,
+    ) -> Result<Next<KeyReply>, Refusal>
+        requires can { CanBelow heap.old.heap self.old at.now }
+        requires held { AreHeld self.old.work.private heap.old }
+        ensures follows { IfOk result (λ next. KeySteps heap.old.heap self.old (below_line self.old root_seen at.now) self.new next) }
+        ensures acts { OnOk result (KeyActs heap.old self.old (below_line self.old root_seen at.now) heap.new self.new.work.private) }
+        ensures same { (self.new.task ≡ self.old.task) × (self.new.work.swap.read.access ≡ self.old.work.swap.read.access) }
+        ensures asks { IfOk result (λ next. IsAskingRoot next → (self.new ≡ record self.old { place = KeyAt.Down (at.now) }) × (heap.new ≡ heap.old)) }
+        ensures err { OnErr result ((self.new ≡ record self.old { place = KeyAt.Down (at.now) }) × (heap.new ≡ heap.old)) }
+        ensures only_memory { IfErr result (λ refusal. refusal ≡ Refusal.Memory) }
+    {
+        self.place = KeyAt::Down(*at);
+        match at {
+            BelowAt::Read => Ok(self.read(heap, root_seen)),
+            BelowAt::Main { main } => self.look_at_main(heap, *main),
+            BelowAt::Entry { main, position } => self.look_at_entry(heap, *main, *position),
+            BelowAt::Listed { main, position } => self.look_at_single(heap, *main, *position),
+            BelowAt::Change(change) => self.change(*change, heap, root_seen),
+            BelowAt::Renew => self.renew(heap, root_seen),
+            BelowAt::Clean => self.clean(heap, root_seen),
+            BelowAt::Climb(climb) => self.climb(*climb, heap, root_seen),
+            BelowAt::End(reply) => Ok(Next::Done(Kind::End, *reply)),
+            BelowAt::Impossible => Ok(Next::More(Kind::ReadRoot)),
+        }
+    }
+
+    /// Takes a step of the current indirection's READ.
+    fn read(&mut self, heap: &mut Heap, root_seen: Option<u64>) -> Next<KeyReply>
+        requires can { CanReadOn heap.old.heap self.old.work.swap.read }
+        ensures follows { KeySteps heap.old.heap self.old (line.Key (key.Read self.old.path (read_of self.old.work.swap.read root_seen))) self.new result }
+        ensures acts { KeyActs heap.old self.old (line.Key (key.Read self.old.path (read_of self.old.work.swap.read root_seen))) heap.new self.new.work.private }
+        ensures same { (self.new.task ≡ self.old.task) × (self.new.work.swap.read.access ≡ self.old.work.swap.read.access) }
+        ensures asks { IsAskingRoot result → (self.new ≡ record self.old { place = KeyAt.Down (BelowAt.Read) }) × (heap.new ≡ heap.old) }
+    {
+        self.place = KeyAt::Down(BelowAt::Read);
+        match self.work.read(heap, root_seen) {
+            Next::More(kind) => Next::More(kind),
+            Next::AskRoot => Next::AskRoot,
+            Next::Done(kind, main) => {
+                self.place = KeyAt::Down(BelowAt::Main { main });
+                Next::More(kind)
+            }
+        }
+    }
+
+    /// Looks at the main node.
+    fn look_at_main(&mut self, heap: &Heap, main: Ref) -> Result<Next<KeyReply>, Refusal>
+        ensures follows { IfOk result (λ next. KeySteps heap.now.heap self.old (line.Key (key.Main self.old.path main)) self.new next) }
+        ensures same { (self.new.task ≡ self.old.task) × (self.new.work.private ≡ self.old.work.private) × (self.new.work.swap.read.access ≡ self.old.work.swap.read.access) }
+        ensures taken { IfOk result (λ next. IsAskingRoot next → ⊥) }
+        ensures err { OnErr result (self.new ≡ self.old) }
+        ensures only_memory { IfErr result (λ refusal. refusal ≡ Refusal.Memory) }
+    {
+        let found = after_main(
+            heap,
+            self.task,
+            self.work.swap.read.access,
+            self.path.as_slice(),
+            main,
+        );
+        self.follow(heap, main, found)?;
+        Ok(Next::More(Kind::Look))
+    }
+
+    /// Looks at a branch's entry.
+    fn look_at_entry(
+        &mut self,
+        heap: &Heap,
+        main: Ref,
+        position: usize,
+    ) -> Result<Next<KeyReply>, Refusal>
+        ensures follows { IfOk result (λ next. KeySteps heap.now.heap self.old (line.Key (key.Entry self.old.path main position)) self.new next) }
+        ensures same { (self.new.task ≡ self.old.task) × (self.new.work.private ≡ self.old.work.private) × (self.new.work.swap.read.access ≡ self.old.work.swap.read.access) }
+        ensures taken { IfOk result (λ next. IsAskingRoot next → ⊥) }
+        ensures err { OnErr result (self.new ≡ self.old) }
+        ensures only_memory { IfErr result (λ refusal. refusal ≡ Refusal.Memory) }
+    {
+        let found = after_entry(
+            heap,
+            self.task,
+            self.work.swap.read.access,
+            self.path.as_slice(),
+            main,
+            position,
+        );
+        self.follow(heap, main, found)?;
+        Ok(Next::More(Kind::Look))
+    }
+
+    /// Looks at a single of a list, or at a tomb's.
+    fn look_at_single(
+        &mut self,
+        heap: &Heap,
+        main: Ref,
+        position: usize,
+    ) -> Result<Next<KeyReply>, Refusal>
+        ensures follows { IfOk result (λ next. KeySteps heap.now.heap self.old (line.Key (key.Listed self.old.path main position)) self.new next) }
+        ensures same { (self.new.task ≡ self.old.task) × (self.new.work.private ≡ self.old.work.private) × (self.new.work.swap.read.access ≡ self.old.work.swap.read.access) }
+        ensures taken { IfOk result (λ next. IsAskingRoot next → ⊥) }
+        ensures err { OnErr result (self.new ≡ self.old) }
+        ensures only_memory { IfErr result (λ refusal. refusal ≡ Refusal.Memory) }
+    {
+        let found = after_listed(
+            heap,
+            self.task,
+            self.work.swap.read.access,
+            self.path.as_slice(),
+            main,
+            position,
+        );
+        self.follow(heap, main, found)?;
+        Ok(Next::More(Kind::Look))
+    }
+
+    /// Goes where a look at this main node leads.
+    fn follow(&mut self, heap: &Heap, main: Ref, found: Found) -> Result<(), Refusal>
+        ensures ok { OnOk result ((state : State) (hashes : HashKind) → key_line self.new None ≡ line_found (at_heap state heap.now.heap hashes) self.old.path self.old.work.swap main found) }
+        ensures same { (self.new.task ≡ self.old.task) × (self.new.work.private ≡ self.old.work.private) × (self.new.work.swap.read.access ≡ self.old.work.swap.read.access) }
+        ensures err { OnErr result (self.new ≡ self.old) }
+        ensures only_memory { IfErr result (λ refusal. refusal ≡ Refusal.Memory) }
+    {
+        match found {
+            Found::Down { below } => self.go_down(below),
+            Found::Renew => {
+                self.renew.begin(heap, main);
+                self.place = KeyAt::Down(BelowAt::Renew);
+                Ok(())
+            }
+            Found::Clean => {
+                self.clean_parent();
+                Ok(())
+            }
+            Found::Entry { position } => {
+                self.place = KeyAt::Down(BelowAt::Entry { main, position });
+                Ok(())
+            }
+            Found::Listed { position } => {
+                self.place = KeyAt::Down(BelowAt::Listed { main, position });
+                Ok(())
+            }
+            Found::Change(at) => {
+                self.place = KeyAt::Down(BelowAt::Change(Change { main, at }));
+                Ok(())
+            }
+            Found::End(reply) => {
+                self.place = KeyAt::Down(BelowAt::End(reply));
+                Ok(())
+            }
+            Found::Impossible => {
+                self.place = KeyAt::Down(BelowAt::Impossible);
+                Ok(())
+            }
+        }
+    }
+
+    /// Reads the indirection below the current one next.
+    fn go_down(&mut self, below: Ref) -> Result<(), Refusal>
+        ensures ok { OnOk result (key_line self.new None ≡ going_down self.old.path below) }
+        ensures same { (self.new.task ≡ self.old.task) × (self.new.work.private ≡ self.old.work.private) × (self.new.work.swap.read.access ≡ self.old.work.swap.read.access) }
+        ensures err { OnErr result (self.new ≡ self.old) }
+        ensures only_memory { IfErr result (λ refusal. refusal ≡ Refusal.Memory) }
+    {
+        self.path.push(below)?;
+        self.read_next(below);
+        Ok(())
+    }
+
+    /// Cleans the parent next.
+    fn clean_parent(&mut self)
+        ensures line { key_line self.new None ≡ line.Clean (clean.Read (above self.old.path) (reading (current (above self.old.path)))) }
+        ensures same { (self.new.task ≡ self.old.task) × (self.new.work.private ≡ self.old.work.private) × (self.new.work.swap.read.access ≡ self.old.work.swap.read.access) }
+    {
+        let parent = current(above(self.path.as_slice()));
+        self.clean.begin(&mut self.work, parent);
+        self.place = KeyAt::Down(BelowAt::Clean);
+    }
+
+    /// Takes a step of a change.
+    fn change(
+        &mut self,
+        change: Change,
+        heap: &mut Heap,
+        root_seen: Option<u64>,
+    ) -> Result<Next<KeyReply>, Refusal>
+        requires can { CanChange heap.old.heap self.old.task self.old.path self.old.work.swap change }
+        requires held { AreHeld self.old.work.private heap.old }
+        ensures follows { IfOk result (λ next. KeySteps heap.old.heap self.old (change_line self.old.path self.old.work.swap root_seen change) self.new next) }
+        ensures acts { OnOk result (KeyActs heap.old self.old (change_line self.old.path self.old.work.swap root_seen change) heap.new self.new.work.private) }
+        ensures same { (self.new.task ≡ self.old.task) × (self.new.work.swap.read.access ≡ self.old.work.swap.read.access) }
+        ensures asks { IfOk result (λ next. IsAskingRoot next → (self.new ≡ record self.old { place = KeyAt.Down (BelowAt.Change change) }) × (heap.new ≡ heap.old)) }
+        ensures err { OnErr result ((self.new ≡ self.old) × (heap.new ≡ heap.old)) }
+        ensures only_memory { IfErr result (λ refusal. refusal ≡ Refusal.Memory) }
+    {
+        let mut change = change;
+        let tomb = tomb_at(heap, self.work.swap.fresh);
+        match change.step(
+            &mut self.work,
+            heap,
+            self.task,
+            self.path.as_slice(),
+            root_seen,
+        )? {
+            Next::More(kind) => {
+                self.place = KeyAt::Down(BelowAt::Change(change));
+                Ok(Next::More(kind))
+            }
+            Next::AskRoot => {
+                self.place = KeyAt::Down(BelowAt::Change(change));
+                Ok(Next::AskRoot)
+            }
+            Next::Done(kind, tried) => {
+                self.after_try(tried, tomb);
+                Ok(Next::More(kind))
+            }
+        }
+    }
+
+    /// After a try, where `tomb` is the single of the node that was made last, if that is a tomb.
+    fn after_try(&mut self, tried: Tried, tomb: Option<Ref>)
+        ensures line { (state : State) (operation : Operation) (fresh : ARef) →
+            after_update (operation_for self.old operation) self.old.path (former_of tried) (node_at state.heap fresh)
+            ≡ changed_line (operation_for self.old operation) self.old.path (former_of tried) tomb →
+            key_line self.new None ≡ line_tried state (operation_for self.old operation) self.old.path fresh tried }
+        ensures same { (self.new.task ≡ self.old.task) × (self.new.work.private ≡ self.old.work.private) × (self.new.work.swap.read.access ≡ self.old.work.swap.read.access) }
+        ensures reads { CommitsNoMore self.old.work.swap.read.at self.new.work.swap.read.at }
+    {
+        match tried {
+            Tried::Changed { former } => match tomb {
+                Some(single) => self.climb_on(single, former),
+                None => self.answer(former),
+            },
+            Tried::Lost => self.place = KeyAt::Root(ReadRoot::Read),
+            Tried::NoSlots => self.place = KeyAt::Down(BelowAt::End(KeyReply::NoSlots)),
+            Tried::Impossible => self.place = KeyAt::Down(BelowAt::Impossible),
+        }
+    }
+}
+
+/// The single of the tomb that stands there, if one does.
+fn tomb_at(heap: &Heap, at: Ref) -> Option<Ref>
+    ensures { (operation : Operation) (path : List ARef) (former : Option ℕ) → after_update operation path former (node_at heap.now.heap at) ≡ changed_line operation path former result }
+{
+    match node_at(heap, at) {
+        Some(Node::Tomb { single }) => Some(*single),
+        _ => None,
+    }
+}

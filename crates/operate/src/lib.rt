@@ -1,0 +1,20 @@
+//! A call on one key, from its begin to its reply: the lookup, insertion and removal of the concurrent trie with snapshots
+//! (Ctrie: A. Prokopec, N. G. Bronson, P. Bagwell, M. Odersky).
+//!
+//! A try begins at the root and goes down by READ and looks, each one atomic step. A writable call renews what is of
+//! another generation and cleans where it meets a tomb, and both of them and its own change come about by one GCAS each;
+//! whatever of these is lost begins the next try. Behind a removal that left a tomb it climbs.
+//!
+//! Computed are `Finding` and `Keys` of `machine_model`, and of its `Operations` how the programs of a call on one key lead
+//! into each other.
+#![tactic(auto)]
+
+mod below;
+mod key_op;
+mod path;
+mod repairs;
+
+pub use key_finding::KeyReply;
+pub use key_op::{BelowAt, KeyAt, KeyOp};
+pub use path::Path;
+pub use trie_parts::KeyCall;

@@ -1,0 +1,181 @@
+//! The steps of the repairs that a call on one key does on its way: renewing, cleaning and climbing.
+
+ghost use Rattle.std.specs.Prelude.{◌≡◌, None, IfOk, IfErr, OnOk, OnErr};
+ghost use Rattle.machine_model.specs.Paths.{above, current};
+ghost use Rattle.history.specs.declared.calls.Access.{Access as AnAccess};
+ghost use Rattle.trie_parts.specs.Tasks.{for_task};
+ghost use Rattle.machine_model.specs.declared.operations.Operation.{Operation};
+ghost use Rattle.gcas.specs.Reads.{IsAskingRoot};
+ghost use Rattle.trie_parts.specs.Holding.{AreHeld};
+ghost use Rattle.contract.specs.Cleaning.{clean_line, CanClean, line_behind as line_cleaned};
+ghost use Rattle.contract.specs.Climbing.{climb_line, CanClimb, line_behind as line_climbed};
+ghost use Rattle.contract.specs.Renewing.{renew_line, CanRenew, line_behind as line_renewed};
+ghost use Rattle.operate.specs.Places.{key_line};
+ghost use Rattle.operate.specs.Steps.{CommitsNoMore, KeySteps, KeyActs};
+
+use crate::key_op::{BelowAt, KeyAt, KeyOp};
+use contract::{Cleaned, Climb, Climbed, Renewed};
+use ctrie_base::Refusal;
+use epochs::Heap;
+use gcas::Next;
+use key_finding::KeyReply;
+use rdcss_root::ReadRoot;
+use slot_arena::Ref;
+use trie_parts::{above, current};
+
+impl KeyOp {
+    /// Takes a step of a renewing.
+    pub(crate) fn renew(
+        &mut self,
+        heap: &mut Heap,
+        root_seen: Option<u64>,
+    ) -> Result<Next<KeyReply>, Refusal>
+        requires can { CanRenew heap.old.heap self.old.work.swap self.old.renew }
+        requires held { AreHeld self.old.work.private heap.old }
+        ensures follows { IfOk result (λ next. KeySteps heap.old.heap self.old (renew_line self.old.path self.old.work.swap root_seen self.old.renew) self.new next) }
+        ensures acts { OnOk result (KeyActs heap.old self.old (renew_line self.old.path self.old.work.swap root_seen self.old.renew) heap.new self.new.work.private) }
+        ensures same { (self.new.task ≡ self.old.task) × (self.new.work.swap.read.access ≡ self.old.work.swap.read.access) }
+        ensures asks { IfOk result (λ next. IsAskingRoot next → (self.new ≡ record self.old { place = KeyAt.Down (BelowAt.Renew) }) × (heap.new ≡ heap.old)) }
+        ensures err { OnErr result ((self.new ≡ record self.old { place = KeyAt.Down (BelowAt.Renew) }) × (heap.new ≡ heap.old)) }
+        ensures only_memory { IfErr result (λ refusal. refusal ≡ Refusal.Memory) }
+    {
+        self.place = KeyAt::Down(BelowAt::Renew);
+        match self.renew.step(
+            &mut self.work,
+            heap,
+            self.task,
+            self.path.as_slice(),
+            root_seen,
+        )? {
+            Next::More(kind) => Ok(Next::More(kind)),
+            Next::AskRoot => Ok(Next::AskRoot),
+            Next::Done(kind, renewed) => {
+                self.after_renewing(renewed);
+                Ok(Next::More(kind))
+            }
+        }
+    }
+
+    /// After a renewing.
+    fn after_renewing(&mut self, renewed: Renewed)
+        ensures line { key_line self.new None ≡ line_renewed self.old.path renewed }
+        ensures same { (self.new.task ≡ self.old.task) × (self.new.work.private ≡ self.old.work.private) × (self.new.work.swap.read.access ≡ self.old.work.swap.read.access) }
+        ensures reads { CommitsNoMore self.old.work.swap.read.at self.new.work.swap.read.at }
+    {
+        match renewed {
+            Renewed::Renewed => {
+                let indirection = current(self.path.as_slice());
+                self.read_next(indirection);
+            }
+            Renewed::Lost => self.place = KeyAt::Root(ReadRoot::Read),
+            Renewed::NoSlots => self.place = KeyAt::Down(BelowAt::End(KeyReply::NoSlots)),
+            Renewed::Impossible => self.place = KeyAt::Down(BelowAt::Impossible),
+        }
+    }
+
+    /// Takes a step of a cleaning.
+    pub(crate) fn clean(
+        &mut self,
+        heap: &mut Heap,
+        root_seen: Option<u64>,
+    ) -> Result<Next<KeyReply>, Refusal>
+        requires can { CanClean heap.old.heap (above self.old.path) self.old.work.swap self.old.clean }
+        requires held { AreHeld self.old.work.private heap.old }
+        ensures follows { IfOk result (λ next. KeySteps heap.old.heap self.old (clean_line (above self.old.path) self.old.work.swap root_seen self.old.clean) self.new next) }
+        ensures acts { OnOk result (KeyActs heap.old self.old (clean_line (above self.old.path) self.old.work.swap root_seen self.old.clean) heap.new self.new.work.private) }
+        ensures same { (self.new.task ≡ self.old.task) × (self.new.work.swap.read.access ≡ self.old.work.swap.read.access) }
+        ensures asks { IfOk result (λ next. IsAskingRoot next → (self.new ≡ record self.old { place = KeyAt.Down (BelowAt.Clean) }) × (heap.new ≡ heap.old)) }
+        ensures err { OnErr result ((self.new ≡ record self.old { place = KeyAt.Down (BelowAt.Clean) }) × (heap.new ≡ heap.old)) }
+        ensures only_memory { IfErr result (λ refusal. refusal ≡ Refusal.Memory) }
+    {
+        self.place = KeyAt::Down(BelowAt::Clean);
+        let parents = above(self.path.as_slice());
+        match self
+            .clean
+            .step(&mut self.work, heap, self.task, parents, root_seen)?
+        {
+            Next::More(kind) => Ok(Next::More(kind)),
+            Next::AskRoot => Ok(Next::AskRoot),
+            Next::Done(kind, cleaned) => {
+                self.after_cleaning(cleaned);
+                Ok(Next::More(kind))
+            }
+        }
+    }
+
+    /// After a cleaning.
+    fn after_cleaning(&mut self, cleaned: Cleaned)
+        ensures line { key_line self.new None ≡ line_cleaned cleaned }
+        ensures same { (self.new.task ≡ self.old.task) × (self.new.work ≡ self.old.work) }
+    {
+        match cleaned {
+            Cleaned::Cleaned => self.place = KeyAt::Root(ReadRoot::Read),
+            Cleaned::NoSlots => self.place = KeyAt::Down(BelowAt::End(KeyReply::NoSlots)),
+            Cleaned::Impossible => self.place = KeyAt::Down(BelowAt::Impossible),
+        }
+    }
+
+    /// Takes a step of a climb.
+    pub(crate) fn climb(
+        &mut self,
+        climb: Climb,
+        heap: &mut Heap,
+        root_seen: Option<u64>,
+    ) -> Result<Next<KeyReply>, Refusal>
+        requires can { CanClimb heap.old.heap self.old.task self.old.path self.old.work.swap climb }
+        requires held { AreHeld self.old.work.private heap.old }
+        ensures follows { IfOk result (λ next. KeySteps heap.old.heap self.old (climb_line self.old.path self.old.work.swap root_seen climb) self.new next) }
+        ensures acts { OnOk result (KeyActs heap.old self.old (climb_line self.old.path self.old.work.swap root_seen climb) heap.new self.new.work.private) }
+        ensures same { (self.new.task ≡ self.old.task) × (self.new.work.swap.read.access ≡ self.old.work.swap.read.access) }
+        ensures asks { IfOk result (λ next. IsAskingRoot next → (self.new ≡ record self.old { place = KeyAt.Down (BelowAt.Climb climb) }) × (heap.new ≡ heap.old)) }
+        ensures err { OnErr result ((self.new ≡ self.old) × (heap.new ≡ heap.old)) }
+        ensures only_memory { IfErr result (λ refusal. refusal ≡ Refusal.Memory) }
+    {
+        let (single, former) = (climb.single, climb.former);
+        let mut climb = climb;
+        match climb.step(
+            &mut self.work,
+            heap,
+            self.task,
+            self.path.as_slice(),
+            root_seen,
+        )? {
+            Next::More(kind) => {
+                self.place = KeyAt::Down(BelowAt::Climb(climb));
+                Ok(Next::More(kind))
+            }
+            Next::AskRoot => {
+                self.place = KeyAt::Down(BelowAt::Climb(climb));
+                Ok(Next::AskRoot)
+            }
+            Next::Done(kind, climbed) => {
+                self.after_climb(climbed, single, former);
+                Ok(Next::More(kind))
+            }
+        }
+    }
+
+    /// After a climb of one indirection.
+    fn after_climb(&mut self, climbed: Climbed, single: Ref, former: Option<u64>)
+        ensures line { (access : AnAccess) (operation : Operation) → key_line self.new None
+            ≡ line_climbed (for_task self.old.task access operation) (record { path = self.old.path; single = single; former = former }) climbed }
+        ensures same { (self.new.task ≡ self.old.task) × (self.new.work.private ≡ self.old.work.private) × (self.new.work.swap.read.access ≡ self.old.work.swap.read.access) }
+        ensures reads { CommitsNoMore self.old.work.swap.read.at self.new.work.swap.read.at }
+    {
+        match climbed {
+            Climbed::Higher { single } => {
+                self.path.pop();
+                self.climb_on(single, former);
+            }
+            Climbed::Climbed => self.answer(former),
+            Climbed::Lost => {
+                self.place = KeyAt::RootAgain {
+                    single,
+                    former,
+                    root: ReadRoot::Read,
+                };
+            }
+            Climbed::Impossible => self.place = KeyAt::Down(BelowAt::Impossible),
+        }
+    }
+}
