@@ -172,7 +172,8 @@ module _ (next back : List ℕ) (marks : List Bool) (size first second third len
       by_second (inr other) behind f = by_third (cases_eq i third) behind f other
 
       by_first : (i ≡ first) ⊎ (i ≡ first → ⊥) → size ≤ i → times i (first ∷ around a second b third c) ≤ 1
-      by_first (inl same) behind = sum 1 0 0 (not_member i behind) (bit_of first same) (once_other i second (λ e. ring.first_second (sym same ∙ e))) (once_other i third (λ e. ring.third_first (sym e ∙ same))) (omega arith)
+      by_first (inl same) behind = sum 1 0 0 (not_member i behind) (bit_of first same) (once_other i second (λ e. ring.first_second (sym same ∙ e)))
+          (once_other i third (λ e. ring.third_first (sym e ∙ same))) (omega arith)
       by_first (inr other) behind = by_second (cases_eq i second) behind other
 
   pub first_outside : times first (around a second b third c) ≡ 0
@@ -188,7 +189,15 @@ module _ (next back : List ℕ) (marks : List Bool) (size first second third len
       by_third : (i ≡ third) ⊎ (i ≡ third → ⊥) → size ≤ i → (i ≡ first → ⊥) → (i ≡ second → ⊥) → i < size + 3
       by_third (inl same) behind f s = let is = ring.third_behind in omega arith
       by_third (inr other) behind f s =
-          absurd (omega (arith, times-cons i first (around a second b third c), times-around i a second b third c, not_member i behind, once_other i first f, once_other i second s, once_other i third other))
+          absurd (omega (
+            arith,
+            times-cons i first (around a second b third c),
+            times-around i a second b third c,
+            not_member i behind,
+            once_other i first f,
+            once_other i second s,
+            once_other i third other,
+          ))
 
       by_second : (i ≡ second) ⊎ (i ≡ second → ⊥) → size ≤ i → (i ≡ first → ⊥) → i < size + 3
       by_second (inl same) behind f = let is = ring.second_behind in omega arith

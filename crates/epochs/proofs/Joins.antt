@@ -57,7 +57,8 @@ pub once_apart : (n : ℕ) (ns : List ℕ) → AreOnce (n ∷ ns) → times n ns
 once_apart n ns each = omega (arith, each n, times-cons n n ns, once_same n)
 
 -- one more at the end
-pub entered : (next back : List ℕ) (from : ℕ) (ns : List ℕ) (to p x : ℕ) → Joined next back from ns to → p ≡ slice_index back to → AreOnce (from ∷ ns) → times x (from ∷ ns) ≡ 0 → (x ≡ to → ⊥) → times to ns ≡ 0 →
+pub entered : (next back : List ℕ) (from : ℕ) (ns : List ℕ) (to p x : ℕ) → Joined next back from ns to → p ≡ slice_index back to → AreOnce (from ∷ ns) → times x (from ∷ ns) ≡ 0
+    → (x ≡ to → ⊥) → times to ns ≡ 0 →
     p < length next → x < length next → x < length back → to < length back → Joined (set (set next p x) x to) (set (set back x p) to x) from (ns ++ x ∷ []) to
 entered next back from [] to p x (there, here) is each apart ends outside pn xn xb tb =
     let at : p ≡ from = is ∙ here in
@@ -97,7 +98,8 @@ others_none x [] none = refl
 others_none x (n ∷ ns) none = others_other x n ns (λ same. not_first x n ns none (sym same)) ∙ ap (λ ms. n ∷ ms) (others_none x ns (not_later x n ns none))
 
 -- one less, from the start
-left_first : (next back : List ℕ) (from : ℕ) (ns : List ℕ) (to x p q : ℕ) → Joined next back from (x ∷ ns) to → p ≡ slice_index back x → q ≡ slice_index next x → AreOnce (from ∷ x ∷ ns) → times to (x ∷ ns) ≡ 0 →
+left_first : (next back : List ℕ) (from : ℕ) (ns : List ℕ) (to x p q : ℕ) → Joined next back from (x ∷ ns) to → p ≡ slice_index back x → q ≡ slice_index next x → AreOnce (from ∷ x ∷ ns)
+    → times to (x ∷ ns) ≡ 0 →
     p < length next → q < length back → Joined (set next p q) (set back q p) from ns to
 left_first next back from [] to x p q (there, here, (end, start)) is_p is_q each outside pn qb =
     let at_p : p ≡ from = is_p ∙ here in
@@ -114,7 +116,8 @@ left_first next back from (n ∷ ns) to x p q (there, here, (end, start, later))
           (back_apart next back n ns to q p later apart_q (λ same. not_first to n ns (not_later to x (n ∷ ns) outside) (sym same ∙ at_q))) apart_p,
     )
 
-pub left : (next back : List ℕ) (from : ℕ) (ns : List ℕ) (to x p q : ℕ) → Joined next back from ns to → p ≡ slice_index back x → q ≡ slice_index next x → AreOnce (from ∷ ns) → times to ns ≡ 0 → 0 < times x ns →
+pub left : (next back : List ℕ) (from : ℕ) (ns : List ℕ) (to x p q : ℕ) → Joined next back from ns to → p ≡ slice_index back x → q ≡ slice_index next x → AreOnce (from ∷ ns)
+    → times to ns ≡ 0 → 0 < times x ns →
     p < length next → q < length back → Joined (set next p q) (set back q p) from (others x ns) to
 left next back from [] to x p q joined is_p is_q each outside some pn qb = absurd (omega arith)
 left next back from (n ∷ ns) to x p q joined is_p is_q each outside some pn qb = elim (cases_eq n x) [

@@ -1,5 +1,6 @@
 -- Limbo after a settling is the definition's.
-use Rattle.std.proofs.Common.{◌≡◌, ℕ, suc, ◌+◌, ◌-◌, ◌<◌, ◌≤◌, ◌^◌, ◌==◌, ◌&&◌, not, nat_lt, Bool, true, false, cond, List, [], ◌∷◌, ◌++◌, length, filter, All, Some, refl, sym, ap, ◌∙◌, subst, inl, inr, arith}
+use Rattle.std.proofs.Common.{◌≡◌, ℕ, suc, ◌+◌, ◌-◌, ◌<◌, ◌≤◌, ◌^◌, ◌==◌, ◌&&◌, not, nat_lt, Bool, true, false, cond, List, [], ◌∷◌}
+use Rattle.std.proofs.Common.{◌++◌, length, filter, All, Some, refl, sym, ap, ◌∙◌, subst, inl, inr, arith}
 use Rattle.std.specs.List.Sorted.{IsPermutation}
 use Rattle.std.proofs.lemmas.List.Sorted.{IsPermutation-refl, sum_by-IsPermutation}
 use Rattle.std.proofs.lemmas.Bool.{ltb-false}
@@ -142,12 +143,16 @@ module _
         let p : Zeroed → Bool = λ z. is_in_use arena.heap z.at && is_zero arena.heap arena.outside z.at in
         filter-append p (zeroed_at (epoch - 2) bags.oldest ++ zeroed_at (epoch - 1) bags.middle) (zeroed_at epoch bags.present)
         ∙ ap (λ l. l ++ filter p (zeroed_at epoch bags.present)) (filter-append p (zeroed_at (epoch - 2) bags.oldest) (zeroed_at (epoch - 1) bags.middle))
-        ∙ ap (λ l. l ++ filter p (zeroed_at (epoch - 1) bags.middle) ++ filter p (zeroed_at epoch bags.present)) (bag_stays arena.heap arena.outside (epoch - 2) bags.oldest small (members_live bags.oldest (in_oldest arena bags lists)) ∙ ap (zeroed_at (epoch - 2)) (sym sifted.oldest))
-        ∙ ap (λ l. zeroed_at (epoch - 2) now.oldest ++ l ++ filter p (zeroed_at epoch bags.present)) (bag_stays arena.heap arena.outside (epoch - 1) bags.middle small (members_live bags.middle (in_middle arena bags lists)) ∙ ap (zeroed_at (epoch - 1)) (sym sifted.middle))
-        ∙ ap (λ l. zeroed_at (epoch - 2) now.oldest ++ zeroed_at (epoch - 1) now.middle ++ l) (bag_stays arena.heap arena.outside epoch bags.present small (members_live bags.present (in_present arena bags lists)) ∙ ap (zeroed_at epoch) (sym sifted.present))
+        ∙ ap (λ l. l ++ filter p (zeroed_at (epoch - 1) bags.middle) ++ filter p (zeroed_at epoch bags.present))
+        (bag_stays arena.heap arena.outside (epoch - 2) bags.oldest small (members_live bags.oldest (in_oldest arena bags lists)) ∙ ap (zeroed_at (epoch - 2)) (sym sifted.oldest))
+        ∙ ap (λ l. zeroed_at (epoch - 2) now.oldest ++ l ++ filter p (zeroed_at epoch bags.present))
+        (bag_stays arena.heap arena.outside (epoch - 1) bags.middle small (members_live bags.middle (in_middle arena bags lists)) ∙ ap (zeroed_at (epoch - 1)) (sym sifted.middle))
+        ∙ ap (λ l. zeroed_at (epoch - 2) now.oldest ++ zeroed_at (epoch - 1) now.middle ++ l)
+        (bag_stays arena.heap arena.outside epoch bags.present small (members_live bags.present (in_present arena bags lists)) ∙ ap (zeroed_at epoch) (sym sifted.present))
 
     -- limbo is the definition's
-    pub settled : (epoch : ℕ) → limbo_of epoch (record { oldest = now.oldest; middle = now.middle; present = now.present ++ sorted; size = now.size }) ≡ limbo_after arena.heap arena.outside epoch (limbo_of epoch bags)
+    pub settled : (epoch : ℕ) → limbo_of epoch (record { oldest = now.oldest; middle = now.middle; present = now.present ++ sorted; size = now.size }) ≡ limbo_after arena.heap arena.outside
+        epoch (limbo_of epoch bags)
     settled epoch =
         ap (λ l. zeroed_at (epoch - 2) now.oldest ++ zeroed_at (epoch - 1) now.middle ++ l) (map-append (λ r. record { at = r; epoch = epoch }) now.present sorted)
         ∙ sym (append_assoc (zeroed_at (epoch - 2) now.oldest ++ zeroed_at (epoch - 1) now.middle) (zeroed_at epoch now.present) (zeroed_at epoch sorted))
@@ -201,7 +206,8 @@ module _
     }
 
     -- and as many as both
-    pub length_settled : (epoch : ℕ) → (length (staying arena.heap arena.outside (limbo_of epoch bags)) ≡ length (all_of now)) × (length (newly_zero arena.heap arena.outside (limbo_of epoch bags)) ≡ length sorted)
+    pub length_settled : (epoch : ℕ) → (length (staying arena.heap arena.outside (limbo_of epoch bags)) ≡ length (all_of now))
+        × (length (newly_zero arena.heap arena.outside (limbo_of epoch bags)) ≡ length sorted)
     length_settled epoch = (
       ap length (stayed epoch)
           ∙ omega (

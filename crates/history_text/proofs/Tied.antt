@@ -35,7 +35,8 @@ ends_before es e place id answer b = elim (get_push es e (End id answer) place b
 
 -- A begin.
 
-begin_runs : (es : List Event) (n a : ℕ) (c : Call) (o : Option ℕ) → Tied es → n ≡ begun es → (id actor : ℕ) → Among (id, actor) (running es) ⊎ (◌≡◌ {A = ℕ × ℕ} (n, a) (id, actor)) → IsRunning (es ++ Begin n a c o ∷ []) id actor
+begin_runs : (es : List Event) (n a : ℕ) (c : Call) (o : Option ℕ) → Tied es → n ≡ begun es → (id actor : ℕ) → Among (id, actor) (running es) ⊎ (◌≡◌ {A = ℕ × ℕ} (n, a) (id, actor))
+    → IsRunning (es ++ Begin n a c o ∷ []) id actor
 begin_runs es n a c o t next id actor (inl m) =
     let r = t.runs id actor m in (
       (r.0.0, r.0.1, get_before es (Begin n a c o ∷ []) _ r.0.0 r.0.2, r.0.3),
@@ -116,7 +117,8 @@ tied_push es (End id answer) t may = tied_end es id answer t may.0 may.1
 busy_runs : (es : List Event) (actor : ℕ) → Tied es → (id : ℕ) → IsRunning es id actor → is_busy es actor ≡ true
 busy_runs es actor t id r = among_any (λ one. eqb one.1 actor) (id, actor) (running es) (t.listed id actor r) (eq-eqb actor actor refl)
 
-pub begin_may : (es : List Event) (id actor : ℕ) (call : Call) (opens : Option ℕ) → Tied es → id ≡ begun es → is_busy es actor ≡ false → OpensRightly call opens → MayFollow es (Begin id actor call opens)
+pub begin_may : (es : List Event) (id actor : ℕ) (call : Call) (opens : Option ℕ) → Tied es → id ≡ begun es → is_busy es actor ≡ false → OpensRightly call opens
+    → MayFollow es (Begin id actor call opens)
 begin_may es id actor call opens t next idle rightly = (next, rightly, λ other r. let b = busy_runs es actor t other r in absurd cc)
 
 pub end_may : (es : List Event) (id : ℕ) (answer : Reply) → Tied es → is_running es id ≡ true → MayFollow es (End id answer)
@@ -130,7 +132,8 @@ not_busy false p = refl
 
 pub may_begin : (es : List Event) (id actor : ℕ) (call : Call) (opens : Option ℕ) → Tied es → MayFollow es (Begin id actor call opens) → is_busy es actor ≡ false
 may_begin es id actor call opens t may =
-    not_busy (is_busy es actor) (λ h. let f = any_among (λ one. eqb one.1 actor) (running es) h in may.2 f.0.0 (subst (λ (a : ℕ). IsRunning es f.0.0 a) (eqb-true f.0.1 actor f.2) (t.runs f.0.0 f.0.1 f.1)))
+    not_busy (is_busy es actor) (λ h. let f = any_among (λ one. eqb one.1 actor) (running es) h in
+    may.2 f.0.0 (subst (λ (a : ℕ). IsRunning es f.0.0 a) (eqb-true f.0.1 actor f.2) (t.runs f.0.0 f.0.1 f.1)))
 
 pub may_end : (es : List Event) (id : ℕ) (answer : Reply) → Tied es → MayFollow es (End id answer) → is_running es id ≡ true
 may_end es id answer t may = among_any (λ one. eqb one.0 id) (id, may.0) (running es) (t.listed id may.0 may.1) (eq-eqb id id refl)

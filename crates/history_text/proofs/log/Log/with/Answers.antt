@@ -21,6 +21,7 @@ invariant_of-result c =
           let e = End w.in-End.id w.in-End.reply in
           rw (c.in_ok-push.ensures.items, w.in-End.is) (
             w.next-is ∙ inv.0 ∙ sym (begun_end es w.in-End.id w.in-End.reply),
-            ap (λ v. v.items) w.active-is ∙ filter_same _ (λ one. not (eqb one.0 w.in-End.id)) _ (λ x b q k. search (rules, tests)) _ _ w.retain.ensures.filtered ∙ ap (filter (λ one. not (eqb one.0 w.in-End.id))) inv.1 ∙ sym (running_push es e),
+            ap (λ v. v.items) w.active-is ∙ filter_same _ (λ one. not (eqb one.0 w.in-End.id)) _ (λ x b q k. search (rules, tests)) _ _ w.retain.ensures.filtered
+                ∙ ap (filter (λ one. not (eqb one.0 w.in-End.id))) inv.1 ∙ sym (running_push es e),
           )
     ]
