@@ -69,8 +69,7 @@ impl Caller {
 
     /// Freezes the map, gets a key of the copy, and closes it.
     fn copy(&self, machine: &mut Machine) -> Result<u64, Refusal> {
-        let Some(Reply::Opened(handle)) =
-            machine.complete(self.actor, Call::Freeze { handle: 0 })?
+        let Some(Reply::Opened(handle)) = machine.complete(self.actor, Call::Freeze { handle: 0 })?
         else {
             return Ok(1);
         };
