@@ -1,0 +1,77 @@
+//! What a C program holds.
+
+ghost use Rattle.std.specs.Prelude.{◌≡◌, Option, Some, None, IfSome, IfNone};
+ghost use Rattle.std.specs.Coded.{coded_option};
+ghost use Rattle.ctrie_map.specs.Maps.{MapState};
+ghost use Rattle.ctrie_map.specs.Codes.{map_state_code};
+
+use ctrie_map::Map;
+use std::alloc::Global;
+use std::marker::Model;
+use std::ptr::null_mut;
+
+/// A map behind a pointer, or none where it is null.
+#[repr(C)]
+pub struct HeldMap {
+    at: *mut u8,
+    alloc: Global,
+    ghost state: { Option MapState } by { coded_option map_state_code },
+}
+
+impl Model for HeldMap {
+    ghost use Rattle.ctrie_c.specs.Holding.{holds};
+
+    ghost also_owns = { λ h. holds h.alloc h.at h.state };
+}
+
+impl HeldMap {
+    /// None.
+    pub(crate) fn none(alloc: Global) -> HeldMap
+        ensures { result.state ≡ None }
+    {
+        HeldMap {
+            at: null_mut(),
+            alloc,
+        }
+    }
+
+    /// This map.
+    pub(crate) fn of(map: Box<Map>) -> HeldMap
+        ensures { result.state ≡ Some map.value }
+    {
+        let (at, alloc) = Box::into_raw_with_allocator(map);
+        HeldMap {
+            at: at as *mut u8,
+            alloc,
+        }
+    }
+
+    /// The map, if there is one.
+    pub(crate) fn into_map(self) -> Option<Box<Map>>
+        ensures some { IfSome result (λ map. self.state ≡ Some map.value) }
+        ensures none { IfNone result (self.state ≡ None) }
+    {
+        let HeldMap { at, alloc } = self;
+        if at.is_null() {
+            return None;
+        }
+        Some(unsafe { Box::from_raw(alloc, at as *mut Map) })
+    }
+}
+
+/// The map, if there is one; none is held then.
+pub(crate) fn take(held: &mut HeldMap) -> Option<Box<Map>>
+    ensures empty { held.new.state ≡ None }
+    ensures some { IfSome result (λ map. held.old.state ≡ Some map.value) }
+    ensures none { IfNone result (held.old.state ≡ None) }
+{
+    let alloc = held.alloc;
+    std::mem::replace(held, HeldMap::none(alloc)).into_map()
+}
+
+/// Holds this map.
+pub(crate) fn give(held: &mut HeldMap, map: Box<Map>)
+    ensures { held.new.state ≡ Some map.value }
+{
+    let _ = std::mem::replace(held, HeldMap::of(map)).into_map();
+}
