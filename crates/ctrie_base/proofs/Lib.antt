@@ -1,3 +1,3 @@
 pub mod Fits
+pub mod SameTests
 pub mod Sorting
-pub mod Tests

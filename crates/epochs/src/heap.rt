@@ -115,6 +115,17 @@ impl Heap {
         made
     }
 
+    /// The reference that the next slot to be taken will have, if one is free.
+    pub fn next_ref(&mut self) -> Option<Ref>
+        requires { self.old.heap.births + 1 < 2 ^ 48 }
+        ensures next { result ≡ next_ref self.old.heap }
+        ensures same { self.new ≡ record self.old { ticks = self.old.ticks + 1 } }
+    {
+        let next = self.arena.next_ref();
+        self.ticks = ticks_of(&self.arena, &self.bags, &self.fresh);
+        next
+    }
+
     /// The node.
     pub fn look(&self, at: Ref) -> &Node
         requires { IsLive self.now.heap at }
@@ -292,9 +303,8 @@ impl Heap {
         self.pins[actor as usize - 1] = None;
     }
 
-    /// Ends a step: slots that are referred to leave limbo, and those to which nothing refers any more
-    /// enter it, by rising birth, with the present epoch. It looks at the noted slots alone: that takes 3
-    /// ticks for each, and at most 12 for each that enters or leaves limbo.
+    /// Ends a step: slots that are referred to leave limbo, and those to which nothing refers any more enter
+    /// it, by rising birth, with the present epoch. It looks at the noted slots alone.
     pub fn settle(&mut self)
         ensures limbo { self.new.limbo ≡ limbo_after self.old.heap self.old.outside self.old.epoch self.old.limbo }
         ensures settled { self.new.noted ≡ [] }
@@ -316,9 +326,8 @@ impl Heap {
         self.ticks = ticks_of(&self.arena, &self.bags, &self.fresh);
     }
 
-    /// A step of the sweep, where all is settled. What it frees leaves limbo at once; what is referred to
-    /// stays. What it frees was in limbo before each running operation began: in an older epoch than any
-    /// that an actor has recorded.
+    /// A step of the sweep, where all is settled. What it frees leaves limbo at once, and came into it in an
+    /// older epoch than any that an actor has recorded; what is referred to stays.
     pub fn sweep(&mut self) -> Swept
         requires settled { self.old.noted ≡ [] }
         requires room { self.old.epoch < 2 ^ 48 }
@@ -333,12 +342,8 @@ impl Heap {
         ensures ticks { TakesUpTo 44 self.old.ticks self.new.ticks }
     {
         let Some(slot) = self.bags.first() else {
-            let swept = advance(
-                &mut self.bags,
-                &mut self.epoch,
-                &mut self.cursor,
-                self.pins.as_slice(),
-            );
+            let pins = self.pins.as_slice();
+            let swept = advance(&mut self.bags, &mut self.epoch, &mut self.cursor, pins);
             self.ticks = ticks_of(&self.arena, &self.bags, &self.fresh);
             return swept;
         };

@@ -10,7 +10,7 @@ ghost use Rattle.machine_model.specs.Swapping.{swapping};
 ghost use Rattle.machine_model.specs.declared.building.BuildLine.TheVariants as B;
 ghost use Rattle.machine_model.specs.declared.lines.Line.TheVariants as L;
 ghost use Rattle.machine_model.specs.declared.lines.Purpose.TheVariants as P;
-ghost use Rattle.plain_state.specs.Seen.{seen};
+ghost use Rattle.plain_state.specs.Seen.{seen, KnowsNext};
 
 use crate::builders::{changed, pair, rung};
 use history::Reply;
@@ -73,7 +73,7 @@ pub fn build_after(
     operation: &Operation,
     line: &BuildLine,
 ) -> Result<Line, AllocError>
-    requires { (seen parts.now).heap.births + 1 < 2 ^ 48 }
+    requires { KnowsNext parts.now }
     ensures { IfOk result (λ after. after ≡ build_after (seen parts.now) operation.now line.now) }
 {
     match parts.heap.next_ref() {

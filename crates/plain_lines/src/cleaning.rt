@@ -3,7 +3,7 @@
 ghost use Rattle.std.specs.Prelude.{◌≡◌, ◌+◌, ◌<◌, ◌-◌, ◌^◌, IfOk};
 ghost use Rattle.slot_arena.specs.Heaps.{node_at};
 ghost use Rattle.machine_model.specs.Cleaning.{clean_next, is_single, leaves_single, cleaned, clean_action, clean_after_read, clean_after_main, clean_after_entry, after_child, clean_after_tomb, clean_after_contracted, clean_after};
-ghost use Rattle.plain_state.specs.Seen.{seen};
+ghost use Rattle.plain_state.specs.Seen.{seen, KnowsNext};
 
 use crate::builders::contracted;
 use crate::lines::new_try;
@@ -175,7 +175,7 @@ pub fn clean_after(
     operation: &Operation,
     line: &CleanLine,
 ) -> Result<Line, AllocError>
-    requires { (seen parts.now).heap.births + 1 < 2 ^ 48 }
+    requires { KnowsNext parts.now }
     ensures { IfOk result (λ after. after ≡ clean_after (seen parts.now) operation.now line.now) }
 {
     match line {

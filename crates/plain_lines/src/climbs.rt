@@ -5,7 +5,7 @@ ghost use Rattle.std.specs.Prelude.{◌≡◌, ◌+◌, ◌<◌, ◌-◌, ◌^�
 ghost use Rattle.slot_arena.specs.Heaps.{node_at};
 ghost use Rattle.machine_model.specs.Climbing.{climbed, climbing, higher, place_in, climbed_node, climb_action, climb_after_read, holds_it, climb_after_main, climb_after_contracted, climb_after_root, climb_after};
 ghost use Rattle.machine_model.specs.Paths.{above, is_below_root, flag_in};
-ghost use Rattle.plain_state.specs.Seen.{seen};
+ghost use Rattle.plain_state.specs.Seen.{seen, KnowsNext};
 
 use crate::builders::{contracted, with_replaced};
 use machine_model::{Action, After, Climb, ClimbLine, Line, Operation, Purpose, Read, RootLine};
@@ -215,7 +215,7 @@ pub fn climb_after(
     operation: &Operation,
     line: &ClimbLine,
 ) -> Result<Line, AllocError>
-    requires { (seen parts.now).heap.births + 1 < 2 ^ 48 }
+    requires { KnowsNext parts.now }
     ensures { IfOk result (λ after. after ≡ climb_after (seen parts.now) operation.now line.now) }
 {
     match line {

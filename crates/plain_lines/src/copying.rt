@@ -2,7 +2,7 @@
 
 ghost use Rattle.std.specs.Prelude.{◌≡◌, ◌+◌, ◌<◌, ◌-◌, ◌^◌};
 ghost use Rattle.machine_model.specs.Copying.{copy_action, offering, after_given, copy_after_read, after_successor, copy_after_made, copy_if_made, after_offer, copied_reply, copy_after_complete, copy_after};
-ghost use Rattle.plain_state.specs.Seen.{seen};
+ghost use Rattle.plain_state.specs.Seen.{seen, KnowsNext};
 
 use crate::lines::new_try;
 use arrayvec::ArrayVec;
@@ -164,7 +164,7 @@ fn after_complete(operation: &Operation, after: After<Complete, bool>) -> Line
 
 /// What comes after a step of SNAP or CLEAR. It takes no memory.
 pub fn copy_after(parts: &Parts, operation: &Operation, line: &CopyLine) -> Line
-    requires births { (seen parts.now).heap.births + 1 < 2 ^ 48 }
+    requires next { KnowsNext parts.now }
     requires attempts { operation.now.attempt < 2 ^ 64 - 1 }
     ensures { result ≡ copy_after (seen parts.now) operation.now line.now }
 {

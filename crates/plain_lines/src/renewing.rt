@@ -3,7 +3,7 @@
 ghost use Rattle.std.specs.Prelude.{◌≡◌, ◌+◌, ◌<◌, ◌-◌, ◌^◌, IfOk};
 ghost use Rattle.slot_arena.specs.Heaps.{node_at};
 ghost use Rattle.machine_model.specs.Renewing.{renew_next, next_entry, branch_of, renew_action, renew_after_entry, renew_after_read, renew_after_link, renew_after_branch, renew_after};
-ghost use Rattle.plain_state.specs.Seen.{seen};
+ghost use Rattle.plain_state.specs.Seen.{seen, KnowsNext};
 
 use crate::builders::renewed;
 use history::Reply;
@@ -139,7 +139,7 @@ pub fn renew_after(
     operation: &Operation,
     line: &RenewLine,
 ) -> Result<Line, AllocError>
-    requires { (seen parts.now).heap.births + 1 < 2 ^ 48 }
+    requires { KnowsNext parts.now }
     ensures { IfOk result (λ after. after ≡ renew_after (seen parts.now) operation.now line.now) }
 {
     match line {

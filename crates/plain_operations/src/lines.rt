@@ -8,7 +8,7 @@ ghost use Rattle.machine_model.specs.Calls.{handle_of};
 ghost use Rattle.machine_model.specs.States.{State, word_at};
 ghost use Rattle.machine_model.specs.Swapping.{root_after};
 ghost use Rattle.machine_model.specs.Operations.{from_root, after_update, climbed_on, swapped, line_after, given_root, generation_after};
-ghost use Rattle.plain_state.specs.Seen.{seen};
+ghost use Rattle.plain_state.specs.Seen.{seen, KnowsNext};
 
 use history::Call;
 use machine_model::{
@@ -23,9 +23,9 @@ use plain_state::{Parts, PlainHeap};
 use slot_arena::{Node, Ref, Refs};
 use std::alloc::{AllocError, Global};
 
-/// The line on which the operation stands after its next step. Births and offers don't run out.
+/// The line on which the operation stands after its next step. Offers don't run out.
 pub fn operation_line_after(parts: &Parts, operation: &Operation) -> Result<Line, AllocError>
-    requires births { (seen parts.now).heap.births + 1 < 2 ^ 48 }
+    requires next { KnowsNext parts.now }
     requires attempts { operation.now.attempt < 2 ^ 64 - 1 }
     ensures { IfOk result
         (λ line. line ≡ line_after (seen parts.now) operation.now operation.now.line) }
@@ -208,7 +208,7 @@ pub fn generation_after(parts: &Parts, operation: &Operation) -> Option<u64>
 
 /// The generation of the root that was given, else the one before.
 fn given_root(heap: &PlainHeap, after: After<RootLine, Ref>, generation: Option<u64>) -> Option<u64>
-    ensures { (state : State) → state.heap ≡ heap.now → result ≡ given_root state after generation }
+    ensures { (state : State) → state.heap ≡ heap.now.memory.heap → result ≡ given_root state after generation }
 {
     match after {
         After::Goes(_) => generation,

@@ -3,7 +3,7 @@
 ghost use Rattle.std.specs.Prelude.{◌≡◌, ◌+◌, ◌<◌, ◌-◌, ◌^◌, IfOk};
 ghost use Rattle.machine_model.specs.Operations.{action_of};
 ghost use Rattle.machine_model.specs.Acting.{with_made, private_after, attempt_after, mark_after, operation_after};
-ghost use Rattle.plain_state.specs.Seen.{seen};
+ghost use Rattle.plain_state.specs.Seen.{seen, KnowsNext};
 
 use crate::lines::{generation_after, operation_line_after};
 use crate::moments::{moment_after, read_at_after};
@@ -12,13 +12,13 @@ use plain_state::Parts;
 use slot_arena::{Ref, Refs};
 use std::alloc::AllocError;
 
-/// The operation after its step, which does that. Births and offers don't run out.
+/// The operation after its step, which does that. Offers don't run out.
 pub fn operation_after(
     parts: &Parts,
     operation: &Operation,
     action: &Action,
 ) -> Result<Operation, AllocError>
-    requires births { (seen parts.now).heap.births + 1 < 2 ^ 48 }
+    requires next { KnowsNext parts.now }
     requires attempts { operation.now.attempt < 2 ^ 64 - 1 }
     requires does { action.now ≡ action_of (seen parts.now) operation.now }
     ensures { IfOk result (λ after. after ≡ operation_after (seen parts.now) operation.now) }
@@ -42,7 +42,7 @@ pub fn operation_after(
 /// The slots that the operation made in its running try, after this step. The list is emptied where the
 /// last of them is swapped in or offered, whether that succeeds or not, and where no slot is free.
 fn private_after(parts: &Parts, private: &Refs, action: &Action) -> Result<Refs, AllocError>
-    requires { (seen parts.now).heap.births + 1 < 2 ^ 48 }
+    requires { KnowsNext parts.now }
     ensures { IfOk result (λ after. after ≡ private_after (seen parts.now) private.now action.now) }
 {
     match action {

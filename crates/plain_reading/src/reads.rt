@@ -70,7 +70,7 @@ fn deciding(access: Access, main: Ref, previous: Ref) -> ReadLine
 
 /// After the root word: its generation is told, or the offer that stands there is taken back first.
 fn after_ask(heap: &PlainHeap, main: Ref, previous: Ref, word: RootWord) -> After<ReadLine, Ref>
-    ensures { result ≡ after_ask heap.now main previous word }
+    ensures { result ≡ after_ask heap.now.memory.heap main previous word }
 {
     match word {
         RootWord::Plain(root) => After::Goes(ReadLine::Decide {
@@ -116,7 +116,7 @@ pub fn read_after(
     indirection: Ref,
     line: ReadLine,
 ) -> After<ReadLine, Ref>
-    ensures { result ≡ read_after heap.now access word indirection line }
+    ensures { result ≡ read_after heap.now.memory.heap access word indirection line }
 {
     match line {
         ReadLine::Main => After::Goes(ReadLine::Prev {
@@ -179,7 +179,7 @@ pub fn reading(indirection: Ref) -> Read
 
 /// The main node that a step of a READ commits, if it does.
 pub fn committed_by(heap: &PlainHeap, indirection: Ref, line: ReadLine) -> Option<Ref>
-    ensures { result ≡ committed_by heap.now indirection line }
+    ensures { result ≡ committed_by heap.now.memory.heap indirection line }
 {
     match line {
         ReadLine::Decide {

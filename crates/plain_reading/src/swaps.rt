@@ -75,7 +75,7 @@ fn after_swap_line(
     word: RootWord,
     swap: &Swap,
 ) -> After<SwapLine, bool>
-    ensures { result ≡ after_swap heap.now access word swap.now swap.now.line }
+    ensures { result ≡ after_swap heap.now.memory.heap access word swap.now swap.now.line }
 {
     let line = swap.line;
     match line {
@@ -110,7 +110,7 @@ pub fn swap_after(
     word: RootWord,
     swap: &Swap,
 ) -> After<Swap, bool>
-    ensures { result ≡ swap_after heap.now access word swap.now }
+    ensures { result ≡ swap_after heap.now.memory.heap access word swap.now }
 {
     let after = after_swap_line(heap, access, word, swap);
     on_line(swap, after)
@@ -188,7 +188,7 @@ fn after_complete_line(
     word: RootWord,
     complete: Complete,
 ) -> After<CompleteLine, bool>
-    ensures { result ≡ after_complete heap.now access word complete.offer complete.line }
+    ensures { result ≡ after_complete heap.now.memory.heap access word complete.offer complete.line }
 {
     let line = complete.line;
     match line {
@@ -215,7 +215,7 @@ pub fn complete_after(
     word: RootWord,
     complete: Complete,
 ) -> After<Complete, bool>
-    ensures { result ≡ complete_after heap.now access word complete }
+    ensures { result ≡ complete_after heap.now.memory.heap access word complete }
 {
     of_offer(
         complete.offer,
@@ -258,7 +258,7 @@ pub fn root_after(
     word: RootWord,
     line: RootLine,
 ) -> After<RootLine, Ref>
-    ensures { result ≡ root_after heap.now access word line }
+    ensures { result ≡ root_after heap.now.memory.heap access word line }
 {
     match line {
         RootLine::Read => after_root_word(word),

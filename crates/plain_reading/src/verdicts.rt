@@ -27,7 +27,7 @@ pub fn verdict_on(
     previous: Ref,
     told: Option<u64>,
 ) -> Verdict
-    ensures { meant result ≡ verdict heap.now indirection main previous told }
+    ensures { meant result ≡ verdict heap.now.memory.heap indirection main previous told }
 {
     verdict_by(
         is_licensed(heap, indirection, told),
@@ -37,7 +37,7 @@ pub fn verdict_on(
 
 /// Whether the root was told to have the indirection's generation.
 fn is_licensed(heap: &PlainHeap, indirection: Ref, told: Option<u64>) -> bool
-    ensures { result ≡ is_licensed heap.now indirection told }
+    ensures { result ≡ is_licensed heap.now.memory.heap indirection told }
 {
     told == Some(heap.generation(indirection))
 }

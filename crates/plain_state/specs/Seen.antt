@@ -1,4 +1,6 @@
--- The state that the parts of a plain machine hold.
+-- The state that the parts of a machine hold.
+use Rattle.std.specs.Prelude.{◌≡◌}
+use Rattle.slot_arena.specs.Heaps.{next_ref}
 use Rattle.machine_model.specs.States.{State}
 use Rattle.plain_state.specs.declared.parts.Parts.{Parts}
 
@@ -6,11 +8,11 @@ use Rattle.plain_state.specs.declared.parts.Parts.{Parts}
 abbrev pub seen : Parts → State
 seen parts = record {
   limits = parts.limits;
-  heap = parts.heap;
+  heap = parts.heap.memory.heap;
   generations = parts.generations;
-  limbo = parts.limbo.items;
-  epoch = parts.epoch;
-  cursor = parts.cursor;
+  limbo = parts.heap.memory.limbo;
+  epoch = parts.heap.memory.epoch;
+  cursor = parts.heap.memory.cursor;
   roots = parts.roots.items;
   actors = parts.actors.items;
   commits = parts.commits.items;
@@ -19,3 +21,7 @@ seen parts = record {
   events = parts.events.items;
   steps = parts.steps;
 }
+
+-- the reference of the next slot to be taken was asked for, and is so still
+abbrev pub KnowsNext : Parts → Type 0
+KnowsNext parts = parts.heap.next ≡ next_ref parts.heap.memory.heap

@@ -1,4 +1,4 @@
-//! The state of a plain machine, in vectors, and how it is looked up and written.
+//! The state of a machine, and how it is looked up and written.
 #![tactic(auto)]
 
 mod heap;

@@ -1,4 +1,4 @@
-//! The parts of a plain machine.
+//! The parts of a machine.
 
 ghost use Rattle.std.specs.Prelude.{◌≡◌, ◌==◌, option_map, find};
 ghost use Rattle.machine_model.specs.States.{root_at, word_at, operation_of, root_of, key_hash, closed_at, committed_at};
@@ -6,7 +6,6 @@ ghost use Rattle.machine_model.specs.Machine.{access_of};
 ghost use Rattle.plain_state.specs.Seen.{seen};
 
 use crate::heap::PlainHeap;
-use epochs::Zeroed;
 use history::{Access, Event};
 use machine_model::{Closing, Commit, Limits, Operation, Root, RootWord};
 use places::Place;
@@ -17,14 +16,10 @@ use std::alloc::Global;
 #[derive(Drop)]
 pub struct Parts {
     pub limits: Limits,
+    /// The slots, with limbo, epochs, and the actors' records of them.
     pub heap: PlainHeap,
     /// The next generation to be drawn.
     pub generations: u64,
-    /// The slots in use whose count is zero, in the order in which it became so.
-    pub limbo: Vec<Zeroed>,
-    pub epoch: u64,
-    /// The actor whose record of the epoch is read next.
-    pub cursor: u64,
     /// Each handle number, if it is open.
     pub roots: Vec<Option<Root>>,
     /// Each actor's operation, if one runs.

@@ -62,9 +62,6 @@ pub moved : {before held after : Memory} (roots now : List (Option Root)) (i : �
 moved {before} {held} {after} roots now i root within set holds releases =
     subst (λ xs. Moves before after roots xs 4) (sym set) (set_once roots i root within holds releases)
 
-pub unmoved : (m : Memory) (roots : List (Option Root)) (n : ℕ) → Moves m m roots roots n
-unmoved m roots n = record { outside = λ r. refl; more = λ r. omega arith; keeps = kept_on (2 * n) (kept m) (kept m) (omega arith) }
-
 pub live_rewritten : (heap : Heap) (word : RootWord) (root : Option Root) → AreLive heap (refs_of_word word) → AreLive heap (refs_of_root (rewritten word root))
 live_rewritten heap word None live = search rules
 live_rewritten heap word (Some root) live = live

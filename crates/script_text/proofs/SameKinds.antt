@@ -8,7 +8,7 @@ use Rattle.ctrie_base.specs.declared.kinds.Kind.TheVariants.{Begin, ReadRoot, Sw
 use Rattle.ctrie_base.specs.contracts.kinds.Kind.{the_type}
 use Rattle.ctrie_base.specs.Kinds.{name_of}
 use Rattle.text_lines.specs.Words.{named}
-use Rattle.ctrie_base.proofs.Tests.{same_tests}
+use Rattle.ctrie_base.proofs.SameTests.{same_tests}
 
 abbrev kinds : List Kind
 kinds = Begin ∷ ReadRoot ∷ SwapRoot ∷ ReadMain ∷ SwapMain ∷ ReadPrev ∷ SwapPrev ∷ Look ∷ Make ∷ End ∷ ScanPin ∷ Advance ∷ FreeOne ∷ []

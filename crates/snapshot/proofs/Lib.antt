@@ -4,4 +4,5 @@ pub mod Nexts
 pub mod Offering
 pub mod Sorting
 pub mod Stacks
+pub mod Told
 pub mod Undrawn

@@ -1,3 +1,4 @@
 pub mod Copies
 pub mod Tasks
+pub mod Telling
 pub mod Walks

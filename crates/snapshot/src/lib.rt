@@ -25,7 +25,7 @@ mod todo;
 mod walk;
 
 pub use entries::{Count, Entries};
-pub use laws::draws_generations;
+pub use laws::{draws_generations, tells_snap, tells_walk};
 pub use snap::{Making, Snap, SnapAt};
 pub use tasks::{SnapCall, SnapReply, SnapTask};
 pub use walk::{WalkAt, Walked};

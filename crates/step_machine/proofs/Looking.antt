@@ -12,7 +12,7 @@ use Rattle.machine_model.specs.Contents.{content_at, most_levels}
 use Rattle.machine_model.specs.Keys.{KeysFit}
 use Rattle.machine_model.specs.Machine.{AreLimits}
 use Rattle.machine_model.specs.States.{root_at, root_of, word_at, word_of}
-use Rattle.plain_machine.specs.Finding.{found_along}
+use Rattle.machine_core.specs.Finding.{found_along}
 use Rattle.step_machine.specs.Beneath.proof_shape.specs.Agreeing.{LookingFinds}
 use Rattle.step_machine.specs.Machines.{Taken, state_of}
 use Rattle.machine_model.specs.declared.steps.Limits.{Limits}

@@ -1,12 +1,12 @@
 -- What a step that is taken does to the run that led to it.
 use Rattle.std.specs.Prelude.{◌≡◌, List, [], ◌∷◌, ◌++◌, Ok}
-use Rattle.std.proofs.lemmas.List.Elements.{All-push}
-use Rattle.std.proofs.Common.{refl, sym, ap, subst}
+use Rattle.std.proofs.lemmas.List.Elements.{All-nil, All-push}
+use Rattle.std.proofs.Common.{refl, sym, ap, ◌∙◌, subst}
 use Rattle.machine_model.specs.declared.steps.Limits.{Limits}
 use Rattle.machine_model.specs.declared.steps.Step.{Step}
 use Rattle.machine_model.specs.declared.steps.Outcome.{Outcome}
 use Rattle.machine_model.specs.States.{State, first_state}
-use Rattle.machine_model.specs.Machine.{AreLimits, next, run}
+use Rattle.machine_model.specs.Machine.{AreLimits, next, run, run_from}
 use Rattle.machine_model.proofs.Moves.{moved}
 use Rattle.machine_model.proofs.Along.{run_push}
 use Rattle.machine_model.proofs.Frames.{limits_kept}
@@ -76,3 +76,28 @@ pub holds_after : (before after : State) (steps items : List Step) (s : Step) (o
 holds_after before after steps items s o e is led sizes all keys last =
     subst (λ xs. (after ≡ run after.limits xs) × AreLimits after.limits × AreTaken after.limits xs × KeysFit xs) (sym is)
     (next_run before steps s o after led e, subst AreLimits (sym (kept_limits before s o after e)) sizes, all_taken before steps s o after led all e, keys_with steps s keys last)
+
+-- ---- it holds of a machine that has taken none
+
+nothing_cut : {A : Type 0} (before : List A) (at : A) (after : List A) → [] ≡ before ++ at ∷ after → ⊥
+nothing_cut [] at after e = cc
+nothing_cut (b ∷ before) at after e = cc
+
+first_led : (limits : Limits) → first_state limits ≡ run limits []
+unfolding run_from
+first_led limits = refl
+
+first_limits : (limits : Limits) → (first_state limits).limits ≡ limits
+unfolding first_state
+first_limits limits = refl
+
+pub holds_at_first : (limits : Limits) (state : State) (items : List Step) → state ≡ first_state limits → items ≡ [] → AreLimits limits →
+    (state ≡ run state.limits items) × AreLimits state.limits × AreTaken state.limits items × KeysFit items
+holds_at_first limits state items is none sizes =
+    let its = ap (λ (s : State). s.limits) is ∙ first_limits limits in
+    subst (λ xs. (state ≡ run state.limits xs) × AreLimits state.limits × AreTaken state.limits xs × KeysFit xs) (sym none) (
+      is ∙ first_led limits ∙ ap (λ (l : Limits). run l []) (sym its),
+      subst AreLimits (sym its) sizes,
+      λ before after step e. absurd (nothing_cut before step after e),
+      All-nil FitsKey,
+    )

@@ -23,7 +23,7 @@ impl Machine {
         ensures { FitsKey step }
     {
         if let Step::Begin { call, .. } = step {
-            let _ = plain_machine::key_of(call);
+            let _ = machine_core::key_of(call);
         }
     }
 }

@@ -11,7 +11,7 @@ ghost use Rattle.machine_model.specs.States.{root_at, operation_of};
 ghost use Rattle.step_machine.specs.Beneath.slot_arena.specs.Heaps.{in_use};
 ghost use Rattle.machine_model.specs.Orders.{order_of};
 ghost use Rattle.machine_model.specs.Contents.{content_at};
-ghost use Rattle.plain_machine.specs.Finding.{found_along};
+ghost use Rattle.machine_core.specs.Finding.{found_along};
 ghost use Rattle.machine_model.specs.Keys.{KeysFit};
 ghost use Rattle.machine_model.specs.Machine.{AreLimits, denial_of, is_running, is_busy, runs_on, next_kind, handles_taken, is_access, access_of};
 ghost use Rattle.machine_model.specs.Refusing.{RefusesLimits, RefusesContent};
@@ -23,8 +23,8 @@ ghost use Rattle.step_machine.specs.Memory.{UsesWhatItNames, FreesLate, DrawsNew
 
 use ctrie_base::{Kind, Refusal};
 use history::{Access, Event};
+use machine_core::Core;
 use machine_model::{Limits, Outcome, Step};
-use plain_machine::Plain;
 use std::alloc::Global;
 use std::marker::Model;
 
@@ -32,7 +32,7 @@ use std::marker::Model;
 /// writable and empty, and no step was taken.
 #[derive(Drop)]
 pub struct Machine {
-    plain: Plain,
+    body: Core,
     steps: Vec<Step>,
 }
 
@@ -44,10 +44,10 @@ impl Model for Machine {
 
     ghost Value = { Taken };
 
-    ghost view = { λ m. record { limits = m.plain.limits; steps = m.steps.items } };
+    ghost view = { λ m. record { limits = m.body.limits; steps = m.steps.items } };
 
-    ghost invariant = { λ m. (m.plain ≡ run m.plain.limits m.steps.items) × AreLimits m.plain.limits
-        × AreTaken m.plain.limits m.steps.items × KeysFit m.steps.items };
+    ghost invariant = { λ m. (m.body ≡ run m.body.limits m.steps.items) × AreLimits m.body.limits
+        × AreTaken m.body.limits m.steps.items × KeysFit m.steps.items };
 }
 
 impl Machine {
@@ -60,7 +60,7 @@ impl Machine {
         ensures refused { IfErr result (λ refusal. RefusesLimits limits refusal) }
     {
         Ok(Machine {
-            plain: Plain::new(alloc, limits)?,
+            body: Core::new(alloc, limits)?,
             steps: Vec::new(alloc),
         })
     }
@@ -106,7 +106,7 @@ impl Machine {
         if self.steps.reserve(1).is_err() {
             return Err(self.denial(step).unwrap_or(Refusal::Memory));
         }
-        let outcome = self.plain.apply(step)?;
+        let outcome = self.body.apply(step)?;
         let _ = self.steps.push(step);
         Machine::fits(step);
         Ok(outcome)
@@ -116,7 +116,7 @@ impl Machine {
     pub fn denial(&self, step: Step) -> Option<Refusal>
         ensures { result ≡ denial_of (state_of self.now) step }
     {
-        self.plain.denial(step)
+        self.body.denial(step)
     }
 
     /// All events so far, in order of time. The order that `order` gives is legal for them.
@@ -125,7 +125,7 @@ impl Machine {
         ensures legal { IsLegalFor self.now (order_of (state_of self.now)) }
     {
         self.explained();
-        self.plain.events()
+        self.body.events()
     }
 
     /// The steps that were taken, in order of time. The definition takes each of them, in the state that
@@ -156,7 +156,7 @@ impl Machine {
         ensures order { IfOk result (λ order. order.items ≡ order_of (state_of self.now)) }
         ensures only_memory { IsOkUnless result Refusal.Memory }
     {
-        self.plain.order()
+        self.body.order()
     }
 
     /// The content of a handle's map, by rising key: in the world to which the order leads the handle names just
@@ -179,7 +179,7 @@ impl Machine {
         ensures open { OnOk result (IsSome (root_at (state_of self.now) handle)) }
         ensures refused { IfErr result (λ refusal. RefusesContent (state_of self.now) handle refusal) }
     {
-        Ok(self.plain.content(handle)?.into_vec())
+        Ok(self.body.content(handle)?.into_vec())
     }
 
     /// The value of a key in a handle's map, as `content` and the world to which the order leads have it. It takes
@@ -212,7 +212,7 @@ impl Machine {
         ensures open { OnOk result (IsSome (root_at (state_of self.now) handle)) }
         ensures refused { IfErr result (λ refusal. (root_at (state_of self.now) handle ≡ None) × (refusal ≡ Refusal.NoHandle)) }
     {
-        self.plain.value_at(handle, key)
+        self.body.value_at(handle, key)
     }
 
     /// The kind of the next step of the actor's operation; none where none runs. An operation on a read-only
@@ -223,28 +223,28 @@ impl Machine {
             operation.access ≡ ReadOnly → result ≢ Some Make }
     {
         machine_model::readers_make_nothing();
-        self.plain.next_kind(actor)
+        self.body.next_kind(actor)
     }
 
     /// Whether the actor runs an operation.
     pub fn is_running(&self, actor: u8) -> bool
         ensures { result ≡ is_running (state_of self.now) actor }
     {
-        self.plain.is_running(actor)
+        self.body.is_running(actor)
     }
 
     /// Whether any actor runs an operation.
     pub fn is_busy(&self) -> bool
         ensures { result ≡ is_busy (state_of self.now) }
     {
-        self.plain.is_busy()
+        self.body.is_busy()
     }
 
     /// Whether an operation runs whose call names this handle.
     pub fn runs_on(&self, handle: u16) -> bool
         ensures { result ≡ runs_on (state_of self.now) handle }
     {
-        self.plain.runs_on(handle)
+        self.body.runs_on(handle)
     }
 
     /// Whether the handle is writable, as in the world to which the order leads; none where it isn't open.
@@ -260,21 +260,21 @@ impl Machine {
     fn has_writable(&self, handle: u16) -> Option<bool>
         ensures { result ≡ option_map (λ access. is_access Access.Writable (Some access)) (access_of (root_at (state_of self.now) handle)) }
     {
-        self.plain.is_writable(handle)
+        self.body.is_writable(handle)
     }
 
     /// How many handles are open or reserved, at most 256.
     pub fn handles_taken(&self) -> u32
         ensures { result ≡ handles_taken (state_of self.now) }
     {
-        self.plain.handles_taken()
+        self.body.handles_taken()
     }
 
     /// How many slots are free.
     pub fn free_slots(&self) -> u32
         ensures { result ≡ length (state_of self.now).heap.free }
     {
-        self.plain.free_slots()
+        self.body.free_slots()
     }
 
     /// How many slots are in use, those in limbo too. These and the free ones are all slots.
@@ -283,28 +283,28 @@ impl Machine {
         ensures sum { result + length (state_of self.now).heap.free ≡ self.now.limits.slots }
     {
         machine_model::slots_add_up();
-        self.plain.used()
+        self.body.used()
     }
 
     /// How many slots are in use but counted by nothing.
     pub fn limbo_len(&self) -> u32
         ensures { result ≡ length (state_of self.now).limbo }
     {
-        self.plain.limbo_len()
+        self.body.limbo_len()
     }
 
     /// The present epoch, from 0.
     pub fn epoch(&self) -> u64
         ensures { result ≡ (state_of self.now).epoch }
     {
-        self.plain.epoch()
+        self.body.epoch()
     }
 
     /// How many steps were taken, at most 2^40.
     pub fn steps_taken(&self) -> u64
         ensures { result ≡ (state_of self.now).steps }
     {
-        self.plain.steps_taken()
+        self.body.steps_taken()
     }
 
     /// The sizes of the machine, which are in range.
@@ -312,7 +312,7 @@ impl Machine {
         ensures limits { result ≡ self.now.limits }
         ensures in_range { AreLimits self.now.limits }
     {
-        self.plain.limits()
+        self.body.limits()
     }
 
     /// The steps and the history, handed out. It takes no memory.
@@ -321,7 +321,7 @@ impl Machine {
         ensures taken { AreTaken self.limits self.steps }
         ensures events { result.1.items ≡ (state_of self).events }
     {
-        let Machine { plain, steps } = self;
-        (steps, plain.into_events())
+        let Machine { body, steps } = self;
+        (steps, body.into_events())
     }
 }

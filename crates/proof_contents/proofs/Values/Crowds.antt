@@ -12,7 +12,7 @@ use Rattle.std.proofs.lemmas.List.Sums.{length-filter}
 use Rattle.std.proofs.lemmas.Bool.{and_parts, not-true}
 use Rattle.proof_contents.specs.Beneath.history.specs.Worlds.{KeyMap}
 use Rattle.proof_contents.specs.Beneath.history.specs.Effects.{others}
-use Rattle.proof_contents.specs.Beneath.ctrie_base.proofs.Tests.{same_tests}
+use Rattle.proof_contents.specs.Beneath.ctrie_base.proofs.SameTests.{same_tests}
 use Rattle.proof_contents.proofs.Nodes.Branches.{differ}
 
 -- a key stands in a list

@@ -23,7 +23,7 @@ pub invariant_of-self : goal.invariant_of-self
 invariant_of-self c =
     let memory = c.self.invariant.0 in
     let empty : c.self.inside.bags.bags.oldest ≡ [] = c.in_default.ensures.first in
-    let pins = c.as_slice.ensures.value in
+    let pins = c.as_slice-pins.ensures.value in
     let n : ℕ = length c.self.inside.pins.items in
     let ps : List (Option ℕ) = c.self.inside.pins.items in
     let cursor : ℕ = c.self.inside.cursor in
@@ -52,7 +52,7 @@ invariant_of-self c =
             oldest_first = memory.oldest_first;
             middle_next = memory.middle_next;
             started = let is = memory.started in omega (arith, to.1);
-            passed = omega (arith, to.1, one_step (is_passed c.self.inside.epoch (slice_index_or c.as_slice.result.now (c.self.inside.cursor - 1) None)));
+            passed = omega (arith, to.1, one_step (is_passed c.self.inside.epoch (slice_index_or c.as_slice-pins.result.now (c.self.inside.cursor - 1) None)));
             few = memory.few;
             recent = subst (λ k. (actor : ℕ) → IsRecent c.self.inside.epoch (actor + 1 < k) (slice_index_or ps actor None)) (sym (to.1 ∙ ap (λ qs. cursor + (cond (is_passed c.self.inside.epoch (slice_index_or qs (cursor - 1) None)) 1 0)) pins))
                 (recent_scanned ps c.self.inside.epoch cursor memory.recent (is_passed c.self.inside.epoch (slice_index_or ps (cursor - 1) None)) refl memory.started);
@@ -63,7 +63,7 @@ invariant_of-self c =
 pub returns-in_default-clause-swept : goal.returns-in_default-clause-swept
 returns-in_default-clause-swept c =
     let now : Memory = c.args.self.now in
-    let pins = c.as_slice.ensures.value ∙ ap (λ (m : Memory). m.pins) c.self.view_is in
+    let pins = c.as_slice-pins.ensures.value ∙ ap (λ (m : Memory). m.pins) c.self.view_is in
     let cursor : c.self.inside.cursor ≡ now.cursor = ap (λ (m : Memory). m.cursor) c.self.view_is in
     let none : ripe now.epoch now.limbo ≡ None = sym (ap (λ (m : Memory). ripe m.epoch m.limbo) c.self.view_is) ∙ ripe_none c.self.inside.epoch c.self.inside.bags.bags c.in_default.ensures.first c.self.invariant.0.middle_next in
     elim (cases_lt (length now.pins) now.cursor) [
@@ -77,8 +77,8 @@ returns-in_default-clause-swept c =
       | inr within ↦
           let to = c.advance-swept.ensures.scanned (omega (arith, ap length pins)) in
           ap (λ s. outcome s c.self.inside.arena.heap now.limbo c.advance-swept.new.epoch c.advance-swept.new.cursor) to.0
-          ∙ ap (λ e. outcome (swept.Scanned (is_passed c.self.inside.epoch (slice_index_or c.as_slice.result.now (c.self.inside.cursor - 1) None))) c.self.inside.arena.heap now.limbo e c.advance-swept.new.cursor) to.2
-          ∙ ap (λ k. outcome (swept.Scanned (is_passed c.self.inside.epoch (slice_index_or c.as_slice.result.now (c.self.inside.cursor - 1) None))) c.self.inside.arena.heap now.limbo c.self.inside.epoch k) to.1
+          ∙ ap (λ e. outcome (swept.Scanned (is_passed c.self.inside.epoch (slice_index_or c.as_slice-pins.result.now (c.self.inside.cursor - 1) None))) c.self.inside.arena.heap now.limbo e c.advance-swept.new.cursor) to.2
+          ∙ ap (λ k. outcome (swept.Scanned (is_passed c.self.inside.epoch (slice_index_or c.as_slice-pins.result.now (c.self.inside.cursor - 1) None))) c.self.inside.arena.heap now.limbo c.self.inside.epoch k) to.1
           ∙ ap (λ ps. outcome (swept.Scanned (is_passed c.self.inside.epoch (slice_index_or ps (c.self.inside.cursor - 1) None))) c.self.inside.arena.heap now.limbo c.self.inside.epoch (c.self.inside.cursor + (cond (is_passed c.self.inside.epoch (slice_index_or ps (c.self.inside.cursor - 1) None)) 1 0))) pins
           ∙ ap (λ (m : Memory). outcome (swept.Scanned (is_passed m.epoch (slice_index_or now.pins (m.cursor - 1) None))) m.heap now.limbo m.epoch (m.cursor + (cond (is_passed m.epoch (slice_index_or now.pins (m.cursor - 1) None)) 1 0))) c.self.view_is
           ∙ sym (scans now.pins (reclaimer_of now) none within)

@@ -1,0 +1,312 @@
+-- The numbers of a machine are bounded along each run.
+use Rattle.std.proofs.Common.{◌≡◌, ℕ, ◌+◌, ◌≤◌, false, cond, List, [], ◌∷◌, ◌++◌, Option, Some, None, Result, Ok, Err, refl, sym, ap, ◌∙◌, subst, arith, leb-false, map}
+use Rattle.std.proofs.lemmas.List.Sums.{sum_by-append}
+use Rattle.ctrie_base.specs.declared.refusals.Refusal.{Refusal}
+use Rattle.history.specs.declared.calls.Call.{Call}
+use Rattle.history.specs.declared.events.Event.{Event}
+use Rattle.history.specs.declared.events.Event.TheVariants.{Begin, End}
+use Rattle.history.specs.Histories.{is_begin, begun}
+use Rattle.slot_arena.specs.declared.refs.Ref.{Ref}
+use Rattle.slot_arena.specs.declared.nodes.Node.{Node}
+use Rattle.slot_arena.specs.declared.nodes.Prev.{Prev}
+use Rattle.machine_model.specs.declared.actions.Action.{Action}
+use Rattle.machine_model.specs.declared.actions.Action.TheVariants as act
+use Rattle.machine_model.specs.declared.operations.Operation.{Operation}
+use Rattle.machine_model.specs.declared.roots.Descriptor.{Descriptor}
+use Rattle.machine_model.specs.declared.steps.Limits.{Limits}
+use Rattle.machine_model.specs.declared.steps.Outcome.{Outcome}
+use Rattle.machine_model.specs.declared.steps.Step.{Step}
+use Rattle.machine_model.specs.declared.steps.Step.TheVariants as step
+use Rattle.machine_model.specs.Calls.{handle_of}
+use Rattle.slot_arena.specs.Heaps.{Heap, empty_branch, with_main, with_prev, taken, take_from, freed}
+use Rattle.slot_arena.specs.Refs.{ref_to}
+use Rattle.slot_arena.specs.declared.nodes.Node.TheVariants.{Indirection}
+use Rattle.machine_model.specs.States.{State, empty_heap, first_state, step_limit}
+use Rattle.machine_model.specs.Operations.{action_of}
+use Rattle.slot_arena.specs.declared.nodes.Prev.TheVariants as prev
+use Rattle.epochs.specs.Sweeping.{Reclaimer, ripe, sweep_by}
+use Rattle.machine_model.specs.Acting.{acted, aborted, offered, completed, new_root_taken, attempt_after, operation_after, gone}
+use Rattle.machine_model.specs.Machine.{next, next_state, state_after, is_spent, begin_denial, go_denial, with_begin, pin_of, reclaimer_of, run, run_from, AreLimits}
+use Rattle.machine_model.proofs.Along.{along, run_push, kept_by_moves}
+use Rattle.machine_model.proofs.Actors.{mark_one, mark_only, marks_by, marks_in}
+use Rattle.machine_model.proofs.EachOperation.{OfEach, of_each_along, of_running}
+use Rattle.machine_model.proofs.Frames.{acted_framed, limits_kept, steps_counted}
+use Rattle.machine_model.proofs.HeapMoves.{HeapMoves, Stays, Takes, Publishes, Restores, Commit, Fail, Frees, heap_moves}
+use Rattle.machine_model.proofs.Moves.{moved}
+use Rattle.machine_model.specs.Moves.{Begins, Goes, Ends, Sweeps}
+use Rattle.machine_model.specs.Moves.{Moves, begun_operation}
+use Rattle.machine_model.proofs.Slots.{sound_along}
+use Rattle.machine_core.specs.Bounds.{IsOfRun, IsBounded, Applies}
+
+-- ---- steps
+
+-- a begin that isn't denied is of a machine that isn't spent
+begin_unspent : (state : State) (actor : ℕ) (call : Call) → begin_denial state actor call ≡ None → is_spent state ≡ false
+begin_unspent state actor call d = grind arith
+
+-- so is a step that goes on
+go_unspent : (state : State) (actor : ℕ) → go_denial state actor ≡ None → is_spent state ≡ false
+go_unspent state actor d = grind arith
+
+-- a step is taken only where the machine isn't spent
+unspent : (state : State) (s : Step) (o : Outcome) (after : State) → Moves state s o after → is_spent state ≡ false
+unspent state s o after (Begins {actor} {call} d) = begin_unspent state actor call d
+unspent state s o after (Goes {actor} d is a g) = go_unspent state actor d
+unspent state s o after (Ends {actor} d is a) = go_unspent state actor d
+unspent state s o after (Sweeps spent) = spent
+
+-- then one step more is within the limit
+steps_after : (state : State) (s : Step) (o : Outcome) (after : State) → Moves state s o after → after.steps ≤ step_limit
+steps_after state s o after m = omega (arith, leb-false, unspent state s o after m, steps_counted state s o after m)
+
+-- ---- births
+
+-- a write draws none
+main_births : (heap : Heap) (r m : Ref) → (with_main heap r m).births ≡ heap.births
+unfolding with_main
+main_births heap r m = refl
+
+prev_births : (heap : Heap) (r : Ref) (p : Prev) → (with_prev heap r p).births ≡ heap.births
+unfolding with_prev
+prev_births heap r p = refl
+
+freed_births : (heap : Heap) (r : Ref) → (freed heap r).births ≡ heap.births
+unfolding freed
+freed_births heap r = refl
+
+-- taking a slot draws at most one
+take_births : (heap : Heap) (node : Node) (free : List ℕ) → (take_from heap node free).births ≤ heap.births + 1
+take_births heap node [] = omega arith
+take_births heap node (slot ∷ free) = omega arith
+
+pub taken_births : (heap : Heap) (node : Node) → (taken heap node).births ≤ heap.births + 1
+unfolding taken
+taken_births heap node = take_births heap node heap.free
+
+pub taken_most : (before after : Heap) (node : Node) → after ≡ taken before node → after.births ≤ before.births + 1
+taken_most before after node is = omega (arith, ap (λ (h : Heap). h.births) is, taken_births before node)
+
+-- a step draws at most one
+heap_births : (heap : Heap) (due : Option Ref) (after : Heap) → HeapMoves heap due after → after.births ≤ heap.births + 1
+heap_births heap due after Stays = omega arith
+heap_births heap due after (Takes node) = taken_births heap node
+heap_births heap due after (Publishes indirection replaced fresh e) = omega (arith, prev_births (with_main heap indirection fresh) fresh (prev.Pending replaced), main_births heap indirection fresh)
+heap_births heap due after (Restores indirection main previous e) = omega (arith, main_births heap indirection previous)
+heap_births heap due after (Commit indirection main previous told e) = omega (arith, prev_births heap main prev.None)
+heap_births heap due after (Fail indirection main previous told e) = omega (arith, prev_births heap main (prev.Failed previous))
+heap_births heap due after (Frees r e) = omega (arith, freed_births heap r)
+
+-- ---- generations
+
+aborted_generations : (state : State) (handle : ℕ) (offer : Descriptor) → (aborted state handle offer).generations ≡ state.generations
+aborted_generations state handle offer = grind arith
+
+offered_generations : (state : State) (handle : ℕ) (offer : Descriptor) → (offered state handle offer).generations ≡ state.generations
+offered_generations state handle offer = grind arith
+
+completed_generations : (state : State) (handle : ℕ) (offer : Descriptor) (main : Ref) → (completed state handle offer main).generations ≡ state.generations
+completed_generations state handle offer main = grind arith
+
+root_taken_generations : (state : State) (main : Ref) (made : Option Ref) → (new_root_taken state main made).generations ≤ state.generations + 1
+root_taken_generations state main None = omega arith
+root_taken_generations state main (Some made) = omega arith
+
+-- an action draws at most one
+acted_generations : (state : State) (handle : ℕ) (action : Action) → (acted state handle action).generations ≤ state.generations + 1
+acted_generations state handle (act.Abort offer) = omega (arith, aborted_generations state handle offer)
+acted_generations state handle (act.Offer offer) = omega (arith, offered_generations state handle offer)
+acted_generations state handle (act.Complete offer main) = omega (arith, completed_generations state handle offer main)
+acted_generations state handle (act.MakeRoot main) = root_taken_generations state main _
+acted_generations state handle action = omega arith
+
+begin_generations : (state : State) (actor : ℕ) (call : Call) (operation : Operation) → (with_begin state actor call operation).generations ≡ state.generations
+begin_generations state actor call operation = grind arith
+
+generations_after : (state : State) (s : Step) (o : Outcome) (after : State) → Moves state s o after → after.generations ≤ state.generations + 1
+generations_after state s o after (Begins {actor} {call} d) = omega (arith, begin_generations state actor call (begun_operation state call))
+generations_after state s o after (Goes {actor} {operation} d is a g) = acted_generations _ (handle_of operation.call) (action_of state operation)
+generations_after state s o after (Ends d is a) = omega arith
+generations_after state s o after (Sweeps spent) = omega arith
+
+-- ---- the epoch
+
+begin_epoch : (state : State) (actor : ℕ) (call : Call) (operation : Operation) → (with_begin state actor call operation).epoch ≡ state.epoch
+begin_epoch state actor call operation = grind arith
+
+sweep_epoch : (pins : List (Option ℕ)) (r : Reclaimer) (due : Option Ref) → (sweep_by pins r due).1.epoch ≤ r.epoch + 1
+sweep_epoch pins r due = grind arith
+
+gone_epoch : (state : State) (actor : ℕ) (operation : Operation) → (gone state actor operation).epoch ≡ state.epoch
+gone_epoch state actor operation = (acted_framed _ (handle_of operation.call) (action_of state operation)).epoch
+
+epoch_after : (state : State) (s : Step) (o : Outcome) (after : State) → Moves state s o after → after.epoch ≤ state.epoch + 1
+epoch_after state s o after (Begins {actor} {call} d) = omega (arith, begin_epoch state actor call (begun_operation state call))
+epoch_after state s o after (Goes {actor} {operation} d is a g) = omega (arith, gone_epoch state actor operation)
+epoch_after state s o after (Ends d is a) = omega arith
+epoch_after state s o after (Sweeps spent) = sweep_epoch (map pin_of state.actors) (reclaimer_of state) (ripe state.epoch state.limbo)
+
+-- ---- begins
+
+-- an event more
+begun_push : (events : List Event) (e : Event) → begun (events ++ e ∷ []) ≡ begun events + cond (is_begin e) 1 0
+begun_push events e =
+    sum_by-append (λ x. cond (is_begin x) 1 0) events (e ∷ []) ∙ ap (λ n. begun events + n) (let one : 0 + cond (is_begin e) 1 0 ≡ cond (is_begin e) 1 0 = omega arith in one)
+
+-- whether a step begins an operation
+abbrev pub one_if_begin : Step → ℕ
+one_if_begin (step.Begin actor call) = 1
+one_if_begin (step.Go actor) = 0
+one_if_begin step.Sweep = 0
+
+pub none_begins : (s : Step) → ((actor : ℕ) (call : Call) → s ≡ step.Begin actor call → ⊥) → one_if_begin s ≡ 0
+none_begins (step.Begin actor call) h = absurd (h actor call refl)
+none_begins (step.Go actor) h = refl
+none_begins step.Sweep h = refl
+
+begin_events : (state : State) (actor : ℕ) (call : Call) (operation : Operation) →
+    (with_begin state actor call operation).events ≡ state.events ++ Begin operation.id actor call operation.opens ∷ []
+begin_events state actor call operation = grind arith
+
+-- a begin is one more, and nothing else is
+pub begins_after : (state : State) (s : Step) (o : Outcome) (after : State) → Moves state s o after → begun after.events ≡ begun state.events + one_if_begin s
+begins_after state s o after (Begins {actor} {call} d) =
+    ap begun (begin_events state actor call (begun_operation state call)) ∙ begun_push state.events _
+begins_after state s o after (Goes {actor} {operation} d is a g) =
+    ap begun ((acted_framed _ (handle_of operation.call) (action_of state operation)).events) ∙ (let none : begun state.events ≡ begun state.events + 0 = omega arith in none)
+begins_after state s o after (Ends {actor} {operation} {answer} d is a) = begun_push state.events (End operation.id answer)
+begins_after state s o after (Sweeps spent) = omega arith
+
+-- at most one
+one_if_begin_most : (s : Step) → one_if_begin s ≤ 1
+one_if_begin_most (step.Begin actor call) = omega arith
+one_if_begin_most (step.Go actor) = omega arith
+one_if_begin_most step.Sweep = omega arith
+
+-- ---- attempts
+
+-- the operation hasn't offered more often than steps were taken
+abbrev FewAttempts : State → Operation → Type 0
+FewAttempts state operation = operation.attempt ≤ state.steps
+
+-- a mark changes no attempt
+mark_attempt : (m : Option ℕ) (operation : Operation) → (mark_one m operation).attempt ≡ operation.attempt
+mark_attempt m operation = ap (λ x. x.attempt) (mark_only m operation)
+
+-- an action is at most one attempt more
+attempt_most : (attempt : ℕ) (action : Action) → attempt_after attempt action ≤ attempt + 1
+attempt_most attempt (act.Offer offer) = omega arith
+attempt_most attempt action = omega arith
+
+-- along each run
+few_attempts : (limits : Limits) (steps : List Step) → OfEach FewAttempts (run limits steps)
+few_attempts limits =
+    of_each_along limits FewAttempts
+    (λ steps actor call d. omega arith)
+    (λ steps actor operation is g h.
+    omega (
+      arith,
+      mark_attempt (marks_by (run limits steps) (Some operation)) (operation_after (run limits steps) operation),
+      attempt_most operation.attempt (action_of (run limits steps) operation),
+      h,
+    ))
+    (λ steps s o after m k other operation at_k h.
+    omega (arith, mark_attempt (marks_in (run limits steps) s) operation, steps_counted (run limits steps) s o after m, h))
+
+-- ---- all of them
+
+-- what each step keeps
+record Grows (limits : Limits) (state : State) : Type 0 where
+  limits_same : state.limits ≡ limits
+  steps : state.steps ≤ step_limit
+  births : state.heap.births ≤ state.steps + 2
+  generations : state.generations ≤ state.steps + 1
+  epoch : state.epoch ≤ state.steps
+  begins : begun state.events ≤ state.steps
+
+-- at first
+grows_at_first : (limits : Limits) → Grows limits (first_state limits)
+unfolding first_state
+grows_at_first limits = record {
+  limits_same = refl;
+  steps = omega arith;
+  births = let once = taken_births (empty_heap limits.slots) empty_branch in
+      let twice = taken_births (taken (empty_heap limits.slots) empty_branch) (Indirection 0 (ref_to 1 0)) in omega (arith, once, twice);
+  generations = omega arith;
+  epoch = omega arith;
+  begins = omega arith;
+}
+
+-- after a step
+grows_after : (limits : Limits) (state : State) (s : Step) (o : Outcome) (after : State) → Moves state s o after → Grows limits state → Grows limits after
+grows_after limits state s o after m h =
+    let counted = steps_counted state s o after m in
+    let same = limits_kept state s o after m in
+    record {
+      limits_same = same ∙ h.limits_same;
+      steps = steps_after state s o after m;
+      births = omega (arith, heap_births state.heap (ripe state.epoch state.limbo) after.heap (heap_moves state s o after m), h.births, counted);
+      generations = omega (arith, generations_after state s o after m, h.generations, counted);
+      epoch = omega (arith, epoch_after state s o after m, h.epoch, counted);
+      begins = omega (arith, begins_after state s o after m, one_if_begin_most s, h.begins, counted);
+    }
+
+-- along each run
+grows_along : (limits : Limits) (steps : List Step) → Grows limits (run limits steps)
+grows_along limits = along limits (Grows limits) (grows_at_first limits) (λ steps s o after m h. grows_after limits (run limits steps) s o after m h)
+
+-- after each run the numbers are bounded
+bounded_along : (limits : Limits) → AreLimits limits → (steps : List Step) → IsBounded (run limits steps)
+bounded_along limits ok steps =
+    let h = grows_along limits steps in
+    let sound = sound_along limits ok steps in
+    record {
+      slots = omega (arith, sound.heap.size, ok.1);
+      steps = h.steps;
+      births = h.births;
+      generations = h.generations;
+      epoch = h.epoch;
+      attempts = λ actor operation is. of_running FewAttempts (run limits steps) (few_attempts limits steps) actor operation is;
+      begins = h.begins;
+    }
+
+-- the state of a run is bounded
+pub bounded : (state : State) → IsOfRun state → IsBounded state
+bounded state h = subst IsBounded (sym h.is) (bounded_along state.limits h.limits h.steps)
+
+-- ---- a step from a state of a run
+
+-- a step keeps the limits
+limits_on : (state : State) (s : Step) → (next_state state s).limits ≡ state.limits
+limits_on state s = kept_by_moves (λ x. x.limits ≡ state.limits) state s refl (λ o after m. limits_kept state s o after m)
+
+-- what a step leads to is a state of a run
+run_on : (state : State) (s : Step) → IsOfRun state → IsOfRun (next_state state s)
+run_on state s h =
+    let same = limits_on state s in
+    record {
+      steps = h.steps ++ s ∷ [];
+      is = ap (λ x. next_state x s) h.is ∙ sym (run_push (first_state state.limits) h.steps s) ∙ ap (λ l. run l (h.steps ++ s ∷ [])) (sym same);
+      limits = subst (λ l. AreLimits l) (sym same) h.limits;
+    }
+
+-- so is what a step comes to, be it taken or refused
+pub applied_run : (before after : State) (s : Step) (r : Result Outcome Refusal) → Applies r before (next before s) after → IsOfRun before → IsOfRun after
+applied_run before after s (Ok o) e h = subst IsOfRun (ap (λ a. state_after before a) e) (run_on before s h)
+applied_run before after s (Err why) e h = subst IsOfRun (sym (e.0)) h
+
+-- how many have begun after a step that is taken
+pub applied_begun : (before after : State) (s : Step) (o : Outcome) → Applies (Ok o) before (next before s) after →
+    begun after.events ≡ begun before.events + one_if_begin s
+applied_begun before after s o e = begins_after before s o after (moved before s o after e)
+
+-- the first state is one of a run, and nothing has begun
+pub first_run : (limits : Limits) (state : State) → AreLimits limits → state ≡ first_state limits → IsOfRun state × (0 ≡ begun state.events)
+unfolding first_state run_from
+first_run limits state ok e = (
+  record {
+    steps = [];
+    is = e ∙ ap first_state (sym (ap (λ x. x.limits) e));
+    limits = subst (λ l. AreLimits l) (sym (ap (λ x. x.limits) e)) ok;
+  },
+  sym (ap (λ x. begun x.events) e),
+)

@@ -1,0 +1,80 @@
+-- What a state of a run gives: the claims of the next action, how often references are held, who runs no operation.
+use Rattle.std.proofs.Common.{◌≡◌, ℕ, zero, suc, ◌-◌, ◌<◌, ◌≤◌, ◌^◌, ◌&&◌, true, false, nat_lt, nat_le, length, get_or, is_some, Option, Some, None, refl, sym, ap, ◌∙◌, subst, arith}
+use Rattle.std.proofs.lemmas.Bool.Decides.{nat_tests}
+use Rattle.history.specs.declared.calls.Call.{Call}
+use Rattle.slot_arena.specs.declared.refs.Ref.{Ref}
+use Rattle.slot_arena.specs.Times.{times}
+use Rattle.slot_arena.specs.Arenas.{IsLive}
+use Rattle.epochs.specs.Memories.{Memory}
+use Rattle.machine_model.specs.declared.operations.Operation.{Operation}
+use Rattle.machine_model.specs.States.{State, operation_of, handle_limit}
+use Rattle.machine_model.specs.Counting.{refs_of_root, refs_of_operation}
+use Rattle.machine_model.specs.Operations.{action_of}
+use Rattle.machine_model.specs.Machine.{begin_denial, is_actor, is_running}
+use Rattle.proof_memory.specs.Wants.{AllHold, action_wants}
+use Rattle.proof_memory.proofs.Holding.Lives.{lines_live}
+use Rattle.proof_memory.proofs.Holding.Privates.{privates_once}
+use Rattle.proof_memory.proofs.Holding.Sizes.{sizes_stay}
+use Rattle.machine_core.specs.Bounds.{IsOfRun}
+use Rattle.machine_core.specs.Ties.{IsTied, IsReady, StandsAt}
+use Rattle.machine_core.proofs.Tying.{times_most, root_few}
+
+-- ---- laws, at a state of a run
+
+pub claims : (state : State) (actor : ℕ) (operation : Operation) → IsOfRun state → operation_of state actor ≡ Some operation →
+    AllHold (IsLive state.heap) state.heap (action_wants (action_of state operation))
+claims state actor operation h found =
+    subst (λ (s : State). operation_of s actor ≡ Some operation → AllHold (IsLive s.heap) s.heap (action_wants (action_of s operation))) (sym h.is)
+    (λ e. lines_live state.limits h.steps actor operation h.limits e) found
+
+pub sizes : (state : State) → IsOfRun state → (length state.roots ≡ handle_limit) × (length state.actors ≡ state.limits.actors)
+sizes state h =
+    let (roots, actors) = sizes_stay state.limits h.steps in
+    (ap (λ (s : State). length s.roots) h.is ∙ roots, ap (λ (s : State). length s.actors) h.is ∙ actors)
+
+private_once : (state : State) → IsOfRun state → (actor : ℕ) (operation : Operation) (r : Ref) → operation_of state actor ≡ Some operation → times r operation.private ≤ 1
+private_once state h actor operation r found =
+    privates_once state.limits h.steps actor operation r h.limits (ap (λ (s : State). operation_of s actor) (sym h.is) ∙ found)
+
+-- ---- how often references are held
+
+operation_few : (r : Ref) (found : Option Operation) → ((operation : Operation) → found ≡ Some operation → times r operation.private ≤ 1) → times r (refs_of_operation found) ≤ 1
+operation_few r None each = omega arith
+operation_few r (Some operation) each = each operation refl
+
+pub few_held : (memory : Memory) (state : State) → IsOfRun state → IsTied memory state.roots state.actors → (r : Ref) → times r memory.outside < 2 ^ 30
+few_held memory state h tied r =
+    let (roots, actors) = sizes state h in
+    let in_roots = times_most r refs_of_root state.roots None 4 (λ i. root_few r (get_or state.roots i None)) in
+    let in_privates = times_most r refs_of_operation state.actors None 1 (λ i. operation_few r (get_or state.actors i None) (λ operation e. private_once state h (suc i) operation r e)) in
+    omega (arith, tied.held r, in_roots, in_privates, roots, actors, h.limits.3)
+
+pub ready_run : (memory : Memory) (state : State) → IsOfRun state → IsTied memory state.roots state.actors → IsReady memory state.roots 8
+ready_run memory state h tied = record { held = λ r. omega (arith, tied.held r); room = λ r. omega (arith, few_held memory state h tied r) }
+
+-- ---- a begin
+
+-- a begin that isn't denied is of an actor that runs nothing
+begin_actor : (state : State) (actor : ℕ) (call : Call) → begin_denial state actor call ≡ None → is_actor state actor ≡ true
+begin_actor state actor call d = grind arith
+
+begin_idle : (state : State) (actor : ℕ) (call : Call) → begin_denial state actor call ≡ None → is_running state actor ≡ false
+begin_idle state actor call d = grind arith
+
+none_by : {X : Type 0} (o : Option X) → is_some o ≡ false → o ≡ None
+none_by None e = refl
+none_by (Some x) e = absurd (grind arith)
+
+within_by : (actor actors : ℕ) → (nat_lt 0 actor && nat_le actor actors) ≡ true → (0 < actor) × (actor ≤ actors)
+within_by actor actors e = grind (arith, nat_tests)
+
+pub begin_stands : (state : State) (actor : ℕ) (call : Call) → IsOfRun state → begin_denial state actor call ≡ None → StandsAt state.actors actor None
+begin_stands state zero call h d = absurd (let (some, most) = within_by 0 state.limits.actors (begin_actor state 0 call d) in omega (arith, some))
+begin_stands state (suc n) call h d =
+    let (some, most) = within_by (suc n) state.limits.actors (begin_actor state (suc n) call d) in
+    let (roots, actors) = sizes state h in
+    record {
+      counts = omega arith;
+      within = omega (arith, most, actors);
+      is = ap (λ i. get_or state.actors i None) (let same : suc n - 1 ≡ n = omega arith in same) ∙ none_by (operation_of state (suc n)) (begin_idle state (suc n) call d);
+    }

@@ -1,0 +1,19 @@
+use Rattle.std.proofs.Common.{arith}
+use Rattle.machine_model.specs.declared.steps.Step.TheVariants as steps
+use Rattle.plain_state.specs.Seen.{seen}
+use Rattle.machine_core.proofs.Bounded.{bounded}
+use Rattle.machine_core.proofs.Steps.{go_leads, leads_taken}
+use Rattle.machine_core.proofs.stepping.go.Goals as goal
+
+pub settle-requires-clause-steps : goal.settle-requires-clause-steps
+settle-requires-clause-steps c =
+    let before = seen c.args.parts.now in
+    let leads = go_leads before (seen c.go_on.new.parts) c.args.actor c.in_ok-outcome.outcome c.requires.allowed c.in_ok-outcome.ensures.ok in
+    omega (arith, (bounded before c.requires.run).steps, leads.steps)
+
+pub returns-clause-taken : goal.returns-clause-taken
+returns-clause-taken c =
+    let before = seen c.args.parts.now in
+    let after = seen c.go_on.new.parts in
+    leads_taken before after (seen c.settle.new.parts) (steps.Go c.args.actor) c.in_ok-outcome.outcome
+    (go_leads before after c.args.actor c.in_ok-outcome.outcome c.requires.allowed c.in_ok-outcome.ensures.ok) c.settle.ensures.settled

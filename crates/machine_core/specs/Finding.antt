@@ -1,0 +1,19 @@
+-- What is found of a key.
+use Rattle.std.specs.Prelude.{ℕ, Option}
+use Rattle.ctrie_base.specs.Hashes.{hash_of}
+use Rattle.slot_arena.specs.Heaps.{node_at, logical_main}
+use Rattle.machine_model.specs.Contents.{most_levels}
+use Rattle.machine_model.specs.States.{State, root_of, word_at}
+use Rattle.proof_contents.specs.Nodes.Looking as looking
+use Rattle.machine_core.specs.declared.finding.Found.{Found}
+use Rattle.machine_core.specs.declared.finding.Found.TheVariants.{Absent, Has, Below}
+
+-- the same, as the definition says it
+abbrev pub meant : Found → looking.Found
+meant Absent = looking.Absent
+meant (Has value) = looking.Has value
+meant (Below indirection) = looking.Below indirection
+
+-- the value that is found from a handle's root along the key's hash, through the logical main nodes
+abbrev pub found_along : State → ℕ → ℕ → Option ℕ
+found_along state handle key = looking.find_at (node_at state.heap) (logical_main state.heap) (hash_of state.limits.hash) key most_levels 0 (root_of (word_at state handle))

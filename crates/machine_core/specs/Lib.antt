@@ -1,0 +1,4 @@
+pub mod Bounds
+pub mod Ties
+pub mod Actions
+pub mod Finding

@@ -1,0 +1,80 @@
+//! The value of a key, found along its hash.
+
+ghost use Rattle.std.specs.Prelude.{◌≡◌};
+ghost use Rattle.slot_arena.specs.Heaps.{node_at};
+ghost use Rattle.proof_contents.specs.Nodes.Looking.{look_at, look_among, look_in};
+ghost use Rattle.machine_core.specs.Finding.{found_along, meant};
+ghost use Rattle.plain_state.specs.Seen.{seen};
+
+use crate::contents::MOST_LEVELS;
+use plain_reading::{flag_of, has_flag, position_of};
+use plain_state::{Parts, PlainHeap, root_of};
+use slot_arena::{Node, Ref};
+
+/// What a main node says of a key.
+pub enum Found {
+    /// It isn't there.
+    Absent,
+    /// It has this value.
+    Has(u64),
+    /// It may be below this indirection.
+    Below(Ref),
+}
+
+/// The value of the key in the handle's map.
+pub fn value_of(parts: &Parts, handle: u16, key: u64) -> Option<u64>
+    ensures { result ≡ found_along (seen parts.now) handle key }
+{
+    let hash = parts.key_hash(key);
+    let mut at = root_of(parts.word(handle));
+    for depth in 0..MOST_LEVELS {
+        let main = parts.heap.logical_main(at);
+        match look_in(&parts.heap, flag_of(hash, depth as usize), key, main) {
+            Found::Absent => return None,
+            Found::Has(value) => return Some(value),
+            Found::Below(below) => at = below,
+        }
+    }
+    None
+}
+
+/// What a main node says of the key, whose flag is this one at its depth.
+fn look_in(heap: &PlainHeap, flag: u32, key: u64, main: Ref) -> Found
+    ensures { meant result ≡ look_in (node_at heap.now.memory.heap) flag key (node_at heap.now.memory.heap main) }
+{
+    match heap.node(main) {
+        Node::Branch { bitmap, .. } => {
+            if !has_flag(*bitmap, flag) {
+                return Found::Absent;
+            }
+            look_at(heap, key, heap.entry(main, position_of(flag, *bitmap)))
+        }
+        Node::Tomb { single } => look_at(heap, key, *single),
+        Node::List { singles } => look_among(heap, key, singles.as_slice()),
+        Node::Indirection { .. } | Node::Single { .. } => Found::Absent,
+    }
+}
+
+/// What the first of these singles that has the key says of it.
+fn look_among(heap: &PlainHeap, key: u64, singles: &[Ref]) -> Found
+    ensures { meant result ≡ look_among (node_at heap.now.memory.heap) key singles.now }
+{
+    for single in singles {
+        match look_at(heap, key, *single) {
+            Found::Absent => {}
+            found => return found,
+        }
+    }
+    Found::Absent
+}
+
+/// What an entry says of the key.
+fn look_at(heap: &PlainHeap, key: u64, entry: Ref) -> Found
+    ensures { meant result ≡ look_at key entry (node_at heap.now.memory.heap entry) }
+{
+    match heap.node(entry) {
+        Node::Single { key: own, value } if *own == key => Found::Has(*value),
+        Node::Indirection { .. } => Found::Below(entry),
+        _ => Found::Absent,
+    }
+}

@@ -1,0 +1,225 @@
+//! The core as one value.
+
+ghost use Rattle.std.specs.Prelude.{◌≡◌, length, option_map, None, Some, IsSome, IfOk, IfErr, OnOk, IsOkUnless};
+ghost use Rattle.slot_arena.specs.Heaps.{in_use};
+ghost use Rattle.machine_model.specs.States.{first_state, root_at};
+ghost use Rattle.machine_model.specs.Orders.{order_of};
+ghost use Rattle.machine_model.specs.Contents.{content_at};
+ghost use Rattle.machine_model.specs.Machine.{next, is_running, is_busy, next_kind, runs_on, denial_of, is_access, access_of, handles_taken, AreLimits};
+ghost use Rattle.machine_core.specs.Bounds.{Applies};
+ghost use Rattle.machine_core.specs.Finding.{found_along};
+ghost use Rattle.machine_model.specs.Refusing.{RefusesLimits, RefusesContent};
+
+use crate::actors::{is_running, runs_on};
+use crate::contents::content_of;
+use crate::denials::{denial_of, is_access};
+use crate::finding::value_of;
+use crate::handles::handles_taken;
+use crate::starting::{are_limits, first_parts};
+use crate::stepping::take_step;
+use ctrie_base::{Kind, Refusal};
+use history::{Access, Event, Pairs};
+use machine_model::{Limits, Outcome, Step};
+use plain_operations::{operation_kind, order_of};
+use plain_state::Parts;
+use std::alloc::Global;
+use std::marker::Model;
+
+/// The state of a machine. It is seen as the definition's state, and is one to which a run of steps leads.
+#[derive(Drop)]
+pub struct Core {
+    parts: Parts,
+    /// How many operations have begun: the id of the next one.
+    next_id: u64,
+}
+
+impl Model for Core {
+    ghost use Rattle.std.specs.Prelude.{◌≡◌, []};
+    ghost use Rattle.history.specs.Histories.{begun};
+    ghost use Rattle.machine_model.specs.States.{State};
+    ghost use Rattle.plain_state.specs.Seen.{seen};
+    ghost use Rattle.machine_core.specs.Bounds.{IsOfRun};
+    ghost use Rattle.machine_core.specs.Ties.{IsTied};
+
+    ghost Value = { State };
+
+    ghost view = { λ c. seen c.parts };
+
+    ghost invariant = { λ c. IsOfRun (seen c.parts) × IsTied c.parts.heap.memory c.parts.roots.items c.parts.actors.items
+        × (c.parts.heap.memory.noted ≡ []) × (c.next_id ≡ begun c.parts.events.items) };
+}
+
+impl Core {
+    /// A machine that has taken no step. The limits are checked first: `BadLimits` where one is out of
+    /// range; any other refusal is `Memory`.
+    pub fn new(alloc: Global, limits: Limits) -> Result<Core, Refusal>
+        ensures made { IfOk result (λ core. core ≡ first_state limits) }
+        ensures refused { IfErr result (λ refusal. RefusesLimits limits refusal) }
+        ensures in_range { OnOk result (AreLimits limits) }
+    {
+        if !are_limits(limits) {
+            return Err(Refusal::BadLimits);
+        }
+        let parts = first_parts(alloc, limits)?;
+        Ok(Core { parts, next_id: 0 })
+    }
+
+    /// Takes a step, or refuses it. After a refusal nothing has changed; `Memory` is the only one that the
+    /// definition doesn't give, and comes only where it gives none. It looks at the slots that the step is
+    /// about, and at no other.
+    pub fn apply(&mut self, step: Step) -> Result<Outcome, Refusal>
+        ensures { Applies result self.old (next self.old step) self.new }
+    {
+        let outcome = take_step(&mut self.parts, step, self.next_id)?;
+        if let Step::Begin { .. } = step {
+            self.next_id += 1;
+        }
+        Ok(outcome)
+    }
+
+    /// Why the step is denied, where it is. `apply` answers the same.
+    pub fn denial(&self, step: Step) -> Option<Refusal>
+        ensures { result ≡ denial_of self.now step }
+    {
+        denial_of(&self.parts, step)
+    }
+
+    /// The order: the ids of operations by rising place. `Memory` is the only refusal.
+    #[tactic(auto, unfolding(places::specs::Places::ids_by_place))]
+    pub fn order(&self) -> Result<Vec<u64>, Refusal>
+        ensures exact { IfOk result (λ order. order.items ≡ order_of self.now) }
+        ensures only_memory { IsOkUnless result Refusal.Memory }
+    {
+        Ok(order_of(self.parts.alloc, self.parts.places.as_slice())?)
+    }
+
+    /// What the map of an open handle holds, by rising key. `NoHandle` exactly where the handle isn't open;
+    /// any other refusal is `Memory`.
+    pub fn content(&self, handle: u16) -> Result<Pairs, Refusal>
+        ensures exact { IfOk result (λ pairs. pairs ≡ content_at self.now handle) }
+        ensures open { OnOk result (IsSome (root_at self.now handle)) }
+        ensures refused { IfErr result (λ refusal. RefusesContent self.now handle refusal) }
+    {
+        if self.parts.root(handle).is_none() {
+            return Err(Refusal::NoHandle);
+        }
+        Ok(content_of(&self.parts, handle)?)
+    }
+
+    /// The value of a key in the map of an open handle, found along its hash. `NoHandle` exactly where the
+    /// handle isn't open; there is no other refusal.
+    pub fn value_at(&self, handle: u16, key: u64) -> Result<Option<u64>, Refusal>
+        ensures found { IfOk result (λ value. value ≡ found_along self.now handle key) }
+        ensures open { OnOk result (IsSome (root_at self.now handle)) }
+        ensures refused { IfErr result (λ refusal. (root_at self.now handle ≡ None) × (refusal ≡ Refusal.NoHandle)) }
+    {
+        if self.parts.root(handle).is_none() {
+            return Err(Refusal::NoHandle);
+        }
+        Ok(value_of(&self.parts, handle, key))
+    }
+
+    /// The history.
+    pub fn events(&self) -> &[Event]
+        ensures { result.now ≡ self.now.events }
+    {
+        self.parts.events.as_slice()
+    }
+
+    /// The kind of the next step of the actor's operation, if it runs one.
+    pub fn next_kind(&self, actor: u8) -> Option<Kind>
+        ensures { result ≡ next_kind self.now actor }
+    {
+        match self.parts.operation(actor) {
+            None => None,
+            Some(operation) => Some(operation_kind(&self.parts, operation)),
+        }
+    }
+
+    /// The history, handed out. It takes no memory.
+    pub fn into_events(self) -> Vec<Event>
+        ensures { result.items ≡ self.events }
+    {
+        self.parts.events
+    }
+
+    /// Whether the actor runs an operation.
+    pub fn is_running(&self, actor: u8) -> bool
+        ensures { result ≡ is_running self.now actor }
+    {
+        is_running(&self.parts, actor)
+    }
+
+    /// Whether any actor runs an operation.
+    pub fn is_busy(&self) -> bool
+        ensures { result ≡ is_busy self.now }
+    {
+        self.parts.actors.iter().any(Option::is_some)
+    }
+
+    /// Whether an operation runs that was called on the handle.
+    pub fn runs_on(&self, handle: u16) -> bool
+        ensures { result ≡ runs_on self.now handle }
+    {
+        runs_on(&self.parts, handle)
+    }
+
+    /// Whether the handle is writable, if it is open.
+    pub fn is_writable(&self, handle: u16) -> Option<bool>
+        ensures { result ≡ option_map (λ access. is_access Access.Writable (Some access)) (access_of (root_at self.now handle)) }
+    {
+        match self.parts.access(handle) {
+            None => None,
+            access => Some(is_access(Access::Writable, access)),
+        }
+    }
+
+    /// How many handles are open or reserved: at most 256.
+    pub fn handles_taken(&self) -> u32
+        ensures { result ≡ handles_taken self.now }
+    {
+        u32::from(handles_taken(&self.parts))
+    }
+
+    /// How many slots are free.
+    pub fn free_slots(&self) -> u32
+        ensures { result ≡ length self.now.heap.free }
+    {
+        self.parts.heap.memory.free_slots()
+    }
+
+    /// How many slots are in use, those of limbo among them.
+    pub fn used(&self) -> u32
+        ensures { result ≡ length (in_use self.now.heap) }
+    {
+        self.parts.heap.memory.used()
+    }
+
+    /// How many slots are in limbo.
+    pub fn limbo_len(&self) -> u32
+        ensures { result ≡ length self.now.limbo }
+    {
+        self.parts.heap.memory.limbo_len()
+    }
+
+    /// The epoch.
+    pub fn epoch(&self) -> u64
+        ensures { result ≡ self.now.epoch }
+    {
+        self.parts.heap.memory.epoch()
+    }
+
+    /// How many steps were taken.
+    pub fn steps_taken(&self) -> u64
+        ensures { result ≡ self.now.steps }
+    {
+        self.parts.steps
+    }
+
+    /// The limits.
+    pub fn limits(&self) -> Limits
+        ensures { result ≡ self.now.limits }
+    {
+        self.parts.limits
+    }
+}

@@ -1,8 +1,0 @@
-use Rattle.std.proofs.Common.{◌≡◌, drop}
-use Rattle.slot_arena.specs.Heaps.{node_at}
-use Rattle.proof_contents.specs.Nodes.Looking.{look_among}
-use Rattle.plain_machine.proofs.finding.look_among.Given as goal
-
--- those before say nothing of the key
-abbrev pub invariant-loop-single : goal.invariant-loop-single
-invariant-loop-single l = look_among (node_at l.heap) l.key l.singles ≡ look_among (node_at l.heap) l.key (drop l.single-index l.singles)

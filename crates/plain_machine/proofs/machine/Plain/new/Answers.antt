@@ -1,7 +1,0 @@
-use Rattle.std.proofs.Common.{refl}
-use Rattle.plain_state.specs.Seen.{seen}
-use Rattle.plain_machine.proofs.Bounded.{first_run}
-use Rattle.plain_machine.proofs.machine.Plain.new.Goals as goal
-
-pub invariant_of-result : goal.invariant_of-result
-invariant_of-result c = first_run c.args.limits (seen c.in_ok-parts.parts) (c.if-not-are_limits.ensures.0 refl) c.in_ok-parts.ensures

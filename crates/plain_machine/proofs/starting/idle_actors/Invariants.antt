@@ -1,5 +1,0 @@
-use Rattle.std.proofs.Common.{◌≡◌, replicate, None}
-use Rattle.plain_machine.proofs.starting.idle_actors.Given as goal
-
-abbrev pub invariant-loop : goal.invariant-loop
-invariant-loop l = l.idle.items ≡ replicate l.counter None
