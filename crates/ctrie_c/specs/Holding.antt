@@ -3,7 +3,7 @@ use Rattle.std.specs.Prelude.{◌≡◌, Option, Some, None}
 use base.Fml.{Fml, feq}
 use denote.RawPtr.{Ptr, null_ptr}
 use Rattle.std.specs.Global.{Global}
-use Rattle.std_heap.specs.contracts.GlobalAllocator.TheImpl.{ghosts}
+use Rattle.std.specs.contracts.impls.GlobalAllocator.TheImpl.{ghosts}
 use Rattle.std.specs.Box.Ownership.{box_owns}
 use Rattle.ctrie_map.specs.Maps.{MapState}
 use Rattle.ctrie_map.specs.contracts.map.Map.{the_row}

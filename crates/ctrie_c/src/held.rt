@@ -5,6 +5,7 @@ ghost use Rattle.std.specs.Coded.{coded_option};
 ghost use Rattle.ctrie_map.specs.Maps.{MapState};
 ghost use Rattle.ctrie_map.specs.Codes.{map_state_code};
 
+use crate::loose::Loose;
 use ctrie_map::Map;
 use std::alloc::Global;
 use std::marker::Model;
@@ -26,7 +27,7 @@ impl Model for HeldMap {
 
 impl HeldMap {
     /// None.
-    pub(crate) fn none(alloc: Global) -> HeldMap
+    fn none(alloc: Global) -> HeldMap
         ensures { result.state ≡ None }
     {
         HeldMap {
@@ -36,10 +37,10 @@ impl HeldMap {
     }
 
     /// This map.
-    pub(crate) fn of(map: Box<Map>) -> HeldMap
+    fn of(map: Loose<Map, Global>) -> HeldMap
         ensures { result.state ≡ Some map.value }
     {
-        let (at, alloc) = Box::into_raw_with_allocator(map);
+        let Loose { at, alloc } = map;
         HeldMap {
             at: at as *mut u8,
             alloc,
@@ -47,25 +48,39 @@ impl HeldMap {
     }
 
     /// The map, if there is one.
-    pub(crate) fn into_map(self) -> Option<Box<Map>>
+    fn into_loose(self) -> Option<Loose<Map, Global>>
         ensures some { IfSome result (λ map. self.state ≡ Some map.value) }
         ensures none { IfNone result (self.state ≡ None) }
     {
         let HeldMap { at, alloc } = self;
         if at.is_null() {
-            return None;
+            None
+        } else {
+            Some(Loose {
+                at: at as *mut Map,
+                alloc,
+            })
         }
-        Some(unsafe { Box::from_raw(alloc, at as *mut Map) })
+    }
+
+    /// The map, if there is one, in its box.
+    fn into_map(self) -> Option<Box<Map>>
+        ensures some { IfSome result (λ map. self.state ≡ Some map.value) }
+        ensures none { IfNone result (self.state ≡ None) }
+    {
+        match self.into_loose() {
+            Some(loose) => Some(loose.into_box()),
+            None => None,
+        }
     }
 }
 
 /// The map, if there is one; none is held then.
-pub(crate) fn take(held: &mut HeldMap) -> Option<Box<Map>>
+pub(crate) fn take(alloc: Global, held: &mut HeldMap) -> Option<Box<Map>>
     ensures empty { held.new.state ≡ None }
     ensures some { IfSome result (λ map. held.old.state ≡ Some map.value) }
     ensures none { IfNone result (held.old.state ≡ None) }
 {
-    let alloc = held.alloc;
     std::mem::replace(held, HeldMap::none(alloc)).into_map()
 }
 
@@ -73,5 +88,5 @@ pub(crate) fn take(held: &mut HeldMap) -> Option<Box<Map>>
 pub(crate) fn give(held: &mut HeldMap, map: Box<Map>)
     ensures { held.new.state ≡ Some map.value }
 {
-    let _ = std::mem::replace(held, HeldMap::of(map)).into_map();
+    let _ = std::mem::replace(held, HeldMap::of(Loose::of(map))).into_map();
 }
