@@ -4,7 +4,7 @@ use Rattle.ctrie_map.specs.declared.errors.MapError.{MapError}
 use Rattle.ctrie_map.specs.declared.errors.MapError.TheVariants.{NoHandle, ReadOnly, HandlesFull, Crowded, Full, BadSizes, WornOut, Memory, Unfinished}
 use Rattle.ctrie_map.specs.Maps.{MapState}
 
--- of a call on no map, of a `ctrie_new` where there is one already, and of one that names no hash
+-- of a call where there is no map, of a `ctrie_new` where there is one already, and of one that names no hash
 abbrev pub no_map : ℕ
 no_map = 11
 
@@ -20,10 +20,11 @@ refusal_of code =
     if nat_eq code 2 then NoHandle else if nat_eq code 3 then ReadOnly else if nat_eq code 4 then HandlesFull else if nat_eq code 5 then Crowded else if nat_eq code 6 then Full
     else if nat_eq code 7 then BadSizes else if nat_eq code 8 then WornOut else if nat_eq code 9 then Memory else Unfinished
 
--- 0 tells no, 1 yes, and each other code why not
+-- 0 tells the one answer, 1 the other, and each further code why there is none
 abbrev pub told_by : {A : Type 0} → A → A → ℕ → Result A MapError
-told_by no yes code = if nat_eq code 0 then Ok no else if nat_eq code 1 then Ok yes else Err (refusal_of code)
+told_by zeroth first code = if nat_eq code 0 then Ok zeroth else if nat_eq code 1 then Ok first else Err (refusal_of code)
 
+-- none or this one
 abbrev pub value_told : ℕ → ℕ → Result (Option ℕ) MapError
 value_told code value = told_by None (Some value) code
 
@@ -40,4 +41,4 @@ done_told code = told_by tt tt code
 abbrev pub Does : Option MapState → Option MapState → ℕ → (MapState → MapState → Type 0) → Type 0
 Does (Some old) (Some new) code Holds = (code < no_map) × Holds old new
 Does None None code Holds = code ≡ no_map
-Does old new code Holds = ⊥
+Does before after code Holds = ⊥
