@@ -1,3 +1,4 @@
+pub mod Behind
 pub mod Carried
 pub mod HeldValues
 pub mod Values

@@ -5,6 +5,7 @@ mod changing;
 mod codes;
 mod copying;
 mod held;
+mod listing;
 mod loose;
 mod making;
 mod reading;
