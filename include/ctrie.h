@@ -69,6 +69,19 @@ enum ctrie_hash {
     CTRIE_BLOCK = 3 /* the key divided by 64 */
 };
 
+/* A key with its value. */
+struct ctrie_pair {
+    uint64_t key, value;
+};
+
+/* How far a listing has come. */
+struct ctrie_cursor {
+    uint64_t last; /* the last key that was listed */
+    bool begun;    /* whether one was */
+};
+
+#define CTRIE_START {0, false}
+
 /* So many free slots are enough for any call. */
 #define CTRIE_SLOTS_FOR_A_CALL 570
 
@@ -91,6 +104,20 @@ uint32_t ctrie_contains(struct ctrie *map, uint16_t handle, uint64_t key);
 
 /* DONE with how many keys have a value. MEMORY. */
 uint32_t ctrie_count(struct ctrie *map, uint16_t handle, uint64_t *count);
+
+/* Writes the next pairs by rising key, those behind the cursor, of which there is room for so many. DONE with how many;
+   fewer than there is room for where none are left. The cursor is behind them then. A listing of a handle whose map
+   is changed in between goes on behind the same key; a frozen copy is of one moment. MEMORY: nothing is allocated for
+   the caller, but the map needs room for all pairs while it lists them.
+
+       struct ctrie_cursor cursor = CTRIE_START;
+       struct ctrie_pair pairs[64];
+       uint64_t count;
+       do {
+           if (ctrie_entries(&map, handle, &cursor, pairs, 64, &count) != CTRIE_DONE) return 1;
+           for (uint64_t i = 0; i < count; i++) use(pairs[i].key, pairs[i].value);
+       } while (count == 64); */
+uint32_t ctrie_entries(struct ctrie *map, uint16_t handle, struct ctrie_cursor *cursor, struct ctrie_pair *pairs, size_t room, uint64_t *count);
 
 /* DONE with how many handles are open. */
 uint32_t ctrie_handles(struct ctrie *map, uint32_t *handles);
