@@ -16,10 +16,11 @@
  * is refused changes no map, but after CTRIE_UNFINISHED. What a call has to tell beside its code it writes where the
  * last pointer says, and only then: a value at CTRIE_YES, a number or a handle at CTRIE_DONE.
  *
- * What the caller owes: no pointer is null, and each points to what its type says. A struct ctrie is CTRIE_NONE before
- * its first call, and is changed by these calls alone; it isn't copied, but may be moved. One map is used by one call
- * at a time, on the thread that made it, and not from a signal handler or the child of a fork. malloc, realloc and free
- * are of one allocator, and align a block to each power of two up to 16 that divides its size.
+ * What the caller owes: no pointer is null, each points to what its type says, and no two of a call overlap. A struct
+ * ctrie is CTRIE_NONE before its first call, and is changed by these calls alone; it isn't copied, but may be moved.
+ * One map is used by one call at a time, on the thread that made it, and not from a signal handler or the child of a
+ * fork. malloc, realloc and free are of one allocator, and align a block to each power of two up to 16 that divides its
+ * size.
  */
 #ifndef CTRIE_H
 #define CTRIE_H
@@ -117,7 +118,8 @@ uint32_t ctrie_count(struct ctrie *map, uint16_t handle, uint64_t *count);
            if (ctrie_entries(&map, handle, &cursor, pairs, 64, &count) != CTRIE_DONE) return 1;
            for (uint64_t i = 0; i < count; i++) use(pairs[i].key, pairs[i].value);
        } while (count == 64); */
-uint32_t ctrie_entries(struct ctrie *map, uint16_t handle, struct ctrie_cursor *cursor, struct ctrie_pair *pairs, size_t room, uint64_t *count);
+uint32_t ctrie_entries(struct ctrie *map, uint16_t handle, struct ctrie_cursor *cursor, struct ctrie_pair *pairs,
+                       size_t room, uint64_t *count);
 
 /* DONE with how many handles are open. */
 uint32_t ctrie_handles(struct ctrie *map, uint32_t *handles);
