@@ -1,5 +1,5 @@
 -- What a C program holds: a map behind a pointer, or none.
-use Rattle.std.specs.Prelude.{◌≡◌, Option, Some, None}
+use Rattle.std.specs.Prelude.{Option, Some, None}
 use base.Fml.{Fml, feq}
 use denote.RawPtr.{Ptr, null_ptr}
 use Rattle.std.specs.Global.{Global}
