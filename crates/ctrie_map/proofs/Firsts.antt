@@ -56,7 +56,7 @@ module _ (slots : ℕ) (hash : HashKind) where
         ap (λ m. (state_of m).steps) (ap swept_out (finished_at_rest (fresh sizes) idle) ∙ out_when_clean (fresh sizes) clean) ∙ young,
         ap not idle,
         ap (λ m. length (state_of m).heap.free + 2) (ap swept_out (finished_at_rest (fresh sizes) idle) ∙ out_when_clean (fresh sizes) clean)
-        ∙ ap (λ l. length l + 2) free ∙ free_first slots ok.0,
+            ∙ ap (λ l. length l + 2) free ∙ free_first slots ok.0,
       )
 
   pub for_one : (machine : Taken) → machine ≡ fresh sizes → IsForOne machine
