@@ -1,4 +1,4 @@
-use Rattle.std.proofs.Common.{◌+◌, ◌++◌, ◌∷◌, [], sym, ap, ◌∙◌, eqb, rules, tests}
+use Rattle.std.proofs.Common.{refl, ◌+◌, ◌++◌, ◌∷◌, [], sym, ap, ◌∙◌, eqb, rules, tests}
 use Rattle.std.specs.Prelude.{not, filter}
 use Rattle.std.proofs.lemmas.Fn.{filter_same}
 use Rattle.history.specs.declared.events.Event.TheVariants.{Begin, End}
