@@ -3,7 +3,6 @@
 ghost use Rattle.ctrie_map.specs.Laws.{FreeIsUnreached};
 
 /// A law: while a map isn't worn out, the slots that contracts see as free are those that no open handle reaches.
-#[tactic(auto, using(crate::proofs::Unreached::unreached))]
 pub fn free_is_unreached()
     ensures { FreeIsUnreached }
 {}
