@@ -1,6 +1,6 @@
 -- Links forward and back under writes.
 use Rattle.std.proofs.Common.{◌≡◌, ℕ, ◌<◌, ◌≤◌, ◌==◌, not, false, cond, List, [], ◌∷◌, ◌++◌, length, set, filter, slice_index, refl, sym, ap, ◌∙◌, subst, ◌⊎◌, inl, inr, arith, eq-eqb, eqb-true}
-use Rattle.std.proofs.lemmas.Bool.{cases_eq, cases_Bool}
+use Rattle.std.proofs.lemmas.Bool.{cases_eq, cases_Bool, ne_eqb}
 use Rattle.std.proofs.lemmas.List.{get_or-set_same, get_or-set_other, length-set}
 use Rattle.slot_arena.specs.Times.{times}
 use Rattle.slot_arena.proofs.Times.{once_same, once_other, times-cons}
@@ -84,14 +84,11 @@ entered next back from (n ∷ ns) to p x (there, here, later) is each apart ends
 abbrev pub others : ℕ → List ℕ → List ℕ
 others x ns = filter (λ n. not (n == x)) ns
 
-pub neq-eqb : (n x : ℕ) → (n ≡ x → ⊥) → (n == x) ≡ false
-neq-eqb n x other = elim (cases_Bool (n == x)) [ inl same ↦ absurd (other (eqb-true n x same)) | inr apart ↦ apart ]
-
 pub others_same : (x n : ℕ) (ns : List ℕ) → n ≡ x → others x (n ∷ ns) ≡ others x ns
 others_same x n ns same = ap (λ b. cond (not b) (n ∷ others x ns) (others x ns)) (eq-eqb n x same)
 
 pub others_other : (x n : ℕ) (ns : List ℕ) → (n ≡ x → ⊥) → others x (n ∷ ns) ≡ n ∷ others x ns
-others_other x n ns other = ap (λ b. cond (not b) (n ∷ others x ns) (others x ns)) (neq-eqb n x other)
+others_other x n ns other = ap (λ b. cond (not b) (n ∷ others x ns) (others x ns)) (ne_eqb n x other)
 
 pub others_none : (x : ℕ) (ns : List ℕ) → times x ns ≡ 0 → others x ns ≡ ns
 others_none x [] none = refl

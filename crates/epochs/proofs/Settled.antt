@@ -3,7 +3,7 @@ use Rattle.std.proofs.Common.{◌≡◌, ℕ, suc, ◌+◌, ◌-◌, ◌<◌, �
 use Rattle.std.proofs.Common.{◌++◌, length, filter, All, Some, refl, sym, ap, ◌∙◌, subst, inl, inr, arith}
 use Rattle.std.specs.List.Sorted.{IsPermutation}
 use Rattle.std.proofs.lemmas.List.Sorted.{IsPermutation-refl, sum_by-IsPermutation}
-use Rattle.std.proofs.lemmas.Bool.{ltb-false}
+use Rattle.std.proofs.lemmas.Bool.{ltb-false, and_parts, not-true}
 use Rattle.std.proofs.lemmas.Bool.{cases_lt, false≢true}
 use Rattle.std.proofs.lemmas.List.{append_assoc, append-nil, length-append, map-append}
 use Rattle.std.proofs.lemmas.List.Elements.{All-weaker, filter-append}
@@ -30,15 +30,6 @@ use Rattle.epochs.proofs.Rising.{IsSortedRefs, rising_sorted, rising_same, risin
 use Rattle.epochs.proofs.InUse.{in_use_once, in_use_live, live_in_use}
 use Rattle.epochs.proofs.Staying.{in_limbo, bag_stays, length_zeroed}
 use Rattle.epochs.proofs.Naming.{named_member, naming_filter, naming_once}
-
-both : (b c : Bool) → (b && c) ≡ true → (b ≡ true) × (c ≡ true)
-both true true e = (refl, refl)
-both true false e = absurd (false≢true e)
-both false c e = absurd (false≢true e)
-
-not_told : (b : Bool) → not b ≡ true → b ≡ false
-not_told true e = absurd (false≢true e)
-not_told false e = refl
 
 length_filter_step : (p : Ref → Bool) (r : Ref) (rs : List Ref) (b : Bool) → length (filter p rs) ≤ length rs → length (cond b (r ∷ filter p rs) (filter p rs)) ≤ suc (length rs)
 length_filter_step p r rs true less = omega arith
@@ -120,8 +111,8 @@ module _
         (λ r some.
         let found = filter_in p r (in_use arena.heap) (omega (arith, some, times-by_birth r (filter p (in_use arena.heap)))) in
         let has = in_use_live arena.heap r small found.0 in
-        let tests = both (is_zero arena.heap arena.outside r) (not (is_in (limbo_of epoch bags) r)) found.1 in
-        let none : times r (all_of bags) ≡ 0 = not_below (times r (all_of bags)) (sym (in_limbo epoch bags r) ∙ not_told (is_in (limbo_of epoch bags) r) tests.1) in
+        let tests = and_parts (is_zero arena.heap arena.outside r) (not (is_in (limbo_of epoch bags) r)) found.1 in
+        let none : times r (all_of bags) ≡ 0 = not_below (times r (all_of bags)) (sym (in_limbo epoch bags r) ∙ not-true (is_in (limbo_of epoch bags) r) tests.1) in
         omega (arith, times_sorted r, sifted.all_fresh r (zero_waits arena r has tests.0, unlisted r has none)))
         (λ r some.
         let is = sifted.are_fresh r (omega (arith, times_sorted r)) in

@@ -1,8 +1,7 @@
 -- The notes are looked at one by one.
 use Rattle.std.proofs.Common.{◌≡◌, ℕ, ◌+◌, ◌<◌, ◌≤◌, ◌==◌, ◌||◌, ◌&&◌, not, Bool, true, false, cond, nat_lt, List, [], ◌∷◌, ◌++◌, length, filter}
 use Rattle.std.proofs.Common.{All, Option, Some, None, IfSome, refl, sym, ap, ◌∙◌, subst, inl, inr, arith, eq-eqb, eqb-true}
-use Rattle.std.proofs.lemmas.Bool.{eqb-false, lt-ltb}
-use Rattle.epochs.proofs.Joins.{neq-eqb}
+use Rattle.std.proofs.lemmas.Bool.{eqb-false, lt-ltb, ne_eqb}
 use Rattle.std.proofs.lemmas.Bool.{cases_eq, cases_lt}
 use Rattle.std.proofs.lemmas.Option.{none-some, same_Some}
 use Rattle.std.proofs.lemmas.List.{length_push}
@@ -139,7 +138,7 @@ module _ (arena : Contents) (bags : Bags) (lists : Lists arena bags) where
     leaves none r some = elim (cases_eq (slot_of r) k) [
       | inl same ↦ ap (λ b. not b && stays arena bags (rest ++ k ∷ []) r) (eq-eqb (slot_of r) k same)
           ∙ sym (stays_zero arena bags rest r (ap (λ j. times j rest) same ∙ once_only) ∙ unwaited (is_zero arena.heap arena.outside r) refl same)
-      | inr other ↦ ap (λ b. not b && stays arena bags (rest ++ k ∷ []) r) (neq-eqb (slot_of r) k other) ∙ ap (λ n. nat_lt 0 n || is_zero arena.heap arena.outside r) (there (slot_of r) other)
+      | inr other ↦ ap (λ b. not b && stays arena bags (rest ++ k ∷ []) r) (ne_eqb (slot_of r) k other) ∙ ap (λ n. nat_lt 0 n || is_zero arena.heap arena.outside r) (there (slot_of r) other)
     ]
       where
         unwaited : (b : Bool) → is_zero arena.heap arena.outside r ≡ b → slot_of r ≡ k → b ≡ false

@@ -9,7 +9,8 @@ use Rattle.history.specs.declared.events.Event.{Event}
 use Rattle.history.specs.declared.events.Event.TheVariants.{Begin, End}
 use Rattle.history.specs.Histories.{Operation, BeginsAt, EndsAt, IsRunning, begun, OpensRightly, MayFollow, IsWellFormed}
 use Rattle.history_text.specs.Running.{running, is_running, is_busy}
-use Rattle.history_text.proofs.Runs.{running_push, begun_begin, begun_end}
+use Rattle.history_text.proofs.Runs.{running_push}
+use Rattle.history.proofs.Begins.{begun_push, begun_same}
 use Rattle.history_text.proofs.Among.{Among, among_push, among_before, among_last, among_filter, among_kept, any_among, among_any, get_push, get_before, get_last}
 
 -- the list that is kept has just the operations that run, and only ids that have begun are known
@@ -57,7 +58,7 @@ pair_same n a id b actor p q r = cc
 tied_begin : (es : List Event) (n a : ℕ) (c : Call) (o : Option ℕ) → Tied es → n ≡ begun es → Tied (es ++ Begin n a c o ∷ [])
 tied_begin es n a c o t next =
     let e = Begin n a c o in
-    let more = begun_begin es n a c o in
+    let more = begun_push es (Begin n a c o) refl in
     record {
       runs = λ id actor m. begin_runs es n a c o t next id actor (among_push (id, actor) (running es) (n, a) (subst (λ (l : List (ℕ × ℕ)). Among (id, actor) l) (running_push es e) m));
       listed = λ id actor r. subst (λ (l : List (ℕ × ℕ)). Among (id, actor) l) (sym (running_push es e))
@@ -87,7 +88,7 @@ tied_end : (es : List Event) (n : ℕ) (a : Reply) → Tied es → (x : ℕ) →
 tied_end es n a t x run =
     let e = End n a in
     let test : ℕ × ℕ → Bool = λ one. not (eqb one.0 n) in
-    let same = begun_end es n a in
+    let same = begun_same es (End n a) refl in
     let n_known = t.known run.0.0 n run.0.1 run.0.2 in
     record {
       runs = λ id actor m.
