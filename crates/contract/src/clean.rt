@@ -72,7 +72,7 @@ pub struct Clean {
     main: Ref,
     /// Its new entries so far.
     done: Entries,
-    place: CleanAt,
+    pub place: CleanAt,
 }
 
 impl Clean {

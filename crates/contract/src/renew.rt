@@ -63,7 +63,7 @@ pub struct Renew {
     main: Ref,
     /// Its new entries so far.
     done: Entries,
-    place: RenewAt,
+    pub place: RenewAt,
 }
 
 impl Renew {

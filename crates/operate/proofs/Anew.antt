@@ -7,7 +7,7 @@ use Rattle.slot_arena.specs.Heaps.{Heap}
 use Rattle.machine_model.specs.declared.reading.Read.{Read}
 use Rattle.gcas.specs.declared.read.ReadAt.{ReadAt}
 use Rattle.gcas.specs.declared.read.ReadAt.TheVariants as at
-use Rattle.gcas.specs.Reads.{ReadsAlong, committed_so}
+use Rattle.gcas.specs.Reads.{ReadsAlong}
 use Rattle.operate.specs.Steps.{CommitsNoMore}
 
 pub begins : (place : ReadAt) → CommitsNoMore place at.Main

@@ -1,40 +1,30 @@
 -- What ROOT comes to, as a call on one key sees it in which it runs.
-use Rattle.std.specs.Prelude.{◌≡◌, ℕ, [], Option, Some, None, refl}
+use Rattle.std.specs.Prelude.{◌≡◌, ℕ, [], refl}
 use Rattle.std.proofs.Common.{ap, sym, ◌∙◌}
 use Rattle.ctrie_base.specs.declared.kinds.Kind.{Kind}
 use Rattle.ctrie_base.specs.declared.kinds.Kind.TheVariants as kind
 use Rattle.history.specs.declared.calls.Access.{Access}
 use Rattle.slot_arena.specs.declared.refs.Ref.{Ref}
-use Rattle.slot_arena.specs.Heaps.{Heap, generation_at}
-use Rattle.machine_model.specs.declared.lines.Line.{Line}
-use Rattle.machine_model.specs.declared.lines.Line.TheVariants as line
+use Rattle.slot_arena.specs.Heaps.{Heap}
 use Rattle.machine_model.specs.declared.operations.Operation.{Operation}
 use Rattle.machine_model.specs.declared.reading.After.{After}
-use Rattle.machine_model.specs.declared.reading.After.TheVariants.{Goes, Gives}
-use Rattle.machine_model.specs.declared.repairs.Climb.{Climb}
-use Rattle.machine_model.specs.declared.repairs.ClimbLine.TheVariants as climb
 use Rattle.machine_model.specs.declared.roots.RootLine.{RootLine}
 use Rattle.machine_model.specs.declared.roots.RootLine.TheVariants as root
 use Rattle.machine_model.specs.declared.roots.RootWord.{RootWord}
 use Rattle.machine_model.specs.Calls.{handle_of}
-use Rattle.machine_model.specs.Climbing.{climb_after_root}
 use Rattle.machine_model.specs.Finding.{going_down}
 use Rattle.machine_model.specs.Operations.{from_root, kind_of, rooting_read}
 use Rattle.machine_model.specs.States.{State, word_at}
 use Rattle.machine_model.specs.Swapping.{root_action, root_after}
-use Rattle.gcas.specs.declared.next.Next.TheVariants.{More, Done}
 use Rattle.gcas.specs.declared.read.Read.{Read}
 use Rattle.gcas.specs.declared.read.ReadAt.{ReadAt}
 use Rattle.gcas.specs.Reads.{ReadsAlong}
 use Rattle.trie_parts.specs.declared.calls.KeyCall.{KeyCall}
 use Rattle.trie_parts.specs.declared.calls.KeyCall.TheVariants.{Get, Put, PutIfAbsent, Replace, ReplaceIf, Remove, RemoveIf}
 use Rattle.trie_parts.specs.declared.calls.Task.{Task}
-use Rattle.trie_parts.specs.Here.{at_heap}
-use Rattle.trie_parts.specs.Steps.{Leads}
-use Rattle.trie_parts.specs.Tasks.{call_of, for_task}
+use Rattle.trie_parts.specs.Tasks.{call_of}
 use Rattle.trie_parts.proofs.Handles.{handle_same}
 use Rattle.rdcss_root.specs.declared.root.ReadRoot.{ReadRoot}
-use Rattle.rdcss_root.specs.Programs.{RootsOn}
 
 -- a call on one key goes down from the root
 pub below : (call : KeyCall) (handle : ℕ) (r : Ref) → from_root (call_of handle call) r ≡ going_down [] r

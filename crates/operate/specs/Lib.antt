@@ -1,2 +1,5 @@
+pub mod Beneath
 pub mod Places
+pub mod Reach
 pub mod Steps
+pub mod Telling

@@ -1,5 +1,6 @@
 -- Where a call on one key stands, as the definition's lines.
 use Rattle.std.specs.Prelude.{ℕ, List, Option, Some, None}
+use Rattle.history.specs.declared.replies.Reply.{Reply}
 use Rattle.slot_arena.specs.declared.refs.Ref.{Ref}
 use Rattle.machine_model.specs.declared.finding.KeyLine.TheVariants as key
 use Rattle.machine_model.specs.declared.lines.Line.{Line}
@@ -54,3 +55,8 @@ changed_line operation path former (Some single) = climbing operation (record { 
 abbrev pub former_of : Tried → Option ℕ
 former_of (Changed former) = former
 former_of tried = None
+
+-- the reply with which an operation on this line ends next, if it does
+abbrev pub answer_of : Line → Option Reply
+answer_of (line.End answer) = Some answer
+answer_of l = None

@@ -73,9 +73,11 @@ pub enum KeyAt {
 /// A call on one key, kept in place: an actor has one for all its calls.
 #[derive(Drop)]
 pub struct KeyOp {
-    pub(crate) task: Task,
+    /// What the call is, and the generation of the root that ROOT gave last.
+    pub task: Task,
     pub(crate) path: Path,
-    pub(crate) work: Work,
+    /// An actor has one for the calls of all kinds.
+    pub work: Work,
     pub(crate) renew: Renew,
     pub(crate) clean: Clean,
     pub(crate) place: KeyAt,
@@ -142,6 +144,7 @@ impl KeyOp {
         ensures acts { OnOk result (RootActs heap.old roots.old.roots self.old (key_line self.old root_seen) heap.new roots.new.roots self.new.work.private) }
         ensures table { OnOk result (roots.new ≡ table_after roots.old handle self.old.place) }
         ensures generation { IfOk result (λ next. KeepsGeneration heap.old.heap (word_in roots.old handle) self.old (key_line self.old root_seen) self.new.task next) }
+        ensures task { OnOk result (self.new.task ≡ record self.old.task { generation = self.new.task.generation }) }
         ensures access { self.new.work.swap.read.access ≡ self.old.work.swap.read.access }
         ensures asks { IfOk result (λ next. IsAskingRoot next → (self.new ≡ self.old) × (roots.new ≡ roots.old) × (heap.new ≡ heap.old)) }
         ensures err { OnErr result ((self.new ≡ self.old) × (roots.new ≡ roots.old) × (heap.new ≡ heap.old)) }
@@ -181,6 +184,7 @@ impl KeyOp {
         ensures acts { (private : List ARef) → ActsInAll heap.old roots.old.roots private (root_action (root_of root self.old.work.swap.read root_seen)) heap.new roots.new.roots private }
         ensures table { roots.new ≡ rooted_at roots.old handle root }
         ensures generation { KeepsGeneration heap.old.heap (word_in roots.old handle) self.old (line.Root (root_of root self.old.work.swap.read root_seen)) self.new.task result }
+        ensures task { self.new.task ≡ record self.old.task { generation = self.new.task.generation } }
         ensures same { (self.new.work.private ≡ self.old.work.private) × (self.new.work.swap.read.access ≡ self.old.work.swap.read.access) }
         ensures asks { IsAskingRoot result → (self.new ≡ record self.old { place = KeyAt.Root root }) × (roots.new ≡ roots.old) × (heap.new ≡ heap.old) }
     {

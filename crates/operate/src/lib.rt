@@ -9,12 +9,15 @@
 //! into each other.
 #![tactic(auto)]
 
+mod ahead;
 mod below;
 mod key_op;
+mod laws;
 mod path;
 mod repairs;
 
 pub use key_finding::KeyReply;
 pub use key_op::{BelowAt, KeyAt, KeyOp};
+pub use laws::{acts_of_key, tells_key};
 pub use path::Path;
 pub use trie_parts::KeyCall;

@@ -1,6 +1,6 @@
 //! The path of an operation.
 
-ghost use Rattle.std.specs.Prelude.{◌≡◌, ◌<◌, ◌∷◌, ◌++◌, [], IfOk, IfErr, OnOk, OnErr, vec_len, vec_capacity};
+ghost use Rattle.std.specs.Prelude.{◌≡◌, ◌<◌, ◌∷◌, ◌++◌, [], IfOk, IfErr, OnOk, OnErr, vec_capacity};
 ghost use Rattle.machine_model.specs.Paths.{above};
 
 use ctrie_base::Refusal;

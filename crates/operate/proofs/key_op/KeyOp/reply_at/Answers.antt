@@ -1,0 +1,24 @@
+use Rattle.machine_model.specs.Paths.{above}
+use Rattle.contract.specs.Climbing.{climb_of}
+use Rattle.operate.proofs.Going.{changes, renews, cleans, climbs}
+use Rattle.operate.proofs.key_op.KeyOp.reply_at.Goals as goal
+
+pub returns-in-Change : goal.returns-in-Change
+returns-in-Change c =
+    let op = c.args.self.now in
+    rw c.in-Change.is (λ told. (changes op.path op.work.swap c.in-Change.field-0.main c.in-Change.field-0.at).goes_on told)
+
+pub returns-in-Renew : goal.returns-in-Renew
+returns-in-Renew c =
+    let op = c.args.self.now in
+    rw c.in-Renew.is (λ told. (renews op.path op.work.swap op.renew.main op.renew.done op.renew.place).goes_on told)
+
+pub returns-in-Clean : goal.returns-in-Clean
+returns-in-Clean c =
+    let op = c.args.self.now in
+    rw c.in-Clean.is (λ told. (cleans (above op.path) op.work.swap op.clean.main op.clean.done op.clean.place).goes_on told)
+
+pub returns-in-Climb : goal.returns-in-Climb
+returns-in-Climb c =
+    let op = c.args.self.now in
+    rw c.in-Climb.is (λ told. (climbs op.work.swap (climb_of op.path c.in-Climb.field-0) c.in-Climb.field-0.place).goes_on told)

@@ -1,0 +1,32 @@
+-- What a call on one key does beside the slots.
+use Rattle.std.specs.Prelude.{◌≡◌, ℕ, Option}
+use Rattle.machine_model.specs.declared.actions.Action.{Action}
+use Rattle.machine_model.specs.declared.actions.Action.TheVariants as act
+use Rattle.machine_model.specs.declared.operations.Operation.{Operation}
+use Rattle.machine_model.specs.Acting.{attempt_after}
+use Rattle.machine_model.specs.Operations.{line_action}
+use Rattle.machine_model.specs.States.{State}
+use Rattle.rdcss_root.specs.Tables.{Table, acted_table}
+use Rattle.operate.specs.declared.key_op.KeyAt.{KeyAt}
+use Rattle.operate.specs.declared.key_op.KeyOp.{KeyOp}
+use Rattle.operate.specs.Places.{key_line}
+use Rattle.operate.specs.Steps.{table_after}
+
+-- it offers no root and takes no offer back, and makes no root of a new generation
+abbrev pub SwapsNoRoot : Action → Type 0
+SwapsNoRoot (act.Abort offer) = ⊥
+SwapsNoRoot (act.Offer offer) = ⊥
+SwapsNoRoot (act.MakeRoot main) = ⊥
+SwapsNoRoot action = Unit {0}
+
+-- The action of a call that stands here: it changes root words only where ROOT completes an offer, and no tries are counted.
+pub record IsOfKey (roots : Table) (handle : ℕ) (place : KeyAt) (action : Action) : Type 0 where
+  pub words : (actor : ℕ) → acted_table roots handle actor action ≡ table_after roots handle place
+  pub tries : (attempt : ℕ) → attempt_after attempt action ≡ attempt
+  pub beside : SwapsNoRoot action
+
+-- a law: so it is with each step of a call on one key
+abbrev pub ActsOfKey : Type 0
+ActsOfKey =
+    (state : State) → (operation : Operation) → (roots : Table) → (handle : ℕ) → (op : KeyOp) → (told : Option ℕ) →
+    IsOfKey roots handle op.place (line_action state operation (key_line op told))

@@ -1,0 +1,15 @@
+-- What a call on one key is told of the root's generation.
+use Rattle.std.specs.Prelude.{◌≡◌, ℕ, Option, None}
+use Rattle.trie_parts.specs.Steps.{IsAskingLine}
+use Rattle.gcas.specs.Reads.{line_of}
+use Rattle.root_asking.specs.Inside.{with_read}
+use Rattle.operate.specs.declared.key_op.KeyOp.{KeyOp}
+use Rattle.operate.specs.Places.{key_line}
+
+-- a law: it comes to the call by its READ alone
+abbrev pub TellsKey : Type 0
+TellsKey = (op : KeyOp) → (told : Option ℕ) → key_line op told ≡ with_read (line_of op.work.swap.read told) (key_line op None)
+
+-- a law: who was told doesn't ask
+abbrev pub AsksUntold : Type 0
+AsksUntold = (op : KeyOp) → (told : Option ℕ) → IsAskingLine (key_line op told) → told ≡ None
