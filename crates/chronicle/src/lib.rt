@@ -1,0 +1,19 @@
+//! When things happened that decide where operations stand in the legal order: the step of each main node's commit, the
+//! step that closed a generation, and the places. Each question is answered without a search.
+//!
+//! | Module | What | Kept |
+//! |---|---|---|
+//! | `closings` | the step that closed a generation | by the generation's number |
+//! | `commits` | the step in which a main node was committed | beside the node's slot, while it is in use |
+//! | `chronicle` | the places | in segments (`places`) |
+//!
+//! What the definition keeps for ever of commits and closings stands in lists that clauses alone see.
+#![tactic(auto)]
+
+
+mod closings;
+mod commits;
+
+
+pub use closings::Closings;
+pub use commits::Commits;

@@ -1,0 +1,37 @@
+-- What the steps of a machine add to its record, for every list of steps.
+use Rattle.std.specs.Prelude.{◌≡◌, ℕ, ◌+◌, ◌≤◌, List, length, Some}
+use Rattle.proof_records.specs.Beneath.slot_arena.specs.declared.refs.Ref.{Ref}
+use Rattle.proof_records.specs.Beneath.slot_arena.specs.declared.nodes.Prev.TheVariants as prev
+use Rattle.proof_records.specs.Beneath.slot_arena.specs.Heaps.{prev_at}
+use Rattle.proof_records.specs.Beneath.machine_model.specs.declared.operations.Operation.{Operation}
+use Rattle.proof_records.specs.Beneath.machine_model.specs.declared.reading.SwapLine.{SwapLine}
+use Rattle.proof_records.specs.Beneath.machine_model.specs.declared.steps.Limits.{Limits}
+use Rattle.proof_records.specs.Beneath.machine_model.specs.declared.steps.Step.{Step}
+use Rattle.proof_records.specs.Beneath.machine_model.specs.States.{State, operation_of}
+use Rattle.proof_records.specs.Beneath.machine_model.specs.Orders.{committed_now}
+use Rattle.proof_records.specs.Beneath.machine_model.specs.Acting.{entered, entered_by}
+use Rattle.proof_records.specs.Beneath.machine_model.specs.Machine.{AreLimits, run, next_state}
+use Rattle.proof_records.specs.Beneath.proof_commits.specs.Laws.{IsInSwap, Owner}
+use Rattle.proof_records.specs.Beneath.proof_memory.specs.Laws.{IsInUse}
+
+-- a step adds at most one place
+abbrev pub OnePlaceAStep : Type 0
+OnePlaceAStep =
+    (limits : Limits) (steps : List Step) (s : Step) → AreLimits limits → length (next_state (run limits steps) s).places ≤ length (run limits steps).places + 1
+
+-- the main node is pending, and whoever enters the order at its commit is the running operation that swapped it in
+pub record EntersAlone (state : State) (main : Ref) : Type 0 where
+  pub indirection : Ref
+  pub replaced : Ref
+  pub used : IsInUse state.heap main
+  pub pending : prev_at state.heap main ≡ prev.Pending replaced
+  pub owner : Owner state indirection replaced main
+  pub alone : (actor : ℕ) (operation : Operation) (at before : Ref) (l : SwapLine) → operation_of state actor ≡ Some operation →
+      IsInSwap operation at before main l → actor ≡ owner.actor
+  pub enters : entered state (Some main) ≡ entered_by state main (Some owner.operation)
+
+-- so is each that a step commits
+abbrev pub OwnerEnters : Type 0
+OwnerEnters =
+    (limits : Limits) (steps : List Step) → AreLimits limits → (actor : ℕ) (operation : Operation) (main : Ref) →
+    operation_of (run limits steps) actor ≡ Some operation → committed_now (run limits steps) operation ≡ Some main → EntersAlone (run limits steps) main

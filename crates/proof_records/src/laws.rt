@@ -1,0 +1,13 @@
+//! Laws of what the steps of a machine add to its record.
+
+ghost use Rattle.proof_records.specs.Laws.{OnePlaceAStep, OwnerEnters};
+
+/// A law: a step adds at most one place to the order.
+pub fn one_place_a_step()
+    ensures { OnePlaceAStep }
+{}
+
+/// A law: at the commit of a main node nobody enters the order but the operation that swapped it in.
+pub fn owner_enters()
+    ensures { OwnerEnters }
+{}
