@@ -1,5 +1,6 @@
 -- What the steps of a machine add to its record, for every list of steps.
-use Rattle.std.specs.Prelude.{◌≡◌, ℕ, ◌+◌, ◌≤◌, List, length, Some}
+use Rattle.std.specs.Prelude.{◌≡◌, ℕ, ◌+◌, ◌<◌, ◌≤◌, true, List, length, Some}
+use Rattle.proof_records.specs.Beneath.history.specs.Histories.{begun}
 use Rattle.proof_records.specs.Beneath.slot_arena.specs.declared.refs.Ref.{Ref}
 use Rattle.proof_records.specs.Beneath.slot_arena.specs.declared.nodes.Prev.TheVariants as prev
 use Rattle.proof_records.specs.Beneath.slot_arena.specs.Heaps.{prev_at}
@@ -8,7 +9,7 @@ use Rattle.proof_records.specs.Beneath.machine_model.specs.declared.reading.Swap
 use Rattle.proof_records.specs.Beneath.machine_model.specs.declared.steps.Limits.{Limits}
 use Rattle.proof_records.specs.Beneath.machine_model.specs.declared.steps.Step.{Step}
 use Rattle.proof_records.specs.Beneath.machine_model.specs.States.{State, operation_of}
-use Rattle.proof_records.specs.Beneath.machine_model.specs.Orders.{committed_now}
+use Rattle.proof_records.specs.Beneath.machine_model.specs.Orders.{committed_now, is_placed}
 use Rattle.proof_records.specs.Beneath.machine_model.specs.Acting.{entered, entered_by}
 use Rattle.proof_records.specs.Beneath.machine_model.specs.Machine.{AreLimits, run, next_state}
 use Rattle.proof_records.specs.Beneath.proof_commits.specs.Laws.{IsInSwap, Owner}
@@ -35,3 +36,12 @@ abbrev pub OwnerEnters : Type 0
 OwnerEnters =
     (limits : Limits) (steps : List Step) → AreLimits limits → (actor : ℕ) (operation : Operation) (main : Ref) →
     operation_of (run limits steps) actor ≡ Some operation → committed_now (run limits steps) operation ≡ Some main → EntersAlone (run limits steps) main
+
+-- the ids that were given are told apart
+pub record HaveIds (state : State) : Type 0 where
+  pub distinct : (actor other : ℕ) (a b : Operation) → operation_of state actor ≡ Some a → operation_of state other ≡ Some b → a.id ≡ b.id → actor ≡ other
+  pub given : (actor : ℕ) (operation : Operation) → operation_of state actor ≡ Some operation → operation.id < begun state.events
+  pub placed : (id : ℕ) → is_placed state id ≡ true → id < begun state.events
+
+abbrev pub IdsApart : Type 0
+IdsApart = (limits : Limits) (steps : List Step) → AreLimits limits → HaveIds (run limits steps)

@@ -1,6 +1,6 @@
 //! Laws of what the steps of a machine add to its record.
 
-ghost use Rattle.proof_records.specs.Laws.{OnePlaceAStep, OwnerEnters};
+ghost use Rattle.proof_records.specs.Laws.{IdsApart, OnePlaceAStep, OwnerEnters};
 
 /// A law: a step adds at most one place to the order.
 pub fn one_place_a_step()
@@ -10,4 +10,9 @@ pub fn one_place_a_step()
 /// A law: at the commit of a main node nobody enters the order but the operation that swapped it in.
 pub fn owner_enters()
     ensures { OwnerEnters }
+{}
+
+/// A law: running operations have different ids, and neither they nor the order have one that is still to be given.
+pub fn ids_apart()
+    ensures { IdsApart }
 {}
