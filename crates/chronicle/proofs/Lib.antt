@@ -1,3 +1,4 @@
--- What is kept of closings and commits, when one comes.
+-- What is kept of closings, commits and places, when one comes.
 pub mod ClosingSteps
 pub mod CommitSteps
+pub mod Marks

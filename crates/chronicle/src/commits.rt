@@ -1,65 +1,114 @@
 //! The steps in which main nodes were committed.
 
-ghost use Rattle.std.specs.Prelude.{◌≡◌, ◌<◌, ◌≤◌, ◌++◌, ◌∷◌, [], slice_index};
-ghost use Rattle.slot_arena.specs.Refs.{birth_of, slot_of};
-ghost use Rattle.slot_arena.specs.Arenas.{IsLive};
-ghost use Rattle.chronicle.specs.Committed.{AreBeside, IsSet, commit_step};
+ghost use Rattle.std.specs.Prelude.{◌≡◌, ◌+◌, ◌<◌, ◌≤◌, ◌++◌, ◌∷◌, [], ◌==◌, OnOk, replicate, slice_set, vec_len, if◌then◌else◌};
+ghost use Rattle.slot_arena.specs.Refs.{slot_of};
+ghost use Rattle.chronicle.specs.Committed.{IsNewest, commit_step, kept_of, no_commit};
 
 use ctrie_base::Trace;
-use epochs::Heap;
 use machine_model::Commit;
 use slot_arena::Ref;
+use std::alloc::{AllocError, Global};
+use std::marker::Model;
 
-/// The commits of main nodes as they came, for clauses alone. The step of each stands beside the node's slot,
-/// while the slot is in use.
+/// The steps in which main nodes were committed: for each slot that of the newest node that was committed there. A
+/// slot names no older node any more.
 #[derive(Drop)]
 pub struct Commits {
-    pub listed: Trace<Commit>,
+    latest: Vec<Commit>,
+    /// The commits as they came, for clauses alone.
+    listed: Trace<Commit>,
+}
+
+impl Model for Commits {
+    ghost use Rattle.std.specs.Prelude.{length};
+    ghost use Rattle.chronicle.specs.Committed.{Committed, AreLatest};
+
+    ghost Value = { Committed };
+
+    ghost view = { λ c. record { commits = c.listed.items; slots = length c.latest.items } };
+
+    ghost invariant = { λ c. AreLatest c.latest.items c.listed.items };
 }
 
 impl Commits {
-    /// No main node was committed.
-    pub fn new() -> Commits
-        ensures { result.listed.items ≡ [] }
+    /// No main node was committed. It takes no memory.
+    #[tactic(auto, using(crate::proofs::CommitSteps::none_latest))]
+    pub fn new(alloc: Global) -> Commits
+        ensures { result.commits ≡ [] }
     {
         Commits {
+            latest: Vec::new(alloc),
             listed: Trace::new(),
         }
     }
 
-    /// The main node is committed in this step. If it was committed before, that stands.
-    pub fn note(&mut self, heap: &mut Heap, main: Ref, step: u64)
-        requires live { IsLive heap.old.heap main }
-        requires beside { AreBeside heap.old self.old.listed.items }
-        requires begun { 0 < step }
-        requires made { birth_of main ≤ heap.old.heap.births }
-        ensures listed { self.new.listed.items ≡ self.old.listed.items ++ record { main = main; step = step } ∷ [] }
-        ensures beside { AreBeside heap.new self.new.listed.items }
-        ensures heap { heap.new ≡ record heap.old { commits = heap.new.commits } }
+    /// Makes room for the commit of this main node. After an error nothing that is seen has changed.
+    pub fn room_for(&mut self, main: Ref) -> Result<(), AllocError>
+        ensures commits { self.new.commits ≡ self.old.commits }
+        ensures room { OnOk result (slot_of main < self.new.slots) }
     {
-        set_once(heap, main, step);
+        let slots = main.slot() as usize + 1;
+        if self.latest.len() < slots {
+            self.latest.resize(slots, none())?;
+        }
+        Ok(())
+    }
+
+    /// The main node is committed in this step. If it was committed before, that stands.
+    pub fn note(&mut self, main: Ref, step: u64)
+        requires room { slot_of main < self.old.slots }
+        requires newest { IsNewest self.old.commits main }
+        requires begun { 0 < step }
+        ensures commits { self.new.commits ≡ self.old.commits ++ record { main = main; step = step } ∷ [] }
+        ensures slots { self.new.slots ≡ self.old.slots }
+    {
+        let committed = self.committed_at(main);
+        set_once(&mut self.latest, committed, Commit { main, step });
         self.listed = self.listed.with_last(&Commit { main, step });
     }
 
     /// The step in which the main node was committed; 0 where it never was.
-    #[tactic(auto, using(crate::proofs::CommitSteps::beside_one))]
-    pub fn committed_at(&self, heap: &Heap, main: Ref) -> u64
-        requires live { IsLive heap.now.heap main }
-        requires beside { AreBeside heap.now self.now.listed.items }
-        ensures { result ≡ commit_step self.now.listed.items main }
+    pub fn committed_at(&self, main: Ref) -> u64
+        requires { IsNewest self.now.commits main }
+        ensures { result ≡ commit_step self.now.commits main }
     {
-        heap.commit(main)
+        step_of(kept_of(self.latest.as_slice(), main.slot()), main)
     }
 }
 
-/// Sets the step beside the slot of a main node, unless one stands there.
-fn set_once(heap: &mut Heap, main: Ref, step: u64)
-    requires { IsLive heap.old.heap main }
-    ensures first { slice_index heap.old.commits (slot_of main) ≡ 0 → IsSet heap.old main step heap.new }
-    ensures again { 0 < slice_index heap.old.commits (slot_of main) → heap.new ≡ heap.old }
-    ensures heap { heap.new ≡ record heap.old { commits = heap.new.commits } }
+/// No commit.
+fn none() -> Commit
+    ensures { result ≡ no_commit }
 {
-    if heap.commit(main) == 0 {
-        heap.set_commit(main, step);
+    Commit {
+        main: Ref::default(),
+        step: 0,
+    }
+}
+
+/// What is kept of a slot.
+fn kept_of(latest: &[Commit], slot: u16) -> Commit
+    ensures { result ≡ kept_of latest.now slot }
+{
+    match latest.get(slot as usize) {
+        Some(commit) => *commit,
+        None => none(),
+    }
+}
+
+/// The step of the commit, if it is of this main node, else 0.
+fn step_of(commit: Commit, main: Ref) -> u64
+    ensures { result ≡ (if commit.main == main then commit.step else 0) }
+{
+    if commit.main == main { commit.step } else { 0 }
+}
+
+/// Keeps the commit, unless its node was committed before, in this step.
+fn set_once(latest: &mut Vec<Commit>, committed: u64, commit: Commit)
+    requires { slot_of commit.main < vec_len latest.old }
+    ensures { latest.new.items ≡ (if committed == 0 then slice_set latest.old.items (slot_of commit.main) commit else latest.old.items) }
+{
+    if committed == 0 {
+        latest[commit.main.slot() as usize] = commit;
     }
 }

@@ -4,8 +4,8 @@
 //! | Module | What | Kept |
 //! |---|---|---|
 //! | `closings` | the step that closed a generation | by the generation's number |
-//! | `commits` | the step in which a main node was committed | beside the node's slot, while it is in use |
-//! | `chronicle` | the places | in segments (`places`) |
+//! | `commits` | the step in which a main node was committed | by the node's slot, while it names the node |
+//! | `ordered` | the places, and who has one | in segments (`places`); by the operation's id |
 //!
 //! What the definition keeps for ever of commits and closings stands in lists that clauses alone see.
 #![tactic(auto)]
@@ -13,7 +13,9 @@
 
 mod closings;
 mod commits;
+mod ordered;
 
 
 pub use closings::Closings;
 pub use commits::Commits;
+pub use ordered::Ordered;
