@@ -1,4 +1,5 @@
--- What to cite from above: `owner_enters` (Owners), `one_place` (Adding), `ids_apart` (Given).
+-- What to cite from above: `owner_enters` (Owners), `one_place` (Adding), `ids_apart` (Given), `committed_are_newest` (Newest).
 pub mod Owners
 pub mod Adding
 pub mod Given
+pub mod Newest

@@ -28,7 +28,7 @@ use Rattle.proof_shape.specs.Lines.Commits.{places_for}
 use Rattle.proof_shape.proofs.Commits.Entered.{enters_owner}
 
 -- who decides a main node finds it in use
-decided_used : (state : State) (action : Action) (main : Ref) → Decides state.heap action main → AllHold (IsInUse state.heap) state.heap (action_wants action) → IsInUse state.heap main
+pub decided_used : (state : State) (action : Action) (main : Ref) → Decides state.heap action main → AllHold (IsInUse state.heap) state.heap (action_wants action) → IsInUse state.heap main
 decided_used state action main d wants = safe_of (subst (λ a. AllHold (IsInUse state.heap) state.heap (action_wants a)) d.is_it wants).1.0
 
 -- what the owner enters, by what its node is for

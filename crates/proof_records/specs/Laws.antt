@@ -1,7 +1,8 @@
 -- What the steps of a machine add to its record, for every list of steps.
-use Rattle.std.specs.Prelude.{◌≡◌, ℕ, ◌+◌, ◌<◌, ◌≤◌, true, List, length, Some}
+use Rattle.std.specs.Prelude.{◌≡◌, ℕ, ◌+◌, ◌<◌, ◌≤◌, true, List, All, length, Some}
 use Rattle.proof_records.specs.Beneath.history.specs.Histories.{begun}
 use Rattle.proof_records.specs.Beneath.slot_arena.specs.declared.refs.Ref.{Ref}
+use Rattle.proof_records.specs.Beneath.slot_arena.specs.Refs.{slot_of}
 use Rattle.proof_records.specs.Beneath.slot_arena.specs.declared.nodes.Prev.TheVariants as prev
 use Rattle.proof_records.specs.Beneath.slot_arena.specs.Heaps.{prev_at}
 use Rattle.proof_records.specs.Beneath.machine_model.specs.declared.operations.Operation.{Operation}
@@ -45,3 +46,9 @@ pub record HaveIds (state : State) : Type 0 where
 
 abbrev pub IdsApart : Type 0
 IdsApart = (limits : Limits) (steps : List Step) → AreLimits limits → HaveIds (run limits steps)
+
+-- no node that was committed in the slot of a node in use is newer than it
+abbrev pub CommittedAreNewest : Type 0
+CommittedAreNewest =
+    (limits : Limits) (steps : List Step) → AreLimits limits → (main : Ref) → IsInUse (run limits steps).heap main →
+    All (λ commit. slot_of commit.main ≡ slot_of main → commit.main ≤ main) (run limits steps).commits

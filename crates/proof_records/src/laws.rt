@@ -1,6 +1,6 @@
 //! Laws of what the steps of a machine add to its record.
 
-ghost use Rattle.proof_records.specs.Laws.{IdsApart, OnePlaceAStep, OwnerEnters};
+ghost use Rattle.proof_records.specs.Laws.{CommittedAreNewest, IdsApart, OnePlaceAStep, OwnerEnters};
 
 /// A law: a step adds at most one place to the order.
 pub fn one_place_a_step()
@@ -15,4 +15,9 @@ pub fn owner_enters()
 /// A law: running operations have different ids, and neither they nor the order have one that is still to be given.
 pub fn ids_apart()
     ensures { IdsApart }
+{}
+
+/// A law: no node that was committed in the slot of a node in use is newer than it.
+pub fn committed_are_newest()
+    ensures { CommittedAreNewest }
 {}
