@@ -1,7 +1,8 @@
 -- The steps by generation, when a generation is drawn or closed.
-use Rattle.std.proofs.Common.{◌≡◌, ℕ, zero, suc, ◌==◌, ◌<◌, Bool, true, false, cond, List, [], ◌∷◌, ◌++◌, length, set, get_or, find, Option, Some, None, MatchOption, ◌≢◌, refl, sym, ap, ◌∙◌, subst, eq-eqb, eqb-true}
+use Rattle.std.proofs.Common.{◌≡◌, ℕ, zero, suc, ◌==◌, ◌<◌, Bool, true, false, cond, List, [], ◌∷◌, ◌++◌, length, map, All, set, get_or, find, Option, Some, None, MatchOption, ◌≢◌, refl, sym, ap, ◌∙◌, subst, eq-eqb, eqb-true}
 use Rattle.std.proofs.lemmas.Option.{none-some}
 use Rattle.std.proofs.lemmas.Bool.{false≢true}
+use Rattle.std.proofs.lemmas.List.Elements.{All-map}
 use Rattle.std.proofs.lemmas.List.{get_or-set_same, get_or-set_other}
 use Rattle.machine_model.specs.declared.heaps.Closing.{Closing}
 use Rattle.machine_model.specs.States.{step_of}
@@ -92,3 +93,8 @@ found_after steps after closings g c h within is = by (get_or steps g None) refl
         AreFound after (closings ++ record { generation = g; step = c } ∷ [])
     by None e same = subst (λ l. AreFound l (closings ++ record { generation = g; step = c } ∷ [])) (sym same) (found_closed steps closings g c h within e)
     by (Some was) e same = subst (λ l. AreFound l (closings ++ record { generation = g; step = c } ∷ [])) (sym same) (found_kept steps closings g c was h e)
+
+-- closings that are before this step have steps before it
+pub steps_later : (closings : List Closing) (steps : List ℕ) (step : ℕ) → steps ≡ map (λ (c : Closing). c.step) closings → All (λ closing. closing.step < step) closings →
+    All (λ closing. closing < step) steps
+steps_later closings steps step is later = subst (All (λ (n : ℕ). n < step)) (sym is) (All-map (λ (n : ℕ). n < step) (λ (c : Closing). c.step) closings later)

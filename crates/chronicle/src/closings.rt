@@ -75,6 +75,13 @@ impl Closings {
         self.listed = self.listed.with_last(&Closing { generation, step });
     }
 
+    /// How many generations were drawn.
+    pub fn generations(&self) -> u64
+        ensures { result ≡ self.now.generations }
+    {
+        self.steps.len() as u64
+    }
+
     /// The step that closed a generation, if one did.
     #[tactic(auto, using(crate::proofs::ClosingSteps::found_at))]
     pub fn closed_at(&self, generation: u64) -> Option<u64>
