@@ -96,7 +96,7 @@ latest_same : (latest after commits : List Commit) → ((slot : ℕ) → kept_of
 latest_same latest after commits same h = record {
   is = λ main e. h.is main (ap (λ (c : Commit). c.main) (sym (same (slot_of main))) ∙ e) ∙ ap (λ (c : Commit). c.step) (sym (same (slot_of main)));
   most = All-weaker (λ (c : Commit). c.main ≤ (kept_of latest (slot_of c.main)).main) (λ (c : Commit). c.main ≤ (kept_of after (slot_of c.main)).main)
-  (λ c le. omega (arith, le, ap (λ (x : Commit). x.main) (same (slot_of c.main)))) commits h.most;
+      (λ c le. omega (arith, le, ap (λ (x : Commit). x.main) (same (slot_of c.main)))) commits h.most;
   least = λ slot bound all. omega (arith, h.least slot bound all, ap (λ (x : Commit). x.main) (same slot));
   begun = h.begun;
 }
@@ -134,7 +134,7 @@ latest_first : (latest commits : List Commit) (m : Ref) (s : ℕ) → AreLatest 
 latest_first latest commits m s h newest begun within none = record {
   is = λ q. is_by q (slot_of q == slot_of m) refl;
   most = All-push (λ (c : Commit). c.main ≤ (kept_of after (slot_of c.main)).main) commits now
-  (All-both commits h.most newest (λ c le new. most_by c le new (slot_of c.main == slot_of m) refl)) (omega (arith, ap (λ (c : Commit). c.main) here));
+      (All-both commits h.most newest (λ c le new. most_by c le new (slot_of c.main == slot_of m) refl)) (omega (arith, ap (λ (c : Commit). c.main) here));
   least = λ slot bound all. least_by slot bound all (slot == slot_of m) refl;
   begun = All-push (λ (c : Commit). 0 < c.step) commits now h.begun begun;
 }

@@ -11,12 +11,10 @@
 //! What the definition keeps for ever of commits and closings stands in lists that clauses alone see.
 #![tactic(auto)]
 
-
 mod chronicle;
 mod closings;
 mod commits;
 mod ordered;
-
 
 pub use chronicle::Chronicle;
 pub use commits::Commits;
