@@ -15,7 +15,7 @@ use crate::contents::content_of;
 use crate::denials::{denial_of, is_access};
 use crate::finding::value_of;
 use crate::handles::handles_taken;
-use crate::starting::{are_limits, first_parts, make_room_for};
+use crate::starting::{are_limits, first_parts};
 use crate::stepping::take_step;
 use ctrie_base::{Kind, Refusal};
 use history::{Access, Event, Pairs};
@@ -62,17 +62,6 @@ impl Core {
         }
         let parts = first_parts(alloc, limits)?;
         Ok(Core { parts, next_id: 0 })
-    }
-
-    /// The same, with the memory that the record of so many steps may take.
-    pub fn with_room(alloc: Global, limits: Limits, steps: usize) -> Result<Core, Refusal>
-        ensures made { IfOk result (λ core. core ≡ first_state limits) }
-        ensures refused { IfErr result (λ refusal. RefusesLimits limits refusal) }
-        ensures in_range { OnOk result (AreLimits limits) }
-    {
-        let mut core = Core::new(alloc, limits)?;
-        make_room_for(&mut core.parts, steps)?;
-        Ok(core)
     }
 
     /// Takes a step, or refuses it. After a refusal nothing has changed; `Memory` is the only one that the

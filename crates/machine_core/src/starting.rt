@@ -101,14 +101,3 @@ pub fn first_parts(alloc: Global, limits: Limits) -> Result<Parts, Refusal>
         alloc,
     })
 }
-
-/// Makes room for what so many steps may add to the history, to the places and to the commits. Nothing that is
-/// seen changes.
-pub fn make_room_for(parts: &mut Parts, steps: usize) -> Result<(), AllocError>
-    ensures same { seen parts.new ≡ seen parts.old }
-    ensures heap { parts.new.heap ≡ parts.old.heap }
-{
-    parts.events.reserve(steps)?;
-    parts.places.reserve(steps)?;
-    parts.commits.reserve(steps)
-}

@@ -65,20 +65,6 @@ impl Machine {
         })
     }
 
-    /// The same, with the memory that the record of so many steps may take: it needn't grow while they are
-    /// taken.
-    #[tactic(auto, unfolding(machine_model::specs::States::first_state, machine_model::specs::Machine::run_from))]
-    pub fn with_room(alloc: Global, limits: Limits, steps: usize) -> Result<Machine, Refusal>
-        ensures made { IfOk result (λ machine. machine ≡ fresh limits) }
-        ensures in_range { OnOk result (AreLimits limits) }
-        ensures refused { IfErr result (λ refusal. RefusesLimits limits refusal) }
-    {
-        Ok(Machine {
-            body: Core::with_room(alloc, limits, steps)?,
-            steps: Vec::with_capacity(alloc, steps)?,
-        })
-    }
-
     /// Takes a step. Where it is refused, for want of memory too, nothing has changed; `Memory` is answered
     /// only where nothing else denies the step. A reply `NoSlots` comes only where the actor's step before
     /// was to make a node, and no slot was free before it.
