@@ -1,5 +1,5 @@
 -- What the steps of a machine add to its record, for every list of steps.
-use Rattle.std.specs.Prelude.{◌≡◌, ℕ, ◌+◌, ◌<◌, ◌≤◌, true, List, All, length, Some}
+use Rattle.std.specs.Prelude.{◌≡◌, ℕ, suc, ◌+◌, ◌<◌, ◌≤◌, true, List, All, length, Some}
 use Rattle.proof_records.specs.Beneath.history.specs.Histories.{begun}
 use Rattle.proof_records.specs.Beneath.slot_arena.specs.declared.refs.Ref.{Ref}
 use Rattle.proof_records.specs.Beneath.slot_arena.specs.Refs.{slot_of}
@@ -7,12 +7,14 @@ use Rattle.proof_records.specs.Beneath.slot_arena.specs.declared.nodes.Prev.TheV
 use Rattle.proof_records.specs.Beneath.slot_arena.specs.Heaps.{prev_at}
 use Rattle.proof_records.specs.Beneath.machine_model.specs.declared.operations.Operation.{Operation}
 use Rattle.proof_records.specs.Beneath.machine_model.specs.declared.reading.SwapLine.{SwapLine}
+use Rattle.proof_records.specs.Beneath.machine_model.specs.declared.reading.SwapLine.TheVariants.{Publish}
 use Rattle.proof_records.specs.Beneath.machine_model.specs.declared.steps.Limits.{Limits}
 use Rattle.proof_records.specs.Beneath.machine_model.specs.declared.steps.Step.{Step}
 use Rattle.proof_records.specs.Beneath.machine_model.specs.States.{State, operation_of}
 use Rattle.proof_records.specs.Beneath.machine_model.specs.Orders.{committed_now, is_placed}
 use Rattle.proof_records.specs.Beneath.machine_model.specs.Acting.{entered, entered_by}
 use Rattle.proof_records.specs.Beneath.machine_model.specs.Machine.{AreLimits, run, next_state}
+use Rattle.proof_records.specs.Beneath.machine_model.specs.Times.{states_of, last_of}
 use Rattle.proof_records.specs.Beneath.proof_commits.specs.Laws.{IsInSwap, Owner}
 use Rattle.proof_records.specs.Beneath.proof_memory.specs.Laws.{IsInUse}
 
@@ -52,3 +54,19 @@ abbrev pub CommittedAreNewest : Type 0
 CommittedAreNewest =
     (limits : Limits) (steps : List Step) → AreLimits limits → (main : Ref) → IsInUse (run limits steps).heap main →
     All (λ commit. slot_of commit.main ≡ slot_of main → commit.main ≤ main) (run limits steps).commits
+
+-- what the actor who owns a pending node is about before the step
+pub data OwnsBy (before : State) (replaced main : Ref) (actor : ℕ) : Type 0 where
+  -- it owned the node
+  owned : {indirection : Ref} (was : Owner before indirection replaced main) → was.actor ≡ actor → prev_at before.heap main ≡ prev.Pending replaced → OwnsBy before replaced main actor
+  -- it swaps it in
+  swaps : {indirection : Ref} (operation : Operation) → operation_of before actor ≡ Some operation → IsInSwap operation indirection replaced main Publish →
+      prev_at before.heap main ≡ prev.None → OwnsBy before replaced main actor
+
+-- who stands in the SWAP of a node that is pending after a step swaps it in by this step, or owned it before
+abbrev pub OwnersStay : Type 0
+OwnersStay =
+    (limits : Limits) (steps : List Step) → AreLimits limits → (n : ℕ) → n < last_of limits steps → (main replaced : Ref) → IsInUse (states_of limits steps n).heap main →
+    IsInUse (states_of limits steps (suc n)).heap main → prev_at (states_of limits steps (suc n)).heap main ≡ prev.Pending replaced →
+    (actor : ℕ) (operation : Operation) (at before : Ref) (l : SwapLine) → operation_of (states_of limits steps (suc n)) actor ≡ Some operation →
+    IsInSwap operation at before main l → OwnsBy (states_of limits steps n) replaced main actor

@@ -1,6 +1,6 @@
 //! Laws of what the steps of a machine add to its record.
 
-ghost use Rattle.proof_records.specs.Laws.{CommittedAreNewest, IdsApart, OnePlaceAStep, OwnerEnters};
+ghost use Rattle.proof_records.specs.Laws.{CommittedAreNewest, IdsApart, OnePlaceAStep, OwnerEnters, OwnersStay};
 
 /// A law: a step adds at most one place to the order.
 pub fn one_place_a_step()
@@ -20,4 +20,10 @@ pub fn ids_apart()
 /// A law: no node that was committed in the slot of a node in use is newer than it.
 pub fn committed_are_newest()
     ensures { CommittedAreNewest }
+{}
+
+/// A law: who stands in the SWAP of a pending main node swaps it in by this step, or stood there before, when it was
+/// pending already.
+pub fn owners_stay()
+    ensures { OwnersStay }
 {}
