@@ -1,5 +1,5 @@
 -- How many places a step adds.
-use Rattle.std.proofs.Common.{◌≡◌, ℕ, ◌+◌, ◌≤◌, Bool, true, false, cond, List, [], ◌∷◌, ◌++◌, length, Option, Some, None, Result, Ok, Err, refl, sym, ap, ◌∙◌, subst, arith}
+use Rattle.std.proofs.Common.{◌≡◌, ℕ, ◌+◌, ◌≤◌, Bool, true, false, cond, List, [], ◌∷◌, ◌++◌, length, Option, Some, None, Ok, Err, refl, sym, ap, subst, arith}
 use Rattle.std.proofs.lemmas.List.{length-append}
 use Rattle.proof_records.specs.Beneath.history.specs.declared.calls.Call.{Call}
 use Rattle.proof_records.specs.Beneath.history.specs.declared.calls.Call.TheVariants.{Close}
@@ -15,9 +15,9 @@ use Rattle.proof_records.specs.Beneath.machine_model.specs.declared.roots.Descri
 use Rattle.proof_records.specs.Beneath.machine_model.specs.declared.roots.RootWord.TheVariants.{Plain}
 use Rattle.proof_records.specs.Beneath.machine_model.specs.declared.steps.Outcome.{Outcome}
 use Rattle.proof_records.specs.Beneath.machine_model.specs.declared.steps.Step.{Step}
-use Rattle.proof_records.specs.Beneath.machine_model.specs.Acting.{acted, carried_out, entered, entered_at_end, entered_by, if_changed, swaps_in}
+use Rattle.proof_records.specs.Beneath.machine_model.specs.Acting.{acted, carried_out, entered, entered_at_end, if_changed, swaps_in}
 use Rattle.proof_records.specs.Beneath.machine_model.specs.Calls.{handle_of}
-use Rattle.proof_records.specs.Beneath.machine_model.specs.Machine.{Answer, run, next, next_state, state_after, with_begin}
+use Rattle.proof_records.specs.Beneath.machine_model.specs.Machine.{Answer, run, next, state_after, with_begin}
 use Rattle.proof_records.specs.Beneath.machine_model.specs.Moves.{Moves, MovesIfTaken, Begins, Ends, Goes, Sweeps, begun_operation}
 use Rattle.proof_records.specs.Beneath.machine_model.specs.Operations.{action_of}
 use Rattle.proof_records.specs.Beneath.machine_model.specs.Orders.{committed_now, is_placed, place_of}

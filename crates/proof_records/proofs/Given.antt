@@ -1,5 +1,5 @@
 -- Which ids were given.
-use Rattle.std.proofs.Common.{◌≡◌, ℕ, zero, suc, ◌<◌, true, List, Some, None, sym, ap, ◌∙◌, subst, arith}
+use Rattle.std.proofs.Common.{◌≡◌, ℕ, zero, suc, ◌<◌, true, List, Some, ap, subst, arith}
 use Rattle.std.proofs.lemmas.Option.{none-some}
 use Rattle.proof_records.specs.Beneath.history.specs.Histories.{begun}
 use Rattle.proof_records.specs.Beneath.machine_model.specs.declared.operations.Operation.{Operation}
@@ -14,7 +14,7 @@ use Rattle.proof_records.specs.Beneath.machine_model.proofs.Times.{run_is, run_e
 use Rattle.proof_records.specs.Beneath.proof_generations.proofs.Handles.Ids.{HasIds, ids_after, ids_at_first}
 use Rattle.proof_order.proofs.History.Growing.{placed}
 use Rattle.proof_order.proofs.History.HaveBegun.{places_below}
-use Rattle.proof_records.specs.Laws.{HaveIds, IdsApart}
+use Rattle.proof_records.specs.Laws.{IdsApart}
 
 ids : (limits : Limits) (steps : List Step) → HasIds (run limits steps)
 ids limits = along limits HasIds (ids_at_first limits) (λ steps s o after m h. ids_after (run limits steps) s o after m h)

@@ -1,5 +1,5 @@
 -- Nodes in use are the newest of their slots.
-use Rattle.std.proofs.Common.{◌≡◌, ℕ, ◌+◌, ◌≤◌, inl, inr, List, [], ◌∷◌, ◌++◌, All, Option, Some, None, refl, sym, ap, ◌∙◌, subst, arith}
+use Rattle.std.proofs.Common.{◌≡◌, ℕ, ◌+◌, ◌≤◌, inl, inr, List, All, Option, Some, None, refl, sym, subst, arith}
 use Rattle.std.proofs.lemmas.List.Elements.{All-nil, All-push, All-weaker}
 use Rattle.proof_records.specs.Beneath.slot_arena.specs.declared.refs.Ref.{Ref}
 use Rattle.proof_records.specs.Beneath.slot_arena.specs.Refs.{slot_of, birth_of}

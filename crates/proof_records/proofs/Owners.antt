@@ -22,7 +22,7 @@ use Rattle.proof_records.specs.Beneath.proof_memory.proofs.Safety.AtEachTime.{sa
 use Rattle.proof_records.specs.Beneath.proof_memory.proofs.Safety.AtTimes.{action_finds}
 use Rattle.proof_records.specs.Beneath.proof_commits.proofs.Course.OfLists.{pending_has_owner}
 use Rattle.proof_records.specs.Beneath.proof_commits.proofs.Lines.Read.{was_pending}
-use Rattle.proof_records.specs.Laws.{EntersAlone, OwnerEnters}
+use Rattle.proof_records.specs.Laws.{OwnerEnters}
 use Rattle.proof_order.proofs.Phases.Commits.{Decides, line_decides}
 use Rattle.proof_shape.specs.Lines.Commits.{places_for}
 use Rattle.proof_shape.proofs.Commits.Entered.{enters_owner}

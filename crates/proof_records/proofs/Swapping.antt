@@ -1,5 +1,5 @@
 -- Who owns a pending node before and after a step.
-use Rattle.std.proofs.Common.{◌≡◌, ℕ, suc, ◌<◌, ◌≤◌, ◌⊎◌, inl, inr, List, Option, Some, refl, sym, ap, ◌∙◌, subst, arith}
+use Rattle.std.proofs.Common.{◌≡◌, ℕ, suc, ◌<◌, inl, inr, List, Some, refl, sym, ap, ◌∙◌, subst, arith}
 use Rattle.std.proofs.lemmas.Bool.{cases_eq}
 use Rattle.proof_records.specs.Beneath.slot_arena.specs.declared.refs.Ref.{Ref}
 use Rattle.proof_records.specs.Beneath.slot_arena.specs.declared.nodes.Prev.TheVariants as over
@@ -16,11 +16,9 @@ use Rattle.proof_records.specs.Beneath.machine_model.specs.Machine.{AreLimits}
 use Rattle.proof_records.specs.Beneath.machine_model.specs.Times.{states_of, last_of}
 use Rattle.proof_records.specs.Beneath.machine_model.proofs.Grown.{prev_grown}
 use Rattle.proof_records.specs.Beneath.machine_model.proofs.Times.{run_is}
-use Rattle.proof_records.specs.Beneath.proof_memory.specs.Laws.{IsInUse}
 use Rattle.proof_records.specs.Beneath.proof_commits.specs.Laws.{IsInSwap}
-use Rattle.proof_records.specs.Beneath.proof_commits.specs.Protocol.{Words, Stage, Rests, Reads, Builds, Publishes, Decides, Checks, Protocol, Turn, Acts, Passes, Moves, Idles, MakesNode, SwapsNode, ReadsOn, DecidesOn, after_read, after_deciding, IsFree, IsAtRest, MayHave}
+use Rattle.proof_records.specs.Beneath.proof_commits.specs.Protocol.{Words, Stage, Rests, Reads, Publishes, Decides, Checks, Protocol, Turn, Acts, Passes, Moves, Idles, MakesNode, SwapsNode, ReadsOn, DecidesOn, after_read, after_deciding, IsFree, IsAtRest, MayHave}
 use Rattle.proof_records.specs.Beneath.proof_commits.specs.Stages.{stage_of_actor}
-use Rattle.proof_records.specs.Beneath.proof_commits.specs.Words.{words_of}
 use Rattle.proof_records.specs.Beneath.proof_commits.proofs.Course.Finals.{effect}
 use Rattle.proof_records.specs.Beneath.proof_commits.proofs.Known.Acts.{known_run}
 use Rattle.proof_records.specs.Beneath.proof_commits.proofs.Known.Owners.{HasFresh, Owner, IsSound}
