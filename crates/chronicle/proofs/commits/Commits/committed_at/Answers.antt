@@ -1,4 +1,4 @@
-use Rattle.std.proofs.Common.{◌≡◌, ◌==◌, ◌∙◌, List, ap, subst, sym, if◌then◌else◌}
+use Rattle.std.proofs.Common.{◌==◌, ◌∙◌, List, ap, subst, sym, if◌then◌else◌}
 use Rattle.slot_arena.specs.Refs.{slot_of}
 use Rattle.machine_model.specs.declared.heaps.Commit.{Commit}
 use Rattle.chronicle.specs.Committed.{Committed, IsNewest, commit_step, kept_of}
