@@ -76,13 +76,14 @@ module _ (state : State) (I : IsSafe state) (s : Step) (o : Outcome) (after : St
       let at = used fresh refl in
       record {
         drawn = subst (All (λ (c : Commit). birth_of c.main ≤ after.heap.births)) (sym is)
-        (All-push (λ (c : Commit). birth_of c.main ≤ after.heap.births) state.commits (record { main = fresh; step = state.steps }) drawn_still (omega (arith, I.births fresh at.0 at.1, grows)));
+            (All-push (λ (c : Commit). birth_of c.main ≤ after.heap.births) state.commits (record { main = fresh; step = state.steps }) drawn_still (omega (arith, I.births fresh at.0 at.1, grows)));
         newest = λ main there. subst (All (IsBehind main)) (sym is)
-        (All-push (IsBehind main) state.commits (record { main = fresh; step = state.steps }) (behind_still main there) (λ same. behind_now fresh main at there same));
+            (All-push (IsBehind main) state.commits (record { main = fresh; step = state.steps }) (behind_still main there) (λ same. behind_now fresh main at there same));
       }
 
 -- a step commits what is in use
-commits_used : (state : State) → IsSafe state → (actor : ℕ) (operation : Operation) (fresh : Ref) → operation_of state actor ≡ Some operation → committed_now state operation ≡ Some fresh → IsInUse state.heap fresh
+commits_used : (state : State) → IsSafe state → (actor : ℕ) (operation : Operation) (fresh : Ref) → operation_of state actor ≡ Some operation →
+    committed_now state operation ≡ Some fresh → IsInUse state.heap fresh
 commits_used state I actor operation fresh runs commits =
     decided_used state (action_of state operation) fresh (line_decides state operation fresh operation.line commits) (action_finds state I actor operation runs)
 

@@ -17,7 +17,8 @@ use Rattle.proof_records.specs.Beneath.machine_model.specs.Times.{states_of, las
 use Rattle.proof_records.specs.Beneath.machine_model.proofs.Grown.{prev_grown}
 use Rattle.proof_records.specs.Beneath.machine_model.proofs.Times.{run_is}
 use Rattle.proof_records.specs.Beneath.proof_commits.specs.Laws.{IsInSwap}
-use Rattle.proof_records.specs.Beneath.proof_commits.specs.Protocol.{Words, Stage, Rests, Reads, Publishes, Decides, Checks, Protocol, Turn, Acts, Passes, Moves, Idles, MakesNode, SwapsNode, ReadsOn, DecidesOn, after_read, after_deciding, IsFree, IsAtRest, MayHave}
+use Rattle.proof_records.specs.Beneath.proof_commits.specs.Protocol.{Words, Stage, Rests, Reads, Publishes, Decides, Checks, Protocol, Turn, Acts, Passes}
+use Rattle.proof_records.specs.Beneath.proof_commits.specs.Protocol.{Moves, Idles, MakesNode, SwapsNode, ReadsOn, DecidesOn, after_read, after_deciding, IsFree, IsAtRest, MayHave}
 use Rattle.proof_records.specs.Beneath.proof_commits.specs.Stages.{stage_of_actor}
 use Rattle.proof_records.specs.Beneath.proof_commits.proofs.Course.Finals.{effect}
 use Rattle.proof_records.specs.Beneath.proof_commits.proofs.Known.Acts.{known_run}
