@@ -31,7 +31,8 @@ thread_report_told None old new path written = tt
 thread_report_told (Some text) old new path (bytes, is, grown) = (bytes, is, grown)
 
 -- what explains the verdict was written, or the picture
-pub explanation_told : (known old new : Option (List ℕ)) (legal : Bool) (path : _) → IfSome known (λ text. IsVerdict text legal) → IfSome known (λ text. AppendsSuch (IsExplanation text legal) old new) →
+pub explanation_told : (known old new : Option (List ℕ)) (legal : Bool) (path : _) → IfSome known (λ text. IsVerdict text legal)
+    → IfSome known (λ text. AppendsSuch (IsExplanation text legal) old new) →
     IfSome known (λ text. AppendsSuch (Tells (Explain path) text (judged legal)) old new)
 explanation_told None old new legal path is written = tt
 explanation_told (Some text) old new true path is (bytes, told, grown) = (bytes, (is, told), grown)

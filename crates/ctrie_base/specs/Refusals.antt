@@ -1,7 +1,8 @@
 -- The numbers and names of refusals, as reports and messages spell them.
 use Rattle.std.specs.Prelude.{ℕ, List, codes}
 use Rattle.ctrie_base.specs.declared.refusals.Refusal.{Refusal}
-use Rattle.ctrie_base.specs.declared.refusals.Refusal.TheVariants.{NoHandle, ReadOnly, NotReadOnly, HandlesFull, Busy, ActorBusy, NoActor, Idle, Spent, NoSlots, Memory, BadLimits, BadLine, BadNumber, BadHeader, TooLong, BadOrder}
+use Rattle.ctrie_base.specs.declared.refusals.Refusal.TheVariants.{NoHandle, ReadOnly, NotReadOnly, HandlesFull, Busy, ActorBusy, NoActor, Idle, Spent, NoSlots}
+use Rattle.ctrie_base.specs.declared.refusals.Refusal.TheVariants.{Memory, BadLimits, BadLine, BadNumber, BadHeader, TooLong, BadOrder}
 
 -- a refusal's number
 abbrev pub number_of : Refusal → ℕ

@@ -1,5 +1,6 @@
 -- The report of what threads made of a script is never too long to be read: a line tells two at most, and each actor has at most one operation that wasn't answered.
-use Rattle.std.proofs.Common.{◌≡◌, ℕ, zero, suc, ◌+◌, ◌*◌, ◌<◌, ◌≤◌, ◌==◌, inl, inr, Bool, true, false, List, [], ◌∷◌, length, Option, Some, Ok, refl, sym, ap, subst, ◌∙◌, length-append, if◌then◌else◌, ne_eqb, arith}
+use Rattle.std.proofs.Common.{◌≡◌, ℕ, zero, suc, ◌+◌, ◌*◌, ◌<◌, ◌≤◌, ◌==◌, inl, inr, Bool, true, false, List, [], ◌∷◌, length, Option}
+use Rattle.std.proofs.Common.{Some, Ok, refl, sym, ap, subst, ◌∙◌, length-append, if◌then◌else◌, ne_eqb, arith}
 use Rattle.std.specs.Prelude.{Result, Err, IfOk, slice_get, sum_by, cond}
 use Rattle.std.specs.Io.KnownBytes.{Appends}
 use Rattle.std.proofs.lemmas.Bool.{cases_eq}
@@ -53,7 +54,8 @@ one_owner (suc n) from owner call = elim (cases_eq owner from) [
       omega (arith, none, named_or_not (owner == zero + from) call)
   | inr other ↦
       let first = other_owner owner (zero + from) call (λ e. other (omega (arith, e))) in
-      let more = total_least n (λ k. named_at (Do owner call) from (suc k)) (named_at (Do owner call) (from + 1)) (λ k below. let e : suc k + from ≡ k + (from + 1) = omega arith in omega (arith, ap (λ a. length (calls_in a (Do owner call))) e)) in
+      let more = total_least n (λ k. named_at (Do owner call) from (suc k)) (named_at (Do owner call) (from + 1))
+          (λ k below. let e : suc k + from ≡ k + (from + 1) = omega arith in omega (arith, ap (λ a. length (calls_in a (Do owner call))) e)) in
       omega (arith, first, more, one_owner n (from + 1) owner call)
 ]
 

@@ -7,7 +7,8 @@ use Rattle.std.proofs.lemmas.List.Concat.{flat_map-cons}
 use Rattle.std.specs.Prelude.{codes}
 use Rattle.ctrie_base.specs.declared.hashes.HashKind.{HashKind}
 use Rattle.ctrie_base.specs.declared.refusals.Refusal.{Refusal}
-use Rattle.ctrie_base.specs.declared.refusals.Refusal.TheVariants.{NoHandle, ReadOnly, NotReadOnly, HandlesFull, Busy, ActorBusy, NoActor, Idle, Spent, NoSlots, Memory, BadLimits, BadLine, BadNumber, BadHeader, TooLong, BadOrder}
+use Rattle.ctrie_base.specs.declared.refusals.Refusal.TheVariants.{NoHandle, ReadOnly, NotReadOnly, HandlesFull, Busy, ActorBusy, NoActor, Idle, Spent, NoSlots}
+use Rattle.ctrie_base.specs.declared.refusals.Refusal.TheVariants.{Memory, BadLimits, BadLine, BadNumber, BadHeader, TooLong, BadOrder}
 use Rattle.ctrie_base.specs.Refusals.{number_of, name_of}
 use Rattle.history.specs.declared.events.Event.{Event}
 use Rattle.text_lines.specs.Words.{spaced}

@@ -1,15 +1,17 @@
 -- A new map.
-use Rattle.std.specs.Prelude.{◌≡◌, ℕ, false, not, []}
+use Rattle.std.specs.Prelude.{◌≡◌, ◌+◌, ◌≤◌, ℕ, zero, suc, length, false, not, []}
 use Rattle.std.proofs.Common.{refl, sym, ap, subst, inl, inr, arith, ◌∙◌}
 use Rattle.std.proofs.lemmas.Bool.{false≢true}
+use Rattle.std.proofs.lemmas.List.FromFn.{length-range_with_len}
 use Rattle.ctrie_base.specs.declared.hashes.HashKind.{HashKind}
 use Rattle.ctrie_base.specs.declared.refusals.Refusal.{Refusal}
 use Rattle.machine_model.specs.declared.steps.Limits.{Limits}
 use Rattle.machine_model.specs.Machine.{AreLimits, is_busy, run_from}
 use Rattle.machine_model.specs.Refusing.{RefusesLimits}
-use Rattle.machine_model.specs.States.{first_state}
+use Rattle.machine_model.specs.States.{first_heap, first_state}
 use Rattle.map_worlds.specs.Worlds.{world_of}
 use Rattle.map_worlds.proofs.First.{first_is_shown}
+use Rattle.step_machine.specs.Beneath.slot_arena.specs.Heaps.{taken}
 use Rattle.step_machine.specs.Machines.{Taken, fresh, state_of}
 use Rattle.ctrie_map.specs.declared.errors.MapError.{MapError}
 use Rattle.ctrie_map.specs.Machines.{IsForOne, state_by, swept_out}
@@ -17,6 +19,13 @@ use Rattle.ctrie_map.specs.Maps.{IsNew, RefusesSizes}
 use Rattle.ctrie_map.specs.Performing.{of_refusal}
 use Rattle.ctrie_map.proofs.Finishing.{finished_at_rest}
 use Rattle.ctrie_map.proofs.Sweeping.{out_when_clean}
+
+-- the first state takes two slots
+free_first : (slots : ℕ) → 2 ≤ slots → length (first_heap slots).free + 2 ≡ slots
+unfolding taken
+free_first zero low = absurd (omega (arith, low))
+free_first (suc zero) low = absurd (omega (arith, low))
+free_first (suc (suc n)) low = let left = length-range_with_len 2 n in omega (arith, left)
 
 module _ (slots : ℕ) (hash : HashKind) where
   abbrev sizes : Limits
@@ -30,6 +39,10 @@ module _ (slots : ℕ) (hash : HashKind) where
   unfolding run_from first_state
   clean = refl
 
+  free : (state_of (fresh sizes)).heap.free ≡ (first_heap slots).free
+  unfolding run_from first_state
+  free = refl
+
   young : (state_of (fresh sizes)).steps ≡ 0
   unfolding run_from first_state
   young = refl
@@ -42,6 +55,8 @@ module _ (slots : ℕ) (hash : HashKind) where
         ap (λ m. world_of (state_of m)) (finished_at_rest (fresh sizes) idle) ∙ first_is_shown sizes ok,
         ap (λ m. (state_of m).steps) (ap swept_out (finished_at_rest (fresh sizes) idle) ∙ out_when_clean (fresh sizes) clean) ∙ young,
         ap not idle,
+        ap (λ m. length (state_of m).heap.free + 2) (ap swept_out (finished_at_rest (fresh sizes) idle) ∙ out_when_clean (fresh sizes) clean)
+            ∙ ap (λ l. length l + 2) free ∙ free_first slots ok.0,
       )
 
   pub for_one : (machine : Taken) → machine ≡ fresh sizes → IsForOne machine

@@ -1,6 +1,7 @@
 pub mod Going
 pub mod Finishing
 pub mod Sweeping
+pub mod Unreached
 pub mod Denying
 pub mod Carrying
 pub mod Composing

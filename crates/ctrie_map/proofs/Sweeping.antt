@@ -48,7 +48,7 @@ not_empty : {A : Type 0} (xs : List A) → (xs ≡ [] → ⊥) → is_empty xs �
 not_empty [] some = absurd (some refl)
 not_empty (x ∷ xs) some = refl
 
-step_by : (machine : Taken) (answer : Answer) → next (state_of machine) Sweep ≡ answer → is_taken_step answer ≡ true → Stepped (Ok tt) machine Sweep (with_step machine Sweep)
+pub step_by : (machine : Taken) (answer : Answer) → next (state_of machine) Sweep ≡ answer → is_taken_step answer ≡ true → Stepped (Ok tt) machine Sweep (with_step machine Sweep)
 step_by machine (Ok (o, state)) e taken = (o, (refl, e ∙ ap (λ s. Ok (o, s)) (sym (stepped machine Sweep o state e))))
 step_by machine (Err why) e taken = absurd (false≢true taken)
 
@@ -94,7 +94,7 @@ worn_when_spent machine rest spent =
 
 -- ---- all of it
 
-leaves : SweepLeaves
+pub leaves : SweepLeaves
 leaves limits steps ok = sweep_leaves (run limits steps) (safe_along limits ok steps)
 
 pub record Sweeps (result : Result (Unit {0}) Refusal) (before after : Taken) : Type 0 where

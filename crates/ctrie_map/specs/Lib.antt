@@ -6,3 +6,4 @@ pub mod Reading
 pub mod Changes
 pub mod Performing
 pub mod Telling
+pub mod Laws

@@ -1,5 +1,5 @@
 -- What contracts see of a map.
-use Rattle.std.specs.Prelude.{◌≡◌, ◌⊎◌, ◌≤◌, ℕ, Bool, true}
+use Rattle.std.specs.Prelude.{◌≡◌, ◌⊎◌, ◌+◌, ◌≤◌, ℕ, Bool, true}
 use Rattle.ctrie_base.specs.declared.hashes.HashKind.{HashKind}
 use Rattle.history.specs.Worlds.{HandleMap, first_world}
 use Rattle.ctrie_map.specs.declared.errors.MapError.{MapError}
@@ -27,9 +27,11 @@ Becomes before handles after = (after.hash ≡ before.hash) × (after.slots ≡ 
 abbrev pub Stays : MapState → MapState → Type 0
 Stays before after = Becomes before before.handles after × (before.is_finished ≡ true → after.is_finished ≡ true)
 
--- a new map: handle 0 is open, writable and empty
+-- a new map: handle 0 is open, writable and empty, and takes two slots
 abbrev pub IsNew : ℕ → HashKind → MapState → Type 0
-IsNew slots hash made = (made.hash ≡ hash) × (made.slots ≡ slots) × (made.handles ≡ first_world) × (made.age ≡ 0) × (made.is_finished ≡ true)
+IsNew slots hash made =
+    (made.hash ≡ hash) × (made.slots ≡ slots) × (made.handles ≡ first_world) × (made.age ≡ 0) × (made.is_finished ≡ true)
+    × (made.free + 2 ≡ slots)
 
 abbrev pub AreSlots : ℕ → Type 0
 AreSlots slots = (2 ≤ slots) × (slots ≤ 65536)

@@ -10,6 +10,7 @@ use Rattle.slot_arena.specs.Tallies.{naming, AreMarks}
 use Rattle.slot_arena.proofs.Times.{bit, once, once_same, once_other, times-cons, times-append}
 use Rattle.slot_arena.proofs.Namings.{naming-cons}
 use Rattle.epochs.specs.Rings.{around, IsRing}
+use Rattle.epochs.proofs.InUse.{bit_small}
 use Rattle.epochs.proofs.Joins.{AreOnce, once_apart, others, others_same, others_other}
 use Rattle.slot_arena.proofs.Marks.{noted_marked}
 
@@ -125,17 +126,13 @@ marks_left ns marks k are some = (each, all)
     all : length (others k ns) ≡ count_by (λ mark. mark) (set marks k false)
     all = omega (arith, length-others k ns, are.0 k, are.1, sum_by-set (λ mark. cond mark 1 0) marks k false false within)
 
-small_bit : (x : Bool) → bit x ≤ 1
-small_bit true = omega arith
-small_bit false = omega arith
-
 module _ (next back : List ℕ) (marks : List Bool) (size first second third len : ℕ) (a b c : List Ref) (ring : IsRing next back marks size first second third len a b c) where
   -- members are slots, each once
   pub member_below : (k : ℕ) → 0 < times k (map slot_of (a ++ b ++ c)) → k < size
   member_below k some = let is = ring.marks_size in omega (arith, marks_within (map slot_of (a ++ b ++ c)) marks k ring.marked some)
 
   pub member_once : (k : ℕ) → times k (map slot_of (a ++ b ++ c)) ≤ 1
-  member_once k = omega (arith, ring.marked.0 k, small_bit (get_or marks k false))
+  member_once k = omega (arith, ring.marked.0 k, bit_small (get_or marks k false))
 
   not_member : (k : ℕ) → size ≤ k → times k (map slot_of (a ++ b ++ c)) ≡ 0
   not_member k behind = elim (cases_lt 0 (times k (map slot_of (a ++ b ++ c)))) [ inl some ↦ let below = member_below k some in absurd (omega arith) | inr none ↦ omega arith ]
@@ -172,7 +169,8 @@ module _ (next back : List ℕ) (marks : List Bool) (size first second third len
       by_second (inr other) behind f = by_third (cases_eq i third) behind f other
 
       by_first : (i ≡ first) ⊎ (i ≡ first → ⊥) → size ≤ i → times i (first ∷ around a second b third c) ≤ 1
-      by_first (inl same) behind = sum 1 0 0 (not_member i behind) (bit_of first same) (once_other i second (λ e. ring.first_second (sym same ∙ e))) (once_other i third (λ e. ring.third_first (sym e ∙ same))) (omega arith)
+      by_first (inl same) behind = sum 1 0 0 (not_member i behind) (bit_of first same) (once_other i second (λ e. ring.first_second (sym same ∙ e)))
+          (once_other i third (λ e. ring.third_first (sym e ∙ same))) (omega arith)
       by_first (inr other) behind = by_second (cases_eq i second) behind other
 
   pub first_outside : times first (around a second b third c) ≡ 0
@@ -188,7 +186,15 @@ module _ (next back : List ℕ) (marks : List Bool) (size first second third len
       by_third : (i ≡ third) ⊎ (i ≡ third → ⊥) → size ≤ i → (i ≡ first → ⊥) → (i ≡ second → ⊥) → i < size + 3
       by_third (inl same) behind f s = let is = ring.third_behind in omega arith
       by_third (inr other) behind f s =
-          absurd (omega (arith, times-cons i first (around a second b third c), times-around i a second b third c, not_member i behind, once_other i first f, once_other i second s, once_other i third other))
+          absurd (omega (
+            arith,
+            times-cons i first (around a second b third c),
+            times-around i a second b third c,
+            not_member i behind,
+            once_other i first f,
+            once_other i second s,
+            once_other i third other,
+          ))
 
       by_second : (i ≡ second) ⊎ (i ≡ second → ⊥) → size ≤ i → (i ≡ first → ⊥) → i < size + 3
       by_second (inl same) behind f = let is = ring.second_behind in omega arith

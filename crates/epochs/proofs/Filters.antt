@@ -13,7 +13,16 @@ use Rattle.slot_arena.proofs.Namings.{naming-cons}
 pub times-le-naming : (r : Ref) (rs : List Ref) → times r rs ≤ naming (slot_of r) rs
 times-le-naming r [] = omega arith
 times-le-naming r (q ∷ rs) = elim (cases_eq r q) [
-  | inl same ↦ omega (arith, times-cons r q rs, naming-cons (slot_of r) q rs, times-le-naming r rs, ap (once (slot_of r)) (ap slot_of (sym same)), once_same (slot_of r), ap (once r) (sym same), once_same r)
+  | inl same ↦ omega (
+    arith,
+    times-cons r q rs,
+    naming-cons (slot_of r) q rs,
+    times-le-naming r rs,
+    ap (once (slot_of r)) (ap slot_of (sym same)),
+    once_same (slot_of r),
+    ap (once r) (sym same),
+    once_same r,
+  )
   | inr other ↦ omega (arith, times-cons r q rs, naming-cons (slot_of r) q rs, times-le-naming r rs, once_other r q other)
 ]
 

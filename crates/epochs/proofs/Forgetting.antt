@@ -1,6 +1,7 @@
 -- What limbo after a step doesn't depend on.
-use Rattle.std.proofs.Common.{◌≡◌, ℕ, ◌<◌, ◌≤◌, ◌^◌, ◌==◌, ◌&&◌, ◌||◌, not, nat_lt, Bool, false, cond, List, [], ◌∷◌, ◌++◌, length, map, get_or, set, filter, Option, None, refl, ap, ◌∙◌, inl, inr, arith}
-use Rattle.std.proofs.lemmas.Bool.{cases_lt}
+use Rattle.std.proofs.Common.{◌≡◌, ℕ, ◌<◌, ◌≤◌, ◌^◌, ◌==◌, ◌&&◌, ◌||◌, not, nat_lt, Bool, false, cond, List, [], ◌∷◌, ◌++◌}
+use Rattle.std.proofs.Common.{length, map, get_or, set, filter, Option, None, refl, ap, ◌∙◌, inl, inr, arith}
+use Rattle.std.proofs.lemmas.Bool.{cases_lt, ne_eqb}
 use Rattle.std.proofs.lemmas.List.{get_or_past, get_or-set_same, length-set}
 use Rattle.slot_arena.specs.declared.refs.Ref.{Ref}
 use Rattle.slot_arena.specs.declared.nodes.Slot.{Slot}
@@ -17,7 +18,6 @@ use Rattle.epochs.specs.declared.limbo.Zeroed.{Zeroed}
 use Rattle.epochs.specs.Limbo.{is_zero, is_in, is_in_use, newly_zero, by_birth}
 use Rattle.epochs.specs.Memories.{staying}
 use Rattle.epochs.specs.Laws.{AreAlike, FreedLeaves, CountsAlone}
-use Rattle.epochs.proofs.Joins.{neq-eqb}
 use Rattle.epochs.proofs.Filters.{filter_same}
 use Rattle.epochs.proofs.Listing.{all_members, length-freed}
 use Rattle.epochs.proofs.InUse.{times-in_use}
@@ -70,7 +70,7 @@ module _ (heap : Heap) (outside : List Ref) (epoch : ℕ) (entry : Zeroed) (limb
   same_new : newly_zero now outside (entry ∷ limbo) ≡ newly_zero now outside limbo
   same_new =
       ap by_birth (filter_same (λ r. 0 < times r (in_use now)) (λ r. is_zero now outside r && not (is_in (entry ∷ limbo) r)) (λ r. is_zero now outside r && not (is_in limbo r))
-      (λ r some. ap (λ b. is_zero now outside r && not (b || is_in limbo r)) (neq-eqb entry.at r (λ same. absurd (omega (arith, gone, ap (λ q. times q (in_use now)) same)))))
+      (λ r some. ap (λ b. is_zero now outside r && not (b || is_in limbo r)) (ne_eqb entry.at r (λ same. absurd (omega (arith, gone, ap (λ q. times q (in_use now)) same)))))
       (in_use now) (all_members (in_use now)))
 
 pub freed_leaves : FreedLeaves

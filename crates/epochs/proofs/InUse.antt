@@ -1,6 +1,6 @@
 -- The references to slots in use.
 use Rattle.std.proofs.Common.{◌≡◌, ℕ, zero, suc, ◌+◌, ◌<◌, ◌≤◌, ◌^◌, ◌==◌, Bool, true, false, List, [], ◌∷◌, length, get_or, Option, Some, None, refl, sym, ap, ◌∙◌, inl, inr, arith, eq-eqb}
-use Rattle.std.proofs.lemmas.Bool.{cases_eq}
+use Rattle.std.proofs.lemmas.Bool.{cases_eq, ne_eqb}
 use Rattle.slot_arena.specs.declared.refs.Ref.{Ref}
 use Rattle.slot_arena.specs.declared.nodes.Slot.{Slot}
 use Rattle.slot_arena.specs.Refs.{ref_to, slot_of, birth_of}
@@ -11,7 +11,6 @@ use Rattle.slot_arena.specs.Kept.{live}
 use Rattle.slot_arena.proofs.Times.{bit, once, once_same, once_other, times-cons}
 use Rattle.slot_arena.proofs.Live.{slot_of_ref, birth_of_ref, same_ref}
 use Rattle.slot_arena.proofs.Reading.{live_seen, live_shown}
-use Rattle.epochs.proofs.Joins.{neq-eqb}
 
 once_named : (n birth : ℕ) (r : Ref) → n < 2 ^ 16 → slot_of r ≡ n → once r (ref_to birth n) ≡ bit (birth == birth_of r)
 once_named n birth r small same = elim (cases_eq birth (birth_of r)) [
@@ -19,7 +18,7 @@ once_named n birth r small same = elim (cases_eq birth (birth_of r)) [
       let is : r ≡ ref_to birth n = same_ref r (ref_to birth n) (same ∙ sym (slot_of_ref birth n small)) (sym at ∙ sym (birth_of_ref birth n small)) in
       ap (once r) (sym is) ∙ once_same r ∙ sym (ap bit (eq-eqb birth (birth_of r) at))
   | inr other ↦
-      once_other r (ref_to birth n) (λ is. other (sym (ap birth_of is ∙ birth_of_ref birth n small))) ∙ sym (ap bit (neq-eqb birth (birth_of r) other))
+      once_other r (ref_to birth n) (λ is. other (sym (ap birth_of is ∙ birth_of_ref birth n small))) ∙ sym (ap bit (ne_eqb birth (birth_of r) other))
 ]
 
 -- how often a reference stands among those from the slot n on

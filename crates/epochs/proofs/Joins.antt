@@ -1,6 +1,6 @@
 -- Links forward and back under writes.
 use Rattle.std.proofs.Common.{◌≡◌, ℕ, ◌<◌, ◌≤◌, ◌==◌, not, false, cond, List, [], ◌∷◌, ◌++◌, length, set, filter, slice_index, refl, sym, ap, ◌∙◌, subst, ◌⊎◌, inl, inr, arith, eq-eqb, eqb-true}
-use Rattle.std.proofs.lemmas.Bool.{cases_eq, cases_Bool}
+use Rattle.std.proofs.lemmas.Bool.{cases_eq, cases_Bool, ne_eqb}
 use Rattle.std.proofs.lemmas.List.{get_or-set_same, get_or-set_other, length-set}
 use Rattle.slot_arena.specs.Times.{times}
 use Rattle.slot_arena.proofs.Times.{once_same, once_other, times-cons}
@@ -57,7 +57,8 @@ pub once_apart : (n : ℕ) (ns : List ℕ) → AreOnce (n ∷ ns) → times n ns
 once_apart n ns each = omega (arith, each n, times-cons n n ns, once_same n)
 
 -- one more at the end
-pub entered : (next back : List ℕ) (from : ℕ) (ns : List ℕ) (to p x : ℕ) → Joined next back from ns to → p ≡ slice_index back to → AreOnce (from ∷ ns) → times x (from ∷ ns) ≡ 0 → (x ≡ to → ⊥) → times to ns ≡ 0 →
+pub entered : (next back : List ℕ) (from : ℕ) (ns : List ℕ) (to p x : ℕ) → Joined next back from ns to → p ≡ slice_index back to → AreOnce (from ∷ ns) → times x (from ∷ ns) ≡ 0
+    → (x ≡ to → ⊥) → times to ns ≡ 0 →
     p < length next → x < length next → x < length back → to < length back → Joined (set (set next p x) x to) (set (set back x p) to x) from (ns ++ x ∷ []) to
 entered next back from [] to p x (there, here) is each apart ends outside pn xn xb tb =
     let at : p ≡ from = is ∙ here in
@@ -83,21 +84,19 @@ entered next back from (n ∷ ns) to p x (there, here, later) is each apart ends
 abbrev pub others : ℕ → List ℕ → List ℕ
 others x ns = filter (λ n. not (n == x)) ns
 
-pub neq-eqb : (n x : ℕ) → (n ≡ x → ⊥) → (n == x) ≡ false
-neq-eqb n x other = elim (cases_Bool (n == x)) [ inl same ↦ absurd (other (eqb-true n x same)) | inr apart ↦ apart ]
-
 pub others_same : (x n : ℕ) (ns : List ℕ) → n ≡ x → others x (n ∷ ns) ≡ others x ns
 others_same x n ns same = ap (λ b. cond (not b) (n ∷ others x ns) (others x ns)) (eq-eqb n x same)
 
 pub others_other : (x n : ℕ) (ns : List ℕ) → (n ≡ x → ⊥) → others x (n ∷ ns) ≡ n ∷ others x ns
-others_other x n ns other = ap (λ b. cond (not b) (n ∷ others x ns) (others x ns)) (neq-eqb n x other)
+others_other x n ns other = ap (λ b. cond (not b) (n ∷ others x ns) (others x ns)) (ne_eqb n x other)
 
 pub others_none : (x : ℕ) (ns : List ℕ) → times x ns ≡ 0 → others x ns ≡ ns
 others_none x [] none = refl
 others_none x (n ∷ ns) none = others_other x n ns (λ same. not_first x n ns none (sym same)) ∙ ap (λ ms. n ∷ ms) (others_none x ns (not_later x n ns none))
 
 -- one less, from the start
-left_first : (next back : List ℕ) (from : ℕ) (ns : List ℕ) (to x p q : ℕ) → Joined next back from (x ∷ ns) to → p ≡ slice_index back x → q ≡ slice_index next x → AreOnce (from ∷ x ∷ ns) → times to (x ∷ ns) ≡ 0 →
+left_first : (next back : List ℕ) (from : ℕ) (ns : List ℕ) (to x p q : ℕ) → Joined next back from (x ∷ ns) to → p ≡ slice_index back x → q ≡ slice_index next x → AreOnce (from ∷ x ∷ ns)
+    → times to (x ∷ ns) ≡ 0 →
     p < length next → q < length back → Joined (set next p q) (set back q p) from ns to
 left_first next back from [] to x p q (there, here, (end, start)) is_p is_q each outside pn qb =
     let at_p : p ≡ from = is_p ∙ here in
@@ -114,7 +113,8 @@ left_first next back from (n ∷ ns) to x p q (there, here, (end, start, later))
           (back_apart next back n ns to q p later apart_q (λ same. not_first to n ns (not_later to x (n ∷ ns) outside) (sym same ∙ at_q))) apart_p,
     )
 
-pub left : (next back : List ℕ) (from : ℕ) (ns : List ℕ) (to x p q : ℕ) → Joined next back from ns to → p ≡ slice_index back x → q ≡ slice_index next x → AreOnce (from ∷ ns) → times to ns ≡ 0 → 0 < times x ns →
+pub left : (next back : List ℕ) (from : ℕ) (ns : List ℕ) (to x p q : ℕ) → Joined next back from ns to → p ≡ slice_index back x → q ≡ slice_index next x → AreOnce (from ∷ ns)
+    → times to ns ≡ 0 → 0 < times x ns →
     p < length next → q < length back → Joined (set next p q) (set back q p) from (others x ns) to
 left next back from [] to x p q joined is_p is_q each outside some pn qb = absurd (omega arith)
 left next back from (n ∷ ns) to x p q joined is_p is_q each outside some pn qb = elim (cases_eq n x) [

@@ -9,7 +9,8 @@ use Rattle.slot_arena.proofs.Times.{once_same, once_other, times-cons}
 use Rattle.slot_arena.proofs.Namings.{naming-cons}
 use Rattle.epochs.proofs.InUse.{bit_small}
 
-member_step : (k : ℕ) (r : Ref) (rs : List Ref) → (slot_of r ≡ k) ⊎ (slot_of r ≡ k → ⊥) → (0 < naming k rs → (q : Ref) × (0 < times q rs) × (slot_of q ≡ k)) → 0 < naming k (r ∷ rs) → (q : Ref) × (0 < times q (r ∷ rs)) × (slot_of q ≡ k)
+member_step : (k : ℕ) (r : Ref) (rs : List Ref) → (slot_of r ≡ k) ⊎ (slot_of r ≡ k → ⊥) → (0 < naming k rs → (q : Ref) × (0 < times q rs) × (slot_of q ≡ k)) → 0 < naming k (r ∷ rs)
+    → (q : Ref) × (0 < times q (r ∷ rs)) × (slot_of q ≡ k)
 member_step k r rs (inl same) rest some = (r, omega (arith, times-cons r r rs, once_same r), same)
 member_step k r rs (inr other) rest some =
     let found = rest (omega (arith, some, naming-cons k r rs, once_other k (slot_of r) (λ e. other (sym e)))) in (found.0, omega (arith, found.1, times-cons found.0 r rs), found.2)

@@ -1,5 +1,6 @@
 -- Which epochs the actors have recorded, and what that says of the slots that are freed.
-use Rattle.std.proofs.Common.{◌≡◌, ℕ, ◌+◌, ◌-◌, ◌<◌, ◌≤◌, Bool, true, false, cond, List, [], ◌∷◌, ◌++◌, length, take, get_or, All, Option, Some, None, replicate, refl, sym, ap, ◌∙◌, subst, inl, inr, arith, eqb-true}
+use Rattle.std.proofs.Common.{◌≡◌, ℕ, ◌+◌, ◌-◌, ◌<◌, ◌≤◌, Bool, true, false, cond, List, [], ◌∷◌, ◌++◌, length, take, get_or, All}
+use Rattle.std.proofs.Common.{Option, Some, None, replicate, refl, sym, ap, ◌∙◌, subst, inl, inr, arith, eqb-true}
 use Rattle.std.proofs.lemmas.Bool.{cases_lt}
 use Rattle.std.proofs.lemmas.List.{get_or_past, get_or_default, get_or-replicate, length-replicate}
 use Rattle.std.proofs.lemmas.List.Elements.{All-nil, All-cons}
@@ -28,7 +29,8 @@ module _ (pins : List (Option ℕ)) (epoch cursor : ℕ) (recent : (actor : ℕ)
       at_cursor : (recorded : ℕ) → is_passed epoch (get_or pins (cursor - 1) None) ≡ true → get_or pins actor None ≡ Some recorded → actor ≡ cursor - 1 → recorded ≡ epoch
       at_cursor recorded told is same = eqb-true recorded epoch (sym (ap (is_passed epoch) (sym (ap (λ k. get_or pins k None) same) ∙ is)) ∙ told)
 
-      go : (b : Bool) → is_passed epoch (get_or pins (cursor - 1) None) ≡ b → (o : Option ℕ) → get_or pins actor None ≡ o → IsRecent epoch (actor + 1 < cursor) o → IsRecent epoch (actor + 1 < cursor + cond b 1 0) o
+      go : (b : Bool) → is_passed epoch (get_or pins (cursor - 1) None) ≡ b → (o : Option ℕ) → get_or pins actor None ≡ o → IsRecent epoch (actor + 1 < cursor) o
+          → IsRecent epoch (actor + 1 < cursor + cond b 1 0) o
       go b told None is was = tt
       go false told (Some recorded) is (le, near, same) = (le, near, λ below. same (omega arith))
       go true told (Some recorded) is (le, near, same) = (

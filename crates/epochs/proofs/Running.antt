@@ -1,5 +1,6 @@
 -- What was referred to while an operation ran isn't freed while it runs.
-use Rattle.std.proofs.Common.{◌≡◌, ℕ, zero, suc, ◌+◌, ◌-◌, ◌<◌, ◌≤◌, ◌&&◌, not, nat_le, Bool, true, false, cond, List, map, filter, length, take, get_or, All, Option, Some, None, refl, sym, ap, ◌∙◌, subst, inl, inr, arith, eqb-true}
+use Rattle.std.proofs.Common.{◌≡◌, ℕ, zero, suc, ◌+◌, ◌-◌, ◌<◌, ◌≤◌, ◌&&◌, not, nat_le, Bool, true, false, cond, List, map, filter, length}
+use Rattle.std.proofs.Common.{take, get_or, All, Option, Some, None, refl, sym, ap, ◌∙◌, subst, inl, inr, arith, eqb-true}
 use Rattle.std.proofs.lemmas.Bool.{cases_lt, false≢true}
 use Rattle.std.proofs.lemmas.List.{get_or_past}
 use Rattle.std.proofs.lemmas.Option.{none-some}
@@ -70,7 +71,8 @@ module _ (heap : Heap) (outside : List Ref) (epoch : ℕ) (limbo : List Zeroed) 
 abbrev Late : Ref → ℕ → Zeroed → Type 0
 Late r recorded z = z.at ≡ r → recorded ≤ z.epoch
 
-settles_late : (heap : Heap) (outside : List Ref) (epoch : ℕ) (limbo : List Zeroed) (r : Ref) (recorded : ℕ) → recorded ≤ epoch → All (Late r recorded) limbo → All (Late r recorded) (limbo_after heap outside epoch limbo)
+settles_late : (heap : Heap) (outside : List Ref) (epoch : ℕ) (limbo : List Zeroed) (r : Ref) (recorded : ℕ) → recorded ≤ epoch → All (Late r recorded) limbo
+    → All (Late r recorded) (limbo_after heap outside epoch limbo)
 settles_late heap outside epoch limbo r recorded enough all =
     All-append (Late r recorded) (staying heap outside limbo) (map (λ q. record { at = q; epoch = epoch }) (newly_zero heap outside limbo))
     (All-filter (λ z. is_in_use heap z.at && is_zero heap outside z.at) (Late r recorded) limbo all)

@@ -1,8 +1,9 @@
 -- Limbo after a settling is the definition's.
-use Rattle.std.proofs.Common.{◌≡◌, ℕ, suc, ◌+◌, ◌-◌, ◌<◌, ◌≤◌, ◌^◌, ◌==◌, ◌&&◌, not, nat_lt, Bool, true, false, cond, List, [], ◌∷◌, ◌++◌, length, filter, All, Some, refl, sym, ap, ◌∙◌, subst, inl, inr, arith}
+use Rattle.std.proofs.Common.{◌≡◌, ℕ, suc, ◌+◌, ◌-◌, ◌<◌, ◌≤◌, ◌^◌, ◌==◌, ◌&&◌, not, nat_lt, Bool, true, false, cond, List, [], ◌∷◌}
+use Rattle.std.proofs.Common.{◌++◌, length, filter, All, Some, refl, sym, ap, ◌∙◌, subst, inl, inr, arith}
 use Rattle.std.specs.List.Sorted.{IsPermutation}
 use Rattle.std.proofs.lemmas.List.Sorted.{IsPermutation-refl, sum_by-IsPermutation}
-use Rattle.std.proofs.lemmas.Bool.{ltb-false}
+use Rattle.std.proofs.lemmas.Bool.{ltb-false, and_parts, not-true}
 use Rattle.std.proofs.lemmas.Bool.{cases_lt, false≢true}
 use Rattle.std.proofs.lemmas.List.{append_assoc, append-nil, length-append, map-append}
 use Rattle.std.proofs.lemmas.List.Elements.{All-weaker, filter-append}
@@ -29,15 +30,6 @@ use Rattle.epochs.proofs.Rising.{IsSortedRefs, rising_sorted, rising_same, risin
 use Rattle.epochs.proofs.InUse.{in_use_once, in_use_live, live_in_use}
 use Rattle.epochs.proofs.Staying.{in_limbo, bag_stays, length_zeroed}
 use Rattle.epochs.proofs.Naming.{named_member, naming_filter, naming_once}
-
-both : (b c : Bool) → (b && c) ≡ true → (b ≡ true) × (c ≡ true)
-both true true e = (refl, refl)
-both true false e = absurd (false≢true e)
-both false c e = absurd (false≢true e)
-
-not_told : (b : Bool) → not b ≡ true → b ≡ false
-not_told true e = absurd (false≢true e)
-not_told false e = refl
 
 length_filter_step : (p : Ref → Bool) (r : Ref) (rs : List Ref) (b : Bool) → length (filter p rs) ≤ length rs → length (cond b (r ∷ filter p rs) (filter p rs)) ≤ suc (length rs)
 length_filter_step p r rs true less = omega arith
@@ -119,8 +111,8 @@ module _
         (λ r some.
         let found = filter_in p r (in_use arena.heap) (omega (arith, some, times-by_birth r (filter p (in_use arena.heap)))) in
         let has = in_use_live arena.heap r small found.0 in
-        let tests = both (is_zero arena.heap arena.outside r) (not (is_in (limbo_of epoch bags) r)) found.1 in
-        let none : times r (all_of bags) ≡ 0 = not_below (times r (all_of bags)) (sym (in_limbo epoch bags r) ∙ not_told (is_in (limbo_of epoch bags) r) tests.1) in
+        let tests = and_parts (is_zero arena.heap arena.outside r) (not (is_in (limbo_of epoch bags) r)) found.1 in
+        let none : times r (all_of bags) ≡ 0 = not_below (times r (all_of bags)) (sym (in_limbo epoch bags r) ∙ not-true (is_in (limbo_of epoch bags) r) tests.1) in
         omega (arith, times_sorted r, sifted.all_fresh r (zero_waits arena r has tests.0, unlisted r has none)))
         (λ r some.
         let is = sifted.are_fresh r (omega (arith, times_sorted r)) in
@@ -142,12 +134,16 @@ module _
         let p : Zeroed → Bool = λ z. is_in_use arena.heap z.at && is_zero arena.heap arena.outside z.at in
         filter-append p (zeroed_at (epoch - 2) bags.oldest ++ zeroed_at (epoch - 1) bags.middle) (zeroed_at epoch bags.present)
         ∙ ap (λ l. l ++ filter p (zeroed_at epoch bags.present)) (filter-append p (zeroed_at (epoch - 2) bags.oldest) (zeroed_at (epoch - 1) bags.middle))
-        ∙ ap (λ l. l ++ filter p (zeroed_at (epoch - 1) bags.middle) ++ filter p (zeroed_at epoch bags.present)) (bag_stays arena.heap arena.outside (epoch - 2) bags.oldest small (members_live bags.oldest (in_oldest arena bags lists)) ∙ ap (zeroed_at (epoch - 2)) (sym sifted.oldest))
-        ∙ ap (λ l. zeroed_at (epoch - 2) now.oldest ++ l ++ filter p (zeroed_at epoch bags.present)) (bag_stays arena.heap arena.outside (epoch - 1) bags.middle small (members_live bags.middle (in_middle arena bags lists)) ∙ ap (zeroed_at (epoch - 1)) (sym sifted.middle))
-        ∙ ap (λ l. zeroed_at (epoch - 2) now.oldest ++ zeroed_at (epoch - 1) now.middle ++ l) (bag_stays arena.heap arena.outside epoch bags.present small (members_live bags.present (in_present arena bags lists)) ∙ ap (zeroed_at epoch) (sym sifted.present))
+        ∙ ap (λ l. l ++ filter p (zeroed_at (epoch - 1) bags.middle) ++ filter p (zeroed_at epoch bags.present))
+        (bag_stays arena.heap arena.outside (epoch - 2) bags.oldest small (members_live bags.oldest (in_oldest arena bags lists)) ∙ ap (zeroed_at (epoch - 2)) (sym sifted.oldest))
+        ∙ ap (λ l. zeroed_at (epoch - 2) now.oldest ++ l ++ filter p (zeroed_at epoch bags.present))
+        (bag_stays arena.heap arena.outside (epoch - 1) bags.middle small (members_live bags.middle (in_middle arena bags lists)) ∙ ap (zeroed_at (epoch - 1)) (sym sifted.middle))
+        ∙ ap (λ l. zeroed_at (epoch - 2) now.oldest ++ zeroed_at (epoch - 1) now.middle ++ l)
+        (bag_stays arena.heap arena.outside epoch bags.present small (members_live bags.present (in_present arena bags lists)) ∙ ap (zeroed_at epoch) (sym sifted.present))
 
     -- limbo is the definition's
-    pub settled : (epoch : ℕ) → limbo_of epoch (record { oldest = now.oldest; middle = now.middle; present = now.present ++ sorted; size = now.size }) ≡ limbo_after arena.heap arena.outside epoch (limbo_of epoch bags)
+    pub settled : (epoch : ℕ) → limbo_of epoch (record { oldest = now.oldest; middle = now.middle; present = now.present ++ sorted; size = now.size }) ≡ limbo_after arena.heap arena.outside
+        epoch (limbo_of epoch bags)
     settled epoch =
         ap (λ l. zeroed_at (epoch - 2) now.oldest ++ zeroed_at (epoch - 1) now.middle ++ l) (map-append (λ r. record { at = r; epoch = epoch }) now.present sorted)
         ∙ sym (append_assoc (zeroed_at (epoch - 2) now.oldest ++ zeroed_at (epoch - 1) now.middle) (zeroed_at epoch now.present) (zeroed_at epoch sorted))
@@ -201,7 +197,8 @@ module _
     }
 
     -- and as many as both
-    pub length_settled : (epoch : ℕ) → (length (staying arena.heap arena.outside (limbo_of epoch bags)) ≡ length (all_of now)) × (length (newly_zero arena.heap arena.outside (limbo_of epoch bags)) ≡ length sorted)
+    pub length_settled : (epoch : ℕ) → (length (staying arena.heap arena.outside (limbo_of epoch bags)) ≡ length (all_of now))
+        × (length (newly_zero arena.heap arena.outside (limbo_of epoch bags)) ≡ length sorted)
     length_settled epoch = (
       ap length (stayed epoch)
           ∙ omega (

@@ -1,7 +1,7 @@
 -- The notes are looked at one by one.
-use Rattle.std.proofs.Common.{◌≡◌, ℕ, ◌+◌, ◌<◌, ◌≤◌, ◌==◌, ◌||◌, ◌&&◌, not, Bool, true, false, cond, nat_lt, List, [], ◌∷◌, ◌++◌, length, filter, All, Option, Some, None, IfSome, refl, sym, ap, ◌∙◌, subst, inl, inr, arith, eq-eqb, eqb-true}
-use Rattle.std.proofs.lemmas.Bool.{eqb-false, lt-ltb}
-use Rattle.epochs.proofs.Joins.{neq-eqb}
+use Rattle.std.proofs.Common.{◌≡◌, ℕ, ◌+◌, ◌<◌, ◌≤◌, ◌==◌, ◌||◌, ◌&&◌, not, Bool, true, false, cond, nat_lt, List, [], ◌∷◌, ◌++◌, length, filter}
+use Rattle.std.proofs.Common.{All, Option, Some, None, IfSome, refl, sym, ap, ◌∙◌, subst, inl, inr, arith, eq-eqb, eqb-true}
+use Rattle.std.proofs.lemmas.Bool.{eqb-false, lt-ltb, ne_eqb}
 use Rattle.std.proofs.lemmas.Bool.{cases_eq, cases_lt}
 use Rattle.std.proofs.lemmas.Option.{none-some, same_Some}
 use Rattle.std.proofs.lemmas.List.{length_push}
@@ -138,7 +138,7 @@ module _ (arena : Contents) (bags : Bags) (lists : Lists arena bags) where
     leaves none r some = elim (cases_eq (slot_of r) k) [
       | inl same ↦ ap (λ b. not b && stays arena bags (rest ++ k ∷ []) r) (eq-eqb (slot_of r) k same)
           ∙ sym (stays_zero arena bags rest r (ap (λ j. times j rest) same ∙ once_only) ∙ unwaited (is_zero arena.heap arena.outside r) refl same)
-      | inr other ↦ ap (λ b. not b && stays arena bags (rest ++ k ∷ []) r) (neq-eqb (slot_of r) k other) ∙ ap (λ n. nat_lt 0 n || is_zero arena.heap arena.outside r) (there (slot_of r) other)
+      | inr other ↦ ap (λ b. not b && stays arena bags (rest ++ k ∷ []) r) (ne_eqb (slot_of r) k other) ∙ ap (λ n. nat_lt 0 n || is_zero arena.heap arena.outside r) (there (slot_of r) other)
     ]
       where
         unwaited : (b : Bool) → is_zero arena.heap arena.outside r ≡ b → slot_of r ≡ k → b ≡ false
@@ -187,7 +187,11 @@ module _ (arena : Contents) (bags : Bags) (lists : Lists arena bags) where
         size = s.size;
         are_fresh = λ r some. elim (cases_eq r at) [
           | inl same ↦ (
-            (ap (λ q. waiting arena (slot_of q)) same ∙ ap (waiting arena) slot ∙ is ∙ ap Some (sym same), ap (λ q. naming (slot_of q) (all_of bags)) same ∙ ap (λ j. naming j (all_of bags)) slot ∙ apart),
+            (
+              ap (λ q. waiting arena (slot_of q)) same ∙ ap (waiting arena) slot ∙ is ∙ ap Some (sym same),
+              ap (λ q. naming (slot_of q) (all_of bags)) same
+                  ∙ ap (λ j. naming j (all_of bags)) slot ∙ apart,
+            ),
             ap (λ q. times (slot_of q) rest) same ∙ ap (λ j. times j rest) slot ∙ once_only,
           )
           | inr other ↦ let was = s.are_fresh r (omega (arith, some, times_push r at fresh, once_other r at other)) in (was.0, omega (arith, was.1, times_push (slot_of r) k rest))
@@ -228,7 +232,8 @@ module _ (arena : Contents) (bags : Bags) (lists : Lists arena bags) where
       sifted_some = by_listed (naming k (all_of now)) (naming k (all_of now) == 0) refl refl
 
     -- one slot was looked at
-    pub sifted_one : (w : Option Ref) → waiting arena k ≡ w → IfSome w (λ r. (slot_of r ≡ k) × IsLive arena.heap r) → Sifting arena bags rest (bags_after w k now) (fresh_after w (naming k (all_of now)) fresh)
+    pub sifted_one : (w : Option Ref) → waiting arena k ≡ w → IfSome w (λ r. (slot_of r ≡ k) × IsLive arena.heap r)
+        → Sifting arena bags rest (bags_after w k now) (fresh_after w (naming k (all_of now)) fresh)
     sifted_one None is found = sifted_none is
     sifted_one (Some at) is found = sifted_some at is found.0 found.1
 

@@ -48,10 +48,12 @@ stay_step : (heap : Heap) (outside : List Ref) (epoch : ℕ) (r : Ref) (rs : Lis
     filter (λ z. is_in_use heap z.at && is_zero heap outside z.at) (zeroed_at epoch rs) ≡ zeroed_at epoch (filter (λ q. is_zero heap outside q) rs) →
     filter (λ z. is_in_use heap z.at && is_zero heap outside z.at) (zeroed_at epoch (r ∷ rs)) ≡ zeroed_at epoch (filter (λ q. is_zero heap outside q) (r ∷ rs))
 stay_step heap outside epoch r rs b used e rest =
-    ap (λ t. cond (t && is_zero heap outside r) ((record { at = r; epoch = epoch }) ∷ filter (λ z. is_in_use heap z.at && is_zero heap outside z.at) (zeroed_at epoch rs)) (filter (λ z. is_in_use heap z.at && is_zero heap outside z.at) (zeroed_at epoch rs))) used
+    ap (λ t. cond (t && is_zero heap outside r) ((record { at = r; epoch = epoch }) ∷ filter (λ z. is_in_use heap z.at && is_zero heap outside z.at) (zeroed_at epoch rs))
+    (filter (λ z. is_in_use heap z.at && is_zero heap outside z.at) (zeroed_at epoch rs))) used
     ∙ by_test (is_zero heap outside r)
   where
-    by_test : (t : Bool) → cond t ((record { at = r; epoch = epoch }) ∷ filter (λ z. is_in_use heap z.at && is_zero heap outside z.at) (zeroed_at epoch rs)) (filter (λ z. is_in_use heap z.at && is_zero heap outside z.at) (zeroed_at epoch rs))
+    by_test : (t : Bool) → cond t ((record { at = r; epoch = epoch }) ∷ filter (λ z. is_in_use heap z.at && is_zero heap outside z.at) (zeroed_at epoch rs))
+        (filter (λ z. is_in_use heap z.at && is_zero heap outside z.at) (zeroed_at epoch rs))
         ≡ zeroed_at epoch (cond t (r ∷ filter (λ q. is_zero heap outside q) rs) (filter (λ q. is_zero heap outside q) rs))
     by_test true = ap (λ l. (record { at = r; epoch = epoch }) ∷ l) rest
     by_test false = rest

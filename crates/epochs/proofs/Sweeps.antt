@@ -79,7 +79,8 @@ module _ (arena : Contents) (bags : Bags) (lists : Lists arena bags) (r : Ref) (
       let cons = naming-cons k r rest in
       let one = once_same k in
       let single = lists.single k in
-      let oldest : other_slots k bags.oldest ≡ rest = ap (other_slots k) first ∙ ap (λ b. cond b (r ∷ other_slots k rest) (other_slots k rest)) (ap not (eq-eqb k k refl)) ∙ other_slots-none k rest (omega arith) in
+      let oldest : other_slots k bags.oldest ≡ rest = ap (other_slots k) first ∙ ap (λ b. cond b (r ∷ other_slots k rest) (other_slots k rest)) (ap not (eq-eqb k k refl))
+      ∙ other_slots-none k rest (omega arith) in
       ap (λ rs. zeroed_at (epoch - 2) rs ++ zeroed_at (epoch - 1) (other_slots k bags.middle) ++ zeroed_at epoch (other_slots k bags.present)) oldest
       ∙ ap (λ rs. zeroed_at (epoch - 2) rest ++ zeroed_at (epoch - 1) rs ++ zeroed_at epoch (other_slots k bags.present)) (other_slots-none k bags.middle (omega arith))
       ∙ ap (λ rs. zeroed_at (epoch - 2) rest ++ zeroed_at (epoch - 1) bags.middle ++ zeroed_at epoch rs) (other_slots-none k bags.present (omega arith))

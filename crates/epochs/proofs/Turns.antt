@@ -1,5 +1,6 @@
 -- The ring after each of its calls.
-use Rattle.std.proofs.Common.{◌≡◌, ℕ, zero, suc, ◌+◌, ◌-◌, ◌<◌, ◌≤◌, Bool, true, false, cond, List, [], ◌∷◌, ◌++◌, length, map, set, get_or, slice_index, count_by, replicate, refl, sym, ap, ◌∙◌, subst, inl, inr, arith}
+use Rattle.std.proofs.Common.{◌≡◌, ℕ, zero, suc, ◌+◌, ◌-◌, ◌<◌, ◌≤◌, Bool, true, false, cond, List, [], ◌∷◌, ◌++◌, length, map, set}
+use Rattle.std.proofs.Common.{get_or, slice_index, count_by, replicate, refl, sym, ap, ◌∙◌, subst, inl, inr, arith}
 use Rattle.std.proofs.lemmas.Bool.{cases_lt}
 use Rattle.std.proofs.lemmas.List.{length-set, length-map, length-append, append-nil, append_assoc, length-replicate, get_or-replicate, get_or_past}
 use Rattle.std.proofs.lemmas.List.Sums.{sum_by-set, sum_by-cons}
@@ -11,7 +12,8 @@ use Rattle.slot_arena.proofs.Times.{bit, once_same, once_other, times-cons}
 use Rattle.slot_arena.proofs.Marks.{marks_noted, noted_marked}
 use Rattle.epochs.specs.Rings.{Joined, around, IsRing, IsEmptyRing}
 use Rattle.epochs.proofs.Joins.{entered, left, turned, last_in, before_in, behind_in, others}
-use Rattle.epochs.proofs.Bags.{naming_map, times-around, others_map, others_around, other_slots-all, around_push, all_push, marks_left, member_below, ring_once, first_outside, member_linked, slot_around}
+use Rattle.epochs.proofs.Bags.{naming_map, times-around, others_map, others_around, other_slots-all, around_push, all_push}
+use Rattle.epochs.proofs.Bags.{marks_left, member_below, ring_once, first_outside, member_linked, slot_around}
 
 module _ (next back : List ℕ) (marks : List Bool) (size first second third len : ℕ) (a b c : List Ref) (ring : IsRing next back marks size first second third len a b c) where
   -- the last one has a link
@@ -29,7 +31,8 @@ module _ (next back : List ℕ) (marks : List Bool) (size first second third len
       by_mark false is = refl
 
   pub entered_ring : (at : Ref) (last : ℕ) → slot_of at < size → naming (slot_of at) (a ++ b ++ c) ≡ 0 → last ≡ slice_index back first →
-      IsRing (set (set next last (slot_of at)) (slot_of at) first) (set (set back (slot_of at) last) first (slot_of at)) (set marks (slot_of at) true) size first second third (len + 1) a b (c ++ at ∷ [])
+      IsRing (set (set next last (slot_of at)) (slot_of at) first) (set (set back (slot_of at) last) first (slot_of at)) (set marks (slot_of at) true) size first second third (len + 1) a b
+      (c ++ at ∷ [])
   entered_ring at last within none is = record {
     joined = let first_in = ring.first_behind in let second_in = ring.second_behind in let third_in = ring.third_behind in
         let ns = ring.next_size in let bs = ring.back_size in
@@ -151,7 +154,9 @@ module _ (next back : List ℕ) (marks : List Bool) (size first second third len
       by_bag [] e joined = refl
       by_bag (r ∷ rs) e joined =
           let leads = (subst (λ (qs : List Ref). Joined next back first (around qs second b third c) first) e joined).0 in
-          let in_bag = member_below next back marks size first second third len a b c ring (slot_of r) (subst (λ (qs : List Ref). 0 < times (slot_of r) (map slot_of (qs ++ b ++ c))) (sym e) (omega (arith, times-cons (slot_of r) (slot_of r) (map slot_of (rs ++ b ++ c)), once_same (slot_of r)))) in
+          let in_bag = member_below next back marks size first second third len a b c ring (slot_of r)
+          (subst (λ (qs : List Ref). 0 < times (slot_of r) (map slot_of (qs ++ b ++ c))) (sym e)
+          (omega (arith, times-cons (slot_of r) (slot_of r) (map slot_of (rs ++ b ++ c)), once_same (slot_of r)))) in
           let behind = ring.second_behind in
           absurd (omega arith)
 
@@ -163,7 +168,8 @@ module _ (next back : List ℕ) (marks : List Bool) (size first second third len
       by_bag (r ∷ rs) e joined =
           let leads = (subst (λ (qs : List Ref). Joined next back first (around qs second b third c) first) e joined).0 in
           let in_bag = member_below next back marks size first second third len a b c ring (slot_of r)
-          (subst (λ (qs : List Ref). 0 < times (slot_of r) (map slot_of (qs ++ b ++ c))) (sym e) (omega (arith, times-cons (slot_of r) (slot_of r) (map slot_of (rs ++ b ++ c)), once_same (slot_of r)))) in
+          (subst (λ (qs : List Ref). 0 < times (slot_of r) (map slot_of (qs ++ b ++ c))) (sym e)
+          (omega (arith, times-cons (slot_of r) (slot_of r) (map slot_of (rs ++ b ++ c)), once_same (slot_of r)))) in
           (r, rs, e, sym (is ∙ leads), omega arith)
 
 none_marked : (n : ℕ) → count_by (λ mark. mark) (replicate n false) ≡ 0

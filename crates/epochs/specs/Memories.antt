@@ -53,7 +53,19 @@ AreSizes slots actors = AreSlots slots × (1 ≤ actors) × (actors ≤ 64)
 
 -- all slots are free, and no actor has recorded an epoch; the links were written
 abbrev pub new_memory : ℕ → ℕ → Memory
-new_memory slots actors = record { heap = (new_arena slots).heap; outside = []; limbo = []; epoch = 0; cursor = 1; pins = replicate actors None; owners = replicate slots 0; commits = replicate slots 0; noted = []; ticks = slots + 6 }
+new_memory slots actors = record {
+  heap = (new_arena slots).heap;
+  outside = [];
+  limbo = [];
+  epoch = 0;
+  cursor = 1;
+  pins = replicate actors None;
+  owners = replicate slots 0;
+  commits =
+      replicate slots 0;
+  noted = [];
+  ticks = slots + 6;
+}
 
 -- a bag whose slots became zero in this epoch
 abbrev pub zeroed_at : ℕ → List Ref → List Zeroed

@@ -21,8 +21,11 @@ pub(crate) fn advance(
     requires started { (1 ≤ cursor.old) × (cursor.old ≤ length pins.now + 1) }
     requires few { length pins.now ≤ 64 }
     requires room { epoch.old < 2 ^ 48 }
-    ensures scanned { cursor.old ≤ length pins.now → (let passed = is_passed epoch.old (slice_index_or pins.now (cursor.old - 1) None) in (result ≡ Swept.Scanned passed) × (cursor.new ≡ cursor.old + (if passed then 1 else 0)) × (epoch.new ≡ epoch.old) × (bags.new ≡ bags.old)) }
-    ensures advanced { length pins.now < cursor.old → (result ≡ Swept.Advanced (epoch.old + 1)) × (cursor.new ≡ 1) × (epoch.new ≡ epoch.old + 1) × (bags.new ≡ record bags.old { bags = turned bags.old.bags }) }
+    ensures scanned { cursor.old ≤ length pins.now →
+        (let passed = is_passed epoch.old (slice_index_or pins.now (cursor.old - 1) None) in
+        (result ≡ Swept.Scanned passed) × (cursor.new ≡ cursor.old + (if passed then 1 else 0)) × (epoch.new ≡ epoch.old) × (bags.new ≡ bags.old)) }
+    ensures advanced { length pins.now < cursor.old →
+        (result ≡ Swept.Advanced (epoch.old + 1)) × (cursor.new ≡ 1) × (epoch.new ≡ epoch.old + 1) × (bags.new ≡ record bags.old { bags = turned bags.old.bags }) }
 {
     if *cursor as usize > pins.len() {
         bags.turn();

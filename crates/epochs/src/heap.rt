@@ -1,6 +1,7 @@
 //! The arena with limbo, epochs and the sweep.
 
-ghost use Rattle.std.specs.Prelude.{◌≡◌, ℕ, ◌+◌, ◌-◌, ◌*◌, ◌<◌, ◌≤◌, ◌^◌, ◌==◌, ◌∷◌, ◌++◌, [], List, length, take, drop, option_map, All, slice_index, true, false, IsTrue, ◌↔◌, IfSome, Some, None, slice_set, slice_index_or, IfOk, IfErr, ◌⊎◌, if◌then◌else◌};
+ghost use Rattle.std.specs.Prelude.{◌≡◌, ℕ, ◌+◌, ◌-◌, ◌*◌, ◌<◌, ◌≤◌, ◌^◌, ◌==◌, ◌∷◌, ◌++◌, [], List, length, take, drop, option_map, All, slice_index, true};
+ghost use Rattle.std.specs.Prelude.{false, IsTrue, ◌↔◌, IfSome, Some, None, slice_set, slice_index_or, IfOk, IfErr, ◌⊎◌, if◌then◌else◌};
 ghost use Rattle.slot_arena.specs.Heaps.{node_at, prev_at, main_at, refs_of_node, refs_of_prev, refs_of_option, stored, next_ref, in_use, taken, with_main, with_prev};
 ghost use Rattle.slot_arena.specs.Counts.{count_of};
 ghost use Rattle.slot_arena.specs.Times.{times, without};
@@ -66,8 +67,7 @@ impl Model for Heap {
 }
 
 impl Heap {
-    /// A heap of so many slots, all free, for so many actors: from 2 to 65,536, and from 1 to 64. All
-    /// memory is taken here.
+    /// A heap of 2 to 65,536 slots, all free, for 1 to 64 actors. All memory is taken here.
     pub fn new(alloc: Global, slots: u32, actors: u8) -> Result<Heap, Refusal>
         ensures made { IfOk result (λ heap. (heap ≡ new_memory slots actors) × AreSizes slots actors) }
         ensures refused { IfErr result (λ refusal. (refusal ≡ Refusal.BadLimits × ¬ AreSizes slots actors) ⊎ (refusal ≡ Refusal.Memory × AreSizes slots actors)) }
@@ -204,8 +204,7 @@ impl Heap {
         swapped
     }
 
-    /// Where the main word of an indirection is `from`, it becomes `to`, whose `prev` word becomes pending
-    /// over `from`. Tells whether it was.
+    /// Where the main word is `from` it becomes `to`, which becomes pending over `from`. Tells whether it was.
     pub fn publish(&mut self, at: Ref, from: Ref, to: Ref) -> bool
         requires live { IsLive self.old.heap at }
         requires kind { is_indirection (node_at self.old.heap at) ≡ true }
@@ -312,7 +311,8 @@ impl Heap {
         ensures outside { self.new.outside ≡ self.old.outside }
         ensures epochs { (self.new.epoch ≡ self.old.epoch) × (self.new.cursor ≡ self.old.cursor) × (self.new.pins ≡ self.old.pins) }
         ensures remarks { KeepsRemarks self.old self.new }
-        ensures ticks { self.new.ticks + 12 * length (staying self.old.heap self.old.outside self.old.limbo) ≤ self.old.ticks + 3 * length self.old.noted + 12 * length self.old.limbo + 12 * length (newly_zero self.old.heap self.old.outside self.old.limbo) }
+        ensures ticks { self.new.ticks + 12 * length (staying self.old.heap self.old.outside self.old.limbo)
+            ≤ self.old.ticks + 3 * length self.old.noted + 12 * length self.old.limbo + 12 * length (newly_zero self.old.heap self.old.outside self.old.limbo) }
         ensures rising { self.old.ticks ≤ self.new.ticks }
     {
         prove!(self.arena.len() <= 65536);

@@ -23,7 +23,8 @@ pub(crate) fn sift(arena: &mut Arena, bags: &mut Ring, fresh: &mut Fresh)
     ensures noted { arena.new.noted ≡ [] }
     ensures sifted { IsSifted arena.old bags.old.bags bags.new.bags fresh.new.refs }
     ensures room { fresh.new.room ≡ fresh.old.room }
-    ensures ticks { arena.new.ticks + bags.new.ticks + fresh.new.ticks + 5 * length (all_of bags.new.bags) ≡ arena.old.ticks + bags.old.ticks + fresh.old.ticks + 5 * length (all_of bags.old.bags) + 3 * length arena.old.noted + length fresh.new.refs }
+    ensures ticks { arena.new.ticks + bags.new.ticks + fresh.new.ticks + 5 * length (all_of bags.new.bags)
+        ≡ arena.old.ticks + bags.old.ticks + fresh.old.ticks + 5 * length (all_of bags.old.bags) + 3 * length arena.old.noted + length fresh.new.refs }
 {
     for _ in 0..arena.noted_len() {
         if let Some(slot) = arena.take_noted() {
@@ -43,7 +44,8 @@ fn sift_one(arena: &mut Arena, bags: &mut Ring, fresh: &mut Fresh, slot: u16)
     ensures fresh { fresh.new.refs ≡ fresh_after (waiting arena.old slot) (naming slot (all_of bags.old.bags)) fresh.old.refs }
     ensures waits { IfSome (waiting arena.old slot) (λ r. (slot_of r ≡ slot) × IsLive arena.old.heap r) }
     ensures room { fresh.new.room ≡ fresh.old.room }
-    ensures ticks { bags.new.ticks + fresh.new.ticks + 5 * length (all_of bags.new.bags) + length fresh.old.refs ≡ bags.old.ticks + fresh.old.ticks + 5 * length (all_of bags.old.bags) + 1 + length fresh.new.refs }
+    ensures ticks { bags.new.ticks + fresh.new.ticks + 5 * length (all_of bags.new.bags) + length fresh.old.refs
+        ≡ bags.old.ticks + fresh.old.ticks + 5 * length (all_of bags.old.bags) + 1 + length fresh.new.refs }
 {
     let is_in = bags.contains(slot);
     match arena.waiting(slot) {

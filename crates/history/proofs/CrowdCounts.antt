@@ -1,5 +1,6 @@
 -- How the numbers of keys with one hash change with the entries.
-use Rattle.std.proofs.Common.{◌≡◌, ℕ, ◌+◌, ◌-◌, ◌<◌, ◌≤◌, Bool, true, false, cond, not, ◌&&◌, ◌==◌, List, [], ◌∷◌, length, Option, Some, None, is_some, IsSome, unwrap_or, count_by, nat_cmp, is_eq, Less, Equal, Greater, sym, refl, ap, ap₂, ◌∙◌, arith, add_comm, zero-add, eqb-true, eq-eqb}
+use Rattle.std.proofs.Common.{◌≡◌, ℕ, ◌+◌, ◌-◌, ◌<◌, ◌≤◌, Bool, true, false, cond, not, ◌&&◌, ◌==◌, List, [], ◌∷◌, length, Option, Some, None, is_some, IsSome, unwrap_or}
+use Rattle.std.proofs.Common.{count_by, nat_cmp, is_eq, Less, Equal, Greater, sym, refl, ap, ap₂, ◌∙◌, arith, add_comm, zero-add, eqb-true, eq-eqb}
 use Rattle.std.specs.Cmp.{unsigned_tied, nat_cmp_total, eq_by_cmp_equiv}
 use Rattle.std.specs.Ordering.{match_ordering}
 use Rattle.std.specs.List.Sorted.{IsStrictlySortedBy}
@@ -37,17 +38,20 @@ module _ (hash : ℕ → ℕ) where
   pub crowd_of-insert_entry : (h k v : ℕ) (es : List (ℕ × ℕ)) → lookup (is_at (nat_cmp k)) es ≡ None → crowd_of hash (insert_entry nat_cmp es k v) h ≡ cond (hash k == h) 1 0 + crowd_of hash es h
   crowd_of-insert_entry h k v [] none = crowd_of-cons h (k, v) []
   crowd_of-insert_entry h k v (e ∷ es) none =
-      elim (nat_cmp k e.0) as (λ r. cond (is_eq r) (Some e.1) (lookup (is_at (nat_cmp k)) es) ≡ None → crowd_of hash (match_ordering r ((k, v) ∷ e ∷ es) ((e.0, v) ∷ es) (e ∷ insert_entry nat_cmp es k v)) h ≡ cond (hash k == h) 1 0 + crowd_of hash (e ∷ es) h) [
+      elim (nat_cmp k e.0) as (λ r. cond (is_eq r) (Some e.1) (lookup (is_at (nat_cmp k)) es) ≡ None
+      → crowd_of hash (match_ordering r ((k, v) ∷ e ∷ es) ((e.0, v) ∷ es) (e ∷ insert_entry nat_cmp es k v)) h ≡ cond (hash k == h) 1 0 + crowd_of hash (e ∷ es) h) [
         | Less ↦ λ _. crowd_of-cons h (k, v) (e ∷ es)
         | Equal ↦ λ some. absurd (let bad : Some e.1 ≡ None = some in cc)
         | Greater ↦ λ rest. past_head _ _ _ _ _ _ (crowd_of-cons h e (insert_entry nat_cmp es k v)) (crowd_of-cons h e es) (crowd_of-insert_entry h k v es rest)
       ] none
 
   -- a key that is removed counts no more
-  pub crowd_of-remove_entry : (h k v : ℕ) (es : List (ℕ × ℕ)) → lookup (is_at (nat_cmp k)) es ≡ Some v → cond (hash k == h) 1 0 + crowd_of hash (remove_entry (is_at (nat_cmp k)) es) h ≡ crowd_of hash es h
+  pub crowd_of-remove_entry : (h k v : ℕ) (es : List (ℕ × ℕ)) → lookup (is_at (nat_cmp k)) es ≡ Some v
+      → cond (hash k == h) 1 0 + crowd_of hash (remove_entry (is_at (nat_cmp k)) es) h ≡ crowd_of hash es h
   crowd_of-remove_entry h k v [] some = absurd (let bad : None ≡ Some v = some in cc)
   crowd_of-remove_entry h k v (e ∷ es) some =
-      elim (nat_cmp k e.0) as (λ r. nat_cmp k e.0 ≡ r → cond (is_eq r) (Some e.1) (lookup (is_at (nat_cmp k)) es) ≡ Some v → cond (hash k == h) 1 0 + crowd_of hash (cond (is_eq r) es (e ∷ remove_entry (is_at (nat_cmp k)) es)) h ≡ crowd_of hash (e ∷ es) h) [
+      elim (nat_cmp k e.0) as (λ r. nat_cmp k e.0 ≡ r → cond (is_eq r) (Some e.1) (lookup (is_at (nat_cmp k)) es) ≡ Some v
+      → cond (hash k == h) 1 0 + crowd_of hash (cond (is_eq r) es (e ∷ remove_entry (is_at (nat_cmp k)) es)) h ≡ crowd_of hash (e ∷ es) h) [
         | Less ↦ λ _ rest. before_head _ _ _ _ _ _ (crowd_of-cons h e (remove_entry (is_at (nat_cmp k)) es)) (crowd_of-cons h e es) (crowd_of-remove_entry h k v es rest)
         | Equal ↦ λ tie _. ap (λ q. cond (hash q == h) 1 0 + crowd_of hash es h) (exact_unsigned k e.0 tie) ∙ sym (crowd_of-cons h e es)
         | Greater ↦ λ _ rest. before_head _ _ _ _ _ _ (crowd_of-cons h e (remove_entry (is_at (nat_cmp k)) es)) (crowd_of-cons h e es) (crowd_of-remove_entry h k v es rest)
@@ -61,10 +65,13 @@ module _ (hash : ℕ → ℕ) where
   others_of_absent : (k : ℕ) (es : List (ℕ × ℕ)) → lookup (is_at (nat_cmp k)) es ≡ None → count_by (λ q. (hash q == hash k) && not (q == k)) (keys_of es) ≡ crowd_of hash es (hash k)
   others_of_absent k [] none = refl
   others_of_absent k (e ∷ es) none =
-      elim (nat_cmp k e.0) as (λ r. nat_cmp k e.0 ≡ r → cond (is_eq r) (Some e.1) (lookup (is_at (nat_cmp k)) es) ≡ None → count_by (λ q. (hash q == hash k) && not (q == k)) (keys_of (e ∷ es)) ≡ crowd_of hash (e ∷ es) (hash k)) [
-        | Less ↦ λ r rest. sum_by-cons (λ q. cond ((hash q == hash k) && not (q == k)) 1 0) e.0 (keys_of es) ∙ one_other (hash e.0 == hash k) (e.0 == k) _ _ (apart k e.0 (ap is_eq r)) (others_of_absent k es rest) ∙ sym (crowd_of-cons (hash k) e es)
+      elim (nat_cmp k e.0) as (λ r. nat_cmp k e.0 ≡ r → cond (is_eq r) (Some e.1) (lookup (is_at (nat_cmp k)) es) ≡ None
+      → count_by (λ q. (hash q == hash k) && not (q == k)) (keys_of (e ∷ es)) ≡ crowd_of hash (e ∷ es) (hash k)) [
+        | Less ↦ λ r rest. sum_by-cons (λ q. cond ((hash q == hash k) && not (q == k)) 1 0) e.0 (keys_of es)
+            ∙ one_other (hash e.0 == hash k) (e.0 == k) _ _ (apart k e.0 (ap is_eq r)) (others_of_absent k es rest) ∙ sym (crowd_of-cons (hash k) e es)
         | Equal ↦ λ _ some. absurd (let bad : Some e.1 ≡ None = some in cc)
-        | Greater ↦ λ r rest. sum_by-cons (λ q. cond ((hash q == hash k) && not (q == k)) 1 0) e.0 (keys_of es) ∙ one_other (hash e.0 == hash k) (e.0 == k) _ _ (apart k e.0 (ap is_eq r)) (others_of_absent k es rest) ∙ sym (crowd_of-cons (hash k) e es)
+        | Greater ↦ λ r rest. sum_by-cons (λ q. cond ((hash q == hash k) && not (q == k)) 1 0) e.0 (keys_of es)
+            ∙ one_other (hash e.0 == hash k) (e.0 == k) _ _ (apart k e.0 (ap is_eq r)) (others_of_absent k es rest) ∙ sym (crowd_of-cons (hash k) e es)
       ] refl none
 
   -- what is counted of an absent key's hash are the other keys that have it
@@ -113,7 +120,8 @@ module _ (hash : ℕ → ℕ) where
   }
 
   -- a new key, and its count
-  pub IsCounted-insert : (es fs cs ds : List (ℕ × ℕ)) (k v h n : ℕ) → IsCounted hash es cs → lookup (is_at (nat_cmp k)) es ≡ None → fs ≡ insert_entry nat_cmp es k v → IsStrictlySortedBy nat_cmp (keys_of fs)
+  pub IsCounted-insert : (es fs cs ds : List (ℕ × ℕ)) (k v h n : ℕ) → IsCounted hash es cs → lookup (is_at (nat_cmp k)) es ≡ None → fs ≡ insert_entry nat_cmp es k v
+      → IsStrictlySortedBy nat_cmp (keys_of fs)
       → h ≡ hash k → n ≡ kept_count cs h + 1 → PutsCount cs ds h n → IsCounted hash fs ds
   IsCounted-insert es fs cs ds k v h n is none inserted rising at more put = record {
     rising = rising;
@@ -129,7 +137,8 @@ module _ (hash : ℕ → ℕ) where
       omega (arith, crowd_of-remove_entry hash (hash k) k v es some)
 
   -- a key that is removed, and its count
-  pub IsCounted-remove : (es fs cs ds : List (ℕ × ℕ)) (k v h n : ℕ) → IsCounted hash es cs → lookup (is_at (nat_cmp k)) es ≡ Some v → fs ≡ remove_entry (is_at (nat_cmp k)) es → IsStrictlySortedBy nat_cmp (keys_of fs)
+  pub IsCounted-remove : (es fs cs ds : List (ℕ × ℕ)) (k v h n : ℕ) → IsCounted hash es cs → lookup (is_at (nat_cmp k)) es ≡ Some v → fs ≡ remove_entry (is_at (nat_cmp k)) es
+      → IsStrictlySortedBy nat_cmp (keys_of fs)
       → h ≡ hash k → n ≡ kept_count cs h - 1 → WritesCount cs ds h n → IsCounted hash fs ds
   IsCounted-remove es fs cs ds k v h n is some removed rising at less put = record {
     rising = rising;
@@ -160,7 +169,8 @@ pub is_crowded-present : (hash : ℕ → ℕ) (es : List (ℕ × ℕ)) (k : ℕ)
 is_crowded-present hash es k there = ap (λ b. not b && (others hash (from_entries es) k == 32)) (ap is_some (get_made es k) ∙ there)
 
 -- An absent one is where 32 keys have its hash.
-pub is_crowded-absent : (hash : ℕ → ℕ) (es cs : List (ℕ × ℕ)) (k h : ℕ) → IsCounted hash es cs → lookup (is_at (nat_cmp k)) es ≡ None → h ≡ hash k → is_crowded hash (from_entries es) k ≡ (kept_count cs h == 32)
+pub is_crowded-absent : (hash : ℕ → ℕ) (es cs : List (ℕ × ℕ)) (k h : ℕ) → IsCounted hash es cs → lookup (is_at (nat_cmp k)) es ≡ None → h ≡ hash k
+    → is_crowded hash (from_entries es) k ≡ (kept_count cs h == 32)
 is_crowded-absent hash es cs k h is none at =
     ap (λ (o : Option ℕ). not (is_some o) && (others hash (from_entries es) k == 32)) (get_made es k ∙ none)
     ∙ ap (λ n. n == 32) (others-crowd_of hash k es is.rising none ∙ sym (is.counted (hash k)) ∙ ap (kept_count cs) (sym at))

@@ -6,7 +6,8 @@ use Rattle.std.specs.List.{AllByRecursion}
 use Rattle.std.specs.List.Sorted.{IsStrictlySortedBy}
 use Rattle.std.specs.Map.{lookup, keys_of}
 use Rattle.std.specs.BTreeMap.{is_at}
-use Rattle.std.specs.FinMap.{FinMap, get, insert, remove, len, len-entries, entries, find, is_sorted, from_entries, same_map, get-insert, get-remove, get-from_entries, get-from_sorted, entries-from_sorted, nat_cmp-IsAntisymmetric}
+use Rattle.std.specs.FinMap.{FinMap, get, insert, remove, len, len-entries, entries, find, is_sorted, from_entries, same_map, get-insert}
+use Rattle.std.specs.FinMap.{get-remove, get-from_entries, get-from_sorted, entries-from_sorted, nat_cmp-IsAntisymmetric}
 use Rattle.std.specs.FinMap.Entries.{below_all}
 use Rattle.std.proofs.lemmas.Map.Keys.{sorted_head, sorted_tail}
 
@@ -54,13 +55,15 @@ module _ {X : Type 0} where
   len_made es h = len-entries (from_entries es) ∙ ap length (entries_made es h)
 
   -- entries that differ at one key make maps that differ there
-  one_put : (es fs : List (ℕ × X)) (k : ℕ) (v : X) → ((q : ℕ) → lookup (is_at (nat_cmp q)) fs ≡ cond (is_at (nat_cmp k) q) (Some v) (lookup (is_at (nat_cmp q)) es)) → from_entries {R = nat_cmp} fs ≡ insert (from_entries es) k v
+  one_put : (es fs : List (ℕ × X)) (k : ℕ) (v : X) → ((q : ℕ) → lookup (is_at (nat_cmp q)) fs ≡ cond (is_at (nat_cmp k) q) (Some v) (lookup (is_at (nat_cmp q)) es))
+      → from_entries {R = nat_cmp} fs ≡ insert (from_entries es) k v
   one_put es fs k v h = same_map nat_cmp_total nat_cmp-IsAntisymmetric _ _ (λ q.
       get_made fs q ∙ h q ∙ ap (λ b. cond b (Some v) (lookup (is_at (nat_cmp q)) es)) ((eq_by_cmp_equiv nat_cmp_total).symm k q)
       ∙ sym (get-insert nat_cmp_total (from_entries es) k v q ∙ ap (cond (eq_by_cmp nat_cmp q k) (Some v)) (get_made es q)))
 
   -- entries without one key make the map without it
-  one_removed : (es fs : List (ℕ × X)) (k : ℕ) → ((q : ℕ) → lookup (is_at (nat_cmp q)) fs ≡ cond (is_at (nat_cmp k) q) None (lookup (is_at (nat_cmp q)) es)) → from_entries {R = nat_cmp} fs ≡ remove (from_entries es) k
+  one_removed : (es fs : List (ℕ × X)) (k : ℕ) → ((q : ℕ) → lookup (is_at (nat_cmp q)) fs ≡ cond (is_at (nat_cmp k) q) None (lookup (is_at (nat_cmp q)) es))
+      → from_entries {R = nat_cmp} fs ≡ remove (from_entries es) k
   one_removed es fs k h = same_map nat_cmp_total nat_cmp-IsAntisymmetric _ _ (λ q.
       get_made fs q ∙ h q ∙ ap (λ b. cond b None (lookup (is_at (nat_cmp q)) es)) ((eq_by_cmp_equiv nat_cmp_total).symm k q)
       ∙ sym (get-remove nat_cmp_total (from_entries es) k q ∙ ap (cond (eq_by_cmp nat_cmp q k) None) (get_made es q)))
@@ -78,8 +81,10 @@ module _ {X : Type 0} where
   pub get_seen : (es : List (ℕ × X)) (m : FinMap nat_cmp X) (q : ℕ) (o : Option X) → from_entries es ≡ m → o ≡ lookup (is_at (nat_cmp q)) es → o ≡ get m q
   get_seen es m q o seen is = is ∙ sym (get_made es q) ∙ ap (λ (m : FinMap nat_cmp X). get m q) seen
 
-  pub put_seen : (es fs : List (ℕ × X)) (m : FinMap nat_cmp X) (k : ℕ) (v : X) → from_entries es ≡ m → ((q : ℕ) → lookup (is_at (nat_cmp q)) fs ≡ cond (is_at (nat_cmp k) q) (Some v) (lookup (is_at (nat_cmp q)) es)) → from_entries fs ≡ insert m k v
+  pub put_seen : (es fs : List (ℕ × X)) (m : FinMap nat_cmp X) (k : ℕ) (v : X) → from_entries es ≡ m
+      → ((q : ℕ) → lookup (is_at (nat_cmp q)) fs ≡ cond (is_at (nat_cmp k) q) (Some v) (lookup (is_at (nat_cmp q)) es)) → from_entries fs ≡ insert m k v
   put_seen es fs m k v seen put = one_put es fs k v put ∙ ap (λ (m : FinMap nat_cmp X). insert m k v) seen
 
-  pub removed_seen : (es fs : List (ℕ × X)) (m : FinMap nat_cmp X) (k : ℕ) → from_entries es ≡ m → ((q : ℕ) → lookup (is_at (nat_cmp q)) fs ≡ cond (is_at (nat_cmp k) q) None (lookup (is_at (nat_cmp q)) es)) → from_entries fs ≡ remove m k
+  pub removed_seen : (es fs : List (ℕ × X)) (m : FinMap nat_cmp X) (k : ℕ) → from_entries es ≡ m
+      → ((q : ℕ) → lookup (is_at (nat_cmp q)) fs ≡ cond (is_at (nat_cmp k) q) None (lookup (is_at (nat_cmp q)) es)) → from_entries fs ≡ remove m k
   removed_seen es fs m k seen removed = one_removed es fs k removed ∙ ap (λ (m : FinMap nat_cmp X). remove m k) seen

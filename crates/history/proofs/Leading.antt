@@ -21,7 +21,8 @@ leads_first hash history = record {
   replayed = ([], tt, refl);
 }
 
-recalls_push : (history : List Event) (ids : List ℕ) (calls : List Answered) (id : ℕ) (one : Answered) → RecallsEach history ids calls → Recalls history id one → RecallsEach history (ids ++ id ∷ []) (calls ++ one ∷ [])
+recalls_push : (history : List Event) (ids : List ℕ) (calls : List Answered) (id : ℕ) (one : Answered) → RecallsEach history ids calls → Recalls history id one
+    → RecallsEach history (ids ++ id ∷ []) (calls ++ one ∷ [])
 recalls_push history [] [] id one each last = (last, tt)
 recalls_push history [] (x ∷ xs) id one each last = absurd each
 recalls_push history (i ∷ ids) [] id one each last = absurd each

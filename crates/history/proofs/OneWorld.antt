@@ -24,7 +24,8 @@ same_call history id a b well recalls_a recalls_b =
     (sym recalls_a.0.3 ∙ calls ∙ recalls_b.0.3, sym recalls_a.0.4 ∙ opens ∙ recalls_b.0.4)
 
 -- the same call in the same world leads to the same world
-pub same_effect : (hash : ℕ → ℕ) (world v w : HandleMap) (a b : Answered) → a.call ≡ b.call → a.opens ≡ b.opens → Effect hash world a.call a.opens a.answer v → Effect hash world b.call b.opens b.answer w
+pub same_effect : (hash : ℕ → ℕ) (world v w : HandleMap) (a b : Answered) → a.call ≡ b.call → a.opens ≡ b.opens → Effect hash world a.call a.opens a.answer v
+    → Effect hash world b.call b.opens b.answer w
     → (a.answer ≡ b.answer) × (v ≡ w)
 same_effect hash world v w a b calls opens leads_a leads_b =
     let moved : effect hash world a.call a.opens ≡ effect hash world b.call b.opens = ap (λ call. effect hash world call a.opens) calls ∙ ap (λ h. effect hash world b.call h) opens in

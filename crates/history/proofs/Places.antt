@@ -1,5 +1,6 @@
 -- What stands at a place of a list that was made longer, written to or cut.
-use Rattle.std.proofs.Common.{◌≡◌, ◌≢◌, ℕ, zero, suc, ◌<◌, ◌⊎◌, inl, inr, List, [], ◌∷◌, ◌++◌, length, take, set, Option, Some, None, slice_get, get_or, is_some, true, false, replicate, refl, ap, arith}
+use Rattle.std.proofs.Common.{◌≡◌, ◌≢◌, ℕ, zero, suc, ◌<◌, ◌⊎◌, inl, inr, List, [], ◌∷◌, ◌++◌, length, take, set, Option, Some}
+use Rattle.std.proofs.Common.{None, slice_get, get_or, is_some, true, false, replicate, refl, ap, arith}
 use Rattle.std.proofs.lemmas.Bool.{false≢true, true≢false}
 
 -- a longer list keeps its elements

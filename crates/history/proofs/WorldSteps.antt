@@ -20,15 +20,18 @@ pub changed_world-there : (hash : ℕ → ℕ) (call : Call) (w next : HandleMap
     → (r, new) ≡ reply_or_same s (changed_handle hash call s.access s.pairs) → (r, next) ≡ answer_in w (changed_world hash call w h)
 changed_world-there hash call w next h s new r is put same =
     ap (λ (x : HandleMap). (r, x)) put ∙ changed_at w h s new r _ is same
-    ∙ ap (λ (o : Option HandleState). answer_in w (option_and_then {U = Reply × HandleMap} (λ s. option_and_then {U = Reply × HandleMap} (λ e. Some (e.0, map.insert w h e.1)) (changed_handle hash call s.access s.pairs)) o)) (sym is)
+    ∙ ap (λ (o : Option HandleState). answer_in w (option_and_then {U = Reply × HandleMap} (λ s.
+    option_and_then {U = Reply × HandleMap} (λ e. Some (e.0, map.insert w h e.1)) (changed_handle hash call s.access s.pairs)) o)) (sym is)
 
 -- nothing changes where the handle isn't there
 pub changed_world-absent : (hash : ℕ → ℕ) (call : Call) (w : HandleMap) (h : ℕ) → map.get w h ≡ None → (None, w) ≡ answer_in w (changed_world hash call w h)
 changed_world-absent hash call w h is =
-    ap (λ (o : Option HandleState). answer_in w (option_and_then {U = Reply × HandleMap} (λ s. option_and_then {U = Reply × HandleMap} (λ e. Some (e.0, map.insert w h e.1)) (changed_handle hash call s.access s.pairs)) o)) (sym is)
+    ap (λ (o : Option HandleState). answer_in w (option_and_then {U = Reply × HandleMap} (λ s.
+    option_and_then {U = Reply × HandleMap} (λ e. Some (e.0, map.insert w h e.1)) (changed_handle hash call s.access s.pairs)) o)) (sym is)
 
 -- a handle that is there goes
-pub closed : (w next : HandleMap) (h : ℕ) (s : HandleState) → map.get w h ≡ Some s → next ≡ map.remove w h → (Some reply.Closed, next) ≡ answer_in w (option_and_then (λ m. Some (reply.Closed, map.remove w h)) (map_of w h))
+pub closed : (w next : HandleMap) (h : ℕ) (s : HandleState) → map.get w h ≡ Some s → next ≡ map.remove w h
+    → (Some reply.Closed, next) ≡ answer_in w (option_and_then (λ m. Some (reply.Closed, map.remove w h)) (map_of w h))
 closed w next h s is gone =
     ap (λ (x : HandleMap). (Some reply.Closed, x)) gone
     ∙ ap (λ (o : Option HandleState). answer_in w (option_and_then (λ m. Some (reply.Closed, map.remove w h)) (option_and_then (λ s. Some s.pairs) o))) (sym is)
@@ -43,4 +46,6 @@ pub copied : (w next : HandleMap) (h n : ℕ) (opens : Option ℕ) (access : Acc
 copied w next h n opens access m is number absent opened =
     ap (λ (x : HandleMap). (Some (reply.Opened n), x)) opened
     ∙ ap (λ (o : Option HandleState). answer_in w (if is_some o then None else Some (reply.Opened n, naming w n access m))) (sym absent)
-    ∙ ap₂ (λ (o : Option ℕ) (p : Option KeyMap). answer_in w (option_and_then {U = Reply × HandleMap} (λ m. option_and_then {U = Reply × HandleMap} (λ n. if map.contains_key w n then None else Some (reply.Opened n, naming w n access m)) o) p)) (sym number) (sym is)
+    ∙ ap₂ (λ (o : Option ℕ) (p : Option KeyMap). answer_in w
+    (option_and_then {U = Reply × HandleMap} (λ m. option_and_then {U = Reply × HandleMap} (λ n. if map.contains_key w n then None else Some (reply.Opened n, naming w n access m)) o) p))
+    (sym number) (sym is)

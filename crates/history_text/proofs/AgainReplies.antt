@@ -153,8 +153,13 @@ clean_reply (answer.Count n) f = (clean (codes "count") refl, (clean_decimal n f
 clean_reply answer.NoSlots f = (clean (codes "no-slots") refl, tt)
 
 pub clean_event : (e : Event) → EventFits e → AreClean (event_words e)
-clean_event (Begin id actor call opens) f =
-    (clean (codes "begin") refl, (clean_decimal id f.0, (clean_decimal actor (let le = f.1 in omega arith), clean_more (call_words call) (opens_words opens) (clean_call call f.2) (clean_opens opens f.3))))
+clean_event (Begin id actor call opens) f = (
+  clean (codes "begin") refl,
+  (
+    clean_decimal id f.0,
+    (clean_decimal actor (let le = f.1 in omega arith), clean_more (call_words call) (opens_words opens) (clean_call call f.2) (clean_opens opens f.3)),
+  ),
+)
 clean_event (End id answer) f = (clean (codes "end") refl, (clean_decimal id f.0, clean_reply answer f.1))
 
 pub clean_order : (ids : List ℕ) → AllByRecursion IsNumber ids → AreClean (order_words ids)

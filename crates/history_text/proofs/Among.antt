@@ -2,6 +2,7 @@
 use Rattle.std.proofs.Common.{◌≡◌, ℕ, zero, suc, ◌<◌, List, [], ◌∷◌, ◌++◌, length, refl, sym, ap, ◌∙◌, Some, Bool, true, false, cond, ◌||◌, ◌⊎◌, inl, inr, arith}
 use Rattle.std.specs.Prelude.{filter, slice_get}
 use Rattle.std.specs.List.{list_any}
+use Rattle.std.proofs.lemmas.Bool.{or_left, or_right}
 
 abbrev pub Among : {X : Type 0} → X → List X → Type 0
 Among p [] = ⊥
@@ -55,14 +56,6 @@ any_among t [] e = absurd cc
 any_among t (x ∷ xs) e =
     elim (or_cases (t x) (list_any t xs) e)
     [ inl h ↦ (x, inl refl, h) | inr h ↦ (let r = any_among t xs h in (r.0, inr r.1, r.2)) ]
-
-or_left : (a b : Bool) → a ≡ true → (a || b) ≡ true
-or_left true b e = refl
-or_left false b e = absurd cc
-
-or_right : (a b : Bool) → b ≡ true → (a || b) ≡ true
-or_right true b e = refl
-or_right false b e = e
 
 pub among_any : {X : Type 0} (t : X → Bool) (p : X) (xs : List X) → Among p xs → t p ≡ true → list_any t xs ≡ true
 among_any t p [] m h = absurd m

@@ -3,7 +3,7 @@ use Rattle.std.proofs.Common.{◌≡◌, ℕ, zero, suc, ◌+◌, ◌≤◌, ◌
 use Rattle.std.specs.Prelude.{map, codes, not, filter, nat_lt}
 use Rattle.std.specs.List.{list_all, onto_first, AllByRecursion}
 use Rattle.std.specs.Fmt.{decimal, digits, digits_onto, digit_glyph}
-use Rattle.std.proofs.lemmas.Bool.{eqb-true}
+use Rattle.std.proofs.lemmas.Bool.{eqb-true, and_parts, not-true}
 use Rattle.std.proofs.lemmas.List.Splits.{slice_split-cons_no, length-slice_split}
 use Rattle.history.specs.declared.calls.Call.{Call}
 use Rattle.history.specs.declared.calls.Call.TheVariants.{Get, Put, PutIfAbsent, Replace, ReplaceIf, Remove, RemoveIf, Clear, Snapshot, Freeze, Close, Entries, Count}
@@ -13,7 +13,6 @@ use Rattle.history.specs.declared.events.Event.{Event}
 use Rattle.history.specs.declared.events.Event.TheVariants.{Begin, End}
 use Rattle.text_lines.specs.Words.{spaced, cut_at}
 use Rattle.text_lines.specs.Texts.{lines_of, without_empty_last, is_ignored, said_lines}
-use Rattle.text_lines.proofs.Again.{and_parts, not_parts}
 use Rattle.history_text.specs.Texts.{call_words, opens_words, reply_words, event_words, order_words, event_text, order_text, pair_text}
 use Rattle.text_lines.proofs.FirstLine.{kept}
 
@@ -56,7 +55,7 @@ no_feed_append (x ∷ xs) b p q = (p.0, no_feed_append xs b p.1 q)
 
 pub no_feed : (w : List ℕ) → list_all (λ b. not (eqb b 10)) w ≡ true → HasNoFeed w
 no_feed [] e = tt
-no_feed (b ∷ bs) e = let p = and_parts (not (eqb b 10)) (list_all (λ x. not (eqb x 10)) bs) e in (not_parts (eqb b 10) p.0, no_feed bs p.1)
+no_feed (b ∷ bs) e = let p = and_parts (not (eqb b 10)) (list_all (λ x. not (eqb x 10)) bs) e in (not-true (eqb b 10) p.0, no_feed bs p.1)
 
 other_byte : (c : ℕ) (b : Bool) → eqb c 10 ≡ b → 11 ≤ c → eqb c 10 ≡ false
 other_byte c true e high = absurd (let same : c ≡ 10 = eqb-true c 10 e in omega arith)

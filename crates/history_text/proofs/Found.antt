@@ -71,7 +71,8 @@ in_events (l ∷ more) hash es end read t well leads done =
       | inl d ↦ (let rest = in_events more hash es end read t well (subst (λ (p : Progress). Leads history_format p more end) d.0 leads.2) done in
           (rest.0, (rest.1.0, rest.1.1, inl (d.1, rest.1.2)), rest.2))
       | inr (inl v) ↦ (let says = v.2 in
-          let rest = in_events more hash (es ++ v.0 ∷ []) end read (tied_push es v.0 t says.may) (well_formed_push es v.0 well says.may) (subst (λ (p : Progress). Leads history_format p more end) v.1 leads.2) done in
+          let rest = in_events more hash (es ++ v.0 ∷ []) end read (tied_push es v.0 t says.may) (well_formed_push es v.0 well says.may)
+          (subst (λ (p : Progress). Leads history_format p more end) v.1 leads.2) done in
           (rest.0, (v.0 ∷ rest.1.0, rest.1.1 ∙ append_assoc es (v.0 ∷ []) rest.1.0, inr (inl (v.0, rest.1.0, refl, line_of l (event_words v.0) says.text, says.fits, rest.1.2))), rest.2))
       | inr (inr o) ↦ (let found : Reading = record { hash = hash; events = es; order = o.0 } in
           let rest = after_order more found end (subst (λ (p : Progress). Leads history_format p more end) o.1 leads.2) in

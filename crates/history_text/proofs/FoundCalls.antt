@@ -62,10 +62,12 @@ key_text c name h k n m p q r = cc
 on_key : (o : Option CallName) (name h k : List ℕ) (x : Call × Option ℕ) → Named o name → call_on_key o (both (handle_word h) (value_word k)) ≡ Ok x → SaysCall (name ∷ h ∷ k ∷ []) x
 on_key (Some call.Get) name h k x is e =
     let m = made_ok _ (both (handle_word h) (value_word k)) x e in let w = at_key h k m.0 m.1 in
-    subst (λ (y : Call × Option ℕ). SaysCall (name ∷ h ∷ k ∷ []) y) m.2 (record { text = key_text call.Get name h k m.0.0 m.0.1 (is call.Get refl) w.0 w.1; fits = (w.2, w.3); opened = tt; rightly = refl })
+    subst (λ (y : Call × Option ℕ). SaysCall (name ∷ h ∷ k ∷ []) y) m.2
+    (record { text = key_text call.Get name h k m.0.0 m.0.1 (is call.Get refl) w.0 w.1; fits = (w.2, w.3); opened = tt; rightly = refl })
 on_key (Some call.Remove) name h k x is e =
     let m = made_ok _ (both (handle_word h) (value_word k)) x e in let w = at_key h k m.0 m.1 in
-    subst (λ (y : Call × Option ℕ). SaysCall (name ∷ h ∷ k ∷ []) y) m.2 (record { text = key_text call.Remove name h k m.0.0 m.0.1 (is call.Remove refl) w.0 w.1; fits = (w.2, w.3); opened = tt; rightly = refl })
+    subst (λ (y : Call × Option ℕ). SaysCall (name ∷ h ∷ k ∷ []) y) m.2
+    (record { text = key_text call.Remove name h k m.0.0 m.0.1 (is call.Remove refl) w.0 w.1; fits = (w.2, w.3); opened = tt; rightly = refl })
 on_key other name h k x is e = absurd cc
 
 at_pair : (h k v : List ℕ) (a : ℕ × (ℕ × ℕ)) → both (handle_word h) (both (value_word k) (value_word v)) ≡ Ok a
@@ -79,34 +81,42 @@ pair_text : (c : CallName) (name h k v : List ℕ) (n m l : ℕ) → name ≡ ca
     → name ∷ h ∷ k ∷ v ∷ [] ≡ call_name c ∷ decimal n ∷ decimal m ∷ decimal l ∷ []
 pair_text c name h k v n m l p q r s = cc
 
-on_pair : (o : Option CallName) (name h k v : List ℕ) (x : Call × Option ℕ) → Named o name → call_on_pair o (both (handle_word h) (both (value_word k) (value_word v))) ≡ Ok x → SaysCall (name ∷ h ∷ k ∷ v ∷ []) x
+on_pair : (o : Option CallName) (name h k v : List ℕ) (x : Call × Option ℕ) → Named o name → call_on_pair o (both (handle_word h) (both (value_word k) (value_word v))) ≡ Ok x
+    → SaysCall (name ∷ h ∷ k ∷ v ∷ []) x
 on_pair (Some call.Put) name h k v x is e =
     let m = made_ok _ (both (handle_word h) (both (value_word k) (value_word v))) x e in let w = at_pair h k v m.0 m.1 in
-    subst (λ (y : Call × Option ℕ). SaysCall (name ∷ h ∷ k ∷ v ∷ []) y) m.2 (record { text = pair_text call.Put name h k v m.0.0 m.0.1.0 m.0.1.1 (is call.Put refl) w.0 w.1 w.2; fits = (w.3, w.4, w.5); opened = tt; rightly = refl })
+    subst (λ (y : Call × Option ℕ). SaysCall (name ∷ h ∷ k ∷ v ∷ []) y) m.2
+    (record { text = pair_text call.Put name h k v m.0.0 m.0.1.0 m.0.1.1 (is call.Put refl) w.0 w.1 w.2; fits = (w.3, w.4, w.5); opened = tt; rightly = refl })
 on_pair (Some call.PutIfAbsent) name h k v x is e =
     let m = made_ok _ (both (handle_word h) (both (value_word k) (value_word v))) x e in let w = at_pair h k v m.0 m.1 in
-    subst (λ (y : Call × Option ℕ). SaysCall (name ∷ h ∷ k ∷ v ∷ []) y) m.2 (record { text = pair_text call.PutIfAbsent name h k v m.0.0 m.0.1.0 m.0.1.1 (is call.PutIfAbsent refl) w.0 w.1 w.2; fits = (w.3, w.4, w.5); opened = tt; rightly = refl })
+    subst (λ (y : Call × Option ℕ). SaysCall (name ∷ h ∷ k ∷ v ∷ []) y) m.2
+    (record { text = pair_text call.PutIfAbsent name h k v m.0.0 m.0.1.0 m.0.1.1 (is call.PutIfAbsent refl) w.0 w.1 w.2; fits = (w.3, w.4, w.5); opened = tt; rightly = refl })
 on_pair (Some call.Replace) name h k v x is e =
     let m = made_ok _ (both (handle_word h) (both (value_word k) (value_word v))) x e in let w = at_pair h k v m.0 m.1 in
-    subst (λ (y : Call × Option ℕ). SaysCall (name ∷ h ∷ k ∷ v ∷ []) y) m.2 (record { text = pair_text call.Replace name h k v m.0.0 m.0.1.0 m.0.1.1 (is call.Replace refl) w.0 w.1 w.2; fits = (w.3, w.4, w.5); opened = tt; rightly = refl })
+    subst (λ (y : Call × Option ℕ). SaysCall (name ∷ h ∷ k ∷ v ∷ []) y) m.2
+    (record { text = pair_text call.Replace name h k v m.0.0 m.0.1.0 m.0.1.1 (is call.Replace refl) w.0 w.1 w.2; fits = (w.3, w.4, w.5); opened = tt; rightly = refl })
 on_pair (Some call.RemoveIf) name h k v x is e =
     let m = made_ok _ (both (handle_word h) (both (value_word k) (value_word v))) x e in let w = at_pair h k v m.0 m.1 in
-    subst (λ (y : Call × Option ℕ). SaysCall (name ∷ h ∷ k ∷ v ∷ []) y) m.2 (record { text = pair_text call.RemoveIf name h k v m.0.0 m.0.1.0 m.0.1.1 (is call.RemoveIf refl) w.0 w.1 w.2; fits = (w.3, w.4, w.5); opened = tt; rightly = refl })
+    subst (λ (y : Call × Option ℕ). SaysCall (name ∷ h ∷ k ∷ v ∷ []) y) m.2
+    (record { text = pair_text call.RemoveIf name h k v m.0.0 m.0.1.0 m.0.1.1 (is call.RemoveIf refl) w.0 w.1 w.2; fits = (w.3, w.4, w.5); opened = tt; rightly = refl })
 on_pair other name h k v x is e = absurd cc
 
 opened_text : (c : CallName) (name h y z : List ℕ) (n m : ℕ) → name ≡ call_name c → h ≡ decimal n → y ≡ codes "as" → z ≡ decimal m
     → name ∷ h ∷ y ∷ z ∷ [] ≡ call_name c ∷ decimal n ∷ codes "as" ∷ decimal m ∷ []
 opened_text c name h y z n m p q r s = cc
 
-opening : (o : Option CallName) (name h y as_word : List ℕ) (x : Call × Option ℕ) → Named o name → as_word ≡ codes "as" → opening_call o (both (handle_word h) (handle_word y)) ≡ Ok x → SaysCall (name ∷ h ∷ as_word ∷ y ∷ []) x
+opening : (o : Option CallName) (name h y as_word : List ℕ) (x : Call × Option ℕ) → Named o name → as_word ≡ codes "as" → opening_call o (both (handle_word h) (handle_word y)) ≡ Ok x
+    → SaysCall (name ∷ h ∷ as_word ∷ y ∷ []) x
 opening (Some call.Snapshot) name h y as_word x is as_is e =
     let m = made_ok _ (both (handle_word h) (handle_word y)) x e in let b = both_ok (handle_word h) (handle_word y) m.0 m.1 in
     let p = word_is 65535 h m.0.0 b.0 in let q = word_is 65535 y m.0.1 b.1 in let n = is call.Snapshot refl in
-    subst (λ (z : Call × Option ℕ). SaysCall (name ∷ h ∷ as_word ∷ y ∷ []) z) m.2 (record { text = opened_text call.Snapshot name h as_word y m.0.0 m.0.1 n p.0 as_is q.0; fits = p.1; opened = q.1; rightly = refl })
+    subst (λ (z : Call × Option ℕ). SaysCall (name ∷ h ∷ as_word ∷ y ∷ []) z) m.2
+    (record { text = opened_text call.Snapshot name h as_word y m.0.0 m.0.1 n p.0 as_is q.0; fits = p.1; opened = q.1; rightly = refl })
 opening (Some call.Freeze) name h y as_word x is as_is e =
     let m = made_ok _ (both (handle_word h) (handle_word y)) x e in let b = both_ok (handle_word h) (handle_word y) m.0 m.1 in
     let p = word_is 65535 h m.0.0 b.0 in let q = word_is 65535 y m.0.1 b.1 in let n = is call.Freeze refl in
-    subst (λ (z : Call × Option ℕ). SaysCall (name ∷ h ∷ as_word ∷ y ∷ []) z) m.2 (record { text = opened_text call.Freeze name h as_word y m.0.0 m.0.1 n p.0 as_is q.0; fits = p.1; opened = q.1; rightly = refl })
+    subst (λ (z : Call × Option ℕ). SaysCall (name ∷ h ∷ as_word ∷ y ∷ []) z) m.2
+    (record { text = opened_text call.Freeze name h as_word y m.0.0 m.0.1 n p.0 as_is q.0; fits = p.1; opened = q.1; rightly = refl })
 opening other name h y as_word x is as_is e = absurd cc
 
 four_cases : (o : Option CallName) (name h y z : List ℕ) (x : Call × Option ℕ) → Named o name → (b a : Bool) → bytes_eq y (codes "as") ≡ a

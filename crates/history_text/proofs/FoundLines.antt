@@ -3,7 +3,7 @@ use Rattle.std.proofs.Common.{◌≡◌, ℕ, List, [], ◌∷◌, ◌++◌, ref
 use Rattle.std.specs.Prelude.{map, codes, not}
 use Rattle.std.specs.List.{AllByRecursion}
 use Rattle.std.specs.Fmt.{decimal}
-use Rattle.std.proofs.lemmas.Bool.{eqb-true}
+use Rattle.std.proofs.lemmas.Bool.{eqb-true, not-true}
 use Rattle.std.proofs.lemmas.List.Splits.{join_with_byte-slice_split}
 use Rattle.ctrie_base.specs.declared.hashes.HashKind.{HashKind}
 use Rattle.history.specs.declared.events.Event.{Event}
@@ -31,10 +31,6 @@ pub record SaysEvent (es : List Event) (words : List (List ℕ)) (e : Event) : T
   pub fits : EventFits e
   pub may : MayFollow es e
 
-not_true : (b : Bool) → not b ≡ true → b ≡ false
-not_true true e = absurd cc
-not_true false e = refl
-
 three : (first id actor i a : List ℕ) (call rest : List (List ℕ)) → id ≡ i → actor ≡ a → call ≡ rest → first ∷ id ∷ actor ∷ call ≡ first ∷ i ∷ a ∷ rest
 three first id actor i a call rest p q r = cc
 
@@ -52,7 +48,7 @@ from_found es id actor call e t h =
     (record {
       text = three (codes "begin") id actor (decimal m.0.0) (decimal m.0.1.0) call (call_words m.0.1.1.0 ++ opens_words m.0.1.1.1) iw.0 aw.0 c.text;
       fits = (iw.1, aw.1, c.fits, c.opened);
-      may = begin_may es m.0.0 m.0.1.0 m.0.1.1.0 m.0.1.1.1 t (eqb-true m.0.0 (begun es) i.1) (not_true (is_busy es m.0.1.0) a.1) c.rightly;
+      may = begin_may es m.0.0 m.0.1.0 m.0.1.1.0 m.0.1.1.1 t (eqb-true m.0.0 (begun es) i.1) (not-true (is_busy es m.0.1.0) a.1) c.rightly;
     })
 
 begin_found : (es : List Event) (words : List (List ℕ)) (e : Event) → Tied es → begin_of es words ≡ Ok e → SaysEvent es (codes "begin" ∷ words) e

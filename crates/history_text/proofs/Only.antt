@@ -68,7 +68,8 @@ start_again k = ap (made (λ hash. InEvents hash [])) (header_again k)
 -- The words of the lines.
 
 event_line : (e : Event) → EventFits e → words_of (event_text e) ≡ event_words e
-event_line (Begin id actor call opens) f = let c = clean_event (Begin id actor call opens) f in words_again (codes "begin") (decimal id ∷ decimal actor ∷ (call_words call ++ opens_words opens)) c.0 c.1
+event_line (Begin id actor call opens) f = let c = clean_event (Begin id actor call opens) f in
+    words_again (codes "begin") (decimal id ∷ decimal actor ∷ (call_words call ++ opens_words opens)) c.0 c.1
 event_line (End id answer) f = let c = clean_event (End id answer) f in words_again (codes "end") (decimal id ∷ reply_words answer) c.0 c.1
 
 order_text_line : (ids : List ℕ) → AllByRecursion IsNumber ids → words_of (order_text ids) ≡ order_words ids
@@ -102,16 +103,19 @@ events_only [] hash es later order t well spelled = absurd spelled
 events_only (l ∷ more) hash es later order t well spelled =
     let whole : List Event → Reading = λ events. record { hash = hash; events = events; order = order } in
     elim spelled [
-      | inl d ↦ on (InEvents hash es) (InEvents hash es) l more (whole (es ++ later)) (ap (words_after (InEvents hash es)) d.0.1 ∙ denied_again hash es d.0.0) (events_only more hash es later order t well d.1)
+      | inl d ↦ on (InEvents hash es) (InEvents hash es) l more (whole (es ++ later)) (ap (words_after (InEvents hash es)) d.0.1 ∙ denied_again hash es d.0.0)
+          (events_only more hash es later order t well d.1)
       | inr (inl v) ↦ (let well_here : IsWellFormed (es ++ v.0 ∷ v.1) = subst (λ (xs : List Event). IsWellFormed (es ++ xs)) v.2 well in
           let may = well_next es v.0 v.1 well_here in
           let same = append_assoc es (v.0 ∷ []) v.1 in
           let rest = events_only more hash (es ++ v.0 ∷ []) v.1 order (tied_push es v.0 t may) (subst IsWellFormed (sym same) well_here) v.5 in
           let read = subst (λ (xs : List Event). Finishes (InEvents hash (es ++ v.0 ∷ [])) more (whole xs)) (same ∙ ap (λ (xs : List Event). es ++ xs) (sym v.2)) rest in
-          on (InEvents hash es) (InEvents hash (es ++ v.0 ∷ [])) l more (whole (es ++ later)) (ap (words_after (InEvents hash es)) (ap words_of v.3 ∙ event_line v.0 v.4) ∙ event_again es v.0 t may v.4 hash) read)
+          on (InEvents hash es) (InEvents hash (es ++ v.0 ∷ [])) l more (whole (es ++ later)) (ap (words_after (InEvents hash es)) (ap words_of v.3 ∙ event_line v.0 v.4)
+          ∙ event_again es v.0 t may v.4 hash) read)
       | inr (inr o) ↦ (let same = sym (append-nil es) ∙ ap (λ (xs : List Event). es ++ xs) (sym o.0) in
           let read = subst (λ (xs : List Event). Finishes (Ordered (whole es)) more (whole xs)) same (order_only more (whole es) o.3) in
-          on (InEvents hash es) (Ordered (whole es)) l more (whole (es ++ later)) (ap (words_after (InEvents hash es)) (ap words_of o.1 ∙ order_text_line order o.2) ∙ order_line_again hash es order o.2) read)
+          on (InEvents hash es) (Ordered (whole es)) l more (whole (es ++ later)) (ap (words_after (InEvents hash es)) (ap words_of o.1 ∙ order_text_line order o.2)
+          ∙ order_line_again hash es order o.2) read)
     ]
 
 -- The header, and the whole text.
@@ -119,7 +123,8 @@ events_only (l ∷ more) hash es later order t well spelled =
 start_only : (lines : List (List ℕ)) (read : Reading) → IsWellFormed read.events → Spell lines read → Finishes Start lines read
 start_only [] read well spelled = absurd spelled
 start_only (l ∷ more) read well spelled =
-    on Start (InEvents read.hash []) l more read (ap (words_after Start) (ap words_of spelled.0 ∙ hash_line read.hash) ∙ start_again read.hash) (events_only more read.hash [] read.events read.order tied_nil well spelled.1)
+    on Start (InEvents read.hash []) l more read (ap (words_after Start) (ap words_of spelled.0 ∙ hash_line read.hash) ∙ start_again read.hash)
+    (events_only more read.hash [] read.events read.order tied_nil well spelled.1)
 
 -- what is spelled so is read
 pub read_again : (text : List ℕ) (read : Reading) → IsSpelling text read → IsShort text → history_of text ≡ Ok read

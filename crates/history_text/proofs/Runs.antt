@@ -15,15 +15,6 @@ use Rattle.history_text.specs.Running.{running, with_event, idle_actor, running_
 pub running_push : (es : List Event) (e : Event) → running (es ++ e ∷ []) ≡ with_event (running es) e
 running_push es e = fold-append with_event [] es (e ∷ [])
 
-count_push : (es : List Event) (e : Event) → begun (es ++ e ∷ []) ≡ begun es + begun (e ∷ [])
-count_push es e = sum_by-append (λ x. cond (is_begin x) 1 0) es (e ∷ [])
-
-pub begun_begin : (es : List Event) (id actor : ℕ) (call : Call) (opens : Option ℕ) → begun (es ++ Begin id actor call opens ∷ []) ≡ begun es + 1
-begun_begin es id actor call opens = count_push es (Begin id actor call opens)
-
-pub begun_end : (es : List Event) (id : ℕ) (answer : Reply) → begun (es ++ End id answer ∷ []) ≡ begun es
-begun_end es id answer = omega (arith, count_push es (End id answer))
-
 pub busy_err : (es : List Event) (word : List ℕ) (actor : ℕ) → actor_word word ≡ Ok actor → list_any (λ one. eqb one.1 actor) (running es) ≡ true → idle_actor es word ≡ Err BadLine
 busy_err es word actor h any = rw (h, any) refl
 

@@ -9,7 +9,8 @@ use Rattle.history.specs.declared.events.Event.{Event}
 use Rattle.history.specs.declared.events.Event.TheVariants.{Begin, End}
 use Rattle.history.specs.Histories.{Operation, BeginsAt, EndsAt, IsRunning, begun, OpensRightly, MayFollow, IsWellFormed}
 use Rattle.history_text.specs.Running.{running, is_running, is_busy}
-use Rattle.history_text.proofs.Runs.{running_push, begun_begin, begun_end}
+use Rattle.history_text.proofs.Runs.{running_push}
+use Rattle.history.proofs.Begins.{begun_push, begun_same}
 use Rattle.history_text.proofs.Among.{Among, among_push, among_before, among_last, among_filter, among_kept, any_among, among_any, get_push, get_before, get_last}
 
 -- the list that is kept has just the operations that run, and only ids that have begun are known
@@ -35,7 +36,8 @@ ends_before es e place id answer b = elim (get_push es e (End id answer) place b
 
 -- A begin.
 
-begin_runs : (es : List Event) (n a : ℕ) (c : Call) (o : Option ℕ) → Tied es → n ≡ begun es → (id actor : ℕ) → Among (id, actor) (running es) ⊎ (◌≡◌ {A = ℕ × ℕ} (n, a) (id, actor)) → IsRunning (es ++ Begin n a c o ∷ []) id actor
+begin_runs : (es : List Event) (n a : ℕ) (c : Call) (o : Option ℕ) → Tied es → n ≡ begun es → (id actor : ℕ) → Among (id, actor) (running es) ⊎ (◌≡◌ {A = ℕ × ℕ} (n, a) (id, actor))
+    → IsRunning (es ++ Begin n a c o ∷ []) id actor
 begin_runs es n a c o t next id actor (inl m) =
     let r = t.runs id actor m in (
       (r.0.0, r.0.1, get_before es (Begin n a c o ∷ []) _ r.0.0 r.0.2, r.0.3),
@@ -56,7 +58,7 @@ pair_same n a id b actor p q r = cc
 tied_begin : (es : List Event) (n a : ℕ) (c : Call) (o : Option ℕ) → Tied es → n ≡ begun es → Tied (es ++ Begin n a c o ∷ [])
 tied_begin es n a c o t next =
     let e = Begin n a c o in
-    let more = begun_begin es n a c o in
+    let more = begun_push es (Begin n a c o) refl in
     record {
       runs = λ id actor m. begin_runs es n a c o t next id actor (among_push (id, actor) (running es) (n, a) (subst (λ (l : List (ℕ × ℕ)). Among (id, actor) l) (running_push es e) m));
       listed = λ id actor r. subst (λ (l : List (ℕ × ℕ)). Among (id, actor) l) (sym (running_push es e))
@@ -86,7 +88,7 @@ tied_end : (es : List Event) (n : ℕ) (a : Reply) → Tied es → (x : ℕ) →
 tied_end es n a t x run =
     let e = End n a in
     let test : ℕ × ℕ → Bool = λ one. not (eqb one.0 n) in
-    let same = begun_end es n a in
+    let same = begun_same es (End n a) refl in
     let n_known = t.known run.0.0 n run.0.1 run.0.2 in
     record {
       runs = λ id actor m.
@@ -116,7 +118,8 @@ tied_push es (End id answer) t may = tied_end es id answer t may.0 may.1
 busy_runs : (es : List Event) (actor : ℕ) → Tied es → (id : ℕ) → IsRunning es id actor → is_busy es actor ≡ true
 busy_runs es actor t id r = among_any (λ one. eqb one.1 actor) (id, actor) (running es) (t.listed id actor r) (eq-eqb actor actor refl)
 
-pub begin_may : (es : List Event) (id actor : ℕ) (call : Call) (opens : Option ℕ) → Tied es → id ≡ begun es → is_busy es actor ≡ false → OpensRightly call opens → MayFollow es (Begin id actor call opens)
+pub begin_may : (es : List Event) (id actor : ℕ) (call : Call) (opens : Option ℕ) → Tied es → id ≡ begun es → is_busy es actor ≡ false → OpensRightly call opens
+    → MayFollow es (Begin id actor call opens)
 begin_may es id actor call opens t next idle rightly = (next, rightly, λ other r. let b = busy_runs es actor t other r in absurd cc)
 
 pub end_may : (es : List Event) (id : ℕ) (answer : Reply) → Tied es → is_running es id ≡ true → MayFollow es (End id answer)
@@ -130,7 +133,8 @@ not_busy false p = refl
 
 pub may_begin : (es : List Event) (id actor : ℕ) (call : Call) (opens : Option ℕ) → Tied es → MayFollow es (Begin id actor call opens) → is_busy es actor ≡ false
 may_begin es id actor call opens t may =
-    not_busy (is_busy es actor) (λ h. let f = any_among (λ one. eqb one.1 actor) (running es) h in may.2 f.0.0 (subst (λ (a : ℕ). IsRunning es f.0.0 a) (eqb-true f.0.1 actor f.2) (t.runs f.0.0 f.0.1 f.1)))
+    not_busy (is_busy es actor) (λ h. let f = any_among (λ one. eqb one.1 actor) (running es) h in
+    may.2 f.0.0 (subst (λ (a : ℕ). IsRunning es f.0.0 a) (eqb-true f.0.1 actor f.2) (t.runs f.0.0 f.0.1 f.1)))
 
 pub may_end : (es : List Event) (id : ℕ) (answer : Reply) → Tied es → MayFollow es (End id answer) → is_running es id ≡ true
 may_end es id answer t may = among_any (λ one. eqb one.0 id) (id, may.0) (running es) (t.listed id may.0 may.1) (eq-eqb id id refl)

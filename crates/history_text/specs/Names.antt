@@ -27,7 +27,8 @@ call_name call.Entries = codes "entries"
 call_name call.Count = codes "count"
 
 abbrev pub call_names : List CallName
-call_names = call.Get ∷ call.Put ∷ call.PutIfAbsent ∷ call.Replace ∷ call.ReplaceIf ∷ call.Remove ∷ call.RemoveIf ∷ call.Clear ∷ call.Snapshot ∷ call.Freeze ∷ call.Close ∷ call.Entries ∷ call.Count ∷ []
+call_names = call.Get ∷ call.Put ∷ call.PutIfAbsent ∷ call.Replace ∷ call.ReplaceIf ∷ call.Remove ∷ call.RemoveIf ∷ call.Clear ∷ call.Snapshot ∷ call.Freeze ∷ call.Close ∷ call.Entries ∷
+    call.Count ∷ []
 
 abbrev pub reply_name : ReplyName → List ℕ
 reply_name reply.None = codes "none"

@@ -6,11 +6,22 @@ use std::test::Fail;
 
 // Each call and each reply once.
 const WHOLE: &[u8] =
-    b"# a history\n\nhash wide\nbegin 0 1 put 0 1 10\nend 0 none\nbegin 1 1 put-if-absent 0 1 11\nend 1 some 10\nbegin 2 1 replace 0 1 12\nend 2 some 10\nbegin 3 1 replace-if 0 1 12 13\nend 3 true\nbegin 4 255 remove-if 0 1 14\nend 4 false\ndenied 2 7 NoActor\nbegin 5 1 snapshot 0 as 1\nend 5 handle 1\nbegin 6 1 freeze 0 as 65535\nend 6 handle 65535\nbegin 7 1 entries 65535\nend 7 pairs 1=13 18446744073709551615=0\nbegin 8 1 count 65535\nend 8 count 2\nbegin 9 1 clear 1\nend 9 cleared\nbegin 10 1 close 1\nend 10 closed\nbegin 11 1 remove 0 1\nbegin 12 2 get 0 1\nend 11 no-slots\nend 12 crowded\norder 0 1 2\nslots used 2 free 14 limbo 0";
+    b"# a history\n\nhash wide\nbegin 0 1 put 0 1 10\nend 0 none\nbegin 1 1 put-if-absent 0 1 11\nend 1 some 10\n\
+    begin 2 1 replace 0 1 12\nend 2 some 10\nbegin 3 1 replace-if 0 1 12 13\nend 3 true\n\
+    begin 4 255 remove-if 0 1 14\nend 4 false\ndenied 2 7 NoActor\nbegin 5 1 snapshot 0 as 1\nend 5 handle 1\n\
+    begin 6 1 freeze 0 as 65535\nend 6 handle 65535\nbegin 7 1 entries 65535\n\
+    end 7 pairs 1=13 18446744073709551615=0\nbegin 8 1 count 65535\nend 8 count 2\nbegin 9 1 clear 1\n\
+    end 9 cleared\nbegin 10 1 close 1\nend 10 closed\nbegin 11 1 remove 0 1\nbegin 12 2 get 0 1\nend 11 no-slots\n\
+    end 12 crowded\norder 0 1 2\nslots used 2 free 14 limbo 0";
 
 // Its lines that aren't ignored, without the header, the denied line and the last line.
 const WRITTEN: &[u8] =
-    b"begin 0 1 put 0 1 10\nend 0 none\nbegin 1 1 put-if-absent 0 1 11\nend 1 some 10\nbegin 2 1 replace 0 1 12\nend 2 some 10\nbegin 3 1 replace-if 0 1 12 13\nend 3 true\nbegin 4 255 remove-if 0 1 14\nend 4 false\nbegin 5 1 snapshot 0 as 1\nend 5 handle 1\nbegin 6 1 freeze 0 as 65535\nend 6 handle 65535\nbegin 7 1 entries 65535\nend 7 pairs 1=13 18446744073709551615=0\nbegin 8 1 count 65535\nend 8 count 2\nbegin 9 1 clear 1\nend 9 cleared\nbegin 10 1 close 1\nend 10 closed\nbegin 11 1 remove 0 1\nbegin 12 2 get 0 1\nend 11 no-slots\nend 12 crowded\norder 0 1 2";
+    b"begin 0 1 put 0 1 10\nend 0 none\nbegin 1 1 put-if-absent 0 1 11\nend 1 some 10\nbegin 2 1 replace 0 1 12\n\
+    end 2 some 10\nbegin 3 1 replace-if 0 1 12 13\nend 3 true\nbegin 4 255 remove-if 0 1 14\nend 4 false\n\
+    begin 5 1 snapshot 0 as 1\nend 5 handle 1\nbegin 6 1 freeze 0 as 65535\nend 6 handle 65535\n\
+    begin 7 1 entries 65535\nend 7 pairs 1=13 18446744073709551615=0\nbegin 8 1 count 65535\nend 8 count 2\n\
+    begin 9 1 clear 1\nend 9 cleared\nbegin 10 1 close 1\nend 10 closed\nbegin 11 1 remove 0 1\n\
+    begin 12 2 get 0 1\nend 11 no-slots\nend 12 crowded\norder 0 1 2";
 
 fn written(alloc: Global, given: &Given) -> Result<String, Fail> {
     let mut text = String::new(alloc);
@@ -120,7 +131,10 @@ fn tells_the_first_fault(rt: HostRuntime) {
 
 // The second report of README, with its order, and what is wrong with other orders.
 const LATE_PUT: &[u8] =
-    b"hash low\nbegin 0 1 put 0 1 10\nend 0 none\nbegin 1 1 put 0 33 330\nend 1 none\nbegin 2 1 put 0 65 650\nbegin 3 2 freeze 0 as 1\nend 3 handle 1\nend 2 none\nbegin 4 1 get 1 65\nend 4 some 650\nbegin 5 1 get 0 65\nend 5 some 650\nbegin 6 1 get 3 65\nend 6 none\nbegin 7 1 put 1 5 50\nend 7 no-slots\nbegin 8 1 put 1 5 50\nbegin 9 2 freeze 0 as 1\nbegin 10 3 count 0\norder\n";
+    b"hash low\nbegin 0 1 put 0 1 10\nend 0 none\nbegin 1 1 put 0 33 330\nend 1 none\nbegin 2 1 put 0 65 650\n\
+    begin 3 2 freeze 0 as 1\nend 3 handle 1\nend 2 none\nbegin 4 1 get 1 65\nend 4 some 650\nbegin 5 1 get 0 65\n\
+    end 5 some 650\nbegin 6 1 get 3 65\nend 6 none\nbegin 7 1 put 1 5 50\nend 7 no-slots\nbegin 8 1 put 1 5 50\n\
+    begin 9 2 freeze 0 as 1\nbegin 10 3 count 0\norder\n";
 
 const WRONG: [(&[u64], &str); 10] = [
     (&[0, 1, 2, 3, 4, 5, 1], "operation 1 stands twice"),

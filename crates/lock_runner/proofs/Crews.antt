@@ -62,8 +62,10 @@ moved_else actor seat owner other apart = rw (ne_eqb other actor apart) refl
 each_moved : (terms : Terms) (board : Taken) (owner : ℕ → ℕ) (seat actor to : ℕ) (es : List Entry) → EachStands terms board owner seat es → AreOthers actor es →
     EachStands terms board (moved_to actor to owner) seat es
 each_moved terms board owner seat actor to [] stand others = tt
-each_moved terms board owner seat actor to (e ∷ es) stand others =
-    (stand_with terms board owner (moved_to actor to owner) seat seat e stand.0 (moved_else actor to owner e.actor others.0 ∙ stand.0.owned), each_moved terms board owner seat actor to es stand.1 others.1)
+each_moved terms board owner seat actor to (e ∷ es) stand others = (
+  stand_with terms board owner (moved_to actor to owner) seat seat e stand.0 (moved_else actor to owner e.actor others.0 ∙ stand.0.owned),
+  each_moved terms board owner seat actor to es stand.1 others.1,
+)
 
 -- where other views show what is kept, by other owners
 module _ (terms : Terms) (s : State Taken View) (kept : IsKept terms s) (views : List View) (owner : ℕ → ℕ) where

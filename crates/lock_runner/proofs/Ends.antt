@@ -104,7 +104,8 @@ last_account : (seats : List Seated) (board : Taken) → AreTold seats → HaveF
     account_in seat.actor board ≡ record { answers = seat.answers; running = seat.running }
 last_account seats board told followed k seat e = same_account seat.actor seat.seen board (each_followed board seats followed k seat e) ∙ told k seat e
 
-from_closed : (runner : Room) (terms : Terms) (seats : List Seated) (board : Taken) → terms.limits ≡ runner.limits → AreTold seats → IsClosed terms (entries_of seats) board → IsGathered runner seats board
+from_closed : (runner : Room) (terms : Terms) (seats : List Seated) (board : Taken) → terms.limits ≡ runner.limits → AreTold seats → IsClosed terms (entries_of seats) board
+    → IsGathered runner seats board
 from_closed runner terms seats board same told closed =
     let account = last_account seats board told closed.followed in
     record {
@@ -122,7 +123,8 @@ pub gathers : (runner : Room) (terms : Terms) (id : ℕ) (me : Me Taken View) (s
     terms.limits ≡ runner.limits → terms.seats ≡ runner.seats → yielded ≡ seats → me ≡ (crew_view (entries_of yielded), []) → AreTold yielded → AreHere runner.seats seats →
     Final (Seen (IsKept terms) id me.0) ws xs → get_elem? xs 0 ≡ some machine → IsGathered runner seats machine
 gathers runner terms id me seats yielded ws xs machine sizes number whole is told here last at =
-    let all : AreAll terms.seats (entries_of yielded) = subst (λ n. AreAll n (entries_of yielded)) (sym number) (are_all runner.seats yielded (subst (λ ys. AreHere runner.seats ys) (sym whole) here)) in
+    let all : AreAll terms.seats (entries_of yielded) =
+    subst (λ n. AreAll n (entries_of yielded)) (sym number) (are_all runner.seats yielded (subst (λ ys. AreHere runner.seats ys) (sym whole) here)) in
     let done = closes terms id (entries_of yielded) ws xs all (subst (λ (m : Me Taken View). Final (Seen (IsKept terms) id m.0) ws xs) is last) in
     let board : done.0 ≡ machine = some-injective _ _ (sym done.1 ∙ at) in
     subst (λ b. IsGathered runner seats b) board (subst (λ ys. IsGathered runner ys done.0) whole (from_closed runner terms yielded done.0 sizes told done.2))

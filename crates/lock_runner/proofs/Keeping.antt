@@ -182,7 +182,13 @@ module _ (terms : Terms) (s : State Taken View) (kept : IsKept terms s) (id acto
   ]
 
   leave_sweeps : all_sweeps later.views ≡ sweeps_in now
-  leave_sweeps = omega (arith, sum_set sweeps_of s.views id (inside actor board sweeps) left at_seat, kept.sweeps, sweeps_grow board now (goes_on_by_one actor board.steps now.steps worked.steps), ap sweeps_in same_board)
+  leave_sweeps = omega (
+    arith,
+    sum_set sweeps_of s.views id (inside actor board sweeps) left at_seat,
+    kept.sweeps,
+    sweeps_grow board now (goes_on_by_one actor board.steps now.steps worked.steps),
+    ap sweeps_in same_board,
+  )
 
   leave_kept : IsKept terms later
   leave_kept = record {

@@ -26,7 +26,8 @@ use Rattle.lock_runner.proofs.Crews.{crew_others, cut_allowed}
 pub one_missing : (n number : ℕ) (seats : List Seated) (found : Bool) → n < number → found ≡ false → (IsHere (n + 1) seats → IsTrue found) → IsMissing number seats
 one_missing n number seats found within not_found here = (n + 1, omega arith, omega (arith, within), λ h. grind (arith, not_found, here h))
 
-here_by : (n actor : ℕ) (seats : List Seated) → ((a : ℕ) → 1 ≤ a → a ≤ n → IsHere a seats) → IsHere (n + 1) seats → 1 ≤ actor → actor ≤ n + 1 → (actor ≡ n + 1) ⊎ (actor ≡ n + 1 → ⊥) → IsHere actor seats
+here_by : (n actor : ℕ) (seats : List Seated) → ((a : ℕ) → 1 ≤ a → a ≤ n → IsHere a seats) → IsHere (n + 1) seats → 1 ≤ actor → actor ≤ n + 1 → (actor ≡ n + 1) ⊎ (actor ≡ n + 1 → ⊥)
+    → IsHere actor seats
 here_by n actor seats before last low high (inl same) = subst (λ a. IsHere a seats) (sym same) last
 here_by n actor seats before last low high (inr other) = before actor low (omega (arith, high, other))
 

@@ -26,11 +26,20 @@ use std::alloc::Global;
 use std::marker::Model;
 
 /// The state of a machine. It is seen as the definition's state, and is one to which a run of steps leads.
-#[derive(Drop)]
 pub struct Core {
     parts: Parts,
     /// How many operations have begun: the id of the next one.
     next_id: u64,
+}
+
+// Written out, so that it is proved here, once, and not again in each program that drops a machine.
+impl Drop for Core {
+    fn drop(self) {
+        let Core {
+            parts: _,
+            next_id: _,
+        } = self;
+    }
 }
 
 impl Model for Core {
@@ -140,7 +149,8 @@ impl Core {
     pub fn into_events(self) -> Vec<Event>
         ensures { result.items ≡ self.events }
     {
-        self.parts.events
+        let Core { parts, next_id: _ } = self;
+        parts.events
     }
 
     /// Whether the actor runs an operation.

@@ -22,14 +22,6 @@ two_or_more zero h = absurd (omega arith)
 two_or_more (suc zero) h = absurd (omega arith)
 two_or_more (suc (suc m)) h = (m, refl)
 
-pub or_first : (a b : Bool) → a ≡ true → (a || b) ≡ true
-or_first true b e = refl
-or_first false b e = absurd (false≢true e)
-
-pub or_second : (a b : Bool) → b ≡ true → (a || b) ≡ true
-or_second true b e = refl
-or_second false b e = e
-
 -- the one reference of a list
 pub only_one : (x r : Ref) → Contains (x ∷ []) r → x ≡ r
 only_one x r (zero, within, e) = e

@@ -32,7 +32,6 @@ use Rattle.proof_calls.specs.Standing.{StepsBelow, SwapsChanged, SwapsRepaired, 
 use Rattle.proof_calls.specs.Laws.{ChangesItsKey, OfEachKeyStep, OnlyCommitsChange, RepairsLeave}
 
 module _ (before : State) (s : Step) (op : KeyOp) (told : Option ℕ) (place : BelowAt) (operation : Operation) (x : StepsBelow before s op told place operation) where
-
   -- what the step commits is what the call's READ does
   commits : committed_by_step before s ≡ committed before op told place
   commits = ap (committed_by_step before) x.is_step ∙ ap (committed_of before) x.runs ∙ ap (λ l. committed_in before (read_of l)) x.stands
@@ -51,12 +50,8 @@ module _ (before : State) (s : Step) (op : KeyOp) (told : Option ℕ) (place : B
   touches_none none handle (updates i call former u reaches) = none-some u.swap.fresh (sym (commits ∙ none) ∙ u.commits)
   touches_none none handle (clears opens c) =
       let carries = c.carries in
-      let actor = carries.0 in
-      let other = carries.1.0 in
-      let main = carries.1.1.0 in
-      let rest = carries.1.1.1 in
-      let same = same_operation actor other rest.0 rest.1.0 in
-      subst LeavesRoots (ap (action_of before) (sym same) ∙ rest.1.1.0) leaves
+      let same = same_operation carries.0 carries.1 carries.3 carries.4 in
+      subst LeavesRoots (ap (action_of before) (sym same) ∙ carries.5) leaves
   touches_none none handle (closes actor e) = begins actor handle e
 
 pub only_commits : OfEachKeyStep OnlyCommitsChange

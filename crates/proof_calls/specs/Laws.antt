@@ -15,7 +15,7 @@ use Rattle.proof_calls.specs.Standing.{StepsBelow, SwapsChanged, SwapsRepaired, 
 abbrev pub OfEachKeyStep : (Limits → State → KeyOp → Option ℕ → BelowAt → Operation → State → Type 0) → Type 0
 OfEachKeyStep Law =
     OfEachStep (λ limits before s after. (op : KeyOp) (told : Option ℕ) (place : BelowAt) (operation : Operation) →
-      StepsBelow before s op told place operation → Law limits before op told place operation after)
+    StepsBelow before s op told place operation → Law limits before op told place operation after)
 
 -- every open handle stays open, of its kind, and keeps its content
 abbrev pub KeepsContents : State → State → Type 0

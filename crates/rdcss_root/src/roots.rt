@@ -210,6 +210,13 @@ impl Roots {
         }
     }
 
+    /// Takes the mark of the actor's last offer away.
+    pub fn unmark(&mut self, actor: u8)
+        ensures { self.new ≡ record self.old { marks = slice_set self.old.marks actor false } }
+    {
+        set_mark(&mut self.marks, actor, false);
+    }
+
     /// The offer that was carried out since this was asked last, if one was.
     pub fn take_carried(&mut self) -> Option<Descriptor>
         ensures carried { result ≡ self.old.carried }

@@ -12,11 +12,6 @@ use Rattle.history_text.specs.Lines.{header_of}
 use Rattle.script_text.specs.Headers.{slots_of}
 use Rattle.script_text.specs.Scripts.{Dialect, ScriptOf, Progress, Start, Sized, Hashed, InLines, words_after, all_read, format_of}
 
--- a fault that is told at a line is no script
-pub at_ok : {A : Type 0} (n : ℕ) (r : Result A Refusal) (x : A) → at_line n r ≡ Ok x → r ≡ Ok x
-at_ok n (Ok y) x e = cc
-at_ok n (Err f) x e = absurd cc
-
 module _ {L : Type 0} (dialect : Dialect L) where
   -- how many lines behind the header were read
   abbrev lines_in : Progress L → ℕ

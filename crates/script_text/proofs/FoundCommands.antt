@@ -46,7 +46,8 @@ opened (Some name.Freeze) w h c e is f =
     subst (λ (x : Call). SaysCall (w ∷ h ∷ []) x) m.2 (record { text = two w h (codes "freeze") m.0 (is name.Freeze refl) p.0; fits = p.1 })
 opened other w h c e is f = absurd cc
 
-opening_found : (o : Option CallName) (w : List ℕ) (more : List (List ℕ)) (c : Call) → opens o ≡ true → ((n : CallName) → o ≡ Some n → w ≡ call_name n) → opening_call o more ≡ Ok c → SaysCall (w ∷ more) c
+opening_found : (o : Option CallName) (w : List ℕ) (more : List (List ℕ)) (c : Call) → opens o ≡ true → ((n : CallName) → o ≡ Some n → w ≡ call_name n) → opening_call o more ≡ Ok c
+    → SaysCall (w ∷ more) c
 unfolding opening_call
 opening_found o w [] c e is f = absurd cc
 opening_found o w (h ∷ []) c e is f = opened o w h c e is f
@@ -135,7 +136,8 @@ goes w (a ∷ []) c n e = absurd cc
 goes w (a ∷ t ∷ []) c n e =
     let m = made_ok _ (both (actor_word a) (times_word t)) c e in let b = both_ok (actor_word a) (times_word t) m.0 m.1 in
     let p = word_is 255 a m.0.0 b.0 in let q = range_is 1 1000000 t m.0.1 b.1 in
-    subst (λ (x : Command). SaysCommand (w ∷ a ∷ t ∷ []) x) m.2 (record { text = actor_first w (codes "go") a m.0.0 (t ∷ []) (decimal m.0.1 ∷ []) n p.0 (one t (decimal m.0.1) q.0); fits = (p.1, (q.1, q.2)) })
+    subst (λ (x : Command). SaysCommand (w ∷ a ∷ t ∷ []) x) m.2
+        (record { text = actor_first w (codes "go") a m.0.0 (t ∷ []) (decimal m.0.1 ∷ []) n p.0 (one t (decimal m.0.1) q.0); fits = (p.1, (q.1, q.2)) })
 goes w (a ∷ t ∷ x ∷ ws) c n e = absurd cc
 
 untils : (w : List ℕ) (ws : List (List ℕ)) (c : Command) → w ≡ codes "until" → until_of ws ≡ Ok c → SaysCommand (w ∷ ws) c
@@ -145,7 +147,8 @@ untils w (a ∷ []) c n e = absurd cc
 untils w (a ∷ k ∷ []) c n e =
     let m = made_ok _ (both (actor_word a) (kind_word k)) c e in let b = both_ok (actor_word a) (kind_word k) m.0 m.1 in
     let p = word_is 255 a m.0.0 b.0 in let q = kind_found k m.0.1 b.1 in
-    subst (λ (x : Command). SaysCommand (w ∷ a ∷ k ∷ []) x) m.2 (record { text = actor_first w (codes "until") a m.0.0 (k ∷ []) (kinds.name_of m.0.1 ∷ []) n p.0 (one k (kinds.name_of m.0.1) q.0); fits = (p.1, q.1) })
+    subst (λ (x : Command). SaysCommand (w ∷ a ∷ k ∷ []) x) m.2
+        (record { text = actor_first w (codes "until") a m.0.0 (k ∷ []) (kinds.name_of m.0.1 ∷ []) n p.0 (one k (kinds.name_of m.0.1) q.0); fits = (p.1, q.1) })
 untils w (a ∷ k ∷ x ∷ ws) c n e = absurd cc
 
 finishes : (w : List ℕ) (ws : List (List ℕ)) (c : Command) → w ≡ codes "finish" → finish_of ws ≡ Ok c → SaysCommand (w ∷ ws) c

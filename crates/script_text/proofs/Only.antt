@@ -66,7 +66,8 @@ commands_only (c ∷ more) limits so_far f =
     let added : List Command → Progress Command = λ cs. InLines limits cs in (
       InLines limits (so_far ++ c ∷ []),
       ap (words_after command_dialect (InLines limits so_far)) (command_line c f.0) ∙ ap (made (λ command. InLines limits (so_far ++ command ∷ []))) (command_again c f.0),
-      subst (λ (cs : List Command). Leads script_format (InLines limits (so_far ++ c ∷ [])) (map spaced (map command_words more)) (added cs)) (append_assoc so_far (c ∷ []) more) (commands_only more limits (so_far ++ c ∷ []) f.1),
+      subst (λ (cs : List Command). Leads script_format (InLines limits (so_far ++ c ∷ [])) (map spaced (map command_words more)) (added cs)) (append_assoc so_far (c ∷ []) more)
+          (commands_only more limits (so_far ++ c ∷ []) f.1),
     )
 
 -- The header.

@@ -88,7 +88,8 @@ zeros_written a b k v counts noted ticks before same is notes within why slot fr
     was.0,
     elim why [
       | inl some ↦ let here_too = ap (λ s. times s b.noted) here in absurd (omega (arith, free'))
-      | inr equal ↦ ap (λ s. slice_index a.counts s == 0) here ∙ equal ∙ ap (λ x. x == 0) (sym (ap (λ cs. slice_index cs slot) is ∙ ap (λ s. slice_index (set a.counts k v) s) here ∙ get_or-set_same a.counts k v 0 within))
+      | inr equal ↦ ap (λ s. slice_index a.counts s == 0) here ∙ equal
+          ∙ ap (λ x. x == 0) (sym (ap (λ cs. slice_index cs slot) is ∙ ap (λ s. slice_index (set a.counts k v) s) here ∙ get_or-set_same a.counts k v 0 within))
     ],
   )
   | inr other ↦ (was.0, ap (λ x. x == 0) (sym (ap (λ cs. slice_index cs slot) is ∙ get_or-set_other a.counts k slot v 0 other)))

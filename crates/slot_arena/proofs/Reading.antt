@@ -64,10 +64,16 @@ pub freed_seen : (heap : Heap) (r : Ref) → freed heap r ≡ record { slots = s
 unfolding freed
 freed_seen heap r = refl
 
-pub main_seen : (heap : Heap) (r m : Ref) → with_main heap r m ≡ record { slots = set heap.slots (slot_of r) (option_map (main_changed m) (get_or heap.slots (slot_of r) None)); free = heap.free; births = heap.births }
+pub main_seen : (heap : Heap) (r m : Ref) → with_main heap r m ≡ record {
+  slots = set heap.slots (slot_of r) (option_map (main_changed m) (get_or heap.slots (slot_of r) None));
+  free =
+      heap.free;
+  births = heap.births;
+}
 unfolding with_main stored
 main_seen heap r m = refl
 
-pub prev_put_seen : (heap : Heap) (r : Ref) (p : Prev) → with_prev heap r p ≡ record { slots = set heap.slots (slot_of r) (option_map (prev_changed p) (get_or heap.slots (slot_of r) None)); free = heap.free; births = heap.births }
+pub prev_put_seen : (heap : Heap) (r : Ref) (p : Prev)
+    → with_prev heap r p ≡ record { slots = set heap.slots (slot_of r) (option_map (prev_changed p) (get_or heap.slots (slot_of r) None)); free = heap.free; births = heap.births }
 unfolding with_prev stored
 prev_put_seen heap r p = refl

@@ -27,7 +27,8 @@ use Rattle.slot_arena.proofs.Waiting.{born, notes_waiting}
 use Rattle.slot_arena.proofs.Written.{born_set}
 
 -- what stands in a slot is found
-pub part_slot : (slots : List (Option Slot)) (outside : List Ref) (k : ℕ) (o : Option Slot) (q : Ref) (n : ℕ) → get_or slots k None ≡ o → k < length slots → n ≤ times q (refs_of_slot o) → n ≤ found slots outside q
+pub part_slot : (slots : List (Option Slot)) (outside : List Ref) (k : ℕ) (o : Option Slot) (q : Ref) (n : ℕ) → get_or slots k None ≡ o → k < length slots → n ≤ times q (refs_of_slot o)
+    → n ≤ found slots outside q
 part_slot slots outside k o q n at within some =
     let one = get_or-le-sum_by (λ (s : Option Slot). times q (refs_of_slot s)) slots k None within in omega (arith, ap (λ s. times q (refs_of_slot s)) at)
 

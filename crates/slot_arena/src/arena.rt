@@ -286,7 +286,8 @@ impl Arena {
     pub fn take_noted(&mut self) -> Option<u16>
         ensures heap { self.new.heap ≡ self.old.heap }
         ensures outside { self.new.outside ≡ self.old.outside }
-        ensures noted { MatchOption result ((self.old.noted ≡ []) × (self.new.noted ≡ [])) (λ slot. (self.old.noted ≡ self.new.noted ++ slot ∷ []) × (times slot self.new.noted ≡ 0) × (slot < length self.new.heap.slots)) }
+        ensures noted { MatchOption result ((self.old.noted ≡ []) × (self.new.noted ≡ []))
+            (λ slot. (self.old.noted ≡ self.new.noted ++ slot ∷ []) × (times slot self.new.noted ≡ 0) × (slot < length self.new.heap.slots)) }
         ensures ticks { self.new.ticks ≡ self.old.ticks + 1 }
     {
         self.tally.take_noted()

@@ -61,7 +61,8 @@ impl FreeSlots {
 
     /// Takes the first one.
     pub(crate) fn take(&mut self) -> Option<u16>
-        ensures slots { MatchOption result ((self.old.slots ≡ []) × (self.new.slots ≡ [])) (λ slot. (self.old.slots ≡ slot ∷ self.new.slots) × (slot < self.old.size) × (times slot self.new.slots ≡ 0)) }
+        ensures slots { MatchOption result ((self.old.slots ≡ []) × (self.new.slots ≡ []))
+            (λ slot. (self.old.slots ≡ slot ∷ self.new.slots) × (slot < self.old.size) × (times slot self.new.slots ≡ 0)) }
         ensures size { self.new.size ≡ self.old.size }
         ensures ticks { TakesUpTo 3 self.old.ticks self.new.ticks }
     {

@@ -104,7 +104,8 @@ impl Tally {
     /// Takes a noted slot out of the notes.
     pub(crate) fn take_noted(&mut self) -> Option<u16>
         ensures counts { self.new.counts ≡ self.old.counts }
-        ensures noted { MatchOption result ((self.old.noted ≡ []) × (self.new.noted ≡ [])) (λ slot. (self.old.noted ≡ self.new.noted ++ slot ∷ []) × (times slot self.new.noted ≡ 0) × (slot < length self.new.counts)) }
+        ensures noted { MatchOption result ((self.old.noted ≡ []) × (self.new.noted ≡ []))
+            (λ slot. (self.old.noted ≡ self.new.noted ++ slot ∷ []) × (times slot self.new.noted ≡ 0) × (slot < length self.new.counts)) }
         ensures ticks { self.new.ticks ≡ self.old.ticks + 1 }
     {
         self.ticks.add();

@@ -39,8 +39,13 @@ not_memory ((false, refusal) ∷ rs) others e = not_memory rs others.1 e
 begin_reasons : (a b c d f g h i : Bool) → first_reason ((a, refuse.NoActor) ∷ (b, refuse.ActorBusy) ∷ (c, refuse.NoHandle) ∷ (d, refuse.ReadOnly)
     ∷ (f, refuse.NotReadOnly) ∷ (g, refuse.Busy) ∷ (h, refuse.HandlesFull) ∷ (i, refuse.Spent) ∷ []) ≡ Some refuse.Memory → ⊥
 begin_reasons a b c d f g h i e = not_memory ((a, refuse.NoActor) ∷ (b, refuse.ActorBusy) ∷ (c, refuse.NoHandle) ∷ (d, refuse.ReadOnly)
-    ∷ (f, refuse.NotReadOnly) ∷ (g, refuse.Busy) ∷ (h, refuse.HandlesFull) ∷ (i, refuse.Spent) ∷ [])
-    ((λ m. grind (arith, m)), ((λ m. grind (arith, m)), ((λ m. grind (arith, m)), ((λ m. grind (arith, m)), ((λ m. grind (arith, m)), ((λ m. grind (arith, m)), ((λ m. grind (arith, m)), ((λ m. grind (arith, m)), tt)))))))) e
+    ∷ (f, refuse.NotReadOnly) ∷ (g, refuse.Busy) ∷ (h, refuse.HandlesFull) ∷ (i, refuse.Spent) ∷ []) (
+      (λ m. grind (arith, m)),
+      (
+        (λ m. grind (arith, m)),
+        ((λ m. grind (arith, m)), ((λ m. grind (arith, m)), ((λ m. grind (arith, m)), ((λ m. grind (arith, m)), ((λ m. grind (arith, m)), ((λ m. grind (arith, m)), tt)))))),
+      ),
+    ) e
 
 go_reasons : (a b c : Bool) → first_reason ((a, refuse.NoActor) ∷ (b, refuse.Idle) ∷ (c, refuse.Spent) ∷ []) ≡ Some refuse.Memory → ⊥
 go_reasons a b c e = not_memory ((a, refuse.NoActor) ∷ (b, refuse.Idle) ∷ (c, refuse.Spent) ∷ []) ((λ m. grind (arith, m)), ((λ m. grind (arith, m)), ((λ m. grind (arith, m)), tt))) e

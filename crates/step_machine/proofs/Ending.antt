@@ -226,7 +226,8 @@ module _ (before : Taken) (actor : ℕ) (call : Call) (d : begin_denial (state_o
   pub begun_runs_on : operation_of (state_of middle) actor ≡ Some (begun_operation (state_of before) call)
   begun_runs_on =
       let (o, e) = begun_state (state_of before) actor call d in
-      let told = ap (λ (s : State). s.events) led_so ∙ begin_event (state_of before) (step.Begin actor call) o begun_so (moved (state_of before) (step.Begin actor call) o begun_so e) actor call refl in
+      let told = ap (λ (s : State). s.events) led_so ∙ begin_event (state_of before) (step.Begin actor call) o begun_so (moved (state_of before) (step.Begin actor call) o begun_so e) actor
+      call refl in
       let (found, runs, same) =
       begun_runs (state_of before) (state_of middle) actor call (begun_operation (state_of before) call).opens (books_of before.limits before.steps) (books_of middle.limits middle.steps) told in
       elim (begin_own (state_of before) actor call (begun_operation (state_of before) call)) [

@@ -128,7 +128,8 @@ begun_runs state after actor call opens before books told =
     let id = begun state.events in
     let at : BeginsAt after.events (length state.events) id (record { actor = actor; call = call; opens = opens }) =
     subst (λ h. slice_get h (length state.events) ≡ Some (Begin id actor call opens)) (sym told) (get_at_end state.events (Begin id actor call opens)) in
-    let unended : (answer : Reply) → ¬ HasEnded after.events id answer = λ answer ended. elim (ended_before state.events (Begin id actor call opens) id answer (subst (λ h. HasEnded h id answer) told ended)) [
+    let unended : (answer : Reply) → ¬ HasEnded after.events id answer = λ answer ended.
+    elim (ended_before state.events (Begin id actor call opens) id answer (subst (λ h. HasEnded h id answer) told ended)) [
       | inl old ↦ let low = ended_below state.events old.0 id answer before.well_formed old.1 in omega (arith, low)
       | inr bad ↦ cc bad
     ] in

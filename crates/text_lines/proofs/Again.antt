@@ -5,7 +5,7 @@ use Rattle.std.specs.List.{list_all, onto_first, AllByRecursion}
 use Rattle.std.specs.Str.{all_ascii_digits}
 use Rattle.std.specs.Fmt.{decimal}
 use borrow.Author.Tests.{le-ltb}
-use Rattle.std.proofs.lemmas.Bool.{eqb-true}
+use Rattle.std.proofs.lemmas.Bool.{eqb-true, and_parts, not-true}
 use Rattle.std.proofs.lemmas.List.Splits.{slice_split-cons_no}
 use Rattle.std.proofs.lemmas.Str.Parse.{tells_all_ascii_digits}
 use Rattle.std.proofs.lemmas.Fmt.{digits_decimal, decimal_nonempty}
@@ -22,17 +22,9 @@ pub clean_append : (a b : List ℕ) → IsClean a → IsClean b → IsClean (a +
 clean_append [] b p q = q
 clean_append (x ∷ xs) b p q = (p.0, clean_append xs b p.1 q)
 
-pub and_parts : (a b : Bool) → (a && b) ≡ true → (a ≡ true) × (b ≡ true)
-and_parts true b e = (refl, e)
-and_parts false b e = absurd cc
-
-pub not_parts : (a : Bool) → not a ≡ true → a ≡ false
-not_parts true e = absurd cc
-not_parts false e = refl
-
 pub clean : (w : List ℕ) → list_all (λ b. not (eqb b 32)) w ≡ true → IsClean w
 clean [] e = tt
-clean (b ∷ bs) e = let p = and_parts (not (eqb b 32)) (list_all (λ x. not (eqb x 32)) bs) e in (not_parts (eqb b 32) p.0, clean bs p.1)
+clean (b ∷ bs) e = let p = and_parts (not (eqb b 32)) (list_all (λ x. not (eqb x 32)) bs) e in (not-true (eqb b 32) p.0, clean bs p.1)
 
 abbrev pub AreClean : List (List ℕ) → Type 0
 AreClean ws = AllByRecursion IsClean ws

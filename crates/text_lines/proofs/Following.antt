@@ -35,7 +35,8 @@ module _ {P A : Type 0} (format : Format P A) where
       rw (first, last) refl
 
 -- a refusal that the text has, unless memory ran out, is told rightly
-pub told_rightly : {A : Type 0} (number : ℕ) (refusal : Refusal) (wanted : Result A LineFault) → (refusal ≢ Memory → wanted ≡ Err (record { line = number; refusal = refusal })) → Tells (told_at number refusal) wanted
+pub told_rightly : {A : Type 0} (number : ℕ) (refusal : Refusal) (wanted : Result A LineFault) → (refusal ≢ Memory → wanted ≡ Err (record { line = number; refusal = refusal }))
+    → Tells (told_at number refusal) wanted
 told_rightly number Memory wanted h = tt
 told_rightly number refusal wanted h = h (λ e. cc)
 

@@ -17,7 +17,7 @@ Leads {P} format before (line ∷ more) after = (next : P) × (format.words_afte
 abbrev kept : List (List ℕ) → List (List ℕ)
 kept lines = filter (λ line. not (is_ignored line)) lines
 
-at_ok : {A : Type 0} (n : ℕ) (r : Result A Refusal) (x : A) → at_line n r ≡ Ok x → r ≡ Ok x
+pub at_ok : {A : Type 0} (n : ℕ) (r : Result A Refusal) (x : A) → at_line n r ≡ Ok x → r ≡ Ok x
 at_ok n (Ok y) x e = cc
 at_ok n (Err f) x e = absurd cc
 

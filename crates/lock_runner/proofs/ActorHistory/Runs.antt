@@ -20,6 +20,7 @@ use Rattle.lock_runner.specs.ActorHistory.Answers.{RunsNoOther}
 use Rattle.lock_runner.proofs.ActorHistory.Places.{get_left, get_last, get_push}
 use Rattle.lock_runner.proofs.ActorHistory.Turns.{Turns, Comes, Stays, Leaves, Rests, turns}
 use Rattle.lock_runner.proofs.ActorHistory.Sound.{told, Sound, IsAnswered, sound_along, fits_after, later_own, later_other, leave_other, leave_own}
+use Rattle.lock_runner.proofs.ActorHistory.Steps.{none_told}
 use Rattle.lock_runner.proofs.ActorHistory.Told.{same_begin, apart_events}
 
 -- each actor's account has what the actor runs
@@ -89,13 +90,9 @@ module _ (history : List Event) (all : RunAll history) (owner id : ℕ) (reply :
 
 -- ---- every run
 
-told_none : (running : Option Running) → told running ≡ None → running ≡ None
-told_none None is = refl
-told_none (Some r) is = absurd (none-some _ (sym is))
-
 after_all : (before after : State) (s : Step) (o : Outcome) → Sound before → length after.actors ≡ after.limits.actors → Turns before after s o → RunAll before.events → RunAll after.events
 after_all before after s o sound fits (Comes k call opens within idle here others events) all =
-    subst RunAll (sym events) (begin_all before.events all (suc k) call opens (told_none _ (sym (sound.match (suc k)) ∙ idle)))
+    subst RunAll (sym events) (begin_all before.events all (suc k) call opens (none_told _ (sym (sound.match (suc k)) ∙ idle)))
 after_all before after s o sound fits (Stays k p kind had same events) all = subst RunAll (sym events) all
 after_all before after s o sound fits (Leaves k p answer had none others events) all =
     let Own : List Event → Type 0 = λ es. IsAnswered (account_of (suc k) before.events) (account_of (suc k) before.events).running (length before.events) p.0 answer (account_of (suc k) es) in

@@ -23,6 +23,8 @@ use Rattle.machine_model.proofs.Frames.{limits_kept}
 use Rattle.machine_model.proofs.Along.{along}
 use Rattle.lock_runner.specs.declared.accounts.Running.{Running}
 use Rattle.lock_runner.specs.ActorHistory.{Account, account_of, account_after, account_ended, account_from, begun_at, answered_at}
+use Rattle.history.proofs.Begins.{begun_push, begun_same}
+use Rattle.lock_runner.specs.Beneath.proof_generations.proofs.Handles.Running.{marks_length}
 use Rattle.lock_runner.proofs.ActorHistory.Pushes.{account_push}
 use Rattle.lock_runner.proofs.ActorHistory.Turns.{Shown, shown, ran, Turns, Comes, Stays, Leaves, Rests, turns}
 
@@ -36,10 +38,6 @@ runs state actor = shown (operation_of state actor)
 
 -- ---- lengths
 
-marks_length : (m : Option ℕ) (xs : List (Option Operation)) → length (after_marks m xs) ≡ length xs
-marks_length None xs = refl
-marks_length (Some id) xs = simp length-map
-
 actors_length : (state : State) (s : Step) (o : Outcome) (after : State) → Moves state s o after → length after.actors ≡ length state.actors
 actors_length state s o after (Begins {actor = actor} {call = call} d) =
     ap (λ xs. length xs) (begin_actors state actor call (begun_operation state call)) ∙ length-set state.actors _ _
@@ -49,12 +47,6 @@ actors_length state s o after (Ends d is a) = length-set state.actors _ _
 actors_length state s o after (Sweeps spent) = refl
 
 -- ---- how many have begun
-
-pub begun_begin : (history : List Event) (id owner : ℕ) (call : Call) (opens : Option ℕ) → begun (history ++ Begin id owner call opens ∷ []) ≡ begun history + 1
-begun_begin history id owner call opens = omega (arith, sum_by-append (λ e. cond (is_begin e) 1 0) history (Begin id owner call opens ∷ []))
-
-pub begun_end : (history : List Event) (id : ℕ) (answer : Reply) → begun (history ++ End id answer ∷ []) ≡ begun history
-begun_end history id answer = omega (arith, sum_by-append (λ e. cond (is_begin e) 1 0) history (End id answer ∷ []))
 
 -- ---- what one event makes of an account
 
@@ -116,7 +108,7 @@ module _ (before after : State) (sound : Sound before) (fits : length after.acto
   come_account actor = ap (λ es. account_of actor es) events ∙ account_push actor before.events _
 
   come_begun : begun after.events ≡ begun before.events + 1
-  come_begun = ap begun events ∙ begun_begin before.events _ _ call opens
+  come_begun = ap begun events ∙ begun_push before.events (Begin _ _ call opens) refl
 
   come_below_by : (j : ℕ) (p : Shown) → ran after.actors j ≡ Some p → (j ≡ k) ⊎ (j ≡ k → ⊥) → p.0 < begun after.events
   come_below_by j p e (inl same) =
@@ -184,7 +176,7 @@ module _ (before after : State) (sound : Sound before) (fits : length after.acto
   leave_account actor = ap (λ es. account_of actor es) events ∙ account_push actor before.events _
 
   leave_begun : begun after.events ≡ begun before.events
-  leave_begun = ap begun events ∙ begun_end before.events _ answer
+  leave_begun = ap begun events ∙ begun_same before.events (End _ answer) refl
 
   -- what still runs ran before, elsewhere
   leave_before_by : (j : ℕ) (q : Shown) → ran after.actors j ≡ Some q → (j ≡ k) ⊎ (j ≡ k → ⊥) → ran before.actors j ≡ Some q

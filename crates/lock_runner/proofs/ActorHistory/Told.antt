@@ -21,7 +21,8 @@ use Rattle.lock_runner.specs.ActorHistory.Answers.{IsOperationOf, IsToldIn, AreA
 use Rattle.lock_runner.specs.ActorHistory.Laws.{AnswersAreThoseOfTheHistory}
 use Rattle.lock_runner.proofs.ActorHistory.Places.{get_left, get_last, get_push}
 use Rattle.lock_runner.proofs.ActorHistory.Turns.{Turns, Comes, Stays, Leaves, Rests, turns}
-use Rattle.lock_runner.proofs.ActorHistory.Sound.{Sound, IsAnswered, sound_along, fits_after, begun_begin, begun_end, later_own, later_other, leave_other, leave_own}
+use Rattle.history.proofs.Begins.{begun_push, begun_same}
+use Rattle.lock_runner.proofs.ActorHistory.Sound.{Sound, IsAnswered, sound_along, fits_after, later_own, later_other, leave_other, leave_own}
 
 -- ---- events
 
@@ -136,7 +137,7 @@ module _ (history : List Event) (told : Told history) (owner : ℕ) (call : Call
   later = history ++ begin ∷ []
 
   later_begun : begun later ≡ begun history + 1
-  later_begun = begun_begin history (begun history) owner call opens
+  later_begun = begun_push history begin refl
 
   later_ids : (place id : ℕ) (operation : Operation) → BeginsAt later place id operation → id < begun later
   later_ids place id operation e = elim (get_push history begin place _ e) [
@@ -222,8 +223,8 @@ module _ (history : List Event) (told : Told history) (owner id : ℕ) (reply : 
 
   ended_ends : (place jd : ℕ) (r : Reply) → EndsAt ended place jd r → jd < begun ended
   ended_ends place jd r e = elim (get_push history (End id reply) place _ e) [
-    | inl h ↦ omega (arith, begun_end history id reply, told.ends place jd r h)
-    | inr h ↦ omega (arith, begun_end history id reply, same_end _ id jd reply r refl h.1, own.same, told.ids _ _ _ own_begin.1)
+    | inl h ↦ omega (arith, begun_same history (End id reply) refl, told.ends place jd r h)
+    | inr h ↦ omega (arith, begun_same history (End id reply) refl, same_end _ id jd reply r refl h.1, own.same, told.ids _ _ _ own_begin.1)
   ]
 
   -- the operation that ends is this actor's alone
@@ -260,7 +261,7 @@ module _ (history : List Event) (told : Told history) (owner id : ℕ) (reply : 
 
   pub ended_told : Told ended
   ended_told = record {
-    ids = λ place jd operation e. omega (arith, begun_end history id reply, told.ids place jd operation (ended_begins place jd operation e));
+    ids = λ place jd operation e. omega (arith, begun_same history (End id reply) refl, told.ids place jd operation (ended_begins place jd operation e));
     ends = ended_ends;
     unique = λ p q jd a b e f. told.unique p q jd a b (ended_begins p jd a e) (ended_begins q jd b f);
     begins = λ actor. ended_begins_by actor (cases_eq owner actor);

@@ -5,6 +5,7 @@ use Rattle.std.specs.Cmp.{unsigned_tied}
 use Rattle.std.specs.Ordering.{eq_by_cmp}
 use Rattle.std.specs.List.{IsDistinct, AllByRecursion}
 use Rattle.std.specs.FinMap.{get}
+use Rattle.std.proofs.Math.Bool.{or-true}
 use Rattle.arrayvec.specs.ArrayVec.{ArrayVec}
 use Rattle.proof_contents.specs.Beneath.ctrie_base.specs.Hashes.{hash_of}
 use Rattle.proof_contents.specs.Beneath.ctrie_base.proofs.Fits.{low_hash-lt, fold_hash-lt, block_hash-lt}
@@ -66,17 +67,13 @@ found_among node q v (s ∷ singles) are e = by_first (found_among node q v sing
     first_is : eq_by_cmp nat_cmp q (key_in (node s)) ≡ (q == are.0.key)
     first_is = unsigned_tied q (key_in (node s)) ∙ ap (λ k. q == k) (ap key_in are.0.is)
 
-    or_true : (b : Bool) → (b || true) ≡ true
-    or_true true = refl
-    or_true false = refl
-
     by_first : (look_among node q singles ≡ Has v → is_among (keys_in node singles) q ≡ true) → (b : Bool) → (q == are.0.key) ≡ b →
         (eq_by_cmp nat_cmp q (key_in (node s)) || is_among (keys_in node singles) q) ≡ true
     by_first rest true same = ap (λ b. b || is_among (keys_in node singles) q) (first_is ∙ same)
     by_first rest false apart =
         let later : look_among node q singles ≡ Has v =
         sym (ap (λ f. or_else f (look_among node q singles)) (look-other node q are.0.key are.0.value s are.0.is (differ q are.0.key apart))) ∙ e in
-        ap (λ b. eq_by_cmp nat_cmp q (key_in (node s)) || b) (rest later) ∙ or_true (eq_by_cmp nat_cmp q (key_in (node s)))
+        ap (λ b. eq_by_cmp nat_cmp q (key_in (node s)) || b) (rest later) ∙ or-true (eq_by_cmp nat_cmp q (key_in (node s)))
 
 -- a key that isn't found differs from each of them
 absent_apart : (node : Ref → Node) (k : ℕ) (singles : List Ref) → AreSingles node singles → look_among node k singles ≡ Absent →

@@ -160,7 +160,8 @@ module _ (limits : Limits) (states : ℕ → State) (last : ℕ) (run : IsRun li
     )
 
     -- the old root is closed by the step
-    old_closed : (actor : ℕ) (mover : Operation) (offer : Descriptor) → operation_of (states t) actor ≡ Some mover → ActionCarriesOut (states t) (handle_of mover.call) (action_of (states t) mover) offer →
+    old_closed : (actor : ℕ) (mover : Operation) (offer : Descriptor) → operation_of (states t) actor ≡ Some mover
+        → ActionCarriesOut (states t) (handle_of mover.call) (action_of (states t) mover) offer →
         (states (suc t)).closings ≡ (states t).closings ++ closing_of (states t) offer ∷ [] → WasClosed states (suc t) (generation_at (states t).heap offer.root)
     old_closed actor mover offer is c closings = by (closed_at (states t) (generation_at (states t).heap offer.root)) refl
       where

@@ -1,6 +1,6 @@
 -- Marks: an operation that is marked has its offer carried out, and is about to end.
 use Rattle.std.proofs.Common.{◌≡◌, ℕ, suc, ◌==◌, ◌||◌, Bool, true, false, cond, Option, Some, None, refl, sym, ap, ◌∙◌, inl, inr, eqb-true, eq-eqb, arith}
-use Rattle.std.proofs.lemmas.Bool.{true≢false, false≢true, and_parts, cases_Bool}
+use Rattle.std.proofs.lemmas.Bool.{true≢false, false≢true, and_parts, cases_Bool, or_left, or_right}
 use Rattle.std.proofs.lemmas.Option.{none-some, same_Some}
 use Rattle.proof_generations.specs.Beneath.slot_arena.specs.declared.refs.Ref.{Ref}
 use Rattle.proof_generations.specs.Beneath.machine_model.specs.declared.actions.Action.{Action}
@@ -35,7 +35,6 @@ use Rattle.proof_generations.specs.Laws.Roots.{settles}
 use Rattle.proof_generations.proofs.Offers.Standing.{own_offer, own_numbers, completes_it}
 use Rattle.proof_generations.proofs.Offers.Same.{HasOffers, same_offer}
 use Rattle.proof_generations.proofs.Handles.Footings.{ActionCarriesOut}
-use Rattle.proof_generations.specs.Beneath.machine_model.proofs.Basics.{or_first, or_second}
 
 -- ---- who is marked
 
@@ -46,7 +45,8 @@ carried_stands state I actor operation offer is c =
     same_offer state I actor operation offer is (ap settles c.is_it) (handle_of operation.call)
     (and_parts (stands_in (word_at state (handle_of operation.call)) offer) (c.main == offer.expected) c.carried).0
 
-carries_so : (state : State) (handle : ℕ) (action : Action) (id : ℕ) → marks_of state handle action ≡ Some id → (offer : Descriptor) × ActionCarriesOut state handle action offer × (offer.operation ≡ id)
+carries_so : (state : State) (handle : ℕ) (action : Action) (id : ℕ) → marks_of state handle action ≡ Some id → (offer : Descriptor) × ActionCarriesOut state handle action offer
+    × (offer.operation ≡ id)
 carries_so state handle (act.Complete offer main) id e = by (is_carried_out (word_at state handle) offer main) refl e
   where
     by : (b : Bool) → is_carried_out (word_at state handle) offer main ≡ b → cond b (Some offer.operation) None ≡ Some id →
@@ -185,7 +185,7 @@ module _ (state : State) (I : HasOffers state) (all : AllDone state) (s : Step) 
       goes_on : (k : ℕ) (was : Operation) → Runs state k was → GoesOn (action_of state was) → was.is_marked ≡ true → is_done (line_after state was was.line) ≡ true
       goes_on k was at_k g set =
           let (c, at_line) = is_completing was.line (all k was at_k set) state was g in
-          ap (λ l. is_done (line_after state was l)) at_line ∙ next_done state was c (λ main e. or_second (is_carried_out (word_at state (handle_of was.call)) c.offer main) was.is_marked set)
+          ap (λ l. is_done (line_after state was l)) at_line ∙ next_done state was c (λ main e. or_right (is_carried_out (word_at state (handle_of was.call)) c.offer main) was.is_marked set)
 
       same_actor : (actor k : ℕ) → s ≡ step.Go actor → s ≡ step.Go (suc k) → actor ≡ suc k
       same_actor actor k e f = let both : step.Go actor ≡ step.Go (suc k) = sym e ∙ f in cc both
@@ -197,7 +197,7 @@ module _ (state : State) (I : HasOffers state) (all : AllDone state) (s : Step) 
           is_carried_out (word_at state (handle_of was.call)) offer now ≡ true → (is_carried_out (word_at state (handle_of was.call)) c.offer main || was.is_marked) ≡ true
       carried_by was c offer now main e action_is its carried =
           let swaps : act.Complete c.offer main ≡ act.Complete offer now = ap (λ l. complete_action (record c { line = l })) (sym e) ∙ action_is in
-          or_first (is_carried_out (word_at state (handle_of was.call)) c.offer main) was.is_marked
+          or_left (is_carried_out (word_at state (handle_of was.call)) c.offer main) was.is_marked
           (ap (λ d. is_carried_out (word_at state (handle_of was.call)) d main) its ∙ ap (λ m. is_carried_out (word_at state (handle_of was.call)) offer m)
           (complete_main c.offer offer main now swaps) ∙ carried)
 

@@ -141,7 +141,8 @@ Kept state handle now = (root : Root) × (root_at state handle ≡ Some root) ×
 
 pub data StepKind (state : State) (s : Step) (after : State) : Type 0 where
   quiet : after.closings ≡ state.closings → ((handle : ℕ) (now : Root) → root_at after handle ≡ Some now → Kept state handle now) → StepKind state s after
-  swaps : (actor : ℕ) (mover : Operation) (offer : Descriptor) → s ≡ step.Go actor → operation_of state actor ≡ Some mover → ActionCarriesOut state (handle_of mover.call) (action_of state mover) offer →
+  swaps : (actor : ℕ) (mover : Operation) (offer : Descriptor) → s ≡ step.Go actor → operation_of state actor ≡ Some mover
+      → ActionCarriesOut state (handle_of mover.call) (action_of state mover) offer →
       after.closings ≡ state.closings ++ closing_of state offer ∷ [] →
       ((handle : ℕ) (now : Root) → root_at after handle ≡ Some now → RootFrom state (handle_of mover.call) (action_of state mover) handle now) → StepKind state s after
 

@@ -1,6 +1,6 @@
 -- At each time of a run a running operation's line fits its call, has a generation from the first indirection on, and swaps where its path ends.
 use Rattle.std.proofs.Common.{◌≡◌, ℕ, ◌||◌, true, false, Option, Some, refl, sym, arith}
-use Rattle.std.proofs.lemmas.Bool.{true≢false}
+use Rattle.std.proofs.lemmas.Bool.{true≢false, or_left, or_right}
 use Rattle.proof_shape.specs.Beneath.history.specs.declared.calls.Call.{Call}
 use Rattle.proof_shape.specs.Beneath.slot_arena.specs.declared.refs.Ref.{Ref}
 use Rattle.proof_shape.specs.Beneath.slot_arena.specs.Heaps.{generation_at}
@@ -21,7 +21,6 @@ use Rattle.proof_shape.proofs.Runs.EachAt.{each_at}
 use Rattle.proof_shape.proofs.Lines.Leads.{is_down, is_copying, is_walking, key_leads, build_leads, swap_leads, renew_leads, clean_leads, climb_leads, copy_leads, walk_leads}
 use Rattle.proof_shape.proofs.Lines.Placed.{is_keyed, is_copy, is_below}
 use Rattle.proof_shape.proofs.Lines.Swap.{SwapPlace, is_swap, no_place, line_places}
-use Rattle.proof_shape.specs.Beneath.machine_model.proofs.Basics.{or_first, or_second}
 
 -- ---- calls and lines
 
@@ -38,7 +37,7 @@ FitsCall call (line.Copy l) = is_copy call ≡ true
 FitsCall call l = Unit {0}
 
 down_fits : (call : Call) (l : Line) → is_keyed call ≡ true → is_down l ≡ true → FitsCall call l
-down_fits call (line.Root l) k d = or_first (is_keyed call) (is_copy call) k
+down_fits call (line.Root l) k d = or_left (is_keyed call) (is_copy call) k
 down_fits call (line.Key l) k d = k
 down_fits call (line.Build l) k d = k
 down_fits call (line.Swap why s) k d = k
@@ -51,7 +50,7 @@ down_fits call (line.End answer) k d = tt
 down_fits call line.Impossible k d = tt
 
 copying_fits : (call : Call) (l : Line) → is_copy call ≡ true → is_copying l ≡ true → FitsCall call l
-copying_fits call (line.Root l) k d = or_second (is_keyed call) (is_copy call) k
+copying_fits call (line.Root l) k d = or_right (is_keyed call) (is_copy call) k
 copying_fits call (line.Copy l) k d = k
 copying_fits call (line.End answer) k d = tt
 copying_fits call line.Impossible k d = tt

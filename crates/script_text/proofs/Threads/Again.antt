@@ -128,7 +128,8 @@ IsNext p words b = (r : Progress ThreadLine) × (words_after thread_dialect p wo
 made_so : {A B E : Type 0} (f : A → B) (r : Result A E) (x : A) → r ≡ Ok x → made f r ≡ Ok (f x)
 made_so f r x e = rw e refl
 
-words_again : (p : Progress ThreadLine) (words : List (List ℕ)) (b : Progress Command) (reading : Reading) → words_after command_dialect (as_progress p) words ≡ Ok b → Ahead b reading → FitsThreads reading → IsNext p words b
+words_again : (p : Progress ThreadLine) (words : List (List ℕ)) (b : Progress Command) (reading : Reading) → words_after command_dialect (as_progress p) words ≡ Ok b → Ahead b reading
+    → FitsThreads reading → IsNext p words b
 unfolding words_after
 words_again Start words b reading e more fits = let m = made_ok Sized (slots_of words) b e in (Sized m.0, made_so Sized (slots_of words) m.0 m.1, m.2)
 words_again (Sized slots) words b reading e more fits =

@@ -93,7 +93,8 @@ fit_push : (P : ThreadLine → Type 0) (lines : List ThreadLine) (line : ThreadL
 fit_push P [] line all last = (last, tt)
 fit_push P (l ∷ lines) line (first, more) last = (first, fit_push P lines line more last)
 
-words_found : (p r : Progress ThreadLine) (words : List (List ℕ)) → words_after thread_dialect p words ≡ Ok r → HasFit p → (words_after command_dialect (as_progress p) words ≡ Ok (as_progress r)) × HasFit r
+words_found : (p r : Progress ThreadLine) (words : List (List ℕ)) → words_after thread_dialect p words ≡ Ok r → HasFit p
+    → (words_after command_dialect (as_progress p) words ≡ Ok (as_progress r)) × HasFit r
 unfolding words_after
 words_found Start r words e fit =
     let m = made_ok Sized (slots_of words) r e in (made_again Sized (slots_of words) m.0 (as_progress r) m.1 (ap as_progress m.2), subst HasFit m.2 tt)

@@ -9,7 +9,8 @@ pub loop-command-preserved : goal.loop-command-preserved
 loop-command-preserved c = record {
   carried = sym (carried_more c.args.commands.now c.loop-command.command-index _ (state_of c.loop-command.machine) (state_of c.tell.new.machine) c.loop-command-test.true c.in_ok-tell.ensures.state)
       ∙ c.loop-command.invariant.carried;
-  told = sym (told_more c.args.commands.now c.loop-command.command-index _ (state_of c.loop-command.machine) (state_of c.tell.new.machine) (string_bytes c.loop-command.text) (string_bytes c.tell.new.text)
+  told = sym (told_more c.args.commands.now c.loop-command.command-index _ (state_of c.loop-command.machine) (state_of c.tell.new.machine) (string_bytes c.loop-command.text)
+      (string_bytes c.tell.new.text)
       c.loop-command-test.true c.in_ok-tell.ensures.state c.in_ok-tell.ensures.text) ∙ c.loop-command.invariant.told;
 }
 

@@ -15,7 +15,8 @@ loop-init c = record {
   heap = refl;
   outside = refl;
   left_to_do = omega arith;
-  sifting = subst (λ fs. Sifting c.args.arena.now c.args.bags.now.bags c.args.arena.now.noted c.args.bags.now.bags fs) (sym c.requires.empty) (sifting_begun c.args.arena.now c.args.bags.now.bags c.requires.lists);
+  sifting = subst (λ fs. Sifting c.args.arena.now c.args.bags.now.bags c.args.arena.now.noted c.args.bags.now.bags fs) (sym c.requires.empty)
+      (sifting_begun c.args.arena.now c.args.bags.now.bags c.requires.lists);
   listed = omega (arith, ap length c.requires.empty);
   room = refl;
   ticks = omega (arith, ap length c.requires.empty);

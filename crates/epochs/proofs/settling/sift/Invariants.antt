@@ -11,5 +11,6 @@ invariant-loop l = record {
   sifting : Sifting l.fn.arena l.fn.bags.bags l.arena.noted l.bags.bags l.fresh.refs;
   listed : length l.fresh.refs ≤ l.counter;
   room : l.fresh.room ≡ l.fn.fresh.room;
-  ticks : l.arena.ticks + l.bags.ticks + l.fresh.ticks + 5 * length (all_of l.bags.bags) ≡ l.fn.arena.ticks + l.fn.bags.ticks + l.fn.fresh.ticks + 5 * length (all_of l.fn.bags.bags) + 3 * l.counter + length l.fresh.refs;
+  ticks : l.arena.ticks + l.bags.ticks + l.fresh.ticks + 5 * length (all_of l.bags.bags) ≡ l.fn.arena.ticks + l.fn.bags.ticks + l.fn.fresh.ticks + 5 * length (all_of l.fn.bags.bags) + 3 *
+      l.counter + length l.fresh.refs;
 }

@@ -7,4 +7,5 @@ use Rattle.history.proofs.content.crowds_of.Goals as goal
 pub loop-key-preserved : goal.loop-key-preserved
 loop-key-preserved c =
     counted_more (hash_of c.args.kind) c.loop-key.crowds.entries c.insert.new.self.entries c.in-Some.key.now c.hash-hash.result (c.count_at-crowd.result + 1) c.loop-key.key-iterator c.next.new.self
-    (λ h. count_by (λ q. hash_of c.args.kind q == h) (keys c.args.pairs.now)) c.loop-key.invariant c.in-Some.ensures.steps c.hash-hash.ensures (ap (λ n. n + 1) c.count_at-crowd.ensures) c.in_ok-insert.ensures.updates.0
+    (λ h. count_by (λ q. hash_of c.args.kind q == h) (keys c.args.pairs.now)) c.loop-key.invariant c.in-Some.ensures.steps c.hash-hash.ensures (ap (λ n. n + 1) c.count_at-crowd.ensures)
+    c.in_ok-insert.ensures.updates.0

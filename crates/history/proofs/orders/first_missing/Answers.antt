@@ -23,5 +23,8 @@ returns-then-is_answer c =
     let lengths = c.deref-row-items.ensures.len in
     let answers = c.is_answer.ensures.0 c.if-is_answer.true in
     let P : Option Reply → Type 0 = λ o. IsAnswer o in
-    let unmarked : slice_get c.args.taken.now c.loop-id.id ≡ Some false = slice_get-get_or c.args.taken.now c.loop-id.id false (omega arith) ∙ ap (λ (b : Bool). Some b) c.if-not-taken-id.true in
-    ((get_or rows c.loop-id.id _, slice_get-get_or rows c.loop-id.id _ within, unmarked, subst P told answers), λ other lt unmarked. c.loop-id.invariant other unmarked.0 lt unmarked.1 unmarked.2 unmarked.3)
+    let unmarked : slice_get c.args.taken.now c.loop-id.id ≡ Some false = slice_get-get_or c.args.taken.now c.loop-id.id false (omega arith) ∙ ap (λ (b : Bool). Some b) c.if-not-taken-id.true in (
+      (get_or rows c.loop-id.id _, slice_get-get_or rows c.loop-id.id _ within, unmarked, subst P told answers),
+      λ other lt unmarked.
+          c.loop-id.invariant other unmarked.0 lt unmarked.1 unmarked.2 unmarked.3,
+    )

@@ -17,7 +17,8 @@ invariant_of-self c =
     let now : Contents = c.make_held-made.new.self in
     let size : length now.heap.slots ≡ length c.self.inside.arena.heap.slots = ap (λ (h : Heap). length h.slots) c.make_held-made.ensures.heap ∙ length-taken c.self.inside.arena.heap c.args.node in
     let owners_are = c.self.invariant.4 in (
-      memory_kept c.self.inside.arena now c.self.inside.bags.bags c.self.inside.epoch c.self.inside.cursor c.self.inside.pins.items c.self.invariant.0 (lists_kept c.self.inside.arena now c.self.inside.bags.bags c.self.invariant.0.lists size c.make_held-made.ensures.stay c.make_held-made.ensures.noted),
+      memory_kept c.self.inside.arena now c.self.inside.bags.bags c.self.inside.epoch c.self.inside.cursor c.self.inside.pins.items c.self.invariant.0
+          (lists_kept c.self.inside.arena now c.self.inside.bags.bags c.self.invariant.0.lists size c.make_held-made.ensures.stay c.make_held-made.ensures.noted),
       c.self.invariant.1,
       omega (arith, c.self.invariant.2),
       c.ticks_of-self-inside.ensures,
@@ -29,7 +30,8 @@ invariant_of-self-in_default c =
     let now : Contents = c.make_held-made.new.self in
     let size : length now.heap.slots ≡ length c.self.inside.arena.heap.slots = ap (λ (h : Heap). length h.slots) c.make_held-made.ensures.heap ∙ length-taken c.self.inside.arena.heap c.args.node in
     let owners_are = c.self.invariant.4 in (
-      memory_kept c.self.inside.arena now c.self.inside.bags.bags c.self.inside.epoch c.self.inside.cursor c.self.inside.pins.items c.self.invariant.0 (lists_kept c.self.inside.arena now c.self.inside.bags.bags c.self.invariant.0.lists size c.make_held-made.ensures.stay c.make_held-made.ensures.noted),
+      memory_kept c.self.inside.arena now c.self.inside.bags.bags c.self.inside.epoch c.self.inside.cursor c.self.inside.pins.items c.self.invariant.0
+          (lists_kept c.self.inside.arena now c.self.inside.bags.bags c.self.invariant.0.lists size c.make_held-made.ensures.stay c.make_held-made.ensures.noted),
       c.self.invariant.1,
       omega (arith, c.self.invariant.2),
       c.ticks_of-self-inside.ensures,

@@ -32,21 +32,26 @@ returns-then-noted_len-eq0-clause-ticks c =
 pub enter_all-requires-clause-within : goal.enter_all-requires-clause-within
 enter_all-requires-clause-within c =
     let small : length c.self.inside.arena.heap.slots ≤ 2 ^ 16 = omega (arith, c.len.ensures.size, c.len.ensures.few) in
-    within c.self.inside.arena c.self.inside.bags.bags c.sift.new.bags.bags c.sift.new.fresh.refs c.sort.new.self.refs c.self.invariant.0.lists c.sift.ensures.sifted c.sort.ensures.permutation c.sort.ensures.sorted small
+    within c.self.inside.arena c.self.inside.bags.bags c.sift.new.bags.bags c.sift.new.fresh.refs c.sort.new.self.refs c.self.invariant.0.lists c.sift.ensures.sifted
+    c.sort.ensures.permutation c.sort.ensures.sorted small
 
 pub enter_all-requires-clause-single : goal.enter_all-requires-clause-single
 enter_all-requires-clause-single c k =
     let small : length c.self.inside.arena.heap.slots ≤ 2 ^ 16 = omega (arith, c.len.ensures.size, c.len.ensures.few) in
-    single c.self.inside.arena c.self.inside.bags.bags c.sift.new.bags.bags c.sift.new.fresh.refs c.sort.new.self.refs c.self.invariant.0.lists c.sift.ensures.sifted c.sort.ensures.permutation c.sort.ensures.sorted small k
+    single c.self.inside.arena c.self.inside.bags.bags c.sift.new.bags.bags c.sift.new.fresh.refs c.sort.new.self.refs c.self.invariant.0.lists c.sift.ensures.sifted
+    c.sort.ensures.permutation c.sort.ensures.sorted small k
 
 pub invariant_of-self : goal.invariant_of-self
 invariant_of-self c =
     let small : length c.self.inside.arena.heap.slots ≤ 2 ^ 16 = omega (arith, c.len.ensures.size, c.len.ensures.few) in
-    let after : Bags = after_settling c.self.inside.arena c.self.inside.bags.bags c.sift.new.bags.bags c.sift.new.fresh.refs c.sort.new.self.refs c.self.invariant.0.lists c.sift.ensures.sifted c.sort.ensures.permutation c.sort.ensures.sorted small in
+    let after : Bags = after_settling c.self.inside.arena c.self.inside.bags.bags c.sift.new.bags.bags c.sift.new.fresh.refs c.sort.new.self.refs c.self.invariant.0.lists
+    c.sift.ensures.sifted c.sort.ensures.permutation c.sort.ensures.sorted small in
     let memory = c.self.invariant.0 in
-    let empty = still_empty c.self.inside.arena c.self.inside.bags.bags c.sift.new.bags.bags c.sift.new.fresh.refs c.sort.new.self.refs c.self.invariant.0.lists c.sift.ensures.sifted c.sort.ensures.permutation c.sort.ensures.sorted small in
+    let empty = still_empty c.self.inside.arena c.self.inside.bags.bags c.sift.new.bags.bags c.sift.new.fresh.refs c.sort.new.self.refs c.self.invariant.0.lists c.sift.ensures.sifted
+    c.sort.ensures.permutation c.sort.ensures.sorted small in
     let kept : IsMemory c.sift.new.arena after c.self.inside.epoch c.self.inside.cursor c.self.inside.pins.items = record {
-      lists = settled_lists c.self.inside.arena c.self.inside.bags.bags c.sift.new.bags.bags c.sift.new.fresh.refs c.sort.new.self.refs c.self.invariant.0.lists c.sift.ensures.sifted c.sort.ensures.permutation c.sort.ensures.sorted small c.sift.new.arena c.sift.ensures.heap c.sift.ensures.outside;
+      lists = settled_lists c.self.inside.arena c.self.inside.bags.bags c.sift.new.bags.bags c.sift.new.fresh.refs c.sort.new.self.refs c.self.invariant.0.lists c.sift.ensures.sifted
+          c.sort.ensures.permutation c.sort.ensures.sorted small c.sift.new.arena c.sift.ensures.heap c.sift.ensures.outside;
       oldest_first = λ some. memory.oldest_first (empty.0 some);
       middle_next = λ some. memory.middle_next (empty.1 some);
       started = memory.started;
@@ -56,7 +61,15 @@ invariant_of-self c =
     } in (
       subst (λ bs. IsMemory c.sift.new.arena bs c.self.inside.epoch c.self.inside.cursor c.self.inside.pins.items) (sym c.enter_all.ensures.bags) kept,
       ap (λ (l : Listed). l.refs) c.clear.ensures,
-      omega (arith, c.self.invariant.2, ap (λ (h : Heap). length h.slots) c.sift.ensures.heap, c.sift.ensures.room, c.sort.ensures.room, c.enter_all.ensures.room, ap (λ (l : Listed). l.room) c.clear.ensures),
+      omega (
+        arith,
+        c.self.invariant.2,
+        ap (λ (h : Heap). length h.slots) c.sift.ensures.heap,
+        c.sift.ensures.room,
+        c.sort.ensures.room,
+        c.enter_all.ensures.room,
+        ap (λ (l : Listed). l.room) c.clear.ensures,
+      ),
       c.ticks_of-self-inside.ensures,
       c.self.invariant.4 ∙ sym (ap (λ (h : Heap). length h.slots) c.sift.ensures.heap),
     )
@@ -64,16 +77,20 @@ invariant_of-self c =
 pub returns-clause-limbo : goal.returns-clause-limbo
 returns-clause-limbo c =
     let small : length c.self.inside.arena.heap.slots ≤ 2 ^ 16 = omega (arith, c.len.ensures.size, c.len.ensures.few) in
-    ap (limbo_of c.self.inside.epoch) c.enter_all.ensures.bags ∙ settled c.self.inside.arena c.self.inside.bags.bags c.sift.new.bags.bags c.sift.new.fresh.refs c.sort.new.self.refs c.self.invariant.0.lists c.sift.ensures.sifted c.sort.ensures.permutation c.sort.ensures.sorted small c.self.inside.epoch
+    ap (limbo_of c.self.inside.epoch) c.enter_all.ensures.bags
+    ∙ settled c.self.inside.arena c.self.inside.bags.bags c.sift.new.bags.bags c.sift.new.fresh.refs c.sort.new.self.refs c.self.invariant.0.lists c.sift.ensures.sifted
+    c.sort.ensures.permutation c.sort.ensures.sorted small c.self.inside.epoch
     ∙ ap (λ (m : Memory). limbo_after m.heap m.outside m.epoch m.limbo) c.self.view_is
 
 pub returns-clause-ticks : goal.returns-clause-ticks
 returns-clause-ticks c =
     let small : length c.self.inside.arena.heap.slots ≤ 2 ^ 16 = omega (arith, c.len.ensures.size, c.len.ensures.few) in
-    let sizes = length_settled c.self.inside.arena c.self.inside.bags.bags c.sift.new.bags.bags c.sift.new.fresh.refs c.sort.new.self.refs c.self.invariant.0.lists c.sift.ensures.sifted c.sort.ensures.permutation c.sort.ensures.sorted small c.self.inside.epoch in
+    let sizes = length_settled c.self.inside.arena c.self.inside.bags.bags c.sift.new.bags.bags c.sift.new.fresh.refs c.sort.new.self.refs c.self.invariant.0.lists c.sift.ensures.sifted
+    c.sort.ensures.permutation c.sort.ensures.sorted small c.self.inside.epoch in
     omega (
       arith,
-      no_more c.self.inside.arena c.self.inside.bags.bags c.sift.new.bags.bags c.sift.new.fresh.refs c.sort.new.self.refs c.self.invariant.0.lists c.sift.ensures.sifted c.sort.ensures.permutation c.sort.ensures.sorted small,
+      no_more c.self.inside.arena c.self.inside.bags.bags c.sift.new.bags.bags c.sift.new.fresh.refs c.sort.new.self.refs c.self.invariant.0.lists c.sift.ensures.sifted
+          c.sort.ensures.permutation c.sort.ensures.sorted small,
       sizes.0,
       sizes.1,
       length-limbo_of c.self.inside.epoch c.self.inside.bags.bags,
@@ -96,7 +113,8 @@ returns-clause-rising c =
     let small : length c.self.inside.arena.heap.slots ≤ 2 ^ 16 = omega (arith, c.len.ensures.size, c.len.ensures.few) in
     omega (
       arith,
-      no_more c.self.inside.arena c.self.inside.bags.bags c.sift.new.bags.bags c.sift.new.fresh.refs c.sort.new.self.refs c.self.invariant.0.lists c.sift.ensures.sifted c.sort.ensures.permutation c.sort.ensures.sorted small,
+      no_more c.self.inside.arena c.self.inside.bags.bags c.sift.new.bags.bags c.sift.new.fresh.refs c.sort.new.self.refs c.self.invariant.0.lists c.sift.ensures.sifted
+          c.sort.ensures.permutation c.sort.ensures.sorted small,
       c.self.invariant.3,
       c.ticks_of-self-inside.ensures,
       c.sift.ensures.ticks,

@@ -13,5 +13,6 @@ returns-clause-is_in c =
     let all = ap (λ (b : Ringed). all_of b.bags) c.self.view_is in
     let bags : List Ref = c.self.inside.oldest.items ++ c.self.inside.middle.items ++ c.self.inside.present.items in (
       λ yes_in. subst (λ rs. 0 < naming c.args.slot rs) all (omega (arith, naming_map c.args.slot bags, c.self.invariant.marked.0 c.args.slot, ap bit (sym c.read.ensures.flag ∙ yes_in))),
-      λ some. c.read.ensures.flag ∙ noted_marked (map slot_of bags) c.self.inside.is_in.marks c.args.slot c.self.invariant.marked (subst (λ n. 0 < n) (ap (naming c.args.slot) (sym all) ∙ naming_map c.args.slot bags) some),
+      λ some. c.read.ensures.flag ∙ noted_marked (map slot_of bags) c.self.inside.is_in.marks c.args.slot c.self.invariant.marked
+          (subst (λ n. 0 < n) (ap (naming c.args.slot) (sym all) ∙ naming_map c.args.slot bags) some),
     )

@@ -15,7 +15,8 @@ invariant_of-self-2 c =
     let absent = none_from _ _ c.contains_key.ensures c.if-contains_key.false in
     let pairs = c.self.inside.pairs.entries in
     let hash = hash_of c.self.inside.kind in
-    let room = IsCounted-room hash pairs c.self.inside.crowds.entries c.insert-2.new.self.entries c.hash-hash.result c.count_at-crowd.result c.self.invariant c.count_at-crowd.ensures c.in_ok-insert-2.ensures.updates.0 in
+    let room = IsCounted-room hash pairs c.self.inside.crowds.entries c.insert-2.new.self.entries c.hash-hash.result c.count_at-crowd.result c.self.invariant c.count_at-crowd.ensures
+    c.in_ok-insert-2.ensures.updates.0 in
     let counted = ap (λ o. unwrap_or o 0 + 1) (sym c.in_ok-insert-2.ensures.updates.1) in
     IsCounted-insert hash pairs c.insert-3.new.self.entries c.insert-2.new.self.entries c.set_count.new.counts.entries c.args.key c.args.value c.hash-hash.result _
     room absent c.in_ok-insert-3.ensures.entries c.in_ok-insert-3.ensures.ordered c.hash-hash.ensures counted c.set_count.ensures.0

@@ -15,7 +15,8 @@ uncount-requires c = kept_count-pos _ _ _ c.args.key c.in_ok-before.before c.has
 
 pub invariant_of-self-2 : goal.invariant_of-self-2
 invariant_of-self-2 c =
-    IsCounted-remove (hash_of c.self.inside.kind) c.self.inside.pairs.entries c.remove.new.self.entries c.self.inside.crowds.entries c.uncount.new.counts.entries c.args.key c.in_ok-before.before c.hash-hash.result _ c.self.invariant
+    IsCounted-remove (hash_of c.self.inside.kind) c.self.inside.pairs.entries c.remove.new.self.entries c.self.inside.crowds.entries c.uncount.new.counts.entries c.args.key
+    c.in_ok-before.before c.hash-hash.result _ c.self.invariant
     (sym c.in_ok-before.ensures.value) c.in_ok-before.ensures.entries c.in_ok-before.ensures.ordered c.hash-hash.ensures refl c.uncount.ensures
 
 pub returns-clause-before : goal.returns-clause-before

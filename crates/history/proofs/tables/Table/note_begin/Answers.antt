@@ -4,7 +4,8 @@ use Rattle.std.proofs.lemmas.Bool.{both_ways}
 use Rattle.history.proofs.Places.{at_tested, at_untested}
 use Rattle.history.proofs.Noting.{begin_noted, not_idle}
 use Rattle.history.proofs.tables.Table.note_begin.Goals as goal
-use Rattle.history.proofs.tables.Table.note_begin.Goals.{then-id-len-via-then-id-len, then-id-len-via-else-id-len+then-not-opens_rightly, then-id-len-via-else-id-len+else-not-opens_rightly+then-is_some}
+use Rattle.history.proofs.tables.Table.note_begin.Goals.{then-id-len-via-then-id-len, then-id-len-via-else-id-len+then-not-opens_rightly}
+use Rattle.history.proofs.tables.Table.note_begin.Goals.{then-id-len-via-else-id-len+else-not-opens_rightly+then-is_some}
 
 pub returns-then-id-len-clause-noted : goal.returns-then-id-len-clause-noted
 returns-then-id-len-clause-noted c = λ history known last may.

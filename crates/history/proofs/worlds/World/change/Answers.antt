@@ -20,7 +20,8 @@ returns-clause-answer c =
     let there = get_seen c.self.inside.handles.entries w c.args.handle _ c.self.view_is c.in-Some.ensures.value in
     let written = (c.get_mut.follows.holds c.change.new.self).3 (ap is_some (sym c.in-Some.ensures.value)) in
     let put = put_seen c.self.inside.handles.entries (c.get_mut.follows.lender c.change.new.self).entries w c.args.handle c.change.new.self c.self.view_is written.0 in
-    IfOk-weaker c.change.result _ _ (λ reply same. changed_world-there (hash_of c.args.hash) c.args.call.now w _ c.args.handle c.in-Some.state.now c.change.new.self reply (sym there) put same) c.change.ensures.answer
+    IfOk-weaker c.change.result _ _ (λ reply same. changed_world-there (hash_of c.args.hash) c.args.call.now w _ c.args.handle c.in-Some.state.now c.change.new.self reply (sym there) put
+    same) c.change.ensures.answer
 
 pub returns-clause-err : goal.returns-clause-err
 returns-clause-err c =

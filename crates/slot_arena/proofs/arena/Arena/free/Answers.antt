@@ -42,10 +42,14 @@ lower_all-requires-clause-within c =
     let has = live_inside _ _ c.self.view_is c.args.at c.requires.live in
     let seen = slot_seen c.self.inside.cells at has in
     let slot : Slot = seen.0 in
-    let node_is : c.refs_of.result.now ≡ refs_of_node slot.node = c.refs_of.ensures.refs ∙ ap refs_of_node (c.node.ensures ∙ ap (λ k. node_of (get_or c.self.inside.cells k None)) c.slot-slot.ensures ∙ ap node_of seen.1) in
-    let part : (q : Ref) → times q (refs_of_slot (Some slot)) ≤ found c.self.inside.cells c.self.inside.outside.items q = slot_part c.self.inside.cells c.self.inside.tally.counts c.self.inside.free c.self.inside.used c.self.inside.outside.items c.self.invariant at has in
+    let node_is : c.refs_of.result.now ≡ refs_of_node slot.node = c.refs_of.ensures.refs
+    ∙ ap refs_of_node (c.node.ensures ∙ ap (λ k. node_of (get_or c.self.inside.cells k None)) c.slot-slot.ensures ∙ ap node_of seen.1) in
+    let part : (q : Ref) → times q (refs_of_slot (Some slot)) ≤ found c.self.inside.cells c.self.inside.outside.items q =
+    slot_part c.self.inside.cells c.self.inside.tally.counts c.self.inside.free c.self.inside.used c.self.inside.outside.items c.self.invariant at has in
     subst (λ rs. All (λ r. slot_of r < length c.self.inside.tally.counts) rs) (sym node_is)
-    (all_within c.self.inside.cells (length c.self.inside.tally.counts) (refs_of_node slot.node) (sym (c.self.invariant.sizes)) (part_live c.self.inside.cells c.self.inside.tally.counts c.self.inside.outside.items c.self.invariant.exact (refs_of_node slot.node) (λ q. omega (arith, part q, times-append q (refs_of_node slot.node) (refs_of_prev slot.prev)))))
+    (all_within c.self.inside.cells (length c.self.inside.tally.counts) (refs_of_node slot.node) (sym (c.self.invariant.sizes))
+    (part_live c.self.inside.cells c.self.inside.tally.counts c.self.inside.outside.items c.self.invariant.exact (refs_of_node slot.node)
+    (λ q. omega (arith, part q, times-append q (refs_of_node slot.node) (refs_of_prev slot.prev)))))
 
 pub lower_all-requires-clause-some : goal.lower_all-requires-clause-some
 lower_all-requires-clause-some c i =
@@ -53,8 +57,10 @@ lower_all-requires-clause-some c i =
     let has = live_inside _ _ c.self.view_is c.args.at c.requires.live in
     let seen = slot_seen c.self.inside.cells at has in
     let slot : Slot = seen.0 in
-    let node_is : c.refs_of.result.now ≡ refs_of_node slot.node = c.refs_of.ensures.refs ∙ ap refs_of_node (c.node.ensures ∙ ap (λ k. node_of (get_or c.self.inside.cells k None)) c.slot-slot.ensures ∙ ap node_of seen.1) in
-    let part : (q : Ref) → times q (refs_of_slot (Some slot)) ≤ found c.self.inside.cells c.self.inside.outside.items q = slot_part c.self.inside.cells c.self.inside.tally.counts c.self.inside.free c.self.inside.used c.self.inside.outside.items c.self.invariant at has in
+    let node_is : c.refs_of.result.now ≡ refs_of_node slot.node = c.refs_of.ensures.refs
+    ∙ ap refs_of_node (c.node.ensures ∙ ap (λ k. node_of (get_or c.self.inside.cells k None)) c.slot-slot.ensures ∙ ap node_of seen.1) in
+    let part : (q : Ref) → times q (refs_of_slot (Some slot)) ≤ found c.self.inside.cells c.self.inside.outside.items q =
+    slot_part c.self.inside.cells c.self.inside.tally.counts c.self.inside.free c.self.inside.used c.self.inside.outside.items c.self.invariant at has in
     let counted_so = part_counted c.self.inside.cells c.self.inside.tally.counts c.self.inside.outside.items c.self.invariant.exact c.self.invariant.few (refs_of_slot (Some slot)) part i in
     omega (arith, naming-append i (refs_of_node slot.node) (refs_of_prev slot.prev), ap (naming i) node_is)
 
@@ -64,10 +70,14 @@ lower_all-requires-2-clause-within c =
     let has = live_inside _ _ c.self.view_is c.args.at c.requires.live in
     let seen = slot_seen c.self.inside.cells at has in
     let slot : Slot = seen.0 in
-    let prev_is : c.refs_of_prev.result.now ≡ refs_of_prev slot.prev = c.refs_of_prev.ensures ∙ ap refs_of_prev (c.prev-prev.ensures ∙ ap (λ k. prev_of (get_or c.self.inside.cells k None)) c.slot-slot.ensures ∙ ap prev_of seen.1) in
-    let part : (q : Ref) → times q (refs_of_slot (Some slot)) ≤ found c.self.inside.cells c.self.inside.outside.items q = slot_part c.self.inside.cells c.self.inside.tally.counts c.self.inside.free c.self.inside.used c.self.inside.outside.items c.self.invariant at has in
+    let prev_is : c.refs_of_prev.result.now ≡ refs_of_prev slot.prev = c.refs_of_prev.ensures
+    ∙ ap refs_of_prev (c.prev-prev.ensures ∙ ap (λ k. prev_of (get_or c.self.inside.cells k None)) c.slot-slot.ensures ∙ ap prev_of seen.1) in
+    let part : (q : Ref) → times q (refs_of_slot (Some slot)) ≤ found c.self.inside.cells c.self.inside.outside.items q =
+    slot_part c.self.inside.cells c.self.inside.tally.counts c.self.inside.free c.self.inside.used c.self.inside.outside.items c.self.invariant at has in
     subst (λ rs. All (λ r. slot_of r < length c.lower_all.new.self.counts) rs) (sym prev_is)
-    (all_within c.self.inside.cells (length c.lower_all.new.self.counts) (refs_of_prev slot.prev) (sym (c.lower_all.ensures.size ∙ c.self.invariant.sizes)) (part_live c.self.inside.cells c.self.inside.tally.counts c.self.inside.outside.items c.self.invariant.exact (refs_of_prev slot.prev) (λ q. omega (arith, part q, times-append q (refs_of_node slot.node) (refs_of_prev slot.prev)))))
+    (all_within c.self.inside.cells (length c.lower_all.new.self.counts) (refs_of_prev slot.prev) (sym (c.lower_all.ensures.size ∙ c.self.invariant.sizes))
+    (part_live c.self.inside.cells c.self.inside.tally.counts c.self.inside.outside.items c.self.invariant.exact (refs_of_prev slot.prev)
+    (λ q. omega (arith, part q, times-append q (refs_of_node slot.node) (refs_of_prev slot.prev)))))
 
 pub lower_all-requires-2-clause-some : goal.lower_all-requires-2-clause-some
 lower_all-requires-2-clause-some c i =
@@ -75,9 +85,12 @@ lower_all-requires-2-clause-some c i =
     let has = live_inside _ _ c.self.view_is c.args.at c.requires.live in
     let seen = slot_seen c.self.inside.cells at has in
     let slot : Slot = seen.0 in
-    let node_is : c.refs_of.result.now ≡ refs_of_node slot.node = c.refs_of.ensures.refs ∙ ap refs_of_node (c.node.ensures ∙ ap (λ k. node_of (get_or c.self.inside.cells k None)) c.slot-slot.ensures ∙ ap node_of seen.1) in
-    let prev_is : c.refs_of_prev.result.now ≡ refs_of_prev slot.prev = c.refs_of_prev.ensures ∙ ap refs_of_prev (c.prev-prev.ensures ∙ ap (λ k. prev_of (get_or c.self.inside.cells k None)) c.slot-slot.ensures ∙ ap prev_of seen.1) in
-    let part : (q : Ref) → times q (refs_of_slot (Some slot)) ≤ found c.self.inside.cells c.self.inside.outside.items q = slot_part c.self.inside.cells c.self.inside.tally.counts c.self.inside.free c.self.inside.used c.self.inside.outside.items c.self.invariant at has in
+    let node_is : c.refs_of.result.now ≡ refs_of_node slot.node = c.refs_of.ensures.refs
+    ∙ ap refs_of_node (c.node.ensures ∙ ap (λ k. node_of (get_or c.self.inside.cells k None)) c.slot-slot.ensures ∙ ap node_of seen.1) in
+    let prev_is : c.refs_of_prev.result.now ≡ refs_of_prev slot.prev = c.refs_of_prev.ensures
+    ∙ ap refs_of_prev (c.prev-prev.ensures ∙ ap (λ k. prev_of (get_or c.self.inside.cells k None)) c.slot-slot.ensures ∙ ap prev_of seen.1) in
+    let part : (q : Ref) → times q (refs_of_slot (Some slot)) ≤ found c.self.inside.cells c.self.inside.outside.items q =
+    slot_part c.self.inside.cells c.self.inside.tally.counts c.self.inside.free c.self.inside.used c.self.inside.outside.items c.self.invariant at has in
     let counted_so = part_counted c.self.inside.cells c.self.inside.tally.counts c.self.inside.outside.items c.self.invariant.exact c.self.invariant.few (refs_of_slot (Some slot)) part i in
     omega (arith, naming-append i (refs_of_node slot.node) (refs_of_prev slot.prev), ap (naming i) node_is, ap (naming i) prev_is, c.lower_all.ensures.counts i)
 
@@ -100,7 +113,8 @@ overflow_sub-self c =
     let at : Ref = c.args.at in
     let has = live_inside _ _ c.self.view_is c.args.at c.requires.live in
     let seen = slot_seen c.self.inside.cells at has in
-    some_used c.self.inside.cells c.self.inside.tally.counts c.self.inside.free c.self.inside.used c.self.inside.outside.items c.self.invariant (slot_of at) (live_within c.self.inside.cells at has) (ap is_some seen.1)
+    some_used c.self.inside.cells c.self.inside.tally.counts c.self.inside.free c.self.inside.used c.self.inside.outside.items c.self.invariant (slot_of at)
+    (live_within c.self.inside.cells at has) (ap is_some seen.1)
 
 pub put-requires-clause-within : goal.put-requires-clause-within
 put-requires-clause-within c =
@@ -122,13 +136,18 @@ invariant_of-self c =
     let has = live_inside _ _ c.self.view_is c.args.at c.requires.live in
     let seen = slot_seen c.self.inside.cells at has in
     let slot : Slot = seen.0 in
-    let node_is : c.refs_of.result.now ≡ refs_of_node slot.node = c.refs_of.ensures.refs ∙ ap refs_of_node (c.node.ensures ∙ ap (λ k. node_of (get_or c.self.inside.cells k None)) c.slot-slot.ensures ∙ ap node_of seen.1) in
-    let prev_is : c.refs_of_prev.result.now ≡ refs_of_prev slot.prev = c.refs_of_prev.ensures ∙ ap refs_of_prev (c.prev-prev.ensures ∙ ap (λ k. prev_of (get_or c.self.inside.cells k None)) c.slot-slot.ensures ∙ ap prev_of seen.1) in
+    let node_is : c.refs_of.result.now ≡ refs_of_node slot.node = c.refs_of.ensures.refs
+    ∙ ap refs_of_node (c.node.ensures ∙ ap (λ k. node_of (get_or c.self.inside.cells k None)) c.slot-slot.ensures ∙ ap node_of seen.1) in
+    let prev_is : c.refs_of_prev.result.now ≡ refs_of_prev slot.prev = c.refs_of_prev.ensures
+    ∙ ap refs_of_prev (c.prev-prev.ensures ∙ ap (λ k. prev_of (get_or c.self.inside.cells k None)) c.slot-slot.ensures ∙ ap prev_of seen.1) in
     let unreferred : found c.self.inside.cells c.self.inside.outside.items at ≡ 0 =
     ap (λ (a : Contents). found a.heap.slots a.outside at) c.self.view_is ∙ sym (count_found c.args.self.now.heap c.args.self.now.outside at) ∙ c.requires.unreferred in
-    let one = some_used c.self.inside.cells c.self.inside.tally.counts c.self.inside.free c.self.inside.used c.self.inside.outside.items c.self.invariant (slot_of at) (live_within c.self.inside.cells at has) (ap is_some seen.1) in
-    subst (λ s. IsKept s c.note.new.self.counts c.put.new.self (c.self.inside.used - 1) c.self.inside.outside.items) (sym (c.clear.ensures ∙ ap (λ k. set c.self.inside.cells k None) c.slot-slot.ensures))
-    (free_kept c.self.inside.cells c.self.inside.tally.counts c.note.new.self.counts c.self.inside.free c.put.new.self c.self.inside.used (c.self.inside.used - 1) c.self.inside.outside.items c.self.invariant at slot seen.1 has unreferred
+    let one = some_used c.self.inside.cells c.self.inside.tally.counts c.self.inside.free c.self.inside.used c.self.inside.outside.items c.self.invariant (slot_of at)
+    (live_within c.self.inside.cells at has) (ap is_some seen.1) in
+    subst (λ s. IsKept s c.note.new.self.counts c.put.new.self (c.self.inside.used - 1) c.self.inside.outside.items)
+    (sym (c.clear.ensures ∙ ap (λ k. set c.self.inside.cells k None) c.slot-slot.ensures))
+    (free_kept c.self.inside.cells c.self.inside.tally.counts c.note.new.self.counts c.self.inside.free c.put.new.self c.self.inside.used (c.self.inside.used - 1) c.self.inside.outside.items
+    c.self.invariant at slot seen.1 has unreferred
     (c.put.ensures.slots ∙ ap (λ k. k ∷ c.self.inside.free.slots) c.slot-slot.ensures) c.put.ensures.size (omega arith)
     (ap length c.note.ensures.counts ∙ c.lower_all-2.ensures.size ∙ c.lower_all.ensures.size)
     (λ i. omega (
@@ -144,7 +163,8 @@ invariant_of-self c =
 pub returns-clause-heap : goal.returns-clause-heap
 returns-clause-heap c =
     ap (λ s. record { slots = s; free = c.put.new.self.slots; births = c.self.inside.births }) (c.clear.ensures ∙ ap (λ k. set c.self.inside.cells k None) c.slot-slot.ensures)
-    ∙ ap (λ f. record { slots = set c.self.inside.cells (slot_of c.args.at) None; free = f; births = c.self.inside.births }) (c.put.ensures.slots ∙ ap (λ k. k ∷ c.self.inside.free.slots) c.slot-slot.ensures)
+    ∙ ap (λ f. record { slots = set c.self.inside.cells (slot_of c.args.at) None; free = f; births = c.self.inside.births })
+    (c.put.ensures.slots ∙ ap (λ k. k ∷ c.self.inside.free.slots) c.slot-slot.ensures)
     ∙ ap (λ (a : Contents). record { slots = set a.heap.slots (slot_of c.args.at) None; free = slot_of c.args.at ∷ a.heap.free; births = a.heap.births }) c.self.view_is
     ∙ sym (freed_seen c.args.self.now.heap c.args.at)
 
@@ -152,9 +172,21 @@ pub returns-clause-noted : goal.returns-clause-noted
 returns-clause-noted c =
     let slots = ap (λ (a : Contents). a.heap.slots) c.self.view_is in
     let has = live_inside _ _ c.self.view_is c.args.at c.requires.live in
-    let was : Contents = record { heap = record { slots = c.self.inside.cells; free = c.self.inside.free.slots; births = c.self.inside.births }; outside = c.self.inside.outside.items; noted = c.self.inside.tally.noted; ticks = c.self.inside.free.ticks + c.self.inside.tally.ticks } in
-    let now : Contents = record { heap = record { slots = c.clear.new.self; free = c.put.new.self.slots; births = c.self.inside.births }; outside = c.self.inside.outside.items; noted = c.note.new.self.noted; ticks = 0 } in
-    let zeros = zeros_trans c.self.inside.tally c.lower_all.new.self c.note.new.self c.lower_all.ensures.noted (zeros_trans c.lower_all.new.self c.lower_all-2.new.self c.note.new.self c.lower_all-2.ensures.noted c.note.ensures.others) in
+    let was : Contents = record {
+      heap = record { slots = c.self.inside.cells; free = c.self.inside.free.slots; births = c.self.inside.births };
+      outside = c.self.inside.outside.items;
+      noted = c.self.inside.tally.noted;
+      ticks = c.self.inside.free.ticks + c.self.inside.tally.ticks;
+    } in
+    let now : Contents = record {
+      heap = record { slots = c.clear.new.self; free = c.put.new.self.slots; births = c.self.inside.births };
+      outside = c.self.inside.outside.items;
+      noted =
+          c.note.new.self.noted;
+      ticks = 0;
+    } in
+    let zeros = zeros_trans c.self.inside.tally c.lower_all.new.self c.note.new.self c.lower_all.ensures.noted
+    (zeros_trans c.lower_all.new.self c.lower_all-2.new.self c.note.new.self c.lower_all-2.ensures.noted c.note.ensures.others) in
     subst (λ (a : Contents). NotesWaiting a now) c.self.view_is
     (notes_waiting was now c.self.inside.tally.counts c.note.new.self.counts c.self.inside.free c.put.new.self c.self.inside.used (c.self.inside.used - 1) c.self.invariant (invariant_of-self c) zeros
     (λ i none. born_set c.self.inside.cells c.slot-slot.result i None (λ same. let there = c.note.ensures.noted in omega (arith, ap (λ k. times k c.note.new.self.noted) same))

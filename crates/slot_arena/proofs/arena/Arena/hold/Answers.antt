@@ -34,7 +34,8 @@ invariant_of-self c =
     let few : times at c.self.inside.outside.items < 2 ^ 31 = subst (λ (a : Contents). times at a.outside < 2 ^ 31) (sym c.self.view_is) c.requires.room in
     let held : (r : ℕ) → times r (at ∷ c.self.inside.outside.items) ≤ 2 ^ 31 = λ r. held_more c.self.inside.outside.items at r kept.held few in
     subst (λ os. IsKept c.self.inside.cells c.raise_all.new.self.counts c.self.inside.free c.self.inside.used os) (sym c.with_first-self-inside.ensures)
-    (hold_kept c.self.inside.cells c.self.inside.tally.counts c.raise_all.new.self.counts c.self.inside.free c.self.inside.used c.self.inside.outside.items (at ∷ c.self.inside.outside.items) (at ∷ []) []
+    (hold_kept c.self.inside.cells c.self.inside.tally.counts c.raise_all.new.self.counts c.self.inside.free c.self.inside.used c.self.inside.outside.items (at ∷ c.self.inside.outside.items)
+    (at ∷ []) []
     kept (λ r. omega (arith, times-cons r at c.self.inside.outside.items, times-cons r at [])) c.raise_all.ensures.size
     (λ i. omega (arith, c.raise_all.ensures.counts i, ap (naming i) c.from_ref.ensures.value))
     (All-cons (λ q. live c.self.inside.cells q ≡ true) at [] has (All-nil (λ q. live c.self.inside.cells q ≡ true)))
@@ -42,7 +43,20 @@ invariant_of-self c =
 
 pub returns-clause-noted : goal.returns-clause-noted
 returns-clause-noted c =
-    let now : Contents = record { heap = record { slots = c.self.inside.cells; free = c.self.inside.free.slots; births = c.self.inside.births }; outside = c.with_first-self-inside.result.items; noted = c.raise_all.new.self.noted; ticks = c.self.inside.free.ticks + c.self.inside.tally.ticks } in
+    let now : Contents = record {
+      heap = record { slots = c.self.inside.cells; free = c.self.inside.free.slots; births = c.self.inside.births };
+      outside =
+          c.with_first-self-inside.result.items;
+      noted = c.raise_all.new.self.noted;
+      ticks = c.self.inside.free.ticks + c.self.inside.tally.ticks;
+    } in
     subst (λ (a : Contents). NotesWaiting a now) c.self.view_is
-    (notes_waiting (record { heap = record { slots = c.self.inside.cells; free = c.self.inside.free.slots; births = c.self.inside.births }; outside = c.self.inside.outside.items; noted = c.self.inside.tally.noted; ticks = c.self.inside.free.ticks + c.self.inside.tally.ticks }) now
-    c.self.inside.tally.counts c.raise_all.new.self.counts c.self.inside.free c.self.inside.free c.self.inside.used c.self.inside.used c.self.invariant (invariant_of-self c) c.raise_all.ensures.noted (λ k none. refl))
+    (notes_waiting (record {
+      heap = record { slots = c.self.inside.cells; free = c.self.inside.free.slots; births = c.self.inside.births };
+      outside = c.self.inside.outside.items;
+      noted =
+          c.self.inside.tally.noted;
+      ticks = c.self.inside.free.ticks + c.self.inside.tally.ticks;
+    }) now
+    c.self.inside.tally.counts c.raise_all.new.self.counts c.self.inside.free c.self.inside.free c.self.inside.used c.self.inside.used c.self.invariant (invariant_of-self c)
+    c.raise_all.ensures.noted (λ k none. refl))

@@ -31,7 +31,8 @@ returns-in_err-slot-clause-heap c =
 pub raise_all-requires-clause-within : goal.raise_all-requires-clause-within
 raise_all-requires-clause-within c =
     let slots = ap (λ (a : Contents). a.heap.slots) c.self.view_is in
-    let all : All (λ q. live c.self.inside.cells q ≡ true) (refs_of_node c.args.node) = subst (λ s. All (λ q. live s q ≡ true) (refs_of_node c.args.node)) (sym slots) (all_seen c.args.self.now.heap (refs_of_node c.args.node) c.requires.live) in
+    let all : All (λ q. live c.self.inside.cells q ≡ true) (refs_of_node c.args.node) =
+    subst (λ s. All (λ q. live s q ≡ true) (refs_of_node c.args.node)) (sym slots) (all_seen c.args.self.now.heap (refs_of_node c.args.node) c.requires.live) in
     subst (λ rs. All (λ r. slot_of r < length c.self.inside.tally.counts) rs) (sym c.refs_of.ensures.refs)
     (all_within c.self.inside.cells (length c.self.inside.tally.counts) (refs_of_node c.args.node) (sym c.self.invariant.sizes) all)
 
@@ -47,10 +48,14 @@ pub invariant_of-self-2 : goal.invariant_of-self-2
 invariant_of-self-2 c =
     let slots = ap (λ (a : Contents). a.heap.slots) c.self.view_is in
     let births = ap (λ (a : Contents). a.heap.births) c.self.view_is in
-    let all : All (λ q. live c.self.inside.cells q ≡ true) (refs_of_node c.args.node) = subst (λ s. All (λ q. live s q ≡ true) (refs_of_node c.args.node)) (sym slots) (all_seen c.args.self.now.heap (refs_of_node c.args.node) c.requires.live) in
+    let all : All (λ q. live c.self.inside.cells q ≡ true) (refs_of_node c.args.node) =
+    subst (λ s. All (λ q. live s q ≡ true) (refs_of_node c.args.node)) (sym slots) (all_seen c.args.self.now.heap (refs_of_node c.args.node) c.requires.live) in
     subst (λ s. IsKept s c.begin.new.self.counts c.take.new.self (c.self.inside.used + 1) c.with_first-self-inside.result.items) (sym c.fill.ensures)
-    (subst (λ cs. IsKept (set c.self.inside.cells c.in_ok-slot.slot (Some (record { birth = c.self.inside.births + 1; node = c.args.node; prev = prev.None }))) cs c.take.new.self (c.self.inside.used + 1) c.with_first-self-inside.result.items) (sym (ap (λ (t : Tally). t.counts) c.begin.ensures))
-    (subst (IsKept (set c.self.inside.cells c.in_ok-slot.slot (Some (record { birth = c.self.inside.births + 1; node = c.args.node; prev = prev.None }))) (set c.raise_all.new.self.counts c.in_ok-slot.slot 1) c.take.new.self (c.self.inside.used + 1)) (sym (c.with_first-self-inside.ensures ∙ ap (λ r. r ∷ c.self.inside.outside.items) c.new-made.ensures))
+    (subst (λ cs. IsKept (set c.self.inside.cells c.in_ok-slot.slot (Some (record { birth = c.self.inside.births + 1; node = c.args.node; prev = prev.None }))) cs c.take.new.self
+    (c.self.inside.used + 1) c.with_first-self-inside.result.items) (sym (ap (λ (t : Tally). t.counts) c.begin.ensures))
+    (subst (IsKept (set c.self.inside.cells c.in_ok-slot.slot (Some (record { birth = c.self.inside.births + 1; node = c.args.node; prev = prev.None })))
+    (set c.raise_all.new.self.counts c.in_ok-slot.slot 1) c.take.new.self (c.self.inside.used + 1))
+    (sym (c.with_first-self-inside.ensures ∙ ap (λ r. r ∷ c.self.inside.outside.items) c.new-made.ensures))
     (make_held_kept c.self.inside.cells c.self.inside.tally.counts c.raise_all.new.self.counts c.self.inside.free c.take.new.self c.self.inside.used c.self.inside.outside.items c.self.invariant
     c.in_ok-slot.slot (c.self.inside.births + 1) c.args.node c.in_ok-slot.ensures.slots.0 c.in_ok-slot.ensures.size c.in_ok-slot.ensures.slots.1 c.in_ok-slot.ensures.slots.2
     c.raise_all.ensures.size
@@ -64,15 +69,30 @@ returns-clause-heap c =
     let births = ap (λ (a : Contents). a.heap.births) c.self.view_is in
     ap (λ s. record { slots = s; free = c.take.new.self.slots; births = c.self.inside.births + 1 }) (c.fill.ensures
     ∙ ap (λ s. set s c.in_ok-slot.slot (Some (record { birth = c.self.inside.births + 1; node = c.args.node; prev = prev.None }))) slots)
-    ∙ ap (λ b. record { slots = set c.args.self.now.heap.slots c.in_ok-slot.slot (Some (record { birth = b + 1; node = c.args.node; prev = prev.None })); free = c.take.new.self.slots; births = b + 1 }) births
+    ∙ ap (λ b. record {
+      slots = set c.args.self.now.heap.slots c.in_ok-slot.slot (Some (record { birth = b + 1; node = c.args.node; prev = prev.None }));
+      free = c.take.new.self.slots;
+      births = b + 1;
+    }) births
     ∙ sym (taken_first c.args.self.now.heap c.args.node c.in_ok-slot.slot c.take.new.self.slots (sym free ∙ c.in_ok-slot.ensures.slots.0))
 
 pub returns-clause-noted : goal.returns-clause-noted
 returns-clause-noted c =
     let at : ℕ = c.in_ok-slot.slot in
-    let was : Contents = record { heap = record { slots = c.self.inside.cells; free = c.self.inside.free.slots; births = c.self.inside.births }; outside = c.self.inside.outside.items; noted = c.self.inside.tally.noted; ticks = c.self.inside.free.ticks + c.self.inside.tally.ticks } in
-    let now : Contents = record { heap = record { slots = c.fill.new.self; free = c.take.new.self.slots; births = c.self.inside.births + 1 }; outside = c.with_first-self-inside.result.items; noted = c.begin.new.self.noted; ticks = 0 } in
-    let empty = first_unused c.self.inside.cells c.self.inside.tally.counts c.self.inside.free c.self.inside.used c.self.inside.outside.items c.self.invariant at c.take.new.self.slots c.in_ok-slot.ensures.slots.0 in
+    let was : Contents = record {
+      heap = record { slots = c.self.inside.cells; free = c.self.inside.free.slots; births = c.self.inside.births };
+      outside = c.self.inside.outside.items;
+      noted = c.self.inside.tally.noted;
+      ticks = c.self.inside.free.ticks + c.self.inside.tally.ticks;
+    } in
+    let now : Contents = record {
+      heap = record { slots = c.fill.new.self; free = c.take.new.self.slots; births = c.self.inside.births + 1 };
+      outside = c.with_first-self-inside.result.items;
+      noted = c.begin.new.self.noted;
+      ticks = 0;
+    } in
+    let empty = first_unused c.self.inside.cells c.self.inside.tally.counts c.self.inside.free c.self.inside.used c.self.inside.outside.items c.self.invariant at c.take.new.self.slots
+    c.in_ok-slot.ensures.slots.0 in
     let counts_are = ap (λ (t : Tally). t.counts) c.begin.ensures in
     let sizes = c.raise_all.ensures.size ∙ c.self.invariant.sizes in
     let below : at < length c.raise_all.new.self.counts = let is = c.self.invariant.chained in let least = c.in_ok-slot.ensures.slots.1 in omega arith in
@@ -101,12 +121,14 @@ pub returns-clause-stay : goal.returns-clause-stay
 returns-clause-stay c q has =
     let slots = ap (λ (a : Contents). a.heap.slots) c.self.view_is in
     let was : live c.self.inside.cells q ≡ true = ap (λ s. live s q) slots ∙ live_seen c.args.self.now.heap q has in
-    let empty = first_unused c.self.inside.cells c.self.inside.tally.counts c.self.inside.free c.self.inside.used c.self.inside.outside.items c.self.invariant c.in_ok-slot.slot c.take.new.self.slots c.in_ok-slot.ensures.slots.0 in
+    let empty = first_unused c.self.inside.cells c.self.inside.tally.counts c.self.inside.free c.self.inside.used c.self.inside.outside.items c.self.invariant c.in_ok-slot.slot
+    c.take.new.self.slots c.in_ok-slot.ensures.slots.0 in
     live_shown (record { slots = c.fill.new.self; free = c.take.new.self.slots; births = c.self.inside.births + 1 }) q
     (ap (λ s. live s q) c.fill.ensures ∙ live_stays c.self.inside.cells c.in_ok-slot.slot _ q was empty)
 
 pub returns-in_err-slot-clause-stay : goal.returns-in_err-slot-clause-stay
-returns-in_err-slot-clause-stay c q has = subst (λ (h : Heap). IsLive h q) (sym (returns-in_err-slot-clause-heap c ∙ taken_none c.args.self.now.heap c.args.node (sym (ap (λ (a : Contents). a.heap.free) c.self.view_is) ∙ c.in_err-slot.ensures.slots.0))) has
+returns-in_err-slot-clause-stay c q has = subst (λ (h : Heap).
+    IsLive h q) (sym (returns-in_err-slot-clause-heap c ∙ taken_none c.args.self.now.heap c.args.node (sym (ap (λ (a : Contents). a.heap.free) c.self.view_is) ∙ c.in_err-slot.ensures.slots.0))) has
 
 pub returns-clause-lives : goal.returns-clause-lives
 returns-clause-lives c =
@@ -124,6 +146,7 @@ returns-clause-fresh c =
     let k : ℕ = c.in_ok-slot.slot in
     let b : ℕ = c.self.inside.births + 1 in
     let small : k < 2 ^ 16 = let few = c.self.invariant.few in let is = c.self.invariant.chained in let below = c.in_ok-slot.ensures.slots.1 in omega arith in
-    let empty = first_unused c.self.inside.cells c.self.inside.tally.counts c.self.inside.free c.self.inside.used c.self.inside.outside.items c.self.invariant k c.take.new.self.slots c.in_ok-slot.ensures.slots.0 in
+    let empty = first_unused c.self.inside.cells c.self.inside.tally.counts c.self.inside.free c.self.inside.used c.self.inside.outside.items c.self.invariant k c.take.new.self.slots
+    c.in_ok-slot.ensures.slots.0 in
     live_is c.args.self.now.heap c.new-made.result ∙ ap (λ (a : Contents). live a.heap.slots c.new-made.result) (sym c.self.view_is) ∙ ap (live c.self.inside.cells) c.new-made.ensures
     ∙ ap (λ i. has_birth (birth_of (ref_to b k)) (get_or c.self.inside.cells i None)) (slot_of_ref b k small) ∙ ap (has_birth (birth_of (ref_to b k))) empty

@@ -14,5 +14,6 @@ invariant_of-result c =
     subst (λ (s : List (Option Slot)). IsKept s c.in_ok-new-2.field-0.counts c.in_ok-new-3.field-0 0 c.new-4.result.items) (sym c.in_ok-new.ensures)
     (subst (λ (t : Tally). IsKept (replicate c.args.slots None) t.counts c.in_ok-new-3.field-0 0 c.new-4.result.items) (sym c.in_ok-new-2.ensures)
     (subst (λ (f : Chain). IsKept (replicate c.args.slots None) (replicate c.args.slots 0) f 0 c.new-4.result.items) (sym c.in_ok-new-3.ensures)
-    (subst (λ (os : List Ref). IsKept (replicate c.args.slots None) (replicate c.args.slots 0) (record { slots = range_with_len 0 c.args.slots; size = c.args.slots; ticks = c.args.slots }) 0 os) (sym c.new-4.ensures)
+    (subst (λ (os : List Ref). IsKept (replicate c.args.slots None) (replicate c.args.slots 0) (record { slots = range_with_len 0 c.args.slots; size = c.args.slots; ticks = c.args.slots }) 0
+    os) (sym c.new-4.ensures)
     (start_kept c.args.slots (omega arith)))))

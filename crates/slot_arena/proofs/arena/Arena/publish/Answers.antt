@@ -61,7 +61,8 @@ lower_all-requires-clause-some c i =
       ap (once i) c.slot-2.ensures,
       naming-cons i to [],
       ap (naming i) refs_are,
-      part_counted c.self.inside.cells c.self.inside.tally.counts c.self.inside.outside.items c.self.invariant.exact c.self.invariant.few (refs_of_prev (prev_of (get_or c.self.inside.cells (slot_of to) None)))
+      part_counted c.self.inside.cells c.self.inside.tally.counts c.self.inside.outside.items c.self.invariant.exact c.self.invariant.few
+          (refs_of_prev (prev_of (get_or c.self.inside.cells (slot_of to) None)))
           (prev_part c.self.inside.cells c.self.inside.tally.counts c.self.inside.free c.self.inside.used c.self.inside.outside.items c.self.invariant to has) i,
     )
 
@@ -87,7 +88,13 @@ first_change c =
 pub set_prev-requires : goal.set_prev-requires
 set_prev-requires c =
     let has = live_inside _ _ c.self.view_is c.args.to c.requires.new_live in
-    omega (arith, live_within c.self.inside.cells c.args.to has, c.slot-4.ensures, ap length c.set_main.ensures, length-set c.self.inside.cells c.slot-3.result (option_map (main_changed c.args.to) (get_or c.self.inside.cells c.slot-3.result None)))
+    omega (
+      arith,
+      live_within c.self.inside.cells c.args.to has,
+      c.slot-4.ensures,
+      ap length c.set_main.ensures,
+      length-set c.self.inside.cells c.slot-3.result (option_map (main_changed c.args.to) (get_or c.self.inside.cells c.slot-3.result None)),
+    )
 
 slots_are : (c : goal.After-set_prev) → c.set_prev.new.self ≡ second_of (first_of c.self.inside.cells c.args.at c.args.to) c.args.to c.args.from
 slots_are c =
@@ -138,8 +145,18 @@ returns-clause-noted c =
     let to_live = live_inside _ _ c.self.view_is to c.requires.new_live in
     let first : List (Option Slot) = first_of c.self.inside.cells at to in
     let size = length-set c.self.inside.cells (slot_of at) (option_map (main_changed to) (get_or c.self.inside.cells (slot_of at) None)) in
-    let was : Contents = record { heap = record { slots = c.self.inside.cells; free = c.self.inside.free.slots; births = c.self.inside.births }; outside = c.self.inside.outside.items; noted = c.self.inside.tally.noted; ticks = c.self.inside.free.ticks + c.self.inside.tally.ticks } in
-    let now : Contents = record { heap = record { slots = c.set_prev.new.self; free = c.self.inside.free.slots; births = c.self.inside.births }; outside = c.self.inside.outside.items; noted = c.lower_all.new.self.noted; ticks = 0 } in
+    let was : Contents = record {
+      heap = record { slots = c.self.inside.cells; free = c.self.inside.free.slots; births = c.self.inside.births };
+      outside = c.self.inside.outside.items;
+      noted = c.self.inside.tally.noted;
+      ticks = c.self.inside.free.ticks + c.self.inside.tally.ticks;
+    } in
+    let now : Contents = record {
+      heap = record { slots = c.set_prev.new.self; free = c.self.inside.free.slots; births = c.self.inside.births };
+      outside = c.self.inside.outside.items;
+      noted = c.lower_all.new.self.noted;
+      ticks = 0;
+    } in
     subst (λ (a : Contents). NotesWaiting a now) c.self.view_is
     (notes_waiting was now c.self.inside.tally.counts c.lower_all.new.self.counts c.self.inside.free c.self.inside.free c.self.inside.used c.self.inside.used c.self.invariant (invariant_of-self c)
     (zeros_trans c.self.inside.tally c.raise.new.self c.lower_all.new.self c.raise.ensures.noted c.lower_all.ensures.noted)

@@ -51,7 +51,8 @@ pub invariant_of-self : goal.invariant_of-self
 invariant_of-self c =
     subst (λ s. IsKept s c.lower_all.new.self.counts c.self.inside.free c.self.inside.used c.self.inside.outside.items) (sym (slots_are c))
     (word_kept _ _ _ _ _ c.self.invariant _ (live_inside _ _ c.self.view_is c.args.at c.requires.live) _ _ _ (changed c) _ (c.lower_all.ensures.size ∙ c.raise_all.ensures.size)
-    (λ i. omega (arith, c.lower_all.ensures.counts i, c.raise_all.ensures.counts i, ap (naming i) c.refs_of_prev-2.ensures, ap (naming i) c.refs_of_prev.ensures)) (to_live _ _ c.self.view_is c.args.to c.requires.new_live))
+    (λ i. omega (arith, c.lower_all.ensures.counts i, c.raise_all.ensures.counts i, ap (naming i) c.refs_of_prev-2.ensures, ap (naming i) c.refs_of_prev.ensures))
+    (to_live _ _ c.self.view_is c.args.to c.requires.new_live))
 
 pub returns-clause-heap : goal.returns-clause-heap
 returns-clause-heap c =

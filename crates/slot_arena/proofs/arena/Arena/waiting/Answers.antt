@@ -13,7 +13,8 @@ use Rattle.slot_arena.proofs.arena.Arena.waiting.Goals.{then-birth-eq0-via-then-
 pub returns-then-birth-eq0-clause-waiting : goal.returns-then-birth-eq0-clause-waiting
 returns-then-birth-eq0-clause-waiting c =
     let heap : Heap = record { slots = c.self.inside.cells; free = c.self.inside.free.slots; births = c.self.inside.births } in
-    let none = (waits_read heap c.self.inside.tally.counts c.self.inside.free c.self.inside.used c.self.inside.outside.items c.self.invariant c.args.slot c.birth-birth.result c.count-count.result c.birth-birth.ensures.birth c.birth-birth.ensures.unused c.count-count.ensures.count).1 in
+    let none = (waits_read heap c.self.inside.tally.counts c.self.inside.free c.self.inside.used c.self.inside.outside.items c.self.invariant c.args.slot c.birth-birth.result
+    c.count-count.result c.birth-birth.ensures.birth c.birth-birth.ensures.unused c.count-count.ensures.count).1 in
     sym (elim c.then-birth-eq0.branch [
       | then-birth-eq0-via-then-birth-eq0 w ↦ none (inl w.if-birth-eq0.true)
       | then-birth-eq0-via-else-birth-eq0+then-count-ne0 w ↦ none (inr w.if-count-ne0.true)
@@ -23,7 +24,8 @@ pub returns-clause-waiting : goal.returns-clause-waiting
 returns-clause-waiting c =
     let heap : Heap = record { slots = c.self.inside.cells; free = c.self.inside.free.slots; births = c.self.inside.births } in
     ap Some c.new.ensures
-    ∙ sym ((waits_read heap c.self.inside.tally.counts c.self.inside.free c.self.inside.used c.self.inside.outside.items c.self.invariant c.args.slot c.birth-birth.result c.count-count.result c.birth-birth.ensures.birth c.birth-birth.ensures.unused c.count-count.ensures.count).0 c.if-birth-eq0.false c.if-count-ne0.false)
+    ∙ sym ((waits_read heap c.self.inside.tally.counts c.self.inside.free c.self.inside.used c.self.inside.outside.items c.self.invariant c.args.slot c.birth-birth.result
+    c.count-count.result c.birth-birth.ensures.birth c.birth-birth.ensures.unused c.count-count.ensures.count).0 c.if-birth-eq0.false c.if-count-ne0.false)
     ∙ ap (λ (a : Contents). waiting a c.args.slot) c.self.view_is
 
 pub returns-clause-live : goal.returns-clause-live
@@ -32,5 +34,6 @@ returns-clause-live c =
       ap slot_of c.new.ensures ∙ slot_of_ref c.birth-birth.result c.args.slot small,
       live_shown c.args.self.now.heap c.new.result
           (ap (λ r. live c.args.self.now.heap.slots r) c.new.ensures
-          ∙ live_read c.args.self.now.heap.slots c.args.slot c.birth-birth.result (c.birth-birth.ensures.birth ∙ ap (λ (a : Contents). birth_of_slot (get_or a.heap.slots c.args.slot None)) c.self.view_is) c.if-birth-eq0.false small),
+          ∙ live_read c.args.self.now.heap.slots c.args.slot c.birth-birth.result (c.birth-birth.ensures.birth
+          ∙ ap (λ (a : Contents). birth_of_slot (get_or a.heap.slots c.args.slot None)) c.self.view_is) c.if-birth-eq0.false small),
     )

@@ -11,11 +11,13 @@ index-requires c = let parts = within c.self.inside.births.items c.self.inside.n
 pub returns-clause-birth : goal.returns-clause-birth
 returns-clause-birth c =
     let parts = within c.self.inside.births.items c.self.inside.nodes.items c.self.inside.prevs.items c.args.slot (omega (arith, ap length c.self.view_is)) in
-    get_or_read c.self.inside.births.items c.args.slot c.index.result.now parts.0 c.index.ensures 0 ∙ birth_at c.self.inside.births.items c.self.inside.nodes.items c.self.inside.prevs.items c.args.slot (omega (arith, ap length c.self.view_is))
+    get_or_read c.self.inside.births.items c.args.slot c.index.result.now parts.0 c.index.ensures 0
+    ∙ birth_at c.self.inside.births.items c.self.inside.nodes.items c.self.inside.prevs.items c.args.slot (omega (arith, ap length c.self.view_is))
     ∙ ap (λ (s : List (Option Slot)). birth_of_slot (get_or s c.args.slot None)) c.self.view_is
 
 pub returns-clause-unused : goal.returns-clause-unused
 returns-clause-unused c zero_birth =
     let parts = within c.self.inside.births.items c.self.inside.nodes.items c.self.inside.prevs.items c.args.slot (omega (arith, ap length c.self.view_is)) in
     sym (ap (λ (s : List (Option Slot)). get_or s c.args.slot None) c.self.view_is)
-    ∙ birth_none c.self.inside.births.items c.self.inside.nodes.items c.self.inside.prevs.items c.args.slot (sym (get_or_read c.self.inside.births.items c.args.slot c.index.result.now parts.0 c.index.ensures 0) ∙ zero_birth)
+    ∙ birth_none c.self.inside.births.items c.self.inside.nodes.items c.self.inside.prevs.items c.args.slot
+    (sym (get_or_read c.self.inside.births.items c.args.slot c.index.result.now parts.0 c.index.ensures 0) ∙ zero_birth)

@@ -19,7 +19,8 @@ invariant_of-self c =
     (chain_put links end slot slots c.self.invariant.0 (omega arith) (omega arith) (ap (times slot) slots_are ∙ c.requires.apart)) in
     let links_are : c.write-2.new.self.words ≡ set (set links slot first) end slot =
     c.write-2.ensures.words ∙ ap (λ ls. set ls end slot) (c.write.ensures.words ∙ ap (λ ls. set ls slot first) c.read-first.ensures.words) in (
-      subst (λ ls. LeadsTo ls end end c.with_first-self-inside.result.items) (sym links_are) (subst (LeadsTo (set (set links slot first) end slot) end end) (sym c.with_first-self-inside.ensures) made),
+      subst (λ ls. LeadsTo ls end end c.with_first-self-inside.result.items) (sym links_are)
+          (subst (LeadsTo (set (set links slot first) end slot) end end) (sym c.with_first-self-inside.ensures) made),
       omega (arith, ap length links_are, length-set (set links slot first) end slot, length-set links slot first),
       omega arith,
     )

@@ -25,8 +25,10 @@ returns-clause-noted c =
     ] in
     let within : slot < length c.self.inside.counts.items = omega (arith, ap length counts_was) in
     let within_2 : slot < length c.self-2.inside.counts.items = omega (arith, ap length counts_is, ap length same) in
-    let was : slice_index a.counts slot ≡ c.index.result.now = sym (ap (λ cs. slice_index cs slot) counts_was) ∙ sym (get_or_read c.self.inside.counts.items slot c.index.result.now within c.index.ensures 0) in
-    let is : c.index_mut.result.now ≡ slice_index a.counts slot = get_or_read c.self-2.inside.counts.items slot c.index_mut.result.now within_2 c.index_mut.ensures.value 0 ∙ ap (λ cs. slice_index cs slot) (counts_is ∙ same) in
+    let was : slice_index a.counts slot ≡ c.index.result.now = sym (ap (λ cs. slice_index cs slot) counts_was)
+    ∙ sym (get_or_read c.self.inside.counts.items slot c.index.result.now within c.index.ensures 0) in
+    let is : c.index_mut.result.now ≡ slice_index a.counts slot = get_or_read c.self-2.inside.counts.items slot c.index_mut.result.now within_2 c.index_mut.ensures.value 0
+    ∙ ap (λ cs. slice_index cs slot) (counts_is ∙ same) in
     let why : (0 < times slot b.noted) ⊎ ((slice_index a.counts slot == 0) ≡ (v == 0)) = elim c.if-index-eq0.branch [
       | then-index-eq0 w ↦ inl (subst (λ (t : Tally). 0 < times slot t.noted) (sym w.self-is) w.enlist.ensures.noted)
       | else-index-eq0 w ↦ inr (neither_zero _ _ (let apart = w.if-index-eq0.false in omega arith) (omega arith))

@@ -10,7 +10,8 @@ pub loop-one-preserved : goal.loop-one-preserved
 loop-one-preserved c =
     let counts : List ℕ = c.loop-one.self.counts in
     let at : ℕ = c.slot.result in
-    let within : at < length counts = let bound : slot_of (get_or c.args.refs.now c.loop-one.one-index c.one-item.result) < length c.args.self.now.counts = c.requires.within c.loop-one.one-index c.one-item.result c.loop-one-test.true in omega (arith, c.loop-one.invariant.size, ap slot_of c.one-item.is, c.slot.ensures) in
+    let within : at < length counts = let bound : slot_of (get_or c.args.refs.now c.loop-one.one-index c.one-item.result) < length c.args.self.now.counts =
+    c.requires.within c.loop-one.one-index c.one-item.result c.loop-one-test.true in omega (arith, c.loop-one.invariant.size, ap slot_of c.one-item.is, c.slot.ensures) in
     record {
       size = ap length c.raise.ensures.counts ∙ length-set counts at (slice_index counts at + 1) ∙ c.loop-one.invariant.size;
       counts = λ slot. omega (

@@ -6,7 +6,11 @@ use Rattle.slot_arena.proofs.tally.Tally.take_noted.Goals as goal
 
 pub index_mut-requires : goal.index_mut-requires
 index_mut-requires c =
-    omega (arith, noted_within c.pop.new.self.items c.self.inside.is_noted.items c.in_ok-slot.slot (subst (λ ns. AreMarks ns c.self.inside.is_noted.items) c.in_ok-slot.ensures.items c.self.invariant.0))
+    omega (
+      arith,
+      noted_within c.pop.new.self.items c.self.inside.is_noted.items c.in_ok-slot.slot
+          (subst (λ ns. AreMarks ns c.self.inside.is_noted.items) c.in_ok-slot.ensures.items c.self.invariant.0),
+    )
 
 pub invariant_of-self-2 : goal.invariant_of-self-2
 invariant_of-self-2 c =

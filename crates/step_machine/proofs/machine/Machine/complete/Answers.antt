@@ -17,5 +17,6 @@ returns-clause-ends c sure =
 
 pub returns-clause-spare : goal.returns-clause-spare
 returns-clause-spare c sure free =
-    spares c.each_step_leads_to_its_end.ensures c.closes_end.ensures (enough_for_call c.enough_slots_for_tries.ensures.spare c.enough_slots_for_copies.ensures.spare) c.args.self.now c.args.actor c.args.call c.limits.ensures.in_range c.steps.ensures.keys
+    spares c.each_step_leads_to_its_end.ensures c.closes_end.ensures (enough_for_call c.enough_slots_for_tries.ensures.spare c.enough_slots_for_copies.ensures.spare) c.args.self.now
+    c.args.actor c.args.call c.limits.ensures.in_range c.steps.ensures.keys
     c.fits.ensures sure free c.begin_and_go-result.new.self c.begin_and_go-result.result c.begin_and_go-result.ensures

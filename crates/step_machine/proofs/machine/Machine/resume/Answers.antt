@@ -17,5 +17,6 @@ returns-clause-ends c operation runs sure =
 
 pub returns-clause-spare : goal.returns-clause-spare
 returns-clause-spare c before call went =
-    spares_again before c.args.self.now c.go_on-result.new.self c.args.actor call went c.each_step_leads_to_its_end.ensures c.closes_end.ensures (enough_for_call c.enough_slots_for_tries.ensures.spare c.enough_slots_for_copies.ensures.spare)
+    spares_again before c.args.self.now c.go_on-result.new.self c.args.actor call went c.each_step_leads_to_its_end.ensures c.closes_end.ensures
+    (enough_for_call c.enough_slots_for_tries.ensures.spare c.enough_slots_for_copies.ensures.spare)
     c.limits-2.ensures.in_range c.steps-2.ensures.keys c.go_on-result.result c.go_on-result.ensures

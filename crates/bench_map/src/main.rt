@@ -1,0 +1,177 @@
+//! The speed of the machine with its whole record, without a gate.
+//!
+//! `bench_map CALLS BEFORE COUNT KEYS SLOTS ACTORS` performs COUNT operations after BEFORE others, over so many
+//! keys, and writes how many steps they took, how many nanoseconds, and how many found no free slot. CALLS is `mix`,
+//! `get`, `put`, `insert` or `freeze`. Before gets alone each key is put. `bench_map order BEFORE ..` performs those of
+//! `freeze` and writes how many nanoseconds their order takes. Without words few operations are made, and
+//! their steps written.
+#![tactic(auto)]
+
+mod callers;
+mod calls;
+
+use crate::callers::Caller;
+use crate::calls::Calls;
+use ctrie_base::{HashKind, Refusal};
+use machine_model::Limits;
+use std::alloc::Global;
+use std::env;
+use std::process::ExitCode;
+use std::time::{Clock, Instant};
+use step_machine::Machine;
+
+/// What is timed.
+#[derive(Clone, Copy, Debug, PartialEq, Eq)]
+enum Timed {
+    Operations,
+    Order,
+}
+
+/// What is done: so many operations of these calls, and others before.
+#[derive(Clone, Copy)]
+struct Load {
+    timed: Timed,
+    calls: Calls,
+    before: u64,
+    count: u64,
+    keys: u64,
+    limits: Limits,
+}
+
+/// A machine that is at work, and who calls it.
+#[derive(Drop)]
+struct Work {
+    machine: Machine,
+    caller: Caller,
+}
+
+/// What came of a load.
+#[derive(Clone, Copy)]
+struct Done {
+    steps: u64,
+    refused: u64,
+}
+
+/// A machine after what comes before the load.
+fn prepared(alloc: Global, load: Load) -> Result<Work, Refusal> {
+    let mut machine = Machine::new(alloc, load.limits)?;
+    if load.calls == Calls::Get {
+        let mut putter = Caller::new(Calls::Insert, load.keys, load.limits.actors);
+        putter.perform(&mut machine, load.keys)?;
+    }
+    let mut caller = Caller::new(load.calls, load.keys, load.limits.actors);
+    caller.perform(&mut machine, load.before)?;
+    Ok(Work { machine, caller })
+}
+
+/// The load's operations.
+fn operate(work: &mut Work, count: u64) -> Result<Done, Refusal> {
+    let before = work.machine.steps_taken();
+    let refused = work.caller.perform(&mut work.machine, count)?;
+    Ok(Done {
+        steps: work.machine.steps_taken().saturating_sub(before),
+        refused,
+    })
+}
+
+/// Nanoseconds since then, where the clock told both.
+fn nanos_since<C: Clock>(rt: &C, start: Option<Instant>) -> u128 {
+    match start {
+        Some(start) => start.elapsed(rt).map_or(0, |time| time.as_nanos()),
+        None => 0,
+    }
+}
+
+/// The load, with its figures.
+fn measure<R: Clock + Print + AllocGlobal>(rt: &R, load: Load) -> Result<(), Refusal> {
+    let mut work = prepared(rt.alloc(), load)?;
+    let start = Instant::now(rt).ok();
+    let done = operate(&mut work, load.count)?;
+    let nanos = nanos_since(rt, start);
+    let _ = println!(rt;
+        "{} operations, {} steps, {nanos} ns, {} refused",
+        load.count, done.steps, done.refused
+    );
+    if load.timed == Timed::Order {
+        measure_order(rt, &work.machine)?;
+    }
+    Ok(())
+}
+
+/// How long the order takes.
+fn measure_order<R: Clock + Print>(rt: &R, machine: &Machine) -> Result<(), Refusal> {
+    let start = Instant::now(rt).ok();
+    let places = machine.order()?.len();
+    let nanos = nanos_since(rt, start);
+    let _ = println!(rt; "{places} places, {nanos} ns");
+    Ok(())
+}
+
+/// The number that a word is.
+fn number(word: Option<&String>) -> Option<u64> {
+    word.and_then(|word| word.as_str().parse().ok())
+}
+
+/// The load of these words.
+fn load_of(words: &[String]) -> Option<Load> {
+    let name = words.get(0)?.as_str();
+    let (timed, calls) = if name == "order" {
+        (Timed::Order, Calls::Freeze)
+    } else {
+        (Timed::Operations, Calls::named(name)?)
+    };
+    Some(Load {
+        timed,
+        calls,
+        before: number(words.get(1))?,
+        count: number(words.get(2))?,
+        keys: number(words.get(3))?,
+        limits: Limits {
+            slots: u32::try_from(number(words.get(4))?).ok()?,
+            actors: u8::try_from(number(words.get(5))?).ok()?,
+            hash: HashKind::Low,
+        },
+    })
+}
+
+/// The load that the program's words ask for, if they do.
+fn asked_for(rt: &HostRuntime) -> Option<Load> {
+    let words = env::args(rt).ok()?.skip(1);
+    load_of(words.collect::<Vec<String>>(rt.alloc()).ok()?.as_slice())
+}
+
+/// How many steps 300 operations of each kind take.
+fn small<R: Print + AllocGlobal>(rt: &R) -> Result<(), Refusal> {
+    for name in ["mix", "get", "put", "insert", "freeze"] {
+        if let Some(calls) = Calls::named(name) {
+            let done = few(rt.alloc(), calls)?;
+            let _ = println!(rt; "{name}: {} steps, {} refused", done.steps, done.refused);
+        }
+    }
+    Ok(())
+}
+
+/// Few operations of these calls.
+fn few(alloc: Global, calls: Calls) -> Result<Done, Refusal> {
+    let load = Load {
+        timed: Timed::Operations,
+        calls,
+        before: 0,
+        count: 300,
+        keys: 40,
+        limits: Limits {
+            slots: 512,
+            actors: 2,
+            hash: HashKind::Low,
+        },
+    };
+    operate(&mut prepared(alloc, load)?, load.count)
+}
+
+fn main(rt: HostRuntime) -> ExitCode {
+    let done = match asked_for(&rt) {
+        Some(load) => measure(&rt, load),
+        None => small(&rt),
+    };
+    ExitCode::from(if done.is_ok() { 0 } else { 1 })
+}

@@ -1,0 +1,4 @@
+pub mod Closed
+pub mod Committed
+pub mod Entered
+pub mod Told

@@ -1,0 +1,157 @@
+//! Who stands in the legal order.
+
+ghost use Rattle.std.specs.Prelude.{◌≡◌, ℕ, ◌+◌, ◌<◌, ◌≤◌, ◌++◌, ◌∷◌, [], ◌==◌, All, IfOk, OnOk, IsOkUnless, length, slice_index_or, slice_set, vec_len, false, true};
+ghost use Rattle.std.specs.List.{list_any};
+ghost use Rattle.ctrie_base.specs.declared.refusals.Refusal.TheVariants.{Memory};
+ghost use Rattle.places.specs.Places.{ids_by_place};
+
+use ctrie_base::{Refusal, Ticks};
+use places::{Place, Places};
+use std::alloc::{AllocError, Global};
+use std::marker::Model;
+
+/// The places of operations in the order, and of each id whether it has one.
+#[derive(Drop)]
+pub struct Ordered {
+    places: Places,
+    /// By id.
+    placed: Vec<bool>,
+}
+
+impl Model for Ordered {
+    ghost use Rattle.std.specs.Prelude.{length};
+    ghost use Rattle.chronicle.specs.Entered.{Entered, AreMarked};
+
+    ghost Value = { Entered };
+
+    ghost view = { λ o. record {
+      places = o.places.places;
+      closings = o.places.closings;
+      ids = length o.placed.items;
+      room_to_add = o.places.room_to_add;
+      room_to_close = o.places.room_to_close;
+      ticks = o.places.ticks;
+    } };
+
+    ghost invariant = { λ o. AreMarked o.placed.items o.places.places };
+}
+
+impl Ordered {
+    /// Nobody stands in it. It takes no memory.
+    #[tactic(auto, using(crate::proofs::Marks::none_marked))]
+    pub fn new(alloc: Global) -> Ordered
+        ensures places { result.places ≡ [] }
+        ensures closings { result.closings ≡ [] }
+        ensures ticks { result.ticks ≡ 0 }
+    {
+        Ordered {
+            places: Places::new(alloc),
+            placed: Vec::new(alloc),
+        }
+    }
+
+    /// Makes room for one closing, and for one place of the operation with this id. After an error nothing but room
+    /// has changed.
+    pub fn room_for(&mut self, id: u64) -> Result<(), Refusal>
+        ensures only_memory { IsOkUnless result Memory }
+        ensures places { self.new.places ≡ self.old.places }
+        ensures closings { self.new.closings ≡ self.old.closings }
+        ensures ticks { self.new.ticks ≡ self.old.ticks }
+        ensures to_add { OnOk result (0 < self.new.room_to_add) }
+        ensures to_close { OnOk result (0 < self.new.room_to_close) }
+        ensures of_id { OnOk result (id < self.new.ids) }
+    {
+        self.places.room()?;
+        self.know(id as usize)?;
+        Ok(())
+    }
+
+    /// Makes room for the mark of this id.
+    fn know(&mut self, id: usize) -> Result<(), AllocError>
+        ensures places { self.new.places ≡ self.old.places }
+        ensures closings { self.new.closings ≡ self.old.closings }
+        ensures ticks { self.new.ticks ≡ self.old.ticks }
+        ensures to_add { self.new.room_to_add ≡ self.old.room_to_add }
+        ensures to_close { self.new.room_to_close ≡ self.old.room_to_close }
+        ensures of_id { OnOk result (id < self.new.ids) }
+    {
+        mark_up_to(&mut self.placed, id)
+    }
+    /// A generation is closed at this step.
+    pub fn close(&mut self, step: u64)
+        requires room { 0 < self.old.room_to_close }
+        requires later { All (λ closing. closing < step) self.old.closings }
+        requires behind { All (λ place. place.step ≤ step) self.old.places }
+        ensures closings { self.new.closings ≡ self.old.closings ++ step ∷ [] }
+        ensures places { self.new.places ≡ self.old.places }
+        ensures ticks { self.new.ticks ≡ self.old.ticks }
+        ensures ids { self.new.ids ≡ self.old.ids }
+        ensures room_to_add { self.new.room_to_add ≡ self.old.room_to_add }
+    {
+        self.places.close(step);
+    }
+
+    /// Adds the place of an operation.
+    pub fn add(&mut self, at: Place)
+        requires room { 0 < self.old.room_to_add }
+        requires of_id { at.id < self.old.ids }
+        ensures places { self.new.places ≡ self.old.places ++ at ∷ [] }
+        ensures closings { self.new.closings ≡ self.old.closings }
+        ensures ticks { self.new.ticks ≡ self.old.ticks + 1 }
+    {
+        mark(&mut self.placed, at.id as usize);
+        self.places.add(at);
+    }
+
+    /// Whether the operation with this id has a place.
+    pub fn is_placed(&self, id: u64) -> bool
+        ensures { result ≡ list_any (λ place. place.id == id) self.now.places }
+    {
+        is_marked(self.placed.as_slice(), id as usize)
+    }
+
+    /// The order: the ids by rising place.
+    pub fn order(&self) -> Result<Vec<u64>, Refusal>
+        ensures order { IfOk result (λ order. order.items ≡ ids_by_place self.now.places) }
+        ensures only_memory { IsOkUnless result Memory }
+    {
+        self.places.order()
+    }
+
+    /// How often a place was written or moved.
+    pub fn ticks(&self) -> &Ticks
+        ensures { result.now.count ≡ self.now.ticks }
+    {
+        self.places.ticks()
+    }
+}
+
+/// Makes room for the mark of this id, which has none.
+fn mark_up_to(placed: &mut Vec<bool>, id: usize) -> Result<(), AllocError>
+    ensures same { (other : ℕ) → slice_index_or placed.new.items other false ≡ slice_index_or placed.old.items other false }
+    ensures known { OnOk result (id < length placed.new.items) }
+{
+    if placed.len() <= id {
+        placed.resize(id, false)?;
+        placed.push(false)?;
+    }
+    Ok(())
+}
+
+/// Marks this id.
+fn mark(placed: &mut Vec<bool>, id: usize)
+    requires { id < vec_len placed.old }
+    ensures { placed.new.items ≡ slice_set placed.old.items id true }
+{
+    placed[id] = true;
+}
+
+/// Whether this id is marked.
+fn is_marked(placed: &[bool], id: usize) -> bool
+    ensures { result ≡ slice_index_or placed.now id false }
+{
+    match placed.get(id) {
+        Some(mark) => *mark,
+        None => false,
+    }
+}

@@ -1,0 +1,4 @@
+pub mod Behind
+pub mod Carried
+pub mod HeldValues
+pub mod Values

@@ -1,0 +1,94 @@
+//! The call that lists a map, in parts: it writes into the caller's buffer, so nothing is allocated for the caller.
+
+ghost use Rattle.std.specs.Prelude.{◌≡◌, ◌≤◌, ◌+◌, nat_eq, false, length, take, drop, map, min};
+ghost use Rattle.std.specs.List.{filter};
+ghost use Rattle.ctrie_c.specs.Answers.{Does, number_told};
+ghost use Rattle.ctrie_c.specs.Listing.{Lists, Writes, behind, is_ahead, next_part, pair_of};
+
+use crate::codes::{NO_MAP, refusal, tell_count};
+use crate::held::{HeldMap, give, take};
+use ctrie_map::Handle;
+use std::alloc::Global;
+
+/// A key with its value.
+#[repr(C)]
+#[derive(Clone, Copy)]
+pub struct Pair {
+    /// The key.
+    pub key: u64,
+    /// Its value.
+    pub value: u64,
+}
+
+/// How far a listing has come.
+#[repr(C)]
+#[derive(Clone, Copy)]
+pub struct Cursor {
+    /// The last key that was listed.
+    pub last: u64,
+    /// Whether one was.
+    pub begun: bool,
+}
+
+impl Cursor {
+    /// Whether the key is still to be listed.
+    fn is_before(self, key: u64) -> bool
+        ensures { result ≡ is_ahead self key }
+    {
+        !self.begun || self.last < key
+    }
+}
+
+/// Writes the next pairs of a map by rising key, and tells how many; none are left where there are fewer than there is room for.
+#[unsafe(no_mangle)]
+pub extern "C" fn ctrie_entries(
+    alloc: Global,
+    held: &mut HeldMap,
+    handle: u16,
+    cursor: &mut Cursor,
+    pairs: &mut [Pair],
+    count: &mut u64,
+) -> u32
+    ensures does { Does held.old.state held.new.state result (Lists cursor.old pairs.old cursor.new pairs.new handle (number_told result count.new)) }
+    ensures kept { nat_eq result 0 ≡ false → count.new ≡ count.old }
+{
+    match take(alloc, held) {
+        None => NO_MAP,
+        Some(map) => {
+            let entries = map.entries(Handle::new(handle));
+            give(held, map);
+            match entries {
+                Ok(entries) => tell_count(Ok(list(entries, cursor, pairs)), count),
+                Err(error) => refusal(error),
+            }
+        }
+    }
+}
+
+/// Writes the next part of all entries.
+fn list(mut entries: Vec<(u64, u64)>, cursor: &mut Cursor, pairs: &mut [Pair]) -> u64
+    ensures { Writes (next_part cursor.old (length pairs.old) entries.items) cursor.old pairs.old result cursor.new pairs.new }
+{
+    let from = *cursor;
+    entries.retain(|entry| from.is_before(entry.0));
+    entries.truncate(pairs.len());
+    write(entries.as_slice(), cursor, pairs) as u64
+}
+
+/// Writes this part.
+fn write(part: &[(u64, u64)], cursor: &mut Cursor, pairs: &mut [Pair]) -> usize
+    requires { length part.now ≤ length pairs.old }
+    ensures { Writes part.now cursor.old pairs.old result cursor.new pairs.new }
+{
+    let mut count = 0;
+    while count < part.len() {
+        let (key, value) = part[count];
+        pairs[count] = Pair { key, value };
+        *cursor = Cursor {
+            last: key,
+            begun: true,
+        };
+        count += 1;
+    }
+    count
+}

@@ -1,0 +1,116 @@
+//! Calls that change nothing.
+
+ghost use Rattle.std.specs.Prelude.{◌≡◌, nat_eq, false};
+ghost use Rattle.ctrie_c.specs.Calls.{Contains, Counts, CountsFree, CountsHandles, CountsSlots, Gets};
+ghost use Rattle.ctrie_c.specs.Answers.{Does, number_told, truth_told, value_told};
+
+use crate::codes::{NO_MAP, tell_count, tell_number, tell_truth, tell_value};
+use crate::held::{HeldMap, give, take};
+use ctrie_map::Handle;
+use std::alloc::Global;
+
+/// Tells the key's value, if it has one.
+#[unsafe(no_mangle)]
+pub extern "C" fn ctrie_get(
+    alloc: Global,
+    held: &mut HeldMap,
+    handle: u16,
+    key: u64,
+    value: &mut u64,
+) -> u32
+    ensures does { Does held.old.state held.new.state result (Gets handle key (value_told result value.new)) }
+    ensures kept { nat_eq result 1 ≡ false → value.new ≡ value.old }
+{
+    match take(alloc, held) {
+        None => NO_MAP,
+        Some(map) => {
+            let told = map.get(Handle::new(handle), key);
+            give(held, map);
+            tell_value(told, value)
+        }
+    }
+}
+
+/// Tells whether the key has a value.
+#[unsafe(no_mangle)]
+pub extern "C" fn ctrie_contains(alloc: Global, held: &mut HeldMap, handle: u16, key: u64) -> u32
+    ensures does { Does held.old.state held.new.state result (Contains handle key (truth_told result)) }
+{
+    match take(alloc, held) {
+        None => NO_MAP,
+        Some(map) => {
+            let told = map.contains(Handle::new(handle), key);
+            give(held, map);
+            tell_truth(told)
+        }
+    }
+}
+
+/// Tells how many keys have a value.
+#[unsafe(no_mangle)]
+pub extern "C" fn ctrie_count(
+    alloc: Global,
+    held: &mut HeldMap,
+    handle: u16,
+    count: &mut u64,
+) -> u32
+    ensures does { Does held.old.state held.new.state result (Counts handle (number_told result count.new)) }
+    ensures kept { nat_eq result 0 ≡ false → count.new ≡ count.old }
+{
+    match take(alloc, held) {
+        None => NO_MAP,
+        Some(map) => {
+            let told = map.count(Handle::new(handle));
+            give(held, map);
+            tell_count(told, count)
+        }
+    }
+}
+
+/// Tells how many handles are open.
+#[unsafe(no_mangle)]
+pub extern "C" fn ctrie_handles(alloc: Global, held: &mut HeldMap, handles: &mut u32) -> u32
+    ensures does { Does held.old.state held.new.state result (CountsHandles (number_told result handles.new)) }
+    ensures kept { nat_eq result 0 ≡ false → handles.new ≡ handles.old }
+{
+    match take(alloc, held) {
+        None => NO_MAP,
+        Some(map) => {
+            let told = map.handles();
+            give(held, map);
+            tell_number(told, handles)
+        }
+    }
+}
+
+/// Tells how many slots there are in all.
+#[unsafe(no_mangle)]
+pub extern "C" fn ctrie_slots(alloc: Global, held: &mut HeldMap, slots: &mut u32) -> u32
+    ensures does { Does held.old.state held.new.state result (CountsSlots (number_told result slots.new)) }
+    ensures kept { nat_eq result 0 ≡ false → slots.new ≡ slots.old }
+{
+    match take(alloc, held) {
+        None => NO_MAP,
+        Some(map) => {
+            let told = Ok(map.slots());
+            give(held, map);
+            tell_number(told, slots)
+        }
+    }
+}
+
+/// Tells how many slots no open handle reaches.
+#[unsafe(no_mangle)]
+pub extern "C" fn ctrie_free_slots(alloc: Global, held: &mut HeldMap, free: &mut u32) -> u32
+    ensures does { Does held.old.state held.new.state result (CountsFree (number_told result free.new)) }
+    ensures kept { nat_eq result 0 ≡ false → free.new ≡ free.old }
+{
+    match take(alloc, held) {
+        None => NO_MAP,
+        Some(mut map) => {
+            let told = map.free();
+            give(held, map);
+            tell_number(told, free)
+        }
+    }
+}

@@ -1,0 +1,6 @@
+//! What a body may rely on that keeps less than the definition does, or that doesn't search for it: `specs/Laws`.
+#![tactic(auto)]
+
+mod laws;
+
+pub use laws::{committed_are_newest, ids_apart, one_place_a_step, owner_enters, owners_stay};

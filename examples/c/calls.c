@@ -1,0 +1,69 @@
+/* Each call once in each way that is easy to bring about. */
+#include <ctrie.h>
+#include <stdio.h>
+
+static struct ctrie map = CTRIE_NONE;
+
+/* Prints what a call answered, and then what it told. */
+#define TELL(name, call, told) \
+    do { \
+        unsigned code = (call); \
+        printf("%-24s %2u %llu\n", name, code, (unsigned long long)(told)); \
+    } while (0)
+
+static void lists(uint16_t handle, size_t room) {
+    struct ctrie_cursor cursor = CTRIE_START;
+    struct ctrie_pair pairs[4] = {{0, 0}, {0, 0}, {0, 0}, {0, 0}};
+    uint64_t count = 0;
+    do {
+        TELL("entries", ctrie_entries(&map, handle, &cursor, pairs, room, &count), count);
+        for (uint64_t i = 0; i < count; i++) printf("  %llu: %llu\n", (unsigned long long)pairs[i].key, (unsigned long long)pairs[i].value);
+    } while (room != 0 && count == room);
+}
+
+int main(void) {
+    uint64_t value = 99;
+    uint32_t number = 99;
+    uint16_t copy = 99, frozen = 99;
+    TELL("get of no map", ctrie_get(&map, 0, 1, &value), value);
+    TELL("new of 1 slot", ctrie_new(&map, 1, CTRIE_LOW), 0);
+    TELL("new of no hash", ctrie_new(&map, 64, 4), 0);
+    TELL("new", ctrie_new(&map, 64, CTRIE_WIDE), 0);
+    TELL("new again", ctrie_new(&map, 64, CTRIE_WIDE), 0);
+    TELL("get", ctrie_get(&map, 0, 1, &value), value);
+    TELL("put", ctrie_put(&map, 0, 1, 10, &value), value);
+    TELL("put", ctrie_put(&map, 0, 1, 11, &value), value);
+    TELL("put", ctrie_put(&map, 0, UINT64_MAX, 7, &value), value);
+    TELL("put if absent", ctrie_put_if_absent(&map, 0, 1, 12, &value), value);
+    TELL("put if absent", ctrie_put_if_absent(&map, 0, 2, 20, &value), value);
+    TELL("freeze", ctrie_freeze(&map, 0, &frozen), frozen);
+    TELL("snapshot", ctrie_snapshot(&map, 0, &copy), copy);
+    TELL("replace", ctrie_replace(&map, copy, 1, 13, &value), value);
+    TELL("replace", ctrie_replace(&map, copy, 3, 13, &value), value);
+    TELL("replace if", ctrie_replace_if(&map, copy, 1, 11, 14), 0);
+    TELL("replace if", ctrie_replace_if(&map, copy, 1, 13, 14), 0);
+    TELL("remove", ctrie_remove(&map, copy, 2, &value), value);
+    TELL("remove", ctrie_remove(&map, copy, 2, &value), value);
+    TELL("remove if", ctrie_remove_if(&map, copy, 1, 13), 0);
+    TELL("contains", ctrie_contains(&map, copy, 1), 0);
+    TELL("remove if", ctrie_remove_if(&map, copy, 1, 14), 0);
+    TELL("contains", ctrie_contains(&map, copy, 1), 0);
+    TELL("clear", ctrie_clear(&map, 0), 0);
+    TELL("clear of a frozen one", ctrie_clear(&map, frozen), 0);
+    TELL("snapshot of a frozen one", ctrie_snapshot(&map, frozen, &copy), copy);
+    TELL("count", ctrie_count(&map, 0, &value), value);
+    TELL("count", ctrie_count(&map, copy, &value), value);
+    TELL("count", ctrie_count(&map, 9, &value), value);
+    TELL("handles", ctrie_handles(&map, &number), number);
+    TELL("slots", ctrie_slots(&map, &number), number);
+    lists(frozen, 2);
+    lists(frozen, 4);
+    lists(frozen, 0);
+    TELL("close", ctrie_close(&map, frozen), 0);
+    TELL("close again", ctrie_close(&map, frozen), 0);
+    TELL("close", ctrie_close(&map, copy), 0);
+    ctrie_free(&map);
+    ctrie_free(&map);
+    TELL("free slots of no map", ctrie_free_slots(&map, &number), number);
+    return 0;
+}
