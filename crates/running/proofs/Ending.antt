@@ -1,5 +1,5 @@
 -- Steps of an operation whose program has come to its end.
-use Rattle.std.specs.Prelude.{◌≡◌, ℕ, Option, Some, None, refl}
+use Rattle.std.specs.Prelude.{◌≡◌, ℕ, false, Option, Some, None, refl}
 use Rattle.std.proofs.Common.{arith, sym, ap, subst, ◌∙◌}
 use Rattle.ctrie_base.specs.declared.kinds.Kind.TheVariants as kind
 use Rattle.history.specs.declared.replies.Reply.{Reply}
@@ -10,7 +10,7 @@ use Rattle.machine_model.specs.declared.lines.Line.TheVariants as line
 use Rattle.machine_model.specs.declared.operations.Operation.{Operation}
 use Rattle.machine_model.specs.declared.reading.ReadLine.{ReadLine}
 use Rattle.machine_model.specs.Operations.{generation_from, kind_of, line_action, line_after, read_of}
-use Rattle.machine_model.specs.Orders.{committed_in}
+use Rattle.machine_model.specs.Orders.{committed_in, counted_from}
 use Rattle.machine_model.specs.States.{State}
 use Rattle.root_asking.specs.declared.asking.Asking.{Asking}
 use Rattle.root_asking.specs.declared.asking.Asking.TheVariants.{Unasked, Met, Told}
@@ -50,7 +50,7 @@ same_scene job scene answer = record {
 
 -- the last step of an operation
 pub ended : (job : Job) (program : Program) (scene : Scene) (answer : Reply) → line_for program scene.programs ≡ line.End answer → IsSound program scene.programs →
-    Does job program (line_for program scene.programs) scene (record { kind = kind.End; committed = None; given = None }) scene
+    Does job program (line_for program scene.programs) scene (record { kind = kind.End; committed = None; given = None; counts = false }) scene
 ended job program scene answer from sound = record {
   takes = λ state operation.
       let there : State = at_scene state scene in
@@ -60,6 +60,7 @@ ended job program scene answer from sound = record {
         line = ap (line_after there o) from ∙ sym from;
         committed = ap (λ l. committed_in there (read_of l)) from;
         given = ap (λ l. given_in there o (read_of l)) from;
+        counts = λ step was. ap (λ l. counted_from (line_action there o l) step was) from;
       };
   changes = λ state operation.
       subst (λ (a : Action). Changes job scene a scene) (sym (ap (line_action (at_scene state scene) (operation_in job program scene operation)) from)) (same_scene job scene answer);
