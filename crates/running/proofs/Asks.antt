@@ -1,5 +1,5 @@
 -- ABORT's steps inside of any program whose READ asks for the generation of the root.
-use Rattle.std.specs.Prelude.{◌≡◌, ℕ, ◌+◌, false, Option, Some, None, refl}
+use Rattle.std.specs.Prelude.{◌≡◌, ℕ, false, Option, Some, None, refl}
 use Rattle.std.proofs.Common.{sym, ap, subst, ◌∙◌}
 use Rattle.std.proofs.lemmas.Option.{none-some, same_Some}
 use Rattle.ctrie_base.specs.declared.kinds.Kind.{Kind}
@@ -18,7 +18,6 @@ use Rattle.machine_model.specs.declared.reading.ReadLine.TheVariants as read
 use Rattle.machine_model.specs.declared.roots.CompleteLine.{CompleteLine}
 use Rattle.machine_model.specs.declared.roots.CompleteLine.TheVariants as complete
 use Rattle.machine_model.specs.declared.roots.Descriptor.{Descriptor}
-use Rattle.machine_model.specs.declared.roots.RootLine.{RootLine}
 use Rattle.machine_model.specs.declared.roots.RootLine.TheVariants as root
 use Rattle.machine_model.specs.declared.roots.RootWord.{RootWord}
 use Rattle.machine_model.specs.declared.roots.RootWord.TheVariants.{Plain, Offer}
@@ -26,7 +25,7 @@ use Rattle.machine_model.specs.Acting.{attempt_after}
 use Rattle.machine_model.specs.Calls.{handle_of}
 use Rattle.machine_model.specs.Operations.{generation_from, given_root, kind_of, line_action, line_after, read_of, rooting_read}
 use Rattle.machine_model.specs.Orders.{committed_in, counted_from}
-use Rattle.machine_model.specs.Reading.{after_ask, read_action}
+use Rattle.machine_model.specs.Reading.{read_action}
 use Rattle.machine_model.specs.States.{State, word_at}
 use Rattle.machine_model.specs.Swapping.{root_after}
 use Rattle.gcas.specs.declared.read.Read.{Read as Running}
@@ -51,7 +50,6 @@ use Rattle.running.specs.declared.job.Program.{Program}
 use Rattle.running.specs.declared.job.Program.TheVariants.{Key, Snap, Entries, Count, Close}
 use Rattle.running.specs.declared.programs.Programs.{Programs}
 use Rattle.running.specs.declared.programs.Stage.TheVariants.{Runs}
-use Rattle.running.specs.declared.taken.Taken.{Taken}
 use Rattle.running.specs.Places.{IsBegun, IsWaiting, generation_in, asking_line, call_for, met_at, program_line}
 use Rattle.running.specs.Steps.{Changes, Does, Scene, at_scene, given_in, operation_in}
 use Rattle.running.proofs.Lasting.{tells}
@@ -238,13 +236,13 @@ steps job program before asking asking' memory' table' k ask untold begun on tab
     let from : asking_line p program Runs asking ≡ asked_line h.main h.previous asking l = asked p program asking h in
     let after : Scene = record { memory = memory'; table = table'; generation = before.generation; programs = record p { stage = Runs; asking = asking' } } in
     let does : Changes job before (ask_action asking) after =
-        record {
-          acts = subst (λ (a : Action). ActsInAll before.memory before.table.roots p.key.work.private a memory' table'.roots p.key.work.private)
-              (sym (draws_none before.memory.heap before.generation asking).1) acts;
-          table = table ∙ table_so before.table job.handle job.actor asking untold;
-          drawn = sym ((draws_none before.memory.heap before.generation asking).0);
-          attempt = sym (offers_none p.snap.attempt asking);
-        } in
+    record {
+      acts = subst (λ (a : Action). ActsInAll before.memory before.table.roots p.key.work.private a memory' table'.roots p.key.work.private)
+          (sym (draws_none before.memory.heap before.generation asking).1) acts;
+      table = table ∙ table_so before.table job.handle job.actor asking untold;
+      drawn = sym ((draws_none before.memory.heap before.generation asking).0);
+      attempt = sym (offers_none p.snap.attempt asking);
+    } in
     record {
       takes = λ state operation.
           let there : State = at_scene state before in

@@ -1,19 +1,12 @@
 -- The main node that a SWAP is about to swap in stands in the operation's one SWAP.
 use Rattle.std.specs.Prelude.{◌≡◌, ℕ, List, Option, Some, None, refl}
-use Rattle.std.proofs.Common.{ap, ◌∙◌}
 use Rattle.slot_arena.specs.declared.refs.Ref.{Ref}
 use Rattle.machine_model.specs.declared.lines.Line.{Line}
 use Rattle.machine_model.specs.declared.lines.Line.TheVariants as line
-use Rattle.machine_model.specs.declared.operations.Operation.{Operation}
 use Rattle.machine_model.specs.declared.reading.ReadLine.{ReadLine}
 use Rattle.machine_model.specs.declared.repairs.Climb.{Climb}
 use Rattle.machine_model.specs.Paths.{above}
 use Rattle.gcas.specs.declared.swap.Swap.{Swap}
-use Rattle.gcas.specs.declared.swap.SwapAt.{SwapAt}
-use Rattle.gcas.specs.declared.swap.SwapAt.TheVariants as swap
-use Rattle.gcas.specs.Reads.{line_of}
-use Rattle.gcas.specs.Swaps.{swap_with}
-use Rattle.rdcss_root.specs.declared.root.ReadRoot.{ReadRoot}
 use Rattle.root_asking.specs.declared.asking.Asking.{Asking}
 use Rattle.root_asking.specs.declared.asking.Asking.TheVariants.{Unasked, Met, Told}
 use Rattle.root_asking.specs.Inside.{with_read}
@@ -34,7 +27,7 @@ use Rattle.operate.specs.declared.key_op.BelowAt.TheVariants as below
 use Rattle.operate.specs.declared.key_op.KeyAt.{KeyAt}
 use Rattle.operate.specs.declared.key_op.KeyAt.TheVariants as key
 use Rattle.operate.specs.declared.key_op.KeyOp.{KeyOp}
-use Rattle.operate.specs.Places.{below_line, key_line, key_line_at}
+use Rattle.operate.specs.Places.{below_line, key_line_at}
 use Rattle.running.specs.declared.job.Program.{Program}
 use Rattle.running.specs.declared.job.Program.TheVariants.{Key, Snap, Entries, Count, Close}
 use Rattle.running.specs.declared.programs.Programs.{Programs}

@@ -1,11 +1,10 @@
 -- What an operation's READ gives and commits by a step, of a program that swaps no main node of its own.
-use Rattle.std.specs.Prelude.{◌≡◌, ℕ, Bool, true, false, ◌&&◌, is_some, Option, Some, None, refl, if◌then◌else◌}
-use Rattle.std.proofs.Common.{sym, ap, subst, ◌∙◌}
+use Rattle.std.specs.Prelude.{◌≡◌, ℕ, Bool, false, ◌&&◌, is_some, Option, Some, None, refl, if◌then◌else◌}
+use Rattle.std.proofs.Common.{sym, ap, ◌∙◌}
 use Rattle.std.proofs.lemmas.Option.{none-some}
 use Rattle.ctrie_base.specs.declared.kinds.Kind.{Kind}
 use Rattle.ctrie_base.specs.declared.kinds.Kind.TheVariants as kind
 use Rattle.history.specs.declared.calls.Access.{Access}
-use Rattle.history.specs.declared.calls.Access.TheVariants.{Writable, ReadOnly}
 use Rattle.slot_arena.specs.declared.refs.Ref.{Ref}
 use Rattle.slot_arena.specs.Heaps.{Heap, no_ref}
 use Rattle.machine_model.specs.declared.copying.CopyLine.TheVariants as copy
@@ -31,7 +30,6 @@ use Rattle.gcas.specs.declared.read.ReadAt.{ReadAt}
 use Rattle.gcas.specs.declared.read.ReadAt.TheVariants as at
 use Rattle.gcas.specs.Reads.{ReadsAlong, come_to, committed_so, given_so}
 use Rattle.trie_parts.specs.Steps.{Leads}
-use Rattle.root_asking.specs.Inside.{Holds}
 use Rattle.root_asking.proofs.Holding.{each_holds}
 use Rattle.snapshot.specs.Copies.{snap_action}
 use Rattle.running.specs.Steps.{Takes, committed_if, counts_if, given_by, given_if, given_in, if_reading, taken_in, taken_so}

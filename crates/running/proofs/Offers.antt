@@ -1,16 +1,12 @@
 -- What an action makes of the offers in the table of root words, and of marks.
-use Rattle.std.specs.Prelude.{◌≡◌, ◌==◌, ◌&&◌, ◌×◌, ◌⊎◌, ℕ, Bool, true, false, List, Option, Some, None, refl, slice_index_or, slice_set, if◌then◌else◌}
-use Rattle.std.proofs.Common.{arith, inl, inr, sym, ap, ◌∙◌}
-use Rattle.std.proofs.lemmas.Option.{none-some}
-use Rattle.slot_arena.specs.declared.refs.Ref.{Ref}
+use Rattle.std.specs.Prelude.{◌≡◌, ◌==◌, ◌&&◌, ℕ, Bool, true, false, List, Option, Some, None, refl, slice_index_or, slice_set, if◌then◌else◌}
 use Rattle.machine_model.specs.declared.actions.Action.{Action}
 use Rattle.machine_model.specs.declared.actions.Action.TheVariants as act
 use Rattle.machine_model.specs.declared.roots.Descriptor.{Descriptor}
-use Rattle.machine_model.specs.declared.roots.RootWord.{RootWord}
-use Rattle.machine_model.specs.declared.roots.RootWord.TheVariants.{Plain, Offer}
+use Rattle.machine_model.specs.declared.roots.RootWord.TheVariants.{Plain}
 use Rattle.machine_model.specs.Acting.{if_changed}
-use Rattle.machine_model.specs.Swapping.{is_carried_out, is_plain, stands_in}
-use Rattle.rdcss_root.specs.Tables.{Table, acted_table, carried_out_in, opened_in, with_word_in, word_in}
+use Rattle.machine_model.specs.Swapping.{is_plain, stands_in}
+use Rattle.rdcss_root.specs.Tables.{Table, acted_table, carried_out_in, with_word_in, word_in}
 use Rattle.running.proofs.ByParts.{carried_by}
 
 -- ---- marks
@@ -33,10 +29,6 @@ carried_or before (Some offer) = Some offer
 pub record MarksBy (before : Table) (handle actor : ℕ) (action : Action) (after : Table) : Type 0 where
   pub marks : after.marks ≡ marked_at (unmarked before.marks actor action) (slice_index_or before.offerers handle 0) (carried_by (word_in before handle) action)
   pub carried : after.carried ≡ carried_or before.carried (carried_by (word_in before handle) action)
-
-opens : (table : Table) (offer : Descriptor) (handle : Option ℕ) → (opened_in table offer handle).offerers ≡ table.offerers
-opens table offer None = refl
-opens table offer (Some handle) = refl
 
 completes : (table : Table) (handle actor : ℕ) (offer : Descriptor) (b c : Bool) →
     let after = if_changed b (if c then carried_out_in table handle offer else with_word_in table handle (Plain offer.root)) table in

@@ -22,8 +22,6 @@ use Rattle.gcas.specs.Reads.{given_so}
 use Rattle.rdcss_root.specs.Acts.{ActsInAll}
 use Rattle.rdcss_root.specs.Programs.{CanAbortOn}
 use Rattle.rdcss_root.specs.Tables.{Table, acted_table}
-use Rattle.root_asking.specs.declared.asking.Asking.{Asking}
-use Rattle.root_asking.specs.declared.asking.Asking.TheVariants.{Unasked, Met, Told}
 use Rattle.root_asking.specs.Asked.{abort_of}
 use Rattle.operate.specs.Steps.{CanKey}
 use Rattle.snapshot.specs.Copies.{CanSnap, IsReadyBeside}
