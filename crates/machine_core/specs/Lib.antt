@@ -1,4 +1,6 @@
+pub mod Beginnings
 pub mod Bounds
-pub mod Ties
-pub mod Actions
 pub mod Finding
+pub mod Keeping
+pub mod Seen
+pub mod Ties
