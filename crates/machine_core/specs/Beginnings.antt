@@ -2,6 +2,8 @@
 use Rattle.std.specs.Prelude.{◌≡◌, ℕ, [], Option, Some, None}
 use Rattle.history.specs.declared.calls.Access.{Access}
 use Rattle.machine_model.specs.Operations.{first_line}
+use Rattle.epochs.specs.Memories.{Memory}
+use Rattle.trie_parts.specs.Holding.{KeepsOthers}
 use Rattle.running.specs.Places.{IsSound, call_for, generation_in, line_for}
 use Rattle.machine_core.specs.declared.parts.Actor.{Actor}
 use Rattle.machine_core.specs.declared.parts.UnderWay.{UnderWay}
@@ -17,8 +19,9 @@ pub record Begins (u : UnderWay) (access : Access) (before after : Actor) : Type
   pub private : after.programs.key.work.private ≡ before.programs.key.work.private
   pub sound : IsSound u.program after.programs
 
--- the actor's operation has ended, and nothing is left of it
-pub record Leaves (before after : Actor) : Type 0 where
+-- the actor's operation has ended, and nothing is left of it; what it held is released
+pub record Leaves (memory now : Memory) (before after : Actor) : Type 0 where
   pub under_way : after.under_way ≡ None
   pub hashes : after.programs.key.task.hashes ≡ before.programs.key.task.hashes
   pub private : after.programs.key.work.private ≡ []
+  pub others : KeepsOthers before.programs.key.work.private memory [] now

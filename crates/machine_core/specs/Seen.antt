@@ -61,4 +61,4 @@ actor_of parts (suc n) = slice_get parts.actors.items n
 
 -- what the actor has under way
 abbrev pub under_way_of : Parts → ℕ → Option UnderWay
-under_way_of parts actor = option_and_then (actor_of parts actor) (λ found. found.under_way)
+under_way_of parts actor = option_and_then (λ found. found.under_way) (actor_of parts actor)
