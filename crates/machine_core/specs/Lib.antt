@@ -3,4 +3,5 @@ pub mod Bounds
 pub mod Finding
 pub mod Keeping
 pub mod Seen
+pub mod Starting
 pub mod Ties
