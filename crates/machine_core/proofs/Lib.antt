@@ -8,5 +8,5 @@ pub mod Ends
 pub mod Starts
 pub mod Numbers
 pub mod Gathering
-pub mod Looking
+pub mod Levels
 pub mod Sorting

@@ -7,7 +7,7 @@ ghost use Rattle.machine_model.specs.Contents.{pairs_below, content_at};
 ghost use Rattle.machine_model.specs.Pairs.{by_key};
 ghost use Rattle.machine_core.specs.Seen.{seen};
 
-use crate::looking::{logical_main, root_of};
+use crate::mains::{logical_main, root_of};
 use crate::parts::Parts;
 use epochs::Heap;
 use history::Pairs;

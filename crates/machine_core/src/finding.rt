@@ -7,7 +7,7 @@ ghost use Rattle.machine_core.specs.Finding.{found_along, meant};
 ghost use Rattle.machine_core.specs.Seen.{seen};
 
 use crate::contents::MOST_LEVELS;
-use crate::looking::{has_flag, logical_main, position_of, root_of};
+use crate::mains::{has_flag, logical_main, position_of, root_of};
 use crate::parts::Parts;
 use epochs::Heap;
 use slot_arena::{Node, Ref};

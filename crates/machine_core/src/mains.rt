@@ -1,4 +1,4 @@
-//! Look-ups of roots and logical main nodes that need no condition.
+//! Roots and logical main nodes, looked up without a condition.
 
 ghost use Rattle.std.specs.Prelude.{◌≡◌};
 ghost use Rattle.slot_arena.specs.Heaps.{logical_main, main_at};
