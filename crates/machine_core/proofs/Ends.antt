@@ -16,7 +16,8 @@ use Rattle.machine_model.specs.declared.steps.Step.TheVariants as step
 use Rattle.machine_model.specs.Counting.{outside, settled}
 use Rattle.machine_model.specs.Machine.{next, is_spent, pin_of, reclaimer_of, swept_with, settled_after}
 use Rattle.machine_model.specs.States.{State}
-use Rattle.machine_core.specs.Ties.{IsTied, root_refs, private_refs}
+use Rattle.rdcss_root.specs.Holds.{root_refs}
+use Rattle.machine_core.specs.Ties.{IsTied, private_refs}
 use Rattle.machine_core.proofs.Steps.{sweep_answer}
 
 -- ---- limbo

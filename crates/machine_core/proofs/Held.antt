@@ -16,7 +16,8 @@ use Rattle.proof_memory.proofs.Holding.Lives.{lines_live}
 use Rattle.proof_memory.proofs.Holding.Privates.{privates_once}
 use Rattle.proof_memory.proofs.Holding.Sizes.{sizes_stay}
 use Rattle.machine_core.specs.Bounds.{IsOfRun}
-use Rattle.machine_core.specs.Ties.{IsTied, IsReady, StandsAt}
+use Rattle.rdcss_root.specs.Holds.{IsReady}
+use Rattle.machine_core.specs.Ties.{IsTied, StandsAt}
 use Rattle.machine_core.proofs.Tying.{times_most, root_few}
 
 -- ---- laws, at a state of a run

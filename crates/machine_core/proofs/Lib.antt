@@ -1,14 +1,12 @@
+pub mod Mapped
 pub mod Tying
-pub mod Words
-pub mod Making
 pub mod Tied
 pub mod Held
 pub mod Bounded
 pub mod Steps
-pub mod Carried
-pub mod Gone
 pub mod Ends
 pub mod Starts
 pub mod Numbers
 pub mod Gathering
-pub mod Looking
+pub mod Levels
+pub mod Sorting

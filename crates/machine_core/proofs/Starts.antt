@@ -1,7 +1,15 @@
--- The memory of a machine that has taken no step.
+-- A machine that has taken no step.
 use Rattle.std.proofs.Common.{◌≡◌, ℕ, zero, suc, ◌+◌, ◌==◌, ◌≤◌, ◌&&◌, Bool, true, false, not, List, [], ◌∷◌}
-use Rattle.std.proofs.Common.{◌++◌, map, filter, set, replicate, flat_map, count_by, Option, Some, None, refl, sym, ap, ◌∙◌, arith}
+use Rattle.std.proofs.Common.{◌++◌, map, filter, set, get_or, replicate, flat_map, count_by, length, All, Option, Some, None, refl, sym, ap, ◌∙◌, arith, subst}
+use Rattle.std.specs.Prelude.{option_map, slice_get}
+use Rattle.std.proofs.lemmas.List.{length-append, length-replicate}
 use Rattle.std.proofs.lemmas.List.Concat.{flat_map-cons}
+use Rattle.std.proofs.lemmas.List.Elements.{All-get_or, All-head, All-nil, All-push, All-tail}
+use Rattle.std.proofs.lemmas.Option.{get_or_from_slice_get, none-some, slice_get_within}
+use Rattle.ctrie_base.specs.declared.hashes.HashKind.{HashKind}
+use Rattle.history.specs.declared.calls.Access.TheVariants.{Writable}
+use Rattle.history.specs.declared.events.Event.{Event}
+use Rattle.history.specs.Histories.{begun}
 use Rattle.slot_arena.specs.declared.refs.Ref.{Ref}
 use Rattle.slot_arena.specs.declared.nodes.Slot.{Slot}
 use Rattle.slot_arena.specs.Refs.{ref_to}
@@ -9,20 +17,22 @@ use Rattle.slot_arena.specs.Heaps.{Heap, taken, empty_branch, next_ref, named_fr
 use Rattle.slot_arena.specs.Counts.{count_of}
 use Rattle.slot_arena.specs.Times.{times}
 use Rattle.epochs.specs.Limbo.{is_zero, is_in, limbo_after, by_birth}
-use Rattle.epochs.specs.Memories.{Memory}
 use Rattle.machine_model.specs.declared.operations.Operation.{Operation}
 use Rattle.machine_model.specs.declared.roots.Root.{Root}
+use Rattle.machine_model.specs.declared.roots.RootWord.TheVariants.{Plain}
 use Rattle.machine_model.specs.declared.steps.Limits.{Limits}
 use Rattle.machine_model.specs.Counting.{refs_of_root, refs_of_operation}
 use Rattle.machine_model.specs.Machine.{pin_of}
-use Rattle.history.specs.declared.calls.Access.TheVariants.{Writable}
-use Rattle.history.specs.declared.events.Event.{Event}
-use Rattle.places.specs.declared.place.Place.{Place}
-use Rattle.machine_model.specs.declared.heaps.Commit.{Commit}
-use Rattle.machine_model.specs.declared.heaps.Closing.{Closing}
-use Rattle.machine_model.specs.declared.roots.RootWord.TheVariants.{Plain}
-use Rattle.machine_model.specs.States.{handle_limit, empty_heap, first_heap, first_state}
-use Rattle.machine_core.specs.Ties.{IsTied, root_refs, private_refs}
+use Rattle.machine_model.specs.States.{State, empty_heap, first_heap, first_state, operation_of}
+use Rattle.rdcss_root.specs.Holds.{root_refs}
+use Rattle.rdcss_root.specs.Tables.{Table, new_table, with_root_in}
+use Rattle.machine_core.specs.declared.parts.Actor.{Actor}
+use Rattle.machine_core.specs.declared.parts.Parts.{Parts}
+use Rattle.machine_core.specs.declared.parts.UnderWay.{UnderWay}
+use Rattle.machine_core.specs.Keeping.{AreSeated, IsKept, IsNoted, IsSeated}
+use Rattle.machine_core.specs.Seen.{actors_seen, operation_at, seen}
+use Rattle.machine_core.specs.Starting.{AreIdle, IsIdle}
+use Rattle.machine_core.specs.Ties.{private_refs}
 
 -- ---- the first two references
 
@@ -82,45 +92,99 @@ none_pinned : (n : ℕ) → map pin_of (replicate {A = Option Operation} n None)
 none_pinned zero = refl
 none_pinned (suc n) = ap (λ ps. None ∷ ps) (none_pinned n)
 
-pub tied_at_first : (memory : Memory) (roots : List (Option Root)) (actors : List (Option Operation)) (root : Option Root) (n : ℕ) →
-    memory.outside ≡ ref_to 2 1 ∷ [] → memory.pins ≡ replicate n None → refs_of_root root ≡ ref_to 2 1 ∷ [] → roots ≡ set (replicate 256 None) 0 root → actors ≡ replicate n None →
-    IsTied memory roots actors
-tied_at_first memory roots actors root n outside pins word first idle = record {
-  held = λ r. let nothing : times r (private_refs actors) ≡ 0 = ap (λ xs. times r (private_refs xs)) idle ∙ ap (times r) (none_flat refs_of_operation None n refl) in
-      omega (arith, ap (times r) outside, ap (λ xs. times r (root_refs xs)) first, ap (times r) (first_root_refs root (ref_to 2 1) word), nothing);
-  pins = pins ∙ sym (none_pinned n) ∙ ap (map pin_of) (sym idle);
+-- ---- actors
+
+none_seen : (table : Table) (hashes : HashKind) (actors : List Actor) → All (IsIdle hashes) actors → actors_seen table actors ≡ replicate (length actors) None
+none_seen table hashes [] idle = refl
+none_seen table hashes (actor ∷ actors) idle =
+    ap (λ o. o ∷ actors_seen table actors) (ap (option_map (operation_at table actor.programs)) (All-head (IsIdle hashes) actor actors idle).under_way)
+    ∙ ap (λ os. None ∷ os) (none_seen table hashes actors (All-tail (IsIdle hashes) actor actors idle))
+
+pub one_more_idle : (hashes : HashKind) (n : ℕ) (actors : List Actor) (actor : Actor) → AreIdle hashes n actors → IsIdle hashes actor → AreIdle hashes (n + 1) (actors ++ actor ∷ [])
+one_more_idle hashes n actors actor h idle = record {
+  many = omega (arith, h.many, length-append actors (actor ∷ []));
+  idle = All-push (IsIdle hashes) actors actor h.idle idle;
 }
+
+idle_at : (hashes : HashKind) (n : ℕ) (actors : List Actor) → AreIdle hashes n actors → (i : ℕ) (actor : Actor) → slice_get actors i ≡ Some actor → IsIdle hashes actor
+idle_at hashes n actors h i actor found =
+    subst (IsIdle hashes) (get_or_from_slice_get actors i actor actor found) (All-get_or (IsIdle hashes) actors i actor (slice_get_within actors i actor found) h.idle)
+
+seated_at_first : (hashes : HashKind) (n : ℕ) (actors : List Actor) → AreIdle hashes n actors → AreSeated hashes actors
+seated_at_first hashes n actors h i actor found =
+    let idle = idle_at hashes n actors h i actor found in
+    record {
+      hashes_are = idle.hashes_are;
+      number = λ u e. absurd (none-some u (sym idle.under_way ∙ e));
+      sound = λ u e. absurd (none-some u (sym idle.under_way ∙ e));
+      idle = λ e. idle.private;
+    }
+
+none_runs : (n i : ℕ) (operation : Operation) → get_or (replicate n None) i None ≡ Some operation → ⊥
+none_runs zero i operation e = none-some operation e
+none_runs (suc n) zero operation e = none-some operation e
+none_runs (suc n) (suc i) operation e = none_runs n i operation e
+
+nobody_runs : (state : State) (n actor : ℕ) (operation : Operation) → state.actors ≡ replicate n None → operation_of state actor ≡ Some operation → ⊥
+nobody_runs state n zero operation is e = none-some operation e
+nobody_runs state n (suc i) operation is e = none_runs n i operation (ap (λ os. get_or os i None) (sym is) ∙ e)
 
 -- ---- the first state
 
--- the lists of the state at first
-pub record AreFirst (limits : Limits) (roots : List (Option Root)) (actors : List (Option Operation)) (commits : List Commit) (closings : List Closing) (places : List Place)
-    (events : List Event) : Type 0 where
-  pub roots_are : roots ≡ set (replicate handle_limit None) 0 (Some (record { access = Writable; word = Plain (ref_to 2 1) }))
-  pub actors_are : actors ≡ replicate limits.actors None
-  pub commits_are : commits ≡ []
-  pub closings_are : closings ≡ []
-  pub places_are : places ≡ []
-  pub events_are : events ≡ []
+abbrev pub first_root : Option Root
+first_root = Some (record { access = Writable; word = Plain (ref_to 2 1) })
 
-pub first_seen : (limits : Limits) (memory : Memory) (roots : List (Option Root)) (actors : List (Option Operation)) (commits : List Commit) (closings : List Closing) (places : List Place)
-    (events : List Event) → memory.heap ≡ first_heap limits.slots → memory.limbo ≡ [] → memory.epoch ≡ 0 → memory.cursor ≡ 1 →
-    AreFirst limits roots actors commits closings places events →
-    record {
-      limits = limits;
-      heap = memory.heap;
-      generations = 1;
-      limbo = memory.limbo;
-      epoch = memory.epoch;
-      cursor = memory.cursor;
-      roots = roots;
-      actors = actors;
-      commits = commits;
-      closings = closings;
-      places = places;
-      events = events;
-      steps = 0;
-    } ≡ first_state limits
+-- the parts of a machine at first
+pub record AreFirst (limits : Limits) (parts : Parts) : Type 0 where
+  pub limits_are : parts.limits ≡ limits
+  pub heap : parts.heap.heap ≡ first_heap limits.slots
+  pub limbo : parts.heap.limbo ≡ []
+  pub epoch : parts.heap.epoch ≡ 0
+  pub cursor : parts.heap.cursor ≡ 1
+  pub pins : parts.heap.pins ≡ replicate limits.actors None
+  pub held : (r : Ref) → times r parts.heap.outside ≡ times r (ref_to 2 1 ∷ [])
+  pub generations : parts.generations ≡ 1
+  pub table : parts.table ≡ with_root_in (new_table limits.actors) 0 first_root
+  pub actors : AreIdle limits.hash limits.actors parts.actors.items
+  pub commits : parts.commits.commits ≡ []
+  pub closings : parts.journal.chronicle.closings ≡ []
+  pub places : parts.journal.chronicle.places ≡ []
+  pub drawn : parts.journal.chronicle.generations ≡ 1
+  pub events : parts.journal.events.items ≡ []
+  pub steps : parts.steps ≡ 0
+  pub begun_are : parts.begun ≡ 0
+
+none_at_first : (limits : Limits) (parts : Parts) → AreFirst limits parts → (seen parts).actors ≡ replicate limits.actors None
+none_at_first limits parts h = none_seen parts.table limits.hash parts.actors.items h.actors.idle ∙ ap (λ n. replicate n None) h.actors.many
+
+pub seen_first : (limits : Limits) (parts : Parts) → AreFirst limits parts → seen parts ≡ first_state limits
 unfolding first_state
-first_seen limits memory roots actors commits closings places events heap limbo epoch cursor lists =
-    rw (heap, limbo, epoch, cursor, lists.roots_are, lists.actors_are, lists.commits_are, lists.closings_are, lists.places_are, lists.events_are) refl
+seen_first limits parts h =
+    rw (none_at_first limits parts h, h.limits_are, h.heap, h.limbo, h.epoch, h.cursor, h.generations, h.table, h.commits, h.closings, h.places, h.events, h.steps) refl
+
+pub kept_first : (limits : Limits) (parts : Parts) → AreFirst limits parts → IsKept parts
+kept_first limits parts h =
+    let none = none_at_first limits parts h in
+    record {
+      tied = record {
+        held = λ r. omega (
+          arith,
+          h.held r,
+          ap (λ (t : Table). times r (root_refs t.roots)) h.table,
+          ap (times r) (first_root_refs first_root (ref_to 2 1) refl),
+          ap (λ os. times r (private_refs os)) none,
+          ap (times r) (none_flat refs_of_operation None limits.actors refl),
+        );
+        pins = h.pins ∙ sym (none_pinned limits.actors) ∙ ap (map pin_of) (sym none);
+      };
+      seats = subst (λ (x : Limits). AreSeated x.hash parts.actors.items) (sym h.limits_are) (seated_at_first limits.hash limits.actors parts.actors.items h.actors);
+      noted = record {
+        marks = ap (λ (t : Table). length t.marks) h.table ∙ length-replicate (limits.actors + 1) false ∙ ap (λ (x : Limits). x.actors + 1) (sym h.limits_are);
+        offerers = ap (λ (t : Table). length t.offerers) h.table ∙ length-replicate 256 0;
+        carried = ap (λ (t : Table). t.carried) h.table;
+      };
+      offerers = λ handle offer stands actor operation found same. absurd (nobody_runs (seen parts) limits.actors actor operation none found);
+      owners = λ main replaced used pending actor operation at before l found swaps. absurd (nobody_runs (seen parts) limits.actors actor operation none found);
+      generations = h.drawn ∙ sym h.generations;
+      begun_are = h.begun_are ∙ sym (ap begun h.events);
+    }

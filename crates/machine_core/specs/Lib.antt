@@ -1,4 +1,7 @@
+pub mod Beginnings
 pub mod Bounds
-pub mod Ties
-pub mod Actions
 pub mod Finding
+pub mod Keeping
+pub mod Seen
+pub mod Starting
+pub mod Ties

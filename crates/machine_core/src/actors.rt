@@ -1,12 +1,11 @@
 //! Actors, and on which handles their operations run.
 
 ghost use Rattle.std.specs.Prelude.{◌≡◌};
-ghost use Rattle.machine_model.specs.Machine.{is_actor, is_running, names, runs_on};
-ghost use Rattle.plain_state.specs.Seen.{seen};
+ghost use Rattle.machine_model.specs.Machine.{is_actor, is_busy, names, runs_on};
+ghost use Rattle.machine_core.specs.Seen.{operation_seen, seen};
+ghost use Rattle.rdcss_root.specs.Tables.{Table};
 
-use machine_model::Operation;
-use plain_reading::handle_of;
-use plain_state::Parts;
+use crate::parts::{Actor, Parts};
 
 /// Whether the actor is one of the machine's.
 pub fn is_actor(parts: &Parts, actor: u8) -> bool
@@ -15,29 +14,29 @@ pub fn is_actor(parts: &Parts, actor: u8) -> bool
     0 < actor && actor <= parts.limits.actors
 }
 
-/// Whether the actor runs an operation.
-pub fn is_running(parts: &Parts, actor: u8) -> bool
-    ensures { result ≡ is_running (seen parts.now) actor }
+/// Whether any actor runs an operation.
+#[tactic(auto, using(crate::proofs::Mapped::any_mapped))]
+pub fn is_busy(parts: &Parts) -> bool
+    ensures { result ≡ is_busy (seen parts.now) }
 {
-    parts.operation(actor).is_some()
+    parts.actors.iter().any(|actor| actor.under_way.is_some())
 }
 
 /// Whether an operation runs whose call names this handle.
+#[tactic(auto, using(crate::proofs::Mapped::any_mapped))]
 pub fn runs_on(parts: &Parts, handle: u16) -> bool
     ensures { result ≡ runs_on (seen parts.now) handle }
 {
-    parts
-        .actors
-        .iter()
-        .any(|operation| names(handle, operation))
+    parts.actors.iter().any(|actor| names(handle, actor))
 }
 
-/// Whether it is an operation whose call names this handle.
-fn names(handle: u16, operation: &Option<Operation>) -> bool
-    ensures { result ≡ names handle operation.now }
+/// Whether the actor runs an operation whose call names this handle.
+#[tactic(auto, using(crate::proofs::Named::handle_named))]
+fn names(handle: u16, actor: &Actor) -> bool
+    ensures { (table : Table) → result ≡ names handle (operation_seen table actor.now) }
 {
-    match operation {
+    match actor.under_way {
         None => false,
-        Some(operation) => handle_of(operation.call) == handle,
+        Some(under_way) => under_way.job.handle == handle,
     }
 }

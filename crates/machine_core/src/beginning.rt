@@ -1,21 +1,24 @@
 //! How an operation begins.
 
-ghost use Rattle.std.specs.Prelude.{◌≡◌, ◌≤◌, ◌<◌, ◌-◌, [], length, vec_len, vec_capacity, unwrap_or, slice_set, Some, None, if◌then◌else◌};
-ghost use Rattle.history.specs.Histories.{begun};
+ghost use Rattle.std.specs.Prelude.{◌≡◌, ◌<◌, ◌≤◌, ◌-◌, [], length, vec_len, vec_capacity, unwrap_or, slice_set, Some, None, if◌then◌else◌};
 ghost use Rattle.machine_model.specs.States.{root_at};
 ghost use Rattle.machine_model.specs.Calls.{handle_of, opens_handle};
-ghost use Rattle.machine_model.specs.Machine.{access_of, new_operation, handle_closed, with_begin, least_free};
-ghost use Rattle.plain_state.specs.Seen.{seen};
-ghost use Rattle.machine_core.specs.Ties.{IsReady, Keeps};
+ghost use Rattle.machine_model.specs.Machine.{access_of, begin_denial, new_operation, handle_closed, with_begin, least_free};
+ghost use Rattle.epochs.specs.Memories.{KeepsEpochs};
+ghost use Rattle.rdcss_root.specs.Holds.{IsReady, Moves};
+ghost use Rattle.rdcss_root.specs.Tables.{root_in};
+ghost use Rattle.running.specs.Places.{call_for};
+ghost use Rattle.machine_core.specs.Beginnings.{Begins};
+ghost use Rattle.machine_core.specs.Bounds.{IsOfRun};
+ghost use Rattle.machine_core.specs.Keeping.{IsKept, Replaces};
+ghost use Rattle.machine_core.specs.Seen.{seen};
 
+use crate::calls::{handle_of, is_close, opens_handle, program_of};
 use crate::handles::least_free;
-use crate::holding::put_root;
+use crate::parts::{Actor, Parts, UnderWay};
 use history::{Access, Call, Event};
-use machine_model::Operation;
-use plain_operations::{first_line, on_time};
-use plain_reading::{handle_of, is_close, opens_handle};
-use plain_state::{Parts, set_operation};
-use slot_arena::Refs;
+use places::Place;
+use running::Job;
 
 /// The access of an open handle.
 fn access_for(parts: &Parts, call: Call) -> Access
@@ -35,66 +38,95 @@ fn handle_to_open(parts: &Parts, call: Call) -> Option<u16>
     }
 }
 
-/// The operation of a new begin; as many operations have begun before it as its id says.
-pub fn new_operation(parts: &Parts, call: Call, id: u64) -> Operation
-    requires { id ≡ begun (seen parts.now).events }
-    ensures { result ≡ new_operation (seen parts.now) call (unwrap_or (access_of (root_at (seen parts.now) (handle_of call))) Access.Writable) }
+/// What is under way when the actor begins this call now.
+fn new_under_way(parts: &Parts, actor: u8, call: Call) -> UnderWay
+    ensures job { result.job ≡ record { id = parts.now.begun; actor = actor; handle = handle_of call; opens = if opens_handle call then Some (least_free (seen parts.now)) else None } }
+    ensures call { call_for (handle_of call) result.program ≡ call }
+    ensures epoch { result.epoch ≡ parts.now.heap.epoch }
+    ensures moment { (result.read_at ≡ 0) × (result.moment ≡ 0) }
 {
-    Operation {
-        id,
-        call,
-        access: access_for(parts, call),
-        epoch: parts.heap.memory.epoch(),
-        private: Refs::new(parts.alloc),
-        opens: handle_to_open(parts, call),
-        attempt: 0,
-        is_marked: false,
-        generation: None,
+    UnderWay {
+        job: Job {
+            id: parts.begun,
+            actor,
+            handle: handle_of(call),
+            opens: handle_to_open(parts, call),
+        },
+        program: program_of(call),
+        epoch: parts.heap.epoch(),
         read_at: 0,
         moment: 0,
-        line: first_line(call),
     }
 }
 
 /// A close takes the handle away as it begins, and enters the order there.
-#[tactic(auto, using(crate::proofs::Tying::kept_same, crate::proofs::Words::no_root_live))]
-fn close_handle(parts: &mut Parts, call: Call, id: u64)
-    requires places { vec_len parts.old.places < vec_capacity parts.old.places }
-    requires ready { IsReady parts.old.heap.memory parts.old.roots.items 4 }
-    ensures closed { seen parts.new ≡ handle_closed (seen parts.old) call id }
-    ensures keeps { Keeps parts.old.heap.memory parts.new.heap.memory parts.old.roots.items parts.new.roots.items [] 4 }
-    ensures pins { parts.new.heap.memory.pins ≡ parts.old.heap.memory.pins }
-    ensures events { parts.new.events ≡ parts.old.events }
+fn close_handle(parts: &mut Parts, call: Call)
+    requires to_add { 0 < parts.old.journal.chronicle.room_to_add }
+    requires of_id { parts.old.begun < parts.old.journal.chronicle.ids }
+    requires ready { IsReady parts.old.heap parts.old.table.roots 4 }
+    ensures closed { seen parts.new ≡ handle_closed (seen parts.old) call parts.old.begun }
+    ensures same { parts.new ≡ record parts.old { heap = parts.new.heap; table = record parts.old.table { roots = parts.new.table.roots }; journal = parts.new.journal } }
+    ensures moves { Moves parts.old.heap parts.new.heap parts.old.table.roots parts.new.table.roots 4 }
+    ensures events { parts.new.journal.events ≡ parts.old.journal.events }
+    ensures generations { parts.new.journal.chronicle.generations ≡ parts.old.journal.chronicle.generations }
 {
     if is_close(call) {
-        put_root(
-            &mut parts.heap.memory,
-            &mut parts.roots,
-            handle_of(call),
-            None,
-        );
-        let _ = parts.places.push(on_time(parts.steps, false, id));
+        parts.table.put(&mut parts.heap, handle_of(call), None);
+        parts.journal.chronicle.add(Place {
+            step: parts.steps,
+            on_time: true,
+            moment: parts.steps,
+            changed_nothing: false,
+            id: parts.begun,
+        });
     }
+}
+
+/// The actor begins this operation.
+fn set_out(actor: &mut Actor, under_way: UnderWay, access: Access)
+    ensures { Begins under_way access actor.old actor.new }
+{
+    actor.programs.begin(under_way.program, access);
+    actor.under_way = Some(under_way);
+}
+
+/// The actor with this index begins this operation.
+fn seat(actors: &mut Vec<Actor>, index: usize, under_way: UnderWay, access: Access)
+    requires { index < length actors.old.items }
+    ensures { Replaces actors.old.items index (Begins under_way access) actors.new.items }
+{
+    set_out(&mut actors[index], under_way, access);
 }
 
 /// Lets the operation begin: the actor runs it, and records the epoch. There is room for what a begin adds to
 /// the order and to the history.
-pub fn begin_operation(parts: &mut Parts, actor: u8, call: Call, operation: Operation)
-    requires actor { (1 ≤ actor) × (actor ≤ length parts.old.heap.memory.pins) }
-    requires places { vec_len parts.old.places < vec_capacity parts.old.places }
-    requires events { vec_len parts.old.events < vec_capacity parts.old.events }
-    requires ready { IsReady parts.old.heap.memory parts.old.roots.items 4 }
-    ensures begun { seen parts.new ≡ with_begin (seen parts.old) actor call operation }
-    ensures keeps { Keeps parts.old.heap.memory parts.new.heap.memory parts.old.roots.items parts.new.roots.items [] 4 }
-    ensures pins { parts.new.heap.memory.pins ≡ slice_set parts.old.heap.memory.pins (actor - 1) (Some (seen parts.old).epoch) }
+pub fn begin_operation(parts: &mut Parts, actor: u8, call: Call)
+    requires run { IsOfRun (seen parts.old) }
+    requires kept { IsKept parts.old }
+    requires allowed { begin_denial (seen parts.old) actor call ≡ None }
+    requires to_add { 0 < parts.old.journal.chronicle.room_to_add }
+    requires of_id { parts.old.begun < parts.old.journal.chronicle.ids }
+    requires events { vec_len parts.old.journal.events < vec_capacity parts.old.journal.events }
+    ensures begun { seen parts.new ≡ with_begin (seen parts.old) actor call
+        (new_operation (seen parts.old) call (unwrap_or (access_of (root_at (seen parts.old) (handle_of call))) Access.Writable)) }
+    ensures kept { IsKept parts.new }
 {
-    close_handle(parts, call, operation.id);
-    let _ = parts.events.push(Event::Begin {
-        id: operation.id,
+    let access = access_for(parts, call);
+    let under_way = new_under_way(parts, actor, call);
+    close_handle(parts, call);
+    let _ = parts.journal.events.push(Event::Begin {
+        id: under_way.job.id,
         actor,
         call,
-        opens: operation.opens,
+        opens: under_way.job.opens,
     });
-    parts.heap.memory.pin(actor);
-    set_operation(&mut parts.actors, actor, Some(operation));
+    parts.heap.pin(actor);
+    parts.table.unmark(actor);
+    seat(
+        &mut parts.actors,
+        actor as usize - 1,
+        under_way,
+        access,
+    );
+    parts.begun += 1;
 }

@@ -4,13 +4,16 @@ ghost use Rattle.std.specs.Prelude.{◌≡◌, ◌++◌, IfOk, OnOk};
 ghost use Rattle.std.specs.List.{flat_map};
 ghost use Rattle.slot_arena.specs.Heaps.{entries_of, node_at};
 ghost use Rattle.machine_model.specs.Contents.{pairs_below, content_at};
-ghost use Rattle.plain_state.specs.Seen.{seen};
+ghost use Rattle.machine_model.specs.Pairs.{by_key};
+ghost use Rattle.machine_core.specs.Seen.{seen};
 
+use crate::mains::{logical_main, root_of};
+use crate::parts::Parts;
+use epochs::Heap;
 use history::Pairs;
-use plain_lines::pairs_by_key;
-use plain_state::{Parts, PlainHeap, root_of};
 use slot_arena::{Node, Ref};
-use std::alloc::AllocError;
+use std::alloc::{AllocError, Global};
+use trie_parts::{entries_at, node_at};
 
 /// A root, 13 levels of indirections below it, and the singles.
 pub const MOST_LEVELS: u32 = 15;
@@ -35,20 +38,22 @@ pub fn content_of(parts: &Parts, handle: u16) -> Result<Pairs, AllocError>
 fn gather(
     pairs: &mut Vec<(u64, u64)>,
     levels: u32,
-    heap: &PlainHeap,
+    heap: &Heap,
     at: Ref,
 ) -> Result<(), AllocError>
-    ensures { OnOk result (pairs.new.items ≡ pairs.old.items ++ pairs_below levels heap.now.memory.heap at) }
+    ensures { OnOk result (pairs.new.items ≡ pairs.old.items ++ pairs_below levels heap.now.heap at) }
 {
     if levels == 0 {
         return Ok(());
     }
-    match heap.node(at) {
-        Node::Single { key, value } => {
+    match node_at(heap, at) {
+        Some(Node::Single { key, value }) => {
             pairs.push((*key, *value))?;
             Ok(())
         }
-        Node::Indirection { .. } => gather_each(pairs, levels - 1, heap, heap.logical_main(at)),
+        Some(Node::Indirection { .. }) => {
+            gather_each(pairs, levels - 1, heap, logical_main(heap, at))
+        }
         _ => Ok(()),
     }
 }
@@ -59,13 +64,24 @@ fn gather(
 fn gather_each(
     pairs: &mut Vec<(u64, u64)>,
     levels: u32,
-    heap: &PlainHeap,
+    heap: &Heap,
     main: Ref,
 ) -> Result<(), AllocError>
-    ensures { OnOk result (pairs.new.items ≡ pairs.old.items ++ flat_map (pairs_below levels heap.now.memory.heap) (entries_of (node_at heap.now.memory.heap main))) }
+    ensures { OnOk result (pairs.new.items ≡ pairs.old.items ++ flat_map (pairs_below levels heap.now.heap) (entries_of (node_at heap.now.heap main))) }
 {
-    for entry in heap.entries(main) {
+    for entry in entries_at(heap, main) {
         gather(pairs, levels, heap, *entry)?;
     }
     Ok(())
+}
+
+/// All of these pairs, by rising key. An error says that memory was refused.
+#[tactic(auto, using(crate::proofs::Sorting::sorted_by_key))]
+fn pairs_by_key(alloc: Global, pairs: &[(u64, u64)]) -> Result<Pairs, AllocError>
+    ensures { IfOk result (λ sorted. sorted ≡ by_key pairs.now) }
+{
+    let mut sorted = Vec::new(alloc);
+    sorted.extend_from_slice(pairs)?;
+    sorted.sort()?;
+    Ok(Pairs::from_vec(sorted))
 }

@@ -3,15 +3,15 @@
 ghost use Rattle.std.specs.Prelude.{◌≡◌};
 ghost use Rattle.machine_model.specs.Machine.{is_spent, is_access, begin_denial, go_denial, denial_of};
 ghost use Rattle.machine_model.specs.declared.steps.Step.TheVariants as steps;
-ghost use Rattle.plain_state.specs.Seen.{seen};
+ghost use Rattle.machine_core.specs.Seen.{seen};
 
-use crate::actors::{is_actor, is_running, runs_on};
+use crate::actors::{is_actor, runs_on};
+use crate::calls::{handle_of, is_close, needs_read_only, needs_writable, opens_handle};
 use crate::handles::{HANDLE_LIMIT, handles_taken};
+use crate::parts::Parts;
 use ctrie_base::Refusal;
 use history::{Access, Call};
 use machine_model::Step;
-use plain_reading::{handle_of, is_close, needs_read_only, needs_writable, opens_handle};
-use plain_state::Parts;
 
 /// How many steps a machine takes.
 const STEP_LIMIT: u64 = 1 << 40;
@@ -43,7 +43,7 @@ fn begin_denial(parts: &Parts, actor: u8, call: Call) -> Option<Refusal>
     let access = parts.access(handle);
     if !is_actor(parts, actor) {
         Some(Refusal::NoActor)
-    } else if is_running(parts, actor) {
+    } else if parts.is_running(actor) {
         Some(Refusal::ActorBusy)
     } else if access.is_none() {
         Some(Refusal::NoHandle)
@@ -68,7 +68,7 @@ fn go_denial(parts: &Parts, actor: u8) -> Option<Refusal>
 {
     if !is_actor(parts, actor) {
         Some(Refusal::NoActor)
-    } else if !is_running(parts, actor) {
+    } else if !parts.is_running(actor) {
         Some(Refusal::Idle)
     } else if is_spent(parts) {
         Some(Refusal::Spent)

@@ -4,12 +4,14 @@ ghost use Rattle.std.specs.Prelude.{◌≡◌};
 ghost use Rattle.slot_arena.specs.Heaps.{node_at};
 ghost use Rattle.proof_contents.specs.Nodes.Looking.{look_at, look_among, look_in};
 ghost use Rattle.machine_core.specs.Finding.{found_along, meant};
-ghost use Rattle.plain_state.specs.Seen.{seen};
+ghost use Rattle.machine_core.specs.Seen.{seen};
 
 use crate::contents::MOST_LEVELS;
-use plain_reading::{flag_of, has_flag, position_of};
-use plain_state::{Parts, PlainHeap, root_of};
+use crate::mains::{has_flag, logical_main, position_of, root_of};
+use crate::parts::Parts;
+use epochs::Heap;
 use slot_arena::{Node, Ref};
+use trie_parts::{entry_at, flag_of, node_at};
 
 /// What a main node says of a key.
 pub enum Found {
@@ -28,7 +30,7 @@ pub fn value_of(parts: &Parts, handle: u16, key: u64) -> Option<u64>
     let hash = parts.key_hash(key);
     let mut at = root_of(parts.word(handle));
     for depth in 0..MOST_LEVELS {
-        let main = parts.heap.logical_main(at);
+        let main = logical_main(&parts.heap, at);
         match look_in(&parts.heap, flag_of(hash, depth as usize), key, main) {
             Found::Absent => return None,
             Found::Has(value) => return Some(value),
@@ -39,25 +41,25 @@ pub fn value_of(parts: &Parts, handle: u16, key: u64) -> Option<u64>
 }
 
 /// What a main node says of the key, whose flag is this one at its depth.
-fn look_in(heap: &PlainHeap, flag: u32, key: u64, main: Ref) -> Found
-    ensures { meant result ≡ look_in (node_at heap.now.memory.heap) flag key (node_at heap.now.memory.heap main) }
+fn look_in(heap: &Heap, flag: u32, key: u64, main: Ref) -> Found
+    ensures { meant result ≡ look_in (node_at heap.now.heap) flag key (node_at heap.now.heap main) }
 {
-    match heap.node(main) {
-        Node::Branch { bitmap, .. } => {
+    match node_at(heap, main) {
+        Some(Node::Branch { bitmap, .. }) => {
             if !has_flag(*bitmap, flag) {
                 return Found::Absent;
             }
-            look_at(heap, key, heap.entry(main, position_of(flag, *bitmap)))
+            look_at(heap, key, entry_at(heap, main, position_of(flag, *bitmap)))
         }
-        Node::Tomb { single } => look_at(heap, key, *single),
-        Node::List { singles } => look_among(heap, key, singles.as_slice()),
-        Node::Indirection { .. } | Node::Single { .. } => Found::Absent,
+        Some(Node::Tomb { single }) => look_at(heap, key, *single),
+        Some(Node::List { singles }) => look_among(heap, key, singles.as_slice()),
+        _ => Found::Absent,
     }
 }
 
 /// What the first of these singles that has the key says of it.
-fn look_among(heap: &PlainHeap, key: u64, singles: &[Ref]) -> Found
-    ensures { meant result ≡ look_among (node_at heap.now.memory.heap) key singles.now }
+fn look_among(heap: &Heap, key: u64, singles: &[Ref]) -> Found
+    ensures { meant result ≡ look_among (node_at heap.now.heap) key singles.now }
 {
     for single in singles {
         match look_at(heap, key, *single) {
@@ -69,12 +71,12 @@ fn look_among(heap: &PlainHeap, key: u64, singles: &[Ref]) -> Found
 }
 
 /// What an entry says of the key.
-fn look_at(heap: &PlainHeap, key: u64, entry: Ref) -> Found
-    ensures { meant result ≡ look_at key entry (node_at heap.now.memory.heap entry) }
+fn look_at(heap: &Heap, key: u64, entry: Ref) -> Found
+    ensures { meant result ≡ look_at key entry (node_at heap.now.heap entry) }
 {
-    match heap.node(entry) {
-        Node::Single { key: own, value } if *own == key => Found::Has(*value),
-        Node::Indirection { .. } => Found::Below(entry),
+    match node_at(heap, entry) {
+        Some(Node::Single { key: own, value }) if *own == key => Found::Has(*value),
+        Some(Node::Indirection { .. }) => Found::Below(entry),
         _ => Found::Absent,
     }
 }

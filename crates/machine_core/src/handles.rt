@@ -3,55 +3,56 @@
 ghost use Rattle.std.specs.Prelude.{◌≡◌};
 ghost use Rattle.std.specs.List.{list_any};
 ghost use Rattle.machine_model.specs.Machine.{reserved_by, is_number, is_taken, handles_taken, least_free};
-ghost use Rattle.plain_state.specs.Seen.{seen};
+ghost use Rattle.machine_core.specs.Seen.{operation_seen, seen};
 
-use machine_model::Operation;
-use plain_state::Parts;
+use crate::parts::{Actor, Parts};
+use rdcss_root::Roots;
 
 /// How many handles can be open or reserved.
 pub const HANDLE_LIMIT: u16 = 256;
 
-/// The handle that an operation has reserved: it is to open it, and hasn't yet.
-fn reserved_by(operation: &Option<Operation>) -> Option<u16>
-    ensures { result ≡ reserved_by operation.now }
+/// The handle that an actor's operation has reserved: it is to open it, and hasn't yet.
+fn reserved_by(table: &Roots, actor: &Actor) -> Option<u16>
+    ensures { result ≡ reserved_by (operation_seen table.now actor.now) }
 {
-    match operation {
+    match actor.under_way {
         None => None,
-        Some(operation) => {
-            if operation.is_marked {
+        Some(under_way) => {
+            if table.is_marked(under_way.job.actor) {
                 None
             } else {
-                operation.opens
+                under_way.job.opens
             }
         }
     }
 }
 
-/// Whether the operation has reserved this handle.
-fn is_reserved(handle: u16, operation: &Option<Operation>) -> bool
-    ensures { result ≡ is_number handle (reserved_by operation.now) }
+/// Whether the actor's operation has reserved this handle.
+fn is_reserved(table: &Roots, handle: u16, actor: &Actor) -> bool
+    ensures { result ≡ is_number handle (reserved_by (operation_seen table.now actor.now)) }
 {
-    match reserved_by(operation) {
+    match reserved_by(table, actor) {
         None => false,
         Some(reserved) => reserved == handle,
     }
 }
 
 /// Whether an operation has reserved this handle.
+#[tactic(auto, using(crate::proofs::Mapped::any_mapped))]
 fn is_reserved_by_one(parts: &Parts, handle: u16) -> bool
     ensures { result ≡ list_any (λ operation. is_number handle (reserved_by operation)) (seen parts.now).actors }
 {
     parts
         .actors
         .iter()
-        .any(|operation| is_reserved(handle, operation))
+        .any(|actor| is_reserved(&parts.table, handle, actor))
 }
 
 /// Whether the handle number is open or reserved.
 pub fn is_taken(parts: &Parts, handle: u16) -> bool
     ensures { result ≡ is_taken (seen parts.now) handle }
 {
-    parts.root(handle).is_some() || is_reserved_by_one(parts, handle)
+    parts.table.root(handle).is_some() || is_reserved_by_one(parts, handle)
 }
 
 /// How many handles are open or reserved.

@@ -1,31 +1,30 @@
 //! The machine's state on the heap that counts references, and one step of it: `Core::apply` computes what the
-//! definition's `next` (`machine_model`, `Machine`) says. What an operation does, and where it stands then, is
-//! worked out by `plain_operations` from the state before the step; here it is done.
+//! definition's `next` (`machine_model`, `Machine`) says. An operation stays in its place and is changed there, by
+//! its programs (`running`); what they don't know of it stands beside them (`UnderWay`).
 //!
 //! | Module | What | Of the definition |
 //! |---|---|---|
-//! | `node_words`, `root_words`, `acting` | what an action does | `Acting` |
-//! | `going`, `beginning`, `sweeping` | a step of an operation, a begin, a step of the sweep | `Machine` |
+//! | `parts` | all that a machine remembers | `States` |
+//! | `beginning`, `going`, `finishing`, `sweeping` | a begin, a step of an operation, its end, a step of the sweep | `Machine`, `Acting` |
 //! | `stepping` | denials first, then the step, then limbo | `Machine`, `Counting` |
-//! | `holding` | the references that stand in root words and private lists | `Counting` |
 #![tactic(auto)]
 
-mod acting;
 mod actors;
 mod beginning;
+mod calls;
 mod contents;
 mod denials;
 mod finding;
+mod finishing;
 mod going;
 mod handles;
-mod holding;
 mod machine;
-mod node_words;
-mod root_words;
+mod mains;
+mod parts;
 mod settling;
 mod starting;
 mod stepping;
 mod sweeping;
 
+pub use calls::key_of;
 pub use machine::Core;
-pub use plain_reading::key_of;

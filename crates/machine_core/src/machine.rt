@@ -5,57 +5,49 @@ ghost use Rattle.slot_arena.specs.Heaps.{in_use};
 ghost use Rattle.machine_model.specs.States.{first_state, root_at};
 ghost use Rattle.machine_model.specs.Orders.{order_of};
 ghost use Rattle.machine_model.specs.Contents.{content_at};
-ghost use Rattle.machine_model.specs.Machine.{next, is_running, is_busy, next_kind, runs_on, denial_of, is_access, access_of, handles_taken, AreLimits};
+ghost use Rattle.machine_model.specs.Machine.{next, is_running, is_busy, runs_on, denial_of, is_access, access_of, handles_taken, AreLimits};
 ghost use Rattle.machine_core.specs.Bounds.{Applies};
 ghost use Rattle.machine_core.specs.Finding.{found_along};
 ghost use Rattle.machine_model.specs.Refusing.{RefusesLimits, RefusesContent};
 
-use crate::actors::{is_running, runs_on};
+use crate::actors::{is_busy, runs_on};
 use crate::contents::content_of;
 use crate::denials::{denial_of, is_access};
 use crate::finding::value_of;
 use crate::handles::handles_taken;
+use crate::parts::Parts;
 use crate::starting::{are_limits, first_parts};
 use crate::stepping::take_step;
-use ctrie_base::{Kind, Refusal};
+use ctrie_base::Refusal;
 use history::{Access, Event, Pairs};
 use machine_model::{Limits, Outcome, Step};
-use plain_operations::{operation_kind, order_of};
-use plain_state::Parts;
 use std::alloc::Global;
 use std::marker::Model;
 
 /// The state of a machine. It is seen as the definition's state, and is one to which a run of steps leads.
 pub struct Core {
     parts: Parts,
-    /// How many operations have begun: the id of the next one.
-    next_id: u64,
 }
 
 // Written out, so that it is proved here, once, and not again in each program that drops a machine.
 impl Drop for Core {
     fn drop(self) {
-        let Core {
-            parts: _,
-            next_id: _,
-        } = self;
+        let Core { parts: _ } = self;
     }
 }
 
 impl Model for Core {
     ghost use Rattle.std.specs.Prelude.{◌≡◌, []};
-    ghost use Rattle.history.specs.Histories.{begun};
     ghost use Rattle.machine_model.specs.States.{State};
-    ghost use Rattle.plain_state.specs.Seen.{seen};
     ghost use Rattle.machine_core.specs.Bounds.{IsOfRun};
-    ghost use Rattle.machine_core.specs.Ties.{IsTied};
+    ghost use Rattle.machine_core.specs.Keeping.{IsKept};
+    ghost use Rattle.machine_core.specs.Seen.{seen};
 
     ghost Value = { State };
 
     ghost view = { λ c. seen c.parts };
 
-    ghost invariant = { λ c. IsOfRun (seen c.parts) × IsTied c.parts.heap.memory c.parts.roots.items c.parts.actors.items
-        × (c.parts.heap.memory.noted ≡ []) × (c.next_id ≡ begun c.parts.events.items) };
+    ghost invariant = { λ c. IsOfRun (seen c.parts) × IsKept c.parts × (c.parts.heap.noted ≡ []) };
 }
 
 impl Core {
@@ -70,7 +62,7 @@ impl Core {
             return Err(Refusal::BadLimits);
         }
         let parts = first_parts(alloc, limits)?;
-        Ok(Core { parts, next_id: 0 })
+        Ok(Core { parts })
     }
 
     /// Takes a step, or refuses it. After a refusal nothing has changed; `Memory` is the only one that the
@@ -79,11 +71,7 @@ impl Core {
     pub fn apply(&mut self, step: Step) -> Result<Outcome, Refusal>
         ensures { Applies result self.old (next self.old step) self.new }
     {
-        let outcome = take_step(&mut self.parts, step, self.next_id)?;
-        if let Step::Begin { .. } = step {
-            self.next_id += 1;
-        }
-        Ok(outcome)
+        take_step(&mut self.parts, step)
     }
 
     /// Why the step is denied, where it is. `apply` answers the same.
@@ -94,12 +82,11 @@ impl Core {
     }
 
     /// The order: the ids of operations by rising place. `Memory` is the only refusal.
-    #[tactic(auto, unfolding(places::specs::Places::ids_by_place))]
     pub fn order(&self) -> Result<Vec<u64>, Refusal>
         ensures exact { IfOk result (λ order. order.items ≡ order_of self.now) }
         ensures only_memory { IsOkUnless result Refusal.Memory }
     {
-        Ok(order_of(self.parts.alloc, self.parts.places.as_slice())?)
+        self.parts.journal.chronicle.order()
     }
 
     /// What the map of an open handle holds, by rising key. `NoHandle` exactly where the handle isn't open;
@@ -109,7 +96,7 @@ impl Core {
         ensures open { OnOk result (IsSome (root_at self.now handle)) }
         ensures refused { IfErr result (λ refusal. RefusesContent self.now handle refusal) }
     {
-        if self.parts.root(handle).is_none() {
+        if self.parts.table.root(handle).is_none() {
             return Err(Refusal::NoHandle);
         }
         Ok(content_of(&self.parts, handle)?)
@@ -122,7 +109,7 @@ impl Core {
         ensures open { OnOk result (IsSome (root_at self.now handle)) }
         ensures refused { IfErr result (λ refusal. (root_at self.now handle ≡ None) × (refusal ≡ Refusal.NoHandle)) }
     {
-        if self.parts.root(handle).is_none() {
+        if self.parts.table.root(handle).is_none() {
             return Err(Refusal::NoHandle);
         }
         Ok(value_of(&self.parts, handle, key))
@@ -132,39 +119,29 @@ impl Core {
     pub fn events(&self) -> &[Event]
         ensures { result.now ≡ self.now.events }
     {
-        self.parts.events.as_slice()
-    }
-
-    /// The kind of the next step of the actor's operation, if it runs one.
-    pub fn next_kind(&self, actor: u8) -> Option<Kind>
-        ensures { result ≡ next_kind self.now actor }
-    {
-        match self.parts.operation(actor) {
-            None => None,
-            Some(operation) => Some(operation_kind(&self.parts, operation)),
-        }
+        self.parts.journal.events.as_slice()
     }
 
     /// The history, handed out. It takes no memory.
     pub fn into_events(self) -> Vec<Event>
         ensures { result.items ≡ self.events }
     {
-        let Core { parts, next_id: _ } = self;
-        parts.events
+        let Core { parts } = self;
+        parts.journal.events
     }
 
     /// Whether the actor runs an operation.
     pub fn is_running(&self, actor: u8) -> bool
         ensures { result ≡ is_running self.now actor }
     {
-        is_running(&self.parts, actor)
+        self.parts.is_running(actor)
     }
 
     /// Whether any actor runs an operation.
     pub fn is_busy(&self) -> bool
         ensures { result ≡ is_busy self.now }
     {
-        self.parts.actors.iter().any(Option::is_some)
+        is_busy(&self.parts)
     }
 
     /// Whether an operation runs that was called on the handle.
@@ -195,28 +172,28 @@ impl Core {
     pub fn free_slots(&self) -> u32
         ensures { result ≡ length self.now.heap.free }
     {
-        self.parts.heap.memory.free_slots()
+        self.parts.heap.free_slots()
     }
 
     /// How many slots are in use, those of limbo among them.
     pub fn used(&self) -> u32
         ensures { result ≡ length (in_use self.now.heap) }
     {
-        self.parts.heap.memory.used()
+        self.parts.heap.used()
     }
 
     /// How many slots are in limbo.
     pub fn limbo_len(&self) -> u32
         ensures { result ≡ length self.now.limbo }
     {
-        self.parts.heap.memory.limbo_len()
+        self.parts.heap.limbo_len()
     }
 
     /// The epoch.
     pub fn epoch(&self) -> u64
         ensures { result ≡ self.now.epoch }
     {
-        self.parts.heap.memory.epoch()
+        self.parts.heap.epoch()
     }
 
     /// How many steps were taken.

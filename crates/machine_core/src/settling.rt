@@ -2,19 +2,19 @@
 
 ghost use Rattle.std.specs.Prelude.{◌≡◌, ◌<◌, ◌^◌, []};
 ghost use Rattle.machine_model.specs.Counting.{settled};
-ghost use Rattle.plain_state.specs.Seen.{seen};
-ghost use Rattle.machine_core.specs.Ties.{IsTied};
+ghost use Rattle.machine_core.specs.Seen.{seen};
+ghost use Rattle.machine_core.specs.Keeping.{IsKept};
 
-use plain_state::Parts;
+use crate::parts::Parts;
 
 /// Ends a step. It looks at the slots that the step noted, and at no other.
 pub fn settle(parts: &mut Parts)
     requires steps { parts.old.steps < 2 ^ 63 }
-    requires tied { IsTied parts.old.heap.memory parts.old.roots.items parts.old.actors.items }
+    requires kept { IsKept parts.old }
     ensures settled { seen parts.new ≡ settled (seen parts.old) (seen parts.old) }
-    ensures tied { IsTied parts.new.heap.memory parts.new.roots.items parts.new.actors.items }
-    ensures noted { parts.new.heap.memory.noted ≡ [] }
+    ensures kept { IsKept parts.new }
+    ensures noted { parts.new.heap.noted ≡ [] }
 {
-    parts.heap.memory.settle();
+    parts.heap.settle();
     parts.steps += 1;
 }

@@ -1,20 +1,27 @@
 //! How a machine starts.
 
-ghost use Rattle.std.specs.Prelude.{◌≡◌, ◌≤◌, ◌↔◌, IsTrue, [], ◌∷◌, replicate, slice_set, None, Some, IfOk, IsOkUnless};
+ghost use Rattle.std.specs.Prelude.{◌≡◌, ◌≤◌, ◌↔◌, ℕ, IsTrue, [], ◌∷◌, replicate, None, Some, IfOk, OnOk, IsOkUnless};
+ghost use Rattle.slot_arena.specs.Arenas.{IsLive};
 ghost use Rattle.slot_arena.specs.Refs.{ref_to};
+ghost use Rattle.slot_arena.specs.Times.{times};
+ghost use Rattle.epochs.specs.Limbo.{limbo_after};
 ghost use Rattle.epochs.specs.Memories.{AreSizes};
-ghost use Rattle.machine_model.specs.States.{first_heap, first_state, handle_limit};
+ghost use Rattle.machine_model.specs.States.{first_heap, first_state};
 ghost use Rattle.machine_model.specs.Machine.{AreLimits};
-ghost use Rattle.plain_state.specs.Seen.{seen};
-ghost use Rattle.machine_core.specs.Ties.{IsTied};
+ghost use Rattle.rdcss_root.specs.Tables.{new_table, with_root_in};
+ghost use Rattle.machine_core.specs.Keeping.{IsKept};
+ghost use Rattle.machine_core.specs.Seen.{seen};
+ghost use Rattle.machine_core.specs.Starting.{AreIdle, IsIdle};
 
-use crate::handles::HANDLE_LIMIT;
+use crate::parts::{Actor, Journal, Parts};
 use arrayvec::ArrayVec;
-use ctrie_base::Refusal;
+use chronicle::{Chronicle, Commits};
+use ctrie_base::{HashKind, Refusal};
 use epochs::Heap;
 use history::Access;
-use machine_model::{Limits, Operation, Root, RootWord};
-use plain_state::{Parts, PlainHeap};
+use machine_model::{Limits, Root, RootWord};
+use rdcss_root::Roots;
+use running::Programs;
 use slot_arena::{Node, Ref};
 use std::alloc::{AllocError, Global};
 
@@ -37,6 +44,7 @@ fn first_memory(alloc: Global, slots: u32, actors: u8) -> Result<Heap, Refusal>
     ensures cursor { IfOk result (λ memory. memory.cursor ≡ 1) }
     ensures pins { IfOk result (λ memory. memory.pins ≡ replicate actors None) }
     ensures noted { IfOk result (λ memory. memory.noted ≡ []) }
+    ensures live { IfOk result (λ memory. IsLive memory.heap (ref_to 2 1)) }
     ensures only_memory { IsOkUnless result Refusal.Memory }
 {
     let mut heap = Heap::new(alloc, slots, actors)?;
@@ -54,26 +62,52 @@ fn first_memory(alloc: Global, slots: u32, actors: u8) -> Result<Heap, Refusal>
     Ok(heap)
 }
 
-/// The handles: only 0 is open, writable over the first root.
-fn first_roots(alloc: Global) -> Result<Vec<Option<Root>>, AllocError>
-    ensures { IfOk result (λ roots. roots.items ≡ slice_set (replicate handle_limit None) 0 (Some (record { access = Access.Writable; word = RootWord.Plain (ref_to 2 1) }))) }
+/// The handles: only 0 is open, writable over the first root, which was held before and is held still.
+fn first_table(alloc: Global, heap: &mut Heap, actors: u8) -> Result<Roots, AllocError>
+    requires outside { heap.old.outside ≡ ref_to 2 1 ∷ [] }
+    requires live { IsLive heap.old.heap (ref_to 2 1) }
+    requires limbo { limbo_after heap.old.heap heap.old.outside heap.old.epoch heap.old.limbo ≡ [] }
+    ensures table { IfOk result (λ table. table ≡ with_root_in (new_table actors) 0 (Some (record { access = Access.Writable; word = RootWord.Plain (ref_to 2 1) }))) }
+    ensures heap { heap.new.heap ≡ heap.old.heap }
+    ensures held { (r : ℕ) → OnOk result (times r heap.new.outside ≡ times r (ref_to 2 1 ∷ [])) }
+    ensures limbo { OnOk result (heap.new.limbo ≡ []) }
+    ensures epochs { OnOk result ((heap.new.epoch ≡ heap.old.epoch) × (heap.new.cursor ≡ heap.old.cursor) × (heap.new.pins ≡ heap.old.pins)) }
+    ensures noted { OnOk result (heap.new.noted ≡ []) }
 {
-    let mut roots = Vec::new(alloc);
-    roots.resize(HANDLE_LIMIT as usize, None)?;
-    roots[0] = Some(Root {
-        access: Access::Writable,
-        word: RootWord::Plain(Ref::new(2, 1)),
-    });
-    Ok(roots)
+    let mut table = Roots::new(alloc, actors)?;
+    let root = Ref::new(2, 1);
+    table.put(
+        heap,
+        0,
+        Some(Root {
+            access: Access::Writable,
+            word: RootWord::Plain(root),
+        }),
+    );
+    heap.release(root);
+    heap.settle();
+    Ok(table)
 }
 
-/// So many actors, none of which runs an operation.
-fn idle_actors(alloc: Global, actors: u8) -> Result<Vec<Option<Operation>>, AllocError>
-    ensures { IfOk result (λ idle. idle.items ≡ replicate actors None) }
+/// An actor who runs nothing.
+fn idle_actor(alloc: Global, hashes: HashKind) -> Result<Actor, Refusal>
+    ensures idle { IfOk result (IsIdle hashes) }
+    ensures only_memory { IsOkUnless result Refusal.Memory }
+{
+    Ok(Actor {
+        programs: Programs::new(alloc, hashes)?,
+        under_way: None,
+    })
+}
+
+/// So many of them.
+fn idle_actors(alloc: Global, hashes: HashKind, actors: u8) -> Result<Vec<Actor>, Refusal>
+    ensures idle { IfOk result (λ idle. AreIdle hashes actors idle.items) }
+    ensures only_memory { IsOkUnless result Refusal.Memory }
 {
     let mut idle = Vec::new(alloc);
     for _ in 0..actors {
-        idle.push(None)?;
+        idle.push(idle_actor(alloc, hashes)?)?;
     }
     Ok(idle)
 }
@@ -83,21 +117,27 @@ fn idle_actors(alloc: Global, actors: u8) -> Result<Vec<Option<Operation>>, Allo
 pub fn first_parts(alloc: Global, limits: Limits) -> Result<Parts, Refusal>
     requires { AreLimits limits }
     ensures first { IfOk result (λ parts. seen parts ≡ first_state limits) }
-    ensures tied { IfOk result (λ parts. IsTied parts.heap.memory parts.roots.items parts.actors.items) }
-    ensures noted { IfOk result (λ parts. parts.heap.memory.noted ≡ []) }
+    ensures kept { IfOk result (λ parts. IsKept parts) }
+    ensures noted { IfOk result (λ parts. parts.heap.noted ≡ []) }
     ensures only_memory { IsOkUnless result Refusal.Memory }
 {
+    let mut heap = first_memory(alloc, limits.slots, limits.actors)?;
+    let table = first_table(alloc, &mut heap, limits.actors)?;
+    let actors = idle_actors(alloc, limits.hash, limits.actors)?;
+    let chronicle = Chronicle::new(alloc)?;
     Ok(Parts {
         limits,
-        heap: PlainHeap::new(first_memory(alloc, limits.slots, limits.actors)?),
+        heap,
         generations: 1,
-        roots: first_roots(alloc)?,
-        actors: idle_actors(alloc, limits.actors)?,
-        commits: Vec::new(alloc),
-        closings: Vec::new(alloc),
-        places: Vec::new(alloc),
-        events: Vec::new(alloc),
+        table,
+        actors,
+        commits: Commits::new(alloc),
+        journal: Journal {
+            chronicle,
+            events: Vec::new(alloc),
+        },
         steps: 0,
+        begun: 0,
         alloc,
     })
 }

@@ -12,5 +12,5 @@ decreases-gather_each l = 2 * l.levels + 1
 
 abbrev pub invariant-gather_each-loop-entry : goal.invariant-gather_each-loop-entry
 invariant-gather_each-loop-entry l =
-    l.pairs.items ++ flat_map (pairs_below l.levels l.heap.memory.heap) (drop l.entry-index (entries_of (node_at l.heap.memory.heap l.fn.main)))
-    ≡ l.initial.pairs.items ++ flat_map (pairs_below l.levels l.heap.memory.heap) (entries_of (node_at l.heap.memory.heap l.fn.main))
+    l.pairs.items ++ flat_map (pairs_below l.levels l.heap.heap) (drop l.entry-index (entries_of (node_at l.heap.heap l.fn.main)))
+    ≡ l.initial.pairs.items ++ flat_map (pairs_below l.levels l.heap.heap) (entries_of (node_at l.heap.heap l.fn.main))

@@ -3,12 +3,12 @@ use Rattle.ctrie_base.specs.Hashes.{hash_of}
 use Rattle.slot_arena.specs.Heaps.{node_at, logical_main}
 use Rattle.machine_model.specs.Contents.{most_levels}
 use Rattle.proof_contents.specs.Nodes.Looking.{Absent, Has, Below}
-use Rattle.machine_core.proofs.Looking.{decides, nothing_left}
+use Rattle.machine_core.proofs.Levels.{decides, nothing_left}
 use Rattle.machine_core.proofs.finding.value_of.Goals as goal
 
 pub returns-in-Absent : goal.returns-in-Absent
 returns-in-Absent c =
-    let heap = c.args.parts.now.heap.memory.heap in
+    let heap = c.args.parts.now.heap.heap in
     sym (decides (node_at heap) (logical_main heap) (hash_of c.args.parts.now.limits.hash) c.args.key most_levels c.loop-depth.depth c.loop-depth.at
     c.key_hash-hash.result c.flag_of.result c.logical_main-main.result Absent (omega (arith, c.loop-depth-test.true)) c.key_hash-hash.ensures c.flag_of.ensures c.logical_main-main.ensures
     c.in-Absent.ensures)
@@ -16,7 +16,7 @@ returns-in-Absent c =
 
 pub returns-in-Has : goal.returns-in-Has
 returns-in-Has c =
-    let heap = c.args.parts.now.heap.memory.heap in
+    let heap = c.args.parts.now.heap.heap in
     sym (decides (node_at heap) (logical_main heap) (hash_of c.args.parts.now.limits.hash) c.args.key most_levels c.loop-depth.depth c.loop-depth.at
     c.key_hash-hash.result c.flag_of.result c.logical_main-main.result (Has c.in-Has.value) (omega (arith, c.loop-depth-test.true)) c.key_hash-hash.ensures c.flag_of.ensures
     c.logical_main-main.ensures c.in-Has.ensures)
@@ -24,7 +24,7 @@ returns-in-Has c =
 
 pub loop-depth-preserved : goal.loop-depth-preserved
 loop-depth-preserved c =
-    let heap = c.args.parts.now.heap.memory.heap in
+    let heap = c.args.parts.now.heap.heap in
     sym (decides (node_at heap) (logical_main heap) (hash_of c.args.parts.now.limits.hash) c.args.key most_levels c.loop-depth.depth c.loop-depth.at
     c.key_hash-hash.result c.flag_of.result c.logical_main-main.result (Below c.in-Below.below) (omega (arith, c.loop-depth-test.true)) c.key_hash-hash.ensures c.flag_of.ensures
     c.logical_main-main.ensures c.in-Below.ensures)
@@ -32,7 +32,7 @@ loop-depth-preserved c =
 
 pub returns : goal.returns
 returns c =
-    let heap = c.args.parts.now.heap.memory.heap in
+    let heap = c.args.parts.now.heap.heap in
     sym (nothing_left (node_at heap) (logical_main heap) (hash_of c.args.parts.now.limits.hash) c.args.key most_levels c.loop-depth.depth c.loop-depth.at
     (omega (arith, c.loop-depth-test.false)))
     ∙ c.loop-depth.invariant

@@ -1,0 +1,27 @@
+-- How an actor's operation begins and ends.
+use Rattle.std.specs.Prelude.{◌≡◌, ℕ, [], Option, Some, None}
+use Rattle.history.specs.declared.calls.Access.{Access}
+use Rattle.machine_model.specs.Operations.{first_line}
+use Rattle.epochs.specs.Memories.{Memory}
+use Rattle.trie_parts.specs.Holding.{KeepsOthers}
+use Rattle.running.specs.Places.{IsSound, call_for, generation_in, line_for}
+use Rattle.machine_core.specs.declared.parts.Actor.{Actor}
+use Rattle.machine_core.specs.declared.parts.UnderWay.{UnderWay}
+
+-- the actor begins this operation, on a handle of this kind
+pub record Begins (u : UnderWay) (access : Access) (before after : Actor) : Type 0 where
+  pub under_way : after.under_way ≡ Some u
+  pub line : (handle : ℕ) → line_for u.program after.programs ≡ first_line (call_for handle u.program)
+  pub attempt : after.programs.snap.attempt ≡ 0
+  pub generation : generation_in u.program after.programs ≡ None
+  pub hashes : after.programs.key.task.hashes ≡ before.programs.key.task.hashes
+  pub access_is : after.programs.key.work.swap.read.access ≡ access
+  pub private : after.programs.key.work.private ≡ before.programs.key.work.private
+  pub sound : IsSound u.program after.programs
+
+-- the actor's operation has ended, and nothing is left of it; what it held is released
+pub record Leaves (memory now : Memory) (before after : Actor) : Type 0 where
+  pub under_way : after.under_way ≡ None
+  pub hashes : after.programs.key.task.hashes ≡ before.programs.key.task.hashes
+  pub private : after.programs.key.work.private ≡ []
+  pub others : KeepsOthers before.programs.key.work.private memory [] now

@@ -1,0 +1,106 @@
+//! What calls name, and their programs.
+
+ghost use Rattle.std.specs.Prelude.{◌≡◌};
+ghost use Rattle.machine_model.specs.Calls.{handle_of, key_of, needs_writable, needs_read_only, opens_handle, is_close};
+ghost use Rattle.running.specs.Places.{call_for};
+
+use history::Call;
+use operate::KeyCall;
+use running::Program;
+use snapshot::SnapCall;
+
+/// The handle on which a call is made.
+pub fn handle_of(call: Call) -> u16
+    ensures { result ≡ handle_of call }
+{
+    match call {
+        Call::Get { handle, .. }
+        | Call::Put { handle, .. }
+        | Call::PutIfAbsent { handle, .. }
+        | Call::Replace { handle, .. }
+        | Call::ReplaceIf { handle, .. }
+        | Call::Remove { handle, .. }
+        | Call::RemoveIf { handle, .. }
+        | Call::Clear { handle }
+        | Call::Snapshot { handle }
+        | Call::Freeze { handle }
+        | Call::Close { handle }
+        | Call::Entries { handle }
+        | Call::Count { handle } => handle,
+    }
+}
+
+/// The call without the handle.
+pub fn program_of(call: Call) -> Program
+    ensures { call_for (handle_of call) result ≡ call }
+{
+    match call {
+        Call::Get { key, .. } => Program::Key(KeyCall::Get { key }),
+        Call::Put { key, value, .. } => Program::Key(KeyCall::Put { key, value }),
+        Call::PutIfAbsent { key, value, .. } => Program::Key(KeyCall::PutIfAbsent { key, value }),
+        Call::Replace { key, value, .. } => Program::Key(KeyCall::Replace { key, value }),
+        Call::ReplaceIf { key, old, new, .. } => Program::Key(KeyCall::ReplaceIf {
+            key,
+            expected: old,
+            value: new,
+        }),
+        Call::Remove { key, .. } => Program::Key(KeyCall::Remove { key }),
+        Call::RemoveIf { key, value, .. } => Program::Key(KeyCall::RemoveIf {
+            key,
+            expected: value,
+        }),
+        Call::Clear { .. } => Program::Snap(SnapCall::Clear),
+        Call::Snapshot { .. } => Program::Snap(SnapCall::Snapshot),
+        Call::Freeze { .. } => Program::Snap(SnapCall::Freeze),
+        Call::Close { .. } => Program::Close,
+        Call::Entries { .. } => Program::Entries,
+        Call::Count { .. } => Program::Count,
+    }
+}
+
+/// The key of a call on one key.
+pub fn key_of(call: Call) -> u64
+    ensures { result ≡ key_of call }
+{
+    match call {
+        Call::Get { key, .. }
+        | Call::Put { key, .. }
+        | Call::PutIfAbsent { key, .. }
+        | Call::Replace { key, .. }
+        | Call::ReplaceIf { key, .. }
+        | Call::Remove { key, .. }
+        | Call::RemoveIf { key, .. } => key,
+        _ => 0,
+    }
+}
+
+/// Whether the call needs a writable handle: it may change the map, or it copies it.
+pub fn needs_writable(call: Call) -> bool
+    ensures { result ≡ needs_writable call }
+{
+    !matches!(
+        call,
+        Call::Get { .. } | Call::Close { .. } | Call::Entries { .. } | Call::Count { .. }
+    )
+}
+
+/// Whether the call needs a read-only handle: it walks over all pairs.
+pub fn needs_read_only(call: Call) -> bool
+    ensures { result ≡ needs_read_only call }
+{
+    matches!(call, Call::Entries { .. } | Call::Count { .. })
+}
+
+/// Whether the call opens a handle.
+pub fn opens_handle(call: Call) -> bool
+    ensures { result ≡ opens_handle call }
+{
+    matches!(call, Call::Snapshot { .. } | Call::Freeze { .. })
+}
+
+/// Whether the call closes its handle.
+pub fn is_close(call: Call) -> bool
+    ensures { result ≡ is_close call }
+{
+    matches!(call, Call::Close { .. })
+}

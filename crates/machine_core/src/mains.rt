@@ -1,0 +1,57 @@
+//! Roots and logical main nodes, looked up without a condition.
+
+ghost use Rattle.std.specs.Prelude.{◌≡◌};
+ghost use Rattle.slot_arena.specs.Heaps.{logical_main, main_at};
+ghost use Rattle.ctrie_base.specs.Paths.{position_of};
+ghost use Rattle.nodes.specs.Levels.{has_flag};
+ghost use Rattle.machine_model.specs.States.{root_of};
+
+use epochs::Heap;
+use machine_model::RootWord;
+use slot_arena::{Node, Prev, Ref};
+use trie_parts::node_at;
+
+/// The root that stands while an offer does.
+pub fn root_of(word: RootWord) -> Ref
+    ensures { result ≡ root_of word }
+{
+    match word {
+        RootWord::Plain(root) => root,
+        RootWord::Offer(offer) => offer.root,
+    }
+}
+
+/// The main word of an indirection.
+fn main_at(heap: &Heap, indirection: Ref) -> Ref
+    ensures { result ≡ main_at heap.now.heap indirection }
+{
+    match node_at(heap, indirection) {
+        Some(Node::Indirection { main, .. }) => *main,
+        _ => Ref::default(),
+    }
+}
+
+/// The logical main node of an indirection: the one before the main node while that is pending or failed.
+pub fn logical_main(heap: &Heap, indirection: Ref) -> Ref
+    ensures { result ≡ logical_main heap.now.heap indirection }
+{
+    let main = main_at(heap, indirection);
+    match heap.stored_prev(main) {
+        Prev::None => main,
+        Prev::Pending(previous) | Prev::Failed(previous) => previous,
+    }
+}
+
+/// Whether the bitmap has the flag.
+pub fn has_flag(bitmap: u32, flag: u32) -> bool
+    ensures { result ≡ has_flag bitmap flag }
+{
+    bitmap & flag != 0
+}
+
+/// The position of a flag's entry in a branch: how many lower flags its bitmap has.
+pub fn position_of(flag: u32, bitmap: u32) -> usize
+    ensures { result ≡ position_of flag bitmap }
+{
+    (bitmap & flag.saturating_sub(1)).count_ones() as usize
+}
