@@ -1,22 +1,22 @@
 //! CLEAN: below an indirection tombs give way to their singles.
 
-ghost use Rattle.std.specs.Prelude.{◌≡◌, [], ◌∷◌, ◌++◌, List, None, IfOk, IfErr, OnOk, OnErr};
+ghost use Rattle.std.specs.Prelude.{◌≡◌, [], ◌∷◌, ◌++◌, ℕ, List, Option, None, is_some, IfOk, IfErr, OnOk, OnErr};
 ghost use Rattle.ctrie_base.specs.declared.hashes.HashKind.{HashKind};
 ghost use Rattle.ctrie_base.specs.declared.hashes.HashKind.TheVariants.{Low};
 ghost use Rattle.slot_arena.specs.Heaps.{node_at};
 ghost use Rattle.slot_arena.specs.declared.refs.Ref.{Ref as ARef};
-ghost use Rattle.machine_model.specs.Cleaning.{clean_next, clean_after_tomb, leaves_single, cleaned};
-ghost use Rattle.machine_model.specs.Operations.{line_action};
-ghost use Rattle.machine_model.specs.Reading.{reading};
-ghost use Rattle.machine_model.specs.States.{State};
-ghost use Rattle.machine_model.specs.declared.lines.Line.TheVariants as line;
-ghost use Rattle.machine_model.specs.declared.lines.Purpose.TheVariants as purpose;
-ghost use Rattle.machine_model.specs.declared.operations.Operation.{Operation};
-ghost use Rattle.machine_model.specs.declared.repairs.CleanLine.TheVariants as clean;
-ghost use Rattle.gcas.specs.Reads.{read_of, CanReadOn, IsAskingRoot};
-ghost use Rattle.gcas.specs.Swaps.{swap_of, CanSwapOn};
-ghost use Rattle.gcas.specs.declared.read.ReadAt.{ReadAt};
-ghost use Rattle.gcas.specs.declared.swap.Swap.{Swap as ASwap};
+ghost use Rattle.contract.specs.Beneath.machine_model.specs.Cleaning.{clean_next, clean_after_tomb, leaves_single, cleaned};
+ghost use Rattle.contract.specs.Beneath.machine_model.specs.Operations.{kind_of, line_action, read_of as reading_of};
+ghost use Rattle.contract.specs.Beneath.machine_model.specs.Reading.{reading};
+ghost use Rattle.contract.specs.Beneath.machine_model.specs.States.{State};
+ghost use Rattle.contract.specs.Beneath.machine_model.specs.declared.lines.Line.TheVariants as line;
+ghost use Rattle.contract.specs.Beneath.machine_model.specs.declared.lines.Purpose.TheVariants as purpose;
+ghost use Rattle.contract.specs.Beneath.machine_model.specs.declared.operations.Operation.{Operation};
+ghost use Rattle.contract.specs.Beneath.machine_model.specs.declared.repairs.CleanLine.TheVariants as clean;
+ghost use Rattle.contract.specs.Beneath.gcas.specs.Reads.{read_of, CanReadOn, IsAskingRoot};
+ghost use Rattle.contract.specs.Beneath.gcas.specs.Swaps.{swap_of, CanSwapOn};
+ghost use Rattle.contract.specs.Beneath.gcas.specs.declared.read.ReadAt.{ReadAt};
+ghost use Rattle.contract.specs.Beneath.gcas.specs.declared.swap.Swap.{Swap as ASwap};
 ghost use Rattle.trie_parts.specs.Here.{at_heap, no_state};
 ghost use Rattle.trie_parts.specs.Holding.{Acts, AreHeld};
 ghost use Rattle.trie_parts.specs.Steps.{StepsOn};
@@ -27,13 +27,9 @@ ghost use Rattle.contract.specs.Cleaning.{clean_line, line_behind, CanClean, Can
 use crate::entries::Entries;
 use ctrie_base::{Kind, Refusal};
 use epochs::Heap;
-use gcas::Next;
 use slot_arena::{Node, Ref};
 use std::alloc::Global;
-use trie_parts::{
-    Task, Work, bitmap_at, contracted, current, entries_at, entry_at, is_below_root, is_single_at,
-    node_at,
-};
+use trie_parts::{Next, Swap, Task, Work, bitmap_at, contracted, current, entries_at, entry_at, is_below_root, is_single_at, node_at};
 
 /// Where a cleaning stands.
 #[derive(Clone, Copy)]
@@ -72,7 +68,7 @@ pub struct Clean {
     main: Ref,
     /// Its new entries so far.
     done: Entries,
-    pub place: CleanAt,
+    place: CleanAt,
 }
 
 impl Clean {
@@ -94,6 +90,29 @@ impl Clean {
     {
         self.place = CleanAt::Read;
         work.swap.read.begin(indirection);
+    }
+
+    /// Whether its next step is a READ's, where this is the SWAP of what the operation has in hand.
+    pub fn is_reading(&self, swap: &Swap) -> bool
+        ensures { (path : List ARef) (told : Option ℕ) → result ≡ is_some (reading_of (clean_line path swap.now told self.now)) }
+    {
+        match &self.place {
+            CleanAt::Read | CleanAt::Child => true,
+            CleanAt::Main | CleanAt::Entry | CleanAt::Tomb { .. } | CleanAt::Contracted => false,
+            CleanAt::Swap => swap.is_reading(),
+        }
+    }
+
+    /// The kind of its next step, where that SWAP was told this of the root's generation.
+    pub fn next_kind(&self, swap: &Swap, root_seen: Option<u64>) -> Kind
+        ensures { (state : State) (operation : Operation) (path : List ARef) → result ≡ kind_of (line_action state operation (clean_line path swap.now root_seen self.now)) }
+    {
+        match &self.place {
+            CleanAt::Read | CleanAt::Child => swap.read.next_kind(root_seen),
+            CleanAt::Main | CleanAt::Entry | CleanAt::Tomb { .. } => Kind::Look,
+            CleanAt::Contracted => Kind::Make,
+            CleanAt::Swap => swap.next_kind(root_seen),
+        }
     }
 
     /// Takes its next step, below the end of this path, unless it has to be told the generation of the root

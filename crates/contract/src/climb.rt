@@ -1,28 +1,28 @@
 //! CLIMB: after a removal that left a tomb, the tomb gives way to its single in the parent.
 
-ghost use Rattle.std.specs.Prelude.{◌≡◌, ℕ, List, Option, None, IfOk, IfErr, OnOk, OnErr};
-ghost use Rattle.history.specs.declared.calls.Access.TheVariants.{Writable};
-ghost use Rattle.history.specs.declared.calls.Access.{Access};
+ghost use Rattle.std.specs.Prelude.{◌≡◌, ℕ, List, Option, None, is_some, IfOk, IfErr, OnOk, OnErr};
+ghost use Rattle.contract.specs.Beneath.history.specs.declared.calls.Access.TheVariants.{Writable};
+ghost use Rattle.contract.specs.Beneath.history.specs.declared.calls.Access.{Access};
 ghost use Rattle.slot_arena.specs.declared.refs.Ref.{Ref as ARef};
 ghost use Rattle.slot_arena.specs.Heaps.{node_at, bitmap_of, entries_of};
 ghost use Rattle.ctrie_base.specs.Hashes.{hash_of};
 ghost use Rattle.ctrie_base.specs.Paths.{position_of};
 ghost use Rattle.nodes.specs.Levels.{flag_of};
-ghost use Rattle.machine_model.specs.Calls.{key_of};
-ghost use Rattle.machine_model.specs.Climbing.{climbed_node, holds_it};
-ghost use Rattle.machine_model.specs.Operations.{climbed_on, line_action, read_of as reading_of, swapping_read};
-ghost use Rattle.machine_model.specs.Paths.{above, current, depth_of};
-ghost use Rattle.machine_model.specs.declared.actions.Action.TheVariants as act;
-ghost use Rattle.machine_model.specs.Reading.{reading};
-ghost use Rattle.machine_model.specs.States.{State};
-ghost use Rattle.machine_model.specs.declared.lines.Line.TheVariants as line;
-ghost use Rattle.machine_model.specs.declared.lines.Purpose.TheVariants as purpose;
-ghost use Rattle.machine_model.specs.declared.operations.Operation.{Operation};
-ghost use Rattle.machine_model.specs.declared.repairs.ClimbLine.TheVariants as climb;
-ghost use Rattle.gcas.specs.Reads.{begun, read_of, CanReadOn, IsAskingRoot};
-ghost use Rattle.gcas.specs.Swaps.{swap_of, CanSwapOn};
-ghost use Rattle.gcas.specs.declared.read.ReadAt.{ReadAt};
-ghost use Rattle.gcas.specs.declared.swap.Swap.{Swap as ASwap};
+ghost use Rattle.contract.specs.Beneath.machine_model.specs.Calls.{key_of};
+ghost use Rattle.contract.specs.Beneath.machine_model.specs.Climbing.{climbed_node, holds_it};
+ghost use Rattle.contract.specs.Beneath.machine_model.specs.Operations.{climbed_on, kind_of, line_action, read_of as reading_of, swapping_read};
+ghost use Rattle.contract.specs.Beneath.machine_model.specs.Paths.{above, current, depth_of};
+ghost use Rattle.contract.specs.Beneath.machine_model.specs.declared.actions.Action.TheVariants as act;
+ghost use Rattle.contract.specs.Beneath.machine_model.specs.Reading.{reading};
+ghost use Rattle.contract.specs.Beneath.machine_model.specs.States.{State};
+ghost use Rattle.contract.specs.Beneath.machine_model.specs.declared.lines.Line.TheVariants as line;
+ghost use Rattle.contract.specs.Beneath.machine_model.specs.declared.lines.Purpose.TheVariants as purpose;
+ghost use Rattle.contract.specs.Beneath.machine_model.specs.declared.operations.Operation.{Operation};
+ghost use Rattle.contract.specs.Beneath.machine_model.specs.declared.repairs.ClimbLine.TheVariants as climb;
+ghost use Rattle.contract.specs.Beneath.gcas.specs.Reads.{begun, read_of, CanReadOn, IsAskingRoot};
+ghost use Rattle.contract.specs.Beneath.gcas.specs.Swaps.{swap_of, CanSwapOn};
+ghost use Rattle.contract.specs.Beneath.gcas.specs.declared.read.ReadAt.{ReadAt};
+ghost use Rattle.contract.specs.Beneath.gcas.specs.declared.swap.Swap.{Swap as ASwap};
 ghost use Rattle.trie_parts.specs.Here.{at_heap, no_state, no_operation};
 ghost use Rattle.trie_parts.specs.Holding.{Acts, AreHeld};
 ghost use Rattle.trie_parts.specs.Steps.{IsLast, StepsOn};
@@ -32,12 +32,9 @@ ghost use Rattle.contract.specs.Climbing.{climb_of, climb_line, line_behind, Can
 
 use ctrie_base::{Kind, Refusal};
 use epochs::Heap;
-use gcas::Next;
 use nodes::{has_flag, position_of};
 use slot_arena::{Node, Ref};
-use trie_parts::{
-    Task, Work, above, bitmap_at, contracted_at, current, entry_at, is_below_root, node_at,
-};
+use trie_parts::{Next, Swap, Task, Work, above, bitmap_at, contracted_at, current, entry_at, is_below_root, node_at};
 
 /// Where a climb stands.
 #[derive(Clone, Copy)]
@@ -88,6 +85,29 @@ impl Climb {
             single,
             former,
             place: ClimbAt::Read,
+        }
+    }
+
+    /// Whether its next step is a READ's, where this is the SWAP of what the operation has in hand.
+    pub fn is_reading(&self, swap: &Swap) -> bool
+        ensures { (path : List ARef) (told : Option ℕ) → result ≡ is_some (reading_of (climb_line path swap.now told self.now)) }
+    {
+        match &self.place {
+            ClimbAt::Read => true,
+            ClimbAt::Main { .. } | ClimbAt::Contracted { .. } => false,
+            ClimbAt::Swap => swap.is_reading(),
+        }
+    }
+
+    /// The kind of its next step, where that SWAP was told this of the root's generation.
+    pub fn next_kind(&self, swap: &Swap, root_seen: Option<u64>) -> Kind
+        ensures { (state : State) (operation : Operation) (path : List ARef) → result ≡ kind_of (line_action state operation (climb_line path swap.now root_seen self.now)) }
+    {
+        match &self.place {
+            ClimbAt::Read => swap.read.next_kind(root_seen),
+            ClimbAt::Main { .. } => Kind::Look,
+            ClimbAt::Contracted { .. } => Kind::Make,
+            ClimbAt::Swap => swap.next_kind(root_seen),
         }
     }
 

@@ -1,18 +1,18 @@
 //! RENEW: a branch gets indirections of the root's generation.
 
-ghost use Rattle.std.specs.Prelude.{◌≡◌, [], ◌∷◌, ◌++◌, List, length, None, IfOk, IfErr, OnOk, OnErr};
+ghost use Rattle.std.specs.Prelude.{◌≡◌, [], ◌∷◌, ◌++◌, ℕ, List, length, Option, None, is_some, IfOk, IfErr, OnOk, OnErr};
 ghost use Rattle.ctrie_base.specs.declared.hashes.HashKind.{HashKind};
 ghost use Rattle.slot_arena.specs.declared.refs.Ref.{Ref as ARef};
-ghost use Rattle.machine_model.specs.Operations.{line_action, read_of as reading_of, swapping_read};
-ghost use Rattle.machine_model.specs.Renewing.{renew_next};
-ghost use Rattle.machine_model.specs.States.{State};
-ghost use Rattle.machine_model.specs.declared.lines.Line.TheVariants as line;
-ghost use Rattle.machine_model.specs.declared.lines.Purpose.TheVariants as purpose;
-ghost use Rattle.machine_model.specs.declared.operations.Operation.{Operation};
-ghost use Rattle.machine_model.specs.declared.repairs.RenewLine.TheVariants as renew;
-ghost use Rattle.gcas.specs.Reads.{read_of, CanReadOn, IsAskingRoot};
-ghost use Rattle.gcas.specs.Swaps.{swap_of, CanSwapOn};
-ghost use Rattle.gcas.specs.declared.swap.Swap.{Swap as ASwap};
+ghost use Rattle.contract.specs.Beneath.machine_model.specs.Operations.{kind_of, line_action, read_of as reading_of, swapping_read};
+ghost use Rattle.contract.specs.Beneath.machine_model.specs.Renewing.{renew_next};
+ghost use Rattle.contract.specs.Beneath.machine_model.specs.States.{State};
+ghost use Rattle.contract.specs.Beneath.machine_model.specs.declared.lines.Line.TheVariants as line;
+ghost use Rattle.contract.specs.Beneath.machine_model.specs.declared.lines.Purpose.TheVariants as purpose;
+ghost use Rattle.contract.specs.Beneath.machine_model.specs.declared.operations.Operation.{Operation};
+ghost use Rattle.contract.specs.Beneath.machine_model.specs.declared.repairs.RenewLine.TheVariants as renew;
+ghost use Rattle.contract.specs.Beneath.gcas.specs.Reads.{read_of, CanReadOn, IsAskingRoot};
+ghost use Rattle.contract.specs.Beneath.gcas.specs.Swaps.{swap_of, CanSwapOn};
+ghost use Rattle.contract.specs.Beneath.gcas.specs.declared.swap.Swap.{Swap as ASwap};
 ghost use Rattle.trie_parts.specs.Here.{at_heap};
 ghost use Rattle.trie_parts.specs.Holding.{Acts, AreHeld};
 ghost use Rattle.trie_parts.specs.Steps.{IsLast, StepsOn};
@@ -23,10 +23,9 @@ ghost use Rattle.contract.specs.Renewing.{renew_line, next_of, line_behind, CanR
 use crate::entries::Entries;
 use ctrie_base::{Kind, Refusal};
 use epochs::Heap;
-use gcas::Next;
 use slot_arena::{Node, Ref};
 use std::alloc::Global;
-use trie_parts::{Task, Work, bitmap_at, current, entry_at, entry_count, node_at, renewed};
+use trie_parts::{Next, Swap, Task, Work, bitmap_at, current, entry_at, entry_count, node_at, renewed};
 
 /// Where a renewing stands.
 #[derive(Clone, Copy)]
@@ -63,7 +62,7 @@ pub struct Renew {
     main: Ref,
     /// Its new entries so far.
     done: Entries,
-    pub place: RenewAt,
+    place: RenewAt,
 }
 
 impl Renew {
@@ -85,6 +84,29 @@ impl Renew {
         self.main = main;
         self.done.clear();
         self.place = next(0, entry_count(heap, main));
+    }
+
+    /// Whether its next step is a READ's, where this is the SWAP of what the operation has in hand.
+    pub fn is_reading(&self, swap: &Swap) -> bool
+        ensures { (path : List ARef) (told : Option ℕ) → result ≡ is_some (reading_of (renew_line path swap.now told self.now)) }
+    {
+        match &self.place {
+            RenewAt::Read => true,
+            RenewAt::Entry | RenewAt::Link { .. } | RenewAt::Branch => false,
+            RenewAt::Swap => swap.is_reading(),
+        }
+    }
+
+    /// The kind of its next step, where that SWAP was told this of the root's generation.
+    pub fn next_kind(&self, swap: &Swap, root_seen: Option<u64>) -> Kind
+        ensures { (state : State) (operation : Operation) (path : List ARef) → result ≡ kind_of (line_action state operation (renew_line path swap.now root_seen self.now)) }
+    {
+        match &self.place {
+            RenewAt::Entry => Kind::Look,
+            RenewAt::Read => swap.read.next_kind(root_seen),
+            RenewAt::Link { .. } | RenewAt::Branch => Kind::Make,
+            RenewAt::Swap => swap.next_kind(root_seen),
+        }
     }
 
     /// Takes its next step, for the branch at the end of this path, unless it has to be told the generation of

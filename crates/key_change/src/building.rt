@@ -4,24 +4,23 @@ ghost use Rattle.std.specs.Prelude.{◌≡◌, ◌+◌, List};
 ghost use Rattle.ctrie_base.specs.Hashes.{hash_of};
 ghost use Rattle.slot_arena.specs.Heaps.{node_at, entry_at};
 ghost use Rattle.nodes.specs.Builders.{pair};
-ghost use Rattle.machine_model.specs.Building.{key_in, after_single, after_link};
-ghost use Rattle.machine_model.specs.Beneath.history.specs.declared.calls.Access.{Access};
-ghost use Rattle.machine_model.specs.declared.building.BuildLine.TheVariants as build;
-ghost use Rattle.machine_model.specs.declared.lines.Line.TheVariants as line;
-ghost use Rattle.machine_model.specs.declared.operations.Operation.{Operation};
-ghost use Rattle.machine_model.specs.Paths.{depth_of};
-ghost use Rattle.machine_model.specs.States.{State};
+ghost use Rattle.key_change.specs.Beneath.machine_model.specs.Building.{key_in, after_single, after_link};
+ghost use Rattle.key_change.specs.Beneath.history.specs.declared.calls.Access.{Access};
+ghost use Rattle.key_change.specs.Beneath.machine_model.specs.declared.building.BuildLine.TheVariants as build;
+ghost use Rattle.key_change.specs.Beneath.machine_model.specs.declared.lines.Line.TheVariants as line;
+ghost use Rattle.key_change.specs.Beneath.machine_model.specs.declared.operations.Operation.{Operation};
+ghost use Rattle.key_change.specs.Beneath.machine_model.specs.Paths.{depth_of};
+ghost use Rattle.key_change.specs.Beneath.machine_model.specs.States.{State};
 ghost use Rattle.slot_arena.specs.declared.refs.Ref.{Ref as ARef};
 ghost use Rattle.trie_parts.specs.Here.{at_heap};
-ghost use Rattle.machine_model.specs.Calls.{key_of};
+ghost use Rattle.key_change.specs.Beneath.machine_model.specs.Calls.{key_of};
 ghost use Rattle.trie_parts.specs.Tasks.{call_of, for_task};
 ghost use Rattle.key_change.specs.Built.{build_line, built, depth_for};
 
 use epochs::Heap;
-use machine_model::{Change as NodeChange, Site};
 use nodes::list_depth;
 use slot_arena::{Node, Ref};
-use trie_parts::{Task, changed_at, entry_at, key_at, pair, parting, rung};
+use trie_parts::{Change as NodeChange, Site, Task, changed_at, entry_at, key_at, pair, parting, rung};
 
 /// A step that makes a node for a change of one key. `former` is the key's value before the change.
 #[derive(Clone, Copy)]

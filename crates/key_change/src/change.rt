@@ -1,21 +1,21 @@
 //! A try, step by step.
 
-ghost use Rattle.std.specs.Prelude.{◌≡◌, ◌+◌, ◌<◌, ◌^◌, List, None, IfOk, IfErr, OnOk, OnErr};
-ghost use Rattle.machine_model.specs.declared.operations.Operation.{Operation};
-ghost use Rattle.machine_model.specs.declared.lines.Line.TheVariants as line;
-ghost use Rattle.machine_model.specs.Building.{build_after_made};
-ghost use Rattle.machine_model.specs.Operations.{line_action, read_of, swapping_read};
-ghost use Rattle.machine_model.specs.States.{State};
-ghost use Rattle.machine_model.specs.Swapping.{swap_action};
-ghost use Rattle.machine_model.specs.declared.actions.Action.TheVariants as act;
-ghost use Rattle.machine_model.specs.declared.finding.KeyLine.TheVariants as key;
-ghost use Rattle.machine_model.specs.declared.lines.Purpose.TheVariants as purpose;
+ghost use Rattle.std.specs.Prelude.{◌≡◌, ◌+◌, ◌<◌, ◌^◌, ℕ, List, Option, None, is_some, IfOk, IfErr, OnOk, OnErr};
+ghost use Rattle.key_change.specs.Beneath.machine_model.specs.declared.operations.Operation.{Operation};
+ghost use Rattle.key_change.specs.Beneath.machine_model.specs.declared.lines.Line.TheVariants as line;
+ghost use Rattle.key_change.specs.Beneath.machine_model.specs.Building.{build_after_made};
+ghost use Rattle.key_change.specs.Beneath.machine_model.specs.Operations.{kind_of, line_action, read_of, swapping_read};
+ghost use Rattle.key_change.specs.Beneath.machine_model.specs.States.{State};
+ghost use Rattle.key_change.specs.Beneath.machine_model.specs.Swapping.{swap_action};
+ghost use Rattle.key_change.specs.Beneath.machine_model.specs.declared.actions.Action.TheVariants as act;
+ghost use Rattle.key_change.specs.Beneath.machine_model.specs.declared.finding.KeyLine.TheVariants as key;
+ghost use Rattle.key_change.specs.Beneath.machine_model.specs.declared.lines.Purpose.TheVariants as purpose;
 ghost use Rattle.ctrie_base.specs.declared.hashes.HashKind.{HashKind};
 ghost use Rattle.slot_arena.specs.declared.refs.Ref.{Ref as ARef};
-ghost use Rattle.gcas.specs.declared.read.ReadAt.{ReadAt};
-ghost use Rattle.gcas.specs.declared.swap.Swap.{Swap as ASwap};
-ghost use Rattle.gcas.specs.Reads.{IsAskingRoot};
-ghost use Rattle.gcas.specs.Swaps.{swap_of, CanSwapOn};
+ghost use Rattle.key_change.specs.Beneath.gcas.specs.declared.read.ReadAt.{ReadAt};
+ghost use Rattle.key_change.specs.Beneath.gcas.specs.declared.swap.Swap.{Swap as ASwap};
+ghost use Rattle.key_change.specs.Beneath.gcas.specs.Reads.{IsAskingRoot};
+ghost use Rattle.key_change.specs.Beneath.gcas.specs.Swaps.{swap_of, CanSwapOn};
 ghost use Rattle.trie_parts.specs.declared.calls.Task.{Task as ATask};
 ghost use Rattle.trie_parts.specs.Here.{at_heap};
 ghost use Rattle.trie_parts.specs.Holding.{Acts, AreHeld};
@@ -28,10 +28,8 @@ ghost use Rattle.key_change.specs.Steps.{ChangesOn, CanChange, CanChangeAt};
 use crate::building::{Building, after_link, after_single, built, depth_ahead};
 use ctrie_base::{Kind, Refusal};
 use epochs::Heap;
-use gcas::Next;
-use machine_model::Change as NodeChange;
 use slot_arena::{Node, Ref};
-use trie_parts::{Task, Work, current, entry_at, node_at};
+use trie_parts::{Change as NodeChange, Next, Swap, Task, Work, current, entry_at, node_at};
 
 /// Where a try stands. `former` is the key's value before the change.
 #[derive(Clone, Copy)]
@@ -66,6 +64,27 @@ pub struct Change {
 }
 
 impl Change {
+    /// Whether its next step is the READ's, inside of this SWAP.
+    pub fn is_reading(&self, swap: &Swap) -> bool
+        ensures { (path : List ARef) (told : Option ℕ) → result ≡ is_some (read_of (line_of path swap.now told self.now)) }
+    {
+        match &self.at {
+            ChangeAt::Sibling { .. } | ChangeAt::Build(_) => false,
+            ChangeAt::Swap { .. } => swap.is_reading(),
+        }
+    }
+
+    /// The kind of its next step, where its SWAP is this one and was told this of the root's generation.
+    pub fn next_kind(&self, swap: &Swap, root_seen: Option<u64>) -> Kind
+        ensures { (state : State) (operation : Operation) (path : List ARef) → result ≡ kind_of (line_action state operation (line_of path swap.now root_seen self.now)) }
+    {
+        match &self.at {
+            ChangeAt::Sibling { .. } => Kind::Look,
+            ChangeAt::Build(_) => Kind::Make,
+            ChangeAt::Swap { .. } => swap.next_kind(root_seen),
+        }
+    }
+
     /// Takes the next step of the try, for a call that has come to the end of this path, unless it has to be
     /// told the generation of the root first. After an error, which is want of memory, nothing has changed.
     pub fn step(

@@ -2,24 +2,24 @@
 //! of the path.
 
 ghost use Rattle.std.specs.Prelude.{◌≡◌, ℕ, ◌==◌, ◌&&◌, nat_le, List, [], Some, if◌then◌else◌};
-ghost use Rattle.ctrie_base.specs.Hashes.{hash_of};
-ghost use Rattle.ctrie_base.specs.Paths.{position_of};
-ghost use Rattle.ctrie_base.specs.declared.hashes.HashKind.{HashKind};
+ghost use Rattle.key_finding.specs.Beneath.ctrie_base.specs.Hashes.{hash_of};
+ghost use Rattle.key_finding.specs.Beneath.ctrie_base.specs.Paths.{position_of};
+ghost use Rattle.key_finding.specs.Beneath.ctrie_base.specs.declared.hashes.HashKind.{HashKind};
 ghost use Rattle.slot_arena.specs.Heaps.{node_at, entry_at};
 ghost use Rattle.slot_arena.specs.declared.refs.Ref.{Ref as ARef};
 ghost use Rattle.nodes.specs.Levels.{has_flag, flag_of};
 ghost use Rattle.history.specs.declared.replies.Reply.TheVariants as reply;
-ghost use Rattle.machine_model.specs.Calls.{inserts, key_of, when_found};
-ghost use Rattle.machine_model.specs.Finding.{found_so, removing, after_tomb, going_down, key_after_main, is_passable, key_after_entry, after_listed};
-ghost use Rattle.machine_model.specs.Paths.{is_below_root, depth_of};
-ghost use Rattle.machine_model.specs.Renewing.{renew_next};
-ghost use Rattle.machine_model.specs.States.{State};
-ghost use Rattle.machine_model.specs.declared.building.BuildLine.TheVariants as build;
-ghost use Rattle.machine_model.specs.declared.building.Change.TheVariants as becomes;
-ghost use Rattle.machine_model.specs.declared.finding.KeyLine.TheVariants as key;
-ghost use Rattle.machine_model.specs.declared.lines.Line.TheVariants as line;
-ghost use Rattle.machine_model.specs.declared.operations.Operation.{Operation};
-ghost use Rattle.gcas.specs.declared.swap.Swap.{Swap};
+ghost use Rattle.key_finding.specs.Beneath.machine_model.specs.Calls.{inserts, key_of, when_found};
+ghost use Rattle.key_finding.specs.Beneath.machine_model.specs.Finding.{found_so, removing, after_tomb, going_down, key_after_main, is_passable, key_after_entry, after_listed};
+ghost use Rattle.key_finding.specs.Beneath.machine_model.specs.Paths.{is_below_root, depth_of};
+ghost use Rattle.key_finding.specs.Beneath.machine_model.specs.Renewing.{renew_next};
+ghost use Rattle.key_finding.specs.Beneath.machine_model.specs.States.{State};
+ghost use Rattle.key_finding.specs.Beneath.machine_model.specs.declared.building.BuildLine.TheVariants as build;
+ghost use Rattle.key_finding.specs.Beneath.machine_model.specs.declared.building.Change.TheVariants as becomes;
+ghost use Rattle.key_finding.specs.Beneath.machine_model.specs.declared.finding.KeyLine.TheVariants as key;
+ghost use Rattle.key_finding.specs.Beneath.machine_model.specs.declared.lines.Line.TheVariants as line;
+ghost use Rattle.key_finding.specs.Beneath.machine_model.specs.declared.operations.Operation.{Operation};
+ghost use Rattle.key_finding.specs.Beneath.gcas.specs.declared.swap.Swap.{Swap};
 ghost use Rattle.trie_parts.specs.Here.{at_heap};
 ghost use Rattle.trie_parts.specs.Tasks.{call_of, for_task};
 ghost use Rattle.key_finding.specs.Lines.{line_found, absent_for};
@@ -29,10 +29,9 @@ use crate::found::Found;
 use epochs::Heap;
 use history::Access;
 use key_change::{Building, ChangeAt};
-use machine_model::{Change, Site};
 use nodes::{MOST_ENTRIES, has_flag, position_of};
 use slot_arena::{Node, Ref};
-use trie_parts::{KeyCall, Task, entry_at, entry_count, is_below_root, node_at};
+use trie_parts::{Change, KeyCall, Site, Task, entry_at, entry_count, is_below_root, node_at};
 
 /// After the look at the main node: the entry of the key's flag, or the first single of a list.
 pub fn after_main(heap: &Heap, task: Task, access: Access, path: &[Ref], main: Ref) -> Found

@@ -4,28 +4,28 @@ use Rattle.ctrie_base.specs.declared.kinds.Kind.{Kind}
 use Rattle.slot_arena.specs.declared.refs.Ref.{Ref}
 use Rattle.slot_arena.specs.Heaps.{Heap}
 use Rattle.epochs.specs.Memories.{Memory}
-use Rattle.machine_model.specs.declared.lines.Line.{Line}
-use Rattle.machine_model.specs.declared.lines.Line.TheVariants as line
-use Rattle.machine_model.specs.declared.operations.Operation.{Operation}
-use Rattle.machine_model.specs.declared.roots.Root.{Root}
-use Rattle.machine_model.specs.declared.roots.RootWord.{RootWord}
-use Rattle.machine_model.specs.Calls.{handle_of}
-use Rattle.machine_model.specs.Operations.{generation_from, line_action}
-use Rattle.machine_model.specs.Paths.{above}
-use Rattle.machine_model.specs.States.{State, word_at}
-use Rattle.gcas.specs.declared.next.Next.{Next}
-use Rattle.gcas.specs.declared.next.Next.TheVariants.{More, AskRoot, Done}
-use Rattle.gcas.specs.declared.read.ReadAt.{ReadAt}
-use Rattle.gcas.specs.Reads.{CanReadOn, committed_so}
+use Rattle.operate.specs.Beneath.machine_model.specs.declared.lines.Line.{Line}
+use Rattle.operate.specs.Beneath.machine_model.specs.declared.lines.Line.TheVariants as line
+use Rattle.operate.specs.Beneath.machine_model.specs.declared.operations.Operation.{Operation}
+use Rattle.operate.specs.Beneath.machine_model.specs.declared.roots.Root.{Root}
+use Rattle.operate.specs.Beneath.machine_model.specs.declared.roots.RootWord.{RootWord}
+use Rattle.operate.specs.Beneath.machine_model.specs.Calls.{handle_of}
+use Rattle.operate.specs.Beneath.machine_model.specs.Operations.{generation_from, line_action}
+use Rattle.operate.specs.Beneath.machine_model.specs.Paths.{above}
+use Rattle.operate.specs.Beneath.machine_model.specs.States.{State, word_at}
+use Rattle.operate.specs.Beneath.gcas.specs.declared.next.Next.{Next}
+use Rattle.operate.specs.Beneath.gcas.specs.declared.next.Next.TheVariants.{More, AskRoot, Done}
+use Rattle.operate.specs.Beneath.gcas.specs.declared.read.ReadAt.{ReadAt}
+use Rattle.operate.specs.Beneath.gcas.specs.Reads.{CanReadOn, committed_so}
 use Rattle.trie_parts.specs.declared.calls.Task.{Task}
 use Rattle.trie_parts.specs.Here.{at_heap}
 use Rattle.trie_parts.specs.Holding.{Acts}
 use Rattle.trie_parts.specs.Steps.{StepsOn}
 use Rattle.trie_parts.specs.Tasks.{for_task}
-use Rattle.rdcss_root.specs.Acts.{ActsInAll}
-use Rattle.rdcss_root.specs.Programs.{CanRootOn, rooted_at}
-use Rattle.rdcss_root.specs.Tables.{Table}
-use Rattle.key_change.specs.Steps.{CanChange}
+use Rattle.operate.specs.Beneath.rdcss_root.specs.Acts.{ActsInAll}
+use Rattle.operate.specs.Beneath.rdcss_root.specs.Programs.{CanRootOn, rooted_at}
+use Rattle.operate.specs.Beneath.rdcss_root.specs.Tables.{Table}
+use Rattle.operate.specs.Beneath.key_change.specs.Steps.{CanChange}
 use Rattle.contract.specs.Cleaning.{CanClean}
 use Rattle.contract.specs.Climbing.{CanClimb}
 use Rattle.contract.specs.Renewing.{CanRenew}

@@ -4,20 +4,20 @@ ghost use Rattle.std.specs.Prelude.{◌≡◌, ℕ, List, Option, None, IfOk, If
 ghost use Rattle.ctrie_base.specs.declared.hashes.HashKind.{HashKind};
 ghost use Rattle.slot_arena.specs.Heaps.{node_at};
 ghost use Rattle.slot_arena.specs.declared.refs.Ref.{Ref as ARef};
-ghost use Rattle.machine_model.specs.Finding.{going_down};
-ghost use Rattle.machine_model.specs.Operations.{after_update};
-ghost use Rattle.machine_model.specs.Paths.{above, current};
-ghost use Rattle.machine_model.specs.Reading.{reading};
-ghost use Rattle.machine_model.specs.declared.repairs.CleanLine.TheVariants as clean;
-ghost use Rattle.machine_model.specs.States.{State};
-ghost use Rattle.machine_model.specs.declared.finding.KeyLine.TheVariants as key;
-ghost use Rattle.machine_model.specs.declared.lines.Line.TheVariants as line;
-ghost use Rattle.machine_model.specs.declared.operations.Operation.{Operation};
-ghost use Rattle.gcas.specs.Reads.{read_of, CanReadOn, IsAskingRoot};
+ghost use Rattle.operate.specs.Beneath.machine_model.specs.Finding.{going_down};
+ghost use Rattle.operate.specs.Beneath.machine_model.specs.Operations.{after_update};
+ghost use Rattle.operate.specs.Beneath.machine_model.specs.Paths.{above, current};
+ghost use Rattle.operate.specs.Beneath.machine_model.specs.Reading.{reading};
+ghost use Rattle.operate.specs.Beneath.machine_model.specs.declared.repairs.CleanLine.TheVariants as clean;
+ghost use Rattle.operate.specs.Beneath.machine_model.specs.States.{State};
+ghost use Rattle.operate.specs.Beneath.machine_model.specs.declared.finding.KeyLine.TheVariants as key;
+ghost use Rattle.operate.specs.Beneath.machine_model.specs.declared.lines.Line.TheVariants as line;
+ghost use Rattle.operate.specs.Beneath.machine_model.specs.declared.operations.Operation.{Operation};
+ghost use Rattle.operate.specs.Beneath.gcas.specs.Reads.{read_of, CanReadOn, IsAskingRoot};
 ghost use Rattle.trie_parts.specs.Here.{at_heap};
 ghost use Rattle.trie_parts.specs.Holding.{AreHeld};
-ghost use Rattle.key_change.specs.Lines.{line_of as change_line};
-ghost use Rattle.key_change.specs.Steps.{CanChange, line_behind as line_tried};
+ghost use Rattle.operate.specs.Beneath.key_change.specs.Lines.{line_of as change_line};
+ghost use Rattle.operate.specs.Beneath.key_change.specs.Steps.{CanChange, line_behind as line_tried};
 ghost use Rattle.key_finding.specs.Lines.{line_found};
 ghost use Rattle.operate.specs.Places.{key_line, below_line, changed_line, former_of};
 ghost use Rattle.operate.specs.Steps.{CommitsNoMore, KeySteps, KeyActs, CanBelow, operation_for};
@@ -26,12 +26,10 @@ use crate::key_op::{BelowAt, KeyAt, KeyOp};
 use contract::Climb;
 use ctrie_base::{Kind, Refusal};
 use epochs::Heap;
-use gcas::Next;
-use key_change::{Change, Tried};
-use key_finding::{Found, KeyReply, after_entry, after_listed, after_main};
-use rdcss_root::ReadRoot;
+use key_finding::{Change, Found, KeyReply, Tried, after_entry, after_listed, after_main};
+use root_asking::ReadRoot;
 use slot_arena::{Node, Ref};
-use trie_parts::{above, current, node_at};
+use trie_parts::{Next, above, current, node_at};
 
 impl KeyOp {
     /// Takes a step from this place below the root.

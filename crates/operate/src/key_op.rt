@@ -3,17 +3,17 @@
 ghost use Rattle.std.specs.Prelude.{◌≡◌, List, [], None, IfOk, IfErr, OnOk, OnErr};
 ghost use Rattle.slot_arena.specs.declared.refs.Ref.{Ref as ARef};
 ghost use Rattle.history.specs.declared.calls.Access.{Access as AnAccess};
-ghost use Rattle.machine_model.specs.Climbing.{climbed, climbing};
-ghost use Rattle.machine_model.specs.Lines.{new_try};
-ghost use Rattle.machine_model.specs.Swapping.{root_action};
-ghost use Rattle.machine_model.specs.declared.lines.Line.TheVariants as line;
-ghost use Rattle.machine_model.specs.declared.operations.Operation.{Operation};
-ghost use Rattle.gcas.specs.Reads.{begun, IsAskingRoot};
+ghost use Rattle.operate.specs.Beneath.machine_model.specs.Climbing.{climbed, climbing};
+ghost use Rattle.operate.specs.Beneath.machine_model.specs.Lines.{new_try};
+ghost use Rattle.operate.specs.Beneath.machine_model.specs.Swapping.{root_action};
+ghost use Rattle.operate.specs.Beneath.machine_model.specs.declared.lines.Line.TheVariants as line;
+ghost use Rattle.operate.specs.Beneath.machine_model.specs.declared.operations.Operation.{Operation};
+ghost use Rattle.operate.specs.Beneath.gcas.specs.Reads.{begun, IsAskingRoot};
 ghost use Rattle.trie_parts.specs.Holding.{AreHeld};
 ghost use Rattle.trie_parts.specs.Tasks.{for_task};
-ghost use Rattle.rdcss_root.specs.Acts.{ActsInAll};
-ghost use Rattle.rdcss_root.specs.Programs.{root_of, CanRootOn, rooted_at};
-ghost use Rattle.rdcss_root.specs.Tables.{word_in};
+ghost use Rattle.operate.specs.Beneath.rdcss_root.specs.Acts.{ActsInAll};
+ghost use Rattle.operate.specs.Beneath.rdcss_root.specs.Programs.{root_of, CanRootOn, rooted_at};
+ghost use Rattle.operate.specs.Beneath.rdcss_root.specs.Tables.{word_in};
 ghost use Rattle.operate.specs.Places.{key_line, key_line_at};
 ghost use Rattle.operate.specs.Steps.{RootSteps, RootActs, CommitsNoMore, KeepsGeneration, CanKey, table_after};
 
@@ -21,14 +21,12 @@ use crate::path::Path;
 use contract::{Clean, Climb, Renew};
 use ctrie_base::{HashKind, Kind, Refusal};
 use epochs::Heap;
-use gcas::{Next, Swap, generation_at};
 use history::Access;
-use key_change::Change;
-use key_finding::{KeyReply, changed_reply};
-use rdcss_root::{ReadRoot, Roots};
+use key_finding::{Change, KeyReply, changed_reply};
+use root_asking::{ReadRoot, Roots};
 use slot_arena::Ref;
 use std::alloc::Global;
-use trie_parts::{KeyCall, Private, Task, Work, is_below_root};
+use trie_parts::{KeyCall, Next, Private, Swap, Task, Work, generation_at, is_below_root};
 
 /// Where a call stands below its root.
 #[derive(Clone, Copy)]

@@ -1,11 +1,11 @@
 //! The steps of the repairs that a call on one key does on its way: renewing, cleaning and climbing.
 
 ghost use Rattle.std.specs.Prelude.{◌≡◌, None, IfOk, IfErr, OnOk, OnErr};
-ghost use Rattle.machine_model.specs.Paths.{above, current};
+ghost use Rattle.operate.specs.Beneath.machine_model.specs.Paths.{above, current};
 ghost use Rattle.history.specs.declared.calls.Access.{Access as AnAccess};
 ghost use Rattle.trie_parts.specs.Tasks.{for_task};
-ghost use Rattle.machine_model.specs.declared.operations.Operation.{Operation};
-ghost use Rattle.gcas.specs.Reads.{IsAskingRoot};
+ghost use Rattle.operate.specs.Beneath.machine_model.specs.declared.operations.Operation.{Operation};
+ghost use Rattle.operate.specs.Beneath.gcas.specs.Reads.{IsAskingRoot};
 ghost use Rattle.trie_parts.specs.Holding.{AreHeld};
 ghost use Rattle.contract.specs.Cleaning.{clean_line, CanClean, line_behind as line_cleaned};
 ghost use Rattle.contract.specs.Climbing.{climb_line, CanClimb, line_behind as line_climbed};
@@ -17,11 +17,10 @@ use crate::key_op::{BelowAt, KeyAt, KeyOp};
 use contract::{Cleaned, Climb, Climbed, Renewed};
 use ctrie_base::Refusal;
 use epochs::Heap;
-use gcas::Next;
 use key_finding::KeyReply;
-use rdcss_root::ReadRoot;
+use root_asking::ReadRoot;
 use slot_arena::Ref;
-use trie_parts::{above, current};
+use trie_parts::{Next, above, current};
 
 impl KeyOp {
     /// Takes a step of a renewing.

@@ -5,12 +5,12 @@ ghost use Rattle.slot_arena.specs.Times.{times};
 ghost use Rattle.slot_arena.specs.Ticking.{TakesUpTo};
 ghost use Rattle.slot_arena.specs.Arenas.{AreLive};
 ghost use Rattle.epochs.specs.Memories.{KeepsEpochs, KeepsRemarks};
-ghost use Rattle.machine_model.specs.Counting.{refs_of_word, refs_of_root};
+ghost use Rattle.rdcss_root.specs.Beneath.machine_model.specs.Counting.{refs_of_word, refs_of_root};
 ghost use Rattle.trie_parts.specs.Holding.{AreHeld};
 ghost use Rattle.rdcss_root.specs.Holds.{Holds, Releases};
 
 use epochs::Heap;
-use machine_model::{Root, RootWord};
+use trie_parts::{Root, RootWord};
 use slot_arena::Ref;
 
 /// Holds each of these references once more.

@@ -1,12 +1,12 @@
 -- What is told comes to a program by its READ, case by case.
 use Rattle.std.specs.Prelude.{◌≡◌, ℕ, List, Option, None, refl}
 use Rattle.slot_arena.specs.declared.refs.Ref.{Ref}
-use Rattle.machine_model.specs.declared.roots.Descriptor.{Descriptor}
-use Rattle.gcas.specs.declared.read.Read.{Read}
-use Rattle.gcas.specs.Reads.{line_of}
-use Rattle.rdcss_root.specs.declared.complete.CompleteAt.{CompleteAt}
-use Rattle.rdcss_root.specs.declared.complete.CompleteAt.TheVariants as complete
-use Rattle.rdcss_root.specs.declared.root.ReadRoot.TheVariants as rooting
+use Rattle.snapshot.specs.Beneath.machine_model.specs.declared.roots.Descriptor.{Descriptor}
+use Rattle.snapshot.specs.Beneath.gcas.specs.declared.read.Read.{Read}
+use Rattle.snapshot.specs.Beneath.gcas.specs.Reads.{line_of}
+use Rattle.snapshot.specs.Beneath.rdcss_root.specs.declared.complete.CompleteAt.{CompleteAt}
+use Rattle.snapshot.specs.Beneath.rdcss_root.specs.declared.complete.CompleteAt.TheVariants as complete
+use Rattle.snapshot.specs.Beneath.rdcss_root.specs.declared.root.ReadRoot.TheVariants as rooting
 use Rattle.root_asking.specs.Inside.{with_read}
 use Rattle.snapshot.specs.declared.snap.Making.TheVariants as making
 use Rattle.snapshot.specs.declared.snap.SnapAt.{SnapAt}

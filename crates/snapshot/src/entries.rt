@@ -3,10 +3,11 @@
 ghost use Rattle.std.specs.Prelude.{◌≡◌, [], None, ℕ, IfOk, IfErr, OnOk, OnErr};
 ghost use Rattle.history.specs.declared.calls.Call.TheVariants.{Entries as EntriesCall, Count as CountCall};
 ghost use Rattle.history.specs.declared.replies.Reply.TheVariants as reply;
-ghost use Rattle.machine_model.specs.declared.operations.Operation.{Operation};
-ghost use Rattle.machine_model.specs.States.{State};
-ghost use Rattle.machine_model.specs.Walking.{walked_reply};
-ghost use Rattle.gcas.specs.Reads.{IsAskingRoot};
+ghost use Rattle.snapshot.specs.Beneath.machine_model.specs.declared.operations.Operation.{Operation};
+ghost use Rattle.snapshot.specs.Beneath.machine_model.specs.Operations.{kind_of};
+ghost use Rattle.snapshot.specs.Beneath.machine_model.specs.States.{State};
+ghost use Rattle.snapshot.specs.Beneath.machine_model.specs.Walking.{walked_reply};
+ghost use Rattle.snapshot.specs.Beneath.gcas.specs.Reads.{IsAskingRoot};
 ghost use Rattle.trie_parts.specs.Holding.{Acts};
 ghost use Rattle.trie_parts.specs.Steps.{StepsOn};
 ghost use Rattle.snapshot.specs.Copies.{snap_action};
@@ -14,13 +15,12 @@ ghost use Rattle.snapshot.specs.Tasks.{at_roots};
 ghost use Rattle.snapshot.specs.Walks.{walk_line, behind_walk, on_call, CanWalk};
 
 use crate::walk::{Walk, WalkAt, Walked};
-use ctrie_base::Refusal;
+use ctrie_base::{Kind, Refusal};
 use epochs::Heap;
-use gcas::Next;
 use history::Pairs;
-use rdcss_root::Roots;
+use root_asking::Roots;
 use std::alloc::Global;
-use trie_parts::Work;
+use trie_parts::{Next, Read, Work};
 
 /// A call for all pairs. An operation keeps one for all its calls.
 #[derive(Drop)]
@@ -43,6 +43,13 @@ impl Entries {
         ensures { self.new.walk ≡ record { todo = []; pairs = []; at = WalkAt.Root } }
     {
         self.walk.begin();
+    }
+
+    /// The kind of its next step, where its READ is this one and was told this of the root's generation.
+    pub fn next_kind(&self, read: &Read, root_seen: Option<u64>) -> Kind
+        ensures { result ≡ kind_of (snap_action (walk_line read.now root_seen self.now.walk)) }
+    {
+        self.walk.next_kind(read, root_seen)
     }
 
     /// Takes its next step, unless it has to be told the generation of the root first. After an error, which is
@@ -96,6 +103,13 @@ impl Count {
         ensures { self.new.walk ≡ record { todo = []; pairs = []; at = WalkAt.Root } }
     {
         self.walk.begin();
+    }
+
+    /// The kind of its next step, where its READ is this one and was told this of the root's generation.
+    pub fn next_kind(&self, read: &Read, root_seen: Option<u64>) -> Kind
+        ensures { result ≡ kind_of (snap_action (walk_line read.now root_seen self.now.walk)) }
+    {
+        self.walk.next_kind(read, root_seen)
     }
 
     /// Takes its next step, unless it has to be told the generation of the root first. After an error, which is

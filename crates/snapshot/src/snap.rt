@@ -5,35 +5,34 @@ ghost use Rattle.slot_arena.specs.declared.refs.Ref.{Ref as ARef};
 ghost use Rattle.slot_arena.specs.Heaps.{Heap as Store, next_ref};
 ghost use Rattle.slot_arena.specs.Arenas.{AreLive};
 ghost use Rattle.history.specs.declared.calls.Access.{Access as AnAccess};
-ghost use Rattle.machine_model.specs.declared.actions.Action.TheVariants as act;
-ghost use Rattle.machine_model.specs.declared.copying.CopyLine.TheVariants as copy;
-ghost use Rattle.machine_model.specs.declared.lines.Line.TheVariants as line;
-ghost use Rattle.machine_model.specs.declared.operations.Operation.{Operation};
-ghost use Rattle.machine_model.specs.declared.roots.RootWord.TheVariants.{Offer as Offered};
-ghost use Rattle.machine_model.specs.Acting.{attempt_after};
-ghost use Rattle.machine_model.specs.Copying.{after_given, copied_reply, copy_action, copy_after_made, offering};
-ghost use Rattle.machine_model.specs.Counting.{refs_of_word};
-ghost use Rattle.machine_model.specs.Reading.{read_action};
-ghost use Rattle.machine_model.specs.States.{State};
-ghost use Rattle.machine_model.specs.Swapping.{complete_action, root_action};
-ghost use Rattle.gcas.specs.declared.read.Read.{Read as ARead};
-ghost use Rattle.gcas.specs.Reads.{read_of, line_of, CanReadOn, IsAskingRoot};
+ghost use Rattle.snapshot.specs.Beneath.machine_model.specs.declared.actions.Action.TheVariants as act;
+ghost use Rattle.snapshot.specs.Beneath.machine_model.specs.declared.copying.CopyLine.TheVariants as copy;
+ghost use Rattle.snapshot.specs.Beneath.machine_model.specs.declared.lines.Line.TheVariants as line;
+ghost use Rattle.snapshot.specs.Beneath.machine_model.specs.declared.operations.Operation.{Operation};
+ghost use Rattle.snapshot.specs.Beneath.machine_model.specs.declared.roots.RootWord.TheVariants.{Offer as Offered};
+ghost use Rattle.snapshot.specs.Beneath.machine_model.specs.Acting.{attempt_after};
+ghost use Rattle.snapshot.specs.Beneath.machine_model.specs.Copying.{after_given, copied_reply, copy_action, copy_after_made, offering};
+ghost use Rattle.snapshot.specs.Beneath.machine_model.specs.Counting.{refs_of_word};
+ghost use Rattle.snapshot.specs.Beneath.machine_model.specs.Operations.{kind_of};
+ghost use Rattle.snapshot.specs.Beneath.machine_model.specs.Reading.{read_action};
+ghost use Rattle.snapshot.specs.Beneath.machine_model.specs.States.{State};
+ghost use Rattle.snapshot.specs.Beneath.machine_model.specs.Swapping.{complete_action, root_action};
+ghost use Rattle.snapshot.specs.Beneath.gcas.specs.declared.read.Read.{Read as ARead};
+ghost use Rattle.snapshot.specs.Beneath.gcas.specs.Reads.{read_of, line_of, CanReadOn, IsAskingRoot};
 ghost use Rattle.trie_parts.specs.Holding.{Acts, AreHeld};
 ghost use Rattle.trie_parts.specs.Steps.{StepsOn, CanMake};
-ghost use Rattle.rdcss_root.specs.Acts.{ActsInAll};
-ghost use Rattle.rdcss_root.specs.Programs.{root_of, complete_of, CanRootOn, CanCompleteOn, rooted_at, completed_at};
-ghost use Rattle.rdcss_root.specs.Tables.{Table, acted_table, offered_in};
+ghost use Rattle.snapshot.specs.Beneath.rdcss_root.specs.Acts.{ActsInAll};
+ghost use Rattle.snapshot.specs.Beneath.rdcss_root.specs.Programs.{root_of, complete_of, CanRootOn, CanCompleteOn, rooted_at, completed_at};
+ghost use Rattle.snapshot.specs.Beneath.rdcss_root.specs.Tables.{Table, acted_table, offered_in};
 ghost use Rattle.snapshot.specs.Copies.{snap_line, snap_line_at, snap_action, KeepsGeneration, making_line, made_node, line_behind, CanSnap, IsReadyBeside};
 ghost use Rattle.snapshot.specs.Tasks.{at_roots, call_of, for_task, mark_of, reply_of, with_generation, drawn_by};
 
 use crate::tasks::{SnapCall, SnapReply, SnapTask};
 use ctrie_base::{Kind, Refusal};
 use epochs::Heap;
-use gcas::{Next, generation_at};
-use machine_model::Descriptor;
-use rdcss_root::{Complete, Offer, ReadRoot, Roots};
+use root_asking::{Complete, Offer, ReadRoot, Roots};
 use slot_arena::{Node, Ref};
-use trie_parts::{Work, renewed};
+use trie_parts::{Descriptor, Next, Read, Work, generation_at, renewed};
 
 /// What is to be made for the swap of a root whose main node is `main`.
 #[derive(Clone, Copy)]
@@ -83,6 +82,19 @@ impl Snap {
             generation: None,
             attempt: 0,
             at: SnapAt::Root(ReadRoot::Read),
+        }
+    }
+
+    /// The kind of its next step, where its READ is this one and was told this of the root's generation.
+    pub fn next_kind(&self, read: &Read, root_seen: Option<u64>) -> Kind
+        ensures { result ≡ kind_of (snap_action (snap_line read.now root_seen self.now)) }
+    {
+        match &self.at {
+            SnapAt::Root(root) => root.next_kind(read, root_seen),
+            SnapAt::Read => read.next_kind(root_seen),
+            SnapAt::Make(_) => Kind::Make,
+            SnapAt::Offer(_) => Kind::SwapRoot,
+            SnapAt::Complete(complete) => complete.next_kind(read, root_seen),
         }
     }
 

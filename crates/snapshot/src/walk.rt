@@ -3,18 +3,19 @@
 ghost use Rattle.std.specs.Prelude.{◌≡◌, [], None, IfOk, IfErr, OnOk, OnErr};
 ghost use Rattle.slot_arena.specs.Heaps.{Heap as Store};
 ghost use Rattle.history.specs.declared.calls.Call.{Call};
-ghost use Rattle.machine_model.specs.declared.lines.Line.TheVariants as line;
-ghost use Rattle.machine_model.specs.declared.operations.Operation.{Operation};
-ghost use Rattle.machine_model.specs.declared.walking.WalkLine.TheVariants as walk;
-ghost use Rattle.machine_model.specs.Calls.{handle_of};
-ghost use Rattle.machine_model.specs.Reading.{read_action};
-ghost use Rattle.machine_model.specs.States.{State, root_of};
-ghost use Rattle.machine_model.specs.Walking.{walk_next};
-ghost use Rattle.gcas.specs.declared.read.Read.{Read as ARead};
-ghost use Rattle.gcas.specs.Reads.{read_of, line_of, CanReadOn, IsAskingRoot};
+ghost use Rattle.snapshot.specs.Beneath.machine_model.specs.declared.lines.Line.TheVariants as line;
+ghost use Rattle.snapshot.specs.Beneath.machine_model.specs.declared.operations.Operation.{Operation};
+ghost use Rattle.snapshot.specs.Beneath.machine_model.specs.declared.walking.WalkLine.TheVariants as walk;
+ghost use Rattle.snapshot.specs.Beneath.machine_model.specs.Calls.{handle_of};
+ghost use Rattle.snapshot.specs.Beneath.machine_model.specs.Operations.{kind_of};
+ghost use Rattle.snapshot.specs.Beneath.machine_model.specs.Reading.{read_action};
+ghost use Rattle.snapshot.specs.Beneath.machine_model.specs.States.{State, root_of};
+ghost use Rattle.snapshot.specs.Beneath.machine_model.specs.Walking.{walk_next};
+ghost use Rattle.snapshot.specs.Beneath.gcas.specs.declared.read.Read.{Read as ARead};
+ghost use Rattle.snapshot.specs.Beneath.gcas.specs.Reads.{read_of, line_of, CanReadOn, IsAskingRoot};
 ghost use Rattle.trie_parts.specs.Holding.{Acts};
 ghost use Rattle.trie_parts.specs.Steps.{StepsOn};
-ghost use Rattle.rdcss_root.specs.Tables.{Table};
+ghost use Rattle.snapshot.specs.Beneath.rdcss_root.specs.Tables.{Table};
 ghost use Rattle.snapshot.specs.Copies.{snap_action};
 ghost use Rattle.snapshot.specs.Tasks.{at_roots};
 ghost use Rattle.snapshot.specs.Walks.{walk_line, behind_walk, on_call, CanWalk, NextIs};
@@ -23,12 +24,10 @@ use crate::taken::Taken;
 use crate::todo::Todo;
 use ctrie_base::{Kind, Refusal};
 use epochs::Heap;
-use gcas::Next;
-use machine_model::RootWord;
-use rdcss_root::Roots;
+use root_asking::Roots;
 use slot_arena::{Node, Ref};
 use std::alloc::Global;
-use trie_parts::{Work, entries_at, node_at};
+use trie_parts::{Next, Read, RootWord, Work, entries_at, node_at};
 
 /// Where a walk stands.
 #[derive(Clone, Copy)]
@@ -79,6 +78,17 @@ impl Walk {
         self.todo.clear();
         self.pairs.clear();
         self.at = WalkAt::Root;
+    }
+
+    /// The kind of its next step, where its READ is this one and was told this of the root's generation.
+    pub(crate) fn next_kind(&self, read: &Read, root_seen: Option<u64>) -> Kind
+        ensures { result ≡ kind_of (snap_action (walk_line read.now root_seen self.now)) }
+    {
+        match &self.at {
+            WalkAt::Root => Kind::ReadRoot,
+            WalkAt::Read => read.next_kind(root_seen),
+            WalkAt::Main { .. } | WalkAt::Entry => Kind::Look,
+        }
     }
 
     /// Takes its next step, unless it has to be told the generation of the root first.

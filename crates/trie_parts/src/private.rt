@@ -5,8 +5,8 @@ ghost use Rattle.slot_arena.specs.Heaps.{refs_of_node, next_ref, taken};
 ghost use Rattle.slot_arena.specs.Arenas.{IsLive, AreLive};
 ghost use Rattle.slot_arena.specs.Ticking.{TakesUpTo};
 ghost use Rattle.epochs.specs.Memories.{KeepsEpochs, KeepsRemarks, cleared};
-ghost use Rattle.machine_model.specs.Acting.{with_made};
-ghost use Rattle.machine_model.specs.declared.actions.Action.TheVariants as act;
+ghost use Rattle.trie_parts.specs.Beneath.machine_model.specs.Acting.{with_made};
+ghost use Rattle.trie_parts.specs.Beneath.machine_model.specs.declared.actions.Action.TheVariants as act;
 ghost use Rattle.trie_parts.specs.Holding.{Acts, AreHeld, KeepsOthers};
 
 use epochs::Heap;

@@ -1,5 +1,5 @@
-use Rattle.gcas.specs.Reads.{line_of}
-use Rattle.rdcss_root.specs.Programs.{root_of, complete_of}
+use Rattle.snapshot.specs.Beneath.gcas.specs.Reads.{line_of}
+use Rattle.snapshot.specs.Beneath.rdcss_root.specs.Programs.{root_of, complete_of}
 use Rattle.snapshot.specs.Tasks.{mark_of}
 use Rattle.snapshot.proofs.Undrawn.{of_root, of_complete, of_read, of_making}
 use Rattle.snapshot.proofs.snap.Snap.step.Goals as goal
