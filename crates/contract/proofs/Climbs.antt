@@ -10,10 +10,7 @@ use Rattle.contract.specs.Beneath.machine_model.specs.declared.repairs.Climb.{Cl
 use Rattle.contract.specs.Beneath.machine_model.specs.declared.repairs.ClimbLine.TheVariants as climb
 use Rattle.contract.specs.Beneath.machine_model.specs.Climbing.{climb_after_main, climbed, holds_it}
 use Rattle.contract.specs.Beneath.machine_model.specs.States.{State}
-
-abbrev pub IsBranch : Node → Type 0
-IsBranch (Branch bitmap entries) = Unit {0}
-IsBranch node = ⊥
+use Rattle.contract.specs.Climbing.{IsBranch}
 
 -- the tombed indirection stands in it
 pub held : (state : State) (operation : Operation) (c : Climb) (main : Ref) (n : Node) (b : Bool) → b ≡ holds_it state operation c main (bitmap_of n) (entries_of n) → b ≡ true → IsBranch n →

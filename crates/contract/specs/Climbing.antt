@@ -1,6 +1,8 @@
 -- A CLIMB of the code as the definition's, and what a step of it comes to.
 use Rattle.std.specs.Prelude.{ℕ, List, Option}
 use Rattle.slot_arena.specs.declared.refs.Ref.{Ref}
+use Rattle.slot_arena.specs.declared.nodes.Node.{Node}
+use Rattle.slot_arena.specs.declared.nodes.Node.TheVariants.{Branch}
 use Rattle.slot_arena.specs.Heaps.{Heap}
 use Rattle.contract.specs.Beneath.history.specs.declared.calls.Access.TheVariants.{Writable}
 use Rattle.contract.specs.Beneath.machine_model.specs.declared.lines.Line.{Line}
@@ -49,6 +51,10 @@ line_behind operation c Lost = line.Climb (climb.Root c root.Read)
 line_behind operation c Impossible = impossible
 
 -- ---- what it asks of the heap
+
+abbrev pub IsBranch : Node → Type 0
+IsBranch (Branch bitmap entries) = Unit {0}
+IsBranch node = ⊥
 
 abbrev pub CanClimbAt : Heap → Task → Swap → Defined → ClimbAt → Type 0
 CanClimbAt heap task s c at.Read = CanReadOn heap s.read

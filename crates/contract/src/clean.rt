@@ -127,8 +127,12 @@ impl Clean {
     ) -> Result<Next<Cleaned>, Refusal>
         requires can { CanClean heap.old.heap path.now work.old.swap self.old }
         requires held { AreHeld work.old.private heap.old }
-        ensures follows { IfOk result (λ next. (state : State) (operation : Operation) → StepsOn (at_heap state heap.old.heap task.hashes) (for_task task work.old.swap.read.access operation) (clean_line path.now work.old.swap root_seen self.old) (clean_line path.now work.new.swap None self.new) work.new.swap.read.at line_behind next) }
-        ensures acts { OnOk result ((state : State) (operation : Operation) → Acts heap.old work.old.private (line_action (at_heap state heap.old.heap task.hashes) (for_task task work.old.swap.read.access operation) (clean_line path.now work.old.swap root_seen self.old)) heap.new work.new.private) }
+        ensures follows { IfOk result (λ next. (state : State) (operation : Operation) →
+            StepsOn (at_heap state heap.old.heap task.hashes) (for_task task work.old.swap.read.access operation) (clean_line path.now work.old.swap root_seen self.old)
+            (clean_line path.now work.new.swap None self.new) work.new.swap.read.at line_behind next) }
+        ensures acts { OnOk result ((state : State) (operation : Operation) →
+            Acts heap.old work.old.private (line_action (at_heap state heap.old.heap task.hashes) (for_task task work.old.swap.read.access operation)
+            (clean_line path.now work.old.swap root_seen self.old)) heap.new work.new.private) }
         ensures same { work.new.swap.read.access ≡ work.old.swap.read.access }
         ensures err { OnErr result ((self.new ≡ self.old) × (work.new ≡ work.old) × (heap.new ≡ heap.old)) }
         ensures only_memory { IfErr result (λ refusal. refusal ≡ Refusal.Memory) }
@@ -151,8 +155,11 @@ impl Clean {
     /// Takes a step of the indirection's READ.
     fn read(&mut self, work: &mut Work, heap: &mut Heap, root_seen: Option<u64>) -> Next<Cleaned>
         requires { CanReadOn heap.old.heap work.old.swap.read }
-        ensures follows { (state : State) (operation : Operation) (path : List ARef) (task : ATask) → StepsOn (at_heap state heap.old.heap task.hashes) (for_task task work.old.swap.read.access operation) (line.Clean (clean.Read path (read_of work.old.swap.read root_seen))) (clean_line path work.new.swap None self.new) work.new.swap.read.at line_behind result }
-        ensures acts { (state : State) (operation : Operation) (path : List ARef) → Acts heap.old work.old.private (line_action state operation (line.Clean (clean.Read path (read_of work.old.swap.read root_seen)))) heap.new work.new.private }
+        ensures follows { (state : State) (operation : Operation) (path : List ARef) (task : ATask) →
+            StepsOn (at_heap state heap.old.heap task.hashes) (for_task task work.old.swap.read.access operation)
+            (line.Clean (clean.Read path (read_of work.old.swap.read root_seen))) (clean_line path work.new.swap None self.new) work.new.swap.read.at line_behind result }
+        ensures acts { (state : State) (operation : Operation) (path : List ARef) →
+            Acts heap.old work.old.private (line_action state operation (line.Clean (clean.Read path (read_of work.old.swap.read root_seen)))) heap.new work.new.private }
         ensures same { work.new.swap.read.access ≡ work.old.swap.read.access }
         ensures asks { IsAskingRoot result → (self.new ≡ record self.old { place = CleanAt.Read }) × (work.new ≡ work.old) × (heap.new ≡ heap.old) }
     {
@@ -170,7 +177,8 @@ impl Clean {
 
     /// Looks at the main node: only a branch is cleaned.
     fn look(&mut self, heap: &Heap) -> Next<Cleaned>
-        ensures follows { (state : State) (hashes : HashKind) (operation : Operation) (path : List ARef) (s : ASwap) (place : ReadAt) → StepsOn (at_heap state heap.now.heap hashes) operation (line.Clean (clean.Main path self.old.main)) (clean_line path s None self.new) place line_behind result }
+        ensures follows { (state : State) (hashes : HashKind) (operation : Operation) (path : List ARef) (s : ASwap) (place : ReadAt) →
+            StepsOn (at_heap state heap.now.heap hashes) operation (line.Clean (clean.Main path self.old.main)) (clean_line path s None self.new) place line_behind result }
         ensures taken { IsAskingRoot result → ⊥ }
     {
         match node_at(heap, self.main) {
@@ -182,7 +190,8 @@ impl Clean {
 
     /// After the look at a branch: to its first entry.
     fn go_through(&mut self, heap: &Heap) -> Next<Cleaned>
-        ensures follows { (state : State) (hashes : HashKind) (path : List ARef) (s : ASwap) → GoesOn (clean_next (at_heap state heap.now.heap hashes) path self.old.main []) (clean_line path s None self.new) result }
+        ensures follows { (state : State) (hashes : HashKind) (path : List ARef) (s : ASwap) →
+            GoesOn (clean_next (at_heap state heap.now.heap hashes) path self.old.main []) (clean_line path s None self.new) result }
         ensures taken { IsAskingRoot result → ⊥ }
     {
         self.done.clear();
@@ -191,7 +200,8 @@ impl Clean {
 
     /// After a look: to the next entry or, where all are done, to the new main node, if an entry changed.
     fn go_on(&mut self, heap: &Heap) -> Next<Cleaned>
-        ensures follows { (state : State) (hashes : HashKind) (path : List ARef) (s : ASwap) → GoesOn (clean_next (at_heap state heap.now.heap hashes) path self.old.main self.old.done) (clean_line path s None self.new) result }
+        ensures follows { (state : State) (hashes : HashKind) (path : List ARef) (s : ASwap) →
+            GoesOn (clean_next (at_heap state heap.now.heap hashes) path self.old.main self.old.done) (clean_line path s None self.new) result }
         ensures taken { IsAskingRoot result → ⊥ }
     {
         let entries = entries_at(heap, self.main);
@@ -208,7 +218,9 @@ impl Clean {
 
     /// Looks at the next entry: an indirection is read, a single is kept.
     fn look_at_entry(&mut self, work: &mut Work, heap: &Heap) -> Result<Next<Cleaned>, Refusal>
-        ensures follows { IfOk result (λ next. (state : State) (hashes : HashKind) (operation : Operation) (path : List ARef) → StepsOn (at_heap state heap.now.heap hashes) operation (line.Clean (clean.Entry path self.old.main self.old.done)) (clean_line path work.new.swap None self.new) work.new.swap.read.at line_behind next) }
+        ensures follows { IfOk result (λ next. (state : State) (hashes : HashKind) (operation : Operation) (path : List ARef) →
+            StepsOn (at_heap state heap.now.heap hashes) operation (line.Clean (clean.Entry path self.old.main self.old.done)) (clean_line path work.new.swap None self.new)
+            work.new.swap.read.at line_behind next) }
         ensures same { (work.new.swap.read.access ≡ work.old.swap.read.access) × (work.new.private ≡ work.old.private) }
         ensures err { OnErr result ((self.new ≡ self.old) × (work.new ≡ work.old)) }
         ensures only_memory { IfErr result (λ refusal. refusal ≡ Refusal.Memory) }
@@ -228,7 +240,8 @@ impl Clean {
 
     /// One entry more is done, by a look.
     fn put(&mut self, heap: &Heap, entry: Ref) -> Result<Next<Cleaned>, Refusal>
-        ensures follows { IfOk result (λ next. (state : State) (hashes : HashKind) (path : List ARef) (s : ASwap) → GoesOn (clean_next (at_heap state heap.now.heap hashes) path self.old.main (self.old.done ++ entry ∷ [])) (clean_line path s None self.new) next) }
+        ensures follows { IfOk result (λ next. (state : State) (hashes : HashKind) (path : List ARef) (s : ASwap) →
+            GoesOn (clean_next (at_heap state heap.now.heap hashes) path self.old.main (self.old.done ++ entry ∷ [])) (clean_line path s None self.new) next) }
         ensures err { OnErr result (self.new ≡ self.old) }
         ensures only_memory { IfErr result (λ refusal. refusal ≡ Refusal.Memory) }
         ensures taken { IfOk result (λ next. IsAskingRoot next → ⊥) }
@@ -245,8 +258,13 @@ impl Clean {
         root_seen: Option<u64>,
     ) -> Next<Cleaned>
         requires { CanReadOn heap.old.heap work.old.swap.read }
-        ensures follows { (state : State) (operation : Operation) (path : List ARef) (task : ATask) → StepsOn (at_heap state heap.old.heap task.hashes) (for_task task work.old.swap.read.access operation) (line.Clean (clean.Child path self.old.main self.old.done (read_of work.old.swap.read root_seen))) (clean_line path work.new.swap None self.new) work.new.swap.read.at line_behind result }
-        ensures acts { (state : State) (operation : Operation) (path : List ARef) → Acts heap.old work.old.private (line_action state operation (line.Clean (clean.Child path self.old.main self.old.done (read_of work.old.swap.read root_seen)))) heap.new work.new.private }
+        ensures follows { (state : State) (operation : Operation) (path : List ARef) (task : ATask) →
+            StepsOn (at_heap state heap.old.heap task.hashes) (for_task task work.old.swap.read.access operation)
+            (line.Clean (clean.Child path self.old.main self.old.done (read_of work.old.swap.read root_seen))) (clean_line path work.new.swap None self.new)
+            work.new.swap.read.at line_behind result }
+        ensures acts { (state : State) (operation : Operation) (path : List ARef) →
+            Acts heap.old work.old.private (line_action state operation (line.Clean (clean.Child path self.old.main self.old.done (read_of work.old.swap.read root_seen))))
+            heap.new work.new.private }
         ensures same { work.new.swap.read.access ≡ work.old.swap.read.access }
         ensures asks { IsAskingRoot result → (self.new ≡ record self.old { place = CleanAt.Child }) × (work.new ≡ work.old) × (heap.new ≡ heap.old) }
     {
@@ -263,7 +281,9 @@ impl Clean {
 
     /// Looks at the main node of an entry: a tomb's single takes the entry's place, any other entry is kept.
     fn look_at_child(&mut self, heap: &Heap, child: Ref) -> Result<Next<Cleaned>, Refusal>
-        ensures follows { IfOk result (λ next. (state : State) (hashes : HashKind) (operation : Operation) (path : List ARef) (s : ASwap) (place : ReadAt) → StepsOn (at_heap state heap.now.heap hashes) operation (line.Clean (clean.Tomb path self.old.main self.old.done child)) (clean_line path s None self.new) place line_behind next) }
+        ensures follows { IfOk result (λ next. (state : State) (hashes : HashKind) (operation : Operation) (path : List ARef) (s : ASwap) (place : ReadAt) →
+            StepsOn (at_heap state heap.now.heap hashes) operation (line.Clean (clean.Tomb path self.old.main self.old.done child)) (clean_line path s None self.new) place
+            line_behind next) }
         ensures err { OnErr result (self.new ≡ self.old) }
         ensures only_memory { IfErr result (λ refusal. refusal ≡ Refusal.Memory) }
         ensures taken { IfOk result (λ next. IsAskingRoot next → ⊥) }
@@ -281,8 +301,12 @@ impl Clean {
     ) -> Result<Next<Cleaned>, Refusal>
         requires can { CanCleanAt heap.old.heap path.now work.old.swap self.old.main self.old.done CleanAt.Contracted }
         requires held { AreHeld work.old.private heap.old }
-        ensures follows { IfOk result (λ next. (state : State) (operation : Operation) (hashes : HashKind) → StepsOn (at_heap state heap.old.heap hashes) operation (line.Clean (clean.Contracted path.now self.old.main self.old.done)) (clean_line path.now work.new.swap None self.new) work.new.swap.read.at line_behind next) }
-        ensures acts { OnOk result ((state : State) (operation : Operation) (hashes : HashKind) → Acts heap.old work.old.private (line_action (at_heap state heap.old.heap hashes) operation (line.Clean (clean.Contracted path.now self.old.main self.old.done))) heap.new work.new.private) }
+        ensures follows { IfOk result (λ next. (state : State) (operation : Operation) (hashes : HashKind) →
+            StepsOn (at_heap state heap.old.heap hashes) operation (line.Clean (clean.Contracted path.now self.old.main self.old.done))
+            (clean_line path.now work.new.swap None self.new) work.new.swap.read.at line_behind next) }
+        ensures acts { OnOk result ((state : State) (operation : Operation) (hashes : HashKind) →
+            Acts heap.old work.old.private (line_action (at_heap state heap.old.heap hashes) operation (line.Clean (clean.Contracted path.now self.old.main self.old.done)))
+            heap.new work.new.private) }
         ensures same { work.new.swap.read.access ≡ work.old.swap.read.access }
         ensures err { OnErr result ((self.new ≡ self.old) × (work.new ≡ work.old) × (heap.new ≡ heap.old)) }
         ensures only_memory { IfErr result (λ refusal. refusal ≡ Refusal.Memory) }
@@ -303,8 +327,11 @@ impl Clean {
     fn swap(&mut self, work: &mut Work, heap: &mut Heap, root_seen: Option<u64>) -> Next<Cleaned>
         requires can { CanSwapOn heap.old.heap work.old.swap }
         requires held { AreHeld work.old.private heap.old }
-        ensures follows { (state : State) (operation : Operation) (path : List ARef) (task : ATask) → StepsOn (at_heap state heap.old.heap task.hashes) (for_task task work.old.swap.read.access operation) (line.Swap purpose.Clean (swap_of work.old.swap root_seen)) (clean_line path work.new.swap None self.new) work.new.swap.read.at line_behind result }
-        ensures acts { (state : State) (operation : Operation) → Acts heap.old work.old.private (line_action state operation (line.Swap purpose.Clean (swap_of work.old.swap root_seen))) heap.new work.new.private }
+        ensures follows { (state : State) (operation : Operation) (path : List ARef) (task : ATask) →
+            StepsOn (at_heap state heap.old.heap task.hashes) (for_task task work.old.swap.read.access operation) (line.Swap purpose.Clean (swap_of work.old.swap root_seen))
+            (clean_line path work.new.swap None self.new) work.new.swap.read.at line_behind result }
+        ensures acts { (state : State) (operation : Operation) →
+            Acts heap.old work.old.private (line_action state operation (line.Swap purpose.Clean (swap_of work.old.swap root_seen))) heap.new work.new.private }
         ensures same { work.new.swap.read.access ≡ work.old.swap.read.access }
         ensures asks { IsAskingRoot result → (self.new ≡ record self.old { place = CleanAt.Swap }) × (work.new ≡ work.old) × (heap.new ≡ heap.old) }
     {
@@ -319,7 +346,9 @@ impl Clean {
 
 /// What comes in the place of the next entry, an indirection with this main node: of a tomb its single.
 fn kept(heap: &Heap, main: Ref, done: &[Ref], child: Ref) -> Ref
-    ensures { (state : State) (hashes : HashKind) (path : List ARef) → clean_after_tomb (at_heap state heap.now.heap hashes) path main done.now (node_at heap.now.heap child) ≡ clean_next (at_heap state heap.now.heap hashes) path main (done.now ++ result ∷ []) }
+    ensures { (state : State) (hashes : HashKind) (path : List ARef) →
+        clean_after_tomb (at_heap state heap.now.heap hashes) path main done.now (node_at heap.now.heap child) ≡ clean_next (at_heap state heap.now.heap hashes) path main
+        (done.now ++ result ∷ []) }
 {
     match node_at(heap, child) {
         Some(Node::Tomb { single }) => *single,

@@ -28,7 +28,7 @@ ghost use Rattle.trie_parts.specs.Holding.{Acts, AreHeld};
 ghost use Rattle.trie_parts.specs.Steps.{IsLast, StepsOn};
 ghost use Rattle.trie_parts.specs.Tasks.{call_of, for_task};
 ghost use Rattle.trie_parts.specs.declared.calls.Task.{Task as ATask};
-ghost use Rattle.contract.specs.Climbing.{climb_of, climb_line, line_behind, CanClimb, CanClimbAt};
+ghost use Rattle.contract.specs.Climbing.{climb_of, climb_line, line_behind, CanClimb, CanClimbAt, IsBranch};
 
 use ctrie_base::{Kind, Refusal};
 use epochs::Heap;
@@ -123,8 +123,13 @@ impl Climb {
     ) -> Result<Next<Climbed>, Refusal>
         requires can { CanClimb heap.old.heap task path.now work.old.swap self.old }
         requires held { AreHeld work.old.private heap.old }
-        ensures follows { IfOk result (λ next. (state : State) (operation : Operation) → StepsOn (at_heap state heap.old.heap task.hashes) (for_task task work.old.swap.read.access operation) (climb_line path.now work.old.swap root_seen self.old) (climb_line path.now work.new.swap None self.new) work.new.swap.read.at (line_behind (for_task task work.old.swap.read.access operation) (climb_of path.now self.old)) next) }
-        ensures acts { OnOk result ((state : State) (operation : Operation) → Acts heap.old work.old.private (line_action (at_heap state heap.old.heap task.hashes) (for_task task work.old.swap.read.access operation) (climb_line path.now work.old.swap root_seen self.old)) heap.new work.new.private) }
+        ensures follows { IfOk result (λ next. (state : State) (operation : Operation) →
+            StepsOn (at_heap state heap.old.heap task.hashes) (for_task task work.old.swap.read.access operation) (climb_line path.now work.old.swap root_seen self.old)
+            (climb_line path.now work.new.swap None self.new) work.new.swap.read.at
+            (line_behind (for_task task work.old.swap.read.access operation) (climb_of path.now self.old)) next) }
+        ensures acts { OnOk result ((state : State) (operation : Operation) →
+            Acts heap.old work.old.private (line_action (at_heap state heap.old.heap task.hashes) (for_task task work.old.swap.read.access operation)
+            (climb_line path.now work.old.swap root_seen self.old)) heap.new work.new.private) }
         ensures same { (self.new.single ≡ self.old.single) × (self.new.former ≡ self.old.former) × (work.new.swap.read.access ≡ work.old.swap.read.access) }
         ensures err { OnErr result ((self.new ≡ self.old) × (work.new ≡ work.old) × (heap.new ≡ heap.old)) }
         ensures only_memory { IfErr result (λ refusal. refusal ≡ Refusal.Memory) }
@@ -148,8 +153,13 @@ impl Climb {
     /// Takes a step of the parent's READ.
     fn read(&mut self, work: &mut Work, heap: &mut Heap, root_seen: Option<u64>) -> Next<Climbed>
         requires { CanReadOn heap.old.heap work.old.swap.read }
-        ensures follows { (state : State) (operation : Operation) (path : List ARef) (task : ATask) → StepsOn (at_heap state heap.old.heap task.hashes) (for_task task work.old.swap.read.access operation) (line.Climb (climb.Read (climb_of path self.old) (read_of work.old.swap.read root_seen))) (climb_line path work.new.swap None self.new) work.new.swap.read.at (line_behind (for_task task work.old.swap.read.access operation) (climb_of path self.old)) result }
-        ensures acts { (state : State) (operation : Operation) (path : List ARef) → Acts heap.old work.old.private (line_action state operation (line.Climb (climb.Read (climb_of path self.old) (read_of work.old.swap.read root_seen)))) heap.new work.new.private }
+        ensures follows { (state : State) (operation : Operation) (path : List ARef) (task : ATask) →
+            StepsOn (at_heap state heap.old.heap task.hashes) (for_task task work.old.swap.read.access operation)
+            (line.Climb (climb.Read (climb_of path self.old) (read_of work.old.swap.read root_seen))) (climb_line path work.new.swap None self.new) work.new.swap.read.at
+            (line_behind (for_task task work.old.swap.read.access operation) (climb_of path self.old)) result }
+        ensures acts { (state : State) (operation : Operation) (path : List ARef) →
+            Acts heap.old work.old.private (line_action state operation (line.Climb (climb.Read (climb_of path self.old) (read_of work.old.swap.read root_seen)))) heap.new
+            work.new.private }
         ensures same { (self.new.single ≡ self.old.single) × (self.new.former ≡ self.old.former) × (work.new.swap.read.access ≡ work.old.swap.read.access) }
         ensures asks { IsAskingRoot result → (self.new ≡ record self.old { place = ClimbAt.Read }) × (work.new ≡ work.old) × (heap.new ≡ heap.old) }
         ensures last { IsLast result → ⊥ }
@@ -168,7 +178,9 @@ impl Climb {
     /// Looks at the parent's main node. A tomb climbs on; in a branch the tombed indirection gives way, if it
     /// stands there.
     fn look(&mut self, heap: &Heap, task: Task, path: &[Ref], main: Ref) -> Next<Climbed>
-        ensures follows { (state : State) (operation : Operation) (access : Access) (s : ASwap) (place : ReadAt) → StepsOn (at_heap state heap.now.heap task.hashes) (for_task task access operation) (line.Climb (climb.Main (climb_of path.now self.old) main)) (climb_line path.now s None self.new) place (line_behind (for_task task access operation) (climb_of path.now self.old)) result }
+        ensures follows { (state : State) (operation : Operation) (access : Access) (s : ASwap) (place : ReadAt) →
+            StepsOn (at_heap state heap.now.heap task.hashes) (for_task task access operation) (line.Climb (climb.Main (climb_of path.now self.old) main))
+            (climb_line path.now s None self.new) place (line_behind (for_task task access operation) (climb_of path.now self.old)) result }
         ensures same { (self.new.single ≡ self.old.single) × (self.new.former ≡ self.old.former) }
         ensures taken { IsAskingRoot result → ⊥ }
     {
@@ -176,23 +188,26 @@ impl Climb {
             Some(Node::Tomb { single }) => {
                 Next::Done(Kind::Look, Climbed::Higher { single: *single })
             }
-            Some(Node::Branch { .. }) => {
-                if holds_it(heap, task, path, main) {
-                    self.place = ClimbAt::Contracted { main };
-                    Next::More(Kind::Look)
-                } else {
-                    Next::Done(Kind::Look, Climbed::Climbed)
-                }
-            }
-            None => {
-                if holds_it(heap, task, path, main) {
-                    self.place = ClimbAt::Contracted { main };
-                    Next::More(Kind::Look)
-                } else {
-                    Next::Done(Kind::Look, Climbed::Climbed)
-                }
-            }
+            Some(Node::Branch { .. }) => self.look_at_branch(heap, task, path, main),
+            None => self.look_at_branch(heap, task, path, main),
             _ => Next::Done(Kind::Look, Climbed::Impossible),
+        }
+    }
+
+    /// After the look at a branch.
+    fn look_at_branch(&mut self, heap: &Heap, task: Task, path: &[Ref], main: Ref) -> Next<Climbed>
+        requires { IsBranch (node_at heap.now.heap main) }
+        ensures follows { (state : State) (operation : Operation) (access : Access) (s : ASwap) (place : ReadAt) →
+            StepsOn (at_heap state heap.now.heap task.hashes) (for_task task access operation) (line.Climb (climb.Main (climb_of path.now self.old) main))
+            (climb_line path.now s None self.new) place (line_behind (for_task task access operation) (climb_of path.now self.old)) result }
+        ensures same { (self.new.single ≡ self.old.single) × (self.new.former ≡ self.old.former) }
+        ensures taken { IsAskingRoot result → ⊥ }
+    {
+        if holds_it(heap, task, path, main) {
+            self.place = ClimbAt::Contracted { main };
+            Next::More(Kind::Look)
+        } else {
+            Next::Done(Kind::Look, Climbed::Climbed)
         }
     }
 
@@ -207,8 +222,13 @@ impl Climb {
     ) -> Result<Next<Climbed>, Refusal>
         requires can { CanClimbAt heap.old.heap task work.old.swap (climb_of path.now self.old) (ClimbAt.Contracted main) }
         requires held { AreHeld work.old.private heap.old }
-        ensures follows { IfOk result (λ next. (state : State) (operation : Operation) → StepsOn (at_heap state heap.old.heap task.hashes) (for_task task work.old.swap.read.access operation) (line.Climb (climb.Contracted (climb_of path.now self.old) main)) (climb_line path.now work.new.swap None self.new) work.new.swap.read.at (line_behind (for_task task work.old.swap.read.access operation) (climb_of path.now self.old)) next) }
-        ensures acts { OnOk result (Acts heap.old work.old.private (act.Make (climbed_node (at_heap no_state heap.old.heap task.hashes) (for_task task Writable no_operation) (climb_of path.now self.old) main)) heap.new work.new.private) }
+        ensures follows { IfOk result (λ next. (state : State) (operation : Operation) →
+            StepsOn (at_heap state heap.old.heap task.hashes) (for_task task work.old.swap.read.access operation)
+            (line.Climb (climb.Contracted (climb_of path.now self.old) main)) (climb_line path.now work.new.swap None self.new) work.new.swap.read.at
+            (line_behind (for_task task work.old.swap.read.access operation) (climb_of path.now self.old)) next) }
+        ensures acts { OnOk result (Acts heap.old work.old.private
+            (act.Make (climbed_node (at_heap no_state heap.old.heap task.hashes) (for_task task Writable no_operation) (climb_of path.now self.old) main)) heap.new
+            work.new.private) }
         ensures same { (self.new.single ≡ self.old.single) × (self.new.former ≡ self.old.former) × (work.new.swap.read.access ≡ work.old.swap.read.access) }
         ensures err { OnErr result ((self.new ≡ self.old) × (work.new ≡ work.old) × (heap.new ≡ heap.old)) }
         ensures only_memory { IfErr result (λ refusal. refusal ≡ Refusal.Memory) }
@@ -229,8 +249,13 @@ impl Climb {
     fn swap(&mut self, work: &mut Work, heap: &mut Heap, root_seen: Option<u64>) -> Next<Climbed>
         requires can { CanSwapOn heap.old.heap work.old.swap }
         requires held { AreHeld work.old.private heap.old }
-        ensures follows { (state : State) (operation : Operation) (path : List ARef) (task : ATask) → StepsOn (at_heap state heap.old.heap task.hashes) (for_task task work.old.swap.read.access operation) (line.Swap (purpose.Climb (climb_of path self.old)) (swap_of work.old.swap root_seen)) (climb_line path work.new.swap None self.new) work.new.swap.read.at (line_behind (for_task task work.old.swap.read.access operation) (climb_of path self.old)) result }
-        ensures acts { (state : State) (operation : Operation) (path : List ARef) → Acts heap.old work.old.private (line_action state operation (line.Swap (purpose.Climb (climb_of path self.old)) (swap_of work.old.swap root_seen))) heap.new work.new.private }
+        ensures follows { (state : State) (operation : Operation) (path : List ARef) (task : ATask) →
+            StepsOn (at_heap state heap.old.heap task.hashes) (for_task task work.old.swap.read.access operation)
+            (line.Swap (purpose.Climb (climb_of path self.old)) (swap_of work.old.swap root_seen)) (climb_line path work.new.swap None self.new) work.new.swap.read.at
+            (line_behind (for_task task work.old.swap.read.access operation) (climb_of path self.old)) result }
+        ensures acts { (state : State) (operation : Operation) (path : List ARef) →
+            Acts heap.old work.old.private (line_action state operation (line.Swap (purpose.Climb (climb_of path self.old)) (swap_of work.old.swap root_seen))) heap.new
+            work.new.private }
         ensures same { (self.new.single ≡ self.old.single) × (self.new.former ≡ self.old.former) × (work.new.swap.read.access ≡ work.old.swap.read.access) }
         ensures asks { IsAskingRoot result → (self.new ≡ record self.old { place = ClimbAt.Swap }) × (work.new ≡ work.old) × (heap.new ≡ heap.old) }
         ensures last { IsLast result → swapping_read work.old.swap.read.indirection (swap_of work.old.swap root_seen).line ≡ None }
@@ -248,7 +273,9 @@ impl Climb {
 
 /// What a climb with this single has come to where this node was swapped in: a tomb climbs on.
 fn climbed_by(heap: &Heap, fresh: Ref, single: Ref) -> Climbed
-    ensures { (operation : Operation) (path : List ARef) (former : Option ℕ) → climbed_on operation (record { path = path; single = single; former = former }) (node_at heap.now.heap fresh) ≡ line_behind operation (record { path = path; single = single; former = former }) result }
+    ensures { (operation : Operation) (path : List ARef) (former : Option ℕ) →
+        climbed_on operation (record { path = path; single = single; former = former }) (node_at heap.now.heap fresh) ≡ line_behind operation
+        (record { path = path; single = single; former = former }) result }
 {
     match node_at(heap, fresh) {
         Some(Node::Tomb { .. }) => Climbed::Higher { single },
@@ -265,7 +292,9 @@ fn place_in(heap: &Heap, task: Task, path: &[Ref], main: Ref) -> usize
 
 /// Whether the branch's entry for the call's key is the tombed indirection.
 fn holds_it(heap: &Heap, task: Task, path: &[Ref], main: Ref) -> bool
-    ensures { (state : State) (operation : Operation) (access : Access) (single : ARef) (former : Option ℕ) → result ≡ holds_it (at_heap state heap.now.heap task.hashes) (for_task task access operation) (record { path = path.now; single = single; former = former }) main (bitmap_of (node_at heap.now.heap main)) (entries_of (node_at heap.now.heap main)) }
+    ensures { (state : State) (operation : Operation) (access : Access) (single : ARef) (former : Option ℕ) →
+        result ≡ holds_it (at_heap state heap.now.heap task.hashes) (for_task task access operation) (record { path = path.now; single = single; former = former }) main
+        (bitmap_of (node_at heap.now.heap main)) (entries_of (node_at heap.now.heap main)) }
 {
     let entry = entry_at(heap, main, place_in(heap, task, path, main));
     has_flag(bitmap_at(heap, main), task.flag_at(above(path))) && entry == current(path)
@@ -274,7 +303,8 @@ fn holds_it(heap: &Heap, task: Task, path: &[Ref], main: Ref) -> bool
 /// The parent's main node with the single in the tomb's place; below the root, where that is the only entry,
 /// a tomb of it.
 fn climbed_node(heap: &Heap, task: Task, path: &[Ref], single: Ref, main: Ref) -> Node
-    ensures { (former : Option ℕ) → result ≡ climbed_node (at_heap no_state heap.now.heap task.hashes) (for_task task Writable no_operation) (record { path = path.now; single = single; former = former }) main }
+    ensures { (former : Option ℕ) → result ≡ climbed_node (at_heap no_state heap.now.heap task.hashes) (for_task task Writable no_operation)
+        (record { path = path.now; single = single; former = former }) main }
 {
     let place = place_in(heap, task, path, main);
     contracted_at(heap, main, is_below_root(above(path)), place, single)

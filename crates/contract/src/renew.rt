@@ -121,8 +121,12 @@ impl Renew {
     ) -> Result<Next<Renewed>, Refusal>
         requires can { CanRenew heap.old.heap work.old.swap self.old }
         requires held { AreHeld work.old.private heap.old }
-        ensures follows { IfOk result (λ next. (state : State) (operation : Operation) → StepsOn (at_heap state heap.old.heap task.hashes) (for_task task work.old.swap.read.access operation) (renew_line path.now work.old.swap root_seen self.old) (renew_line path.now work.new.swap None self.new) work.new.swap.read.at (line_behind path.now) next) }
-        ensures acts { OnOk result ((state : State) (operation : Operation) → Acts heap.old work.old.private (line_action (at_heap state heap.old.heap task.hashes) (for_task task work.old.swap.read.access operation) (renew_line path.now work.old.swap root_seen self.old)) heap.new work.new.private) }
+        ensures follows { IfOk result (λ next. (state : State) (operation : Operation) →
+            StepsOn (at_heap state heap.old.heap task.hashes) (for_task task work.old.swap.read.access operation) (renew_line path.now work.old.swap root_seen self.old)
+            (renew_line path.now work.new.swap None self.new) work.new.swap.read.at (line_behind path.now) next) }
+        ensures acts { OnOk result ((state : State) (operation : Operation) →
+            Acts heap.old work.old.private (line_action (at_heap state heap.old.heap task.hashes) (for_task task work.old.swap.read.access operation)
+            (renew_line path.now work.old.swap root_seen self.old)) heap.new work.new.private) }
         ensures same { work.new.swap.read.access ≡ work.old.swap.read.access }
         ensures err { OnErr result ((self.new ≡ self.old) × (work.new ≡ work.old) × (heap.new ≡ heap.old)) }
         ensures only_memory { IfErr result (λ refusal. refusal ≡ Refusal.Memory) }
@@ -143,7 +147,9 @@ impl Renew {
 
     /// Looks at the next entry: an indirection of another generation is read, any other entry is kept.
     fn look(&mut self, work: &mut Work, heap: &Heap, task: Task) -> Result<Next<Renewed>, Refusal>
-        ensures follows { IfOk result (λ next. (state : State) (operation : Operation) (path : List ARef) → StepsOn (at_heap state heap.now.heap task.hashes) (for_task task work.old.swap.read.access operation) (line.Renew (renew.Entry path self.old.main self.old.done)) (renew_line path work.new.swap None self.new) work.new.swap.read.at (line_behind path) next) }
+        ensures follows { IfOk result (λ next. (state : State) (operation : Operation) (path : List ARef) →
+            StepsOn (at_heap state heap.now.heap task.hashes) (for_task task work.old.swap.read.access operation) (line.Renew (renew.Entry path self.old.main self.old.done))
+            (renew_line path work.new.swap None self.new) work.new.swap.read.at (line_behind path) next) }
         ensures same { (work.new.swap.read.access ≡ work.old.swap.read.access) × (work.new.private ≡ work.old.private) }
         ensures err { OnErr result ((self.new ≡ self.old) × (work.new ≡ work.old)) }
         ensures only_memory { IfErr result (λ refusal. refusal ≡ Refusal.Memory) }
@@ -178,8 +184,13 @@ impl Renew {
     /// Takes a step of the entry's READ.
     fn read(&mut self, work: &mut Work, heap: &mut Heap, root_seen: Option<u64>) -> Next<Renewed>
         requires { CanReadOn heap.old.heap work.old.swap.read }
-        ensures follows { (state : State) (operation : Operation) (path : List ARef) (task : ATask) → StepsOn (at_heap state heap.old.heap task.hashes) (for_task task work.old.swap.read.access operation) (line.Renew (renew.Read path self.old.main self.old.done (read_of work.old.swap.read root_seen))) (renew_line path work.new.swap None self.new) work.new.swap.read.at (line_behind path) result }
-        ensures acts { (state : State) (operation : Operation) (path : List ARef) → Acts heap.old work.old.private (line_action state operation (line.Renew (renew.Read path self.old.main self.old.done (read_of work.old.swap.read root_seen)))) heap.new work.new.private }
+        ensures follows { (state : State) (operation : Operation) (path : List ARef) (task : ATask) →
+            StepsOn (at_heap state heap.old.heap task.hashes) (for_task task work.old.swap.read.access operation)
+            (line.Renew (renew.Read path self.old.main self.old.done (read_of work.old.swap.read root_seen))) (renew_line path work.new.swap None self.new)
+            work.new.swap.read.at (line_behind path) result }
+        ensures acts { (state : State) (operation : Operation) (path : List ARef) →
+            Acts heap.old work.old.private (line_action state operation (line.Renew (renew.Read path self.old.main self.old.done (read_of work.old.swap.read root_seen))))
+            heap.new work.new.private }
         ensures same { work.new.swap.read.access ≡ work.old.swap.read.access }
         ensures asks { IsAskingRoot result → (self.new ≡ record self.old { place = RenewAt.Read }) × (work.new ≡ work.old) × (heap.new ≡ heap.old) }
         ensures last { IsLast result → ⊥ }
@@ -205,8 +216,12 @@ impl Renew {
     ) -> Result<Next<Renewed>, Refusal>
         requires can { CanRenewAt heap.old.heap work.old.swap self.old.main self.old.done (RenewAt.Link child) }
         requires held { AreHeld work.old.private heap.old }
-        ensures follows { IfOk result (λ next. (state : State) (operation : Operation) (path : List ARef) → StepsOn (at_heap state heap.old.heap task.hashes) (for_task task work.old.swap.read.access operation) (line.Renew (renew.Link path self.old.main self.old.done child)) (renew_line path work.new.swap None self.new) work.new.swap.read.at (line_behind path) next) }
-        ensures acts { OnOk result ((state : State) (operation : Operation) (path : List ARef) → Acts heap.old work.old.private (line_action state (for_task task work.old.swap.read.access operation) (line.Renew (renew.Link path self.old.main self.old.done child))) heap.new work.new.private) }
+        ensures follows { IfOk result (λ next. (state : State) (operation : Operation) (path : List ARef) →
+            StepsOn (at_heap state heap.old.heap task.hashes) (for_task task work.old.swap.read.access operation)
+            (line.Renew (renew.Link path self.old.main self.old.done child)) (renew_line path work.new.swap None self.new) work.new.swap.read.at (line_behind path) next) }
+        ensures acts { OnOk result ((state : State) (operation : Operation) (path : List ARef) →
+            Acts heap.old work.old.private (line_action state (for_task task work.old.swap.read.access operation)
+            (line.Renew (renew.Link path self.old.main self.old.done child))) heap.new work.new.private) }
         ensures same { work.new.swap.read.access ≡ work.old.swap.read.access }
         ensures err { OnErr result ((self.new ≡ self.old) × (work.new ≡ work.old) × (heap.new ≡ heap.old)) }
         ensures only_memory { IfErr result (λ refusal. refusal ≡ Refusal.Memory) }
@@ -235,8 +250,13 @@ impl Renew {
     ) -> Result<Next<Renewed>, Refusal>
         requires can { CanRenewAt heap.old.heap work.old.swap self.old.main self.old.done RenewAt.Branch }
         requires held { AreHeld work.old.private heap.old }
-        ensures follows { IfOk result (λ next. (state : State) (operation : Operation) (task : ATask) → StepsOn (at_heap state heap.old.heap task.hashes) (for_task task work.old.swap.read.access operation) (line.Renew (renew.Branch path.now self.old.main self.old.done)) (renew_line path.now work.new.swap None self.new) work.new.swap.read.at (line_behind path.now) next) }
-        ensures acts { OnOk result ((state : State) (operation : Operation) (hashes : HashKind) → Acts heap.old work.old.private (line_action (at_heap state heap.old.heap hashes) operation (line.Renew (renew.Branch path.now self.old.main self.old.done))) heap.new work.new.private) }
+        ensures follows { IfOk result (λ next. (state : State) (operation : Operation) (task : ATask) →
+            StepsOn (at_heap state heap.old.heap task.hashes) (for_task task work.old.swap.read.access operation)
+            (line.Renew (renew.Branch path.now self.old.main self.old.done)) (renew_line path.now work.new.swap None self.new) work.new.swap.read.at (line_behind path.now)
+            next) }
+        ensures acts { OnOk result ((state : State) (operation : Operation) (hashes : HashKind) →
+            Acts heap.old work.old.private (line_action (at_heap state heap.old.heap hashes) operation (line.Renew (renew.Branch path.now self.old.main self.old.done)))
+            heap.new work.new.private) }
         ensures same { work.new.swap.read.access ≡ work.old.swap.read.access }
         ensures err { OnErr result ((self.new ≡ self.old) × (work.new ≡ work.old) × (heap.new ≡ heap.old)) }
         ensures only_memory { IfErr result (λ refusal. refusal ≡ Refusal.Memory) }
@@ -257,8 +277,11 @@ impl Renew {
     fn swap(&mut self, work: &mut Work, heap: &mut Heap, root_seen: Option<u64>) -> Next<Renewed>
         requires can { CanSwapOn heap.old.heap work.old.swap }
         requires held { AreHeld work.old.private heap.old }
-        ensures follows { (state : State) (operation : Operation) (path : List ARef) (task : ATask) → StepsOn (at_heap state heap.old.heap task.hashes) (for_task task work.old.swap.read.access operation) (line.Swap (purpose.Renew path) (swap_of work.old.swap root_seen)) (renew_line path work.new.swap None self.new) work.new.swap.read.at (line_behind path) result }
-        ensures acts { (state : State) (operation : Operation) (path : List ARef) → Acts heap.old work.old.private (line_action state operation (line.Swap (purpose.Renew path) (swap_of work.old.swap root_seen))) heap.new work.new.private }
+        ensures follows { (state : State) (operation : Operation) (path : List ARef) (task : ATask) →
+            StepsOn (at_heap state heap.old.heap task.hashes) (for_task task work.old.swap.read.access operation)
+            (line.Swap (purpose.Renew path) (swap_of work.old.swap root_seen)) (renew_line path work.new.swap None self.new) work.new.swap.read.at (line_behind path) result }
+        ensures acts { (state : State) (operation : Operation) (path : List ARef) →
+            Acts heap.old work.old.private (line_action state operation (line.Swap (purpose.Renew path) (swap_of work.old.swap root_seen))) heap.new work.new.private }
         ensures same { work.new.swap.read.access ≡ work.old.swap.read.access }
         ensures asks { IsAskingRoot result → (self.new ≡ record self.old { place = RenewAt.Swap }) × (work.new ≡ work.old) × (heap.new ≡ heap.old) }
         ensures last { IsLast result → swapping_read work.old.swap.read.indirection (swap_of work.old.swap root_seen).line ≡ None }
@@ -275,7 +298,8 @@ impl Renew {
 
 /// Where a renewing stands that has done so many of so many entries.
 fn next(done: usize, entries: usize) -> RenewAt
-    ensures { (path : List ARef) (s : ASwap) (main : ARef) (kept : List ARef) → length kept ≡ done → renew_line path s None (record { main = main; done = kept; place = result }) ≡ next_of entries path main kept }
+    ensures { (path : List ARef) (s : ASwap) (main : ARef) (kept : List ARef) → length kept ≡ done →
+        renew_line path s None (record { main = main; done = kept; place = result }) ≡ next_of entries path main kept }
 {
     if done < entries {
         RenewAt::Entry

@@ -29,7 +29,9 @@ builds heap task access path main (at.Single site former) state operation =
     ap (λ k. act.Make (Single k (value_of (call_of (handle_of operation.call) task.call)))) (key_same task.call (handle_of operation.call) 0)
     ∙ ap (λ v. act.Make (Single (key_of (call_of 0 task.call)) v)) (value_same task.call (handle_of operation.call) 0)
 builds heap task access path main (at.Pair position single depth) state operation =
-    ap (λ k. act.Make (pair task.hashes depth (hash_of task.hashes (key_in (node_at heap (entry_at heap main position)))) (hash_of task.hashes k) (entry_at heap main position) single)) (key_same task.call (handle_of operation.call) 0)
+    let entry = entry_at heap main position in
+    let old_hash = hash_of task.hashes (key_in (node_at heap entry)) in
+    ap (λ k. act.Make (pair task.hashes depth old_hash (hash_of task.hashes k) entry single)) (key_same task.call (handle_of operation.call) 0)
 builds heap task access path main (at.Link position below depth) state operation = refl
 builds heap task access path main (at.Rung position below depth) state operation =
     ap (λ k. act.Make (rung (hash_of task.hashes k) depth below)) (key_same task.call (handle_of operation.call) 0)

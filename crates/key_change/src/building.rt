@@ -101,7 +101,8 @@ pub(crate) fn depth_ahead(
     main: Ref,
     building: &Building,
 ) -> usize
-    ensures { (state : State) (operation : Operation) (access : Access) → result ≡ depth_for (at_heap state heap.now.heap task.hashes) (for_task task access operation) (build_line path.now main building.now) }
+    ensures { (state : State) (operation : Operation) (access : Access) →
+        result ≡ depth_for (at_heap state heap.now.heap task.hashes) (for_task task access operation) (build_line path.now main building.now) }
 {
     match building {
         Building::Single {
@@ -129,7 +130,8 @@ fn depth_below(path: &[Ref]) -> usize
 
 /// After the new single: the main node with it, or that of the two singles, which part at this depth.
 pub(crate) fn after_single(site: Site, former: Option<u64>, depth: usize, made: Ref) -> Building
-    ensures { (state : State) (operation : Operation) (path : List ARef) (main : ARef) → depth ≡ depth_for state operation (build.Single path main site former) → line.Build (build_line path main result) ≡ after_single state operation path main former site made }
+    ensures { (state : State) (operation : Operation) (path : List ARef) (main : ARef) → depth ≡ depth_for state operation (build.Single path main site former) →
+        line.Build (build_line path main result) ≡ after_single state operation path main former site made }
 {
     match site {
         Site::Absent => Building::Main {

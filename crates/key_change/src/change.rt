@@ -3,6 +3,7 @@
 ghost use Rattle.std.specs.Prelude.{◌≡◌, ◌+◌, ◌<◌, ◌^◌, ℕ, List, Option, None, is_some, IfOk, IfErr, OnOk, OnErr};
 ghost use Rattle.key_change.specs.Beneath.machine_model.specs.declared.operations.Operation.{Operation};
 ghost use Rattle.key_change.specs.Beneath.machine_model.specs.declared.lines.Line.TheVariants as line;
+ghost use Rattle.key_change.specs.Beneath.machine_model.specs.Acting.{swaps_in};
 ghost use Rattle.key_change.specs.Beneath.machine_model.specs.Building.{build_after_made};
 ghost use Rattle.key_change.specs.Beneath.machine_model.specs.Operations.{kind_of, line_action, read_of, swapping_read};
 ghost use Rattle.key_change.specs.Beneath.machine_model.specs.States.{State};
@@ -85,6 +86,16 @@ impl Change {
         }
     }
 
+    /// Whether its next step is one of a SWAP that puts this main node in the place of another.
+    pub fn swaps_in(&self, swap: &Swap, main: Ref) -> bool
+        ensures { (path : List ARef) (told : Option ℕ) → result ≡ swaps_in main (line_of path swap.now told self.now) }
+    {
+        match &self.at {
+            ChangeAt::Sibling { .. } | ChangeAt::Build(_) => false,
+            ChangeAt::Swap { .. } => swap.fresh == main,
+        }
+    }
+
     /// Takes the next step of the try, for a call that has come to the end of this path, unless it has to be
     /// told the generation of the root first. After an error, which is want of memory, nothing has changed.
     pub fn step(
@@ -97,8 +108,12 @@ impl Change {
     ) -> Result<Next<Tried>, Refusal>
         requires can { CanChange heap.old.heap task path.now work.old.swap self.old }
         requires held { AreHeld work.old.private heap.old }
-        ensures follows { IfOk result (λ next. (state : State) (operation : Operation) → ChangesOn (at_heap state heap.old.heap task.hashes) (for_task task work.old.swap.read.access operation) path.now work.old.swap.fresh (line_of path.now work.old.swap root_seen self.old) (line_of path.now work.new.swap None self.new) work.new.swap.read.at next) }
-        ensures acts { OnOk result ((state : State) (operation : Operation) → Acts heap.old work.old.private (line_action (at_heap state heap.old.heap task.hashes) (for_task task work.old.swap.read.access operation) (line_of path.now work.old.swap root_seen self.old)) heap.new work.new.private) }
+        ensures follows { IfOk result (λ next. (state : State) (operation : Operation) →
+            ChangesOn (at_heap state heap.old.heap task.hashes) (for_task task work.old.swap.read.access operation) path.now work.old.swap.fresh
+            (line_of path.now work.old.swap root_seen self.old) (line_of path.now work.new.swap None self.new) work.new.swap.read.at next) }
+        ensures acts { OnOk result ((state : State) (operation : Operation) →
+            Acts heap.old work.old.private (line_action (at_heap state heap.old.heap task.hashes) (for_task task work.old.swap.read.access operation)
+            (line_of path.now work.old.swap root_seen self.old)) heap.new work.new.private) }
         ensures same { (self.new.main ≡ self.old.main) × (work.new.swap.read.access ≡ work.old.swap.read.access) }
         ensures err { OnErr result ((self.new ≡ self.old) × (work.new ≡ work.old) × (heap.new ≡ heap.old)) }
         ensures only_memory { IfErr result (λ refusal. refusal ≡ Refusal.Memory) }
@@ -123,7 +138,9 @@ impl Change {
 
     /// Looks at the other one of two entries: where it is a single it is entombed.
     fn look(&mut self, heap: &Heap, position: usize, former: u64) -> Next<Tried>
-        ensures follows { (state : State) (operation : Operation) (hashes : HashKind) (path : List ARef) (s : ASwap) (fresh : ARef) (place : ReadAt) → ChangesOn (at_heap state heap.now.heap hashes) operation path fresh (line.Key (key.Sibling path self.old.main position former)) (line_of path s None self.new) place result }
+        ensures follows { (state : State) (operation : Operation) (hashes : HashKind) (path : List ARef) (s : ASwap) (fresh : ARef) (place : ReadAt) →
+            ChangesOn (at_heap state heap.now.heap hashes) operation path fresh (line.Key (key.Sibling path self.old.main position former)) (line_of path s None self.new)
+            place result }
         ensures same { self.new.main ≡ self.old.main }
         ensures taken { IsAskingRoot result → ⊥ }
     {
@@ -151,7 +168,9 @@ impl Change {
     ) -> Result<Next<Tried>, Refusal>
         requires can { CanChangeAt heap.old.heap task path.now work.old.swap self.old.main (ChangeAt.Build building.now) }
         requires held { AreHeld work.old.private heap.old }
-        ensures follows { IfOk result (λ next. (state : State) (operation : Operation) → ChangesOn (at_heap state heap.old.heap task.hashes) (for_task task work.old.swap.read.access operation) path.now work.old.swap.fresh (line.Build (build_line path.now self.old.main building.now)) (line_of path.now work.new.swap None self.new) work.new.swap.read.at next) }
+        ensures follows { IfOk result (λ next. (state : State) (operation : Operation) →
+            ChangesOn (at_heap state heap.old.heap task.hashes) (for_task task work.old.swap.read.access operation) path.now work.old.swap.fresh
+            (line.Build (build_line path.now self.old.main building.now)) (line_of path.now work.new.swap None self.new) work.new.swap.read.at next) }
         ensures acts { OnOk result (Acts heap.old work.old.private (act.Make (built heap.old.heap task (build_line path.now self.old.main building.now))) heap.new work.new.private) }
         ensures same { (self.new.main ≡ self.old.main) × (work.new.swap.read.access ≡ work.old.swap.read.access) }
         ensures err { OnErr result ((self.new ≡ self.old) × (work.new ≡ work.old) × (heap.new ≡ heap.old)) }
@@ -171,7 +190,8 @@ impl Change {
 
     /// Stands on the line behind the making of a node; two singles part at this depth.
     fn go_on(&mut self, work: &mut Work, path: &[Ref], building: &Building, depth: usize, made: Ref)
-        ensures follows { (state : State) (operation : Operation) → depth ≡ depth_for state operation (build_line path.now self.old.main building.now) → line_of path.now work.new.swap None self.new ≡ build_after_made state operation (build_line path.now self.old.main building.now) made }
+        ensures follows { (state : State) (operation : Operation) → depth ≡ depth_for state operation (build_line path.now self.old.main building.now) →
+            line_of path.now work.new.swap None self.new ≡ build_after_made state operation (build_line path.now self.old.main building.now) made }
         ensures same { (self.new.main ≡ self.old.main) × (work.new.swap.read.access ≡ work.old.swap.read.access) }
         ensures private { work.new.private ≡ work.old.private }
     {
@@ -215,7 +235,9 @@ impl Change {
     ) -> Next<Tried>
         requires can { CanSwapOn heap.old.heap work.old.swap }
         requires held { AreHeld work.old.private heap.old }
-        ensures follows { (state : State) (operation : Operation) (path : List ARef) (hashes : HashKind) (task : ATask) → ChangesOn (at_heap state heap.old.heap hashes) (for_task task work.old.swap.read.access operation) path work.old.swap.fresh (line.Swap (purpose.Update path former) (swap_of work.old.swap root_seen)) (line_of path work.new.swap None self.new) work.new.swap.read.at result }
+        ensures follows { (state : State) (operation : Operation) (path : List ARef) (hashes : HashKind) (task : ATask) →
+            ChangesOn (at_heap state heap.old.heap hashes) (for_task task work.old.swap.read.access operation) path work.old.swap.fresh
+            (line.Swap (purpose.Update path former) (swap_of work.old.swap root_seen)) (line_of path work.new.swap None self.new) work.new.swap.read.at result }
         ensures acts { Acts heap.old work.old.private (swap_action (swap_of work.old.swap root_seen)) heap.new work.new.private }
         ensures same { (self.new.main ≡ self.old.main) × (work.new.swap.read.access ≡ work.old.swap.read.access) }
         ensures asks { IsAskingRoot result → (self.new ≡ record self.old { at = ChangeAt.Swap former }) × (work.new ≡ work.old) × (heap.new ≡ heap.old) }

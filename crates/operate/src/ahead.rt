@@ -1,6 +1,7 @@
 //! What a call on one key tells of its next step.
 
 ghost use Rattle.std.specs.Prelude.{◌≡◌, ℕ, Option, is_some, option_map};
+ghost use Rattle.operate.specs.Beneath.machine_model.specs.Acting.{swaps_in};
 ghost use Rattle.operate.specs.Beneath.machine_model.specs.Operations.{kind_of, line_action, read_of};
 ghost use Rattle.operate.specs.Beneath.machine_model.specs.States.{State};
 ghost use Rattle.operate.specs.Beneath.machine_model.specs.declared.operations.Operation.{Operation};
@@ -10,6 +11,7 @@ ghost use Rattle.operate.specs.Places.{answer_of, below_line, key_line};
 use crate::key_op::{BelowAt, KeyAt, KeyOp};
 use ctrie_base::Kind;
 use key_finding::KeyReply;
+use slot_arena::Ref;
 
 impl KeyOp {
     /// Whether its next step is a READ's.
@@ -35,6 +37,34 @@ impl KeyOp {
             BelowAt::Renew => self.renew.is_reading(&self.work.swap),
             BelowAt::Clean => self.clean.is_reading(&self.work.swap),
             BelowAt::Climb(climb) => climb.is_reading(&self.work.swap),
+            BelowAt::End(_) => false,
+            BelowAt::Impossible => false,
+        }
+    }
+
+    /// Whether it is a try that is about to put this main node in the place of another.
+    pub fn swaps_in(&self, main: Ref) -> bool
+        ensures { (told : Option ℕ) → result ≡ swaps_in main (key_line self.now told) }
+    {
+        match &self.place {
+            KeyAt::Root(_) => false,
+            KeyAt::RootAgain { .. } => false,
+            KeyAt::Down(at) => self.swaps_in_at(at, main),
+        }
+    }
+
+    fn swaps_in_at(&self, at: &BelowAt, main: Ref) -> bool
+        ensures { (told : Option ℕ) → result ≡ swaps_in main (below_line self.now told at.now) }
+    {
+        match at {
+            BelowAt::Read => false,
+            BelowAt::Main { .. } => false,
+            BelowAt::Entry { .. } => false,
+            BelowAt::Listed { .. } => false,
+            BelowAt::Change(change) => change.swaps_in(&self.work.swap, main),
+            BelowAt::Renew => false,
+            BelowAt::Clean => false,
+            BelowAt::Climb(_) => false,
             BelowAt::End(_) => false,
             BelowAt::Impossible => false,
         }

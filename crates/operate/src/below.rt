@@ -20,7 +20,7 @@ ghost use Rattle.operate.specs.Beneath.key_change.specs.Lines.{line_of as change
 ghost use Rattle.operate.specs.Beneath.key_change.specs.Steps.{CanChange, line_behind as line_tried};
 ghost use Rattle.key_finding.specs.Lines.{line_found};
 ghost use Rattle.operate.specs.Places.{key_line, below_line, changed_line, former_of};
-ghost use Rattle.operate.specs.Steps.{CommitsNoMore, KeySteps, KeyActs, CanBelow, operation_for};
+ghost use Rattle.operate.specs.Steps.{CommitsNoMore, KeySteps, KeyActs, CanBelow, ReadsAt, operation_for};
 
 use crate::key_op::{BelowAt, KeyAt, KeyOp};
 use contract::Climb;
@@ -47,6 +47,7 @@ impl KeyOp {
         ensures asks { IfOk result (λ next. IsAskingRoot next → (self.new ≡ record self.old { place = KeyAt.Down (at.now) }) × (heap.new ≡ heap.old)) }
         ensures err { OnErr result ((self.new ≡ record self.old { place = KeyAt.Down (at.now) }) × (heap.new ≡ heap.old)) }
         ensures only_memory { IfErr result (λ refusal. refusal ≡ Refusal.Memory) }
+        ensures stands { OnOk result (ReadsAt self.new.place self.new.work.swap.read) }
     {
         self.place = KeyAt::Down(*at);
         match at {
@@ -70,6 +71,7 @@ impl KeyOp {
         ensures acts { KeyActs heap.old self.old (line.Key (key.Read self.old.path (read_of self.old.work.swap.read root_seen))) heap.new self.new.work.private }
         ensures same { (self.new.task ≡ self.old.task) × (self.new.work.swap.read.access ≡ self.old.work.swap.read.access) }
         ensures asks { IsAskingRoot result → (self.new ≡ record self.old { place = KeyAt.Down (BelowAt.Read) }) × (heap.new ≡ heap.old) }
+        ensures stands { ReadsAt self.new.place self.new.work.swap.read }
     {
         self.place = KeyAt::Down(BelowAt::Read);
         match self.work.read(heap, root_seen) {
@@ -89,6 +91,7 @@ impl KeyOp {
         ensures taken { IfOk result (λ next. IsAskingRoot next → ⊥) }
         ensures err { OnErr result (self.new ≡ self.old) }
         ensures only_memory { IfErr result (λ refusal. refusal ≡ Refusal.Memory) }
+        ensures stands { OnOk result (ReadsAt self.new.place self.new.work.swap.read) }
     {
         let found = after_main(
             heap,
@@ -113,6 +116,7 @@ impl KeyOp {
         ensures taken { IfOk result (λ next. IsAskingRoot next → ⊥) }
         ensures err { OnErr result (self.new ≡ self.old) }
         ensures only_memory { IfErr result (λ refusal. refusal ≡ Refusal.Memory) }
+        ensures stands { OnOk result (ReadsAt self.new.place self.new.work.swap.read) }
     {
         let found = after_entry(
             heap,
@@ -138,6 +142,7 @@ impl KeyOp {
         ensures taken { IfOk result (λ next. IsAskingRoot next → ⊥) }
         ensures err { OnErr result (self.new ≡ self.old) }
         ensures only_memory { IfErr result (λ refusal. refusal ≡ Refusal.Memory) }
+        ensures stands { OnOk result (ReadsAt self.new.place self.new.work.swap.read) }
     {
         let found = after_listed(
             heap,
@@ -157,6 +162,7 @@ impl KeyOp {
         ensures same { (self.new.task ≡ self.old.task) × (self.new.work.private ≡ self.old.work.private) × (self.new.work.swap.read.access ≡ self.old.work.swap.read.access) }
         ensures err { OnErr result (self.new ≡ self.old) }
         ensures only_memory { IfErr result (λ refusal. refusal ≡ Refusal.Memory) }
+        ensures stands { OnOk result (ReadsAt self.new.place self.new.work.swap.read) }
     {
         match found {
             Found::Down { below } => self.go_down(below),
@@ -198,6 +204,7 @@ impl KeyOp {
         ensures same { (self.new.task ≡ self.old.task) × (self.new.work.private ≡ self.old.work.private) × (self.new.work.swap.read.access ≡ self.old.work.swap.read.access) }
         ensures err { OnErr result (self.new ≡ self.old) }
         ensures only_memory { IfErr result (λ refusal. refusal ≡ Refusal.Memory) }
+        ensures stands { OnOk result (ReadsAt self.new.place self.new.work.swap.read) }
     {
         self.path.push(below)?;
         self.read_next(below);
@@ -208,6 +215,7 @@ impl KeyOp {
     fn clean_parent(&mut self)
         ensures line { key_line self.new None ≡ line.Clean (clean.Read (above self.old.path) (reading (current (above self.old.path)))) }
         ensures same { (self.new.task ≡ self.old.task) × (self.new.work.private ≡ self.old.work.private) × (self.new.work.swap.read.access ≡ self.old.work.swap.read.access) }
+        ensures stands { ReadsAt self.new.place self.new.work.swap.read }
     {
         let parent = current(above(self.path.as_slice()));
         self.clean.begin(&mut self.work, parent);
@@ -229,6 +237,7 @@ impl KeyOp {
         ensures asks { IfOk result (λ next. IsAskingRoot next → (self.new ≡ record self.old { place = KeyAt.Down (BelowAt.Change change) }) × (heap.new ≡ heap.old)) }
         ensures err { OnErr result ((self.new ≡ self.old) × (heap.new ≡ heap.old)) }
         ensures only_memory { IfErr result (λ refusal. refusal ≡ Refusal.Memory) }
+        ensures stands { OnOk result (ReadsAt self.new.place self.new.work.swap.read) }
     {
         let mut change = change;
         let tomb = tomb_at(heap, self.work.swap.fresh);
@@ -262,6 +271,7 @@ impl KeyOp {
             key_line self.new None ≡ line_tried state (operation_for self.old operation) self.old.path fresh tried }
         ensures same { (self.new.task ≡ self.old.task) × (self.new.work.private ≡ self.old.work.private) × (self.new.work.swap.read.access ≡ self.old.work.swap.read.access) }
         ensures reads { CommitsNoMore self.old.work.swap.read.at self.new.work.swap.read.at }
+        ensures stands { ReadsAt self.new.place self.new.work.swap.read }
     {
         match tried {
             Tried::Changed { former } => match tomb {

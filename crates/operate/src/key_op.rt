@@ -15,7 +15,7 @@ ghost use Rattle.operate.specs.Beneath.rdcss_root.specs.Acts.{ActsInAll};
 ghost use Rattle.operate.specs.Beneath.rdcss_root.specs.Programs.{root_of, CanRootOn, rooted_at};
 ghost use Rattle.operate.specs.Beneath.rdcss_root.specs.Tables.{word_in};
 ghost use Rattle.operate.specs.Places.{key_line, key_line_at};
-ghost use Rattle.operate.specs.Steps.{RootSteps, RootActs, CommitsNoMore, KeepsGeneration, CanKey, table_after};
+ghost use Rattle.operate.specs.Steps.{RootSteps, RootActs, CommitsNoMore, KeepsGeneration, CanKey, ReadsAt, table_after};
 
 use crate::path::Path;
 use contract::{Clean, Climb, Renew};
@@ -144,6 +144,7 @@ impl KeyOp {
         ensures generation { IfOk result (λ next. KeepsGeneration heap.old.heap (word_in roots.old handle) self.old (key_line self.old root_seen) self.new.task next) }
         ensures task { OnOk result (self.new.task ≡ record self.old.task { generation = self.new.task.generation }) }
         ensures access { self.new.work.swap.read.access ≡ self.old.work.swap.read.access }
+        ensures stands { OnOk result (ReadsAt self.new.place self.new.work.swap.read) }
         ensures asks { IfOk result (λ next. IsAskingRoot next → (self.new ≡ self.old) × (roots.new ≡ roots.old) × (heap.new ≡ heap.old)) }
         ensures err { OnErr result ((self.new ≡ self.old) × (roots.new ≡ roots.old) × (heap.new ≡ heap.old)) }
         ensures only_memory { IfErr result (λ refusal. refusal ≡ Refusal.Memory) }
@@ -185,6 +186,7 @@ impl KeyOp {
         ensures task { self.new.task ≡ record self.old.task { generation = self.new.task.generation } }
         ensures same { (self.new.work.private ≡ self.old.work.private) × (self.new.work.swap.read.access ≡ self.old.work.swap.read.access) }
         ensures asks { IsAskingRoot result → (self.new ≡ record self.old { place = KeyAt.Root root }) × (roots.new ≡ roots.old) × (heap.new ≡ heap.old) }
+        ensures stands { ReadsAt self.new.place self.new.work.swap.read }
     {
         let mut root = root;
         match root.step(&mut self.work.swap.read, roots, handle, heap, root_seen) {
@@ -234,6 +236,7 @@ impl KeyOp {
         ensures same { (self.new.task ≡ self.old.task) × (self.new.work.private ≡ self.old.work.private) × (self.new.work.swap.read.access ≡ self.old.work.swap.read.access) }
         ensures asks { IsAskingRoot result → (self.new ≡ record self.old { place = KeyAt.RootAgain single former root })
             × (roots.new ≡ roots.old) × (heap.new ≡ heap.old) }
+        ensures stands { ReadsAt self.new.place self.new.work.swap.read }
     {
         let mut root = root;
         match root.step(&mut self.work.swap.read, roots, handle, heap, root_seen) {
@@ -278,6 +281,7 @@ impl KeyOp {
             ≡ climbing (for_task self.old.task access operation) (record { path = self.old.path; single = single; former = former }) }
         ensures same { (self.new.task ≡ self.old.task) × (self.new.work.private ≡ self.old.work.private) × (self.new.work.swap.read.access ≡ self.old.work.swap.read.access) }
         ensures reads { CommitsNoMore self.old.work.swap.read.at self.new.work.swap.read.at }
+        ensures stands { ReadsAt self.new.place self.new.work.swap.read }
     {
         let path = self.path.as_slice();
         if is_below_root(path) {

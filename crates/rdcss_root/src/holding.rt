@@ -29,9 +29,7 @@ fn release_all(heap: &mut Heap, refs: &[Ref])
     requires { AreHeld refs.now heap.old }
     ensures { Releases refs.now heap.old heap.new }
 {
-    for at in refs {
-        heap.release(*at);
-    }
+    trie_parts::release_all(heap, refs);
 }
 
 fn hold_word(heap: &mut Heap, word: RootWord)

@@ -30,7 +30,8 @@ use Rattle.root_asking.specs.Beneath.machine_model.specs.Cleaning.{clean_after_r
 use Rattle.root_asking.specs.Beneath.machine_model.specs.Climbing.{climb_after_read, climb_after_root}
 use Rattle.root_asking.specs.Beneath.machine_model.specs.Copying.{copy_after_read, copy_after_complete}
 use Rattle.root_asking.specs.Beneath.machine_model.specs.Finding.{key_after_read}
-use Rattle.root_asking.specs.Beneath.machine_model.specs.Operations.{after_root, after_swap, completing_read, swapping_read, keying_read, renewing_read, cleaning_read, climbing_read, copying_read, walking_read}
+use Rattle.root_asking.specs.Beneath.machine_model.specs.Operations.{after_root, after_swap, completing_read, swapping_read, keying_read}
+use Rattle.root_asking.specs.Beneath.machine_model.specs.Operations.{renewing_read, cleaning_read, climbing_read, copying_read, walking_read}
 use Rattle.root_asking.specs.Beneath.machine_model.specs.Reading.{at_indirection}
 use Rattle.root_asking.specs.Beneath.machine_model.specs.Renewing.{renew_after_read}
 use Rattle.root_asking.specs.Beneath.machine_model.specs.Swapping.{of_offer, after_reading, after_completing, after_deciding, on_line}

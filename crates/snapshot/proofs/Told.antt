@@ -18,7 +18,8 @@ use Rattle.snapshot.specs.Telling.{TellsSnap, TellsWalk}
 use Rattle.snapshot.specs.Walks.{walk_line_at}
 
 rooted : (root : Ref) (r : Read) (told : Option ℕ) (offer : Descriptor) (c : CompleteAt) →
-    snap_line_at root r told (at.Root (rooting.Completing (record { offer = offer; at = c }))) ≡ with_read (line_of r told) (snap_line_at root r None (at.Root (rooting.Completing (record { offer = offer; at = c }))))
+    snap_line_at root r told (at.Root (rooting.Completing (record { offer = offer; at = c })))
+    ≡ with_read (line_of r told) (snap_line_at root r None (at.Root (rooting.Completing (record { offer = offer; at = c }))))
 rooted root r told offer complete.Reading = refl
 rooted root r told offer (complete.Swap main) = refl
 

@@ -25,7 +25,7 @@ use Rattle.snapshot.specs.Beneath.gcas.specs.Reads.{read_of, CanReadOn}
 use Rattle.trie_parts.specs.Here.{no_state, no_operation}
 use Rattle.trie_parts.specs.Steps.{CanMake}
 use Rattle.snapshot.specs.Beneath.rdcss_root.specs.Holds.{root_refs}
-use Rattle.snapshot.specs.Beneath.rdcss_root.specs.Programs.{root_of, complete_of, CanRootOn, CanCompleteOn}
+use Rattle.snapshot.specs.Beneath.rdcss_root.specs.Programs.{root_of, complete_of, CanRootOn, CanCompleteOn, ReadsItsRoot, ReadsOffered}
 use Rattle.snapshot.specs.Beneath.rdcss_root.specs.Tables.{Table}
 use Rattle.snapshot.specs.declared.snap.Making.{Making}
 use Rattle.snapshot.specs.declared.snap.Making.TheVariants as making
@@ -93,3 +93,17 @@ CanSnapAt memory table r generation (at.Complete c) = CanCompleteOn memory table
 -- what is going to be changed, or referred to, is in use, and of its kind; a new root is of this generation
 abbrev pub CanSnap : Memory → Table → Read → ℕ → Snap → Type 0
 CanSnap memory table r generation s = CanSnapAt memory table r generation s.at
+
+-- where it completes an offer its READ is that of the root which is to be swapped
+abbrev pub ReadsAt : SnapAt → Read → Type 0
+ReadsAt (at.Root l) r = ReadsItsRoot l r
+ReadsAt at.Read r = Unit {0}
+ReadsAt (at.Make m) r = Unit {0}
+ReadsAt (at.Offer offer) r = Unit {0}
+ReadsAt (at.Complete c) r = ReadsOffered c.at c.offer r
+
+-- so it stands behind a step, unless that was the last one
+abbrev pub ReadsFor : Next SnapReply → Snap → Read → Type 0
+ReadsFor (More k) s r = ReadsAt s.at r
+ReadsFor AskRoot s r = Unit {0}
+ReadsFor (Done k answer) s r = Unit {0}

@@ -63,7 +63,10 @@ impl Entries {
         root_seen: Option<u64>,
     ) -> Result<Next<Walked>, Refusal>
         requires { CanWalk heap.old.heap work.old.swap.read self.old.walk }
-        ensures follows { IfOk result (λ next. (state : State) (operation : Operation) → StepsOn (at_roots state heap.old.heap roots.now) (on_call (EntriesCall handle) work.old.swap.read.access operation) (walk_line work.old.swap.read root_seen self.old.walk) (walk_line work.new.swap.read None self.new.walk) work.new.swap.read.at (behind_walk (EntriesCall handle) self.new.walk.pairs) next) }
+        ensures follows { IfOk result (λ next. (state : State) (operation : Operation) →
+            StepsOn (at_roots state heap.old.heap roots.now) (on_call (EntriesCall handle) work.old.swap.read.access operation)
+            (walk_line work.old.swap.read root_seen self.old.walk) (walk_line work.new.swap.read None self.new.walk) work.new.swap.read.at
+            (behind_walk (EntriesCall handle) self.new.walk.pairs) next) }
         ensures acts { OnOk result (Acts heap.old work.old.private (snap_action (walk_line work.old.swap.read root_seen self.old.walk)) heap.new work.new.private) }
         ensures access { work.new.swap.read.access ≡ work.old.swap.read.access }
         ensures asks { IfOk result (λ next. IsAskingRoot next → (self.new ≡ self.old) × (work.new ≡ work.old) × (heap.new ≡ heap.old)) }
@@ -123,7 +126,10 @@ impl Count {
         root_seen: Option<u64>,
     ) -> Result<Next<Walked>, Refusal>
         requires { CanWalk heap.old.heap work.old.swap.read self.old.walk }
-        ensures follows { IfOk result (λ next. (state : State) (operation : Operation) → StepsOn (at_roots state heap.old.heap roots.now) (on_call (CountCall handle) work.old.swap.read.access operation) (walk_line work.old.swap.read root_seen self.old.walk) (walk_line work.new.swap.read None self.new.walk) work.new.swap.read.at (behind_walk (CountCall handle) self.new.walk.pairs) next) }
+        ensures follows { IfOk result (λ next. (state : State) (operation : Operation) →
+            StepsOn (at_roots state heap.old.heap roots.now) (on_call (CountCall handle) work.old.swap.read.access operation)
+            (walk_line work.old.swap.read root_seen self.old.walk) (walk_line work.new.swap.read None self.new.walk) work.new.swap.read.at
+            (behind_walk (CountCall handle) self.new.walk.pairs) next) }
         ensures acts { OnOk result (Acts heap.old work.old.private (snap_action (walk_line work.old.swap.read root_seen self.old.walk)) heap.new work.new.private) }
         ensures access { work.new.swap.read.access ≡ work.old.swap.read.access }
         ensures asks { IfOk result (λ next. IsAskingRoot next → (self.new ≡ self.old) × (work.new ≡ work.old) × (heap.new ≡ heap.old)) }

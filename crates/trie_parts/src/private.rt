@@ -104,7 +104,7 @@ pub fn keep(items: &mut Vec<Ref>, at: Ref)
 }
 
 /// Releases each of these references once.
-fn release_all(heap: &mut Heap, held: &[Ref])
+pub fn release_all(heap: &mut Heap, held: &[Ref])
     requires held { AreHeld held.now heap.old }
     ensures heap { heap.new.heap ≡ heap.old.heap }
     ensures others { KeepsOthers held.now heap.old [] heap.new }

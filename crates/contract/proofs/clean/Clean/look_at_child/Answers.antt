@@ -15,6 +15,7 @@ returns-clause-follows c =
     MatchResult-weaker c.put.result c.put.ensures.follows
     (λ next told state hashes operation path s place.
     let here = at_heap state c.args.heap.now.heap hashes in
-    looked here operation (line.Clean (clean.Tomb path main done c.args.child)) (clean_next here path main (done ++ c.kept-entry.result ∷ [])) (clean_line path s None c.put.new.self) place next refl refl
+    looked here operation (line.Clean (clean.Tomb path main done c.args.child)) (clean_next here path main (done ++ c.kept-entry.result ∷ []))
+    (clean_line path s None c.put.new.self) place next refl refl
     (rw (← c.as_slice.ensures) (c.kept-entry.ensures state hashes path)) (told state hashes path s))
     (λ refusal told. told)

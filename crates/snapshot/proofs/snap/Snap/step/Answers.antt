@@ -29,7 +29,19 @@ returns-in-Read-clause-acts c =
 
 pub returns-in-Make-clause-acts : goal.returns-in-Make-clause-acts
 returns-in-Make-clause-acts c =
-    rw c.in-Make.is (of_making c.args.heap.now c.make.new.heap c.args.work.now.private c.make.new.work.private c.make.result c.args.roots.now.roots c.args.generations.now c.args.self.now.root c.in-Make.making c.make.ensures.acts)
+    rw c.in-Make.is (
+    of_making
+    c.args.heap.now
+    c.make.new.heap
+    c.args.work.now.private
+    c.make.new.work.private
+    c.make.result
+    c.args.roots.now.roots
+    c.args.generations.now
+    c.args.self.now.root
+    c.in-Make.making
+    c.make.ensures.acts
+    )
 
 pub returns-in-Offer-clause-follows : goal.returns-in-Offer-clause-follows
 returns-in-Offer-clause-follows c =
