@@ -29,7 +29,10 @@ use ctrie_base::{Kind, Refusal};
 use epochs::Heap;
 use slot_arena::{Node, Ref};
 use std::alloc::Global;
-use trie_parts::{Next, Swap, Task, Work, bitmap_at, contracted, current, entries_at, entry_at, is_below_root, is_single_at, node_at};
+use trie_parts::{
+    Next, Swap, Task, Work, bitmap_at, contracted, current, entries_at, entry_at, is_below_root,
+    is_single_at, node_at,
+};
 
 /// Where a cleaning stands.
 #[derive(Clone, Copy)]

@@ -34,7 +34,10 @@ use ctrie_base::{Kind, Refusal};
 use epochs::Heap;
 use nodes::{has_flag, position_of};
 use slot_arena::{Node, Ref};
-use trie_parts::{Next, Swap, Task, Work, above, bitmap_at, contracted_at, current, entry_at, is_below_root, node_at};
+use trie_parts::{
+    Next, Swap, Task, Work, above, bitmap_at, contracted_at, current, entry_at, is_below_root,
+    node_at,
+};
 
 /// Where a climb stands.
 #[derive(Clone, Copy)]

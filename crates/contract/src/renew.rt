@@ -25,7 +25,9 @@ use ctrie_base::{Kind, Refusal};
 use epochs::Heap;
 use slot_arena::{Node, Ref};
 use std::alloc::Global;
-use trie_parts::{Next, Swap, Task, Work, bitmap_at, current, entry_at, entry_count, node_at, renewed};
+use trie_parts::{
+    Next, Swap, Task, Work, bitmap_at, current, entry_at, entry_count, node_at, renewed,
+};
 
 /// Where a renewing stands.
 #[derive(Clone, Copy)]

@@ -20,7 +20,9 @@ ghost use Rattle.key_change.specs.Built.{build_line, built, depth_for};
 use epochs::Heap;
 use nodes::list_depth;
 use slot_arena::{Node, Ref};
-use trie_parts::{Change as NodeChange, Site, Task, changed_at, entry_at, key_at, pair, parting, rung};
+use trie_parts::{
+    Change as NodeChange, Site, Task, changed_at, entry_at, key_at, pair, parting, rung,
+};
 
 /// A step that makes a node for a change of one key. `former` is the key's value before the change.
 #[derive(Clone, Copy)]

@@ -54,9 +54,9 @@ acts_on_table state table handle actor (act.Complete offer main) same =
     either (stands_in (word_at state handle) offer) (stands_in (word_in table handle) offer) _ state _ table
     (ap (λ word. stands_in word offer) (words state table handle same))
     (
-      chosen (main == offer.expected) (carried_out state handle offer) (with_word state handle (Plain offer.root))
-      (carried_out_in table handle offer) (with_word_in table handle (Plain offer.root))
-      (carries state table handle offer same) (rewrites state table handle (Plain offer.root) same)
+    chosen (main == offer.expected) (carried_out state handle offer) (with_word state handle (Plain offer.root))
+    (carried_out_in table handle offer) (with_word_in table handle (Plain offer.root))
+    (carries state table handle offer same) (rewrites state table handle (Plain offer.root) same)
     )
     (sym same)
 acts_on_table state table handle actor (act.ReadMain indirection) same = sym same

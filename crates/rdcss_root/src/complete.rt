@@ -20,8 +20,8 @@ ghost use Rattle.rdcss_root.specs.Beneath.gcas.specs.declared.read.Read.{Read as
 use crate::roots::Roots;
 use ctrie_base::Kind;
 use epochs::Heap;
-use trie_parts::{Descriptor, Next, Read};
 use slot_arena::Ref;
+use trie_parts::{Descriptor, Next, Read};
 
 /// Where a COMPLETE stands.
 #[derive(Clone, Copy)]

@@ -10,8 +10,8 @@ ghost use Rattle.trie_parts.specs.Holding.{AreHeld};
 ghost use Rattle.rdcss_root.specs.Holds.{Holds, Releases};
 
 use epochs::Heap;
-use trie_parts::{Root, RootWord};
 use slot_arena::Ref;
+use trie_parts::{Root, RootWord};
 
 /// Holds each of these references once more.
 fn hold_all(heap: &mut Heap, refs: &[Ref])

@@ -16,8 +16,8 @@ use crate::complete::Complete;
 use crate::roots::Roots;
 use ctrie_base::Kind;
 use epochs::Heap;
-use trie_parts::{Next, Read, RootWord};
 use slot_arena::Ref;
+use trie_parts::{Next, Read, RootWord};
 
 /// A ROOT. Its READ is the operation's.
 #[derive(Clone, Copy)]

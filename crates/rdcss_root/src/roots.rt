@@ -13,10 +13,10 @@ use crate::holding::{hold_root, release_root};
 use crate::words::{is_plain, stands_in};
 use epochs::Heap;
 use history::Access;
-use trie_parts::{Descriptor, Root, RootWord};
 use slot_arena::Ref;
 use std::alloc::{AllocError, Global};
 use std::marker::Model;
+use trie_parts::{Descriptor, Root, RootWord};
 
 /// How many handles can be open.
 const HANDLES: usize = 256;

@@ -39,9 +39,9 @@ same_action indirection main previous (Told generation) untold = absurd untold
 -- where the READ goes on, the program does
 asks : (heap : Heap) (table : Table) (handle : ℕ) (before after : Asking) (k : Kind) → IsUntold before →
     (
-      (indirection main previous : Ref) →
-      (kind_of (read_action indirection (asked_at main previous before)) ≡ k)
-      × (read_after heap Writable (word_in table handle) indirection (asked_at main previous before) ≡ Goes (asked_at main previous after))
+    (indirection main previous : Ref) →
+    (kind_of (read_action indirection (asked_at main previous before)) ≡ k)
+    × (read_after heap Writable (word_in table handle) indirection (asked_at main previous before) ≡ Goes (asked_at main previous after))
     ) →
     AsksOn heap table handle before after k
 asks heap table handle before after k untold steps = λ state operation l indirection main previous is writable same.

@@ -48,9 +48,9 @@ draws_generations state handle (act.Complete offer main) = (
   acts_on_heap state handle (act.Complete offer main) tt,
   both (stands_in (word_at state handle) offer) _ state
       (
-        chosen (main == offer.expected) (carried_out state handle offer) (with_word state handle (Plain offer.root)) state
-        (opens_beside (with_word state handle (Plain offer.successor)) offer offer.opens)
-        refl
+      chosen (main == offer.expected) (carried_out state handle offer) (with_word state handle (Plain offer.root)) state
+      (opens_beside (with_word state handle (Plain offer.successor)) offer offer.opens)
+      refl
       ),
 )
 draws_generations state handle (act.ReadMain indirection) = (refl, refl)

@@ -18,7 +18,7 @@
 
 mod entries;
 mod laws;
-mod makings;
+mod made;
 mod snap;
 mod taken;
 mod tasks;

@@ -24,12 +24,12 @@ ghost use Rattle.snapshot.specs.Beneath.rdcss_root.specs.Tables.{Table, acted_ta
 ghost use Rattle.snapshot.specs.Copies.{snap_line, snap_action, KeepsGeneration, ReadsFor, line_behind, CanSnap, IsReadyBeside};
 ghost use Rattle.snapshot.specs.Tasks.{at_roots, call_of, for_task, mark_of, reply_of, with_generation, drawn_by};
 
+use crate::made::first_making;
 use crate::tasks::{SnapCall, SnapReply, SnapTask};
 use ctrie_base::{Kind, Refusal};
 use epochs::Heap;
 use root_asking::{Complete, Offer, ReadRoot, Roots};
 use slot_arena::Ref;
-use crate::makings::first_making;
 use trie_parts::{Next, Read, Work, generation_at};
 
 /// What is to be made for the swap of a root whose main node is `main`.

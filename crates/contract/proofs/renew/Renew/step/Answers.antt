@@ -3,9 +3,9 @@ use Rattle.contract.proofs.renew.Renew.step.Goals as goal
 
 pub returns-in-Entry-clause-follows : goal.returns-in-Entry-clause-follows
 returns-in-Entry-clause-follows c = rw c.in-Entry.is (
-      MatchResult-weaker c.look.result c.look.ensures.follows
-      (λ next told state operation. told state operation c.args.path.now)
-      (λ refusal told. told)
+    MatchResult-weaker c.look.result c.look.ensures.follows
+    (λ next told state operation. told state operation c.args.path.now)
+    (λ refusal told. told)
     )
 
 pub returns-in-Read-clause-follows : goal.returns-in-Read-clause-follows
@@ -16,30 +16,30 @@ returns-in-Read-clause-acts c = λ state operation. rw c.in-Read.is (c.read.ensu
 
 pub returns-in-Link-clause-follows : goal.returns-in-Link-clause-follows
 returns-in-Link-clause-follows c = rw c.in-Link.is (
-      MatchResult-weaker c.link.result c.link.ensures.follows
-      (λ next told state operation. told state operation c.args.path.now)
-      (λ refusal told. told)
+    MatchResult-weaker c.link.result c.link.ensures.follows
+    (λ next told state operation. told state operation c.args.path.now)
+    (λ refusal told. told)
     )
 
 pub returns-in-Link-clause-acts : goal.returns-in-Link-clause-acts
 returns-in-Link-clause-acts c = rw c.in-Link.is (
-      MatchResult-weaker c.link.result c.link.ensures.acts
-      (λ next told state operation. told state operation c.args.path.now)
-      (λ refusal told. told)
+    MatchResult-weaker c.link.result c.link.ensures.acts
+    (λ next told state operation. told state operation c.args.path.now)
+    (λ refusal told. told)
     )
 
 pub returns-in-Branch-clause-follows : goal.returns-in-Branch-clause-follows
 returns-in-Branch-clause-follows c = rw c.in-Branch.is (
-      MatchResult-weaker c.make_branch.result c.make_branch.ensures.follows
-      (λ next told state operation. told state operation c.args.task)
-      (λ refusal told. told)
+    MatchResult-weaker c.make_branch.result c.make_branch.ensures.follows
+    (λ next told state operation. told state operation c.args.task)
+    (λ refusal told. told)
     )
 
 pub returns-in-Branch-clause-acts : goal.returns-in-Branch-clause-acts
 returns-in-Branch-clause-acts c = rw c.in-Branch.is (
-      MatchResult-weaker c.make_branch.result c.make_branch.ensures.acts
-      (λ next told state operation. told state operation c.args.task.hashes)
-      (λ refusal told. told)
+    MatchResult-weaker c.make_branch.result c.make_branch.ensures.acts
+    (λ next told state operation. told state operation c.args.task.hashes)
+    (λ refusal told. told)
     )
 
 pub returns-in-Swap-clause-follows : goal.returns-in-Swap-clause-follows
