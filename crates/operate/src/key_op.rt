@@ -271,6 +271,7 @@ impl KeyOp {
     pub(crate) fn answer(&mut self, former: Option<u64>)
         ensures line { (access : AnAccess) (operation : Operation) → key_line self.new None ≡ climbed (for_task self.old.task access operation) former }
         ensures same { self.new ≡ record self.old { place = self.new.place } }
+        ensures stands { ReadsAt self.new.place self.new.work.swap.read }
     {
         self.place = KeyAt::Down(BelowAt::End(changed_reply(self.task.call, former)));
     }
