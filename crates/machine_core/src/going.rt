@@ -1,33 +1,296 @@
 //! A step of an operation: all of it but for limbo and the count of steps.
 
-ghost use Rattle.std.specs.Prelude.{◌≡◌, IfErr, IfOk, OnErr, Some, IsSome};
+ghost use Rattle.std.specs.Prelude.{◌≡◌, ◌+◌, ◌-◌, ◌<◌, ◌≤◌, ◌∷◌, ◌++◌, [], length, slice_get, slice_set, option_to_list, IfErr, IfOk, OnErr, OnOk, Some, None, IsSome, MatchOption};
+ghost use Rattle.slot_arena.specs.Refs.{slot_of};
+ghost use Rattle.slot_arena.specs.Arenas.{IsLive};
 ghost use Rattle.machine_model.specs.declared.operations.Operation.{Operation};
 ghost use Rattle.machine_model.specs.States.{operation_of};
 ghost use Rattle.machine_model.specs.Operations.{action_of};
+ghost use Rattle.machine_model.specs.Acting.{gone};
 ghost use Rattle.machine_model.specs.Machine.{went};
+ghost use Rattle.chronicle.specs.Committed.{IsNewest};
+ghost use Rattle.operate.specs.Places.{answer_of};
+ghost use Rattle.running.specs.Places.{line_for, IsSound};
+ghost use Rattle.running.specs.Steps.{scene, CanStep};
 ghost use Rattle.machine_core.specs.Bounds.{IsOfRun};
-ghost use Rattle.machine_core.specs.Keeping.{IsKept};
-ghost use Rattle.machine_core.specs.Seen.{seen};
+ghost use Rattle.machine_core.specs.Going.{entered_for, moved, Midway, Steps, StepsTo};
+ghost use Rattle.machine_core.specs.Keeping.{IsKept, Replaces};
+ghost use Rattle.machine_core.specs.Seen.{actor_of, seen, under_way_of};
+ghost use Rattle.machine_core.specs.declared.parts.Actor.{Actor as AnActor};
 
-use crate::parts::Parts;
-use ctrie_base::Refusal;
+use crate::finishing::{end, place_of};
+use crate::parts::{Actor, Parts, UnderWay};
+use chronicle::Commits;
+use ctrie_base::{Kind, Refusal};
+use epochs::Heap;
+use history::Reply;
 use machine_model::Outcome;
+use rdcss_root::Roots;
+use running::{Program, Taken};
+use slot_arena::Ref;
 
-/// What the step of the actor's operation does, but for what every step does at its end. After an error
-/// nothing has changed.
-// A stub: it gives up. The helper fast2 writes the body.
-pub fn go_on(_parts: &mut Parts, _actor: u8) -> Result<Outcome, Refusal>
-    requires run { IsOfRun (seen _parts.old) }
-    requires kept { IsKept _parts.old }
-    requires runs { IsSome (operation_of (seen _parts.old) _actor) }
+/// What the step of the actor's operation does, but for what every step does at its end. After an error nothing
+/// that is seen has changed.
+pub fn go_on(parts: &mut Parts, actor: u8) -> Result<Outcome, Refusal>
+    requires run { IsOfRun (seen parts.old) }
+    requires kept { IsKept parts.old }
+    requires runs { IsSome (operation_of (seen parts.old) actor) }
     ensures ok { IfOk result (λ outcome. (operation : Operation) →
-        operation_of (seen _parts.old) _actor ≡ Some operation →
-        went (seen _parts.old) _actor operation (action_of (seen _parts.old) operation)
-        ≡ (outcome, seen _parts.new)) }
-    ensures err { OnErr result (seen _parts.new ≡ seen _parts.old) }
+        operation_of (seen parts.old) actor ≡ Some operation →
+        went (seen parts.old) actor operation (action_of (seen parts.old) operation)
+        ≡ (outcome, seen parts.new)) }
+    ensures err { OnErr result (seen parts.new ≡ seen parts.old) }
     ensures only_memory { IfErr result (λ refusal. refusal ≡ Refusal.Memory) }
-    ensures kept { IsKept _parts.new }
-    ensures noted { OnErr result (_parts.new.heap.noted ≡ _parts.old.heap.noted) }
+    ensures kept { IsKept parts.new }
+    ensures noted { OnErr result (parts.new.heap.noted ≡ parts.old.heap.noted) }
 {
-    Err(Refusal::Memory)
+    match under_way(parts, actor) {
+        Some(under_way) => match reply_of(parts, actor, under_way.program)? {
+            Some(reply) => end(parts, actor, under_way, reply),
+            None => proceed(parts, actor, under_way),
+        },
+        // It runs one.
+        None => Err(Refusal::Memory),
+    }
+}
+
+/// What the actor has under way.
+fn under_way(parts: &Parts, actor: u8) -> Option<UnderWay>
+    ensures { result ≡ under_way_of parts.now actor }
+{
+    match parts.actor(actor) {
+        Some(found) => found.under_way,
+        None => None,
+    }
+}
+
+/// The reply with which the actor's operation ends by its next step, if it does.
+fn reply_of(parts: &Parts, actor: u8, program: Program) -> Result<Option<Reply>, Refusal>
+    ensures reply { IfOk result (λ reply. (found : AnActor) → actor_of parts.now actor ≡ Some found → reply ≡ answer_of (line_for program found.programs)) }
+    ensures only_memory { IfErr result (λ refusal. refusal ≡ Refusal.Memory) }
+{
+    match parts.actor(actor) {
+        Some(found) => found.programs.reply(program),
+        None => Ok(None),
+    }
+}
+
+/// Takes a step of the actor's operation that isn't its end. After an error nothing that is seen has changed.
+fn proceed(parts: &mut Parts, actor: u8, under_way: UnderWay) -> Result<Outcome, Refusal>
+    requires run { IsOfRun (seen parts.old) }
+    requires kept { IsKept parts.old }
+    requires runs { under_way_of parts.old actor ≡ Some under_way }
+    requires goes_on { (found : AnActor) → actor_of parts.old actor ≡ Some found → answer_of (line_for under_way.program found.programs) ≡ None }
+    ensures ok { IfOk result (λ outcome. (operation : Operation) →
+        operation_of (seen parts.old) actor ≡ Some operation →
+        went (seen parts.old) actor operation (action_of (seen parts.old) operation)
+        ≡ (outcome, seen parts.new)) }
+    ensures err { OnErr result (seen parts.new ≡ seen parts.old) }
+    ensures only_memory { IfErr result (λ refusal. refusal ≡ Refusal.Memory) }
+    ensures kept { IsKept parts.new }
+    ensures noted { OnErr result (parts.new.heap.noted ≡ parts.old.heap.noted) }
+{
+    parts.journal.chronicle.room_for(parts.begun)?;
+    let taken = step(parts, actor, under_way)?;
+    note(parts, actor, under_way, &taken);
+    Ok(Outcome::Went(taken.kind))
+}
+
+/// Lets the actor's programs take the step. After an error nothing has changed.
+fn step(parts: &mut Parts, actor: u8, under_way: UnderWay) -> Result<Taken, Refusal>
+    requires run { IsOfRun (seen parts.old) }
+    requires kept { IsKept parts.old }
+    requires runs { under_way_of parts.old actor ≡ Some under_way }
+    ensures steps { IfOk result (λ taken. Steps parts.old actor under_way taken parts.new) }
+    ensures err { OnErr result (seen parts.new ≡ seen parts.old) }
+    ensures kept { OnErr result (IsKept parts.new) }
+    ensures noted { OnErr result (parts.new.heap.noted ≡ parts.old.heap.noted) }
+    ensures only_memory { IfErr result (λ refusal. refusal ≡ Refusal.Memory) }
+{
+    let index = actor as usize - 1;
+    step_at(
+        &mut parts.actors,
+        index,
+        under_way,
+        &mut parts.table,
+        &mut parts.generations,
+        &mut parts.heap,
+    )
+}
+
+/// The same, for the actor with this index.
+fn step_at(
+    actors: &mut Vec<Actor>,
+    index: usize,
+    under_way: UnderWay,
+    table: &mut Roots,
+    generations: &mut u64,
+    heap: &mut Heap,
+) -> Result<Taken, Refusal>
+    requires within { index < length actors.old.items }
+    requires can { (found : AnActor) → slice_get actors.old.items index ≡ Some found → CanStep (scene heap.old table.old generations.old found.programs) under_way.program }
+    requires sound { (found : AnActor) → slice_get actors.old.items index ≡ Some found → IsSound under_way.program found.programs }
+    ensures steps { IfOk result (λ taken. Replaces actors.old.items index
+        (StepsTo under_way heap.old table.old generations.old taken heap.new table.new generations.new) actors.new.items) }
+    ensures err { OnErr result ((actors.new.items ≡ actors.old.items) × (table.new ≡ table.old) × (generations.new ≡ generations.old) × (heap.new ≡ heap.old)) }
+    ensures only_memory { IfErr result (λ refusal. refusal ≡ Refusal.Memory) }
+{
+    step_of(&mut actors[index], under_way, table, generations, heap)
+}
+
+/// The same, for this actor.
+fn step_of(
+    actor: &mut Actor,
+    under_way: UnderWay,
+    table: &mut Roots,
+    generations: &mut u64,
+    heap: &mut Heap,
+) -> Result<Taken, Refusal>
+    requires can { CanStep (scene heap.old table.old generations.old actor.old.programs) under_way.program }
+    requires sound { IsSound under_way.program actor.old.programs }
+    ensures steps { IfOk result (λ taken. StepsTo under_way heap.old table.old generations.old taken heap.new table.new generations.new actor.old actor.new) }
+    ensures err { OnErr result ((actor.new ≡ actor.old) × (table.new ≡ table.old) × (generations.new ≡ generations.old) × (heap.new ≡ heap.old)) }
+    ensures only_memory { IfErr result (λ refusal. refusal ≡ Refusal.Memory) }
+{
+    let UnderWay { job, program, .. } = under_way;
+    actor.programs.step(job, program, table, generations, heap)
+}
+
+/// Notes what a step did that the actor's programs took.
+fn note(parts: &mut Parts, actor: u8, under_way: UnderWay, taken: &Taken)
+    requires midway { Midway actor under_way taken.now parts.old }
+    requires to_draw { 0 < parts.old.journal.chronicle.room_to_draw }
+    requires to_add { 0 < parts.old.journal.chronicle.room_to_add }
+    requires to_close { 0 < parts.old.journal.chronicle.room_to_close }
+    requires ids { parts.old.begun < parts.old.journal.chronicle.ids }
+    ensures gone { (midway : Midway actor under_way taken.now parts.old) → (operation : Operation) → operation_of (seen midway.before) actor ≡ Some operation →
+        gone (seen midway.before) actor operation ≡ seen parts.new }
+    ensures kept { IsKept parts.new }
+{
+    let next = moved(&parts.commits, under_way, taken, parts.steps);
+    put_under_way(&mut parts.actors, actor as usize - 1, next);
+    match taken.committed {
+        Some(main) => note_commit(parts, main),
+        None => note_kind(parts, actor, taken),
+    }
+}
+
+/// The operation under way behind this step.
+fn moved(commits: &Commits, under_way: UnderWay, taken: &Taken, step: u64) -> UnderWay
+    requires newest { MatchOption taken.now.given Unit (IsNewest commits.now.commits) }
+    ensures { result ≡ moved commits.now.commits step taken.now under_way }
+{
+    let read_at = if taken.counts { step } else { under_way.read_at };
+    let moment = match taken.given {
+        Some(main) => read_at.max(step_committed(commits, main, taken.committed, step)),
+        None => under_way.moment,
+    };
+    UnderWay {
+        read_at,
+        moment,
+        ..under_way
+    }
+}
+
+/// The step in which a main node was committed that a READ gave: this one, or one before.
+fn step_committed(commits: &Commits, main: Ref, committed: Option<Ref>, step: u64) -> u64
+    requires newest { IsNewest commits.now.commits main }
+    ensures { result ≡ step_committed commits.now.commits step main committed }
+{
+    match committed {
+        Some(_) => step,
+        None => commits.committed_at(main),
+    }
+}
+
+/// The actor with this index has this under way.
+fn put_under_way(actors: &mut Vec<Actor>, index: usize, under_way: UnderWay)
+    requires within { index < length actors.old.items }
+    ensures { Replaces actors.old.items index (HasUnderWay under_way) actors.new.items }
+{
+    actors[index].under_way = Some(under_way);
+}
+
+/// Notes the commit of this main node in this step: whoever swapped it in for a change of its key enters the order,
+/// whoever takes the step.
+fn note_commit(parts: &mut Parts, main: Ref)
+    requires live { IsLive parts.old.heap.heap main }
+    requires room { slot_of main < parts.old.commits.slots }
+    requires newest { IsNewest parts.old.commits.commits main }
+    requires begun { 0 < parts.old.steps }
+    requires to_add { 0 < parts.old.journal.chronicle.room_to_add }
+    requires ids { All (λ place. place.id < parts.old.journal.chronicle.ids) (entered_for parts.old main) }
+    ensures commits { parts.new.commits.commits ≡ parts.old.commits.commits ++ record { main = main; step = parts.old.steps } ∷ [] }
+    ensures slots { parts.new.commits.slots ≡ parts.old.commits.slots }
+    ensures places { parts.new.journal.chronicle.places ≡ parts.old.journal.chronicle.places ++ entered_for parts.old main }
+    ensures same { AllBut parts.old parts.new }
+{
+    let place = place_at_commit(parts, main);
+    parts.commits.note(main, parts.steps);
+    put_place(&mut parts.journal.chronicle, place);
+}
+
+/// The place that whoever swapped this main node in enters at its commit, if that was for a change of its key.
+fn place_at_commit(parts: &Parts, main: Ref) -> Option<Place>
+    requires live { IsLive parts.now.heap.heap main }
+    ensures { option_to_list result ≡ entered_for parts.now main }
+{
+    match parts.actor(parts.heap.owner(main)) {
+        Some(owner) => entered_by(parts, owner, main),
+        None => None,
+    }
+}
+
+fn entered_by(parts: &Parts, owner: &Actor, main: Ref) -> Option<Place>
+    ensures { option_to_list result ≡ entered_by (seen parts.now) main (operation_seen parts.now.table owner.now) }
+{
+    match owner.under_way {
+        Some(under_way) if owner.programs.swaps_in(under_way.program, main) => {
+            Some(place_of(parts, owner, under_way, parts.steps, false))
+        }
+        _ => None,
+    }
+}
+
+/// Notes what a step of this kind did that committed nothing.
+fn note_kind(parts: &mut Parts, actor: u8, taken: &Taken)
+{
+    match taken.kind {
+        Kind::SwapMain if !taken.counts => note_owner(parts, actor),
+        Kind::SwapRoot => note_carried(parts),
+        Kind::Make => note_drawn(&mut parts.journal.chronicle, parts.generations),
+        _ => {}
+    }
+}
+
+/// The actor is the owner of the main node that it was about to swap in.
+fn note_owner(parts: &mut Parts, actor: u8)
+{
+    if let Some(found) = parts.actor(actor) {
+        let fresh = found.programs.fresh();
+        parts.heap.set_owner(fresh, actor);
+    }
+}
+
+/// If an offer was carried out, the generation of the root that it took away is closed, and whoever offered enters the order.
+fn note_carried(parts: &mut Parts)
+{
+    if let Some(offer) = parts.table.take_carried() {
+        let generation = generation_at(&parts.heap, offer.root);
+        parts.journal.chronicle.close(generation, parts.steps);
+        parts.journal.chronicle.add(on_time(parts.steps, offer.operation));
+    }
+}
+
+/// A generation was drawn, unless all that were are known.
+fn note_drawn(chronicle: &mut Chronicle, generations: u64)
+    requires known { (generations ≡ chronicle.old.generations) ⊎ (generations ≡ chronicle.old.generations + 1) }
+    requires room { 0 < chronicle.old.room_to_draw }
+    ensures generations { chronicle.new.generations ≡ generations }
+    ensures closings { chronicle.new.closings ≡ chronicle.old.closings }
+    ensures places { chronicle.new.places ≡ chronicle.old.places }
+{
+    if chronicle.generations() < generations {
+        chronicle.draw();
+    }
 }

@@ -50,7 +50,7 @@ use Rattle.running.specs.declared.job.Program.{Program}
 use Rattle.running.specs.declared.job.Program.TheVariants.{Key, Snap, Entries, Count, Close}
 use Rattle.running.specs.declared.programs.Programs.{Programs}
 use Rattle.running.specs.declared.programs.Stage.TheVariants.{Runs}
-use Rattle.running.specs.Places.{IsBegun, IsWaiting, generation_in, asking_line, call_for, met_at, program_line}
+use Rattle.running.specs.Places.{IsBegun, IsWaiting, ReadsOn, generation_in, asking_line, call_for, met_at, program_line}
 use Rattle.running.specs.Steps.{Changes, Does, Scene, at_scene, given_in, operation_in}
 use Rattle.running.proofs.Lasting.{tells}
 use Rattle.running.proofs.Giving.{asked_gives}
@@ -221,15 +221,22 @@ same_call Entries p asking begun = tt
 same_call Count p asking begun = tt
 same_call Close p asking begun = tt
 
+same_reads : (program : Program) (p : Programs) (asking : Asking) → ReadsOn program p → ReadsOn program (record p { stage = Runs; asking = asking })
+same_reads (Key call) p asking stands = stands
+same_reads (Snap call) p asking stands = stands
+same_reads Entries p asking stands = tt
+same_reads Count p asking stands = tt
+same_reads Close p asking stands = tt
+
 -- A step of ABORT in the place of one of the program.
 pub steps : (job : Job) (program : Program) (before : Scene) (asking asking' : Asking) (memory' : Memory) (table' : Table) (k : Kind) →
-    IsAskingLine (program_line before.programs None program) → IsUntold asking → IsBegun program before.programs →
+    IsAskingLine (program_line before.programs None program) → IsUntold asking → IsBegun program before.programs → ReadsOn program before.programs →
     AsksOn before.memory.heap before.table job.handle asking asking' k →
     table' ≡ table_after_abort before.table job.handle (abort_of asking) →
     ActsInAll before.memory before.table.roots before.programs.key.work.private (ask_action asking) memory' table'.roots before.programs.key.work.private →
     Does job program (asking_line before.programs program Runs asking) before (record { kind = k; committed = None; given = None; counts = false })
     (record { memory = memory'; table = table'; generation = before.generation; programs = record before.programs { stage = Runs; asking = asking' } })
-steps job program before asking asking' memory' table' k ask untold begun on table acts =
+steps job program before asking asking' memory' table' k ask untold begun stands on table acts =
     let p : Programs = before.programs in
     let l : Line = program_line p None program in
     let h : Asks p.key.work.swap.read l = asks p program ask in
@@ -267,5 +274,5 @@ steps job program before asking asking' memory' table' k ask untold begun on tab
           ∙ keeps_generation (at_scene state before) (operation_in job program before operation) l _ h.main h.previous asking untold h.reads);
       access = refl;
       hashes = refl;
-      sound = (same_call program p asking' begun, waits asking' l ask);
+      sound = record { begun = same_call program p asking' begun; waits = waits asking' l ask; reads = same_reads program p asking' stands };
     }

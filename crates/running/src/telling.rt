@@ -4,6 +4,7 @@ ghost use Rattle.std.specs.Prelude.{◌≡◌, ℕ, Option, IfOk, IfErr};
 ghost use Rattle.key_finding.specs.Replies.{reply_of as key_reply};
 ghost use Rattle.operate.specs.Places.{answer_of};
 ghost use Rattle.snapshot.specs.Tasks.{reply_of};
+ghost use Rattle.machine_model.specs.Acting.{swaps_in};
 ghost use Rattle.running.specs.Places.{generation_in, line_for, program_line};
 
 use crate::job::Program;
@@ -11,6 +12,7 @@ use crate::programs::{Programs, Stage};
 use ctrie_base::Refusal;
 use history::{Access, Reply};
 use operate::KeyReply;
+use slot_arena::Ref;
 use snapshot::SnapReply;
 
 impl Programs {
@@ -42,6 +44,33 @@ impl Programs {
             Program::Snap(_) => None,
             Program::Entries => None,
             Program::Count => None,
+        }
+    }
+
+    /// Whether the operation is about to put this main node in the place of another, for a change of its key.
+    #[tactic(auto, using(crate::proofs::Ahead::swaps_so, crate::proofs::Ahead::swaps_nothing))]
+    pub fn swaps_in(&self, program: Program, main: Ref) -> bool
+        ensures { result ≡ swaps_in main (line_for program self.now) }
+    {
+        match &self.stage {
+            Stage::Runs => self.runs_to_swap(program, main),
+            Stage::Answered(_) => false,
+            Stage::Swapped(_) => false,
+            Stage::Listed => false,
+            Stage::Counted => false,
+            Stage::Impossible => false,
+        }
+    }
+
+    fn runs_to_swap(&self, program: Program, main: Ref) -> bool
+        ensures { (told : Option ℕ) → swaps_in main (program_line self.now told program) ≡ result }
+    {
+        match program {
+            Program::Key(_) => self.key.swaps_in(main),
+            Program::Snap(_) => false,
+            Program::Entries => false,
+            Program::Count => false,
+            Program::Close => false,
         }
     }
 
