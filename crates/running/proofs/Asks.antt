@@ -3,6 +3,7 @@ use Rattle.std.specs.Prelude.{◌≡◌, ℕ, false, Option, Some, None, refl}
 use Rattle.std.proofs.Common.{sym, ap, subst, ◌∙◌}
 use Rattle.std.proofs.lemmas.Option.{none-some, same_Some}
 use Rattle.ctrie_base.specs.declared.kinds.Kind.{Kind}
+use Rattle.ctrie_base.specs.declared.kinds.Kind.TheVariants as kind
 use Rattle.history.specs.declared.calls.Access.{Access}
 use Rattle.history.specs.declared.calls.Access.TheVariants.{Writable, ReadOnly}
 use Rattle.slot_arena.specs.declared.refs.Ref.{Ref}
@@ -180,6 +181,14 @@ acts_so : (state : State) (operation : Operation) (l : Line) (r : Read) (main pr
     line_action state operation (asked_line main previous asking l) ≡ ask_action asking
 acts_so state operation l r main previous asking untold is =
     (each_holds l r is).acts state operation (asked_at main previous asking) ∙ reads_so r.indirection main previous asking untold
+
+-- a READ that has met an offer takes it back
+pub met_kind : (p : Programs) (program : Program) (offer : Descriptor) (state : State) (operation : Operation) → IsAskingLine (program_line p None program) →
+    kind_of (line_action state operation (asking_line p program Runs (Met offer))) ≡ kind.SwapRoot
+met_kind p program offer state operation ask =
+    let h = asks p program ask in
+    ap (λ l. kind_of (line_action state operation l)) (asked p program (Met offer) h)
+    ∙ ap kind_of (acts_so state operation (program_line p None program) _ h.main h.previous (Met offer) tt h.reads)
 
 draws_none : (heap : Heap) (generation : ℕ) (asking : Asking) → (drawn_by heap generation (ask_action asking) ≡ generation) × (with_generation generation (ask_action asking) ≡ ask_action asking)
 draws_none heap generation Unasked = (refl, refl)
