@@ -31,7 +31,7 @@ use Rattle.machine_model.specs.declared.roots.RootWord.TheVariants.{Plain, Offer
 use Rattle.machine_model.specs.declared.walking.WalkLine.TheVariants as walk
 use Rattle.machine_model.specs.Counting.{refs_of_word}
 use Rattle.machine_model.specs.Operations.{completing_read, read_of, rooting_read, swapping_read}
-use Rattle.proof_memory.specs.Wants.{AllHold, AnEntry, AnIndirection, ASingle, Claim, Wanted, climb_carries, complete_wants, done_wants, line_wants, node_wants, offer_wants, path_wants, purpose_wants, read_wants, root_wants, swap_line_wants, swap_wants}
+use Rattle.proof_memory.specs.Wants.{AllHold, AnEntry, AnIndirection, ASingle, Claim, Wanted, climb_carries, complete_wants, copy_wants, done_wants, line_wants, node_wants, offer_wants, path_wants, purpose_wants, read_wants, root_wants, swap_line_wants, swap_wants, walk_wants}
 use Rattle.proof_memory.proofs.Claims.Uses.{Meets, all_of, first_hold, last_hold, safe_of}
 
 -- the claims are true of what is in use
@@ -67,11 +67,14 @@ node_live heap (Listed singles) h = met_live heap ASingle singles.items (all_of 
 
 module _ (heap : Heap) (r : Read) where
   -- the claims of the READ are among these
-  Reads : List Claim → Type 0
+  abbrev pub Reads : List Claim → Type 0
   Reads claims = Lives heap claims → Lives heap (read_wants r.indirection r.line)
 
   so : (claims : List Claim) (q : Read) → Some q ≡ Some r → (Lives heap claims → Lives heap (read_wants q.indirection q.line)) → Reads claims
   so claims q is each h = subst (λ (x : Read). Lives heap (read_wants x.indirection x.line)) (same_Some q r is) (each h)
+
+  behind : (first : List Claim) (q : Read) → Some q ≡ Some r → Reads (first ++ read_wants q.indirection q.line)
+  behind first q is = so (first ++ read_wants q.indirection q.line) q is (λ h. last_hold (IsLive heap) heap first (read_wants q.indirection q.line) h)
 
   completes : (offer : Descriptor) (l : CompleteLine) → completing_read offer l ≡ Some r → Reads (complete_wants offer l)
   completes offer (complete.Reading l) is =
@@ -89,27 +92,22 @@ module _ (heap : Heap) (r : Read) where
 
   pub read_claims : (kind : HashKind) (call : Call) (access : Access) (l : Line) → read_of l ≡ Some r → Reads (line_wants kind call access l)
   read_claims kind call access (line.Root l) is = roots l is
-  read_claims kind call access (line.Key (key.Read path q)) is =
-      so _ q is (λ h. last_hold (IsLive heap) heap (path_wants path) (read_wants q.indirection q.line) h)
+  read_claims kind call access (line.Key (key.Read path q)) is = behind (path_wants path) q is
   read_claims kind call access (line.Key l) is = absurd (grind arith)
   read_claims kind call access (line.Build l) is = absurd (none-some r is)
   read_claims kind call access (line.Swap why s) is = λ h. swaps s.indirection s.line is (first_hold (IsLive heap) heap (swap_wants s) (purpose_wants why) h).1.1.1
-  read_claims kind call access (line.Renew (renew.Read path main done q)) is =
-      so _ q is (λ h. last_hold (IsLive heap) heap (done_wants path main done) (read_wants q.indirection q.line) h)
+  read_claims kind call access (line.Renew (renew.Read path main done q)) is = behind (done_wants path main done) q is
   read_claims kind call access (line.Renew l) is = absurd (grind arith)
-  read_claims kind call access (line.Clean (clean.Read path q)) is =
-      so _ q is (λ h. last_hold (IsLive heap) heap (path_wants path) (read_wants q.indirection q.line) h)
-  read_claims kind call access (line.Clean (clean.Child path main done q)) is =
-      so _ q is (λ h. last_hold (IsLive heap) heap (done_wants path main done) (read_wants q.indirection q.line) h)
+  read_claims kind call access (line.Clean (clean.Read path q)) is = behind (path_wants path) q is
+  read_claims kind call access (line.Clean (clean.Child path main done q)) is = behind (done_wants path main done) q is
   read_claims kind call access (line.Clean l) is = absurd (grind arith)
-  read_claims kind call access (line.Climb (climb.Read c q)) is =
-      so _ q is (λ h. last_hold (IsLive heap) heap (climb_carries c) (read_wants q.indirection q.line) h)
+  read_claims kind call access (line.Climb (climb.Read c q)) is = behind (climb_carries c) q is
   read_claims kind call access (line.Climb (climb.Root c l)) is = λ h. roots l is (last_hold (IsLive heap) heap (climb_carries c) (root_wants l) h)
   read_claims kind call access (line.Climb l) is = absurd (grind arith)
-  read_claims kind call access (line.Copy (copy.Read at q)) is = so _ q is (λ h. h.1)
+  read_claims kind call access (line.Copy (copy.Read at q)) is = so (copy_wants (copy.Read at q)) q is (λ h. h.1)
   read_claims kind call access (line.Copy (copy.Complete c)) is = completes c.offer c.line is
   read_claims kind call access (line.Copy l) is = absurd (grind arith)
-  read_claims kind call access (line.Walk (walk.Read q todo pairs)) is = so _ q is (λ h. h.1)
+  read_claims kind call access (line.Walk (walk.Read q todo pairs)) is = so (walk_wants (walk.Read q todo pairs)) q is (λ h. h.1)
   read_claims kind call access (line.Walk l) is = absurd (grind arith)
   read_claims kind call access (line.End answer) is = absurd (none-some r is)
   read_claims kind call access line.Impossible is = absurd (none-some r is)

@@ -1,6 +1,8 @@
 pub mod Mapped
 pub mod Marking
 pub mod Stepped
+pub mod Claims
+pub mod Conditions
 pub mod Tying
 pub mod Tied
 pub mod Held
