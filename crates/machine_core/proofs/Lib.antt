@@ -3,6 +3,7 @@ pub mod Marking
 pub mod Stepped
 pub mod Claims
 pub mod Conditions
+pub mod Able
 pub mod Tying
 pub mod Tied
 pub mod Held
