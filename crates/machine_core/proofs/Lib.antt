@@ -10,3 +10,4 @@ pub mod Numbers
 pub mod Gathering
 pub mod Levels
 pub mod Sorting
+pub mod Named
