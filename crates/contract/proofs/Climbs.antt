@@ -4,16 +4,13 @@ use Rattle.slot_arena.specs.declared.refs.Ref.{Ref}
 use Rattle.slot_arena.specs.declared.nodes.Node.{Node}
 use Rattle.slot_arena.specs.declared.nodes.Node.TheVariants.{Indirection, Branch, Single, Tomb, List as Listed}
 use Rattle.slot_arena.specs.Heaps.{bitmap_of, entries_of}
-use Rattle.machine_model.specs.declared.lines.Line.TheVariants as line
-use Rattle.machine_model.specs.declared.operations.Operation.{Operation}
-use Rattle.machine_model.specs.declared.repairs.Climb.{Climb}
-use Rattle.machine_model.specs.declared.repairs.ClimbLine.TheVariants as climb
-use Rattle.machine_model.specs.Climbing.{climb_after_main, climbed, holds_it}
-use Rattle.machine_model.specs.States.{State}
-
-abbrev pub IsBranch : Node → Type 0
-IsBranch (Branch bitmap entries) = Unit {0}
-IsBranch node = ⊥
+use Rattle.contract.specs.Beneath.machine_model.specs.declared.lines.Line.TheVariants as line
+use Rattle.contract.specs.Beneath.machine_model.specs.declared.operations.Operation.{Operation}
+use Rattle.contract.specs.Beneath.machine_model.specs.declared.repairs.Climb.{Climb}
+use Rattle.contract.specs.Beneath.machine_model.specs.declared.repairs.ClimbLine.TheVariants as climb
+use Rattle.contract.specs.Beneath.machine_model.specs.Climbing.{climb_after_main, climbed, holds_it}
+use Rattle.contract.specs.Beneath.machine_model.specs.States.{State}
+use Rattle.contract.specs.Climbing.{IsBranch}
 
 -- the tombed indirection stands in it
 pub held : (state : State) (operation : Operation) (c : Climb) (main : Ref) (n : Node) (b : Bool) → b ≡ holds_it state operation c main (bitmap_of n) (entries_of n) → b ≡ true → IsBranch n →

@@ -5,15 +5,15 @@ use Rattle.ctrie_base.specs.declared.kinds.Kind.TheVariants as kind
 use Rattle.slot_arena.specs.declared.refs.Ref.{Ref}
 use Rattle.slot_arena.specs.declared.nodes.Node.TheVariants.{Single}
 use Rattle.slot_arena.specs.Heaps.{node_at}
-use Rattle.machine_model.specs.declared.lines.Line.{Line}
-use Rattle.machine_model.specs.declared.operations.Operation.{Operation}
-use Rattle.machine_model.specs.Cleaning.{clean_next, clean_after_entry}
-use Rattle.machine_model.specs.Operations.{kind_of, line_action, line_after, read_of}
-use Rattle.machine_model.specs.Renewing.{next_entry}
-use Rattle.machine_model.specs.States.{State}
-use Rattle.gcas.specs.declared.next.Next.{Next}
-use Rattle.gcas.specs.declared.next.Next.TheVariants.{More, AskRoot, Done}
-use Rattle.gcas.specs.declared.read.ReadAt.{ReadAt}
+use Rattle.contract.specs.Beneath.machine_model.specs.declared.lines.Line.{Line}
+use Rattle.contract.specs.Beneath.machine_model.specs.declared.operations.Operation.{Operation}
+use Rattle.contract.specs.Beneath.machine_model.specs.Cleaning.{clean_next, clean_after_entry}
+use Rattle.contract.specs.Beneath.machine_model.specs.Operations.{kind_of, line_action, line_after, read_of}
+use Rattle.contract.specs.Beneath.machine_model.specs.Renewing.{next_entry}
+use Rattle.contract.specs.Beneath.machine_model.specs.States.{State}
+use Rattle.contract.specs.Beneath.gcas.specs.declared.next.Next.{Next}
+use Rattle.contract.specs.Beneath.gcas.specs.declared.next.Next.TheVariants.{More, AskRoot, Done}
+use Rattle.contract.specs.Beneath.gcas.specs.declared.read.ReadAt.{ReadAt}
 use Rattle.trie_parts.specs.Steps.{StepsOn}
 use Rattle.contract.specs.declared.clean.Cleaned.{Cleaned}
 use Rattle.contract.specs.Cleaning.{GoesOn, line_behind}

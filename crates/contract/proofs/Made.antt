@@ -3,18 +3,18 @@ use Rattle.std.specs.Prelude.{◌≡◌, slice_set}
 use Rattle.std.proofs.Common.{ap}
 use Rattle.ctrie_base.specs.Hashes.{hash_of}
 use Rattle.ctrie_base.specs.Paths.{position_of}
-use Rattle.history.specs.declared.calls.Access.{Access}
-use Rattle.history.specs.declared.calls.Access.TheVariants.{Writable}
+use Rattle.contract.specs.Beneath.history.specs.declared.calls.Access.{Access}
+use Rattle.contract.specs.Beneath.history.specs.declared.calls.Access.TheVariants.{Writable}
 use Rattle.slot_arena.specs.declared.refs.Ref.{Ref}
 use Rattle.slot_arena.specs.Heaps.{Heap, node_at, bitmap_of, entries_of}
 use Rattle.nodes.specs.Builders.{contracted}
 use Rattle.nodes.specs.Levels.{flag_of}
-use Rattle.machine_model.specs.declared.operations.Operation.{Operation}
-use Rattle.machine_model.specs.declared.repairs.Climb.{Climb}
-use Rattle.machine_model.specs.Calls.{handle_of}
-use Rattle.machine_model.specs.Climbing.{climbed_node}
-use Rattle.machine_model.specs.Paths.{above, depth_of, is_below_root}
-use Rattle.machine_model.specs.States.{State}
+use Rattle.contract.specs.Beneath.machine_model.specs.declared.operations.Operation.{Operation}
+use Rattle.contract.specs.Beneath.machine_model.specs.declared.repairs.Climb.{Climb}
+use Rattle.contract.specs.Beneath.machine_model.specs.Calls.{handle_of}
+use Rattle.contract.specs.Beneath.machine_model.specs.Climbing.{climbed_node}
+use Rattle.contract.specs.Beneath.machine_model.specs.Paths.{above, depth_of, is_below_root}
+use Rattle.contract.specs.Beneath.machine_model.specs.States.{State}
 use Rattle.trie_parts.specs.declared.calls.Task.{Task}
 use Rattle.trie_parts.specs.Here.{at_heap, no_state, no_operation}
 use Rattle.trie_parts.specs.Tasks.{for_task}

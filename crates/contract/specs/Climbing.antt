@@ -1,20 +1,22 @@
 -- A CLIMB of the code as the definition's, and what a step of it comes to.
 use Rattle.std.specs.Prelude.{ℕ, List, Option}
 use Rattle.slot_arena.specs.declared.refs.Ref.{Ref}
+use Rattle.slot_arena.specs.declared.nodes.Node.{Node}
+use Rattle.slot_arena.specs.declared.nodes.Node.TheVariants.{Branch}
 use Rattle.slot_arena.specs.Heaps.{Heap}
-use Rattle.history.specs.declared.calls.Access.TheVariants.{Writable}
-use Rattle.machine_model.specs.declared.lines.Line.{Line}
-use Rattle.machine_model.specs.declared.lines.Line.TheVariants as line
-use Rattle.machine_model.specs.declared.lines.Purpose.TheVariants as purpose
-use Rattle.machine_model.specs.declared.operations.Operation.{Operation}
-use Rattle.machine_model.specs.declared.repairs.Climb.{Climb as Defined}
-use Rattle.machine_model.specs.declared.repairs.ClimbLine.TheVariants as climb
-use Rattle.machine_model.specs.declared.roots.RootLine.TheVariants as root
-use Rattle.machine_model.specs.Climbing.{climbing, climbed, climbed_node, higher}
-use Rattle.machine_model.specs.Lines.{impossible}
-use Rattle.gcas.specs.declared.swap.Swap.{Swap}
-use Rattle.gcas.specs.Reads.{read_of, CanReadOn}
-use Rattle.gcas.specs.Swaps.{swap_of, CanSwapOn}
+use Rattle.contract.specs.Beneath.history.specs.declared.calls.Access.TheVariants.{Writable}
+use Rattle.contract.specs.Beneath.machine_model.specs.declared.lines.Line.{Line}
+use Rattle.contract.specs.Beneath.machine_model.specs.declared.lines.Line.TheVariants as line
+use Rattle.contract.specs.Beneath.machine_model.specs.declared.lines.Purpose.TheVariants as purpose
+use Rattle.contract.specs.Beneath.machine_model.specs.declared.operations.Operation.{Operation}
+use Rattle.contract.specs.Beneath.machine_model.specs.declared.repairs.Climb.{Climb as Defined}
+use Rattle.contract.specs.Beneath.machine_model.specs.declared.repairs.ClimbLine.TheVariants as climb
+use Rattle.contract.specs.Beneath.machine_model.specs.declared.roots.RootLine.TheVariants as root
+use Rattle.contract.specs.Beneath.machine_model.specs.Climbing.{climbing, climbed, climbed_node, higher}
+use Rattle.contract.specs.Beneath.machine_model.specs.Lines.{impossible}
+use Rattle.contract.specs.Beneath.gcas.specs.declared.swap.Swap.{Swap}
+use Rattle.contract.specs.Beneath.gcas.specs.Reads.{read_of, CanReadOn}
+use Rattle.contract.specs.Beneath.gcas.specs.Swaps.{swap_of, CanSwapOn}
 use Rattle.trie_parts.specs.declared.calls.Task.{Task}
 use Rattle.trie_parts.specs.Here.{at_heap, no_state, no_operation}
 use Rattle.trie_parts.specs.Steps.{CanMake}
@@ -49,6 +51,10 @@ line_behind operation c Lost = line.Climb (climb.Root c root.Read)
 line_behind operation c Impossible = impossible
 
 -- ---- what it asks of the heap
+
+abbrev pub IsBranch : Node → Type 0
+IsBranch (Branch bitmap entries) = Unit {0}
+IsBranch node = ⊥
 
 abbrev pub CanClimbAt : Heap → Task → Swap → Defined → ClimbAt → Type 0
 CanClimbAt heap task s c at.Read = CanReadOn heap s.read

@@ -1,21 +1,21 @@
 -- A RENEW of the code as the definition's, and what a step of it comes to.
 use Rattle.std.specs.Prelude.{ℕ, nat_lt, List, length, Option, if◌then◌else◌}
-use Rattle.history.specs.declared.replies.Reply.TheVariants as reply
+use Rattle.contract.specs.Beneath.history.specs.declared.replies.Reply.TheVariants as reply
 use Rattle.slot_arena.specs.declared.refs.Ref.{Ref}
 use Rattle.slot_arena.specs.declared.nodes.Node.TheVariants.{Indirection}
 use Rattle.slot_arena.specs.Heaps.{Heap, bitmap_of, node_at}
 use Rattle.nodes.specs.Builders.{renewed}
-use Rattle.machine_model.specs.declared.finding.KeyLine.TheVariants as key
-use Rattle.machine_model.specs.declared.lines.Line.{Line}
-use Rattle.machine_model.specs.declared.lines.Line.TheVariants as line
-use Rattle.machine_model.specs.declared.lines.Purpose.TheVariants as purpose
-use Rattle.machine_model.specs.declared.repairs.RenewLine.TheVariants as renew
-use Rattle.machine_model.specs.Lines.{new_try, impossible}
-use Rattle.machine_model.specs.Paths.{current}
-use Rattle.machine_model.specs.Reading.{reading}
-use Rattle.gcas.specs.declared.swap.Swap.{Swap}
-use Rattle.gcas.specs.Reads.{read_of, CanReadOn}
-use Rattle.gcas.specs.Swaps.{swap_of, CanSwapOn}
+use Rattle.contract.specs.Beneath.machine_model.specs.declared.finding.KeyLine.TheVariants as key
+use Rattle.contract.specs.Beneath.machine_model.specs.declared.lines.Line.{Line}
+use Rattle.contract.specs.Beneath.machine_model.specs.declared.lines.Line.TheVariants as line
+use Rattle.contract.specs.Beneath.machine_model.specs.declared.lines.Purpose.TheVariants as purpose
+use Rattle.contract.specs.Beneath.machine_model.specs.declared.repairs.RenewLine.TheVariants as renew
+use Rattle.contract.specs.Beneath.machine_model.specs.Lines.{new_try, impossible}
+use Rattle.contract.specs.Beneath.machine_model.specs.Paths.{current}
+use Rattle.contract.specs.Beneath.machine_model.specs.Reading.{reading}
+use Rattle.contract.specs.Beneath.gcas.specs.declared.swap.Swap.{Swap}
+use Rattle.contract.specs.Beneath.gcas.specs.Reads.{read_of, CanReadOn}
+use Rattle.contract.specs.Beneath.gcas.specs.Swaps.{swap_of, CanSwapOn}
 use Rattle.trie_parts.specs.Steps.{CanMake}
 use Rattle.contract.specs.declared.renew.Renew.{Renew}
 use Rattle.contract.specs.declared.renew.RenewAt.{RenewAt}

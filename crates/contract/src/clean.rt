@@ -1,22 +1,22 @@
 //! CLEAN: below an indirection tombs give way to their singles.
 
-ghost use Rattle.std.specs.Prelude.{◌≡◌, [], ◌∷◌, ◌++◌, List, None, IfOk, IfErr, OnOk, OnErr};
+ghost use Rattle.std.specs.Prelude.{◌≡◌, [], ◌∷◌, ◌++◌, ℕ, List, Option, None, is_some, IfOk, IfErr, OnOk, OnErr};
 ghost use Rattle.ctrie_base.specs.declared.hashes.HashKind.{HashKind};
 ghost use Rattle.ctrie_base.specs.declared.hashes.HashKind.TheVariants.{Low};
 ghost use Rattle.slot_arena.specs.Heaps.{node_at};
 ghost use Rattle.slot_arena.specs.declared.refs.Ref.{Ref as ARef};
-ghost use Rattle.machine_model.specs.Cleaning.{clean_next, clean_after_tomb, leaves_single, cleaned};
-ghost use Rattle.machine_model.specs.Operations.{line_action};
-ghost use Rattle.machine_model.specs.Reading.{reading};
-ghost use Rattle.machine_model.specs.States.{State};
-ghost use Rattle.machine_model.specs.declared.lines.Line.TheVariants as line;
-ghost use Rattle.machine_model.specs.declared.lines.Purpose.TheVariants as purpose;
-ghost use Rattle.machine_model.specs.declared.operations.Operation.{Operation};
-ghost use Rattle.machine_model.specs.declared.repairs.CleanLine.TheVariants as clean;
-ghost use Rattle.gcas.specs.Reads.{read_of, CanReadOn, IsAskingRoot};
-ghost use Rattle.gcas.specs.Swaps.{swap_of, CanSwapOn};
-ghost use Rattle.gcas.specs.declared.read.ReadAt.{ReadAt};
-ghost use Rattle.gcas.specs.declared.swap.Swap.{Swap as ASwap};
+ghost use Rattle.contract.specs.Beneath.machine_model.specs.Cleaning.{clean_next, clean_after_tomb, leaves_single, cleaned};
+ghost use Rattle.contract.specs.Beneath.machine_model.specs.Operations.{kind_of, line_action, read_of as reading_of};
+ghost use Rattle.contract.specs.Beneath.machine_model.specs.Reading.{reading};
+ghost use Rattle.contract.specs.Beneath.machine_model.specs.States.{State};
+ghost use Rattle.contract.specs.Beneath.machine_model.specs.declared.lines.Line.TheVariants as line;
+ghost use Rattle.contract.specs.Beneath.machine_model.specs.declared.lines.Purpose.TheVariants as purpose;
+ghost use Rattle.contract.specs.Beneath.machine_model.specs.declared.operations.Operation.{Operation};
+ghost use Rattle.contract.specs.Beneath.machine_model.specs.declared.repairs.CleanLine.TheVariants as clean;
+ghost use Rattle.contract.specs.Beneath.gcas.specs.Reads.{read_of, CanReadOn, IsAskingRoot};
+ghost use Rattle.contract.specs.Beneath.gcas.specs.Swaps.{swap_of, CanSwapOn};
+ghost use Rattle.contract.specs.Beneath.gcas.specs.declared.read.ReadAt.{ReadAt};
+ghost use Rattle.contract.specs.Beneath.gcas.specs.declared.swap.Swap.{Swap as ASwap};
 ghost use Rattle.trie_parts.specs.Here.{at_heap, no_state};
 ghost use Rattle.trie_parts.specs.Holding.{Acts, AreHeld};
 ghost use Rattle.trie_parts.specs.Steps.{StepsOn};
@@ -27,12 +27,11 @@ ghost use Rattle.contract.specs.Cleaning.{clean_line, line_behind, CanClean, Can
 use crate::entries::Entries;
 use ctrie_base::{Kind, Refusal};
 use epochs::Heap;
-use gcas::Next;
 use slot_arena::{Node, Ref};
 use std::alloc::Global;
 use trie_parts::{
-    Task, Work, bitmap_at, contracted, current, entries_at, entry_at, is_below_root, is_single_at,
-    node_at,
+    Next, Swap, Task, Work, bitmap_at, contracted, current, entries_at, entry_at, is_below_root,
+    is_single_at, node_at,
 };
 
 /// Where a cleaning stands.
@@ -72,7 +71,7 @@ pub struct Clean {
     main: Ref,
     /// Its new entries so far.
     done: Entries,
-    pub place: CleanAt,
+    place: CleanAt,
 }
 
 impl Clean {
@@ -96,6 +95,29 @@ impl Clean {
         work.swap.read.begin(indirection);
     }
 
+    /// Whether its next step is a READ's, where this is the SWAP of what the operation has in hand.
+    pub fn is_reading(&self, swap: &Swap) -> bool
+        ensures { (path : List ARef) (told : Option ℕ) → result ≡ is_some (reading_of (clean_line path swap.now told self.now)) }
+    {
+        match &self.place {
+            CleanAt::Read | CleanAt::Child => true,
+            CleanAt::Main | CleanAt::Entry | CleanAt::Tomb { .. } | CleanAt::Contracted => false,
+            CleanAt::Swap => swap.is_reading(),
+        }
+    }
+
+    /// The kind of its next step, where that SWAP was told this of the root's generation.
+    pub fn next_kind(&self, swap: &Swap, root_seen: Option<u64>) -> Kind
+        ensures { (state : State) (operation : Operation) (path : List ARef) → result ≡ kind_of (line_action state operation (clean_line path swap.now root_seen self.now)) }
+    {
+        match &self.place {
+            CleanAt::Read | CleanAt::Child => swap.read.next_kind(root_seen),
+            CleanAt::Main | CleanAt::Entry | CleanAt::Tomb { .. } => Kind::Look,
+            CleanAt::Contracted => Kind::Make,
+            CleanAt::Swap => swap.next_kind(root_seen),
+        }
+    }
+
     /// Takes its next step, below the end of this path, unless it has to be told the generation of the root
     /// first. After an error, which is want of memory, nothing has changed.
     pub fn step(
@@ -108,8 +130,12 @@ impl Clean {
     ) -> Result<Next<Cleaned>, Refusal>
         requires can { CanClean heap.old.heap path.now work.old.swap self.old }
         requires held { AreHeld work.old.private heap.old }
-        ensures follows { IfOk result (λ next. (state : State) (operation : Operation) → StepsOn (at_heap state heap.old.heap task.hashes) (for_task task work.old.swap.read.access operation) (clean_line path.now work.old.swap root_seen self.old) (clean_line path.now work.new.swap None self.new) work.new.swap.read.at line_behind next) }
-        ensures acts { OnOk result ((state : State) (operation : Operation) → Acts heap.old work.old.private (line_action (at_heap state heap.old.heap task.hashes) (for_task task work.old.swap.read.access operation) (clean_line path.now work.old.swap root_seen self.old)) heap.new work.new.private) }
+        ensures follows { IfOk result (λ next. (state : State) (operation : Operation) →
+            StepsOn (at_heap state heap.old.heap task.hashes) (for_task task work.old.swap.read.access operation) (clean_line path.now work.old.swap root_seen self.old)
+            (clean_line path.now work.new.swap None self.new) work.new.swap.read.at line_behind next) }
+        ensures acts { OnOk result ((state : State) (operation : Operation) →
+            Acts heap.old work.old.private (line_action (at_heap state heap.old.heap task.hashes) (for_task task work.old.swap.read.access operation)
+            (clean_line path.now work.old.swap root_seen self.old)) heap.new work.new.private) }
         ensures same { work.new.swap.read.access ≡ work.old.swap.read.access }
         ensures err { OnErr result ((self.new ≡ self.old) × (work.new ≡ work.old) × (heap.new ≡ heap.old)) }
         ensures only_memory { IfErr result (λ refusal. refusal ≡ Refusal.Memory) }
@@ -132,8 +158,11 @@ impl Clean {
     /// Takes a step of the indirection's READ.
     fn read(&mut self, work: &mut Work, heap: &mut Heap, root_seen: Option<u64>) -> Next<Cleaned>
         requires { CanReadOn heap.old.heap work.old.swap.read }
-        ensures follows { (state : State) (operation : Operation) (path : List ARef) (task : ATask) → StepsOn (at_heap state heap.old.heap task.hashes) (for_task task work.old.swap.read.access operation) (line.Clean (clean.Read path (read_of work.old.swap.read root_seen))) (clean_line path work.new.swap None self.new) work.new.swap.read.at line_behind result }
-        ensures acts { (state : State) (operation : Operation) (path : List ARef) → Acts heap.old work.old.private (line_action state operation (line.Clean (clean.Read path (read_of work.old.swap.read root_seen)))) heap.new work.new.private }
+        ensures follows { (state : State) (operation : Operation) (path : List ARef) (task : ATask) →
+            StepsOn (at_heap state heap.old.heap task.hashes) (for_task task work.old.swap.read.access operation)
+            (line.Clean (clean.Read path (read_of work.old.swap.read root_seen))) (clean_line path work.new.swap None self.new) work.new.swap.read.at line_behind result }
+        ensures acts { (state : State) (operation : Operation) (path : List ARef) →
+            Acts heap.old work.old.private (line_action state operation (line.Clean (clean.Read path (read_of work.old.swap.read root_seen)))) heap.new work.new.private }
         ensures same { work.new.swap.read.access ≡ work.old.swap.read.access }
         ensures asks { IsAskingRoot result → (self.new ≡ record self.old { place = CleanAt.Read }) × (work.new ≡ work.old) × (heap.new ≡ heap.old) }
     {
@@ -151,7 +180,8 @@ impl Clean {
 
     /// Looks at the main node: only a branch is cleaned.
     fn look(&mut self, heap: &Heap) -> Next<Cleaned>
-        ensures follows { (state : State) (hashes : HashKind) (operation : Operation) (path : List ARef) (s : ASwap) (place : ReadAt) → StepsOn (at_heap state heap.now.heap hashes) operation (line.Clean (clean.Main path self.old.main)) (clean_line path s None self.new) place line_behind result }
+        ensures follows { (state : State) (hashes : HashKind) (operation : Operation) (path : List ARef) (s : ASwap) (place : ReadAt) →
+            StepsOn (at_heap state heap.now.heap hashes) operation (line.Clean (clean.Main path self.old.main)) (clean_line path s None self.new) place line_behind result }
         ensures taken { IsAskingRoot result → ⊥ }
     {
         match node_at(heap, self.main) {
@@ -163,7 +193,8 @@ impl Clean {
 
     /// After the look at a branch: to its first entry.
     fn go_through(&mut self, heap: &Heap) -> Next<Cleaned>
-        ensures follows { (state : State) (hashes : HashKind) (path : List ARef) (s : ASwap) → GoesOn (clean_next (at_heap state heap.now.heap hashes) path self.old.main []) (clean_line path s None self.new) result }
+        ensures follows { (state : State) (hashes : HashKind) (path : List ARef) (s : ASwap) →
+            GoesOn (clean_next (at_heap state heap.now.heap hashes) path self.old.main []) (clean_line path s None self.new) result }
         ensures taken { IsAskingRoot result → ⊥ }
     {
         self.done.clear();
@@ -172,7 +203,8 @@ impl Clean {
 
     /// After a look: to the next entry or, where all are done, to the new main node, if an entry changed.
     fn go_on(&mut self, heap: &Heap) -> Next<Cleaned>
-        ensures follows { (state : State) (hashes : HashKind) (path : List ARef) (s : ASwap) → GoesOn (clean_next (at_heap state heap.now.heap hashes) path self.old.main self.old.done) (clean_line path s None self.new) result }
+        ensures follows { (state : State) (hashes : HashKind) (path : List ARef) (s : ASwap) →
+            GoesOn (clean_next (at_heap state heap.now.heap hashes) path self.old.main self.old.done) (clean_line path s None self.new) result }
         ensures taken { IsAskingRoot result → ⊥ }
     {
         let entries = entries_at(heap, self.main);
@@ -189,7 +221,9 @@ impl Clean {
 
     /// Looks at the next entry: an indirection is read, a single is kept.
     fn look_at_entry(&mut self, work: &mut Work, heap: &Heap) -> Result<Next<Cleaned>, Refusal>
-        ensures follows { IfOk result (λ next. (state : State) (hashes : HashKind) (operation : Operation) (path : List ARef) → StepsOn (at_heap state heap.now.heap hashes) operation (line.Clean (clean.Entry path self.old.main self.old.done)) (clean_line path work.new.swap None self.new) work.new.swap.read.at line_behind next) }
+        ensures follows { IfOk result (λ next. (state : State) (hashes : HashKind) (operation : Operation) (path : List ARef) →
+            StepsOn (at_heap state heap.now.heap hashes) operation (line.Clean (clean.Entry path self.old.main self.old.done)) (clean_line path work.new.swap None self.new)
+            work.new.swap.read.at line_behind next) }
         ensures same { (work.new.swap.read.access ≡ work.old.swap.read.access) × (work.new.private ≡ work.old.private) }
         ensures err { OnErr result ((self.new ≡ self.old) × (work.new ≡ work.old)) }
         ensures only_memory { IfErr result (λ refusal. refusal ≡ Refusal.Memory) }
@@ -209,7 +243,8 @@ impl Clean {
 
     /// One entry more is done, by a look.
     fn put(&mut self, heap: &Heap, entry: Ref) -> Result<Next<Cleaned>, Refusal>
-        ensures follows { IfOk result (λ next. (state : State) (hashes : HashKind) (path : List ARef) (s : ASwap) → GoesOn (clean_next (at_heap state heap.now.heap hashes) path self.old.main (self.old.done ++ entry ∷ [])) (clean_line path s None self.new) next) }
+        ensures follows { IfOk result (λ next. (state : State) (hashes : HashKind) (path : List ARef) (s : ASwap) →
+            GoesOn (clean_next (at_heap state heap.now.heap hashes) path self.old.main (self.old.done ++ entry ∷ [])) (clean_line path s None self.new) next) }
         ensures err { OnErr result (self.new ≡ self.old) }
         ensures only_memory { IfErr result (λ refusal. refusal ≡ Refusal.Memory) }
         ensures taken { IfOk result (λ next. IsAskingRoot next → ⊥) }
@@ -226,8 +261,13 @@ impl Clean {
         root_seen: Option<u64>,
     ) -> Next<Cleaned>
         requires { CanReadOn heap.old.heap work.old.swap.read }
-        ensures follows { (state : State) (operation : Operation) (path : List ARef) (task : ATask) → StepsOn (at_heap state heap.old.heap task.hashes) (for_task task work.old.swap.read.access operation) (line.Clean (clean.Child path self.old.main self.old.done (read_of work.old.swap.read root_seen))) (clean_line path work.new.swap None self.new) work.new.swap.read.at line_behind result }
-        ensures acts { (state : State) (operation : Operation) (path : List ARef) → Acts heap.old work.old.private (line_action state operation (line.Clean (clean.Child path self.old.main self.old.done (read_of work.old.swap.read root_seen)))) heap.new work.new.private }
+        ensures follows { (state : State) (operation : Operation) (path : List ARef) (task : ATask) →
+            StepsOn (at_heap state heap.old.heap task.hashes) (for_task task work.old.swap.read.access operation)
+            (line.Clean (clean.Child path self.old.main self.old.done (read_of work.old.swap.read root_seen))) (clean_line path work.new.swap None self.new)
+            work.new.swap.read.at line_behind result }
+        ensures acts { (state : State) (operation : Operation) (path : List ARef) →
+            Acts heap.old work.old.private (line_action state operation (line.Clean (clean.Child path self.old.main self.old.done (read_of work.old.swap.read root_seen))))
+            heap.new work.new.private }
         ensures same { work.new.swap.read.access ≡ work.old.swap.read.access }
         ensures asks { IsAskingRoot result → (self.new ≡ record self.old { place = CleanAt.Child }) × (work.new ≡ work.old) × (heap.new ≡ heap.old) }
     {
@@ -244,7 +284,9 @@ impl Clean {
 
     /// Looks at the main node of an entry: a tomb's single takes the entry's place, any other entry is kept.
     fn look_at_child(&mut self, heap: &Heap, child: Ref) -> Result<Next<Cleaned>, Refusal>
-        ensures follows { IfOk result (λ next. (state : State) (hashes : HashKind) (operation : Operation) (path : List ARef) (s : ASwap) (place : ReadAt) → StepsOn (at_heap state heap.now.heap hashes) operation (line.Clean (clean.Tomb path self.old.main self.old.done child)) (clean_line path s None self.new) place line_behind next) }
+        ensures follows { IfOk result (λ next. (state : State) (hashes : HashKind) (operation : Operation) (path : List ARef) (s : ASwap) (place : ReadAt) →
+            StepsOn (at_heap state heap.now.heap hashes) operation (line.Clean (clean.Tomb path self.old.main self.old.done child)) (clean_line path s None self.new) place
+            line_behind next) }
         ensures err { OnErr result (self.new ≡ self.old) }
         ensures only_memory { IfErr result (λ refusal. refusal ≡ Refusal.Memory) }
         ensures taken { IfOk result (λ next. IsAskingRoot next → ⊥) }
@@ -262,8 +304,12 @@ impl Clean {
     ) -> Result<Next<Cleaned>, Refusal>
         requires can { CanCleanAt heap.old.heap path.now work.old.swap self.old.main self.old.done CleanAt.Contracted }
         requires held { AreHeld work.old.private heap.old }
-        ensures follows { IfOk result (λ next. (state : State) (operation : Operation) (hashes : HashKind) → StepsOn (at_heap state heap.old.heap hashes) operation (line.Clean (clean.Contracted path.now self.old.main self.old.done)) (clean_line path.now work.new.swap None self.new) work.new.swap.read.at line_behind next) }
-        ensures acts { OnOk result ((state : State) (operation : Operation) (hashes : HashKind) → Acts heap.old work.old.private (line_action (at_heap state heap.old.heap hashes) operation (line.Clean (clean.Contracted path.now self.old.main self.old.done))) heap.new work.new.private) }
+        ensures follows { IfOk result (λ next. (state : State) (operation : Operation) (hashes : HashKind) →
+            StepsOn (at_heap state heap.old.heap hashes) operation (line.Clean (clean.Contracted path.now self.old.main self.old.done))
+            (clean_line path.now work.new.swap None self.new) work.new.swap.read.at line_behind next) }
+        ensures acts { OnOk result ((state : State) (operation : Operation) (hashes : HashKind) →
+            Acts heap.old work.old.private (line_action (at_heap state heap.old.heap hashes) operation (line.Clean (clean.Contracted path.now self.old.main self.old.done)))
+            heap.new work.new.private) }
         ensures same { work.new.swap.read.access ≡ work.old.swap.read.access }
         ensures err { OnErr result ((self.new ≡ self.old) × (work.new ≡ work.old) × (heap.new ≡ heap.old)) }
         ensures only_memory { IfErr result (λ refusal. refusal ≡ Refusal.Memory) }
@@ -284,8 +330,11 @@ impl Clean {
     fn swap(&mut self, work: &mut Work, heap: &mut Heap, root_seen: Option<u64>) -> Next<Cleaned>
         requires can { CanSwapOn heap.old.heap work.old.swap }
         requires held { AreHeld work.old.private heap.old }
-        ensures follows { (state : State) (operation : Operation) (path : List ARef) (task : ATask) → StepsOn (at_heap state heap.old.heap task.hashes) (for_task task work.old.swap.read.access operation) (line.Swap purpose.Clean (swap_of work.old.swap root_seen)) (clean_line path work.new.swap None self.new) work.new.swap.read.at line_behind result }
-        ensures acts { (state : State) (operation : Operation) → Acts heap.old work.old.private (line_action state operation (line.Swap purpose.Clean (swap_of work.old.swap root_seen))) heap.new work.new.private }
+        ensures follows { (state : State) (operation : Operation) (path : List ARef) (task : ATask) →
+            StepsOn (at_heap state heap.old.heap task.hashes) (for_task task work.old.swap.read.access operation) (line.Swap purpose.Clean (swap_of work.old.swap root_seen))
+            (clean_line path work.new.swap None self.new) work.new.swap.read.at line_behind result }
+        ensures acts { (state : State) (operation : Operation) →
+            Acts heap.old work.old.private (line_action state operation (line.Swap purpose.Clean (swap_of work.old.swap root_seen))) heap.new work.new.private }
         ensures same { work.new.swap.read.access ≡ work.old.swap.read.access }
         ensures asks { IsAskingRoot result → (self.new ≡ record self.old { place = CleanAt.Swap }) × (work.new ≡ work.old) × (heap.new ≡ heap.old) }
     {
@@ -300,7 +349,9 @@ impl Clean {
 
 /// What comes in the place of the next entry, an indirection with this main node: of a tomb its single.
 fn kept(heap: &Heap, main: Ref, done: &[Ref], child: Ref) -> Ref
-    ensures { (state : State) (hashes : HashKind) (path : List ARef) → clean_after_tomb (at_heap state heap.now.heap hashes) path main done.now (node_at heap.now.heap child) ≡ clean_next (at_heap state heap.now.heap hashes) path main (done.now ++ result ∷ []) }
+    ensures { (state : State) (hashes : HashKind) (path : List ARef) →
+        clean_after_tomb (at_heap state heap.now.heap hashes) path main done.now (node_at heap.now.heap child) ≡ clean_next (at_heap state heap.now.heap hashes) path main
+        (done.now ++ result ∷ []) }
 {
     match node_at(heap, child) {
         Some(Node::Tomb { single }) => *single,

@@ -1,42 +1,42 @@
 //! CLIMB: after a removal that left a tomb, the tomb gives way to its single in the parent.
 
-ghost use Rattle.std.specs.Prelude.{◌≡◌, ℕ, List, Option, None, IfOk, IfErr, OnOk, OnErr};
-ghost use Rattle.history.specs.declared.calls.Access.TheVariants.{Writable};
-ghost use Rattle.history.specs.declared.calls.Access.{Access};
+ghost use Rattle.std.specs.Prelude.{◌≡◌, ℕ, List, Option, None, is_some, IfOk, IfErr, OnOk, OnErr};
+ghost use Rattle.contract.specs.Beneath.history.specs.declared.calls.Access.TheVariants.{Writable};
+ghost use Rattle.contract.specs.Beneath.history.specs.declared.calls.Access.{Access};
 ghost use Rattle.slot_arena.specs.declared.refs.Ref.{Ref as ARef};
 ghost use Rattle.slot_arena.specs.Heaps.{node_at, bitmap_of, entries_of};
 ghost use Rattle.ctrie_base.specs.Hashes.{hash_of};
 ghost use Rattle.ctrie_base.specs.Paths.{position_of};
 ghost use Rattle.nodes.specs.Levels.{flag_of};
-ghost use Rattle.machine_model.specs.Calls.{key_of};
-ghost use Rattle.machine_model.specs.Climbing.{climbed_node, holds_it};
-ghost use Rattle.machine_model.specs.Operations.{climbed_on, line_action, read_of as reading_of, swapping_read};
-ghost use Rattle.machine_model.specs.Paths.{above, current, depth_of};
-ghost use Rattle.machine_model.specs.declared.actions.Action.TheVariants as act;
-ghost use Rattle.machine_model.specs.Reading.{reading};
-ghost use Rattle.machine_model.specs.States.{State};
-ghost use Rattle.machine_model.specs.declared.lines.Line.TheVariants as line;
-ghost use Rattle.machine_model.specs.declared.lines.Purpose.TheVariants as purpose;
-ghost use Rattle.machine_model.specs.declared.operations.Operation.{Operation};
-ghost use Rattle.machine_model.specs.declared.repairs.ClimbLine.TheVariants as climb;
-ghost use Rattle.gcas.specs.Reads.{begun, read_of, CanReadOn, IsAskingRoot};
-ghost use Rattle.gcas.specs.Swaps.{swap_of, CanSwapOn};
-ghost use Rattle.gcas.specs.declared.read.ReadAt.{ReadAt};
-ghost use Rattle.gcas.specs.declared.swap.Swap.{Swap as ASwap};
+ghost use Rattle.contract.specs.Beneath.machine_model.specs.Calls.{key_of};
+ghost use Rattle.contract.specs.Beneath.machine_model.specs.Climbing.{climbed_node, holds_it};
+ghost use Rattle.contract.specs.Beneath.machine_model.specs.Operations.{climbed_on, kind_of, line_action, read_of as reading_of, swapping_read};
+ghost use Rattle.contract.specs.Beneath.machine_model.specs.Paths.{above, current, depth_of};
+ghost use Rattle.contract.specs.Beneath.machine_model.specs.declared.actions.Action.TheVariants as act;
+ghost use Rattle.contract.specs.Beneath.machine_model.specs.Reading.{reading};
+ghost use Rattle.contract.specs.Beneath.machine_model.specs.States.{State};
+ghost use Rattle.contract.specs.Beneath.machine_model.specs.declared.lines.Line.TheVariants as line;
+ghost use Rattle.contract.specs.Beneath.machine_model.specs.declared.lines.Purpose.TheVariants as purpose;
+ghost use Rattle.contract.specs.Beneath.machine_model.specs.declared.operations.Operation.{Operation};
+ghost use Rattle.contract.specs.Beneath.machine_model.specs.declared.repairs.ClimbLine.TheVariants as climb;
+ghost use Rattle.contract.specs.Beneath.gcas.specs.Reads.{begun, read_of, CanReadOn, IsAskingRoot};
+ghost use Rattle.contract.specs.Beneath.gcas.specs.Swaps.{swap_of, CanSwapOn};
+ghost use Rattle.contract.specs.Beneath.gcas.specs.declared.read.ReadAt.{ReadAt};
+ghost use Rattle.contract.specs.Beneath.gcas.specs.declared.swap.Swap.{Swap as ASwap};
 ghost use Rattle.trie_parts.specs.Here.{at_heap, no_state, no_operation};
 ghost use Rattle.trie_parts.specs.Holding.{Acts, AreHeld};
 ghost use Rattle.trie_parts.specs.Steps.{IsLast, StepsOn};
 ghost use Rattle.trie_parts.specs.Tasks.{call_of, for_task};
 ghost use Rattle.trie_parts.specs.declared.calls.Task.{Task as ATask};
-ghost use Rattle.contract.specs.Climbing.{climb_of, climb_line, line_behind, CanClimb, CanClimbAt};
+ghost use Rattle.contract.specs.Climbing.{climb_of, climb_line, line_behind, CanClimb, CanClimbAt, IsBranch};
 
 use ctrie_base::{Kind, Refusal};
 use epochs::Heap;
-use gcas::Next;
 use nodes::{has_flag, position_of};
 use slot_arena::{Node, Ref};
 use trie_parts::{
-    Task, Work, above, bitmap_at, contracted_at, current, entry_at, is_below_root, node_at,
+    Next, Swap, Task, Work, above, bitmap_at, contracted_at, current, entry_at, is_below_root,
+    node_at,
 };
 
 /// Where a climb stands.
@@ -91,6 +91,29 @@ impl Climb {
         }
     }
 
+    /// Whether its next step is a READ's, where this is the SWAP of what the operation has in hand.
+    pub fn is_reading(&self, swap: &Swap) -> bool
+        ensures { (path : List ARef) (told : Option ℕ) → result ≡ is_some (reading_of (climb_line path swap.now told self.now)) }
+    {
+        match &self.place {
+            ClimbAt::Read => true,
+            ClimbAt::Main { .. } | ClimbAt::Contracted { .. } => false,
+            ClimbAt::Swap => swap.is_reading(),
+        }
+    }
+
+    /// The kind of its next step, where that SWAP was told this of the root's generation.
+    pub fn next_kind(&self, swap: &Swap, root_seen: Option<u64>) -> Kind
+        ensures { (state : State) (operation : Operation) (path : List ARef) → result ≡ kind_of (line_action state operation (climb_line path swap.now root_seen self.now)) }
+    {
+        match &self.place {
+            ClimbAt::Read => swap.read.next_kind(root_seen),
+            ClimbAt::Main { .. } => Kind::Look,
+            ClimbAt::Contracted { .. } => Kind::Make,
+            ClimbAt::Swap => swap.next_kind(root_seen),
+        }
+    }
+
     /// Takes its next step, from the end of this path, unless it has to be told the generation of the root first.
     /// After an error, which is want of memory, nothing has changed.
     pub fn step(
@@ -103,8 +126,13 @@ impl Climb {
     ) -> Result<Next<Climbed>, Refusal>
         requires can { CanClimb heap.old.heap task path.now work.old.swap self.old }
         requires held { AreHeld work.old.private heap.old }
-        ensures follows { IfOk result (λ next. (state : State) (operation : Operation) → StepsOn (at_heap state heap.old.heap task.hashes) (for_task task work.old.swap.read.access operation) (climb_line path.now work.old.swap root_seen self.old) (climb_line path.now work.new.swap None self.new) work.new.swap.read.at (line_behind (for_task task work.old.swap.read.access operation) (climb_of path.now self.old)) next) }
-        ensures acts { OnOk result ((state : State) (operation : Operation) → Acts heap.old work.old.private (line_action (at_heap state heap.old.heap task.hashes) (for_task task work.old.swap.read.access operation) (climb_line path.now work.old.swap root_seen self.old)) heap.new work.new.private) }
+        ensures follows { IfOk result (λ next. (state : State) (operation : Operation) →
+            StepsOn (at_heap state heap.old.heap task.hashes) (for_task task work.old.swap.read.access operation) (climb_line path.now work.old.swap root_seen self.old)
+            (climb_line path.now work.new.swap None self.new) work.new.swap.read.at
+            (line_behind (for_task task work.old.swap.read.access operation) (climb_of path.now self.old)) next) }
+        ensures acts { OnOk result ((state : State) (operation : Operation) →
+            Acts heap.old work.old.private (line_action (at_heap state heap.old.heap task.hashes) (for_task task work.old.swap.read.access operation)
+            (climb_line path.now work.old.swap root_seen self.old)) heap.new work.new.private) }
         ensures same { (self.new.single ≡ self.old.single) × (self.new.former ≡ self.old.former) × (work.new.swap.read.access ≡ work.old.swap.read.access) }
         ensures err { OnErr result ((self.new ≡ self.old) × (work.new ≡ work.old) × (heap.new ≡ heap.old)) }
         ensures only_memory { IfErr result (λ refusal. refusal ≡ Refusal.Memory) }
@@ -128,8 +156,13 @@ impl Climb {
     /// Takes a step of the parent's READ.
     fn read(&mut self, work: &mut Work, heap: &mut Heap, root_seen: Option<u64>) -> Next<Climbed>
         requires { CanReadOn heap.old.heap work.old.swap.read }
-        ensures follows { (state : State) (operation : Operation) (path : List ARef) (task : ATask) → StepsOn (at_heap state heap.old.heap task.hashes) (for_task task work.old.swap.read.access operation) (line.Climb (climb.Read (climb_of path self.old) (read_of work.old.swap.read root_seen))) (climb_line path work.new.swap None self.new) work.new.swap.read.at (line_behind (for_task task work.old.swap.read.access operation) (climb_of path self.old)) result }
-        ensures acts { (state : State) (operation : Operation) (path : List ARef) → Acts heap.old work.old.private (line_action state operation (line.Climb (climb.Read (climb_of path self.old) (read_of work.old.swap.read root_seen)))) heap.new work.new.private }
+        ensures follows { (state : State) (operation : Operation) (path : List ARef) (task : ATask) →
+            StepsOn (at_heap state heap.old.heap task.hashes) (for_task task work.old.swap.read.access operation)
+            (line.Climb (climb.Read (climb_of path self.old) (read_of work.old.swap.read root_seen))) (climb_line path work.new.swap None self.new) work.new.swap.read.at
+            (line_behind (for_task task work.old.swap.read.access operation) (climb_of path self.old)) result }
+        ensures acts { (state : State) (operation : Operation) (path : List ARef) →
+            Acts heap.old work.old.private (line_action state operation (line.Climb (climb.Read (climb_of path self.old) (read_of work.old.swap.read root_seen)))) heap.new
+            work.new.private }
         ensures same { (self.new.single ≡ self.old.single) × (self.new.former ≡ self.old.former) × (work.new.swap.read.access ≡ work.old.swap.read.access) }
         ensures asks { IsAskingRoot result → (self.new ≡ record self.old { place = ClimbAt.Read }) × (work.new ≡ work.old) × (heap.new ≡ heap.old) }
         ensures last { IsLast result → ⊥ }
@@ -148,7 +181,9 @@ impl Climb {
     /// Looks at the parent's main node. A tomb climbs on; in a branch the tombed indirection gives way, if it
     /// stands there.
     fn look(&mut self, heap: &Heap, task: Task, path: &[Ref], main: Ref) -> Next<Climbed>
-        ensures follows { (state : State) (operation : Operation) (access : Access) (s : ASwap) (place : ReadAt) → StepsOn (at_heap state heap.now.heap task.hashes) (for_task task access operation) (line.Climb (climb.Main (climb_of path.now self.old) main)) (climb_line path.now s None self.new) place (line_behind (for_task task access operation) (climb_of path.now self.old)) result }
+        ensures follows { (state : State) (operation : Operation) (access : Access) (s : ASwap) (place : ReadAt) →
+            StepsOn (at_heap state heap.now.heap task.hashes) (for_task task access operation) (line.Climb (climb.Main (climb_of path.now self.old) main))
+            (climb_line path.now s None self.new) place (line_behind (for_task task access operation) (climb_of path.now self.old)) result }
         ensures same { (self.new.single ≡ self.old.single) × (self.new.former ≡ self.old.former) }
         ensures taken { IsAskingRoot result → ⊥ }
     {
@@ -156,23 +191,26 @@ impl Climb {
             Some(Node::Tomb { single }) => {
                 Next::Done(Kind::Look, Climbed::Higher { single: *single })
             }
-            Some(Node::Branch { .. }) => {
-                if holds_it(heap, task, path, main) {
-                    self.place = ClimbAt::Contracted { main };
-                    Next::More(Kind::Look)
-                } else {
-                    Next::Done(Kind::Look, Climbed::Climbed)
-                }
-            }
-            None => {
-                if holds_it(heap, task, path, main) {
-                    self.place = ClimbAt::Contracted { main };
-                    Next::More(Kind::Look)
-                } else {
-                    Next::Done(Kind::Look, Climbed::Climbed)
-                }
-            }
+            Some(Node::Branch { .. }) => self.look_at_branch(heap, task, path, main),
+            None => self.look_at_branch(heap, task, path, main),
             _ => Next::Done(Kind::Look, Climbed::Impossible),
+        }
+    }
+
+    /// After the look at a branch.
+    fn look_at_branch(&mut self, heap: &Heap, task: Task, path: &[Ref], main: Ref) -> Next<Climbed>
+        requires { IsBranch (node_at heap.now.heap main) }
+        ensures follows { (state : State) (operation : Operation) (access : Access) (s : ASwap) (place : ReadAt) →
+            StepsOn (at_heap state heap.now.heap task.hashes) (for_task task access operation) (line.Climb (climb.Main (climb_of path.now self.old) main))
+            (climb_line path.now s None self.new) place (line_behind (for_task task access operation) (climb_of path.now self.old)) result }
+        ensures same { (self.new.single ≡ self.old.single) × (self.new.former ≡ self.old.former) }
+        ensures taken { IsAskingRoot result → ⊥ }
+    {
+        if holds_it(heap, task, path, main) {
+            self.place = ClimbAt::Contracted { main };
+            Next::More(Kind::Look)
+        } else {
+            Next::Done(Kind::Look, Climbed::Climbed)
         }
     }
 
@@ -187,8 +225,13 @@ impl Climb {
     ) -> Result<Next<Climbed>, Refusal>
         requires can { CanClimbAt heap.old.heap task work.old.swap (climb_of path.now self.old) (ClimbAt.Contracted main) }
         requires held { AreHeld work.old.private heap.old }
-        ensures follows { IfOk result (λ next. (state : State) (operation : Operation) → StepsOn (at_heap state heap.old.heap task.hashes) (for_task task work.old.swap.read.access operation) (line.Climb (climb.Contracted (climb_of path.now self.old) main)) (climb_line path.now work.new.swap None self.new) work.new.swap.read.at (line_behind (for_task task work.old.swap.read.access operation) (climb_of path.now self.old)) next) }
-        ensures acts { OnOk result (Acts heap.old work.old.private (act.Make (climbed_node (at_heap no_state heap.old.heap task.hashes) (for_task task Writable no_operation) (climb_of path.now self.old) main)) heap.new work.new.private) }
+        ensures follows { IfOk result (λ next. (state : State) (operation : Operation) →
+            StepsOn (at_heap state heap.old.heap task.hashes) (for_task task work.old.swap.read.access operation)
+            (line.Climb (climb.Contracted (climb_of path.now self.old) main)) (climb_line path.now work.new.swap None self.new) work.new.swap.read.at
+            (line_behind (for_task task work.old.swap.read.access operation) (climb_of path.now self.old)) next) }
+        ensures acts { OnOk result (Acts heap.old work.old.private
+            (act.Make (climbed_node (at_heap no_state heap.old.heap task.hashes) (for_task task Writable no_operation) (climb_of path.now self.old) main)) heap.new
+            work.new.private) }
         ensures same { (self.new.single ≡ self.old.single) × (self.new.former ≡ self.old.former) × (work.new.swap.read.access ≡ work.old.swap.read.access) }
         ensures err { OnErr result ((self.new ≡ self.old) × (work.new ≡ work.old) × (heap.new ≡ heap.old)) }
         ensures only_memory { IfErr result (λ refusal. refusal ≡ Refusal.Memory) }
@@ -209,8 +252,13 @@ impl Climb {
     fn swap(&mut self, work: &mut Work, heap: &mut Heap, root_seen: Option<u64>) -> Next<Climbed>
         requires can { CanSwapOn heap.old.heap work.old.swap }
         requires held { AreHeld work.old.private heap.old }
-        ensures follows { (state : State) (operation : Operation) (path : List ARef) (task : ATask) → StepsOn (at_heap state heap.old.heap task.hashes) (for_task task work.old.swap.read.access operation) (line.Swap (purpose.Climb (climb_of path self.old)) (swap_of work.old.swap root_seen)) (climb_line path work.new.swap None self.new) work.new.swap.read.at (line_behind (for_task task work.old.swap.read.access operation) (climb_of path self.old)) result }
-        ensures acts { (state : State) (operation : Operation) (path : List ARef) → Acts heap.old work.old.private (line_action state operation (line.Swap (purpose.Climb (climb_of path self.old)) (swap_of work.old.swap root_seen))) heap.new work.new.private }
+        ensures follows { (state : State) (operation : Operation) (path : List ARef) (task : ATask) →
+            StepsOn (at_heap state heap.old.heap task.hashes) (for_task task work.old.swap.read.access operation)
+            (line.Swap (purpose.Climb (climb_of path self.old)) (swap_of work.old.swap root_seen)) (climb_line path work.new.swap None self.new) work.new.swap.read.at
+            (line_behind (for_task task work.old.swap.read.access operation) (climb_of path self.old)) result }
+        ensures acts { (state : State) (operation : Operation) (path : List ARef) →
+            Acts heap.old work.old.private (line_action state operation (line.Swap (purpose.Climb (climb_of path self.old)) (swap_of work.old.swap root_seen))) heap.new
+            work.new.private }
         ensures same { (self.new.single ≡ self.old.single) × (self.new.former ≡ self.old.former) × (work.new.swap.read.access ≡ work.old.swap.read.access) }
         ensures asks { IsAskingRoot result → (self.new ≡ record self.old { place = ClimbAt.Swap }) × (work.new ≡ work.old) × (heap.new ≡ heap.old) }
         ensures last { IsLast result → swapping_read work.old.swap.read.indirection (swap_of work.old.swap root_seen).line ≡ None }
@@ -228,7 +276,9 @@ impl Climb {
 
 /// What a climb with this single has come to where this node was swapped in: a tomb climbs on.
 fn climbed_by(heap: &Heap, fresh: Ref, single: Ref) -> Climbed
-    ensures { (operation : Operation) (path : List ARef) (former : Option ℕ) → climbed_on operation (record { path = path; single = single; former = former }) (node_at heap.now.heap fresh) ≡ line_behind operation (record { path = path; single = single; former = former }) result }
+    ensures { (operation : Operation) (path : List ARef) (former : Option ℕ) →
+        climbed_on operation (record { path = path; single = single; former = former }) (node_at heap.now.heap fresh) ≡ line_behind operation
+        (record { path = path; single = single; former = former }) result }
 {
     match node_at(heap, fresh) {
         Some(Node::Tomb { .. }) => Climbed::Higher { single },
@@ -245,7 +295,9 @@ fn place_in(heap: &Heap, task: Task, path: &[Ref], main: Ref) -> usize
 
 /// Whether the branch's entry for the call's key is the tombed indirection.
 fn holds_it(heap: &Heap, task: Task, path: &[Ref], main: Ref) -> bool
-    ensures { (state : State) (operation : Operation) (access : Access) (single : ARef) (former : Option ℕ) → result ≡ holds_it (at_heap state heap.now.heap task.hashes) (for_task task access operation) (record { path = path.now; single = single; former = former }) main (bitmap_of (node_at heap.now.heap main)) (entries_of (node_at heap.now.heap main)) }
+    ensures { (state : State) (operation : Operation) (access : Access) (single : ARef) (former : Option ℕ) →
+        result ≡ holds_it (at_heap state heap.now.heap task.hashes) (for_task task access operation) (record { path = path.now; single = single; former = former }) main
+        (bitmap_of (node_at heap.now.heap main)) (entries_of (node_at heap.now.heap main)) }
 {
     let entry = entry_at(heap, main, place_in(heap, task, path, main));
     has_flag(bitmap_at(heap, main), task.flag_at(above(path))) && entry == current(path)
@@ -254,7 +306,8 @@ fn holds_it(heap: &Heap, task: Task, path: &[Ref], main: Ref) -> bool
 /// The parent's main node with the single in the tomb's place; below the root, where that is the only entry,
 /// a tomb of it.
 fn climbed_node(heap: &Heap, task: Task, path: &[Ref], single: Ref, main: Ref) -> Node
-    ensures { (former : Option ℕ) → result ≡ climbed_node (at_heap no_state heap.now.heap task.hashes) (for_task task Writable no_operation) (record { path = path.now; single = single; former = former }) main }
+    ensures { (former : Option ℕ) → result ≡ climbed_node (at_heap no_state heap.now.heap task.hashes) (for_task task Writable no_operation)
+        (record { path = path.now; single = single; former = former }) main }
 {
     let place = place_in(heap, task, path, main);
     contracted_at(heap, main, is_below_root(above(path)), place, single)

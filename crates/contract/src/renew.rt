@@ -1,18 +1,18 @@
 //! RENEW: a branch gets indirections of the root's generation.
 
-ghost use Rattle.std.specs.Prelude.{◌≡◌, [], ◌∷◌, ◌++◌, List, length, None, IfOk, IfErr, OnOk, OnErr};
+ghost use Rattle.std.specs.Prelude.{◌≡◌, [], ◌∷◌, ◌++◌, ℕ, List, length, Option, None, is_some, IfOk, IfErr, OnOk, OnErr};
 ghost use Rattle.ctrie_base.specs.declared.hashes.HashKind.{HashKind};
 ghost use Rattle.slot_arena.specs.declared.refs.Ref.{Ref as ARef};
-ghost use Rattle.machine_model.specs.Operations.{line_action, read_of as reading_of, swapping_read};
-ghost use Rattle.machine_model.specs.Renewing.{renew_next};
-ghost use Rattle.machine_model.specs.States.{State};
-ghost use Rattle.machine_model.specs.declared.lines.Line.TheVariants as line;
-ghost use Rattle.machine_model.specs.declared.lines.Purpose.TheVariants as purpose;
-ghost use Rattle.machine_model.specs.declared.operations.Operation.{Operation};
-ghost use Rattle.machine_model.specs.declared.repairs.RenewLine.TheVariants as renew;
-ghost use Rattle.gcas.specs.Reads.{read_of, CanReadOn, IsAskingRoot};
-ghost use Rattle.gcas.specs.Swaps.{swap_of, CanSwapOn};
-ghost use Rattle.gcas.specs.declared.swap.Swap.{Swap as ASwap};
+ghost use Rattle.contract.specs.Beneath.machine_model.specs.Operations.{kind_of, line_action, read_of as reading_of, swapping_read};
+ghost use Rattle.contract.specs.Beneath.machine_model.specs.Renewing.{renew_next};
+ghost use Rattle.contract.specs.Beneath.machine_model.specs.States.{State};
+ghost use Rattle.contract.specs.Beneath.machine_model.specs.declared.lines.Line.TheVariants as line;
+ghost use Rattle.contract.specs.Beneath.machine_model.specs.declared.lines.Purpose.TheVariants as purpose;
+ghost use Rattle.contract.specs.Beneath.machine_model.specs.declared.operations.Operation.{Operation};
+ghost use Rattle.contract.specs.Beneath.machine_model.specs.declared.repairs.RenewLine.TheVariants as renew;
+ghost use Rattle.contract.specs.Beneath.gcas.specs.Reads.{read_of, CanReadOn, IsAskingRoot};
+ghost use Rattle.contract.specs.Beneath.gcas.specs.Swaps.{swap_of, CanSwapOn};
+ghost use Rattle.contract.specs.Beneath.gcas.specs.declared.swap.Swap.{Swap as ASwap};
 ghost use Rattle.trie_parts.specs.Here.{at_heap};
 ghost use Rattle.trie_parts.specs.Holding.{Acts, AreHeld};
 ghost use Rattle.trie_parts.specs.Steps.{IsLast, StepsOn};
@@ -23,10 +23,11 @@ ghost use Rattle.contract.specs.Renewing.{renew_line, next_of, line_behind, CanR
 use crate::entries::Entries;
 use ctrie_base::{Kind, Refusal};
 use epochs::Heap;
-use gcas::Next;
 use slot_arena::{Node, Ref};
 use std::alloc::Global;
-use trie_parts::{Task, Work, bitmap_at, current, entry_at, entry_count, node_at, renewed};
+use trie_parts::{
+    Next, Swap, Task, Work, bitmap_at, current, entry_at, entry_count, node_at, renewed,
+};
 
 /// Where a renewing stands.
 #[derive(Clone, Copy)]
@@ -63,7 +64,7 @@ pub struct Renew {
     main: Ref,
     /// Its new entries so far.
     done: Entries,
-    pub place: RenewAt,
+    place: RenewAt,
 }
 
 impl Renew {
@@ -87,6 +88,29 @@ impl Renew {
         self.place = next(0, entry_count(heap, main));
     }
 
+    /// Whether its next step is a READ's, where this is the SWAP of what the operation has in hand.
+    pub fn is_reading(&self, swap: &Swap) -> bool
+        ensures { (path : List ARef) (told : Option ℕ) → result ≡ is_some (reading_of (renew_line path swap.now told self.now)) }
+    {
+        match &self.place {
+            RenewAt::Read => true,
+            RenewAt::Entry | RenewAt::Link { .. } | RenewAt::Branch => false,
+            RenewAt::Swap => swap.is_reading(),
+        }
+    }
+
+    /// The kind of its next step, where that SWAP was told this of the root's generation.
+    pub fn next_kind(&self, swap: &Swap, root_seen: Option<u64>) -> Kind
+        ensures { (state : State) (operation : Operation) (path : List ARef) → result ≡ kind_of (line_action state operation (renew_line path swap.now root_seen self.now)) }
+    {
+        match &self.place {
+            RenewAt::Entry => Kind::Look,
+            RenewAt::Read => swap.read.next_kind(root_seen),
+            RenewAt::Link { .. } | RenewAt::Branch => Kind::Make,
+            RenewAt::Swap => swap.next_kind(root_seen),
+        }
+    }
+
     /// Takes its next step, for the branch at the end of this path, unless it has to be told the generation of
     /// the root first. After an error, which is want of memory, nothing has changed.
     pub fn step(
@@ -99,8 +123,12 @@ impl Renew {
     ) -> Result<Next<Renewed>, Refusal>
         requires can { CanRenew heap.old.heap work.old.swap self.old }
         requires held { AreHeld work.old.private heap.old }
-        ensures follows { IfOk result (λ next. (state : State) (operation : Operation) → StepsOn (at_heap state heap.old.heap task.hashes) (for_task task work.old.swap.read.access operation) (renew_line path.now work.old.swap root_seen self.old) (renew_line path.now work.new.swap None self.new) work.new.swap.read.at (line_behind path.now) next) }
-        ensures acts { OnOk result ((state : State) (operation : Operation) → Acts heap.old work.old.private (line_action (at_heap state heap.old.heap task.hashes) (for_task task work.old.swap.read.access operation) (renew_line path.now work.old.swap root_seen self.old)) heap.new work.new.private) }
+        ensures follows { IfOk result (λ next. (state : State) (operation : Operation) →
+            StepsOn (at_heap state heap.old.heap task.hashes) (for_task task work.old.swap.read.access operation) (renew_line path.now work.old.swap root_seen self.old)
+            (renew_line path.now work.new.swap None self.new) work.new.swap.read.at (line_behind path.now) next) }
+        ensures acts { OnOk result ((state : State) (operation : Operation) →
+            Acts heap.old work.old.private (line_action (at_heap state heap.old.heap task.hashes) (for_task task work.old.swap.read.access operation)
+            (renew_line path.now work.old.swap root_seen self.old)) heap.new work.new.private) }
         ensures same { work.new.swap.read.access ≡ work.old.swap.read.access }
         ensures err { OnErr result ((self.new ≡ self.old) × (work.new ≡ work.old) × (heap.new ≡ heap.old)) }
         ensures only_memory { IfErr result (λ refusal. refusal ≡ Refusal.Memory) }
@@ -121,7 +149,9 @@ impl Renew {
 
     /// Looks at the next entry: an indirection of another generation is read, any other entry is kept.
     fn look(&mut self, work: &mut Work, heap: &Heap, task: Task) -> Result<Next<Renewed>, Refusal>
-        ensures follows { IfOk result (λ next. (state : State) (operation : Operation) (path : List ARef) → StepsOn (at_heap state heap.now.heap task.hashes) (for_task task work.old.swap.read.access operation) (line.Renew (renew.Entry path self.old.main self.old.done)) (renew_line path work.new.swap None self.new) work.new.swap.read.at (line_behind path) next) }
+        ensures follows { IfOk result (λ next. (state : State) (operation : Operation) (path : List ARef) →
+            StepsOn (at_heap state heap.now.heap task.hashes) (for_task task work.old.swap.read.access operation) (line.Renew (renew.Entry path self.old.main self.old.done))
+            (renew_line path work.new.swap None self.new) work.new.swap.read.at (line_behind path) next) }
         ensures same { (work.new.swap.read.access ≡ work.old.swap.read.access) × (work.new.private ≡ work.old.private) }
         ensures err { OnErr result ((self.new ≡ self.old) × (work.new ≡ work.old)) }
         ensures only_memory { IfErr result (λ refusal. refusal ≡ Refusal.Memory) }
@@ -156,8 +186,13 @@ impl Renew {
     /// Takes a step of the entry's READ.
     fn read(&mut self, work: &mut Work, heap: &mut Heap, root_seen: Option<u64>) -> Next<Renewed>
         requires { CanReadOn heap.old.heap work.old.swap.read }
-        ensures follows { (state : State) (operation : Operation) (path : List ARef) (task : ATask) → StepsOn (at_heap state heap.old.heap task.hashes) (for_task task work.old.swap.read.access operation) (line.Renew (renew.Read path self.old.main self.old.done (read_of work.old.swap.read root_seen))) (renew_line path work.new.swap None self.new) work.new.swap.read.at (line_behind path) result }
-        ensures acts { (state : State) (operation : Operation) (path : List ARef) → Acts heap.old work.old.private (line_action state operation (line.Renew (renew.Read path self.old.main self.old.done (read_of work.old.swap.read root_seen)))) heap.new work.new.private }
+        ensures follows { (state : State) (operation : Operation) (path : List ARef) (task : ATask) →
+            StepsOn (at_heap state heap.old.heap task.hashes) (for_task task work.old.swap.read.access operation)
+            (line.Renew (renew.Read path self.old.main self.old.done (read_of work.old.swap.read root_seen))) (renew_line path work.new.swap None self.new)
+            work.new.swap.read.at (line_behind path) result }
+        ensures acts { (state : State) (operation : Operation) (path : List ARef) →
+            Acts heap.old work.old.private (line_action state operation (line.Renew (renew.Read path self.old.main self.old.done (read_of work.old.swap.read root_seen))))
+            heap.new work.new.private }
         ensures same { work.new.swap.read.access ≡ work.old.swap.read.access }
         ensures asks { IsAskingRoot result → (self.new ≡ record self.old { place = RenewAt.Read }) × (work.new ≡ work.old) × (heap.new ≡ heap.old) }
         ensures last { IsLast result → ⊥ }
@@ -183,8 +218,12 @@ impl Renew {
     ) -> Result<Next<Renewed>, Refusal>
         requires can { CanRenewAt heap.old.heap work.old.swap self.old.main self.old.done (RenewAt.Link child) }
         requires held { AreHeld work.old.private heap.old }
-        ensures follows { IfOk result (λ next. (state : State) (operation : Operation) (path : List ARef) → StepsOn (at_heap state heap.old.heap task.hashes) (for_task task work.old.swap.read.access operation) (line.Renew (renew.Link path self.old.main self.old.done child)) (renew_line path work.new.swap None self.new) work.new.swap.read.at (line_behind path) next) }
-        ensures acts { OnOk result ((state : State) (operation : Operation) (path : List ARef) → Acts heap.old work.old.private (line_action state (for_task task work.old.swap.read.access operation) (line.Renew (renew.Link path self.old.main self.old.done child))) heap.new work.new.private) }
+        ensures follows { IfOk result (λ next. (state : State) (operation : Operation) (path : List ARef) →
+            StepsOn (at_heap state heap.old.heap task.hashes) (for_task task work.old.swap.read.access operation)
+            (line.Renew (renew.Link path self.old.main self.old.done child)) (renew_line path work.new.swap None self.new) work.new.swap.read.at (line_behind path) next) }
+        ensures acts { OnOk result ((state : State) (operation : Operation) (path : List ARef) →
+            Acts heap.old work.old.private (line_action state (for_task task work.old.swap.read.access operation)
+            (line.Renew (renew.Link path self.old.main self.old.done child))) heap.new work.new.private) }
         ensures same { work.new.swap.read.access ≡ work.old.swap.read.access }
         ensures err { OnErr result ((self.new ≡ self.old) × (work.new ≡ work.old) × (heap.new ≡ heap.old)) }
         ensures only_memory { IfErr result (λ refusal. refusal ≡ Refusal.Memory) }
@@ -213,8 +252,13 @@ impl Renew {
     ) -> Result<Next<Renewed>, Refusal>
         requires can { CanRenewAt heap.old.heap work.old.swap self.old.main self.old.done RenewAt.Branch }
         requires held { AreHeld work.old.private heap.old }
-        ensures follows { IfOk result (λ next. (state : State) (operation : Operation) (task : ATask) → StepsOn (at_heap state heap.old.heap task.hashes) (for_task task work.old.swap.read.access operation) (line.Renew (renew.Branch path.now self.old.main self.old.done)) (renew_line path.now work.new.swap None self.new) work.new.swap.read.at (line_behind path.now) next) }
-        ensures acts { OnOk result ((state : State) (operation : Operation) (hashes : HashKind) → Acts heap.old work.old.private (line_action (at_heap state heap.old.heap hashes) operation (line.Renew (renew.Branch path.now self.old.main self.old.done))) heap.new work.new.private) }
+        ensures follows { IfOk result (λ next. (state : State) (operation : Operation) (task : ATask) →
+            StepsOn (at_heap state heap.old.heap task.hashes) (for_task task work.old.swap.read.access operation)
+            (line.Renew (renew.Branch path.now self.old.main self.old.done)) (renew_line path.now work.new.swap None self.new) work.new.swap.read.at (line_behind path.now)
+            next) }
+        ensures acts { OnOk result ((state : State) (operation : Operation) (hashes : HashKind) →
+            Acts heap.old work.old.private (line_action (at_heap state heap.old.heap hashes) operation (line.Renew (renew.Branch path.now self.old.main self.old.done)))
+            heap.new work.new.private) }
         ensures same { work.new.swap.read.access ≡ work.old.swap.read.access }
         ensures err { OnErr result ((self.new ≡ self.old) × (work.new ≡ work.old) × (heap.new ≡ heap.old)) }
         ensures only_memory { IfErr result (λ refusal. refusal ≡ Refusal.Memory) }
@@ -235,8 +279,11 @@ impl Renew {
     fn swap(&mut self, work: &mut Work, heap: &mut Heap, root_seen: Option<u64>) -> Next<Renewed>
         requires can { CanSwapOn heap.old.heap work.old.swap }
         requires held { AreHeld work.old.private heap.old }
-        ensures follows { (state : State) (operation : Operation) (path : List ARef) (task : ATask) → StepsOn (at_heap state heap.old.heap task.hashes) (for_task task work.old.swap.read.access operation) (line.Swap (purpose.Renew path) (swap_of work.old.swap root_seen)) (renew_line path work.new.swap None self.new) work.new.swap.read.at (line_behind path) result }
-        ensures acts { (state : State) (operation : Operation) (path : List ARef) → Acts heap.old work.old.private (line_action state operation (line.Swap (purpose.Renew path) (swap_of work.old.swap root_seen))) heap.new work.new.private }
+        ensures follows { (state : State) (operation : Operation) (path : List ARef) (task : ATask) →
+            StepsOn (at_heap state heap.old.heap task.hashes) (for_task task work.old.swap.read.access operation)
+            (line.Swap (purpose.Renew path) (swap_of work.old.swap root_seen)) (renew_line path work.new.swap None self.new) work.new.swap.read.at (line_behind path) result }
+        ensures acts { (state : State) (operation : Operation) (path : List ARef) →
+            Acts heap.old work.old.private (line_action state operation (line.Swap (purpose.Renew path) (swap_of work.old.swap root_seen))) heap.new work.new.private }
         ensures same { work.new.swap.read.access ≡ work.old.swap.read.access }
         ensures asks { IsAskingRoot result → (self.new ≡ record self.old { place = RenewAt.Swap }) × (work.new ≡ work.old) × (heap.new ≡ heap.old) }
         ensures last { IsLast result → swapping_read work.old.swap.read.indirection (swap_of work.old.swap root_seen).line ≡ None }
@@ -253,7 +300,8 @@ impl Renew {
 
 /// Where a renewing stands that has done so many of so many entries.
 fn next(done: usize, entries: usize) -> RenewAt
-    ensures { (path : List ARef) (s : ASwap) (main : ARef) (kept : List ARef) → length kept ≡ done → renew_line path s None (record { main = main; done = kept; place = result }) ≡ next_of entries path main kept }
+    ensures { (path : List ARef) (s : ASwap) (main : ARef) (kept : List ARef) → length kept ≡ done →
+        renew_line path s None (record { main = main; done = kept; place = result }) ≡ next_of entries path main kept }
 {
     if done < entries {
         RenewAt::Entry

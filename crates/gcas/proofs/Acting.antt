@@ -27,7 +27,11 @@ acts_on_heap state handle (act.Abort offer) none = both (stands_in (word_at stat
 acts_on_heap state handle (act.Offer offer) none = both (is_plain (word_at state handle) offer.root) _ state refl
 acts_on_heap state handle (act.Complete offer main) none =
     both (stands_in (word_at state handle) offer) _ state
-    (chosen (main == offer.expected) (carried_out state handle offer) (with_word state handle (Plain offer.root)) state (opens_beside (with_word state handle (Plain offer.successor)) offer offer.opens) refl)
+    (
+    chosen (main == offer.expected) (carried_out state handle offer) (with_word state handle (Plain offer.root)) state
+    (opens_beside (with_word state handle (Plain offer.successor)) offer offer.opens)
+    refl
+    )
 acts_on_heap state handle (act.ReadMain indirection) none = refl
 acts_on_heap state handle (act.Publish indirection replaced fresh) none = refl
 acts_on_heap state handle (act.Restore indirection main previous) none = refl

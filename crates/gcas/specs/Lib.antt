@@ -1,3 +1,4 @@
+pub mod Beneath
 pub mod Acted
 pub mod Kept
 pub mod Reads

@@ -5,7 +5,9 @@ ghost use Rattle.machine_model.specs.Reading.{read_action};
 ghost use Rattle.machine_model.specs.declared.reading.ReadLine.TheVariants.{Decide};
 ghost use Rattle.gcas.specs.Acted.{acted_heap};
 ghost use Rattle.gcas.specs.Kept.{KeepsBeside};
-ghost use Rattle.gcas.specs.Reads.{line_at, line_of, ReadsOn, CanReadOn, CanReadAt, IsAskingRoot, begun, given_so, committed_so};
+ghost use Rattle.gcas.specs.Reads.{deciding, line_at, line_of, ReadsOn, CanReadOn, CanReadAt, IsAskingRoot, begun, given_so, committed_so};
+ghost use Rattle.machine_model.specs.Operations.{kind_of};
+ghost use Rattle.slot_arena.specs.declared.refs.Ref.{Ref as ARef};
 
 use crate::looks::{generation_at, main_at};
 use crate::next::Next;
@@ -75,6 +77,30 @@ impl Read {
         match kind {
             Kind::SwapPrev => self.given(),
             _ => None,
+        }
+    }
+
+    /// The kind of its next step, where it was told this of the root's generation.
+    pub fn next_kind(&self, root_seen: Option<u64>) -> Kind
+        ensures { (indirection : ARef) → result ≡ kind_of (read_action indirection (line_of self.now root_seen)) }
+    {
+        match &self.at {
+            ReadAt::Main | ReadAt::Given { .. } => Kind::ReadMain,
+            ReadAt::Prev { .. } => Kind::ReadPrev,
+            ReadAt::Decide { .. } => self.deciding_kind(root_seen),
+            ReadAt::Restore { .. } => Kind::SwapMain,
+        }
+    }
+
+    fn deciding_kind(&self, root_seen: Option<u64>) -> Kind
+        ensures { (indirection main previous : ARef) → result ≡ kind_of (read_action indirection (deciding self.now.access root_seen main previous)) }
+    {
+        match self.access {
+            Access::ReadOnly => Kind::SwapPrev,
+            Access::Writable => match root_seen {
+                None => Kind::ReadRoot,
+                Some(_) => Kind::SwapPrev,
+            },
         }
     }
 

@@ -1,11 +1,12 @@
 //! SWAP: puts a fresh main node in the place of another, if that one still stands there.
 
-ghost use Rattle.std.specs.Prelude.{◌≡◌, None};
+ghost use Rattle.std.specs.Prelude.{◌≡◌, ℕ, Option, None, is_some};
 ghost use Rattle.machine_model.specs.Swapping.{swap_action};
 ghost use Rattle.gcas.specs.Acted.{acted_heap};
 ghost use Rattle.gcas.specs.Kept.{KeepsBeside};
 ghost use Rattle.gcas.specs.Reads.{CanReadOn, IsAskingRoot, line_of};
 ghost use Rattle.gcas.specs.Swaps.{swap_of, swap_with, SwapsOn, CanSwapOn, CanSwapAt};
+ghost use Rattle.machine_model.specs.Operations.{kind_of, swapping_read};
 
 use crate::next::Next;
 use crate::read::{Read, ReadAt};
@@ -56,6 +57,24 @@ impl Swap {
         self.replaced = replaced;
         self.fresh = fresh;
         self.at = SwapAt::Publish;
+    }
+
+    /// Whether its next step is its READ's.
+    pub fn is_reading(&self) -> bool
+        ensures { (told : Option ℕ) → result ≡ is_some (swapping_read self.now.read.indirection (swap_of self.now told).line) }
+    {
+        matches!(&self.at, SwapAt::Deciding)
+    }
+
+    /// The kind of its next step, where it was told this of the root's generation.
+    pub fn next_kind(&self, root_seen: Option<u64>) -> Kind
+        ensures { result ≡ kind_of (swap_action (swap_of self.now root_seen)) }
+    {
+        match &self.at {
+            SwapAt::Publish => Kind::SwapMain,
+            SwapAt::Deciding => self.read.next_kind(root_seen),
+            SwapAt::Check => Kind::ReadPrev,
+        }
     }
 
     /// Takes its next step, unless it has to be told the generation of the root first. It gives whether the

@@ -1,18 +1,18 @@
 -- The nodes that a change of one key makes, as the definition's.
 use Rattle.std.specs.Prelude.{ℕ, List}
-use Rattle.machine_model.specs.Beneath.history.specs.declared.calls.Access.TheVariants.{Writable}
+use Rattle.key_change.specs.Beneath.history.specs.declared.calls.Access.TheVariants.{Writable}
 use Rattle.slot_arena.specs.declared.refs.Ref.{Ref}
 use Rattle.slot_arena.specs.declared.nodes.Node.{Node}
 use Rattle.slot_arena.specs.Heaps.{Heap, empty_branch}
-use Rattle.machine_model.specs.declared.actions.Action.{Action}
-use Rattle.machine_model.specs.declared.actions.Action.TheVariants as act
-use Rattle.machine_model.specs.declared.building.BuildLine.{BuildLine}
-use Rattle.machine_model.specs.declared.building.BuildLine.TheVariants as build
-use Rattle.machine_model.specs.declared.building.Site.TheVariants as site
-use Rattle.machine_model.specs.declared.operations.Operation.{Operation}
-use Rattle.machine_model.specs.Building.{build_action, pair_depth, old_hash}
-use Rattle.machine_model.specs.Paths.{depth_of, hash_in}
-use Rattle.machine_model.specs.States.{State}
+use Rattle.key_change.specs.Beneath.machine_model.specs.declared.actions.Action.{Action}
+use Rattle.key_change.specs.Beneath.machine_model.specs.declared.actions.Action.TheVariants as act
+use Rattle.key_change.specs.Beneath.machine_model.specs.declared.building.BuildLine.{BuildLine}
+use Rattle.key_change.specs.Beneath.machine_model.specs.declared.building.BuildLine.TheVariants as build
+use Rattle.key_change.specs.Beneath.machine_model.specs.declared.building.Site.TheVariants as site
+use Rattle.key_change.specs.Beneath.machine_model.specs.declared.operations.Operation.{Operation}
+use Rattle.key_change.specs.Beneath.machine_model.specs.Building.{build_action, pair_depth, old_hash}
+use Rattle.key_change.specs.Beneath.machine_model.specs.Paths.{depth_of, hash_in}
+use Rattle.key_change.specs.Beneath.machine_model.specs.States.{State}
 use Rattle.trie_parts.specs.declared.calls.Task.{Task}
 use Rattle.trie_parts.specs.Here.{at_heap, no_state, no_operation}
 use Rattle.trie_parts.specs.Tasks.{for_task}

@@ -1,3 +1,4 @@
+pub mod Beneath
 pub mod Built
 pub mod Lines
 pub mod Steps

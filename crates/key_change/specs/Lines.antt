@@ -1,12 +1,12 @@
 -- Where a try stands, as the definition's lines.
 use Rattle.std.specs.Prelude.{ℕ, List, Option}
 use Rattle.slot_arena.specs.declared.refs.Ref.{Ref}
-use Rattle.machine_model.specs.declared.finding.KeyLine.TheVariants as key
-use Rattle.machine_model.specs.declared.lines.Line.{Line}
-use Rattle.machine_model.specs.declared.lines.Line.TheVariants as line
-use Rattle.machine_model.specs.declared.lines.Purpose.TheVariants as purpose
-use Rattle.gcas.specs.declared.swap.Swap.{Swap}
-use Rattle.gcas.specs.Swaps.{swap_of}
+use Rattle.key_change.specs.Beneath.machine_model.specs.declared.finding.KeyLine.TheVariants as key
+use Rattle.key_change.specs.Beneath.machine_model.specs.declared.lines.Line.{Line}
+use Rattle.key_change.specs.Beneath.machine_model.specs.declared.lines.Line.TheVariants as line
+use Rattle.key_change.specs.Beneath.machine_model.specs.declared.lines.Purpose.TheVariants as purpose
+use Rattle.key_change.specs.Beneath.gcas.specs.declared.swap.Swap.{Swap}
+use Rattle.key_change.specs.Beneath.gcas.specs.Swaps.{swap_of}
 use Rattle.key_change.specs.declared.change.Change.{Change}
 use Rattle.key_change.specs.declared.change.ChangeAt.{ChangeAt}
 use Rattle.key_change.specs.declared.change.ChangeAt.TheVariants as at

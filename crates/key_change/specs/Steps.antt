@@ -1,18 +1,18 @@
 -- What a step of a try comes to.
 use Rattle.std.specs.Prelude.{List}
-use Rattle.machine_model.specs.Beneath.history.specs.declared.replies.Reply.TheVariants as reply
+use Rattle.key_change.specs.Beneath.history.specs.declared.replies.Reply.TheVariants as reply
 use Rattle.slot_arena.specs.declared.refs.Ref.{Ref}
 use Rattle.slot_arena.specs.Heaps.{Heap, node_at}
-use Rattle.machine_model.specs.declared.lines.Line.{Line}
-use Rattle.machine_model.specs.declared.lines.Line.TheVariants as line
-use Rattle.machine_model.specs.declared.operations.Operation.{Operation}
-use Rattle.machine_model.specs.Lines.{new_try, impossible}
-use Rattle.machine_model.specs.Operations.{after_update}
-use Rattle.machine_model.specs.States.{State}
-use Rattle.gcas.specs.declared.next.Next.{Next}
-use Rattle.gcas.specs.declared.read.ReadAt.{ReadAt}
-use Rattle.gcas.specs.declared.swap.Swap.{Swap}
-use Rattle.gcas.specs.Swaps.{CanSwapOn}
+use Rattle.key_change.specs.Beneath.machine_model.specs.declared.lines.Line.{Line}
+use Rattle.key_change.specs.Beneath.machine_model.specs.declared.lines.Line.TheVariants as line
+use Rattle.key_change.specs.Beneath.machine_model.specs.declared.operations.Operation.{Operation}
+use Rattle.key_change.specs.Beneath.machine_model.specs.Lines.{new_try, impossible}
+use Rattle.key_change.specs.Beneath.machine_model.specs.Operations.{after_update}
+use Rattle.key_change.specs.Beneath.machine_model.specs.States.{State}
+use Rattle.key_change.specs.Beneath.gcas.specs.declared.next.Next.{Next}
+use Rattle.key_change.specs.Beneath.gcas.specs.declared.read.ReadAt.{ReadAt}
+use Rattle.key_change.specs.Beneath.gcas.specs.declared.swap.Swap.{Swap}
+use Rattle.key_change.specs.Beneath.gcas.specs.Swaps.{CanSwapOn}
 use Rattle.trie_parts.specs.declared.calls.Task.{Task}
 use Rattle.trie_parts.specs.Steps.{CanMake, StepsOn}
 use Rattle.key_change.specs.declared.change.Change.{Change}

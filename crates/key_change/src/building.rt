@@ -4,24 +4,25 @@ ghost use Rattle.std.specs.Prelude.{◌≡◌, ◌+◌, List};
 ghost use Rattle.ctrie_base.specs.Hashes.{hash_of};
 ghost use Rattle.slot_arena.specs.Heaps.{node_at, entry_at};
 ghost use Rattle.nodes.specs.Builders.{pair};
-ghost use Rattle.machine_model.specs.Building.{key_in, after_single, after_link};
-ghost use Rattle.machine_model.specs.Beneath.history.specs.declared.calls.Access.{Access};
-ghost use Rattle.machine_model.specs.declared.building.BuildLine.TheVariants as build;
-ghost use Rattle.machine_model.specs.declared.lines.Line.TheVariants as line;
-ghost use Rattle.machine_model.specs.declared.operations.Operation.{Operation};
-ghost use Rattle.machine_model.specs.Paths.{depth_of};
-ghost use Rattle.machine_model.specs.States.{State};
+ghost use Rattle.key_change.specs.Beneath.machine_model.specs.Building.{key_in, after_single, after_link};
+ghost use Rattle.key_change.specs.Beneath.history.specs.declared.calls.Access.{Access};
+ghost use Rattle.key_change.specs.Beneath.machine_model.specs.declared.building.BuildLine.TheVariants as build;
+ghost use Rattle.key_change.specs.Beneath.machine_model.specs.declared.lines.Line.TheVariants as line;
+ghost use Rattle.key_change.specs.Beneath.machine_model.specs.declared.operations.Operation.{Operation};
+ghost use Rattle.key_change.specs.Beneath.machine_model.specs.Paths.{depth_of};
+ghost use Rattle.key_change.specs.Beneath.machine_model.specs.States.{State};
 ghost use Rattle.slot_arena.specs.declared.refs.Ref.{Ref as ARef};
 ghost use Rattle.trie_parts.specs.Here.{at_heap};
-ghost use Rattle.machine_model.specs.Calls.{key_of};
+ghost use Rattle.key_change.specs.Beneath.machine_model.specs.Calls.{key_of};
 ghost use Rattle.trie_parts.specs.Tasks.{call_of, for_task};
 ghost use Rattle.key_change.specs.Built.{build_line, built, depth_for};
 
 use epochs::Heap;
-use machine_model::{Change as NodeChange, Site};
 use nodes::list_depth;
 use slot_arena::{Node, Ref};
-use trie_parts::{Task, changed_at, entry_at, key_at, pair, parting, rung};
+use trie_parts::{
+    Change as NodeChange, Site, Task, changed_at, entry_at, key_at, pair, parting, rung,
+};
 
 /// A step that makes a node for a change of one key. `former` is the key's value before the change.
 #[derive(Clone, Copy)]
@@ -102,7 +103,8 @@ pub(crate) fn depth_ahead(
     main: Ref,
     building: &Building,
 ) -> usize
-    ensures { (state : State) (operation : Operation) (access : Access) → result ≡ depth_for (at_heap state heap.now.heap task.hashes) (for_task task access operation) (build_line path.now main building.now) }
+    ensures { (state : State) (operation : Operation) (access : Access) →
+        result ≡ depth_for (at_heap state heap.now.heap task.hashes) (for_task task access operation) (build_line path.now main building.now) }
 {
     match building {
         Building::Single {
@@ -130,7 +132,8 @@ fn depth_below(path: &[Ref]) -> usize
 
 /// After the new single: the main node with it, or that of the two singles, which part at this depth.
 pub(crate) fn after_single(site: Site, former: Option<u64>, depth: usize, made: Ref) -> Building
-    ensures { (state : State) (operation : Operation) (path : List ARef) (main : ARef) → depth ≡ depth_for state operation (build.Single path main site former) → line.Build (build_line path main result) ≡ after_single state operation path main former site made }
+    ensures { (state : State) (operation : Operation) (path : List ARef) (main : ARef) → depth ≡ depth_for state operation (build.Single path main site former) →
+        line.Build (build_line path main result) ≡ after_single state operation path main former site made }
 {
     match site {
         Site::Absent => Building::Main {

@@ -1,21 +1,22 @@
 //! A try, step by step.
 
-ghost use Rattle.std.specs.Prelude.{◌≡◌, ◌+◌, ◌<◌, ◌^◌, List, None, IfOk, IfErr, OnOk, OnErr};
-ghost use Rattle.machine_model.specs.declared.operations.Operation.{Operation};
-ghost use Rattle.machine_model.specs.declared.lines.Line.TheVariants as line;
-ghost use Rattle.machine_model.specs.Building.{build_after_made};
-ghost use Rattle.machine_model.specs.Operations.{line_action, read_of, swapping_read};
-ghost use Rattle.machine_model.specs.States.{State};
-ghost use Rattle.machine_model.specs.Swapping.{swap_action};
-ghost use Rattle.machine_model.specs.declared.actions.Action.TheVariants as act;
-ghost use Rattle.machine_model.specs.declared.finding.KeyLine.TheVariants as key;
-ghost use Rattle.machine_model.specs.declared.lines.Purpose.TheVariants as purpose;
+ghost use Rattle.std.specs.Prelude.{◌≡◌, ◌+◌, ◌<◌, ◌^◌, ℕ, List, Option, None, is_some, IfOk, IfErr, OnOk, OnErr};
+ghost use Rattle.key_change.specs.Beneath.machine_model.specs.declared.operations.Operation.{Operation};
+ghost use Rattle.key_change.specs.Beneath.machine_model.specs.declared.lines.Line.TheVariants as line;
+ghost use Rattle.key_change.specs.Beneath.machine_model.specs.Acting.{swaps_in};
+ghost use Rattle.key_change.specs.Beneath.machine_model.specs.Building.{build_after_made};
+ghost use Rattle.key_change.specs.Beneath.machine_model.specs.Operations.{kind_of, line_action, read_of, swapping_read};
+ghost use Rattle.key_change.specs.Beneath.machine_model.specs.States.{State};
+ghost use Rattle.key_change.specs.Beneath.machine_model.specs.Swapping.{swap_action};
+ghost use Rattle.key_change.specs.Beneath.machine_model.specs.declared.actions.Action.TheVariants as act;
+ghost use Rattle.key_change.specs.Beneath.machine_model.specs.declared.finding.KeyLine.TheVariants as key;
+ghost use Rattle.key_change.specs.Beneath.machine_model.specs.declared.lines.Purpose.TheVariants as purpose;
 ghost use Rattle.ctrie_base.specs.declared.hashes.HashKind.{HashKind};
 ghost use Rattle.slot_arena.specs.declared.refs.Ref.{Ref as ARef};
-ghost use Rattle.gcas.specs.declared.read.ReadAt.{ReadAt};
-ghost use Rattle.gcas.specs.declared.swap.Swap.{Swap as ASwap};
-ghost use Rattle.gcas.specs.Reads.{IsAskingRoot};
-ghost use Rattle.gcas.specs.Swaps.{swap_of, CanSwapOn};
+ghost use Rattle.key_change.specs.Beneath.gcas.specs.declared.read.ReadAt.{ReadAt};
+ghost use Rattle.key_change.specs.Beneath.gcas.specs.declared.swap.Swap.{Swap as ASwap};
+ghost use Rattle.key_change.specs.Beneath.gcas.specs.Reads.{IsAskingRoot};
+ghost use Rattle.key_change.specs.Beneath.gcas.specs.Swaps.{swap_of, CanSwapOn};
 ghost use Rattle.trie_parts.specs.declared.calls.Task.{Task as ATask};
 ghost use Rattle.trie_parts.specs.Here.{at_heap};
 ghost use Rattle.trie_parts.specs.Holding.{Acts, AreHeld};
@@ -28,10 +29,8 @@ ghost use Rattle.key_change.specs.Steps.{ChangesOn, CanChange, CanChangeAt};
 use crate::building::{Building, after_link, after_single, built, depth_ahead};
 use ctrie_base::{Kind, Refusal};
 use epochs::Heap;
-use gcas::Next;
-use machine_model::Change as NodeChange;
 use slot_arena::{Node, Ref};
-use trie_parts::{Task, Work, current, entry_at, node_at};
+use trie_parts::{Change as NodeChange, Next, Swap, Task, Work, current, entry_at, node_at};
 
 /// Where a try stands. `former` is the key's value before the change.
 #[derive(Clone, Copy)]
@@ -66,6 +65,37 @@ pub struct Change {
 }
 
 impl Change {
+    /// Whether its next step is the READ's, inside of this SWAP.
+    pub fn is_reading(&self, swap: &Swap) -> bool
+        ensures { (path : List ARef) (told : Option ℕ) → result ≡ is_some (read_of (line_of path swap.now told self.now)) }
+    {
+        match &self.at {
+            ChangeAt::Sibling { .. } | ChangeAt::Build(_) => false,
+            ChangeAt::Swap { .. } => swap.is_reading(),
+        }
+    }
+
+    /// The kind of its next step, where its SWAP is this one and was told this of the root's generation.
+    pub fn next_kind(&self, swap: &Swap, root_seen: Option<u64>) -> Kind
+        ensures { (state : State) (operation : Operation) (path : List ARef) → result ≡ kind_of (line_action state operation (line_of path swap.now root_seen self.now)) }
+    {
+        match &self.at {
+            ChangeAt::Sibling { .. } => Kind::Look,
+            ChangeAt::Build(_) => Kind::Make,
+            ChangeAt::Swap { .. } => swap.next_kind(root_seen),
+        }
+    }
+
+    /// Whether its next step is one of a SWAP that puts this main node in the place of another.
+    pub fn swaps_in(&self, swap: &Swap, main: Ref) -> bool
+        ensures { (path : List ARef) (told : Option ℕ) → result ≡ swaps_in main (line_of path swap.now told self.now) }
+    {
+        match &self.at {
+            ChangeAt::Sibling { .. } | ChangeAt::Build(_) => false,
+            ChangeAt::Swap { .. } => swap.fresh == main,
+        }
+    }
+
     /// Takes the next step of the try, for a call that has come to the end of this path, unless it has to be
     /// told the generation of the root first. After an error, which is want of memory, nothing has changed.
     pub fn step(
@@ -78,8 +108,12 @@ impl Change {
     ) -> Result<Next<Tried>, Refusal>
         requires can { CanChange heap.old.heap task path.now work.old.swap self.old }
         requires held { AreHeld work.old.private heap.old }
-        ensures follows { IfOk result (λ next. (state : State) (operation : Operation) → ChangesOn (at_heap state heap.old.heap task.hashes) (for_task task work.old.swap.read.access operation) path.now work.old.swap.fresh (line_of path.now work.old.swap root_seen self.old) (line_of path.now work.new.swap None self.new) work.new.swap.read.at next) }
-        ensures acts { OnOk result ((state : State) (operation : Operation) → Acts heap.old work.old.private (line_action (at_heap state heap.old.heap task.hashes) (for_task task work.old.swap.read.access operation) (line_of path.now work.old.swap root_seen self.old)) heap.new work.new.private) }
+        ensures follows { IfOk result (λ next. (state : State) (operation : Operation) →
+            ChangesOn (at_heap state heap.old.heap task.hashes) (for_task task work.old.swap.read.access operation) path.now work.old.swap.fresh
+            (line_of path.now work.old.swap root_seen self.old) (line_of path.now work.new.swap None self.new) work.new.swap.read.at next) }
+        ensures acts { OnOk result ((state : State) (operation : Operation) →
+            Acts heap.old work.old.private (line_action (at_heap state heap.old.heap task.hashes) (for_task task work.old.swap.read.access operation)
+            (line_of path.now work.old.swap root_seen self.old)) heap.new work.new.private) }
         ensures same { (self.new.main ≡ self.old.main) × (work.new.swap.read.access ≡ work.old.swap.read.access) }
         ensures err { OnErr result ((self.new ≡ self.old) × (work.new ≡ work.old) × (heap.new ≡ heap.old)) }
         ensures only_memory { IfErr result (λ refusal. refusal ≡ Refusal.Memory) }
@@ -104,7 +138,9 @@ impl Change {
 
     /// Looks at the other one of two entries: where it is a single it is entombed.
     fn look(&mut self, heap: &Heap, position: usize, former: u64) -> Next<Tried>
-        ensures follows { (state : State) (operation : Operation) (hashes : HashKind) (path : List ARef) (s : ASwap) (fresh : ARef) (place : ReadAt) → ChangesOn (at_heap state heap.now.heap hashes) operation path fresh (line.Key (key.Sibling path self.old.main position former)) (line_of path s None self.new) place result }
+        ensures follows { (state : State) (operation : Operation) (hashes : HashKind) (path : List ARef) (s : ASwap) (fresh : ARef) (place : ReadAt) →
+            ChangesOn (at_heap state heap.now.heap hashes) operation path fresh (line.Key (key.Sibling path self.old.main position former)) (line_of path s None self.new)
+            place result }
         ensures same { self.new.main ≡ self.old.main }
         ensures taken { IsAskingRoot result → ⊥ }
     {
@@ -132,7 +168,9 @@ impl Change {
     ) -> Result<Next<Tried>, Refusal>
         requires can { CanChangeAt heap.old.heap task path.now work.old.swap self.old.main (ChangeAt.Build building.now) }
         requires held { AreHeld work.old.private heap.old }
-        ensures follows { IfOk result (λ next. (state : State) (operation : Operation) → ChangesOn (at_heap state heap.old.heap task.hashes) (for_task task work.old.swap.read.access operation) path.now work.old.swap.fresh (line.Build (build_line path.now self.old.main building.now)) (line_of path.now work.new.swap None self.new) work.new.swap.read.at next) }
+        ensures follows { IfOk result (λ next. (state : State) (operation : Operation) →
+            ChangesOn (at_heap state heap.old.heap task.hashes) (for_task task work.old.swap.read.access operation) path.now work.old.swap.fresh
+            (line.Build (build_line path.now self.old.main building.now)) (line_of path.now work.new.swap None self.new) work.new.swap.read.at next) }
         ensures acts { OnOk result (Acts heap.old work.old.private (act.Make (built heap.old.heap task (build_line path.now self.old.main building.now))) heap.new work.new.private) }
         ensures same { (self.new.main ≡ self.old.main) × (work.new.swap.read.access ≡ work.old.swap.read.access) }
         ensures err { OnErr result ((self.new ≡ self.old) × (work.new ≡ work.old) × (heap.new ≡ heap.old)) }
@@ -152,7 +190,8 @@ impl Change {
 
     /// Stands on the line behind the making of a node; two singles part at this depth.
     fn go_on(&mut self, work: &mut Work, path: &[Ref], building: &Building, depth: usize, made: Ref)
-        ensures follows { (state : State) (operation : Operation) → depth ≡ depth_for state operation (build_line path.now self.old.main building.now) → line_of path.now work.new.swap None self.new ≡ build_after_made state operation (build_line path.now self.old.main building.now) made }
+        ensures follows { (state : State) (operation : Operation) → depth ≡ depth_for state operation (build_line path.now self.old.main building.now) →
+            line_of path.now work.new.swap None self.new ≡ build_after_made state operation (build_line path.now self.old.main building.now) made }
         ensures same { (self.new.main ≡ self.old.main) × (work.new.swap.read.access ≡ work.old.swap.read.access) }
         ensures private { work.new.private ≡ work.old.private }
     {
@@ -196,7 +235,9 @@ impl Change {
     ) -> Next<Tried>
         requires can { CanSwapOn heap.old.heap work.old.swap }
         requires held { AreHeld work.old.private heap.old }
-        ensures follows { (state : State) (operation : Operation) (path : List ARef) (hashes : HashKind) (task : ATask) → ChangesOn (at_heap state heap.old.heap hashes) (for_task task work.old.swap.read.access operation) path work.old.swap.fresh (line.Swap (purpose.Update path former) (swap_of work.old.swap root_seen)) (line_of path work.new.swap None self.new) work.new.swap.read.at result }
+        ensures follows { (state : State) (operation : Operation) (path : List ARef) (hashes : HashKind) (task : ATask) →
+            ChangesOn (at_heap state heap.old.heap hashes) (for_task task work.old.swap.read.access operation) path work.old.swap.fresh
+            (line.Swap (purpose.Update path former) (swap_of work.old.swap root_seen)) (line_of path work.new.swap None self.new) work.new.swap.read.at result }
         ensures acts { Acts heap.old work.old.private (swap_action (swap_of work.old.swap root_seen)) heap.new work.new.private }
         ensures same { (self.new.main ≡ self.old.main) × (work.new.swap.read.access ≡ work.old.swap.read.access) }
         ensures asks { IsAskingRoot result → (self.new ≡ record self.old { at = ChangeAt.Swap former }) × (work.new ≡ work.old) × (heap.new ≡ heap.old) }

@@ -2,20 +2,20 @@
 use Rattle.std.specs.Prelude.{[], List, None, if◌then◌else◌}
 use Rattle.history.specs.declared.calls.Call.{Call}
 use Rattle.slot_arena.specs.declared.refs.Ref.{Ref}
-use Rattle.machine_model.specs.declared.building.BuildLine.TheVariants as build
-use Rattle.machine_model.specs.declared.building.Site.{Site}
-use Rattle.machine_model.specs.declared.finding.KeyLine.TheVariants as key
-use Rattle.machine_model.specs.declared.lines.Line.{Line}
-use Rattle.machine_model.specs.declared.lines.Line.TheVariants as line
-use Rattle.machine_model.specs.declared.repairs.CleanLine.TheVariants as clean
-use Rattle.machine_model.specs.Calls.{inserts, absent_reply}
-use Rattle.machine_model.specs.Finding.{going_down}
-use Rattle.machine_model.specs.Lines.{impossible}
-use Rattle.machine_model.specs.Paths.{above, current}
-use Rattle.machine_model.specs.Reading.{reading}
-use Rattle.machine_model.specs.Renewing.{renew_next}
-use Rattle.machine_model.specs.States.{State}
-use Rattle.gcas.specs.declared.swap.Swap.{Swap}
+use Rattle.key_finding.specs.Beneath.machine_model.specs.declared.building.BuildLine.TheVariants as build
+use Rattle.key_finding.specs.Beneath.machine_model.specs.declared.building.Site.{Site}
+use Rattle.key_finding.specs.Beneath.machine_model.specs.declared.finding.KeyLine.TheVariants as key
+use Rattle.key_finding.specs.Beneath.machine_model.specs.declared.lines.Line.{Line}
+use Rattle.key_finding.specs.Beneath.machine_model.specs.declared.lines.Line.TheVariants as line
+use Rattle.key_finding.specs.Beneath.machine_model.specs.declared.repairs.CleanLine.TheVariants as clean
+use Rattle.key_finding.specs.Beneath.machine_model.specs.Calls.{inserts, absent_reply}
+use Rattle.key_finding.specs.Beneath.machine_model.specs.Finding.{going_down}
+use Rattle.key_finding.specs.Beneath.machine_model.specs.Lines.{impossible}
+use Rattle.key_finding.specs.Beneath.machine_model.specs.Paths.{above, current}
+use Rattle.key_finding.specs.Beneath.machine_model.specs.Reading.{reading}
+use Rattle.key_finding.specs.Beneath.machine_model.specs.Renewing.{renew_next}
+use Rattle.key_finding.specs.Beneath.machine_model.specs.States.{State}
+use Rattle.key_finding.specs.Beneath.gcas.specs.declared.swap.Swap.{Swap}
 use Rattle.key_change.specs.Lines.{line_at}
 use Rattle.key_finding.specs.declared.found.Found.{Found}
 use Rattle.key_finding.specs.declared.found.Found.TheVariants.{Entry, Listed, Down, Renew, Clean, Change, End, Impossible}

@@ -1,8 +1,8 @@
 -- Replies to calls on one key, as the definition's.
 use Rattle.history.specs.declared.replies.Reply.{Reply}
 use Rattle.history.specs.declared.replies.Reply.TheVariants as reply
-use Rattle.machine_model.specs.declared.finding.WhenFound.{WhenFound}
-use Rattle.machine_model.specs.declared.finding.WhenFound.TheVariants.{Answers, Sets, Removes}
+use Rattle.key_finding.specs.Beneath.machine_model.specs.declared.finding.WhenFound.{WhenFound}
+use Rattle.key_finding.specs.Beneath.machine_model.specs.declared.finding.WhenFound.TheVariants.{Answers, Sets, Removes}
 use Rattle.key_finding.specs.declared.calls.KeyReply.{KeyReply}
 use Rattle.key_finding.specs.declared.calls.KeyReply.TheVariants.{Found, Truth, Crowded, NoSlots}
 use Rattle.key_finding.specs.declared.calls.Todo.{Todo}

@@ -1,7 +1,7 @@
 //! What calls on one key do and answer.
 
 ghost use Rattle.std.specs.Prelude.{◌≡◌, ℕ};
-ghost use Rattle.machine_model.specs.Calls.{inserts, absent_reply, changed_reply, when_found};
+ghost use Rattle.key_finding.specs.Beneath.machine_model.specs.Calls.{inserts, absent_reply, changed_reply, when_found};
 ghost use Rattle.trie_parts.specs.Tasks.{call_of};
 ghost use Rattle.key_finding.specs.Replies.{reply_of, todo_of};
 

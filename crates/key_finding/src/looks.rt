@@ -2,24 +2,24 @@
 //! of the path.
 
 ghost use Rattle.std.specs.Prelude.{◌≡◌, ℕ, ◌==◌, ◌&&◌, nat_le, List, [], Some, if◌then◌else◌};
-ghost use Rattle.ctrie_base.specs.Hashes.{hash_of};
-ghost use Rattle.ctrie_base.specs.Paths.{position_of};
-ghost use Rattle.ctrie_base.specs.declared.hashes.HashKind.{HashKind};
+ghost use Rattle.key_finding.specs.Beneath.ctrie_base.specs.Hashes.{hash_of};
+ghost use Rattle.key_finding.specs.Beneath.ctrie_base.specs.Paths.{position_of};
+ghost use Rattle.key_finding.specs.Beneath.ctrie_base.specs.declared.hashes.HashKind.{HashKind};
 ghost use Rattle.slot_arena.specs.Heaps.{node_at, entry_at};
 ghost use Rattle.slot_arena.specs.declared.refs.Ref.{Ref as ARef};
 ghost use Rattle.nodes.specs.Levels.{has_flag, flag_of};
 ghost use Rattle.history.specs.declared.replies.Reply.TheVariants as reply;
-ghost use Rattle.machine_model.specs.Calls.{inserts, key_of, when_found};
-ghost use Rattle.machine_model.specs.Finding.{found_so, removing, after_tomb, going_down, key_after_main, is_passable, key_after_entry, after_listed};
-ghost use Rattle.machine_model.specs.Paths.{is_below_root, depth_of};
-ghost use Rattle.machine_model.specs.Renewing.{renew_next};
-ghost use Rattle.machine_model.specs.States.{State};
-ghost use Rattle.machine_model.specs.declared.building.BuildLine.TheVariants as build;
-ghost use Rattle.machine_model.specs.declared.building.Change.TheVariants as becomes;
-ghost use Rattle.machine_model.specs.declared.finding.KeyLine.TheVariants as key;
-ghost use Rattle.machine_model.specs.declared.lines.Line.TheVariants as line;
-ghost use Rattle.machine_model.specs.declared.operations.Operation.{Operation};
-ghost use Rattle.gcas.specs.declared.swap.Swap.{Swap};
+ghost use Rattle.key_finding.specs.Beneath.machine_model.specs.Calls.{inserts, key_of, when_found};
+ghost use Rattle.key_finding.specs.Beneath.machine_model.specs.Finding.{found_so, removing, after_tomb, going_down, key_after_main, is_passable, key_after_entry, after_listed};
+ghost use Rattle.key_finding.specs.Beneath.machine_model.specs.Paths.{is_below_root, depth_of};
+ghost use Rattle.key_finding.specs.Beneath.machine_model.specs.Renewing.{renew_next};
+ghost use Rattle.key_finding.specs.Beneath.machine_model.specs.States.{State};
+ghost use Rattle.key_finding.specs.Beneath.machine_model.specs.declared.building.BuildLine.TheVariants as build;
+ghost use Rattle.key_finding.specs.Beneath.machine_model.specs.declared.building.Change.TheVariants as becomes;
+ghost use Rattle.key_finding.specs.Beneath.machine_model.specs.declared.finding.KeyLine.TheVariants as key;
+ghost use Rattle.key_finding.specs.Beneath.machine_model.specs.declared.lines.Line.TheVariants as line;
+ghost use Rattle.key_finding.specs.Beneath.machine_model.specs.declared.operations.Operation.{Operation};
+ghost use Rattle.key_finding.specs.Beneath.gcas.specs.declared.swap.Swap.{Swap};
 ghost use Rattle.trie_parts.specs.Here.{at_heap};
 ghost use Rattle.trie_parts.specs.Tasks.{call_of, for_task};
 ghost use Rattle.key_finding.specs.Lines.{line_found, absent_for};
@@ -29,14 +29,15 @@ use crate::found::Found;
 use epochs::Heap;
 use history::Access;
 use key_change::{Building, ChangeAt};
-use machine_model::{Change, Site};
 use nodes::{MOST_ENTRIES, has_flag, position_of};
 use slot_arena::{Node, Ref};
-use trie_parts::{KeyCall, Task, entry_at, entry_count, is_below_root, node_at};
+use trie_parts::{Change, KeyCall, Site, Task, entry_at, entry_count, is_below_root, node_at};
 
 /// After the look at the main node: the entry of the key's flag, or the first single of a list.
 pub fn after_main(heap: &Heap, task: Task, access: Access, path: &[Ref], main: Ref) -> Found
-    ensures { (state : State) (operation : Operation) (s : Swap) → line_found (at_heap state heap.now.heap task.hashes) path.now s main result ≡ key_after_main (at_heap state heap.now.heap task.hashes) (for_task task access operation) path.now main (node_at heap.now.heap main) }
+    ensures { (state : State) (operation : Operation) (s : Swap) →
+        line_found (at_heap state heap.now.heap task.hashes) path.now s main result ≡ key_after_main (at_heap state heap.now.heap task.hashes)
+        (for_task task access operation) path.now main (node_at heap.now.heap main) }
 {
     match node_at(heap, main) {
         Some(Node::Branch { bitmap, .. }) => in_branch(task, path, *bitmap),
@@ -49,7 +50,8 @@ pub fn after_main(heap: &Heap, task: Task, access: Access, path: &[Ref], main: R
 
 /// In a branch with this bitmap: the entry of the key's flag, if it has one.
 fn in_branch(task: Task, path: &[Ref], bitmap: u32) -> Found
-    ensures { (state : State) (handle : ℕ) (main : ARef) (s : Swap) → line_found state path.now s main result ≡ (let flag = flag_of (hash_of task.hashes (key_of (call_of handle task.call))) (depth_of path.now) in
+    ensures { (state : State) (handle : ℕ) (main : ARef) (s : Swap) →
+        line_found state path.now s main result ≡ (let flag = flag_of (hash_of task.hashes (key_of (call_of handle task.call))) (depth_of path.now) in
         if has_flag bitmap flag then line.Key (key.Entry path.now main (position_of flag bitmap)) else absent_for (call_of handle task.call) path.now main Site.Absent) }
 {
     let flag = task.flag_at(path);
@@ -92,7 +94,9 @@ pub fn after_entry(
     main: Ref,
     position: usize,
 ) -> Found
-    ensures { (state : State) (operation : Operation) (s : Swap) → line_found (at_heap state heap.now.heap task.hashes) path.now s main result ≡ key_after_entry (at_heap state heap.now.heap task.hashes) (for_task task access operation) path.now main position (node_at heap.now.heap (entry_at heap.now.heap main position)) }
+    ensures { (state : State) (operation : Operation) (s : Swap) →
+        line_found (at_heap state heap.now.heap task.hashes) path.now s main result ≡ key_after_entry (at_heap state heap.now.heap task.hashes)
+        (for_task task access operation) path.now main position (node_at heap.now.heap (entry_at heap.now.heap main position)) }
 {
     let entry = entry_at(heap, main, position);
     match node_at(heap, entry) {
@@ -115,7 +119,8 @@ pub fn after_entry(
 /// At an indirection of this generation: a writable operation goes through those of its root's generation
 /// alone.
 fn at_indirection(task: Task, access: Access, generation: u64, below: Ref) -> Found
-    ensures { (state : State) (operation : Operation) (path : List ARef) (main : ARef) (s : Swap) → line_found state path s main result ≡ (if is_passable (for_task task access operation) generation then going_down path below else renew_next state path main []) }
+    ensures { (state : State) (operation : Operation) (path : List ARef) (main : ARef) (s : Swap) →
+        line_found state path s main result ≡ (if is_passable (for_task task access operation) generation then going_down path below else renew_next state path main []) }
 {
     match access {
         Access::Writable if !task.is_start(generation) => Found::Renew,
@@ -133,7 +138,9 @@ pub fn after_listed(
     main: Ref,
     position: usize,
 ) -> Found
-    ensures { (state : State) (operation : Operation) (s : Swap) → line_found (at_heap state heap.now.heap task.hashes) path.now s main result ≡ after_listed (at_heap state heap.now.heap task.hashes) (for_task task access operation) path.now main position (node_at heap.now.heap (entry_at heap.now.heap main position)) }
+    ensures { (state : State) (operation : Operation) (s : Swap) →
+        line_found (at_heap state heap.now.heap task.hashes) path.now s main result ≡ after_listed (at_heap state heap.now.heap task.hashes) (for_task task access operation)
+        path.now main position (node_at heap.now.heap (entry_at heap.now.heap main position)) }
 {
     match node_at(heap, entry_at(heap, main, position)) {
         Some(Node::Single { key, value }) => {
@@ -154,7 +161,9 @@ pub fn after_listed(
 
 /// Where the key is absent at the end of a list of so many singles: 32 are the most.
 fn absent_listed(call: KeyCall, singles: usize) -> Found
-    ensures { (state : State) (path : List ARef) (main : ARef) (s : Swap) (handle : ℕ) → line_found state path s main result ≡ (if inserts (call_of handle call) && nat_le 32 singles then line.End reply.Crowded else absent_for (call_of handle call) path main Site.Absent) }
+    ensures { (state : State) (path : List ARef) (main : ARef) (s : Swap) (handle : ℕ) →
+        line_found state path s main result ≡ (if inserts (call_of handle call) && nat_le 32 singles then line.End reply.Crowded else absent_for (call_of handle call) path
+        main Site.Absent) }
 {
     if inserts(call) && MOST_ENTRIES <= singles {
         return Found::End(KeyReply::Crowded);
@@ -164,7 +173,9 @@ fn absent_listed(call: KeyCall, singles: usize) -> Found
 
 /// Where the key stands at this position of the main node, with this value.
 fn found(heap: &Heap, call: KeyCall, path: &[Ref], main: Ref, position: usize, value: u64) -> Found
-    ensures { (state : State) (hashes : HashKind) (s : Swap) (handle : ℕ) → line_found (at_heap state heap.now.heap hashes) path.now s main result ≡ found_so (at_heap state heap.now.heap hashes) path.now main position value (when_found (call_of handle call) value) }
+    ensures { (state : State) (hashes : HashKind) (s : Swap) (handle : ℕ) →
+        line_found (at_heap state heap.now.heap hashes) path.now s main result ≡ found_so (at_heap state heap.now.heap hashes) path.now main position value
+        (when_found (call_of handle call) value) }
 {
     match when_found(call, value) {
         Todo::Answer(answer) => Found::End(answer),
@@ -178,7 +189,9 @@ fn found(heap: &Heap, call: KeyCall, path: &[Ref], main: Ref, position: usize, v
 
 /// Takes the key out of a branch or list.
 fn removing(heap: &Heap, path: &[Ref], main: Ref, position: usize, value: u64) -> Found
-    ensures { (state : State) (hashes : HashKind) (s : Swap) → line_found (at_heap state heap.now.heap hashes) path.now s main result ≡ removing (at_heap state heap.now.heap hashes) path.now main position value (node_at heap.now.heap main) }
+    ensures { (state : State) (hashes : HashKind) (s : Swap) →
+        line_found (at_heap state heap.now.heap hashes) path.now s main result ≡ removing (at_heap state heap.now.heap hashes) path.now main position value
+        (node_at heap.now.heap main) }
 {
     let other = entry_at(heap, main, 1usize.saturating_sub(position));
     match node_at(heap, main) {
@@ -191,7 +204,9 @@ fn removing(heap: &Heap, path: &[Ref], main: Ref, position: usize, value: u64) -
 
 /// Takes the key out of a branch of so many entries: of two below the root the other one is looked at first.
 fn from_branch(path: &[Ref], position: usize, value: u64, entries: usize) -> Found
-    ensures { (state : State) (main : ARef) (s : Swap) → line_found state path.now s main result ≡ (if is_below_root path.now && (entries == 2) then line.Key (key.Sibling path.now main position value) else line.Build (build.Main path.now main (becomes.Remove position) (Some value))) }
+    ensures { (state : State) (main : ARef) (s : Swap) →
+        line_found state path.now s main result ≡ (if is_below_root path.now && (entries == 2) then line.Key (key.Sibling path.now main position value) else line.Build
+        (build.Main path.now main (becomes.Remove position) (Some value))) }
 {
     if is_below_root(path) && entries == 2 {
         return Found::Change(ChangeAt::Sibling {
@@ -204,7 +219,9 @@ fn from_branch(path: &[Ref], position: usize, value: u64, entries: usize) -> Fou
 
 /// Takes the key out of a list of so many singles: of two a tomb of the other one is made.
 fn from_list(other: Ref, position: usize, value: u64, singles: usize) -> Found
-    ensures { (state : State) (path : List ARef) (main : ARef) (s : Swap) → line_found state path s main result ≡ (if singles == 2 then line.Build (build.Main path main (becomes.Entomb other) (Some value)) else line.Build (build.Main path main (becomes.Remove position) (Some value))) }
+    ensures { (state : State) (path : List ARef) (main : ARef) (s : Swap) →
+        line_found state path s main result ≡ (if singles == 2 then line.Build (build.Main path main (becomes.Entomb other) (Some value)) else line.Build
+        (build.Main path main (becomes.Remove position) (Some value))) }
 {
     if singles == 2 {
         return changing(Change::Entomb { single: other }, value);

@@ -1,4 +1,6 @@
 pub mod Mapped
+pub mod Marking
+pub mod Stepped
 pub mod Tying
 pub mod Tied
 pub mod Held

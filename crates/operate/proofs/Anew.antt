@@ -4,10 +4,10 @@ use Rattle.ctrie_base.specs.declared.kinds.Kind.{Kind}
 use Rattle.ctrie_base.specs.declared.kinds.Kind.TheVariants as kind
 use Rattle.history.specs.declared.calls.Access.{Access}
 use Rattle.slot_arena.specs.Heaps.{Heap}
-use Rattle.machine_model.specs.declared.reading.Read.{Read}
-use Rattle.gcas.specs.declared.read.ReadAt.{ReadAt}
-use Rattle.gcas.specs.declared.read.ReadAt.TheVariants as at
-use Rattle.gcas.specs.Reads.{ReadsAlong}
+use Rattle.operate.specs.Beneath.machine_model.specs.declared.reading.Read.{Read}
+use Rattle.operate.specs.Beneath.gcas.specs.declared.read.ReadAt.{ReadAt}
+use Rattle.operate.specs.Beneath.gcas.specs.declared.read.ReadAt.TheVariants as at
+use Rattle.operate.specs.Beneath.gcas.specs.Reads.{ReadsAlong}
 use Rattle.operate.specs.Steps.{CommitsNoMore}
 
 pub begins : (place : ReadAt) → CommitsNoMore place at.Main

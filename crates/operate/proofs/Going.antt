@@ -5,33 +5,33 @@ use Rattle.history.specs.declared.calls.Access.TheVariants.{Writable, ReadOnly}
 use Rattle.history.specs.declared.replies.Reply.{Reply}
 use Rattle.slot_arena.specs.declared.refs.Ref.{Ref}
 use Rattle.slot_arena.specs.declared.nodes.Node.{Node}
-use Rattle.machine_model.specs.declared.actions.Action.{Action}
-use Rattle.machine_model.specs.declared.actions.Action.TheVariants as act
-use Rattle.machine_model.specs.declared.lines.Line.{Line}
-use Rattle.machine_model.specs.declared.lines.Line.TheVariants as line
-use Rattle.machine_model.specs.declared.lines.Purpose.{Purpose}
-use Rattle.machine_model.specs.declared.lines.Purpose.TheVariants as purpose
-use Rattle.machine_model.specs.declared.operations.Operation.{Operation}
-use Rattle.machine_model.specs.declared.repairs.Climb.{Climb}
-use Rattle.machine_model.specs.Acting.{attempt_after}
-use Rattle.machine_model.specs.Operations.{line_action}
-use Rattle.machine_model.specs.Reading.{read_action}
-use Rattle.machine_model.specs.States.{State}
-use Rattle.gcas.specs.declared.read.Read.{Read}
-use Rattle.gcas.specs.declared.read.ReadAt.{ReadAt}
-use Rattle.gcas.specs.declared.read.ReadAt.TheVariants as read
-use Rattle.gcas.specs.declared.swap.Swap.{Swap}
-use Rattle.gcas.specs.declared.swap.SwapAt.{SwapAt}
-use Rattle.gcas.specs.declared.swap.SwapAt.TheVariants as swap
-use Rattle.gcas.specs.Reads.{IsAsking, line_at, line_of}
-use Rattle.gcas.specs.Swaps.{swap_with}
+use Rattle.operate.specs.Beneath.machine_model.specs.declared.actions.Action.{Action}
+use Rattle.operate.specs.Beneath.machine_model.specs.declared.actions.Action.TheVariants as act
+use Rattle.operate.specs.Beneath.machine_model.specs.declared.lines.Line.{Line}
+use Rattle.operate.specs.Beneath.machine_model.specs.declared.lines.Line.TheVariants as line
+use Rattle.operate.specs.Beneath.machine_model.specs.declared.lines.Purpose.{Purpose}
+use Rattle.operate.specs.Beneath.machine_model.specs.declared.lines.Purpose.TheVariants as purpose
+use Rattle.operate.specs.Beneath.machine_model.specs.declared.operations.Operation.{Operation}
+use Rattle.operate.specs.Beneath.machine_model.specs.declared.repairs.Climb.{Climb}
+use Rattle.operate.specs.Beneath.machine_model.specs.Acting.{attempt_after}
+use Rattle.operate.specs.Beneath.machine_model.specs.Operations.{line_action}
+use Rattle.operate.specs.Beneath.machine_model.specs.Reading.{read_action}
+use Rattle.operate.specs.Beneath.machine_model.specs.States.{State}
+use Rattle.operate.specs.Beneath.gcas.specs.declared.read.Read.{Read}
+use Rattle.operate.specs.Beneath.gcas.specs.declared.read.ReadAt.{ReadAt}
+use Rattle.operate.specs.Beneath.gcas.specs.declared.read.ReadAt.TheVariants as read
+use Rattle.operate.specs.Beneath.gcas.specs.declared.swap.Swap.{Swap}
+use Rattle.operate.specs.Beneath.gcas.specs.declared.swap.SwapAt.{SwapAt}
+use Rattle.operate.specs.Beneath.gcas.specs.declared.swap.SwapAt.TheVariants as swap
+use Rattle.operate.specs.Beneath.gcas.specs.Reads.{IsAsking, line_at, line_of}
+use Rattle.operate.specs.Beneath.gcas.specs.Swaps.{swap_with}
 use Rattle.trie_parts.specs.Steps.{IsAskingLine}
-use Rattle.rdcss_root.specs.Tables.{Table, acted_table}
+use Rattle.operate.specs.Beneath.rdcss_root.specs.Tables.{Table, acted_table}
 use Rattle.root_asking.specs.Inside.{with_read}
-use Rattle.key_change.specs.declared.building.Building.TheVariants as building
-use Rattle.key_change.specs.declared.change.ChangeAt.{ChangeAt}
-use Rattle.key_change.specs.declared.change.ChangeAt.TheVariants as change
-use Rattle.key_change.specs.Lines.{line_at as change_at}
+use Rattle.operate.specs.Beneath.key_change.specs.declared.building.Building.TheVariants as building
+use Rattle.operate.specs.Beneath.key_change.specs.declared.change.ChangeAt.{ChangeAt}
+use Rattle.operate.specs.Beneath.key_change.specs.declared.change.ChangeAt.TheVariants as change
+use Rattle.operate.specs.Beneath.key_change.specs.Lines.{line_at as change_at}
 use Rattle.contract.specs.declared.clean.CleanAt.{CleanAt}
 use Rattle.contract.specs.declared.clean.CleanAt.TheVariants as clean
 use Rattle.contract.specs.declared.climb.ClimbAt.{ClimbAt}

@@ -6,25 +6,25 @@ use Rattle.ctrie_base.specs.declared.kinds.Kind.TheVariants as kind
 use Rattle.history.specs.declared.calls.Access.{Access}
 use Rattle.slot_arena.specs.declared.refs.Ref.{Ref}
 use Rattle.slot_arena.specs.Heaps.{Heap}
-use Rattle.machine_model.specs.declared.operations.Operation.{Operation}
-use Rattle.machine_model.specs.declared.reading.After.{After}
-use Rattle.machine_model.specs.declared.roots.RootLine.{RootLine}
-use Rattle.machine_model.specs.declared.roots.RootLine.TheVariants as root
-use Rattle.machine_model.specs.declared.roots.RootWord.{RootWord}
-use Rattle.machine_model.specs.Calls.{handle_of}
-use Rattle.machine_model.specs.Finding.{going_down}
-use Rattle.machine_model.specs.Operations.{from_root, kind_of, rooting_read}
-use Rattle.machine_model.specs.States.{State, word_at}
-use Rattle.machine_model.specs.Swapping.{root_action, root_after}
-use Rattle.gcas.specs.declared.read.Read.{Read}
-use Rattle.gcas.specs.declared.read.ReadAt.{ReadAt}
-use Rattle.gcas.specs.Reads.{ReadsAlong}
+use Rattle.operate.specs.Beneath.machine_model.specs.declared.operations.Operation.{Operation}
+use Rattle.operate.specs.Beneath.machine_model.specs.declared.reading.After.{After}
+use Rattle.operate.specs.Beneath.machine_model.specs.declared.roots.RootLine.{RootLine}
+use Rattle.operate.specs.Beneath.machine_model.specs.declared.roots.RootLine.TheVariants as root
+use Rattle.operate.specs.Beneath.machine_model.specs.declared.roots.RootWord.{RootWord}
+use Rattle.operate.specs.Beneath.machine_model.specs.Calls.{handle_of}
+use Rattle.operate.specs.Beneath.machine_model.specs.Finding.{going_down}
+use Rattle.operate.specs.Beneath.machine_model.specs.Operations.{from_root, kind_of, rooting_read}
+use Rattle.operate.specs.Beneath.machine_model.specs.States.{State, word_at}
+use Rattle.operate.specs.Beneath.machine_model.specs.Swapping.{root_action, root_after}
+use Rattle.operate.specs.Beneath.gcas.specs.declared.read.Read.{Read}
+use Rattle.operate.specs.Beneath.gcas.specs.declared.read.ReadAt.{ReadAt}
+use Rattle.operate.specs.Beneath.gcas.specs.Reads.{ReadsAlong}
 use Rattle.trie_parts.specs.declared.calls.KeyCall.{KeyCall}
 use Rattle.trie_parts.specs.declared.calls.KeyCall.TheVariants.{Get, Put, PutIfAbsent, Replace, ReplaceIf, Remove, RemoveIf}
 use Rattle.trie_parts.specs.declared.calls.Task.{Task}
 use Rattle.trie_parts.specs.Tasks.{call_of}
 use Rattle.trie_parts.proofs.Handles.{handle_same}
-use Rattle.rdcss_root.specs.declared.root.ReadRoot.{ReadRoot}
+use Rattle.operate.specs.Beneath.rdcss_root.specs.declared.root.ReadRoot.{ReadRoot}
 
 -- a call on one key goes down from the root
 pub below : (call : KeyCall) (handle : ℕ) (r : Ref) → from_root (call_of handle call) r ≡ going_down [] r

@@ -1,22 +1,22 @@
 -- What a call on one key is told, asks and does, wherever it stands.
 use Rattle.std.specs.Prelude.{◌≡◌, ℕ, Option, Some, None, refl}
-use Rattle.machine_model.specs.declared.operations.Operation.{Operation}
-use Rattle.machine_model.specs.declared.repairs.Climb.{Climb}
-use Rattle.machine_model.specs.declared.repairs.ClimbLine.TheVariants as climbing
-use Rattle.machine_model.specs.declared.lines.Line.TheVariants as line
-use Rattle.machine_model.specs.declared.roots.Descriptor.{Descriptor}
-use Rattle.machine_model.specs.Operations.{line_action}
-use Rattle.machine_model.specs.Paths.{above}
-use Rattle.machine_model.specs.States.{State}
-use Rattle.machine_model.specs.Swapping.{root_action}
-use Rattle.gcas.specs.declared.read.Read.{Read}
-use Rattle.gcas.specs.Reads.{line_of}
-use Rattle.rdcss_root.specs.declared.complete.CompleteAt.{CompleteAt}
-use Rattle.rdcss_root.specs.declared.complete.CompleteAt.TheVariants as complete
-use Rattle.rdcss_root.specs.declared.root.ReadRoot.{ReadRoot}
-use Rattle.rdcss_root.specs.declared.root.ReadRoot.TheVariants as rooting
-use Rattle.rdcss_root.specs.Programs.{root_of}
-use Rattle.rdcss_root.specs.Tables.{Table}
+use Rattle.operate.specs.Beneath.machine_model.specs.declared.operations.Operation.{Operation}
+use Rattle.operate.specs.Beneath.machine_model.specs.declared.repairs.Climb.{Climb}
+use Rattle.operate.specs.Beneath.machine_model.specs.declared.repairs.ClimbLine.TheVariants as climbing
+use Rattle.operate.specs.Beneath.machine_model.specs.declared.lines.Line.TheVariants as line
+use Rattle.operate.specs.Beneath.machine_model.specs.declared.roots.Descriptor.{Descriptor}
+use Rattle.operate.specs.Beneath.machine_model.specs.Operations.{line_action}
+use Rattle.operate.specs.Beneath.machine_model.specs.Paths.{above}
+use Rattle.operate.specs.Beneath.machine_model.specs.States.{State}
+use Rattle.operate.specs.Beneath.machine_model.specs.Swapping.{root_action}
+use Rattle.operate.specs.Beneath.gcas.specs.declared.read.Read.{Read}
+use Rattle.operate.specs.Beneath.gcas.specs.Reads.{line_of}
+use Rattle.operate.specs.Beneath.rdcss_root.specs.declared.complete.CompleteAt.{CompleteAt}
+use Rattle.operate.specs.Beneath.rdcss_root.specs.declared.complete.CompleteAt.TheVariants as complete
+use Rattle.operate.specs.Beneath.rdcss_root.specs.declared.root.ReadRoot.{ReadRoot}
+use Rattle.operate.specs.Beneath.rdcss_root.specs.declared.root.ReadRoot.TheVariants as rooting
+use Rattle.operate.specs.Beneath.rdcss_root.specs.Programs.{root_of}
+use Rattle.operate.specs.Beneath.rdcss_root.specs.Tables.{Table}
 use Rattle.trie_parts.specs.Steps.{IsAskingLine}
 use Rattle.root_asking.specs.Inside.{with_read}
 use Rattle.contract.specs.Climbing.{climb_of}

@@ -2,22 +2,22 @@
 use Rattle.std.specs.Prelude.{ℕ, List, Option, Some, None}
 use Rattle.history.specs.declared.replies.Reply.{Reply}
 use Rattle.slot_arena.specs.declared.refs.Ref.{Ref}
-use Rattle.machine_model.specs.declared.finding.KeyLine.TheVariants as key
-use Rattle.machine_model.specs.declared.lines.Line.{Line}
-use Rattle.machine_model.specs.declared.lines.Line.TheVariants as line
-use Rattle.machine_model.specs.declared.operations.Operation.{Operation}
-use Rattle.machine_model.specs.declared.repairs.ClimbLine.TheVariants as climb
-use Rattle.machine_model.specs.Climbing.{climbing, climbed}
-use Rattle.machine_model.specs.Lines.{impossible}
-use Rattle.machine_model.specs.Paths.{above}
-use Rattle.gcas.specs.Reads.{read_of}
-use Rattle.rdcss_root.specs.Programs.{root_of}
+use Rattle.operate.specs.Beneath.machine_model.specs.declared.finding.KeyLine.TheVariants as key
+use Rattle.operate.specs.Beneath.machine_model.specs.declared.lines.Line.{Line}
+use Rattle.operate.specs.Beneath.machine_model.specs.declared.lines.Line.TheVariants as line
+use Rattle.operate.specs.Beneath.machine_model.specs.declared.operations.Operation.{Operation}
+use Rattle.operate.specs.Beneath.machine_model.specs.declared.repairs.ClimbLine.TheVariants as climb
+use Rattle.operate.specs.Beneath.machine_model.specs.Climbing.{climbing, climbed}
+use Rattle.operate.specs.Beneath.machine_model.specs.Lines.{impossible}
+use Rattle.operate.specs.Beneath.machine_model.specs.Paths.{above}
+use Rattle.operate.specs.Beneath.gcas.specs.Reads.{read_of}
+use Rattle.operate.specs.Beneath.rdcss_root.specs.Programs.{root_of}
 use Rattle.contract.specs.Cleaning.{clean_line}
 use Rattle.contract.specs.Climbing.{climb_line}
 use Rattle.contract.specs.Renewing.{renew_line}
-use Rattle.key_change.specs.Lines.{line_of as change_line}
-use Rattle.key_change.specs.declared.change.Tried.{Tried}
-use Rattle.key_change.specs.declared.change.Tried.TheVariants.{Changed}
+use Rattle.operate.specs.Beneath.key_change.specs.Lines.{line_of as change_line}
+use Rattle.operate.specs.Beneath.key_change.specs.declared.change.Tried.{Tried}
+use Rattle.operate.specs.Beneath.key_change.specs.declared.change.Tried.TheVariants.{Changed}
 use Rattle.key_finding.specs.Replies.{reply_of}
 use Rattle.operate.specs.declared.key_op.KeyOp.{KeyOp}
 use Rattle.operate.specs.declared.key_op.KeyAt.{KeyAt}

@@ -4,28 +4,29 @@ use Rattle.ctrie_base.specs.declared.kinds.Kind.{Kind}
 use Rattle.slot_arena.specs.declared.refs.Ref.{Ref}
 use Rattle.slot_arena.specs.Heaps.{Heap}
 use Rattle.epochs.specs.Memories.{Memory}
-use Rattle.machine_model.specs.declared.lines.Line.{Line}
-use Rattle.machine_model.specs.declared.lines.Line.TheVariants as line
-use Rattle.machine_model.specs.declared.operations.Operation.{Operation}
-use Rattle.machine_model.specs.declared.roots.Root.{Root}
-use Rattle.machine_model.specs.declared.roots.RootWord.{RootWord}
-use Rattle.machine_model.specs.Calls.{handle_of}
-use Rattle.machine_model.specs.Operations.{generation_from, line_action}
-use Rattle.machine_model.specs.Paths.{above}
-use Rattle.machine_model.specs.States.{State, word_at}
-use Rattle.gcas.specs.declared.next.Next.{Next}
-use Rattle.gcas.specs.declared.next.Next.TheVariants.{More, AskRoot, Done}
-use Rattle.gcas.specs.declared.read.ReadAt.{ReadAt}
-use Rattle.gcas.specs.Reads.{CanReadOn, committed_so}
+use Rattle.operate.specs.Beneath.machine_model.specs.declared.lines.Line.{Line}
+use Rattle.operate.specs.Beneath.machine_model.specs.declared.lines.Line.TheVariants as line
+use Rattle.operate.specs.Beneath.machine_model.specs.declared.operations.Operation.{Operation}
+use Rattle.operate.specs.Beneath.machine_model.specs.declared.roots.Root.{Root}
+use Rattle.operate.specs.Beneath.machine_model.specs.declared.roots.RootWord.{RootWord}
+use Rattle.operate.specs.Beneath.machine_model.specs.Calls.{handle_of}
+use Rattle.operate.specs.Beneath.machine_model.specs.Operations.{generation_from, line_action}
+use Rattle.operate.specs.Beneath.machine_model.specs.Paths.{above}
+use Rattle.operate.specs.Beneath.machine_model.specs.States.{State, word_at}
+use Rattle.operate.specs.Beneath.gcas.specs.declared.next.Next.{Next}
+use Rattle.operate.specs.Beneath.gcas.specs.declared.next.Next.TheVariants.{More, AskRoot, Done}
+use Rattle.operate.specs.Beneath.gcas.specs.declared.read.Read.{Read}
+use Rattle.operate.specs.Beneath.gcas.specs.declared.read.ReadAt.{ReadAt}
+use Rattle.operate.specs.Beneath.gcas.specs.Reads.{CanReadOn, committed_so}
 use Rattle.trie_parts.specs.declared.calls.Task.{Task}
 use Rattle.trie_parts.specs.Here.{at_heap}
 use Rattle.trie_parts.specs.Holding.{Acts}
 use Rattle.trie_parts.specs.Steps.{StepsOn}
 use Rattle.trie_parts.specs.Tasks.{for_task}
-use Rattle.rdcss_root.specs.Acts.{ActsInAll}
-use Rattle.rdcss_root.specs.Programs.{CanRootOn, rooted_at}
-use Rattle.rdcss_root.specs.Tables.{Table}
-use Rattle.key_change.specs.Steps.{CanChange}
+use Rattle.operate.specs.Beneath.rdcss_root.specs.Acts.{ActsInAll}
+use Rattle.operate.specs.Beneath.rdcss_root.specs.Programs.{CanRootOn, ReadsItsRoot, rooted_at}
+use Rattle.operate.specs.Beneath.rdcss_root.specs.Tables.{Table}
+use Rattle.operate.specs.Beneath.key_change.specs.Steps.{CanChange}
 use Rattle.contract.specs.Cleaning.{CanClean}
 use Rattle.contract.specs.Climbing.{CanClimb}
 use Rattle.contract.specs.Renewing.{CanRenew}
@@ -113,3 +114,9 @@ CanKeyAt memory table o (op.Down place) = CanBelow memory.heap o place
 -- what is going to be changed, or referred to, is in use, and of its kind
 abbrev pub CanKey : Memory → Table → KeyOp → Type 0
 CanKey memory table o = CanKeyAt memory table o o.place
+
+-- where ROOT completes an offer its READ is that of the root which is to be swapped
+abbrev pub ReadsAt : KeyAt → Read → Type 0
+ReadsAt (op.Root r) read = ReadsItsRoot r read
+ReadsAt (op.RootAgain single former r) read = ReadsItsRoot r read
+ReadsAt (op.Down place) read = Unit {0}

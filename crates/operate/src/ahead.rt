@@ -1,24 +1,17 @@
 //! What a call on one key tells of its next step.
 
 ghost use Rattle.std.specs.Prelude.{◌≡◌, ℕ, Option, is_some, option_map};
-ghost use Rattle.machine_model.specs.Operations.{completing_read, read_of, rooting_read, swapping_read};
-ghost use Rattle.machine_model.specs.Paths.{above};
-ghost use Rattle.gcas.specs.declared.read.Read.{Read as ARead};
-ghost use Rattle.gcas.specs.Swaps.{swap_of};
-ghost use Rattle.rdcss_root.specs.Programs.{complete_of, root_of};
-ghost use Rattle.key_change.specs.Lines.{line_of as change_line};
-ghost use Rattle.contract.specs.Cleaning.{clean_line};
-ghost use Rattle.contract.specs.Climbing.{climb_line};
-ghost use Rattle.contract.specs.Renewing.{renew_line};
+ghost use Rattle.operate.specs.Beneath.machine_model.specs.Acting.{swaps_in};
+ghost use Rattle.operate.specs.Beneath.machine_model.specs.Operations.{kind_of, line_action, read_of};
+ghost use Rattle.operate.specs.Beneath.machine_model.specs.States.{State};
+ghost use Rattle.operate.specs.Beneath.machine_model.specs.declared.operations.Operation.{Operation};
 ghost use Rattle.key_finding.specs.Replies.{reply_of};
 ghost use Rattle.operate.specs.Places.{answer_of, below_line, key_line};
 
 use crate::key_op::{BelowAt, KeyAt, KeyOp};
-use contract::{CleanAt, Climb, ClimbAt, RenewAt};
-use gcas::{Swap, SwapAt};
-use key_change::{Change, ChangeAt};
+use ctrie_base::Kind;
 use key_finding::KeyReply;
-use rdcss_root::{Complete, CompleteAt, ReadRoot};
+use slot_arena::Ref;
 
 impl KeyOp {
     /// Whether its next step is a READ's.
@@ -26,8 +19,8 @@ impl KeyOp {
         ensures { (told : Option ℕ) → result ≡ is_some (read_of (key_line self.now told)) }
     {
         match &self.place {
-            KeyAt::Root(root) => is_reading_in(root),
-            KeyAt::RootAgain { root, .. } => is_reading_in(root),
+            KeyAt::Root(root) => root.is_reading(),
+            KeyAt::RootAgain { root, .. } => root.is_reading(),
             KeyAt::Down(at) => self.is_reading_at(at),
         }
     }
@@ -40,59 +33,68 @@ impl KeyOp {
             BelowAt::Main { .. } => false,
             BelowAt::Entry { .. } => false,
             BelowAt::Listed { .. } => false,
-            BelowAt::Change(change) => self.is_reading_for(change),
-            BelowAt::Renew => self.is_reading_to_renew(),
-            BelowAt::Clean => self.is_reading_to_clean(),
-            BelowAt::Climb(climb) => self.is_reading_to_climb(climb),
+            BelowAt::Change(change) => change.is_reading(&self.work.swap),
+            BelowAt::Renew => self.renew.is_reading(&self.work.swap),
+            BelowAt::Clean => self.clean.is_reading(&self.work.swap),
+            BelowAt::Climb(climb) => climb.is_reading(&self.work.swap),
             BelowAt::End(_) => false,
             BelowAt::Impossible => false,
         }
     }
 
-    fn is_reading_for(&self, change: &Change) -> bool
-        ensures { (told : Option ℕ) → result ≡ is_some (read_of (change_line self.now.path self.now.work.swap told change.now)) }
+    /// Whether it is a try that is about to put this main node in the place of another.
+    pub fn swaps_in(&self, main: Ref) -> bool
+        ensures { (told : Option ℕ) → result ≡ swaps_in main (key_line self.now told) }
     {
-        match &change.at {
-            ChangeAt::Sibling { .. } => false,
-            ChangeAt::Build(_) => false,
-            ChangeAt::Swap { .. } => is_deciding(&self.work.swap),
+        match &self.place {
+            KeyAt::Root(_) => false,
+            KeyAt::RootAgain { .. } => false,
+            KeyAt::Down(at) => self.swaps_in_at(at, main),
         }
     }
 
-    fn is_reading_to_renew(&self) -> bool
-        ensures { (told : Option ℕ) → result ≡ is_some (read_of (renew_line self.now.path self.now.work.swap told self.now.renew)) }
+    fn swaps_in_at(&self, at: &BelowAt, main: Ref) -> bool
+        ensures { (told : Option ℕ) → result ≡ swaps_in main (below_line self.now told at.now) }
     {
-        match &self.renew.place {
-            RenewAt::Read => true,
-            RenewAt::Entry => false,
-            RenewAt::Link { .. } => false,
-            RenewAt::Branch => false,
-            RenewAt::Swap => is_deciding(&self.work.swap),
+        match at {
+            BelowAt::Read => false,
+            BelowAt::Main { .. } => false,
+            BelowAt::Entry { .. } => false,
+            BelowAt::Listed { .. } => false,
+            BelowAt::Change(change) => change.swaps_in(&self.work.swap, main),
+            BelowAt::Renew => false,
+            BelowAt::Clean => false,
+            BelowAt::Climb(_) => false,
+            BelowAt::End(_) => false,
+            BelowAt::Impossible => false,
         }
     }
 
-    fn is_reading_to_clean(&self) -> bool
-        ensures { (told : Option ℕ) → result ≡ is_some (read_of (clean_line (above self.now.path) self.now.work.swap told self.now.clean)) }
+    /// The kind of its next step, where it was told this of the root's generation.
+    pub fn next_kind(&self, root_seen: Option<u64>) -> Kind
+        ensures { (state : State) (operation : Operation) → result ≡ kind_of (line_action state operation (key_line self.now root_seen)) }
     {
-        match &self.clean.place {
-            CleanAt::Read => true,
-            CleanAt::Main => false,
-            CleanAt::Entry => false,
-            CleanAt::Child => true,
-            CleanAt::Tomb { .. } => false,
-            CleanAt::Contracted => false,
-            CleanAt::Swap => is_deciding(&self.work.swap),
+        match &self.place {
+            KeyAt::Root(root) => root.next_kind(&self.work.swap.read, root_seen),
+            KeyAt::RootAgain { root, .. } => root.next_kind(&self.work.swap.read, root_seen),
+            KeyAt::Down(at) => self.next_kind_at(at, root_seen),
         }
     }
 
-    fn is_reading_to_climb(&self, climb: &Climb) -> bool
-        ensures { (told : Option ℕ) → result ≡ is_some (read_of (climb_line self.now.path self.now.work.swap told climb.now)) }
+    fn next_kind_at(&self, at: &BelowAt, root_seen: Option<u64>) -> Kind
+        ensures { (state : State) (operation : Operation) → result ≡ kind_of (line_action state operation (below_line self.now root_seen at.now)) }
     {
-        match &climb.place {
-            ClimbAt::Read => true,
-            ClimbAt::Main { .. } => false,
-            ClimbAt::Contracted { .. } => false,
-            ClimbAt::Swap => is_deciding(&self.work.swap),
+        match at {
+            BelowAt::Read => self.work.swap.read.next_kind(root_seen),
+            BelowAt::Main { .. } => Kind::Look,
+            BelowAt::Entry { .. } => Kind::Look,
+            BelowAt::Listed { .. } => Kind::Look,
+            BelowAt::Change(change) => change.next_kind(&self.work.swap, root_seen),
+            BelowAt::Renew => self.renew.next_kind(&self.work.swap, root_seen),
+            BelowAt::Clean => self.clean.next_kind(&self.work.swap, root_seen),
+            BelowAt::Climb(climb) => climb.next_kind(&self.work.swap, root_seen),
+            BelowAt::End(_) => Kind::End,
+            BelowAt::Impossible => Kind::ReadRoot,
         }
     }
 
@@ -122,35 +124,5 @@ impl KeyOp {
             BelowAt::End(reply) => Some(*reply),
             BelowAt::Impossible => None,
         }
-    }
-}
-
-/// Whether a SWAP's next step is its READ's.
-fn is_deciding(swap: &Swap) -> bool
-    ensures { (told : Option ℕ) → result ≡ is_some (swapping_read swap.now.read.indirection (swap_of swap.now told).line) }
-{
-    match &swap.at {
-        SwapAt::Publish => false,
-        SwapAt::Deciding => true,
-        SwapAt::Check => false,
-    }
-}
-
-/// Whether a ROOT's next step is its READ's.
-fn is_reading_in(root: &ReadRoot) -> bool
-    ensures { (r : ARead) (told : Option ℕ) → result ≡ is_some (rooting_read (root_of root.now r told)) }
-{
-    match root {
-        ReadRoot::Read => false,
-        ReadRoot::Completing(complete) => is_reading_offer(complete),
-    }
-}
-
-fn is_reading_offer(complete: &Complete) -> bool
-    ensures { (r : ARead) (told : Option ℕ) → result ≡ is_some (completing_read complete.now.offer (complete_of complete.now r told).line) }
-{
-    match &complete.at {
-        CompleteAt::Reading => true,
-        CompleteAt::Swap { .. } => false,
     }
 }

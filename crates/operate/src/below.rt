@@ -4,34 +4,32 @@ ghost use Rattle.std.specs.Prelude.{◌≡◌, ℕ, List, Option, None, IfOk, If
 ghost use Rattle.ctrie_base.specs.declared.hashes.HashKind.{HashKind};
 ghost use Rattle.slot_arena.specs.Heaps.{node_at};
 ghost use Rattle.slot_arena.specs.declared.refs.Ref.{Ref as ARef};
-ghost use Rattle.machine_model.specs.Finding.{going_down};
-ghost use Rattle.machine_model.specs.Operations.{after_update};
-ghost use Rattle.machine_model.specs.Paths.{above, current};
-ghost use Rattle.machine_model.specs.Reading.{reading};
-ghost use Rattle.machine_model.specs.declared.repairs.CleanLine.TheVariants as clean;
-ghost use Rattle.machine_model.specs.States.{State};
-ghost use Rattle.machine_model.specs.declared.finding.KeyLine.TheVariants as key;
-ghost use Rattle.machine_model.specs.declared.lines.Line.TheVariants as line;
-ghost use Rattle.machine_model.specs.declared.operations.Operation.{Operation};
-ghost use Rattle.gcas.specs.Reads.{read_of, CanReadOn, IsAskingRoot};
+ghost use Rattle.operate.specs.Beneath.machine_model.specs.Finding.{going_down};
+ghost use Rattle.operate.specs.Beneath.machine_model.specs.Operations.{after_update};
+ghost use Rattle.operate.specs.Beneath.machine_model.specs.Paths.{above, current};
+ghost use Rattle.operate.specs.Beneath.machine_model.specs.Reading.{reading};
+ghost use Rattle.operate.specs.Beneath.machine_model.specs.declared.repairs.CleanLine.TheVariants as clean;
+ghost use Rattle.operate.specs.Beneath.machine_model.specs.States.{State};
+ghost use Rattle.operate.specs.Beneath.machine_model.specs.declared.finding.KeyLine.TheVariants as key;
+ghost use Rattle.operate.specs.Beneath.machine_model.specs.declared.lines.Line.TheVariants as line;
+ghost use Rattle.operate.specs.Beneath.machine_model.specs.declared.operations.Operation.{Operation};
+ghost use Rattle.operate.specs.Beneath.gcas.specs.Reads.{read_of, CanReadOn, IsAskingRoot};
 ghost use Rattle.trie_parts.specs.Here.{at_heap};
 ghost use Rattle.trie_parts.specs.Holding.{AreHeld};
-ghost use Rattle.key_change.specs.Lines.{line_of as change_line};
-ghost use Rattle.key_change.specs.Steps.{CanChange, line_behind as line_tried};
+ghost use Rattle.operate.specs.Beneath.key_change.specs.Lines.{line_of as change_line};
+ghost use Rattle.operate.specs.Beneath.key_change.specs.Steps.{CanChange, line_behind as line_tried};
 ghost use Rattle.key_finding.specs.Lines.{line_found};
 ghost use Rattle.operate.specs.Places.{key_line, below_line, changed_line, former_of};
-ghost use Rattle.operate.specs.Steps.{CommitsNoMore, KeySteps, KeyActs, CanBelow, operation_for};
+ghost use Rattle.operate.specs.Steps.{CommitsNoMore, KeySteps, KeyActs, CanBelow, ReadsAt, operation_for};
 
 use crate::key_op::{BelowAt, KeyAt, KeyOp};
 use contract::Climb;
 use ctrie_base::{Kind, Refusal};
 use epochs::Heap;
-use gcas::Next;
-use key_change::{Change, Tried};
-use key_finding::{Found, KeyReply, after_entry, after_listed, after_main};
-use rdcss_root::ReadRoot;
+use key_finding::{Change, Found, KeyReply, Tried, after_entry, after_listed, after_main};
+use root_asking::ReadRoot;
 use slot_arena::{Node, Ref};
-use trie_parts::{above, current, node_at};
+use trie_parts::{Next, above, current, node_at};
 
 impl KeyOp {
     /// Takes a step from this place below the root.
@@ -49,6 +47,7 @@ impl KeyOp {
         ensures asks { IfOk result (λ next. IsAskingRoot next → (self.new ≡ record self.old { place = KeyAt.Down (at.now) }) × (heap.new ≡ heap.old)) }
         ensures err { OnErr result ((self.new ≡ record self.old { place = KeyAt.Down (at.now) }) × (heap.new ≡ heap.old)) }
         ensures only_memory { IfErr result (λ refusal. refusal ≡ Refusal.Memory) }
+        ensures stands { OnOk result (ReadsAt self.new.place self.new.work.swap.read) }
     {
         self.place = KeyAt::Down(*at);
         match at {
@@ -72,6 +71,7 @@ impl KeyOp {
         ensures acts { KeyActs heap.old self.old (line.Key (key.Read self.old.path (read_of self.old.work.swap.read root_seen))) heap.new self.new.work.private }
         ensures same { (self.new.task ≡ self.old.task) × (self.new.work.swap.read.access ≡ self.old.work.swap.read.access) }
         ensures asks { IsAskingRoot result → (self.new ≡ record self.old { place = KeyAt.Down (BelowAt.Read) }) × (heap.new ≡ heap.old) }
+        ensures stands { ReadsAt self.new.place self.new.work.swap.read }
     {
         self.place = KeyAt::Down(BelowAt::Read);
         match self.work.read(heap, root_seen) {
@@ -91,6 +91,7 @@ impl KeyOp {
         ensures taken { IfOk result (λ next. IsAskingRoot next → ⊥) }
         ensures err { OnErr result (self.new ≡ self.old) }
         ensures only_memory { IfErr result (λ refusal. refusal ≡ Refusal.Memory) }
+        ensures stands { OnOk result (ReadsAt self.new.place self.new.work.swap.read) }
     {
         let found = after_main(
             heap,
@@ -115,6 +116,7 @@ impl KeyOp {
         ensures taken { IfOk result (λ next. IsAskingRoot next → ⊥) }
         ensures err { OnErr result (self.new ≡ self.old) }
         ensures only_memory { IfErr result (λ refusal. refusal ≡ Refusal.Memory) }
+        ensures stands { OnOk result (ReadsAt self.new.place self.new.work.swap.read) }
     {
         let found = after_entry(
             heap,
@@ -140,6 +142,7 @@ impl KeyOp {
         ensures taken { IfOk result (λ next. IsAskingRoot next → ⊥) }
         ensures err { OnErr result (self.new ≡ self.old) }
         ensures only_memory { IfErr result (λ refusal. refusal ≡ Refusal.Memory) }
+        ensures stands { OnOk result (ReadsAt self.new.place self.new.work.swap.read) }
     {
         let found = after_listed(
             heap,
@@ -159,6 +162,7 @@ impl KeyOp {
         ensures same { (self.new.task ≡ self.old.task) × (self.new.work.private ≡ self.old.work.private) × (self.new.work.swap.read.access ≡ self.old.work.swap.read.access) }
         ensures err { OnErr result (self.new ≡ self.old) }
         ensures only_memory { IfErr result (λ refusal. refusal ≡ Refusal.Memory) }
+        ensures stands { OnOk result (ReadsAt self.new.place self.new.work.swap.read) }
     {
         match found {
             Found::Down { below } => self.go_down(below),
@@ -200,6 +204,7 @@ impl KeyOp {
         ensures same { (self.new.task ≡ self.old.task) × (self.new.work.private ≡ self.old.work.private) × (self.new.work.swap.read.access ≡ self.old.work.swap.read.access) }
         ensures err { OnErr result (self.new ≡ self.old) }
         ensures only_memory { IfErr result (λ refusal. refusal ≡ Refusal.Memory) }
+        ensures stands { OnOk result (ReadsAt self.new.place self.new.work.swap.read) }
     {
         self.path.push(below)?;
         self.read_next(below);
@@ -210,6 +215,7 @@ impl KeyOp {
     fn clean_parent(&mut self)
         ensures line { key_line self.new None ≡ line.Clean (clean.Read (above self.old.path) (reading (current (above self.old.path)))) }
         ensures same { (self.new.task ≡ self.old.task) × (self.new.work.private ≡ self.old.work.private) × (self.new.work.swap.read.access ≡ self.old.work.swap.read.access) }
+        ensures stands { ReadsAt self.new.place self.new.work.swap.read }
     {
         let parent = current(above(self.path.as_slice()));
         self.clean.begin(&mut self.work, parent);
@@ -231,6 +237,7 @@ impl KeyOp {
         ensures asks { IfOk result (λ next. IsAskingRoot next → (self.new ≡ record self.old { place = KeyAt.Down (BelowAt.Change change) }) × (heap.new ≡ heap.old)) }
         ensures err { OnErr result ((self.new ≡ self.old) × (heap.new ≡ heap.old)) }
         ensures only_memory { IfErr result (λ refusal. refusal ≡ Refusal.Memory) }
+        ensures stands { OnOk result (ReadsAt self.new.place self.new.work.swap.read) }
     {
         let mut change = change;
         let tomb = tomb_at(heap, self.work.swap.fresh);
@@ -264,6 +271,7 @@ impl KeyOp {
             key_line self.new None ≡ line_tried state (operation_for self.old operation) self.old.path fresh tried }
         ensures same { (self.new.task ≡ self.old.task) × (self.new.work.private ≡ self.old.work.private) × (self.new.work.swap.read.access ≡ self.old.work.swap.read.access) }
         ensures reads { CommitsNoMore self.old.work.swap.read.at self.new.work.swap.read.at }
+        ensures stands { ReadsAt self.new.place self.new.work.swap.read }
     {
         match tried {
             Tried::Changed { former } => match tomb {

@@ -3,32 +3,30 @@
 ghost use Rattle.std.specs.Prelude.{◌≡◌, List, [], None, IfOk, IfErr, OnOk, OnErr};
 ghost use Rattle.slot_arena.specs.declared.refs.Ref.{Ref as ARef};
 ghost use Rattle.history.specs.declared.calls.Access.{Access as AnAccess};
-ghost use Rattle.machine_model.specs.Climbing.{climbed, climbing};
-ghost use Rattle.machine_model.specs.Lines.{new_try};
-ghost use Rattle.machine_model.specs.Swapping.{root_action};
-ghost use Rattle.machine_model.specs.declared.lines.Line.TheVariants as line;
-ghost use Rattle.machine_model.specs.declared.operations.Operation.{Operation};
-ghost use Rattle.gcas.specs.Reads.{begun, IsAskingRoot};
+ghost use Rattle.operate.specs.Beneath.machine_model.specs.Climbing.{climbed, climbing};
+ghost use Rattle.operate.specs.Beneath.machine_model.specs.Lines.{new_try};
+ghost use Rattle.operate.specs.Beneath.machine_model.specs.Swapping.{root_action};
+ghost use Rattle.operate.specs.Beneath.machine_model.specs.declared.lines.Line.TheVariants as line;
+ghost use Rattle.operate.specs.Beneath.machine_model.specs.declared.operations.Operation.{Operation};
+ghost use Rattle.operate.specs.Beneath.gcas.specs.Reads.{begun, IsAskingRoot};
 ghost use Rattle.trie_parts.specs.Holding.{AreHeld};
 ghost use Rattle.trie_parts.specs.Tasks.{for_task};
-ghost use Rattle.rdcss_root.specs.Acts.{ActsInAll};
-ghost use Rattle.rdcss_root.specs.Programs.{root_of, CanRootOn, rooted_at};
-ghost use Rattle.rdcss_root.specs.Tables.{word_in};
+ghost use Rattle.operate.specs.Beneath.rdcss_root.specs.Acts.{ActsInAll};
+ghost use Rattle.operate.specs.Beneath.rdcss_root.specs.Programs.{root_of, CanRootOn, rooted_at};
+ghost use Rattle.operate.specs.Beneath.rdcss_root.specs.Tables.{word_in};
 ghost use Rattle.operate.specs.Places.{key_line, key_line_at};
-ghost use Rattle.operate.specs.Steps.{RootSteps, RootActs, CommitsNoMore, KeepsGeneration, CanKey, table_after};
+ghost use Rattle.operate.specs.Steps.{RootSteps, RootActs, CommitsNoMore, KeepsGeneration, CanKey, ReadsAt, table_after};
 
 use crate::path::Path;
 use contract::{Clean, Climb, Renew};
 use ctrie_base::{HashKind, Kind, Refusal};
 use epochs::Heap;
-use gcas::{Next, Swap, generation_at};
 use history::Access;
-use key_change::Change;
-use key_finding::{KeyReply, changed_reply};
-use rdcss_root::{ReadRoot, Roots};
+use key_finding::{Change, KeyReply, changed_reply};
+use root_asking::{ReadRoot, Roots};
 use slot_arena::Ref;
 use std::alloc::Global;
-use trie_parts::{KeyCall, Private, Task, Work, is_below_root};
+use trie_parts::{KeyCall, Next, Private, Swap, Task, Work, generation_at, is_below_root};
 
 /// Where a call stands below its root.
 #[derive(Clone, Copy)]
@@ -146,6 +144,7 @@ impl KeyOp {
         ensures generation { IfOk result (λ next. KeepsGeneration heap.old.heap (word_in roots.old handle) self.old (key_line self.old root_seen) self.new.task next) }
         ensures task { OnOk result (self.new.task ≡ record self.old.task { generation = self.new.task.generation }) }
         ensures access { self.new.work.swap.read.access ≡ self.old.work.swap.read.access }
+        ensures stands { OnOk result (ReadsAt self.new.place self.new.work.swap.read) }
         ensures asks { IfOk result (λ next. IsAskingRoot next → (self.new ≡ self.old) × (roots.new ≡ roots.old) × (heap.new ≡ heap.old)) }
         ensures err { OnErr result ((self.new ≡ self.old) × (roots.new ≡ roots.old) × (heap.new ≡ heap.old)) }
         ensures only_memory { IfErr result (λ refusal. refusal ≡ Refusal.Memory) }
@@ -187,6 +186,7 @@ impl KeyOp {
         ensures task { self.new.task ≡ record self.old.task { generation = self.new.task.generation } }
         ensures same { (self.new.work.private ≡ self.old.work.private) × (self.new.work.swap.read.access ≡ self.old.work.swap.read.access) }
         ensures asks { IsAskingRoot result → (self.new ≡ record self.old { place = KeyAt.Root root }) × (roots.new ≡ roots.old) × (heap.new ≡ heap.old) }
+        ensures stands { ReadsAt self.new.place self.new.work.swap.read }
     {
         let mut root = root;
         match root.step(&mut self.work.swap.read, roots, handle, heap, root_seen) {
@@ -236,6 +236,7 @@ impl KeyOp {
         ensures same { (self.new.task ≡ self.old.task) × (self.new.work.private ≡ self.old.work.private) × (self.new.work.swap.read.access ≡ self.old.work.swap.read.access) }
         ensures asks { IsAskingRoot result → (self.new ≡ record self.old { place = KeyAt.RootAgain single former root })
             × (roots.new ≡ roots.old) × (heap.new ≡ heap.old) }
+        ensures stands { ReadsAt self.new.place self.new.work.swap.read }
     {
         let mut root = root;
         match root.step(&mut self.work.swap.read, roots, handle, heap, root_seen) {
@@ -270,6 +271,7 @@ impl KeyOp {
     pub(crate) fn answer(&mut self, former: Option<u64>)
         ensures line { (access : AnAccess) (operation : Operation) → key_line self.new None ≡ climbed (for_task self.old.task access operation) former }
         ensures same { self.new ≡ record self.old { place = self.new.place } }
+        ensures stands { ReadsAt self.new.place self.new.work.swap.read }
     {
         self.place = KeyAt::Down(BelowAt::End(changed_reply(self.task.call, former)));
     }
@@ -280,6 +282,7 @@ impl KeyOp {
             ≡ climbing (for_task self.old.task access operation) (record { path = self.old.path; single = single; former = former }) }
         ensures same { (self.new.task ≡ self.old.task) × (self.new.work.private ≡ self.old.work.private) × (self.new.work.swap.read.access ≡ self.old.work.swap.read.access) }
         ensures reads { CommitsNoMore self.old.work.swap.read.at self.new.work.swap.read.at }
+        ensures stands { ReadsAt self.new.place self.new.work.swap.read }
     {
         let path = self.path.as_slice();
         if is_below_root(path) {

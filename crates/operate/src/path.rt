@@ -1,7 +1,7 @@
 //! The path of an operation.
 
 ghost use Rattle.std.specs.Prelude.{◌≡◌, ◌<◌, ◌∷◌, ◌++◌, [], IfOk, IfErr, OnOk, OnErr, vec_capacity};
-ghost use Rattle.machine_model.specs.Paths.{above};
+ghost use Rattle.operate.specs.Beneath.machine_model.specs.Paths.{above};
 
 use ctrie_base::Refusal;
 use slot_arena::Ref;

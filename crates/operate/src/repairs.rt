@@ -1,27 +1,26 @@
 //! The steps of the repairs that a call on one key does on its way: renewing, cleaning and climbing.
 
 ghost use Rattle.std.specs.Prelude.{◌≡◌, None, IfOk, IfErr, OnOk, OnErr};
-ghost use Rattle.machine_model.specs.Paths.{above, current};
+ghost use Rattle.operate.specs.Beneath.machine_model.specs.Paths.{above, current};
 ghost use Rattle.history.specs.declared.calls.Access.{Access as AnAccess};
 ghost use Rattle.trie_parts.specs.Tasks.{for_task};
-ghost use Rattle.machine_model.specs.declared.operations.Operation.{Operation};
-ghost use Rattle.gcas.specs.Reads.{IsAskingRoot};
+ghost use Rattle.operate.specs.Beneath.machine_model.specs.declared.operations.Operation.{Operation};
+ghost use Rattle.operate.specs.Beneath.gcas.specs.Reads.{IsAskingRoot};
 ghost use Rattle.trie_parts.specs.Holding.{AreHeld};
 ghost use Rattle.contract.specs.Cleaning.{clean_line, CanClean, line_behind as line_cleaned};
 ghost use Rattle.contract.specs.Climbing.{climb_line, CanClimb, line_behind as line_climbed};
 ghost use Rattle.contract.specs.Renewing.{renew_line, CanRenew, line_behind as line_renewed};
 ghost use Rattle.operate.specs.Places.{key_line};
-ghost use Rattle.operate.specs.Steps.{CommitsNoMore, KeySteps, KeyActs};
+ghost use Rattle.operate.specs.Steps.{CommitsNoMore, KeySteps, KeyActs, ReadsAt};
 
 use crate::key_op::{BelowAt, KeyAt, KeyOp};
 use contract::{Cleaned, Climb, Climbed, Renewed};
 use ctrie_base::Refusal;
 use epochs::Heap;
-use gcas::Next;
 use key_finding::KeyReply;
-use rdcss_root::ReadRoot;
+use root_asking::ReadRoot;
 use slot_arena::Ref;
-use trie_parts::{above, current};
+use trie_parts::{Next, above, current};
 
 impl KeyOp {
     /// Takes a step of a renewing.
@@ -38,6 +37,7 @@ impl KeyOp {
         ensures asks { IfOk result (λ next. IsAskingRoot next → (self.new ≡ record self.old { place = KeyAt.Down (BelowAt.Renew) }) × (heap.new ≡ heap.old)) }
         ensures err { OnErr result ((self.new ≡ record self.old { place = KeyAt.Down (BelowAt.Renew) }) × (heap.new ≡ heap.old)) }
         ensures only_memory { IfErr result (λ refusal. refusal ≡ Refusal.Memory) }
+        ensures stands { OnOk result (ReadsAt self.new.place self.new.work.swap.read) }
     {
         self.place = KeyAt::Down(BelowAt::Renew);
         match self.renew.step(
@@ -61,6 +61,7 @@ impl KeyOp {
         ensures line { key_line self.new None ≡ line_renewed self.old.path renewed }
         ensures same { (self.new.task ≡ self.old.task) × (self.new.work.private ≡ self.old.work.private) × (self.new.work.swap.read.access ≡ self.old.work.swap.read.access) }
         ensures reads { CommitsNoMore self.old.work.swap.read.at self.new.work.swap.read.at }
+        ensures stands { ReadsAt self.new.place self.new.work.swap.read }
     {
         match renewed {
             Renewed::Renewed => {
@@ -87,6 +88,7 @@ impl KeyOp {
         ensures asks { IfOk result (λ next. IsAskingRoot next → (self.new ≡ record self.old { place = KeyAt.Down (BelowAt.Clean) }) × (heap.new ≡ heap.old)) }
         ensures err { OnErr result ((self.new ≡ record self.old { place = KeyAt.Down (BelowAt.Clean) }) × (heap.new ≡ heap.old)) }
         ensures only_memory { IfErr result (λ refusal. refusal ≡ Refusal.Memory) }
+        ensures stands { OnOk result (ReadsAt self.new.place self.new.work.swap.read) }
     {
         self.place = KeyAt::Down(BelowAt::Clean);
         let parents = above(self.path.as_slice());
@@ -107,6 +109,7 @@ impl KeyOp {
     fn after_cleaning(&mut self, cleaned: Cleaned)
         ensures line { key_line self.new None ≡ line_cleaned cleaned }
         ensures same { (self.new.task ≡ self.old.task) × (self.new.work ≡ self.old.work) }
+        ensures stands { ReadsAt self.new.place self.new.work.swap.read }
     {
         match cleaned {
             Cleaned::Cleaned => self.place = KeyAt::Root(ReadRoot::Read),
@@ -130,6 +133,7 @@ impl KeyOp {
         ensures asks { IfOk result (λ next. IsAskingRoot next → (self.new ≡ record self.old { place = KeyAt.Down (BelowAt.Climb climb) }) × (heap.new ≡ heap.old)) }
         ensures err { OnErr result ((self.new ≡ self.old) × (heap.new ≡ heap.old)) }
         ensures only_memory { IfErr result (λ refusal. refusal ≡ Refusal.Memory) }
+        ensures stands { OnOk result (ReadsAt self.new.place self.new.work.swap.read) }
     {
         let (single, former) = (climb.single, climb.former);
         let mut climb = climb;
@@ -161,6 +165,7 @@ impl KeyOp {
             ≡ line_climbed (for_task self.old.task access operation) (record { path = self.old.path; single = single; former = former }) climbed }
         ensures same { (self.new.task ≡ self.old.task) × (self.new.work.private ≡ self.old.work.private) × (self.new.work.swap.read.access ≡ self.old.work.swap.read.access) }
         ensures reads { CommitsNoMore self.old.work.swap.read.at self.new.work.swap.read.at }
+        ensures stands { ReadsAt self.new.place self.new.work.swap.read }
     {
         match climbed {
             Climbed::Higher { single } => {

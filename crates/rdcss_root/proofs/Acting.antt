@@ -2,13 +2,13 @@
 use Rattle.std.specs.Prelude.{◌≡◌, ◌==◌, ℕ, Bool, true, false, Option, Some, None, slice_set, slice_index_or, if◌then◌else◌}
 use Rattle.std.proofs.Common.{arith, refl, sym, ap, ◌∙◌}
 use Rattle.slot_arena.specs.declared.refs.Ref.{Ref}
-use Rattle.machine_model.specs.declared.actions.Action.TheVariants as act
-use Rattle.machine_model.specs.declared.roots.Descriptor.{Descriptor}
-use Rattle.machine_model.specs.declared.roots.RootWord.{RootWord}
-use Rattle.machine_model.specs.declared.roots.RootWord.TheVariants.{Plain, Offer}
-use Rattle.machine_model.specs.States.{State, word_at, word_of, rewritten, with_word}
-use Rattle.machine_model.specs.Swapping.{stands_in, is_plain}
-use Rattle.machine_model.specs.Acting.{if_changed, carried_out, opened, opened_root, new_root_taken}
+use Rattle.rdcss_root.specs.Beneath.machine_model.specs.declared.actions.Action.TheVariants as act
+use Rattle.rdcss_root.specs.Beneath.machine_model.specs.declared.roots.Descriptor.{Descriptor}
+use Rattle.rdcss_root.specs.Beneath.machine_model.specs.declared.roots.RootWord.{RootWord}
+use Rattle.rdcss_root.specs.Beneath.machine_model.specs.declared.roots.RootWord.TheVariants.{Plain, Offer}
+use Rattle.rdcss_root.specs.Beneath.machine_model.specs.States.{State, word_at, word_of, rewritten, with_word}
+use Rattle.rdcss_root.specs.Beneath.machine_model.specs.Swapping.{stands_in, is_plain}
+use Rattle.rdcss_root.specs.Beneath.machine_model.specs.Acting.{if_changed, carried_out, opened, opened_root, new_root_taken}
 use Rattle.slot_arena.specs.Heaps.{next_ref}
 use Rattle.rdcss_root.specs.Tables.{Table, ActsOnTable, word_in, with_word_in, opened_in, carried_out_in}
 
@@ -53,7 +53,11 @@ acts_on_table state table handle actor (act.Offer offer) same =
 acts_on_table state table handle actor (act.Complete offer main) same =
     either (stands_in (word_at state handle) offer) (stands_in (word_in table handle) offer) _ state _ table
     (ap (λ word. stands_in word offer) (words state table handle same))
-    (chosen (main == offer.expected) (carried_out state handle offer) (with_word state handle (Plain offer.root)) (carried_out_in table handle offer) (with_word_in table handle (Plain offer.root)) (carries state table handle offer same) (rewrites state table handle (Plain offer.root) same))
+    (
+    chosen (main == offer.expected) (carried_out state handle offer) (with_word state handle (Plain offer.root))
+    (carried_out_in table handle offer) (with_word_in table handle (Plain offer.root))
+    (carries state table handle offer same) (rewrites state table handle (Plain offer.root) same)
+    )
     (sym same)
 acts_on_table state table handle actor (act.ReadMain indirection) same = sym same
 acts_on_table state table handle actor (act.Publish indirection replaced fresh) same = sym same

@@ -5,18 +5,18 @@ use Rattle.ctrie_base.specs.declared.kinds.Kind.{Kind}
 use Rattle.history.specs.declared.calls.Access.{Access}
 use Rattle.slot_arena.specs.declared.refs.Ref.{Ref}
 use Rattle.slot_arena.specs.Heaps.{Heap}
-use Rattle.machine_model.specs.declared.reading.After.TheVariants.{Goes}
-use Rattle.machine_model.specs.declared.reading.ReadLine.{ReadLine}
-use Rattle.machine_model.specs.declared.roots.CompleteLine.TheVariants as complete
-use Rattle.machine_model.specs.declared.roots.Descriptor.{Descriptor}
-use Rattle.machine_model.specs.declared.roots.RootWord.{RootWord}
-use Rattle.machine_model.specs.Swapping.{of_offer, after_reading}
-use Rattle.gcas.specs.declared.next.Next.{Next}
-use Rattle.gcas.specs.declared.next.Next.TheVariants.{More, Done}
-use Rattle.gcas.specs.declared.read.Read.{Read}
-use Rattle.gcas.specs.declared.read.ReadAt.{ReadAt}
-use Rattle.gcas.specs.declared.read.ReadAt.TheVariants as at
-use Rattle.gcas.specs.Reads.{ReadsOn, come_to, given_so, line_at}
+use Rattle.rdcss_root.specs.Beneath.machine_model.specs.declared.reading.After.TheVariants.{Goes}
+use Rattle.rdcss_root.specs.Beneath.machine_model.specs.declared.reading.ReadLine.{ReadLine}
+use Rattle.rdcss_root.specs.Beneath.machine_model.specs.declared.roots.CompleteLine.TheVariants as complete
+use Rattle.rdcss_root.specs.Beneath.machine_model.specs.declared.roots.Descriptor.{Descriptor}
+use Rattle.rdcss_root.specs.Beneath.machine_model.specs.declared.roots.RootWord.{RootWord}
+use Rattle.rdcss_root.specs.Beneath.machine_model.specs.Swapping.{of_offer, after_reading}
+use Rattle.rdcss_root.specs.Beneath.gcas.specs.declared.next.Next.{Next}
+use Rattle.rdcss_root.specs.Beneath.gcas.specs.declared.next.Next.TheVariants.{More, Done}
+use Rattle.rdcss_root.specs.Beneath.gcas.specs.declared.read.Read.{Read}
+use Rattle.rdcss_root.specs.Beneath.gcas.specs.declared.read.ReadAt.{ReadAt}
+use Rattle.rdcss_root.specs.Beneath.gcas.specs.declared.read.ReadAt.TheVariants as at
+use Rattle.rdcss_root.specs.Beneath.gcas.specs.Reads.{ReadsOn, come_to, given_so, line_at}
 use Rattle.rdcss_root.specs.declared.complete.CompleteAt.TheVariants as place
 use Rattle.rdcss_root.specs.Programs.{CompletesOn, complete_with}
 

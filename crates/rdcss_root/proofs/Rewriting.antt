@@ -11,11 +11,11 @@ use Rattle.slot_arena.proofs.Times.{times-append, times_le}
 use Rattle.slot_arena.specs.Heaps.{Heap, refs_of_option}
 use Rattle.slot_arena.specs.Arenas.{AreLive}
 use Rattle.epochs.specs.Memories.{Memory}
-use Rattle.machine_model.specs.declared.roots.Root.{Root}
-use Rattle.machine_model.specs.declared.roots.RootWord.{RootWord}
-use Rattle.machine_model.specs.declared.roots.RootWord.TheVariants.{Plain, Offer}
-use Rattle.machine_model.specs.Counting.{refs_of_root, refs_of_word}
-use Rattle.machine_model.specs.States.{rewritten}
+use Rattle.rdcss_root.specs.Beneath.machine_model.specs.declared.roots.Root.{Root}
+use Rattle.rdcss_root.specs.Beneath.machine_model.specs.declared.roots.RootWord.{RootWord}
+use Rattle.rdcss_root.specs.Beneath.machine_model.specs.declared.roots.RootWord.TheVariants.{Plain, Offer}
+use Rattle.rdcss_root.specs.Beneath.machine_model.specs.Counting.{refs_of_root, refs_of_word}
+use Rattle.rdcss_root.specs.Beneath.machine_model.specs.States.{rewritten}
 use Rattle.trie_parts.specs.Holding.{AreHeld}
 use Rattle.rdcss_root.specs.Holds.{Holds, Releases, IsReady, Moves}
 use Rattle.rdcss_root.proofs.Keeping.{kept, kept_on}

@@ -6,14 +6,14 @@ use Rattle.slot_arena.specs.declared.refs.Ref.{Ref}
 use Rattle.slot_arena.specs.Arenas.{is_live}
 use Rattle.slot_arena.specs.Times.{times}
 use Rattle.epochs.specs.Memories.{Memory}
-use Rattle.machine_model.specs.declared.actions.Action.{Action}
-use Rattle.machine_model.specs.declared.actions.Action.TheVariants as act
-use Rattle.machine_model.specs.declared.reading.ReadLine.{ReadLine}
-use Rattle.machine_model.specs.declared.roots.Descriptor.{Descriptor}
-use Rattle.machine_model.specs.declared.roots.Root.{Root}
-use Rattle.machine_model.specs.Reading.{read_action}
-use Rattle.gcas.specs.Acted.{acted_heap}
-use Rattle.gcas.specs.Kept.{KeepsBeside}
+use Rattle.rdcss_root.specs.Beneath.machine_model.specs.declared.actions.Action.{Action}
+use Rattle.rdcss_root.specs.Beneath.machine_model.specs.declared.actions.Action.TheVariants as act
+use Rattle.rdcss_root.specs.Beneath.machine_model.specs.declared.reading.ReadLine.{ReadLine}
+use Rattle.rdcss_root.specs.Beneath.machine_model.specs.declared.roots.Descriptor.{Descriptor}
+use Rattle.rdcss_root.specs.Beneath.machine_model.specs.declared.roots.Root.{Root}
+use Rattle.rdcss_root.specs.Beneath.machine_model.specs.Reading.{read_action}
+use Rattle.rdcss_root.specs.Beneath.gcas.specs.Acted.{acted_heap}
+use Rattle.rdcss_root.specs.Beneath.gcas.specs.Kept.{KeepsBeside}
 use Rattle.trie_parts.specs.Here.{at_heap, no_state}
 use Rattle.trie_parts.specs.Holding.{Acts}
 use Rattle.trie_parts.proofs.Unmade.{read_privates, read_remarks}

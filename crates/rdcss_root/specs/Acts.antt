@@ -6,10 +6,10 @@ use Rattle.slot_arena.specs.Arenas.{IsLive}
 use Rattle.slot_arena.specs.Ticking.{TakesUpTo}
 use Rattle.slot_arena.specs.Times.{times}
 use Rattle.epochs.specs.Memories.{Memory, KeepsEpochs}
-use Rattle.machine_model.specs.declared.actions.Action.{Action}
-use Rattle.machine_model.specs.declared.roots.Root.{Root}
-use Rattle.machine_model.specs.Acting.{private_after}
-use Rattle.gcas.specs.Acted.{acted_heap}
+use Rattle.rdcss_root.specs.Beneath.machine_model.specs.declared.actions.Action.{Action}
+use Rattle.rdcss_root.specs.Beneath.machine_model.specs.declared.roots.Root.{Root}
+use Rattle.rdcss_root.specs.Beneath.machine_model.specs.Acting.{private_after}
+use Rattle.rdcss_root.specs.Beneath.gcas.specs.Acted.{acted_heap}
 use Rattle.trie_parts.specs.Here.{at_heap, no_state}
 use Rattle.trie_parts.specs.Holding.{remarked}
 use Rattle.rdcss_root.specs.Holds.{root_refs}

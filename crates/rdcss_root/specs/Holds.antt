@@ -4,8 +4,8 @@ use Rattle.slot_arena.specs.declared.refs.Ref.{Ref}
 use Rattle.slot_arena.specs.Times.{times}
 use Rattle.slot_arena.specs.Ticking.{TakesUpTo}
 use Rattle.epochs.specs.Memories.{Memory, KeepsEpochs, KeepsRemarks}
-use Rattle.machine_model.specs.declared.roots.Root.{Root}
-use Rattle.machine_model.specs.Counting.{refs_of_root}
+use Rattle.rdcss_root.specs.Beneath.machine_model.specs.declared.roots.Root.{Root}
+use Rattle.rdcss_root.specs.Beneath.machine_model.specs.Counting.{refs_of_root}
 
 -- all but the references from outside, the notes and the ticks is as before, and at most so many were noted and looked at
 pub record KeepsMemory (before after : Memory) (most : ℕ) : Type 0 where

@@ -1,3 +1,4 @@
+pub mod Beneath
 pub mod Acts
 pub mod Holds
 pub mod Tables

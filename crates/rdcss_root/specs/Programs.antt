@@ -5,27 +5,27 @@ use Rattle.slot_arena.specs.declared.refs.Ref.{Ref}
 use Rattle.slot_arena.specs.Heaps.{Heap}
 use Rattle.slot_arena.specs.Arenas.{AreLive}
 use Rattle.epochs.specs.Memories.{Memory}
-use Rattle.machine_model.specs.declared.reading.After.TheVariants.{Goes, Gives}
-use Rattle.machine_model.specs.declared.reading.ReadLine.{ReadLine}
-use Rattle.machine_model.specs.declared.reading.ReadLine.TheVariants as read
-use Rattle.machine_model.specs.declared.roots.Descriptor.{Descriptor}
-use Rattle.machine_model.specs.declared.roots.Root.{Root}
-use Rattle.machine_model.specs.declared.roots.RootWord.{RootWord}
-use Rattle.machine_model.specs.declared.roots.RootWord.TheVariants as word
-use Rattle.machine_model.specs.declared.roots.Complete.{Complete as DefinedComplete}
-use Rattle.machine_model.specs.declared.roots.CompleteLine.{CompleteLine}
-use Rattle.machine_model.specs.declared.roots.CompleteLine.TheVariants as complete
-use Rattle.machine_model.specs.declared.roots.RootLine.{RootLine}
-use Rattle.machine_model.specs.declared.roots.RootLine.TheVariants as root
-use Rattle.machine_model.specs.Counting.{refs_of_word}
-use Rattle.machine_model.specs.Reading.{read_action, read_after}
-use Rattle.machine_model.specs.Swapping.{complete_action, complete_after, root_action, root_after}
-use Rattle.machine_model.specs.Operations.{kind_of, completing_read, rooting_read}
-use Rattle.gcas.specs.declared.next.Next.{Next}
-use Rattle.gcas.specs.declared.next.Next.TheVariants.{More, AskRoot, Done}
-use Rattle.gcas.specs.declared.read.Read.{Read}
-use Rattle.gcas.specs.Kept.{KeepsBeside}
-use Rattle.gcas.specs.Reads.{line_of, IsAsking, CanReadOn, ReadsAlong}
+use Rattle.rdcss_root.specs.Beneath.machine_model.specs.declared.reading.After.TheVariants.{Goes, Gives}
+use Rattle.rdcss_root.specs.Beneath.machine_model.specs.declared.reading.ReadLine.{ReadLine}
+use Rattle.rdcss_root.specs.Beneath.machine_model.specs.declared.reading.ReadLine.TheVariants as read
+use Rattle.rdcss_root.specs.Beneath.machine_model.specs.declared.roots.Descriptor.{Descriptor}
+use Rattle.rdcss_root.specs.Beneath.machine_model.specs.declared.roots.Root.{Root}
+use Rattle.rdcss_root.specs.Beneath.machine_model.specs.declared.roots.RootWord.{RootWord}
+use Rattle.rdcss_root.specs.Beneath.machine_model.specs.declared.roots.RootWord.TheVariants as word
+use Rattle.rdcss_root.specs.Beneath.machine_model.specs.declared.roots.Complete.{Complete as DefinedComplete}
+use Rattle.rdcss_root.specs.Beneath.machine_model.specs.declared.roots.CompleteLine.{CompleteLine}
+use Rattle.rdcss_root.specs.Beneath.machine_model.specs.declared.roots.CompleteLine.TheVariants as complete
+use Rattle.rdcss_root.specs.Beneath.machine_model.specs.declared.roots.RootLine.{RootLine}
+use Rattle.rdcss_root.specs.Beneath.machine_model.specs.declared.roots.RootLine.TheVariants as root
+use Rattle.rdcss_root.specs.Beneath.machine_model.specs.Counting.{refs_of_word}
+use Rattle.rdcss_root.specs.Beneath.machine_model.specs.Reading.{read_action, read_after}
+use Rattle.rdcss_root.specs.Beneath.machine_model.specs.Swapping.{complete_action, complete_after, root_action, root_after}
+use Rattle.rdcss_root.specs.Beneath.machine_model.specs.Operations.{kind_of, completing_read, rooting_read}
+use Rattle.rdcss_root.specs.Beneath.gcas.specs.declared.next.Next.{Next}
+use Rattle.rdcss_root.specs.Beneath.gcas.specs.declared.next.Next.TheVariants.{More, AskRoot, Done}
+use Rattle.rdcss_root.specs.Beneath.gcas.specs.declared.read.Read.{Read}
+use Rattle.rdcss_root.specs.Beneath.gcas.specs.Kept.{KeepsBeside}
+use Rattle.rdcss_root.specs.Beneath.gcas.specs.Reads.{line_of, IsAsking, CanReadOn, ReadsAlong}
 use Rattle.rdcss_root.specs.declared.complete.Complete.{Complete}
 use Rattle.rdcss_root.specs.declared.complete.CompleteAt.{CompleteAt}
 use Rattle.rdcss_root.specs.declared.complete.CompleteAt.TheVariants as at
@@ -72,6 +72,11 @@ CanCompleteAt memory table offer (at.Swap main) r = AreLive memory.heap (refs_of
 abbrev pub CanCompleteOn : Memory → Table → Complete → Read → Type 0
 CanCompleteOn memory table c r = CanCompleteAt memory table c.offer c.at r
 
+-- its READ is that of the root which is to be swapped
+abbrev pub ReadsOffered : CompleteAt → Descriptor → Read → Type 0
+ReadsOffered at.Reading offer r = r.indirection ≡ offer.root
+ReadsOffered (at.Swap main) offer r = Unit {0}
+
 -- the table of root words behind a step of COMPLETE
 abbrev pub completed_at : Table → ℕ → Descriptor → CompleteAt → Table
 completed_at table handle offer at.Reading = table
@@ -104,6 +109,11 @@ RootsOn heap word before after r (Done k given) =
 abbrev pub CanRootOn : Memory → Table → ReadRoot → Read → Type 0
 CanRootOn memory table rooting.Read r = Unit {0}
 CanRootOn memory table (rooting.Completing c) r = CanCompleteOn memory table c r
+
+-- where it completes an offer its READ is that of the root which is to be swapped
+abbrev pub ReadsItsRoot : ReadRoot → Read → Type 0
+ReadsItsRoot rooting.Read r = Unit {0}
+ReadsItsRoot (rooting.Completing c) r = ReadsOffered c.at c.offer r
 
 -- the table of root words behind a step of ROOT
 abbrev pub rooted_at : Table → ℕ → ReadRoot → Table

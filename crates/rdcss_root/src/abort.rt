@@ -9,8 +9,7 @@ ghost use Rattle.rdcss_root.specs.Programs.{AbortsOn, CanAbortOn, table_after_ab
 use crate::roots::Roots;
 use ctrie_base::Kind;
 use epochs::Heap;
-use gcas::{Next, generation_at};
-use machine_model::{Descriptor, RootWord};
+use trie_parts::{Descriptor, Next, RootWord, generation_at};
 
 /// An ABORT of a READ that wants the generation of the root.
 #[derive(Clone, Copy)]

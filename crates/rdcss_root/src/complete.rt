@@ -1,26 +1,27 @@
 //! COMPLETE: brings an offer to its end.
 
-ghost use Rattle.std.specs.Prelude.{◌≡◌, None, List};
+ghost use Rattle.std.specs.Prelude.{◌≡◌, ℕ, None, List, Option, is_some};
 ghost use Rattle.slot_arena.specs.declared.refs.Ref.{Ref as ARef};
 ghost use Rattle.slot_arena.specs.Arenas.{AreLive};
-ghost use Rattle.machine_model.specs.declared.roots.RootWord.{RootWord};
-ghost use Rattle.machine_model.specs.declared.roots.RootWord.TheVariants.{Offer};
-ghost use Rattle.machine_model.specs.Counting.{refs_of_word};
-ghost use Rattle.machine_model.specs.Swapping.{complete_action, is_carried_out};
-ghost use Rattle.gcas.specs.Acted.{acted_heap};
-ghost use Rattle.gcas.specs.Kept.{KeepsBeside};
-ghost use Rattle.gcas.specs.Reads.{begun, line_of, CanReadOn, IsAskingRoot};
+ghost use Rattle.rdcss_root.specs.Beneath.machine_model.specs.declared.roots.RootWord.{RootWord};
+ghost use Rattle.rdcss_root.specs.Beneath.machine_model.specs.declared.roots.RootWord.TheVariants.{Offer};
+ghost use Rattle.rdcss_root.specs.Beneath.machine_model.specs.Counting.{refs_of_word};
+ghost use Rattle.rdcss_root.specs.Beneath.machine_model.specs.Swapping.{complete_action, is_carried_out};
+ghost use Rattle.rdcss_root.specs.Beneath.gcas.specs.Acted.{acted_heap};
+ghost use Rattle.rdcss_root.specs.Beneath.gcas.specs.Kept.{KeepsBeside};
+ghost use Rattle.rdcss_root.specs.Beneath.gcas.specs.Reads.{begun, line_of, CanReadOn, IsAskingRoot};
 ghost use Rattle.rdcss_root.specs.Acts.{ActsInAll};
 ghost use Rattle.rdcss_root.specs.Holds.{Moves, IsReady};
 ghost use Rattle.rdcss_root.specs.Tables.{word_in, completed_in};
-ghost use Rattle.rdcss_root.specs.Programs.{complete_of, complete_with, CompletesOn, CanCompleteOn, KeepsUnlessSwapped, completed_at};
+ghost use Rattle.rdcss_root.specs.Programs.{complete_of, complete_with, CompletesOn, CanCompleteOn, KeepsUnlessSwapped, ReadsOffered, completed_at};
+ghost use Rattle.rdcss_root.specs.Beneath.machine_model.specs.Operations.{kind_of, completing_read};
+ghost use Rattle.rdcss_root.specs.Beneath.gcas.specs.declared.read.Read.{Read as ARead};
 
 use crate::roots::Roots;
 use ctrie_base::Kind;
 use epochs::Heap;
-use gcas::{Next, Read};
-use machine_model::Descriptor;
 use slot_arena::Ref;
+use trie_parts::{Descriptor, Next, Read};
 
 /// Where a COMPLETE stands.
 #[derive(Clone, Copy)]
@@ -51,6 +52,23 @@ impl Complete {
         }
     }
 
+    /// Whether its next step is its READ's.
+    pub fn is_reading(&self) -> bool
+        ensures { (r : ARead) (told : Option ℕ) → result ≡ is_some (completing_read self.now.offer (complete_of self.now r told).line) }
+    {
+        matches!(&self.at, CompleteAt::Reading)
+    }
+
+    /// The kind of its next step, where it was told this of the root's generation.
+    pub fn next_kind(&self, read: &Read, root_seen: Option<u64>) -> Kind
+        ensures { result ≡ kind_of (complete_action (complete_of self.now read.now root_seen)) }
+    {
+        match &self.at {
+            CompleteAt::Reading => read.next_kind(root_seen),
+            CompleteAt::Swap { .. } => Kind::SwapRoot,
+        }
+    }
+
     /// Takes its next step, unless it has to be told the generation of the root first. It gives whether that
     /// step carried the offer out.
     pub fn step(
@@ -68,6 +86,7 @@ impl Complete {
         ensures table { roots.new ≡ completed_at roots.old handle self.old.offer self.old.at }
         ensures memory { KeepsUnlessSwapped heap.old heap.new roots.old.roots roots.new.roots self.old.at }
         ensures asks { IsAskingRoot result → (self.new ≡ self.old) × (read.new ≡ read.old) × (roots.new ≡ roots.old) × (heap.new ≡ heap.old) }
+        ensures stands { ReadsOffered self.new.at self.new.offer read.new }
         ensures acts { (private : List ARef) → ActsInAll heap.old roots.old.roots private (complete_action (complete_of self.old read.old root_seen)) heap.new roots.new.roots private }
     {
         match &self.at {
@@ -86,6 +105,7 @@ impl Complete {
         ensures heap { heap.new.heap ≡ acted_heap heap.old.heap (complete_action (complete_with self.old.offer CompleteAt.Reading (line_of read.old root_seen))) }
         ensures beside { KeepsBeside heap.old heap.new }
         ensures asks { IsAskingRoot result → (self.new ≡ record self.old { at = CompleteAt.Reading }) × (read.new ≡ read.old) × (heap.new ≡ heap.old) }
+        ensures stands { ReadsOffered self.new.at self.new.offer read.new }
     {
         match read.step(heap, root_seen) {
             Next::More(kind) => {

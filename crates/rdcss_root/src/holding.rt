@@ -5,13 +5,13 @@ ghost use Rattle.slot_arena.specs.Times.{times};
 ghost use Rattle.slot_arena.specs.Ticking.{TakesUpTo};
 ghost use Rattle.slot_arena.specs.Arenas.{AreLive};
 ghost use Rattle.epochs.specs.Memories.{KeepsEpochs, KeepsRemarks};
-ghost use Rattle.machine_model.specs.Counting.{refs_of_word, refs_of_root};
+ghost use Rattle.rdcss_root.specs.Beneath.machine_model.specs.Counting.{refs_of_word, refs_of_root};
 ghost use Rattle.trie_parts.specs.Holding.{AreHeld};
 ghost use Rattle.rdcss_root.specs.Holds.{Holds, Releases};
 
 use epochs::Heap;
-use machine_model::{Root, RootWord};
 use slot_arena::Ref;
+use trie_parts::{Root, RootWord};
 
 /// Holds each of these references once more.
 fn hold_all(heap: &mut Heap, refs: &[Ref])
@@ -29,9 +29,7 @@ fn release_all(heap: &mut Heap, refs: &[Ref])
     requires { AreHeld refs.now heap.old }
     ensures { Releases refs.now heap.old heap.new }
 {
-    for at in refs {
-        heap.release(*at);
-    }
+    trie_parts::release_all(heap, refs);
 }
 
 fn hold_word(heap: &mut Heap, word: RootWord)

@@ -33,3 +33,4 @@ pub use laws::acts_on_table;
 pub use offer::Offer;
 pub use root::ReadRoot;
 pub use roots::Roots;
+pub use trie_parts::{Descriptor, Next};

@@ -2,16 +2,15 @@
 
 ghost use Rattle.std.specs.Prelude.{◌≡◌};
 ghost use Rattle.slot_arena.specs.Arenas.{AreLive};
-ghost use Rattle.machine_model.specs.Counting.{refs_of_word};
-ghost use Rattle.machine_model.specs.Swapping.{is_plain};
+ghost use Rattle.rdcss_root.specs.Beneath.machine_model.specs.Counting.{refs_of_word};
+ghost use Rattle.rdcss_root.specs.Beneath.machine_model.specs.Swapping.{is_plain};
 ghost use Rattle.rdcss_root.specs.Holds.{IsReady, Moves};
 ghost use Rattle.rdcss_root.specs.Tables.{word_in, offered_in};
 
 use crate::roots::Roots;
 use ctrie_base::Kind;
 use epochs::Heap;
-use gcas::Next;
-use machine_model::{Descriptor, RootWord};
+use trie_parts::{Descriptor, Next, RootWord};
 
 /// An offer that is to be put into a root word.
 #[derive(Clone, Copy)]

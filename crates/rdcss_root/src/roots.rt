@@ -2,21 +2,21 @@
 
 ghost use Rattle.std.specs.Prelude.{◌≡◌, ◌<◌, [], ◌∷◌, IfOk, replicate, slice_index_or, slice_set, vec_len, true, false, Some, None};
 ghost use Rattle.slot_arena.specs.Arenas.{AreLive};
-ghost use Rattle.machine_model.specs.Counting.{refs_of_root, refs_of_word};
-ghost use Rattle.machine_model.specs.States.{handle_limit, rewritten};
+ghost use Rattle.rdcss_root.specs.Beneath.machine_model.specs.Counting.{refs_of_root, refs_of_word};
+ghost use Rattle.rdcss_root.specs.Beneath.machine_model.specs.States.{handle_limit, rewritten};
 ghost use Rattle.rdcss_root.specs.Holds.{IsReady, Moves};
-ghost use Rattle.machine_model.specs.Swapping.{is_plain, is_carried_out};
-ghost use Rattle.machine_model.specs.Acting.{opened_root};
+ghost use Rattle.rdcss_root.specs.Beneath.machine_model.specs.Swapping.{is_plain, is_carried_out};
+ghost use Rattle.rdcss_root.specs.Beneath.machine_model.specs.Acting.{opened_root};
 ghost use Rattle.rdcss_root.specs.Tables.{new_table, root_in, word_in, with_root_in, with_word_in, aborted_in, offered_in, completed_in, carried_out_in};
 
 use crate::holding::{hold_root, release_root};
 use crate::words::{is_plain, stands_in};
 use epochs::Heap;
 use history::Access;
-use machine_model::{Descriptor, Root, RootWord};
 use slot_arena::Ref;
 use std::alloc::{AllocError, Global};
 use std::marker::Model;
+use trie_parts::{Descriptor, Root, RootWord};
 
 /// How many handles can be open.
 const HANDLES: usize = 256;

@@ -1,10 +1,10 @@
 //! What a root word holds.
 
 ghost use Rattle.std.specs.Prelude.{◌≡◌};
-ghost use Rattle.machine_model.specs.Swapping.{is_try, stands_in, is_plain};
+ghost use Rattle.rdcss_root.specs.Beneath.machine_model.specs.Swapping.{is_try, stands_in, is_plain};
 
-use machine_model::{Descriptor, RootWord};
 use slot_arena::Ref;
+use trie_parts::{Descriptor, RootWord};
 
 /// Whether this offer stands in the root word.
 pub(crate) fn stands_in(word: RootWord, offer: &Descriptor) -> bool

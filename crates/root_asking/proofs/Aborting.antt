@@ -3,23 +3,23 @@ use Rattle.std.specs.Prelude.{◌≡◌, ℕ, List, Option, refl}
 use Rattle.std.proofs.Common.{arith, sym, ap, subst, ◌∙◌}
 use Rattle.ctrie_base.specs.declared.hashes.HashKind.TheVariants.{Low}
 use Rattle.ctrie_base.specs.declared.kinds.Kind.{Kind}
-use Rattle.history.specs.declared.calls.Access.TheVariants.{Writable}
-use Rattle.slot_arena.specs.declared.refs.Ref.{Ref}
-use Rattle.slot_arena.specs.Arenas.{is_live}
-use Rattle.slot_arena.specs.Heaps.{Heap}
+use Rattle.root_asking.specs.Beneath.history.specs.declared.calls.Access.TheVariants.{Writable}
+use Rattle.root_asking.specs.Beneath.slot_arena.specs.declared.refs.Ref.{Ref}
+use Rattle.root_asking.specs.Beneath.slot_arena.specs.Arenas.{is_live}
+use Rattle.root_asking.specs.Beneath.slot_arena.specs.Heaps.{Heap}
 use Rattle.epochs.specs.Memories.{Memory}
-use Rattle.machine_model.specs.declared.actions.Action.{Action}
-use Rattle.machine_model.specs.declared.reading.After.TheVariants.{Goes}
-use Rattle.machine_model.specs.declared.roots.Root.{Root}
-use Rattle.machine_model.specs.Acting.{private_after}
-use Rattle.machine_model.specs.Calls.{handle_of}
-use Rattle.machine_model.specs.Operations.{kind_of}
-use Rattle.machine_model.specs.Reading.{read_action, read_after}
-use Rattle.machine_model.specs.States.{State}
-use Rattle.gcas.specs.declared.next.Next.TheVariants.{More, Done}
-use Rattle.gcas.specs.Acted.{acted_heap}
-use Rattle.trie_parts.specs.Here.{at_heap, no_state}
-use Rattle.trie_parts.specs.Holding.{remarked}
+use Rattle.root_asking.specs.Beneath.machine_model.specs.declared.actions.Action.{Action}
+use Rattle.root_asking.specs.Beneath.machine_model.specs.declared.reading.After.TheVariants.{Goes}
+use Rattle.root_asking.specs.Beneath.machine_model.specs.declared.roots.Root.{Root}
+use Rattle.root_asking.specs.Beneath.machine_model.specs.Acting.{private_after}
+use Rattle.root_asking.specs.Beneath.machine_model.specs.Calls.{handle_of}
+use Rattle.root_asking.specs.Beneath.machine_model.specs.Operations.{kind_of}
+use Rattle.root_asking.specs.Beneath.machine_model.specs.Reading.{read_action, read_after}
+use Rattle.root_asking.specs.Beneath.machine_model.specs.States.{State}
+use Rattle.root_asking.specs.Beneath.gcas.specs.declared.next.Next.TheVariants.{More, Done}
+use Rattle.root_asking.specs.Beneath.gcas.specs.Acted.{acted_heap}
+use Rattle.root_asking.specs.Beneath.trie_parts.specs.Here.{at_heap, no_state}
+use Rattle.root_asking.specs.Beneath.trie_parts.specs.Holding.{remarked}
 use Rattle.rdcss_root.specs.declared.abort.AbortRead.{AbortRead}
 use Rattle.rdcss_root.specs.declared.abort.AbortRead.TheVariants as abort
 use Rattle.rdcss_root.specs.Acts.{ActsInAll}
@@ -38,7 +38,11 @@ same_action indirection main previous (Told generation) untold = absurd untold
 
 -- where the READ goes on, the program does
 asks : (heap : Heap) (table : Table) (handle : ℕ) (before after : Asking) (k : Kind) → IsUntold before →
-    ((indirection main previous : Ref) → (kind_of (read_action indirection (asked_at main previous before)) ≡ k) × (read_after heap Writable (word_in table handle) indirection (asked_at main previous before) ≡ Goes (asked_at main previous after))) →
+    (
+    (indirection main previous : Ref) →
+    (kind_of (read_action indirection (asked_at main previous before)) ≡ k)
+    × (read_after heap Writable (word_in table handle) indirection (asked_at main previous before) ≡ Goes (asked_at main previous after))
+    ) →
     AsksOn heap table handle before after k
 asks heap table handle before after k untold steps = λ state operation l indirection main previous is writable same.
     let there : State = record state { heap = heap; roots = table.roots } in

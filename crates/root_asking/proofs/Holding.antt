@@ -2,39 +2,40 @@
 use Rattle.std.specs.Prelude.{◌≡◌, Some, refl}
 use Rattle.std.proofs.Common.{ap, subst}
 use Rattle.std.proofs.lemmas.Option.{none-some, same_Some}
-use Rattle.slot_arena.specs.declared.refs.Ref.{Ref}
-use Rattle.machine_model.specs.declared.copying.CopyLine.{CopyLine}
-use Rattle.machine_model.specs.declared.copying.CopyLine.TheVariants as copy
-use Rattle.machine_model.specs.declared.finding.KeyLine.{KeyLine}
-use Rattle.machine_model.specs.declared.finding.KeyLine.TheVariants as key
-use Rattle.machine_model.specs.declared.lines.Line.TheVariants as line
-use Rattle.machine_model.specs.declared.lines.Purpose.{Purpose}
-use Rattle.machine_model.specs.declared.reading.Read.{Read}
-use Rattle.machine_model.specs.declared.reading.Swap.{Swap}
-use Rattle.machine_model.specs.declared.reading.SwapLine.{SwapLine}
-use Rattle.machine_model.specs.declared.reading.SwapLine.TheVariants as swap
-use Rattle.machine_model.specs.declared.repairs.CleanLine.{CleanLine}
-use Rattle.machine_model.specs.declared.repairs.CleanLine.TheVariants as clean
-use Rattle.machine_model.specs.declared.repairs.Climb.{Climb}
-use Rattle.machine_model.specs.declared.repairs.ClimbLine.{ClimbLine}
-use Rattle.machine_model.specs.declared.repairs.ClimbLine.TheVariants as climb
-use Rattle.machine_model.specs.declared.repairs.RenewLine.{RenewLine}
-use Rattle.machine_model.specs.declared.repairs.RenewLine.TheVariants as renew
-use Rattle.machine_model.specs.declared.roots.CompleteLine.{CompleteLine}
-use Rattle.machine_model.specs.declared.roots.CompleteLine.TheVariants as complete
-use Rattle.machine_model.specs.declared.roots.Descriptor.{Descriptor}
-use Rattle.machine_model.specs.declared.roots.RootLine.TheVariants as root
-use Rattle.machine_model.specs.declared.walking.WalkLine.{WalkLine}
-use Rattle.machine_model.specs.declared.walking.WalkLine.TheVariants as walk
-use Rattle.machine_model.specs.Cleaning.{clean_after_read, after_child}
-use Rattle.machine_model.specs.Climbing.{climb_after_read, climb_after_root}
-use Rattle.machine_model.specs.Copying.{copy_after_read, copy_after_complete}
-use Rattle.machine_model.specs.Finding.{key_after_read}
-use Rattle.machine_model.specs.Operations.{after_root, after_swap, completing_read, swapping_read, keying_read, renewing_read, cleaning_read, climbing_read, copying_read, walking_read}
-use Rattle.machine_model.specs.Reading.{at_indirection}
-use Rattle.machine_model.specs.Renewing.{renew_after_read}
-use Rattle.machine_model.specs.Swapping.{of_offer, after_reading, after_completing, after_deciding, on_line}
-use Rattle.machine_model.specs.Walking.{walk_after_read}
+use Rattle.root_asking.specs.Beneath.slot_arena.specs.declared.refs.Ref.{Ref}
+use Rattle.root_asking.specs.Beneath.machine_model.specs.declared.copying.CopyLine.{CopyLine}
+use Rattle.root_asking.specs.Beneath.machine_model.specs.declared.copying.CopyLine.TheVariants as copy
+use Rattle.root_asking.specs.Beneath.machine_model.specs.declared.finding.KeyLine.{KeyLine}
+use Rattle.root_asking.specs.Beneath.machine_model.specs.declared.finding.KeyLine.TheVariants as key
+use Rattle.root_asking.specs.Beneath.machine_model.specs.declared.lines.Line.TheVariants as line
+use Rattle.root_asking.specs.Beneath.machine_model.specs.declared.lines.Purpose.{Purpose}
+use Rattle.root_asking.specs.Beneath.machine_model.specs.declared.reading.Read.{Read}
+use Rattle.root_asking.specs.Beneath.machine_model.specs.declared.reading.Swap.{Swap}
+use Rattle.root_asking.specs.Beneath.machine_model.specs.declared.reading.SwapLine.{SwapLine}
+use Rattle.root_asking.specs.Beneath.machine_model.specs.declared.reading.SwapLine.TheVariants as swap
+use Rattle.root_asking.specs.Beneath.machine_model.specs.declared.repairs.CleanLine.{CleanLine}
+use Rattle.root_asking.specs.Beneath.machine_model.specs.declared.repairs.CleanLine.TheVariants as clean
+use Rattle.root_asking.specs.Beneath.machine_model.specs.declared.repairs.Climb.{Climb}
+use Rattle.root_asking.specs.Beneath.machine_model.specs.declared.repairs.ClimbLine.{ClimbLine}
+use Rattle.root_asking.specs.Beneath.machine_model.specs.declared.repairs.ClimbLine.TheVariants as climb
+use Rattle.root_asking.specs.Beneath.machine_model.specs.declared.repairs.RenewLine.{RenewLine}
+use Rattle.root_asking.specs.Beneath.machine_model.specs.declared.repairs.RenewLine.TheVariants as renew
+use Rattle.root_asking.specs.Beneath.machine_model.specs.declared.roots.CompleteLine.{CompleteLine}
+use Rattle.root_asking.specs.Beneath.machine_model.specs.declared.roots.CompleteLine.TheVariants as complete
+use Rattle.root_asking.specs.Beneath.machine_model.specs.declared.roots.Descriptor.{Descriptor}
+use Rattle.root_asking.specs.Beneath.machine_model.specs.declared.roots.RootLine.TheVariants as root
+use Rattle.root_asking.specs.Beneath.machine_model.specs.declared.walking.WalkLine.{WalkLine}
+use Rattle.root_asking.specs.Beneath.machine_model.specs.declared.walking.WalkLine.TheVariants as walk
+use Rattle.root_asking.specs.Beneath.machine_model.specs.Cleaning.{clean_after_read, after_child}
+use Rattle.root_asking.specs.Beneath.machine_model.specs.Climbing.{climb_after_read, climb_after_root}
+use Rattle.root_asking.specs.Beneath.machine_model.specs.Copying.{copy_after_read, copy_after_complete}
+use Rattle.root_asking.specs.Beneath.machine_model.specs.Finding.{key_after_read}
+use Rattle.root_asking.specs.Beneath.machine_model.specs.Operations.{after_root, after_swap, completing_read, swapping_read, keying_read}
+use Rattle.root_asking.specs.Beneath.machine_model.specs.Operations.{renewing_read, cleaning_read, climbing_read, copying_read, walking_read}
+use Rattle.root_asking.specs.Beneath.machine_model.specs.Reading.{at_indirection}
+use Rattle.root_asking.specs.Beneath.machine_model.specs.Renewing.{renew_after_read}
+use Rattle.root_asking.specs.Beneath.machine_model.specs.Swapping.{of_offer, after_reading, after_completing, after_deciding, on_line}
+use Rattle.root_asking.specs.Beneath.machine_model.specs.Walking.{walk_after_read}
 use Rattle.root_asking.specs.Inside.{Holds, EachHolds}
 
 -- ---- programs in which the READ is one of its own

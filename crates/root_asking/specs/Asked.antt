@@ -1,19 +1,19 @@
 -- ABORT of the code as the definition's, inside of any program.
 use Rattle.std.specs.Prelude.{◌≡◌, ℕ, Option, Some, None}
 use Rattle.ctrie_base.specs.declared.kinds.Kind.{Kind}
-use Rattle.history.specs.declared.calls.Access.TheVariants.{Writable}
-use Rattle.slot_arena.specs.declared.refs.Ref.{Ref}
-use Rattle.slot_arena.specs.Heaps.{Heap}
-use Rattle.machine_model.specs.declared.actions.Action.{Action}
-use Rattle.machine_model.specs.declared.actions.Action.TheVariants as act
-use Rattle.machine_model.specs.declared.lines.Line.{Line}
-use Rattle.machine_model.specs.declared.operations.Operation.{Operation}
-use Rattle.machine_model.specs.declared.reading.Read.{Read}
-use Rattle.machine_model.specs.declared.reading.ReadLine.{ReadLine}
-use Rattle.machine_model.specs.declared.reading.ReadLine.TheVariants as read
-use Rattle.machine_model.specs.Calls.{handle_of}
-use Rattle.machine_model.specs.Operations.{kind_of, line_action, line_after, read_of}
-use Rattle.machine_model.specs.States.{State}
+use Rattle.root_asking.specs.Beneath.history.specs.declared.calls.Access.TheVariants.{Writable}
+use Rattle.root_asking.specs.Beneath.slot_arena.specs.declared.refs.Ref.{Ref}
+use Rattle.root_asking.specs.Beneath.slot_arena.specs.Heaps.{Heap}
+use Rattle.root_asking.specs.Beneath.machine_model.specs.declared.actions.Action.{Action}
+use Rattle.root_asking.specs.Beneath.machine_model.specs.declared.actions.Action.TheVariants as act
+use Rattle.root_asking.specs.Beneath.machine_model.specs.declared.lines.Line.{Line}
+use Rattle.root_asking.specs.Beneath.machine_model.specs.declared.operations.Operation.{Operation}
+use Rattle.root_asking.specs.Beneath.machine_model.specs.declared.reading.Read.{Read}
+use Rattle.root_asking.specs.Beneath.machine_model.specs.declared.reading.ReadLine.{ReadLine}
+use Rattle.root_asking.specs.Beneath.machine_model.specs.declared.reading.ReadLine.TheVariants as read
+use Rattle.root_asking.specs.Beneath.machine_model.specs.Calls.{handle_of}
+use Rattle.root_asking.specs.Beneath.machine_model.specs.Operations.{kind_of, line_action, line_after, read_of}
+use Rattle.root_asking.specs.Beneath.machine_model.specs.States.{State}
 use Rattle.rdcss_root.specs.declared.abort.AbortRead.{AbortRead}
 use Rattle.rdcss_root.specs.declared.abort.AbortRead.TheVariants as abort
 use Rattle.rdcss_root.specs.Tables.{Table}

@@ -1,33 +1,33 @@
 -- A READ inside of a program: the program's line with that READ on another line.
 use Rattle.std.specs.Prelude.{◌≡◌, Some}
-use Rattle.machine_model.specs.declared.copying.CopyLine.{CopyLine}
-use Rattle.machine_model.specs.declared.copying.CopyLine.TheVariants as copy
-use Rattle.machine_model.specs.declared.finding.KeyLine.{KeyLine}
-use Rattle.machine_model.specs.declared.finding.KeyLine.TheVariants as key
-use Rattle.machine_model.specs.declared.lines.Line.{Line}
-use Rattle.machine_model.specs.declared.lines.Line.TheVariants as line
-use Rattle.machine_model.specs.declared.operations.Operation.{Operation}
-use Rattle.machine_model.specs.declared.reading.After.TheVariants.{Goes}
-use Rattle.machine_model.specs.declared.reading.Read.{Read}
-use Rattle.machine_model.specs.declared.reading.ReadLine.{ReadLine}
-use Rattle.machine_model.specs.declared.reading.SwapLine.{SwapLine}
-use Rattle.machine_model.specs.declared.reading.SwapLine.TheVariants as swap
-use Rattle.machine_model.specs.declared.repairs.CleanLine.{CleanLine}
-use Rattle.machine_model.specs.declared.repairs.CleanLine.TheVariants as clean
-use Rattle.machine_model.specs.declared.repairs.ClimbLine.{ClimbLine}
-use Rattle.machine_model.specs.declared.repairs.ClimbLine.TheVariants as climb
-use Rattle.machine_model.specs.declared.repairs.RenewLine.{RenewLine}
-use Rattle.machine_model.specs.declared.repairs.RenewLine.TheVariants as renew
-use Rattle.machine_model.specs.declared.roots.CompleteLine.{CompleteLine}
-use Rattle.machine_model.specs.declared.roots.CompleteLine.TheVariants as complete
-use Rattle.machine_model.specs.declared.roots.RootLine.{RootLine}
-use Rattle.machine_model.specs.declared.roots.RootLine.TheVariants as root
-use Rattle.machine_model.specs.declared.walking.WalkLine.{WalkLine}
-use Rattle.machine_model.specs.declared.walking.WalkLine.TheVariants as walk
-use Rattle.machine_model.specs.Calls.{handle_of}
-use Rattle.machine_model.specs.Operations.{line_action, line_after, read_of}
-use Rattle.machine_model.specs.Reading.{read_action, read_after}
-use Rattle.machine_model.specs.States.{State, word_at}
+use Rattle.root_asking.specs.Beneath.machine_model.specs.declared.copying.CopyLine.{CopyLine}
+use Rattle.root_asking.specs.Beneath.machine_model.specs.declared.copying.CopyLine.TheVariants as copy
+use Rattle.root_asking.specs.Beneath.machine_model.specs.declared.finding.KeyLine.{KeyLine}
+use Rattle.root_asking.specs.Beneath.machine_model.specs.declared.finding.KeyLine.TheVariants as key
+use Rattle.root_asking.specs.Beneath.machine_model.specs.declared.lines.Line.{Line}
+use Rattle.root_asking.specs.Beneath.machine_model.specs.declared.lines.Line.TheVariants as line
+use Rattle.root_asking.specs.Beneath.machine_model.specs.declared.operations.Operation.{Operation}
+use Rattle.root_asking.specs.Beneath.machine_model.specs.declared.reading.After.TheVariants.{Goes}
+use Rattle.root_asking.specs.Beneath.machine_model.specs.declared.reading.Read.{Read}
+use Rattle.root_asking.specs.Beneath.machine_model.specs.declared.reading.ReadLine.{ReadLine}
+use Rattle.root_asking.specs.Beneath.machine_model.specs.declared.reading.SwapLine.{SwapLine}
+use Rattle.root_asking.specs.Beneath.machine_model.specs.declared.reading.SwapLine.TheVariants as swap
+use Rattle.root_asking.specs.Beneath.machine_model.specs.declared.repairs.CleanLine.{CleanLine}
+use Rattle.root_asking.specs.Beneath.machine_model.specs.declared.repairs.CleanLine.TheVariants as clean
+use Rattle.root_asking.specs.Beneath.machine_model.specs.declared.repairs.ClimbLine.{ClimbLine}
+use Rattle.root_asking.specs.Beneath.machine_model.specs.declared.repairs.ClimbLine.TheVariants as climb
+use Rattle.root_asking.specs.Beneath.machine_model.specs.declared.repairs.RenewLine.{RenewLine}
+use Rattle.root_asking.specs.Beneath.machine_model.specs.declared.repairs.RenewLine.TheVariants as renew
+use Rattle.root_asking.specs.Beneath.machine_model.specs.declared.roots.CompleteLine.{CompleteLine}
+use Rattle.root_asking.specs.Beneath.machine_model.specs.declared.roots.CompleteLine.TheVariants as complete
+use Rattle.root_asking.specs.Beneath.machine_model.specs.declared.roots.RootLine.{RootLine}
+use Rattle.root_asking.specs.Beneath.machine_model.specs.declared.roots.RootLine.TheVariants as root
+use Rattle.root_asking.specs.Beneath.machine_model.specs.declared.walking.WalkLine.{WalkLine}
+use Rattle.root_asking.specs.Beneath.machine_model.specs.declared.walking.WalkLine.TheVariants as walk
+use Rattle.root_asking.specs.Beneath.machine_model.specs.Calls.{handle_of}
+use Rattle.root_asking.specs.Beneath.machine_model.specs.Operations.{line_action, line_after, read_of}
+use Rattle.root_asking.specs.Beneath.machine_model.specs.Reading.{read_action, read_after}
+use Rattle.root_asking.specs.Beneath.machine_model.specs.States.{State, word_at}
 
 abbrev pub read_at : Read → ReadLine → Read
 read_at r l = record r { line = l }

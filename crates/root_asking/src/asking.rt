@@ -1,16 +1,14 @@
 //! ABORT for a READ that asks for the generation of the root, inside of any program.
 
 ghost use Rattle.std.specs.Prelude.{◌≡◌, List};
-ghost use Rattle.slot_arena.specs.declared.refs.Ref.{Ref as ARef};
+ghost use Rattle.root_asking.specs.Beneath.slot_arena.specs.declared.refs.Ref.{Ref as ARef};
 ghost use Rattle.rdcss_root.specs.Acts.{ActsInAll};
 ghost use Rattle.rdcss_root.specs.Programs.{CanAbortOn, table_after_abort};
 ghost use Rattle.root_asking.specs.Asked.{IsUntold, AsksOn, abort_of, asking_of, ask_action, seen_of};
 
 use ctrie_base::Kind;
 use epochs::Heap;
-use gcas::Next;
-use machine_model::Descriptor;
-use rdcss_root::{AbortRead, Roots};
+use rdcss_root::{AbortRead, Descriptor, Next, Roots};
 
 /// What an operation knows of the root's generation, for a READ that asks for it.
 #[derive(Clone, Copy)]

@@ -15,3 +15,4 @@ mod laws;
 
 pub use asking::Asking;
 pub use laws::each_holds;
+pub use rdcss_root::{Complete, Offer, ReadRoot, Roots};

@@ -1,5 +1,5 @@
 -- ABORT's steps inside of any program whose READ asks for the generation of the root.
-use Rattle.std.specs.Prelude.{◌≡◌, ℕ, ◌+◌, Option, Some, None, refl}
+use Rattle.std.specs.Prelude.{◌≡◌, ℕ, false, Option, Some, None, refl}
 use Rattle.std.proofs.Common.{sym, ap, subst, ◌∙◌}
 use Rattle.std.proofs.lemmas.Option.{none-some, same_Some}
 use Rattle.ctrie_base.specs.declared.kinds.Kind.{Kind}
@@ -18,15 +18,14 @@ use Rattle.machine_model.specs.declared.reading.ReadLine.TheVariants as read
 use Rattle.machine_model.specs.declared.roots.CompleteLine.{CompleteLine}
 use Rattle.machine_model.specs.declared.roots.CompleteLine.TheVariants as complete
 use Rattle.machine_model.specs.declared.roots.Descriptor.{Descriptor}
-use Rattle.machine_model.specs.declared.roots.RootLine.{RootLine}
 use Rattle.machine_model.specs.declared.roots.RootLine.TheVariants as root
 use Rattle.machine_model.specs.declared.roots.RootWord.{RootWord}
 use Rattle.machine_model.specs.declared.roots.RootWord.TheVariants.{Plain, Offer}
 use Rattle.machine_model.specs.Acting.{attempt_after}
 use Rattle.machine_model.specs.Calls.{handle_of}
 use Rattle.machine_model.specs.Operations.{generation_from, given_root, kind_of, line_action, line_after, read_of, rooting_read}
-use Rattle.machine_model.specs.Orders.{committed_in}
-use Rattle.machine_model.specs.Reading.{after_ask, read_action}
+use Rattle.machine_model.specs.Orders.{committed_in, counted_from}
+use Rattle.machine_model.specs.Reading.{read_action}
 use Rattle.machine_model.specs.States.{State, word_at}
 use Rattle.machine_model.specs.Swapping.{root_after}
 use Rattle.gcas.specs.declared.read.Read.{Read as Running}
@@ -51,7 +50,6 @@ use Rattle.running.specs.declared.job.Program.{Program}
 use Rattle.running.specs.declared.job.Program.TheVariants.{Key, Snap, Entries, Count, Close}
 use Rattle.running.specs.declared.programs.Programs.{Programs}
 use Rattle.running.specs.declared.programs.Stage.TheVariants.{Runs}
-use Rattle.running.specs.declared.taken.Taken.{Taken}
 use Rattle.running.specs.Places.{IsBegun, IsWaiting, generation_in, asking_line, call_for, met_at, program_line}
 use Rattle.running.specs.Steps.{Changes, Does, Scene, at_scene, given_in, operation_in}
 use Rattle.running.proofs.Lasting.{tells}
@@ -188,6 +186,11 @@ draws_none heap generation Unasked = (refl, refl)
 draws_none heap generation (Met offer) = (refl, refl)
 draws_none heap generation (Told g) = (refl, refl)
 
+counts_none : (asking : Asking) (step was : ℕ) → counted_from (ask_action asking) step was ≡ was
+counts_none Unasked step was = refl
+counts_none (Met offer) step was = refl
+counts_none (Told g) step was = refl
+
 offers_none : (attempt : ℕ) (asking : Asking) → attempt_after attempt (ask_action asking) ≡ attempt
 offers_none attempt Unasked = refl
 offers_none attempt (Met offer) = refl
@@ -224,7 +227,7 @@ pub steps : (job : Job) (program : Program) (before : Scene) (asking asking' : A
     AsksOn before.memory.heap before.table job.handle asking asking' k →
     table' ≡ table_after_abort before.table job.handle (abort_of asking) →
     ActsInAll before.memory before.table.roots before.programs.key.work.private (ask_action asking) memory' table'.roots before.programs.key.work.private →
-    Does job program (asking_line before.programs program Runs asking) before (record { kind = k; committed = None; given = None })
+    Does job program (asking_line before.programs program Runs asking) before (record { kind = k; committed = None; given = None; counts = false })
     (record { memory = memory'; table = table'; generation = before.generation; programs = record before.programs { stage = Runs; asking = asking' } })
 steps job program before asking asking' memory' table' k ask untold begun on table acts =
     let p : Programs = before.programs in
@@ -233,13 +236,13 @@ steps job program before asking asking' memory' table' k ask untold begun on tab
     let from : asking_line p program Runs asking ≡ asked_line h.main h.previous asking l = asked p program asking h in
     let after : Scene = record { memory = memory'; table = table'; generation = before.generation; programs = record p { stage = Runs; asking = asking' } } in
     let does : Changes job before (ask_action asking) after =
-        record {
-          acts = subst (λ (a : Action). ActsInAll before.memory before.table.roots p.key.work.private a memory' table'.roots p.key.work.private)
-              (sym (draws_none before.memory.heap before.generation asking).1) acts;
-          table = table ∙ table_so before.table job.handle job.actor asking untold;
-          drawn = sym ((draws_none before.memory.heap before.generation asking).0);
-          attempt = sym (offers_none p.snap.attempt asking);
-        } in
+    record {
+      acts = subst (λ (a : Action). ActsInAll before.memory before.table.roots p.key.work.private a memory' table'.roots p.key.work.private)
+          (sym (draws_none before.memory.heap before.generation asking).1) acts;
+      table = table ∙ table_so before.table job.handle job.actor asking untold;
+      drawn = sym ((draws_none before.memory.heap before.generation asking).0);
+      attempt = sym (offers_none p.snap.attempt asking);
+    } in
     record {
       takes = λ state operation.
           let there : State = at_scene state before in
@@ -251,6 +254,8 @@ steps job program before asking asking' memory' table' k ask untold begun on tab
             committed = ap (λ m. committed_in there (read_of m)) from ∙ ap (committed_in there) step.3
                 ∙ commits_none there h.indirection h.main h.previous asking untold;
             given = ap (λ m. given_in there o (read_of m)) from ∙ ap (given_in there o) step.3 ∙ gives_none there o h.indirection h.main h.previous asking untold;
+            counts = λ n was.
+                ap (λ m. counted_from (line_action there o m) n was) from ∙ ap (λ a. counted_from a n was) step.0 ∙ counts_none asking n was;
           };
       changes = λ state operation.
           let there : State = at_scene state before in

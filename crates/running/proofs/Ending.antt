@@ -1,6 +1,7 @@
 -- Steps of an operation whose program has come to its end.
-use Rattle.std.specs.Prelude.{◌≡◌, ℕ, Option, Some, None, refl}
+use Rattle.std.specs.Prelude.{◌≡◌, ℕ, false, Option, Some, None, refl}
 use Rattle.std.proofs.Common.{arith, sym, ap, subst, ◌∙◌}
+use Rattle.ctrie_base.specs.declared.kinds.Kind.{Kind}
 use Rattle.ctrie_base.specs.declared.kinds.Kind.TheVariants as kind
 use Rattle.history.specs.declared.replies.Reply.{Reply}
 use Rattle.machine_model.specs.declared.actions.Action.{Action}
@@ -10,7 +11,7 @@ use Rattle.machine_model.specs.declared.lines.Line.TheVariants as line
 use Rattle.machine_model.specs.declared.operations.Operation.{Operation}
 use Rattle.machine_model.specs.declared.reading.ReadLine.{ReadLine}
 use Rattle.machine_model.specs.Operations.{generation_from, kind_of, line_action, line_after, read_of}
-use Rattle.machine_model.specs.Orders.{committed_in}
+use Rattle.machine_model.specs.Orders.{committed_in, counted_from}
 use Rattle.machine_model.specs.States.{State}
 use Rattle.root_asking.specs.declared.asking.Asking.{Asking}
 use Rattle.root_asking.specs.declared.asking.Asking.TheVariants.{Unasked, Met, Told}
@@ -19,8 +20,15 @@ use Rattle.running.specs.declared.job.Job.{Job}
 use Rattle.running.specs.declared.job.Program.{Program}
 use Rattle.running.specs.declared.programs.Programs.{Programs}
 use Rattle.running.specs.declared.programs.Stage.{Stage}
+use Rattle.running.specs.declared.programs.Stage.TheVariants.{Impossible}
 use Rattle.running.specs.Places.{IsSound, asking_line, line_for, met_at, stage_line}
 use Rattle.running.specs.Steps.{Changes, Does, Scene, at_scene, given_in, operation_in}
+
+-- it changes nothing
+abbrev IsIdle : Action → Type 0
+IsIdle act.ReadRoot = Unit {0}
+IsIdle (act.End answer) = Unit {0}
+IsIdle action = ⊥
 
 -- where no READ stands in the line it doesn't matter what is asked
 pub stays : (p : Programs) (program : Program) (stage : Stage) (asking : Asking) (l : Line) → ((told : Option ℕ) → stage_line p told program stage ≡ l) →
@@ -30,8 +38,8 @@ stays p program stage (Met offer) l is none = ap (with_read (met_at p.key.work.s
 stays p program stage (Told generation) l is none = is (Some generation)
 
 -- an action that leaves all as it is
-same_scene : (job : Job) (scene : Scene) (answer : Reply) → Changes job scene (act.End answer) scene
-same_scene job scene answer = record {
+idle : (job : Job) (scene : Scene) (action : Action) → IsIdle action → Changes job scene action scene
+idle job scene (act.End answer) none = record {
   acts = record {
     heap = refl;
     made = refl;
@@ -47,24 +55,76 @@ same_scene job scene answer = record {
   drawn = refl;
   attempt = refl;
 }
+idle job scene act.ReadRoot none = record {
+  acts = record {
+    heap = refl;
+    made = refl;
+    others = λ r. refl;
+    stay = λ q live. live;
+    epochs = (refl, refl, refl, refl);
+    owners = refl;
+    commits = refl;
+    few = omega arith;
+    ticks = (omega arith, omega arith);
+  };
+  table = refl;
+  drawn = refl;
+  attempt = refl;
+}
+idle job scene action none = absurd none
 
--- the last step of an operation
-pub ended : (job : Job) (program : Program) (scene : Scene) (answer : Reply) → line_for program scene.programs ≡ line.End answer → IsSound program scene.programs →
-    Does job program (line_for program scene.programs) scene (record { kind = kind.End; committed = None; given = None }) scene
-ended job program scene answer from sound = record {
+-- a step from this line, of this kind, leaves the operation there
+record Rests (state : State) (operation : Operation) (l : Line) (k : Kind) (action : Action) : Type 0 where
+  does : line_action state operation l ≡ action
+  kind_is : kind_of action ≡ k
+  line_is : line_after state operation l ≡ l
+  reads : read_of l ≡ None
+  keeps : generation_from state operation l ≡ operation.generation
+  counts : (step was : ℕ) → counted_from action step was ≡ was
+
+rests : (job : Job) (program : Program) (scene : Scene) (l : Line) (k : Kind) (action : Action) → line_for program scene.programs ≡ l → IsSound program scene.programs →
+    IsIdle action → ((state : State) (operation : Operation) → Rests state operation l k action) →
+    Does job program (line_for program scene.programs) scene (record { kind = k; committed = None; given = None; counts = false }) scene
+rests job program scene l k action from sound none each = record {
   takes = λ state operation.
       let there : State = at_scene state scene in
       let o : Operation = operation_in job program scene operation in
+      let step : Rests there o l k action = each there o in
       record {
-        kind = ap (λ l. kind_of (line_action there o l)) from;
-        line = ap (line_after there o) from ∙ sym from;
-        committed = ap (λ l. committed_in there (read_of l)) from;
-        given = ap (λ l. given_in there o (read_of l)) from;
+        kind = ap (λ m. kind_of (line_action there o m)) from ∙ ap kind_of step.does ∙ step.kind_is;
+        line = ap (line_after there o) from ∙ step.line_is ∙ sym from;
+        committed = ap (λ m. committed_in there (read_of m)) from ∙ ap (committed_in there) step.reads;
+        given = ap (λ m. given_in there o (read_of m)) from ∙ ap (given_in there o) step.reads;
+        counts = λ n was. ap (λ m. counted_from (line_action there o m) n was) from ∙ ap (λ a. counted_from a n was) step.does ∙ step.counts n was;
       };
   changes = λ state operation.
-      subst (λ (a : Action). Changes job scene a scene) (sym (ap (line_action (at_scene state scene) (operation_in job program scene operation)) from)) (same_scene job scene answer);
-  generation = λ state operation. sym (ap (generation_from (at_scene state scene) (operation_in job program scene operation)) from);
+      let there : State = at_scene state scene in
+      let o : Operation = operation_in job program scene operation in
+      subst (λ (a : Action). Changes job scene a scene) (sym (ap (line_action there o) from ∙ (each there o).does)) (idle job scene action none);
+  generation = λ state operation.
+      let there : State = at_scene state scene in
+      let o : Operation = operation_in job program scene operation in
+      sym (ap (generation_from there o) from ∙ (each there o).keeps);
   access = refl;
   hashes = refl;
   sound = sound;
 }
+
+-- the last step of an operation, whose stage tells it
+pub ended : (job : Job) (program : Program) (scene : Scene) (stage : Stage) (answer : Reply) → scene.programs.stage ≡ stage →
+    ((told : Option ℕ) → stage_line scene.programs told program stage ≡ line.End answer) → IsSound program scene.programs →
+    Does job program (line_for program scene.programs) scene (record { kind = kind.End; committed = None; given = None; counts = false }) scene
+ended job program scene stage answer at is sound =
+    rests job program scene (line.End answer) kind.End (act.End answer)
+    (ap (λ s. asking_line scene.programs program s scene.programs.asking) at
+    ∙ stays scene.programs program stage scene.programs.asking (line.End answer) is (λ here. refl))
+    sound tt (λ state operation. record { does = refl; kind_is = refl; line_is = refl; reads = refl; keeps = refl; counts = λ step was. refl })
+
+-- a step to which no machine comes
+pub stuck : (job : Job) (program : Program) (scene : Scene) → scene.programs.stage ≡ Impossible → IsSound program scene.programs →
+    Does job program (line_for program scene.programs) scene (record { kind = kind.ReadRoot; committed = None; given = None; counts = false }) scene
+stuck job program scene at sound =
+    rests job program scene line.Impossible kind.ReadRoot act.ReadRoot
+    (ap (λ s. asking_line scene.programs program s scene.programs.asking) at
+    ∙ stays scene.programs program Impossible scene.programs.asking line.Impossible (λ told. refl) (λ here. refl))
+    sound tt (λ state operation. record { does = refl; kind_is = refl; line_is = refl; reads = refl; keeps = refl; counts = λ step was. refl })

@@ -1,13 +1,12 @@
 -- What an operation's READ gives and commits by a step, of a program that swaps no main node of its own.
-use Rattle.std.specs.Prelude.{◌≡◌, Bool, is_some, Option, Some, None, refl}
-use Rattle.std.proofs.Common.{sym, ap, subst, ◌∙◌}
+use Rattle.std.specs.Prelude.{◌≡◌, ℕ, Bool, false, ◌&&◌, is_some, Option, Some, None, refl, if◌then◌else◌}
+use Rattle.std.proofs.Common.{sym, ap, ◌∙◌}
 use Rattle.std.proofs.lemmas.Option.{none-some}
 use Rattle.ctrie_base.specs.declared.kinds.Kind.{Kind}
 use Rattle.ctrie_base.specs.declared.kinds.Kind.TheVariants as kind
 use Rattle.history.specs.declared.calls.Access.{Access}
-use Rattle.history.specs.declared.calls.Access.TheVariants.{Writable, ReadOnly}
 use Rattle.slot_arena.specs.declared.refs.Ref.{Ref}
-use Rattle.slot_arena.specs.Heaps.{Heap}
+use Rattle.slot_arena.specs.Heaps.{Heap, no_ref}
 use Rattle.machine_model.specs.declared.copying.CopyLine.TheVariants as copy
 use Rattle.machine_model.specs.declared.lines.Line.{Line}
 use Rattle.machine_model.specs.declared.lines.Line.TheVariants as line
@@ -24,17 +23,17 @@ use Rattle.machine_model.specs.declared.roots.RootWord.TheVariants.{Plain, Offer
 use Rattle.machine_model.specs.declared.walking.WalkLine.TheVariants as walk
 use Rattle.machine_model.specs.Calls.{handle_of}
 use Rattle.machine_model.specs.Operations.{kind_of, line_action, read_of}
-use Rattle.machine_model.specs.Orders.{committed_in}
+use Rattle.machine_model.specs.Orders.{committed_in, counted_from}
 use Rattle.machine_model.specs.Reading.{after_ask, read_action, read_after}
 use Rattle.machine_model.specs.States.{State, word_at}
 use Rattle.gcas.specs.declared.read.ReadAt.{ReadAt}
 use Rattle.gcas.specs.declared.read.ReadAt.TheVariants as at
 use Rattle.gcas.specs.Reads.{ReadsAlong, come_to, committed_so, given_so}
 use Rattle.trie_parts.specs.Steps.{Leads}
-use Rattle.root_asking.specs.Inside.{Holds}
 use Rattle.root_asking.proofs.Holding.{each_holds}
 use Rattle.snapshot.specs.Copies.{snap_action}
-use Rattle.running.specs.Steps.{Takes, committed_if, given_by, given_if, given_in, if_reading, taken_in, taken_so}
+use Rattle.running.specs.Steps.{Takes, committed_if, counts_if, given_by, given_if, given_in, if_reading, taken_in, taken_so}
+use Rattle.running.proofs.Counting.{gives_nothing, in_read, outside}
 
 -- the line is of a program that swaps no main node but in its READ
 abbrev pub SwapsNone : Line → Type 0
@@ -115,6 +114,33 @@ same_action state operation (line.End answer) own = refl
 same_action state operation line.Impossible own = refl
 same_action state operation l own = absurd own
 
+-- ---- whether it counts
+
+choose : (a b : Bool) (step was : ℕ) → a ≡ b → (if a then step else was) ≡ (if b then step else was)
+choose a b step was same = ap (λ (x : Bool). if x then step else was) same
+
+read_counts : (state : State) (operation : Operation) (l : Line) (r : Read) (step was : ℕ) → read_of l ≡ Some r →
+    counted_from (line_action state operation l) step was ≡ (if counts_if (kind_of (line_action state operation l)) then step else was)
+read_counts state operation l r step was is =
+    let holds = each_holds l r is in
+    let acts = sym (ap (λ m. line_action state operation m) holds.here) ∙ holds.acts state operation r.line in
+    ap (λ a. counted_from a step was) acts ∙ in_read r.indirection r.line step was
+    ∙ choose (counts_if (kind_of (read_action r.indirection r.line))) (counts_if (kind_of (line_action state operation l))) step was (ap (λ a. counts_if (kind_of a)) (sym acts))
+
+reading_counts : (state : State) (operation : Operation) (l : Line) (k : Kind) (o : Option Read) (step was : ℕ) → read_of l ≡ o → kind_of (line_action state operation l) ≡ k →
+    counted_from (line_action state operation l) step was ≡ (if is_some o && counts_if k then step else was)
+reading_counts state operation l k None step was is same = outside state operation l step was is
+reading_counts state operation l k (Some r) step was is same =
+    read_counts state operation l r step was is ∙ choose (counts_if (kind_of (line_action state operation l))) (counts_if k) step was (ap counts_if same)
+
+-- of a program that swaps no main node of its own the kind tells
+own_counts : (state : State) (operation : Operation) (l : Line) (k : Kind) (o : Option Read) (step was : ℕ) → read_of l ≡ o → SwapsNone l →
+    kind_of (line_action state operation l) ≡ k → counted_from (line_action state operation l) step was ≡ (if counts_if k then step else was)
+own_counts state operation l k None step was is own same =
+    let none = sym (ap (λ q. given_if q (Some no_ref)) same) ∙ no_read state operation l (Some no_ref) own is in
+    outside state operation l step was is ∙ choose false (counts_if k) step was (sym (gives_nothing k no_ref none))
+own_counts state operation l k (Some r) step was is own same = reading_counts state operation l k (Some r) step was is same
+
 -- ---- a step
 
 module _ (state : State) (operation : Operation) (l : Line) (k : Kind) (place : ReadAt) where
@@ -142,6 +168,7 @@ takes state operation before after k place own leads = record {
   line = leads.1;
   committed = committed_by_read state operation before k place (read_of before) leads.2;
   given = given_by_read state operation before k place (read_of before) refl own leads.0 leads.2;
+  counts = λ step was. own_counts state operation before k (read_of before) step was refl own leads.0;
 }
 
 -- ---- a step of a program that may swap a main node of its own
@@ -159,4 +186,6 @@ takes_reading state operation before after k place reading reads leads = record 
   line = leads.1;
   committed = committed_by_read state operation before k place (read_of before) leads.2;
   given = reading_gives state operation before k place (read_of before) refl leads.0 leads.2 ∙ ap (λ b. if_reading b (given_if k (given_so place))) (sym reads);
+  counts = λ step was. reading_counts state operation before k (read_of before) step was refl leads.0
+      ∙ choose (is_some (read_of before) && counts_if k) (reading && counts_if k) step was (ap (λ b. b && counts_if k) (sym reads));
 }

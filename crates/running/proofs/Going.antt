@@ -66,13 +66,13 @@ pub snaps : (job : Job) (call : SnapCall) (told : Option ℕ) (before : Scene) (
     let after : Programs = record p { stage = stage; asking = Unasked; key = record p.key { work = work }; snap = snap } in
     let as_task : Operation → Operation = λ operation. for_task task p.snap.attempt (mark_of before.table task) p.key.work.swap.read.access operation in
     ((state : State) (operation : Operation) →
-        Leads (at_roots state before.memory.heap before.table) (as_task operation) l k (stage_line after None (Snap call) stage) work.swap.read.at) →
+    Leads (at_roots state before.memory.heap before.table) (as_task operation) l k (stage_line after None (Snap call) stage) work.swap.read.at) →
     ActsInAll before.memory before.table.roots p.key.work.private (with_generation before.generation (snap_action l)) memory table.roots work.private →
     table ≡ acted_table before.table job.handle job.actor (snap_action l) →
     generation ≡ drawn_by before.memory.heap before.generation (snap_action l) →
     snap.attempt ≡ attempt_after p.snap.attempt (snap_action l) →
     ((state : State) (operation : Operation) →
-        snap.generation ≡ generation_from (at_roots state before.memory.heap before.table) (record (as_task operation) { generation = p.snap.generation }) l) →
+    snap.generation ≡ generation_from (at_roots state before.memory.heap before.table) (record (as_task operation) { generation = p.snap.generation }) l) →
     work.swap.read.access ≡ p.key.work.swap.read.access →
     Does job (Snap call) l before (taken_so k work.swap.read.at) (record { memory = memory; table = table; generation = generation; programs = after })
 snaps job call told before memory table generation work snap k stage leads acts acted drawn attempt kept access =
@@ -132,8 +132,8 @@ pub walks : (job : Job) (program : Program) (told : Option ℕ) (before : Scene)
     let p = before.programs in
     let l = walk_line p.key.work.swap.read told w in
     ((state : State) (operation : Operation) →
-        Leads (at_roots state before.memory.heap before.table) (on_call (call_for job.handle program) p.key.work.swap.read.access operation) l k (stage_line after None program after.stage)
-        after.key.work.swap.read.at) →
+    Leads (at_roots state before.memory.heap before.table) (on_call (call_for job.handle program) p.key.work.swap.read.access operation) l k (stage_line after None program after.stage)
+    after.key.work.swap.read.at) →
     Acts before.memory p.key.work.private (snap_action l) memory after.key.work.private →
     after.key.work.swap.read.access ≡ p.key.work.swap.read.access → after.key.task ≡ p.key.task → after.asking ≡ Unasked → after.snap ≡ p.snap →
     generation_in program p ≡ p.snap.generation → generation_in program after ≡ after.snap.generation → IsBegun program after →
@@ -146,13 +146,13 @@ walks job program told before memory w after k leads acts access task unasked sa
     let none : SwapsNone l = walk_swaps_none q told w in
     let then : Scene = record { memory = memory; table = before.table; generation = before.generation; programs = after } in
     let does : Changes job before (snap_action l) then =
-        record {
-          acts = subst (λ (a : Action). ActsInAll before.memory before.table.roots p.key.work.private a memory before.table.roots after.key.work.private)
-              (sym (calm.plain before.generation)) (by_parts before.table.roots acts);
-          table = sym (calm.table before.table job.handle job.actor);
-          drawn = sym (calm.draws before.memory.heap before.generation);
-          attempt = ap (λ (s : ASnap). s.attempt) same ∙ sym (calm.offers p.snap.attempt);
-        } in
+    record {
+      acts = subst (λ (a : Action). ActsInAll before.memory before.table.roots p.key.work.private a memory before.table.roots after.key.work.private)
+          (sym (calm.plain before.generation)) (by_parts before.table.roots acts);
+      table = sym (calm.table before.table job.handle job.actor);
+      drawn = sym (calm.draws before.memory.heap before.generation);
+      attempt = ap (λ (s : ASnap). s.attempt) same ∙ sym (calm.offers p.snap.attempt);
+    } in
     record {
       takes = λ state operation.
           let o : Operation = operation_in job program before operation in
@@ -191,13 +191,13 @@ pub keys : (job : Job) (call : KeyCall) (told : Option ℕ) (before : Scene) (me
     p.key.task.call ≡ call →
     reading ≡ is_some (read_of l) →
     ((state : State) (operation : Operation) → word_at state (handle_of operation.call) ≡ word_in before.table job.handle →
-        Leads (at_heap state before.memory.heap p.key.task.hashes) (as_key p.key operation) l k (stage_line after None (Key call) stage) key.work.swap.read.at) →
+    Leads (at_heap state before.memory.heap p.key.task.hashes) (as_key p.key operation) l k (stage_line after None (Key call) stage) key.work.swap.read.at) →
     ((state : State) (operation : Operation) →
-        ActsInAll before.memory before.table.roots p.key.work.private (line_action (at_heap state before.memory.heap p.key.task.hashes) (as_key p.key operation) l)
-        memory table.roots key.work.private) →
+    ActsInAll before.memory before.table.roots p.key.work.private (line_action (at_heap state before.memory.heap p.key.task.hashes) (as_key p.key operation) l)
+    memory table.roots key.work.private) →
     table ≡ table_after before.table job.handle p.key.place →
     ((state : State) (operation : Operation) → word_at state (handle_of operation.call) ≡ word_in before.table job.handle →
-        key.task.generation ≡ generation_from (at_heap state before.memory.heap p.key.task.hashes) (as_key p.key operation) l) →
+    key.task.generation ≡ generation_from (at_heap state before.memory.heap p.key.task.hashes) (as_key p.key operation) l) →
     key.work.swap.read.access ≡ p.key.work.swap.read.access →
     key.task ≡ record p.key.task { generation = key.task.generation } →
     Does job (Key call) l before (taken_in reading k key.work.swap.read.at)
@@ -207,13 +207,13 @@ keys job call told before memory table key reading k stage begun reads leads act
     let l : Line = key_line p.key told in
     let then : Scene = record { memory = memory; table = table; generation = before.generation; programs = record p { stage = stage; asking = Unasked; key = key } } in
     let word : (state : State) (operation : Operation) → word_at (at_scene state before) (handle_of (key_call job.handle call)) ≡ word_in before.table job.handle =
-        λ state operation. ap (word_in before.table) (key_handle job.handle call) in
+    λ state operation. ap (word_in before.table) (key_handle job.handle call) in
     record {
       takes = λ state operation.
           let o : Operation = operation_in job (Key call) before operation in
           let led =
-              subst (λ (x : Operation). Leads (at_scene state before) x l k (stage_line then.programs None (Key call) stage) key.work.swap.read.at)
-              (key_operation job call before operation begun) (leads (at_scene state before) o (word state operation)) in
+          subst (λ (x : Operation). Leads (at_scene state before) x l k (stage_line then.programs None (Key call) stage) key.work.swap.read.at)
+          (key_operation job call before operation begun) (leads (at_scene state before) o (word state operation)) in
           takes_reading (at_scene state before) o l _ k key.work.swap.read.at reading reads led;
       changes = λ state operation.
           let o : Operation = operation_in job (Key call) before operation in

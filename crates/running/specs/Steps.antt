@@ -1,5 +1,5 @@
 -- What a step of an operation comes to, does and asks.
-use Rattle.std.specs.Prelude.{◌≡◌, ℕ, Bool, true, false, ◌<◌, ◌-◌, ◌^◌, Option, Some, None}
+use Rattle.std.specs.Prelude.{◌≡◌, ℕ, Bool, true, false, ◌&&◌, ◌<◌, ◌-◌, ◌^◌, Option, Some, None, if◌then◌else◌}
 use Rattle.ctrie_base.specs.declared.kinds.Kind.{Kind}
 use Rattle.ctrie_base.specs.declared.kinds.Kind.TheVariants as kind
 use Rattle.slot_arena.specs.declared.refs.Ref.{Ref}
@@ -14,7 +14,7 @@ use Rattle.machine_model.specs.declared.reading.ReadLine.{ReadLine}
 use Rattle.machine_model.specs.Acting.{attempt_after}
 use Rattle.machine_model.specs.Calls.{handle_of}
 use Rattle.machine_model.specs.Operations.{kind_of, line_action, line_after, read_of, generation_from}
-use Rattle.machine_model.specs.Orders.{committed_in}
+use Rattle.machine_model.specs.Orders.{committed_in, counted_from}
 use Rattle.machine_model.specs.Reading.{read_after}
 use Rattle.machine_model.specs.States.{State, word_at}
 use Rattle.gcas.specs.declared.read.ReadAt.{ReadAt}
@@ -22,8 +22,6 @@ use Rattle.gcas.specs.Reads.{given_so}
 use Rattle.rdcss_root.specs.Acts.{ActsInAll}
 use Rattle.rdcss_root.specs.Programs.{CanAbortOn}
 use Rattle.rdcss_root.specs.Tables.{Table, acted_table}
-use Rattle.root_asking.specs.declared.asking.Asking.{Asking}
-use Rattle.root_asking.specs.declared.asking.Asking.TheVariants.{Unasked, Met, Told}
 use Rattle.root_asking.specs.Asked.{abort_of}
 use Rattle.operate.specs.Steps.{CanKey}
 use Rattle.snapshot.specs.Copies.{CanSnap, IsReadyBeside}
@@ -53,6 +51,12 @@ abbrev pub committed_if : Kind → Option Ref → Option Ref
 committed_if kind.SwapPrev given = given
 committed_if k given = None
 
+-- a READ counts from a step of this kind on: it read the main word, or swapped it back
+abbrev pub counts_if : Kind → Bool
+counts_if kind.ReadMain = true
+counts_if kind.SwapMain = true
+counts_if k = false
+
 -- what a READ gives, if the step is one of a READ
 abbrev pub if_reading : Bool → Option Ref → Option Ref
 if_reading true given = given
@@ -60,11 +64,12 @@ if_reading false given = None
 
 -- a step of this kind of a call on one key, which was in a READ or not, and behind which its READ stands here
 abbrev pub taken_in : Bool → Kind → ReadAt → Taken
-taken_in reading k place = record { kind = k; committed = committed_if k (given_so place); given = if_reading reading (given_if k (given_so place)) }
+taken_in reading k place =
+    record { kind = k; committed = committed_if k (given_so place); given = if_reading reading (given_if k (given_so place)); counts = reading && counts_if k }
 
 -- a step of this kind of any other call, behind which the operation's READ stands here
 abbrev pub taken_so : Kind → ReadAt → Taken
-taken_so k place = record { kind = k; committed = committed_if k (given_so place); given = given_if k (given_so place) }
+taken_so k place = record { kind = k; committed = committed_if k (given_so place); given = given_if k (given_so place); counts = counts_if k }
 
 abbrev pub given_by : After ReadLine Ref → Option Ref
 given_by (Goes l) = None
@@ -81,6 +86,7 @@ pub record Takes (state : State) (operation : Operation) (before : Line) (taken 
   pub line : line_after state operation before ≡ after
   pub committed : committed_in state (read_of before) ≡ taken.committed
   pub given : given_in state operation (read_of before) ≡ taken.given
+  pub counts : (step was : ℕ) → counted_from (line_action state operation before) step was ≡ (if taken.counts then step else was)
 
 -- ---- what it does
 

@@ -11,6 +11,7 @@
 mod job;
 mod programs;
 mod taken;
+mod telling;
 
 pub use job::{Job, Program};
 pub use programs::{Programs, Stage};

@@ -1,15 +1,15 @@
 //! The programs of an actor's operations, changed in place.
 
-ghost use Rattle.std.specs.Prelude.{◌≡◌, ◌<◌, ◌-◌, ◌^◌, ℕ, [], Option, None, Some, IfOk, IfErr, OnErr};
+ghost use Rattle.std.specs.Prelude.{◌≡◌, ◌<◌, ◌≤◌, ◌+◌, ◌-◌, ◌^◌, ℕ, [], length, Option, None, Some, IfOk, IfErr, OnErr};
+ghost use Rattle.epochs.specs.Memories.{KeepsEpochs, KeepsRemarks};
 ghost use Rattle.machine_model.specs.Operations.{first_line};
+ghost use Rattle.trie_parts.specs.Holding.{AreHeld, KeepsOthers};
 ghost use Rattle.trie_parts.specs.Steps.{IsAskingLine};
 ghost use Rattle.rdcss_root.specs.Programs.{CanAbortOn};
 ghost use Rattle.root_asking.specs.Asked.{IsUntold, abort_of};
-ghost use Rattle.key_finding.specs.Replies.{reply_of as key_reply};
-ghost use Rattle.operate.specs.Places.{answer_of, key_line};
+ghost use Rattle.operate.specs.Places.{key_line};
 ghost use Rattle.operate.specs.Steps.{CanKey};
 ghost use Rattle.snapshot.specs.Copies.{CanSnap, IsReadyBeside, snap_line};
-ghost use Rattle.snapshot.specs.Tasks.{reply_of};
 ghost use Rattle.snapshot.specs.Walks.{CanWalk, walk_line};
 ghost use Rattle.running.specs.Places.{asking_line, call_for, generation_in, line_for, program_line, IsBegun, IsSound, IsWaiting};
 ghost use Rattle.running.specs.Steps.{CanProgram, CanStep, Does, scene, taken_in, taken_so};
@@ -19,7 +19,7 @@ use crate::taken::Taken;
 use ctrie_base::{HashKind, Kind, Refusal};
 use epochs::Heap;
 use gcas::Next;
-use history::{Access, Reply};
+use history::Access;
 use operate::{KeyCall, KeyOp, KeyReply};
 use rdcss_root::Roots;
 use root_asking::Asking;
@@ -95,6 +95,20 @@ impl Programs {
         }
     }
 
+    /// The operation has ended: what it still holds is given up.
+    pub fn end(&mut self, heap: &mut Heap)
+        requires held { AreHeld self.old.key.work.private heap.old }
+        ensures same { self.new ≡ record self.old { key = record self.old.key { work = record self.old.key.work { private = [] } } } }
+        ensures heap { heap.new.heap ≡ heap.old.heap }
+        ensures others { KeepsOthers self.old.key.work.private heap.old [] heap.new }
+        ensures epochs { KeepsEpochs heap.old heap.new }
+        ensures remarks { KeepsRemarks heap.old heap.new }
+        ensures few { length heap.new.noted ≤ length heap.old.noted + length self.old.key.work.private }
+        ensures ticks { heap.new.ticks ≡ heap.old.ticks + length self.old.key.work.private }
+    {
+        self.key.work.private.give_up(heap);
+    }
+
     /// Takes the operation's next step. After an error, which is want of memory, nothing has changed.
     pub fn step(
         &mut self,
@@ -113,41 +127,11 @@ impl Programs {
     {
         match &self.stage {
             Stage::Runs => self.go_on(job, program, roots, generations, heap),
-            Stage::Answered(_) | Stage::Swapped(_) | Stage::Listed | Stage::Counted => {
-                Ok(Taken::of_kind(Kind::End))
-            }
+            Stage::Answered(_) => Ok(Taken::of_kind(Kind::End)),
+            Stage::Swapped(_) => Ok(Taken::of_kind(Kind::End)),
+            Stage::Listed => Ok(Taken::of_kind(Kind::End)),
+            Stage::Counted => Ok(Taken::of_kind(Kind::End)),
             Stage::Impossible => Ok(Taken::of_kind(Kind::ReadRoot)),
-        }
-    }
-
-    /// The reply with which the operation ends by its next step, if it does. An error says that memory was refused.
-    pub fn reply(&self, program: Program) -> Result<Option<Reply>, Refusal>
-        ensures reply { IfOk result (λ found. found ≡ answer_of (line_for program self.now)) }
-        ensures only_memory { IfErr result (λ refusal. refusal ≡ Refusal.Memory) }
-    {
-        match &self.stage {
-            Stage::Runs => Ok(self.at_once(program)),
-            Stage::Answered(reply) => Ok(Some(key_reply(*reply))),
-            Stage::Swapped(reply) => Ok(Some(reply_of(*reply))),
-            Stage::Listed => Ok(Some(Reply::Pairs(self.entries.pairs()?))),
-            Stage::Counted => Ok(Some(Reply::Count(self.count.count()))),
-            Stage::Impossible => Ok(None),
-        }
-    }
-
-    /// The reply with which the program ends by its next step, if it does.
-    fn at_once(&self, program: Program) -> Option<Reply>
-        ensures { (told : Option ℕ) → answer_of (program_line self.now told program) ≡ result }
-    {
-        match program {
-            Program::Key(_) => match self.key.reply() {
-                Some(reply) => Some(key_reply(reply)),
-                None => None,
-            },
-            Program::Close => Some(Reply::Closed),
-            Program::Snap(_) => None,
-            Program::Entries => None,
-            Program::Count => None,
         }
     }
 
@@ -380,28 +364,5 @@ impl Programs {
         self.stage = Stage::Runs;
         self.asking = asking;
         Taken::of_kind(kind)
-    }
-}
-
-/// The reply to a call on one key.
-fn key_reply(reply: KeyReply) -> Reply
-    ensures { result ≡ key_reply reply }
-{
-    match reply {
-        KeyReply::Found(value) => Reply::Found(value),
-        KeyReply::Truth(done) => Reply::Truth(done),
-        KeyReply::Crowded => Reply::Crowded,
-        KeyReply::NoSlots => Reply::NoSlots,
-    }
-}
-
-/// The reply to a call that swaps the root.
-fn reply_of(reply: SnapReply) -> Reply
-    ensures { result ≡ reply_of reply }
-{
-    match reply {
-        SnapReply::Opened(handle) => Reply::Opened(handle),
-        SnapReply::Cleared => Reply::Cleared,
-        SnapReply::NoSlots => Reply::NoSlots,
     }
 }

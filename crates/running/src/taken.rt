@@ -1,8 +1,8 @@
 //! What a step of an operation was.
 
-ghost use Rattle.std.specs.Prelude.{◌≡◌};
+ghost use Rattle.std.specs.Prelude.{◌≡◌, false};
 ghost use Rattle.gcas.specs.Reads.{given_so};
-ghost use Rattle.running.specs.Steps.{taken_so, taken_in, if_reading, given_if, committed_if};
+ghost use Rattle.running.specs.Steps.{taken_so, taken_in, if_reading, given_if, committed_if, counts_if};
 
 use ctrie_base::Kind;
 use gcas::ReadAt;
@@ -16,6 +16,8 @@ pub struct Taken {
     pub committed: Option<Ref>,
     /// The main node that the operation's READ gave by it, if it did.
     pub given: Option<Ref>,
+    /// Whether the operation's READ counts from it on.
+    pub counts: bool,
 }
 
 impl Taken {
@@ -27,6 +29,7 @@ impl Taken {
             kind,
             committed: committed_if(kind, given_at(at)),
             given: given_if(kind, given_at(at)),
+            counts: counts_if(kind),
         }
     }
 
@@ -38,17 +41,19 @@ impl Taken {
             kind,
             committed: committed_if(kind, given_at(at)),
             given: if_reading(is_reading, given_if(kind, given_at(at))),
+            counts: is_reading && counts_if(kind),
         }
     }
 
-    /// A step of this kind in which no READ came to its end.
+    /// A step of this kind of no READ.
     pub(crate) fn of_kind(kind: Kind) -> Taken
-        ensures { result ≡ record { kind = kind; committed = None; given = None } }
+        ensures { result ≡ record { kind = kind; committed = None; given = None; counts = false } }
     {
         Taken {
             kind,
             committed: None,
             given: None,
+            counts: false,
         }
     }
 }
@@ -80,6 +85,16 @@ fn committed_if(kind: Kind, given: Option<Ref>) -> Option<Ref>
     match kind {
         Kind::SwapPrev => given,
         _ => None,
+    }
+}
+
+/// Whether a READ counts from a step of this kind on: it read the main word, or swapped it back.
+fn counts_if(kind: Kind) -> bool
+    ensures { result ≡ counts_if kind }
+{
+    match kind {
+        Kind::ReadMain | Kind::SwapMain => true,
+        _ => false,
     }
 }
 

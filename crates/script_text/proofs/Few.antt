@@ -8,6 +8,7 @@ use Rattle.text_lines.specs.Words.{words_of}
 use Rattle.text_lines.specs.Texts.{lines_of, is_ignored}
 use Rattle.text_lines.specs.Reading.{line_after, read_lines, at_line, text_of}
 use Rattle.text_lines.proofs.Parts.{made_ok, bind_ok, ok_is}
+use Rattle.text_lines.proofs.Whole.{at_ok}
 use Rattle.history_text.specs.Lines.{header_of}
 use Rattle.script_text.specs.Headers.{slots_of}
 use Rattle.script_text.specs.Scripts.{Dialect, ScriptOf, Progress, Start, Sized, Hashed, InLines, words_after, all_read, format_of}

@@ -4,13 +4,13 @@ use Rattle.std.proofs.Common.{ap, sym}
 use Rattle.slot_arena.specs.declared.refs.Ref.{Ref}
 use Rattle.slot_arena.specs.declared.nodes.Node.TheVariants.{Indirection}
 use Rattle.slot_arena.specs.Heaps.{taken, take_from, next_ref, ref_in}
-use Rattle.machine_model.specs.declared.actions.Action.TheVariants as act
-use Rattle.machine_model.specs.declared.roots.Descriptor.{Descriptor}
-use Rattle.machine_model.specs.declared.roots.RootWord.TheVariants.{Plain}
-use Rattle.machine_model.specs.States.{State, word_at, with_word}
-use Rattle.machine_model.specs.Swapping.{stands_in, is_plain}
-use Rattle.machine_model.specs.Acting.{if_changed, carried_out, opened, new_root_taken}
-use Rattle.gcas.proofs.Acting.{acts_on_heap}
+use Rattle.snapshot.specs.Beneath.machine_model.specs.declared.actions.Action.TheVariants as act
+use Rattle.snapshot.specs.Beneath.machine_model.specs.declared.roots.Descriptor.{Descriptor}
+use Rattle.snapshot.specs.Beneath.machine_model.specs.declared.roots.RootWord.TheVariants.{Plain}
+use Rattle.snapshot.specs.Beneath.machine_model.specs.States.{State, word_at, with_word}
+use Rattle.snapshot.specs.Beneath.machine_model.specs.Swapping.{stands_in, is_plain}
+use Rattle.snapshot.specs.Beneath.machine_model.specs.Acting.{if_changed, carried_out, opened, new_root_taken}
+use Rattle.snapshot.specs.Beneath.gcas.proofs.Acting.{acts_on_heap}
 use Rattle.snapshot.specs.Tasks.{DrawsGenerations, drawn}
 
 both : (b : Bool) (s t : State) → s.generations ≡ t.generations → (if_changed b s t).generations ≡ t.generations
@@ -47,7 +47,11 @@ draws_generations state handle (act.Offer offer) = (acts_on_heap state handle (a
 draws_generations state handle (act.Complete offer main) = (
   acts_on_heap state handle (act.Complete offer main) tt,
   both (stands_in (word_at state handle) offer) _ state
-      (chosen (main == offer.expected) (carried_out state handle offer) (with_word state handle (Plain offer.root)) state (opens_beside (with_word state handle (Plain offer.successor)) offer offer.opens) refl),
+      (
+      chosen (main == offer.expected) (carried_out state handle offer) (with_word state handle (Plain offer.root)) state
+      (opens_beside (with_word state handle (Plain offer.successor)) offer offer.opens)
+      refl
+      ),
 )
 draws_generations state handle (act.ReadMain indirection) = (refl, refl)
 draws_generations state handle (act.Publish indirection replaced fresh) = (refl, refl)

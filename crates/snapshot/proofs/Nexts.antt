@@ -3,15 +3,15 @@ use Rattle.std.specs.Prelude.{◌≡◌, Option, None}
 use Rattle.std.proofs.Common.{sym, ap, subst, ◌∙◌}
 use Rattle.ctrie_base.specs.declared.kinds.Kind.{Kind}
 use Rattle.ctrie_base.specs.declared.kinds.Kind.TheVariants as kind
-use Rattle.machine_model.specs.declared.lines.Line.{Line}
-use Rattle.machine_model.specs.declared.operations.Operation.{Operation}
-use Rattle.machine_model.specs.declared.reading.Read.{Read}
-use Rattle.machine_model.specs.Operations.{kind_of, line_action, line_after, read_of}
-use Rattle.machine_model.specs.States.{State}
-use Rattle.gcas.specs.declared.next.Next.{Next}
-use Rattle.gcas.specs.declared.next.Next.TheVariants.{More, AskRoot, Done}
-use Rattle.gcas.specs.declared.read.ReadAt.{ReadAt}
-use Rattle.gcas.specs.Reads.{ReadsAlong, committed_so}
+use Rattle.snapshot.specs.Beneath.machine_model.specs.declared.lines.Line.{Line}
+use Rattle.snapshot.specs.Beneath.machine_model.specs.declared.operations.Operation.{Operation}
+use Rattle.snapshot.specs.Beneath.machine_model.specs.declared.reading.Read.{Read}
+use Rattle.snapshot.specs.Beneath.machine_model.specs.Operations.{kind_of, line_action, line_after, read_of}
+use Rattle.snapshot.specs.Beneath.machine_model.specs.States.{State}
+use Rattle.snapshot.specs.Beneath.gcas.specs.declared.next.Next.{Next}
+use Rattle.snapshot.specs.Beneath.gcas.specs.declared.next.Next.TheVariants.{More, AskRoot, Done}
+use Rattle.snapshot.specs.Beneath.gcas.specs.declared.read.ReadAt.{ReadAt}
+use Rattle.snapshot.specs.Beneath.gcas.specs.Reads.{ReadsAlong, committed_so}
 use Rattle.trie_parts.specs.Steps.{StepsOn}
 use Rattle.snapshot.specs.declared.walk.Walked.{Walked}
 use Rattle.snapshot.specs.Walks.{NextIs}

@@ -5,12 +5,12 @@ use Rattle.slot_arena.specs.declared.refs.Ref.{Ref}
 use Rattle.slot_arena.specs.Arenas.{is_live}
 use Rattle.slot_arena.specs.Times.{times}
 use Rattle.epochs.specs.Memories.{Memory, KeepsEpochs, KeepsRemarks}
-use Rattle.machine_model.specs.declared.actions.Action.TheVariants as act
-use Rattle.machine_model.specs.declared.roots.Descriptor.{Descriptor}
-use Rattle.machine_model.specs.declared.roots.Root.{Root}
+use Rattle.snapshot.specs.Beneath.machine_model.specs.declared.actions.Action.TheVariants as act
+use Rattle.snapshot.specs.Beneath.machine_model.specs.declared.roots.Descriptor.{Descriptor}
+use Rattle.snapshot.specs.Beneath.machine_model.specs.declared.roots.Root.{Root}
 use Rattle.trie_parts.specs.Holding.{KeepsOthers}
-use Rattle.rdcss_root.specs.Acts.{ActsInAll}
-use Rattle.rdcss_root.specs.Holds.{IsReady, Moves}
+use Rattle.snapshot.specs.Beneath.rdcss_root.specs.Acts.{ActsInAll}
+use Rattle.snapshot.specs.Beneath.rdcss_root.specs.Holds.{IsReady, Moves}
 use Rattle.snapshot.specs.Copies.{IsReadyBeside}
 
 -- what stands in root words is held still

@@ -1,12 +1,12 @@
 -- What is told comes to a program by its READ, case by case.
 use Rattle.std.specs.Prelude.{◌≡◌, ℕ, List, Option, None, refl}
 use Rattle.slot_arena.specs.declared.refs.Ref.{Ref}
-use Rattle.machine_model.specs.declared.roots.Descriptor.{Descriptor}
-use Rattle.gcas.specs.declared.read.Read.{Read}
-use Rattle.gcas.specs.Reads.{line_of}
-use Rattle.rdcss_root.specs.declared.complete.CompleteAt.{CompleteAt}
-use Rattle.rdcss_root.specs.declared.complete.CompleteAt.TheVariants as complete
-use Rattle.rdcss_root.specs.declared.root.ReadRoot.TheVariants as rooting
+use Rattle.snapshot.specs.Beneath.machine_model.specs.declared.roots.Descriptor.{Descriptor}
+use Rattle.snapshot.specs.Beneath.gcas.specs.declared.read.Read.{Read}
+use Rattle.snapshot.specs.Beneath.gcas.specs.Reads.{line_of}
+use Rattle.snapshot.specs.Beneath.rdcss_root.specs.declared.complete.CompleteAt.{CompleteAt}
+use Rattle.snapshot.specs.Beneath.rdcss_root.specs.declared.complete.CompleteAt.TheVariants as complete
+use Rattle.snapshot.specs.Beneath.rdcss_root.specs.declared.root.ReadRoot.TheVariants as rooting
 use Rattle.root_asking.specs.Inside.{with_read}
 use Rattle.snapshot.specs.declared.snap.Making.TheVariants as making
 use Rattle.snapshot.specs.declared.snap.SnapAt.{SnapAt}
@@ -18,7 +18,8 @@ use Rattle.snapshot.specs.Telling.{TellsSnap, TellsWalk}
 use Rattle.snapshot.specs.Walks.{walk_line_at}
 
 rooted : (root : Ref) (r : Read) (told : Option ℕ) (offer : Descriptor) (c : CompleteAt) →
-    snap_line_at root r told (at.Root (rooting.Completing (record { offer = offer; at = c }))) ≡ with_read (line_of r told) (snap_line_at root r None (at.Root (rooting.Completing (record { offer = offer; at = c }))))
+    snap_line_at root r told (at.Root (rooting.Completing (record { offer = offer; at = c })))
+    ≡ with_read (line_of r told) (snap_line_at root r None (at.Root (rooting.Completing (record { offer = offer; at = c }))))
 rooted root r told offer complete.Reading = refl
 rooted root r told offer (complete.Swap main) = refl
 

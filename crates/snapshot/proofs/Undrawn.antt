@@ -3,23 +3,23 @@ use Rattle.std.specs.Prelude.{◌≡◌, ℕ, List, Option, Result, Ok, Err, OnO
 use Rattle.std.proofs.Common.{sym, subst}
 use Rattle.slot_arena.specs.declared.refs.Ref.{Ref}
 use Rattle.epochs.specs.Memories.{Memory}
-use Rattle.machine_model.specs.declared.actions.Action.{Action}
-use Rattle.machine_model.specs.declared.actions.Action.TheVariants as act
-use Rattle.machine_model.specs.declared.reading.ReadLine.{ReadLine}
-use Rattle.machine_model.specs.declared.reading.ReadLine.TheVariants as read
-use Rattle.machine_model.specs.declared.roots.Complete.{Complete}
-use Rattle.machine_model.specs.declared.roots.CompleteLine.{CompleteLine}
-use Rattle.machine_model.specs.declared.roots.CompleteLine.TheVariants as complete
-use Rattle.machine_model.specs.declared.roots.Descriptor.{Descriptor}
-use Rattle.machine_model.specs.declared.roots.Root.{Root}
-use Rattle.machine_model.specs.declared.roots.RootLine.{RootLine}
-use Rattle.machine_model.specs.declared.roots.RootLine.TheVariants as root
-use Rattle.machine_model.specs.Copying.{copy_action}
-use Rattle.machine_model.specs.Reading.{read_action}
-use Rattle.machine_model.specs.Swapping.{root_action, complete_action, complete_action_at}
+use Rattle.snapshot.specs.Beneath.machine_model.specs.declared.actions.Action.{Action}
+use Rattle.snapshot.specs.Beneath.machine_model.specs.declared.actions.Action.TheVariants as act
+use Rattle.snapshot.specs.Beneath.machine_model.specs.declared.reading.ReadLine.{ReadLine}
+use Rattle.snapshot.specs.Beneath.machine_model.specs.declared.reading.ReadLine.TheVariants as read
+use Rattle.snapshot.specs.Beneath.machine_model.specs.declared.roots.Complete.{Complete}
+use Rattle.snapshot.specs.Beneath.machine_model.specs.declared.roots.CompleteLine.{CompleteLine}
+use Rattle.snapshot.specs.Beneath.machine_model.specs.declared.roots.CompleteLine.TheVariants as complete
+use Rattle.snapshot.specs.Beneath.machine_model.specs.declared.roots.Descriptor.{Descriptor}
+use Rattle.snapshot.specs.Beneath.machine_model.specs.declared.roots.Root.{Root}
+use Rattle.snapshot.specs.Beneath.machine_model.specs.declared.roots.RootLine.{RootLine}
+use Rattle.snapshot.specs.Beneath.machine_model.specs.declared.roots.RootLine.TheVariants as root
+use Rattle.snapshot.specs.Beneath.machine_model.specs.Copying.{copy_action}
+use Rattle.snapshot.specs.Beneath.machine_model.specs.Reading.{read_action}
+use Rattle.snapshot.specs.Beneath.machine_model.specs.Swapping.{root_action, complete_action, complete_action_at}
 use Rattle.trie_parts.specs.Holding.{Acts}
-use Rattle.rdcss_root.specs.Acts.{ActsInAll}
-use Rattle.rdcss_root.proofs.Together.{by_parts}
+use Rattle.snapshot.specs.Beneath.rdcss_root.specs.Acts.{ActsInAll}
+use Rattle.snapshot.specs.Beneath.rdcss_root.proofs.Together.{by_parts}
 use Rattle.snapshot.specs.declared.snap.Making.{Making}
 use Rattle.snapshot.specs.Copies.{making_line, made_node}
 use Rattle.snapshot.specs.Tasks.{with_generation}

@@ -7,26 +7,26 @@ use Rattle.slot_arena.specs.Arenas.{AreLive}
 use Rattle.slot_arena.specs.Heaps.{empty_branch}
 use Rattle.slot_arena.specs.Times.{times}
 use Rattle.epochs.specs.Memories.{Memory}
-use Rattle.machine_model.specs.declared.actions.Action.{Action}
-use Rattle.machine_model.specs.declared.copying.CopyLine.{CopyLine}
-use Rattle.machine_model.specs.declared.copying.CopyLine.TheVariants as copy
-use Rattle.machine_model.specs.declared.lines.Line.{Line}
-use Rattle.machine_model.specs.declared.lines.Line.TheVariants as line
-use Rattle.machine_model.specs.declared.operations.Operation.{Operation}
-use Rattle.machine_model.specs.declared.roots.Root.{Root}
-use Rattle.machine_model.specs.declared.roots.RootWord.TheVariants.{Offer}
-use Rattle.machine_model.specs.Counting.{refs_of_word}
-use Rattle.machine_model.specs.Operations.{line_action, generation_from}
-use Rattle.machine_model.specs.States.{State}
-use Rattle.gcas.specs.declared.next.Next.{Next}
-use Rattle.gcas.specs.declared.next.Next.TheVariants.{More, AskRoot, Done}
-use Rattle.gcas.specs.declared.read.Read.{Read}
-use Rattle.gcas.specs.Reads.{read_of, CanReadOn}
+use Rattle.snapshot.specs.Beneath.machine_model.specs.declared.actions.Action.{Action}
+use Rattle.snapshot.specs.Beneath.machine_model.specs.declared.copying.CopyLine.{CopyLine}
+use Rattle.snapshot.specs.Beneath.machine_model.specs.declared.copying.CopyLine.TheVariants as copy
+use Rattle.snapshot.specs.Beneath.machine_model.specs.declared.lines.Line.{Line}
+use Rattle.snapshot.specs.Beneath.machine_model.specs.declared.lines.Line.TheVariants as line
+use Rattle.snapshot.specs.Beneath.machine_model.specs.declared.operations.Operation.{Operation}
+use Rattle.snapshot.specs.Beneath.machine_model.specs.declared.roots.Root.{Root}
+use Rattle.snapshot.specs.Beneath.machine_model.specs.declared.roots.RootWord.TheVariants.{Offer}
+use Rattle.snapshot.specs.Beneath.machine_model.specs.Counting.{refs_of_word}
+use Rattle.snapshot.specs.Beneath.machine_model.specs.Operations.{line_action, generation_from}
+use Rattle.snapshot.specs.Beneath.machine_model.specs.States.{State}
+use Rattle.snapshot.specs.Beneath.gcas.specs.declared.next.Next.{Next}
+use Rattle.snapshot.specs.Beneath.gcas.specs.declared.next.Next.TheVariants.{More, AskRoot, Done}
+use Rattle.snapshot.specs.Beneath.gcas.specs.declared.read.Read.{Read}
+use Rattle.snapshot.specs.Beneath.gcas.specs.Reads.{read_of, CanReadOn}
 use Rattle.trie_parts.specs.Here.{no_state, no_operation}
 use Rattle.trie_parts.specs.Steps.{CanMake}
-use Rattle.rdcss_root.specs.Holds.{root_refs}
-use Rattle.rdcss_root.specs.Programs.{root_of, complete_of, CanRootOn, CanCompleteOn}
-use Rattle.rdcss_root.specs.Tables.{Table}
+use Rattle.snapshot.specs.Beneath.rdcss_root.specs.Holds.{root_refs}
+use Rattle.snapshot.specs.Beneath.rdcss_root.specs.Programs.{root_of, complete_of, CanRootOn, CanCompleteOn, ReadsItsRoot, ReadsOffered}
+use Rattle.snapshot.specs.Beneath.rdcss_root.specs.Tables.{Table}
 use Rattle.snapshot.specs.declared.snap.Making.{Making}
 use Rattle.snapshot.specs.declared.snap.Making.TheVariants as making
 use Rattle.snapshot.specs.declared.snap.Snap.{Snap}
@@ -93,3 +93,17 @@ CanSnapAt memory table r generation (at.Complete c) = CanCompleteOn memory table
 -- what is going to be changed, or referred to, is in use, and of its kind; a new root is of this generation
 abbrev pub CanSnap : Memory → Table → Read → ℕ → Snap → Type 0
 CanSnap memory table r generation s = CanSnapAt memory table r generation s.at
+
+-- where it completes an offer its READ is that of the root which is to be swapped
+abbrev pub ReadsAt : SnapAt → Read → Type 0
+ReadsAt (at.Root l) r = ReadsItsRoot l r
+ReadsAt at.Read r = Unit {0}
+ReadsAt (at.Make m) r = Unit {0}
+ReadsAt (at.Offer offer) r = Unit {0}
+ReadsAt (at.Complete c) r = ReadsOffered c.at c.offer r
+
+-- so it stands behind a step, unless that was the last one
+abbrev pub ReadsFor : Next SnapReply → Snap → Read → Type 0
+ReadsFor (More k) s r = ReadsAt s.at r
+ReadsFor AskRoot s r = Unit {0}
+ReadsFor (Done k answer) s r = Unit {0}

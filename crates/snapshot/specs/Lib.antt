@@ -1,3 +1,4 @@
+pub mod Beneath
 pub mod Copies
 pub mod Tasks
 pub mod Telling

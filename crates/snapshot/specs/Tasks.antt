@@ -8,13 +8,13 @@ use Rattle.history.specs.declared.replies.Reply.TheVariants as reply
 use Rattle.slot_arena.specs.declared.refs.Ref.{Ref}
 use Rattle.slot_arena.specs.declared.nodes.Node.TheVariants.{Indirection}
 use Rattle.slot_arena.specs.Heaps.{Heap, next_ref}
-use Rattle.machine_model.specs.declared.actions.Action.{Action}
-use Rattle.machine_model.specs.declared.actions.Action.TheVariants as act
-use Rattle.machine_model.specs.declared.operations.Operation.{Operation}
-use Rattle.machine_model.specs.Acting.{acted}
-use Rattle.machine_model.specs.States.{State}
-use Rattle.gcas.specs.Acted.{acted_heap}
-use Rattle.rdcss_root.specs.Tables.{Table}
+use Rattle.snapshot.specs.Beneath.machine_model.specs.declared.actions.Action.{Action}
+use Rattle.snapshot.specs.Beneath.machine_model.specs.declared.actions.Action.TheVariants as act
+use Rattle.snapshot.specs.Beneath.machine_model.specs.declared.operations.Operation.{Operation}
+use Rattle.snapshot.specs.Beneath.machine_model.specs.Acting.{acted}
+use Rattle.snapshot.specs.Beneath.machine_model.specs.States.{State}
+use Rattle.snapshot.specs.Beneath.gcas.specs.Acted.{acted_heap}
+use Rattle.snapshot.specs.Beneath.rdcss_root.specs.Tables.{Table}
 use Rattle.snapshot.specs.declared.tasks.SnapCall.{SnapCall}
 use Rattle.snapshot.specs.declared.tasks.SnapCall.TheVariants.{Snapshot, Freeze, Clear}
 use Rattle.snapshot.specs.declared.tasks.SnapReply.{SnapReply}

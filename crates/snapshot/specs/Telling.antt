@@ -1,7 +1,7 @@
 -- What is told of the root's generation comes to a program by its READ alone.
 use Rattle.std.specs.Prelude.{◌≡◌, ℕ, Option, None}
-use Rattle.gcas.specs.declared.read.Read.{Read}
-use Rattle.gcas.specs.Reads.{line_of}
+use Rattle.snapshot.specs.Beneath.gcas.specs.declared.read.Read.{Read}
+use Rattle.snapshot.specs.Beneath.gcas.specs.Reads.{line_of}
 use Rattle.root_asking.specs.Inside.{with_read}
 use Rattle.snapshot.specs.declared.snap.Snap.{Snap}
 use Rattle.snapshot.specs.declared.walk.Walk.{Walk}

@@ -5,16 +5,16 @@ use Rattle.history.specs.declared.calls.Access.{Access}
 use Rattle.history.specs.declared.calls.Call.{Call}
 use Rattle.slot_arena.specs.declared.refs.Ref.{Ref}
 use Rattle.slot_arena.specs.Heaps.{Heap}
-use Rattle.machine_model.specs.declared.lines.Line.{Line}
-use Rattle.machine_model.specs.declared.lines.Line.TheVariants as line
-use Rattle.machine_model.specs.declared.operations.Operation.{Operation}
-use Rattle.machine_model.specs.declared.walking.WalkLine.TheVariants as walk
-use Rattle.machine_model.specs.Lines.{impossible}
-use Rattle.machine_model.specs.Walking.{walked_reply}
-use Rattle.gcas.specs.declared.next.Next.{Next}
-use Rattle.gcas.specs.declared.next.Next.TheVariants.{More, AskRoot, Done}
-use Rattle.gcas.specs.declared.read.Read.{Read}
-use Rattle.gcas.specs.Reads.{read_of, CanReadOn}
+use Rattle.snapshot.specs.Beneath.machine_model.specs.declared.lines.Line.{Line}
+use Rattle.snapshot.specs.Beneath.machine_model.specs.declared.lines.Line.TheVariants as line
+use Rattle.snapshot.specs.Beneath.machine_model.specs.declared.operations.Operation.{Operation}
+use Rattle.snapshot.specs.Beneath.machine_model.specs.declared.walking.WalkLine.TheVariants as walk
+use Rattle.snapshot.specs.Beneath.machine_model.specs.Lines.{impossible}
+use Rattle.snapshot.specs.Beneath.machine_model.specs.Walking.{walked_reply}
+use Rattle.snapshot.specs.Beneath.gcas.specs.declared.next.Next.{Next}
+use Rattle.snapshot.specs.Beneath.gcas.specs.declared.next.Next.TheVariants.{More, AskRoot, Done}
+use Rattle.snapshot.specs.Beneath.gcas.specs.declared.read.Read.{Read}
+use Rattle.snapshot.specs.Beneath.gcas.specs.Reads.{read_of, CanReadOn}
 use Rattle.snapshot.specs.declared.walk.Walk.{Walk}
 use Rattle.snapshot.specs.declared.walk.WalkAt.{WalkAt}
 use Rattle.snapshot.specs.declared.walk.WalkAt.TheVariants as at

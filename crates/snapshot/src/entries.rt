@@ -3,10 +3,11 @@
 ghost use Rattle.std.specs.Prelude.{◌≡◌, [], None, ℕ, IfOk, IfErr, OnOk, OnErr};
 ghost use Rattle.history.specs.declared.calls.Call.TheVariants.{Entries as EntriesCall, Count as CountCall};
 ghost use Rattle.history.specs.declared.replies.Reply.TheVariants as reply;
-ghost use Rattle.machine_model.specs.declared.operations.Operation.{Operation};
-ghost use Rattle.machine_model.specs.States.{State};
-ghost use Rattle.machine_model.specs.Walking.{walked_reply};
-ghost use Rattle.gcas.specs.Reads.{IsAskingRoot};
+ghost use Rattle.snapshot.specs.Beneath.machine_model.specs.declared.operations.Operation.{Operation};
+ghost use Rattle.snapshot.specs.Beneath.machine_model.specs.Operations.{kind_of};
+ghost use Rattle.snapshot.specs.Beneath.machine_model.specs.States.{State};
+ghost use Rattle.snapshot.specs.Beneath.machine_model.specs.Walking.{walked_reply};
+ghost use Rattle.snapshot.specs.Beneath.gcas.specs.Reads.{IsAskingRoot};
 ghost use Rattle.trie_parts.specs.Holding.{Acts};
 ghost use Rattle.trie_parts.specs.Steps.{StepsOn};
 ghost use Rattle.snapshot.specs.Copies.{snap_action};
@@ -14,13 +15,12 @@ ghost use Rattle.snapshot.specs.Tasks.{at_roots};
 ghost use Rattle.snapshot.specs.Walks.{walk_line, behind_walk, on_call, CanWalk};
 
 use crate::walk::{Walk, WalkAt, Walked};
-use ctrie_base::Refusal;
+use ctrie_base::{Kind, Refusal};
 use epochs::Heap;
-use gcas::Next;
 use history::Pairs;
-use rdcss_root::Roots;
+use root_asking::Roots;
 use std::alloc::Global;
-use trie_parts::Work;
+use trie_parts::{Next, Read, Work};
 
 /// A call for all pairs. An operation keeps one for all its calls.
 #[derive(Drop)]
@@ -45,6 +45,13 @@ impl Entries {
         self.walk.begin();
     }
 
+    /// The kind of its next step, where its READ is this one and was told this of the root's generation.
+    pub fn next_kind(&self, read: &Read, root_seen: Option<u64>) -> Kind
+        ensures { result ≡ kind_of (snap_action (walk_line read.now root_seen self.now.walk)) }
+    {
+        self.walk.next_kind(read, root_seen)
+    }
+
     /// Takes its next step, unless it has to be told the generation of the root first. After an error, which is
     /// want of memory, nothing has changed.
     pub fn step(
@@ -56,7 +63,10 @@ impl Entries {
         root_seen: Option<u64>,
     ) -> Result<Next<Walked>, Refusal>
         requires { CanWalk heap.old.heap work.old.swap.read self.old.walk }
-        ensures follows { IfOk result (λ next. (state : State) (operation : Operation) → StepsOn (at_roots state heap.old.heap roots.now) (on_call (EntriesCall handle) work.old.swap.read.access operation) (walk_line work.old.swap.read root_seen self.old.walk) (walk_line work.new.swap.read None self.new.walk) work.new.swap.read.at (behind_walk (EntriesCall handle) self.new.walk.pairs) next) }
+        ensures follows { IfOk result (λ next. (state : State) (operation : Operation) →
+            StepsOn (at_roots state heap.old.heap roots.now) (on_call (EntriesCall handle) work.old.swap.read.access operation)
+            (walk_line work.old.swap.read root_seen self.old.walk) (walk_line work.new.swap.read None self.new.walk) work.new.swap.read.at
+            (behind_walk (EntriesCall handle) self.new.walk.pairs) next) }
         ensures acts { OnOk result (Acts heap.old work.old.private (snap_action (walk_line work.old.swap.read root_seen self.old.walk)) heap.new work.new.private) }
         ensures access { work.new.swap.read.access ≡ work.old.swap.read.access }
         ensures asks { IfOk result (λ next. IsAskingRoot next → (self.new ≡ self.old) × (work.new ≡ work.old) × (heap.new ≡ heap.old)) }
@@ -98,6 +108,13 @@ impl Count {
         self.walk.begin();
     }
 
+    /// The kind of its next step, where its READ is this one and was told this of the root's generation.
+    pub fn next_kind(&self, read: &Read, root_seen: Option<u64>) -> Kind
+        ensures { result ≡ kind_of (snap_action (walk_line read.now root_seen self.now.walk)) }
+    {
+        self.walk.next_kind(read, root_seen)
+    }
+
     /// Takes its next step, unless it has to be told the generation of the root first. After an error, which is
     /// want of memory, nothing has changed.
     pub fn step(
@@ -109,7 +126,10 @@ impl Count {
         root_seen: Option<u64>,
     ) -> Result<Next<Walked>, Refusal>
         requires { CanWalk heap.old.heap work.old.swap.read self.old.walk }
-        ensures follows { IfOk result (λ next. (state : State) (operation : Operation) → StepsOn (at_roots state heap.old.heap roots.now) (on_call (CountCall handle) work.old.swap.read.access operation) (walk_line work.old.swap.read root_seen self.old.walk) (walk_line work.new.swap.read None self.new.walk) work.new.swap.read.at (behind_walk (CountCall handle) self.new.walk.pairs) next) }
+        ensures follows { IfOk result (λ next. (state : State) (operation : Operation) →
+            StepsOn (at_roots state heap.old.heap roots.now) (on_call (CountCall handle) work.old.swap.read.access operation)
+            (walk_line work.old.swap.read root_seen self.old.walk) (walk_line work.new.swap.read None self.new.walk) work.new.swap.read.at
+            (behind_walk (CountCall handle) self.new.walk.pairs) next) }
         ensures acts { OnOk result (Acts heap.old work.old.private (snap_action (walk_line work.old.swap.read root_seen self.old.walk)) heap.new work.new.private) }
         ensures access { work.new.swap.read.access ≡ work.old.swap.read.access }
         ensures asks { IfOk result (λ next. IsAskingRoot next → (self.new ≡ self.old) × (work.new ≡ work.old) × (heap.new ≡ heap.old)) }

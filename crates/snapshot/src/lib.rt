@@ -18,6 +18,7 @@
 
 mod entries;
 mod laws;
+mod made;
 mod snap;
 mod taken;
 mod tasks;

@@ -2,38 +2,35 @@
 
 ghost use Rattle.std.specs.Prelude.{◌≡◌, ◌+◌, ◌-◌, ◌<◌, ◌^◌, None, Some, Bool, ℕ, List, IfOk, IfErr, OnOk, OnErr};
 ghost use Rattle.slot_arena.specs.declared.refs.Ref.{Ref as ARef};
-ghost use Rattle.slot_arena.specs.Heaps.{Heap as Store, next_ref};
 ghost use Rattle.slot_arena.specs.Arenas.{AreLive};
-ghost use Rattle.history.specs.declared.calls.Access.{Access as AnAccess};
-ghost use Rattle.machine_model.specs.declared.actions.Action.TheVariants as act;
-ghost use Rattle.machine_model.specs.declared.copying.CopyLine.TheVariants as copy;
-ghost use Rattle.machine_model.specs.declared.lines.Line.TheVariants as line;
-ghost use Rattle.machine_model.specs.declared.operations.Operation.{Operation};
-ghost use Rattle.machine_model.specs.declared.roots.RootWord.TheVariants.{Offer as Offered};
-ghost use Rattle.machine_model.specs.Acting.{attempt_after};
-ghost use Rattle.machine_model.specs.Copying.{after_given, copied_reply, copy_action, copy_after_made, offering};
-ghost use Rattle.machine_model.specs.Counting.{refs_of_word};
-ghost use Rattle.machine_model.specs.Reading.{read_action};
-ghost use Rattle.machine_model.specs.States.{State};
-ghost use Rattle.machine_model.specs.Swapping.{complete_action, root_action};
-ghost use Rattle.gcas.specs.declared.read.Read.{Read as ARead};
-ghost use Rattle.gcas.specs.Reads.{read_of, line_of, CanReadOn, IsAskingRoot};
-ghost use Rattle.trie_parts.specs.Holding.{Acts, AreHeld};
-ghost use Rattle.trie_parts.specs.Steps.{StepsOn, CanMake};
-ghost use Rattle.rdcss_root.specs.Acts.{ActsInAll};
-ghost use Rattle.rdcss_root.specs.Programs.{root_of, complete_of, CanRootOn, CanCompleteOn, rooted_at, completed_at};
-ghost use Rattle.rdcss_root.specs.Tables.{Table, acted_table, offered_in};
-ghost use Rattle.snapshot.specs.Copies.{snap_line, snap_line_at, snap_action, KeepsGeneration, making_line, made_node, line_behind, CanSnap, IsReadyBeside};
+ghost use Rattle.snapshot.specs.Beneath.machine_model.specs.declared.actions.Action.TheVariants as act;
+ghost use Rattle.snapshot.specs.Beneath.machine_model.specs.declared.copying.CopyLine.TheVariants as copy;
+ghost use Rattle.snapshot.specs.Beneath.machine_model.specs.declared.lines.Line.TheVariants as line;
+ghost use Rattle.snapshot.specs.Beneath.machine_model.specs.declared.operations.Operation.{Operation};
+ghost use Rattle.snapshot.specs.Beneath.machine_model.specs.declared.roots.RootWord.TheVariants.{Offer as Offered};
+ghost use Rattle.snapshot.specs.Beneath.machine_model.specs.Acting.{attempt_after};
+ghost use Rattle.snapshot.specs.Beneath.machine_model.specs.Copying.{copied_reply};
+ghost use Rattle.snapshot.specs.Beneath.machine_model.specs.Counting.{refs_of_word};
+ghost use Rattle.snapshot.specs.Beneath.machine_model.specs.Operations.{kind_of};
+ghost use Rattle.snapshot.specs.Beneath.machine_model.specs.Reading.{read_action};
+ghost use Rattle.snapshot.specs.Beneath.machine_model.specs.States.{State};
+ghost use Rattle.snapshot.specs.Beneath.machine_model.specs.Swapping.{complete_action, root_action};
+ghost use Rattle.snapshot.specs.Beneath.gcas.specs.Reads.{read_of, line_of, CanReadOn, IsAskingRoot};
+ghost use Rattle.trie_parts.specs.Holding.{Acts};
+ghost use Rattle.trie_parts.specs.Steps.{StepsOn};
+ghost use Rattle.snapshot.specs.Beneath.rdcss_root.specs.Acts.{ActsInAll};
+ghost use Rattle.snapshot.specs.Beneath.rdcss_root.specs.Programs.{root_of, complete_of, CanRootOn, CanCompleteOn, rooted_at, completed_at};
+ghost use Rattle.snapshot.specs.Beneath.rdcss_root.specs.Tables.{Table, acted_table, offered_in};
+ghost use Rattle.snapshot.specs.Copies.{snap_line, snap_action, KeepsGeneration, ReadsFor, line_behind, CanSnap, IsReadyBeside};
 ghost use Rattle.snapshot.specs.Tasks.{at_roots, call_of, for_task, mark_of, reply_of, with_generation, drawn_by};
 
+use crate::made::first_making;
 use crate::tasks::{SnapCall, SnapReply, SnapTask};
 use ctrie_base::{Kind, Refusal};
 use epochs::Heap;
-use gcas::{Next, generation_at};
-use machine_model::Descriptor;
-use rdcss_root::{Complete, Offer, ReadRoot, Roots};
-use slot_arena::{Node, Ref};
-use trie_parts::{Work, renewed};
+use root_asking::{Complete, Offer, ReadRoot, Roots};
+use slot_arena::Ref;
+use trie_parts::{Next, Read, Work, generation_at};
 
 /// What is to be made for the swap of a root whose main node is `main`.
 #[derive(Clone, Copy)]
@@ -86,6 +83,19 @@ impl Snap {
         }
     }
 
+    /// The kind of its next step, where its READ is this one and was told this of the root's generation.
+    pub fn next_kind(&self, read: &Read, root_seen: Option<u64>) -> Kind
+        ensures { result ≡ kind_of (snap_action (snap_line read.now root_seen self.now)) }
+    {
+        match &self.at {
+            SnapAt::Root(root) => root.next_kind(read, root_seen),
+            SnapAt::Read => read.next_kind(root_seen),
+            SnapAt::Make(_) => Kind::Make,
+            SnapAt::Offer(_) => Kind::SwapRoot,
+            SnapAt::Complete(complete) => complete.next_kind(read, root_seen),
+        }
+    }
+
     /// Takes its next step, unless it has to be told the generation of the root first. `generations` is the next
     /// generation to be drawn. After an error, which is want of memory, nothing has changed.
     pub fn step(
@@ -101,13 +111,19 @@ impl Snap {
         requires ready { IsReadyBeside heap.old roots.old.roots work.old.private }
         requires attempts { self.old.attempt < 2 ^ 64 - 1 }
         requires generations { generations.old < 2 ^ 64 - 1 }
-        ensures follows { IfOk result (λ next. (state : State) (operation : Operation) → StepsOn (at_roots state heap.old.heap roots.old) (for_task task self.old.attempt (mark_of roots.old task) work.old.swap.read.access operation) (snap_line work.old.swap.read root_seen self.old) (snap_line work.new.swap.read None self.new) work.new.swap.read.at line_behind next) }
-        ensures acts { OnOk result (ActsInAll heap.old roots.old.roots work.old.private (with_generation generations.old (snap_action (snap_line work.old.swap.read root_seen self.old))) heap.new roots.new.roots work.new.private) }
+        ensures follows { IfOk result (λ next. (state : State) (operation : Operation) →
+            StepsOn (at_roots state heap.old.heap roots.old) (for_task task self.old.attempt (mark_of roots.old task) work.old.swap.read.access operation)
+            (snap_line work.old.swap.read root_seen self.old) (snap_line work.new.swap.read None self.new) work.new.swap.read.at line_behind next) }
+        ensures acts { OnOk result (ActsInAll heap.old roots.old.roots work.old.private
+            (with_generation generations.old (snap_action (snap_line work.old.swap.read root_seen self.old))) heap.new roots.new.roots work.new.private) }
         ensures table { OnOk result (roots.new ≡ acted_table roots.old task.handle task.actor (snap_action (snap_line work.old.swap.read root_seen self.old))) }
         ensures drawn { OnOk result (generations.new ≡ drawn_by heap.old.heap generations.old (snap_action (snap_line work.old.swap.read root_seen self.old))) }
         ensures attempt { OnOk result (self.new.attempt ≡ attempt_after self.old.attempt (snap_action (snap_line work.old.swap.read root_seen self.old))) }
-        ensures generation { IfOk result (λ next. (state : State) (operation : Operation) → KeepsGeneration (at_roots state heap.old.heap roots.old) (for_task task self.old.attempt (mark_of roots.old task) work.old.swap.read.access operation) (snap_line work.old.swap.read root_seen self.old) self.old.generation self.new.generation next) }
+        ensures generation { IfOk result (λ next. (state : State) (operation : Operation) →
+            KeepsGeneration (at_roots state heap.old.heap roots.old) (for_task task self.old.attempt (mark_of roots.old task) work.old.swap.read.access operation)
+            (snap_line work.old.swap.read root_seen self.old) self.old.generation self.new.generation next) }
         ensures access { work.new.swap.read.access ≡ work.old.swap.read.access }
+        ensures stands { IfOk result (λ next. ReadsFor next self.new work.new.swap.read) }
         ensures asks { IfOk result (λ next. IsAskingRoot next → (self.new ≡ self.old) × (work.new ≡ work.old) × (roots.new ≡ roots.old) × (generations.new ≡ generations.old) × (heap.new ≡ heap.old)) }
         ensures err { OnErr result ((self.new ≡ self.old) × (work.new ≡ work.old) × (roots.new ≡ roots.old) × (generations.new ≡ generations.old) × (heap.new ≡ heap.old)) }
         ensures only_memory { IfErr result (λ refusal. refusal ≡ Refusal.Memory) }
@@ -144,12 +160,17 @@ impl Snap {
         root_seen: Option<u64>,
     ) -> Next<SnapReply>
         requires { CanRootOn heap.old roots.old root work.old.swap.read }
-        ensures follows { (state : State) (operation : Operation) (attempt : ℕ) (mark : Bool) → StepsOn (at_roots state heap.old.heap roots.old) (for_task task attempt mark work.old.swap.read.access operation) (line.Root (root_of root work.old.swap.read root_seen)) (snap_line work.new.swap.read None self.new) work.new.swap.read.at line_behind result }
+        ensures follows { (state : State) (operation : Operation) (attempt : ℕ) (mark : Bool) →
+            StepsOn (at_roots state heap.old.heap roots.old) (for_task task attempt mark work.old.swap.read.access operation)
+            (line.Root (root_of root work.old.swap.read root_seen)) (snap_line work.new.swap.read None self.new) work.new.swap.read.at line_behind result }
         ensures acts { (private : List ARef) → ActsInAll heap.old roots.old.roots private (root_action (root_of root work.old.swap.read root_seen)) heap.new roots.new.roots private }
         ensures table { roots.new ≡ rooted_at roots.old task.handle root }
-        ensures generation { (state : State) (operation : Operation) (attempt : ℕ) (mark : Bool) → KeepsGeneration (at_roots state heap.old.heap roots.old) (for_task task attempt mark work.old.swap.read.access operation) (line.Root (root_of root work.old.swap.read root_seen)) self.old.generation self.new.generation result }
+        ensures generation { (state : State) (operation : Operation) (attempt : ℕ) (mark : Bool) →
+            KeepsGeneration (at_roots state heap.old.heap roots.old) (for_task task attempt mark work.old.swap.read.access operation)
+            (line.Root (root_of root work.old.swap.read root_seen)) self.old.generation self.new.generation result }
         ensures asks { IsAskingRoot result → (self.new ≡ record self.old { at = SnapAt.Root root }) × (work.new ≡ work.old) × (roots.new ≡ roots.old) × (heap.new ≡ heap.old) }
         ensures same { (self.new.attempt ≡ self.old.attempt) × (work.new.private ≡ work.old.private) × (work.new.swap.read.access ≡ work.old.swap.read.access) }
+        ensures stands { ReadsFor result self.new work.new.swap.read }
     {
         let mut root = root;
         match root.step(&mut work.swap.read, roots, task.handle, heap, root_seen) {
@@ -180,10 +201,14 @@ impl Snap {
         root_seen: Option<u64>,
     ) -> Next<SnapReply>
         requires { CanReadOn heap.old.heap work.old.swap.read }
-        ensures follows { (state : State) (operation : Operation) (table : Table) (attempt : ℕ) (mark : Bool) → StepsOn (at_roots state heap.old.heap table) (for_task task attempt mark work.old.swap.read.access operation) (line.Copy (copy.Read self.old.root (read_of work.old.swap.read root_seen))) (snap_line work.new.swap.read None self.new) work.new.swap.read.at line_behind result }
+        ensures follows { (state : State) (operation : Operation) (table : Table) (attempt : ℕ) (mark : Bool) →
+            StepsOn (at_roots state heap.old.heap table) (for_task task attempt mark work.old.swap.read.access operation)
+            (line.Copy (copy.Read self.old.root (read_of work.old.swap.read root_seen))) (snap_line work.new.swap.read None self.new) work.new.swap.read.at line_behind
+            result }
         ensures acts { Acts heap.old work.old.private (read_action work.old.swap.read.indirection (line_of work.old.swap.read root_seen)) heap.new work.new.private }
         ensures same { (self.new.attempt ≡ self.old.attempt) × (self.new.generation ≡ self.old.generation) × (work.new.swap.read.access ≡ work.old.swap.read.access) }
         ensures asks { IsAskingRoot result → (self.new ≡ record self.old { at = SnapAt.Read }) × (work.new ≡ work.old) × (heap.new ≡ heap.old) }
+        ensures stands { ReadsFor result self.new work.new.swap.read }
     {
         self.at = SnapAt::Read;
         match work.read(heap, root_seen) {
@@ -194,81 +219,6 @@ impl Snap {
                 Next::More(kind)
             }
         }
-    }
-
-    /// Makes a node. A new root draws a generation.
-    fn make(
-        &mut self,
-        making: &Making,
-        work: &mut Work,
-        generations: &mut u64,
-        heap: &mut Heap,
-        task: SnapTask,
-    ) -> Result<Next<SnapReply>, Refusal>
-        requires can { CanMake heap.old.heap (made_node generations.old making.now) }
-        requires held { AreHeld work.old.private heap.old }
-        requires attempts { self.old.attempt < 2 ^ 64 - 1 }
-        requires generations { generations.old < 2 ^ 64 - 1 }
-        ensures follows { IfOk result (λ next. (state : State) (operation : Operation) (table : Table) (access : AnAccess) (mark : Bool) → StepsOn (at_roots state heap.old.heap table) (for_task task self.old.attempt mark access operation) (line.Copy (making_line self.old.root making.now)) (snap_line work.new.swap.read None self.new) work.new.swap.read.at line_behind next) }
-        ensures acts { OnOk result (Acts heap.old work.old.private (act.Make (made_node generations.old making.now)) heap.new work.new.private) }
-        ensures drawn { OnOk result (generations.new ≡ drawn_by heap.old.heap generations.old (copy_action (making_line self.old.root making.now))) }
-        ensures same { (self.new.attempt ≡ self.old.attempt) × (self.new.generation ≡ self.old.generation) × (work.new.swap ≡ work.old.swap) }
-        ensures taken { IfOk result (λ next. IsAskingRoot next → ⊥) }
-        ensures err { OnErr result ((self.new ≡ self.old) × (work.new ≡ work.old) × (generations.new ≡ generations.old) × (heap.new ≡ heap.old)) }
-        ensures only_memory { IfErr result (λ refusal. refusal ≡ Refusal.Memory) }
-    {
-        match work.make(heap, node_of(making, *generations))? {
-            None => Ok(Next::Done(Kind::Make, SnapReply::NoSlots)),
-            Some(made) => {
-                draw(generations, making);
-                let at = self.after_made(making, task, made);
-                self.at = at;
-                Ok(Next::More(Kind::Make))
-            }
-        }
-    }
-
-    /// Where the program stands behind the making of a node: a writable snapshot makes a second root.
-    fn after_made(&self, making: &Making, task: SnapTask, made: Ref) -> SnapAt
-        requires { self.now.attempt < 2 ^ 64 - 1 }
-        ensures { (operation : Operation) (access : AnAccess) (mark : Bool) (r : ARead) → snap_line_at self.now.root r None result ≡ copy_after_made (for_task task self.now.attempt mark access operation) (making_line self.now.root making.now) made }
-    {
-        match making {
-            Making::Successor { main } => match task.call {
-                SnapCall::Snapshot => SnapAt::Make(Making::Second {
-                    main: *main,
-                    successor: made,
-                }),
-                SnapCall::Freeze => self.offering(task, *main, made, None),
-                SnapCall::Clear => self.offering(task, *main, made, None),
-            },
-            Making::Second { main, successor } => {
-                self.offering(task, *main, *successor, Some(made))
-            }
-            Making::Empty { main } => SnapAt::Make(Making::Cleared {
-                main: *main,
-                branch: made,
-            }),
-            Making::Cleared { main, .. } => self.offering(task, *main, made, None),
-        }
-    }
-
-    /// The next offer: to put the successor in the place of the root, if that one still has this main node.
-    fn offering(&self, task: SnapTask, main: Ref, successor: Ref, second: Option<Ref>) -> SnapAt
-        requires { self.now.attempt < 2 ^ 64 - 1 }
-        ensures { (operation : Operation) (access : AnAccess) (mark : Bool) (r : ARead) → snap_line_at self.now.root r None result ≡ offering (for_task task self.now.attempt mark access operation) self.now.root main successor second }
-    {
-        SnapAt::Offer(Offer {
-            descriptor: Descriptor {
-                operation: task.operation,
-                attempt: self.attempt + 1,
-                root: self.root,
-                expected: main,
-                successor,
-                second,
-                opens: task.opens,
-            },
-        })
     }
 
     /// Offers the swap. What was made is given up first: it is held from the root word then, or never used.
@@ -283,13 +233,16 @@ impl Snap {
         requires live { AreLive heap.old.heap (refs_of_word (Offered offer.descriptor)) }
         requires ready { IsReadyBeside heap.old roots.old.roots work.old.private }
         requires attempts { self.old.attempt < 2 ^ 64 - 1 }
-        ensures follows { (state : State) (operation : Operation) (attempt : ℕ) (mark : Bool) → StepsOn (at_roots state heap.old.heap roots.old) (for_task task attempt mark work.old.swap.read.access operation) (line.Copy (copy.Offer offer.descriptor)) (snap_line work.new.swap.read None self.new) work.new.swap.read.at line_behind result }
+        ensures follows { (state : State) (operation : Operation) (attempt : ℕ) (mark : Bool) →
+            StepsOn (at_roots state heap.old.heap roots.old) (for_task task attempt mark work.old.swap.read.access operation) (line.Copy (copy.Offer offer.descriptor))
+            (snap_line work.new.swap.read None self.new) work.new.swap.read.at line_behind result }
         ensures acts { ActsInAll heap.old roots.old.roots work.old.private (act.Offer offer.descriptor) heap.new roots.new.roots work.new.private }
         ensures table { roots.new ≡ offered_in roots.old task.handle task.actor offer.descriptor }
         ensures attempt { self.new.attempt ≡ self.old.attempt + 1 }
         ensures generation { self.new.generation ≡ self.old.generation }
         ensures taken { IsAskingRoot result → ⊥ }
         ensures access { work.new.swap.read.access ≡ work.old.swap.read.access }
+        ensures stands { ReadsFor result self.new work.new.swap.read }
     {
         work.private.give_up(heap);
         self.attempt += 1;
@@ -313,11 +266,16 @@ impl Snap {
         root_seen: Option<u64>,
     ) -> Next<SnapReply>
         requires { CanCompleteOn heap.old roots.old complete work.old.swap.read }
-        ensures follows { (state : State) (operation : Operation) (attempt : ℕ) → StepsOn (at_roots state heap.old.heap roots.old) (for_task task attempt (mark_of roots.old task) work.old.swap.read.access operation) (line.Copy (copy.Complete (complete_of complete work.old.swap.read root_seen))) (snap_line work.new.swap.read None self.new) work.new.swap.read.at line_behind result }
+        ensures follows { (state : State) (operation : Operation) (attempt : ℕ) →
+            StepsOn (at_roots state heap.old.heap roots.old) (for_task task attempt (mark_of roots.old task) work.old.swap.read.access operation)
+            (line.Copy (copy.Complete (complete_of complete work.old.swap.read root_seen))) (snap_line work.new.swap.read None self.new) work.new.swap.read.at line_behind
+            result }
         ensures acts { (private : List ARef) → ActsInAll heap.old roots.old.roots private (complete_action (complete_of complete work.old.swap.read root_seen)) heap.new roots.new.roots private }
         ensures table { roots.new ≡ completed_at roots.old task.handle complete.offer complete.at }
-        ensures same { (self.new.attempt ≡ self.old.attempt) × (self.new.generation ≡ self.old.generation) × (work.new.private ≡ work.old.private) × (work.new.swap.read.access ≡ work.old.swap.read.access) }
+        ensures same { (self.new.attempt ≡ self.old.attempt) × (self.new.generation ≡ self.old.generation) × (work.new.private ≡ work.old.private)
+            × (work.new.swap.read.access ≡ work.old.swap.read.access) }
         ensures asks { IsAskingRoot result → (self.new ≡ record self.old { at = SnapAt.Complete complete }) × (work.new ≡ work.old) × (roots.new ≡ roots.old) × (heap.new ≡ heap.old) }
+        ensures stands { ReadsFor result self.new work.new.swap.read }
     {
         let was_marked = roots.is_marked(task.actor);
         let mut complete = complete;
@@ -336,48 +294,6 @@ impl Snap {
                 self.at = SnapAt::Root(ReadRoot::Read);
                 Next::More(kind)
             }
-        }
-    }
-}
-
-/// What is made first, over this main node of the root.
-fn first_making(call: SnapCall, main: Ref) -> Making
-    ensures { (handle : ℕ) (root : ARef) → line.Copy (making_line root result) ≡ after_given (call_of handle call) root main }
-{
-    match call {
-        SnapCall::Clear => Making::Empty { main },
-        SnapCall::Snapshot | SnapCall::Freeze => Making::Successor { main },
-    }
-}
-
-/// The node that is to be made; a new root is of this generation.
-fn node_of(making: &Making, generation: u64) -> Node
-    ensures { result ≡ made_node generation making.now }
-{
-    match making {
-        Making::Successor { main } | Making::Second { main, .. } => {
-            Node::Indirection {
-                generation,
-                main: *main,
-            }
-        }
-        Making::Empty { .. } => renewed(0, &[]),
-        Making::Cleared { branch, .. } => Node::Indirection {
-            generation,
-            main: *branch,
-        },
-    }
-}
-
-/// A new root has drawn a generation.
-fn draw(generations: &mut u64, making: &Making)
-    requires { generations.old < 2 ^ 64 - 1 }
-    ensures { (heap : Store) (root made : ARef) → next_ref heap ≡ Some made → generations.new ≡ drawn_by heap generations.old (copy_action (making_line root making.now)) }
-{
-    match making {
-        Making::Empty { .. } => {}
-        Making::Successor { .. } | Making::Second { .. } | Making::Cleared { .. } => {
-            *generations += 1;
         }
     }
 }

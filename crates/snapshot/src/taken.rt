@@ -1,7 +1,7 @@
 //! The pairs that a walk has met.
 
 ghost use Rattle.std.specs.Prelude.{◌≡◌, ◌++◌, ◌∷◌, [], length, IfOk, OnOk, OnErr};
-ghost use Rattle.machine_model.specs.Pairs.{by_key};
+ghost use Rattle.snapshot.specs.Beneath.machine_model.specs.Pairs.{by_key};
 
 use history::Pairs;
 use std::alloc::{AllocError, Global};

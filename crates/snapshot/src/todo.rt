@@ -1,7 +1,7 @@
 //! The entries that a walk has still to look at.
 
 ghost use Rattle.std.specs.Prelude.{◌≡◌, ◌++◌, ◌≤◌, [], reverse, take, drop, length, OnOk, OnErr};
-ghost use Rattle.machine_model.specs.Walking.{first_of, rest_of};
+ghost use Rattle.snapshot.specs.Beneath.machine_model.specs.Walking.{first_of, rest_of};
 ghost use Rattle.snapshot.specs.Walks.{is_none_left};
 
 use slot_arena::Ref;

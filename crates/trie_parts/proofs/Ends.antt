@@ -3,16 +3,16 @@ use Rattle.std.specs.Prelude.{◌≡◌, Bool, None, refl}
 use Rattle.slot_arena.specs.declared.refs.Ref.{Ref}
 use Rattle.slot_arena.specs.Heaps.{Heap, no_ref}
 use Rattle.history.specs.declared.calls.Access.{Access}
-use Rattle.machine_model.specs.declared.reading.After.{After}
-use Rattle.machine_model.specs.declared.reading.After.TheVariants.{Goes, Gives}
-use Rattle.machine_model.specs.declared.reading.ReadLine.{ReadLine}
-use Rattle.machine_model.specs.declared.reading.Swap.{Swap as Defined}
-use Rattle.machine_model.specs.declared.reading.SwapLine.{SwapLine}
-use Rattle.machine_model.specs.declared.reading.SwapLine.TheVariants as swap
-use Rattle.machine_model.specs.declared.roots.RootWord.TheVariants.{Plain}
-use Rattle.machine_model.specs.Operations.{swapping_read}
-use Rattle.machine_model.specs.Reading.{read_after}
-use Rattle.machine_model.specs.Swapping.{after_deciding, on_line}
+use Rattle.trie_parts.specs.Beneath.machine_model.specs.declared.reading.After.{After}
+use Rattle.trie_parts.specs.Beneath.machine_model.specs.declared.reading.After.TheVariants.{Goes, Gives}
+use Rattle.trie_parts.specs.Beneath.machine_model.specs.declared.reading.ReadLine.{ReadLine}
+use Rattle.trie_parts.specs.Beneath.machine_model.specs.declared.reading.Swap.{Swap as Defined}
+use Rattle.trie_parts.specs.Beneath.machine_model.specs.declared.reading.SwapLine.{SwapLine}
+use Rattle.trie_parts.specs.Beneath.machine_model.specs.declared.reading.SwapLine.TheVariants as swap
+use Rattle.trie_parts.specs.Beneath.machine_model.specs.declared.roots.RootWord.TheVariants.{Plain}
+use Rattle.trie_parts.specs.Beneath.machine_model.specs.Operations.{swapping_read}
+use Rattle.trie_parts.specs.Beneath.machine_model.specs.Reading.{read_after}
+use Rattle.trie_parts.specs.Beneath.machine_model.specs.Swapping.{after_deciding, on_line}
 use Rattle.gcas.specs.declared.next.Next.{Next}
 use Rattle.gcas.specs.declared.next.Next.TheVariants.{More, AskRoot, Done}
 use Rattle.gcas.specs.declared.swap.Swap.{Swap}

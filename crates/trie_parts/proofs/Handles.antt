@@ -1,6 +1,6 @@
 -- What a call on one key says doesn't depend on its handle.
 use Rattle.std.specs.Prelude.{◌≡◌, ℕ, refl}
-use Rattle.machine_model.specs.Calls.{handle_of, key_of, value_of}
+use Rattle.trie_parts.specs.Beneath.machine_model.specs.Calls.{handle_of, key_of, value_of}
 use Rattle.trie_parts.specs.declared.calls.KeyCall.{KeyCall}
 use Rattle.trie_parts.specs.declared.calls.KeyCall.TheVariants.{Get, Put, PutIfAbsent, Replace, ReplaceIf, Remove, RemoveIf}
 use Rattle.trie_parts.specs.Tasks.{call_of}

@@ -2,14 +2,14 @@
 use Rattle.std.specs.Prelude.{◌≡◌, ℕ, List, refl}
 use Rattle.slot_arena.specs.declared.refs.Ref.{Ref}
 use Rattle.slot_arena.specs.Heaps.{Heap}
-use Rattle.machine_model.specs.declared.reading.ReadLine.{ReadLine}
-use Rattle.machine_model.specs.declared.reading.ReadLine.TheVariants as read
-use Rattle.machine_model.specs.declared.reading.SwapLine.{SwapLine}
-use Rattle.machine_model.specs.declared.reading.SwapLine.TheVariants as swap
-use Rattle.machine_model.specs.Reading.{read_action}
-use Rattle.machine_model.specs.Swapping.{action_at}
-use Rattle.machine_model.specs.Acting.{private_after}
-use Rattle.machine_model.specs.States.{State}
+use Rattle.trie_parts.specs.Beneath.machine_model.specs.declared.reading.ReadLine.{ReadLine}
+use Rattle.trie_parts.specs.Beneath.machine_model.specs.declared.reading.ReadLine.TheVariants as read
+use Rattle.trie_parts.specs.Beneath.machine_model.specs.declared.reading.SwapLine.{SwapLine}
+use Rattle.trie_parts.specs.Beneath.machine_model.specs.declared.reading.SwapLine.TheVariants as swap
+use Rattle.trie_parts.specs.Beneath.machine_model.specs.Reading.{read_action}
+use Rattle.trie_parts.specs.Beneath.machine_model.specs.Swapping.{action_at}
+use Rattle.trie_parts.specs.Beneath.machine_model.specs.Acting.{private_after}
+use Rattle.trie_parts.specs.Beneath.machine_model.specs.States.{State}
 use Rattle.trie_parts.specs.Holding.{remarked}
 
 pub read_privates : (state : State) (private : List Ref) (indirection : Ref) (line : ReadLine) → private ≡ private_after state private (read_action indirection line)

@@ -5,9 +5,9 @@ use Rattle.ctrie_base.specs.declared.hashes.HashKind.TheVariants.{Low}
 use Rattle.history.specs.declared.calls.Access.TheVariants.{ReadOnly}
 use Rattle.history.specs.declared.calls.Call.TheVariants.{Get}
 use Rattle.slot_arena.specs.Heaps.{Heap}
-use Rattle.machine_model.specs.declared.lines.Line.TheVariants.{Impossible}
-use Rattle.machine_model.specs.declared.operations.Operation.{Operation}
-use Rattle.machine_model.specs.States.{State}
+use Rattle.trie_parts.specs.Beneath.machine_model.specs.declared.lines.Line.TheVariants.{Impossible}
+use Rattle.trie_parts.specs.Beneath.machine_model.specs.declared.operations.Operation.{Operation}
+use Rattle.trie_parts.specs.Beneath.machine_model.specs.States.{State}
 
 -- the state, whatever else it has, with this heap and these hashes
 abbrev pub at_heap : State → Heap → HashKind → State

@@ -6,9 +6,9 @@ use Rattle.slot_arena.specs.Arenas.{IsLive}
 use Rattle.slot_arena.specs.Ticking.{TakesUpTo}
 use Rattle.slot_arena.specs.Times.{times}
 use Rattle.epochs.specs.Memories.{Memory, KeepsEpochs, cleared}
-use Rattle.machine_model.specs.declared.actions.Action.{Action}
-use Rattle.machine_model.specs.declared.actions.Action.TheVariants as act
-use Rattle.machine_model.specs.Acting.{private_after}
+use Rattle.trie_parts.specs.Beneath.machine_model.specs.declared.actions.Action.{Action}
+use Rattle.trie_parts.specs.Beneath.machine_model.specs.declared.actions.Action.TheVariants as act
+use Rattle.trie_parts.specs.Beneath.machine_model.specs.Acting.{private_after}
 use Rattle.gcas.specs.Acted.{acted_heap}
 use Rattle.trie_parts.specs.Here.{at_heap, no_state}
 use Rattle.ctrie_base.specs.declared.hashes.HashKind.TheVariants.{Low}

@@ -1,3 +1,4 @@
+pub mod Beneath
 pub mod Holding
 pub mod Here
 pub mod Steps

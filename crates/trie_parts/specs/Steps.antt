@@ -6,14 +6,14 @@ use Rattle.slot_arena.specs.declared.nodes.Node.{Node}
 use Rattle.slot_arena.specs.Heaps.{Heap, refs_of_node}
 use Rattle.slot_arena.specs.Arenas.{AreLive}
 use Rattle.history.specs.declared.calls.Access.{Access}
-use Rattle.machine_model.specs.declared.lines.Line.{Line}
-use Rattle.machine_model.specs.declared.operations.Operation.{Operation}
-use Rattle.machine_model.specs.declared.reading.After.TheVariants.{Goes, Gives}
-use Rattle.machine_model.specs.declared.reading.Read.{Read}
-use Rattle.machine_model.specs.declared.roots.RootWord.{RootWord}
-use Rattle.machine_model.specs.Reading.{read_action, read_after, at_indirection}
-use Rattle.machine_model.specs.Operations.{kind_of, line_action, line_after, read_of}
-use Rattle.machine_model.specs.States.{State}
+use Rattle.trie_parts.specs.Beneath.machine_model.specs.declared.lines.Line.{Line}
+use Rattle.trie_parts.specs.Beneath.machine_model.specs.declared.operations.Operation.{Operation}
+use Rattle.trie_parts.specs.Beneath.machine_model.specs.declared.reading.After.TheVariants.{Goes, Gives}
+use Rattle.trie_parts.specs.Beneath.machine_model.specs.declared.reading.Read.{Read}
+use Rattle.trie_parts.specs.Beneath.machine_model.specs.declared.roots.RootWord.{RootWord}
+use Rattle.trie_parts.specs.Beneath.machine_model.specs.Reading.{read_action, read_after, at_indirection}
+use Rattle.trie_parts.specs.Beneath.machine_model.specs.Operations.{kind_of, line_action, line_after, read_of}
+use Rattle.trie_parts.specs.Beneath.machine_model.specs.States.{State}
 use Rattle.gcas.specs.declared.next.Next.{Next}
 use Rattle.gcas.specs.declared.next.Next.TheVariants.{More, AskRoot, Done}
 use Rattle.gcas.specs.declared.read.Read.{Read as Running}

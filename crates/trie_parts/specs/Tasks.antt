@@ -4,8 +4,8 @@ use Rattle.std.specs.Option.{option_eq}
 use Rattle.history.specs.declared.calls.Access.{Access}
 use Rattle.history.specs.declared.calls.Call.{Call}
 use Rattle.history.specs.declared.calls.Call.TheVariants as calls
-use Rattle.machine_model.specs.declared.operations.Operation.{Operation}
-use Rattle.machine_model.specs.Calls.{handle_of}
+use Rattle.trie_parts.specs.Beneath.machine_model.specs.declared.operations.Operation.{Operation}
+use Rattle.trie_parts.specs.Beneath.machine_model.specs.Calls.{handle_of}
 use Rattle.trie_parts.specs.declared.calls.KeyCall.{KeyCall}
 use Rattle.trie_parts.specs.declared.calls.KeyCall.TheVariants.{Get, Put, PutIfAbsent, Replace, ReplaceIf, Remove, RemoveIf}
 use Rattle.trie_parts.specs.declared.calls.Task.{Task}

@@ -3,8 +3,8 @@
 ghost use Rattle.std.specs.Prelude.{◌≡◌, ◌<◌, ℕ, unwrap_or};
 ghost use Rattle.ctrie_base.specs.Hashes.{hash_of};
 ghost use Rattle.nodes.specs.Levels.{flag_of};
-ghost use Rattle.machine_model.specs.Calls.{key_of, value_of};
-ghost use Rattle.machine_model.specs.Paths.{depth_of};
+ghost use Rattle.trie_parts.specs.Beneath.machine_model.specs.Calls.{key_of, value_of};
+ghost use Rattle.trie_parts.specs.Beneath.machine_model.specs.Paths.{depth_of};
 ghost use Rattle.trie_parts.specs.Tasks.{call_of, is_begun_in};
 
 use crate::levels::flag_of;

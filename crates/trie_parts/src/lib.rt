@@ -16,9 +16,10 @@ mod private;
 mod work;
 
 pub use calls::{KeyCall, Task};
+pub use gcas::{Change, Descriptor, Next, Read, Root, RootWord, Site, Swap, generation_at};
 pub use levels::{flag_of, index_in, parting};
 pub use looking::{bitmap_at, entries_at, entry_at, entry_count, is_single_at, key_at, node_at};
 pub use made::{changed_at, contracted, contracted_at, pair, renewed, rung};
 pub use paths::{above, current, depth_of, is_below_root};
-pub use private::{Private, keep};
+pub use private::{Private, keep, release_all};
 pub use work::Work;

@@ -3,8 +3,8 @@
 
 ghost use Rattle.std.specs.Prelude.{◌≡◌, length, option_map, unwrap_or};
 ghost use Rattle.slot_arena.specs.Heaps.{node_at, node_of, entries_of, entry_at, bitmap_of, empty_branch};
-ghost use Rattle.machine_model.specs.Building.{key_in};
-ghost use Rattle.machine_model.specs.Cleaning.{is_single};
+ghost use Rattle.trie_parts.specs.Beneath.machine_model.specs.Building.{key_in};
+ghost use Rattle.trie_parts.specs.Beneath.machine_model.specs.Cleaning.{is_single};
 
 use epochs::Heap;
 use slot_arena::{Node, Ref};

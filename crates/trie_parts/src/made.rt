@@ -3,14 +3,14 @@
 ghost use Rattle.std.specs.Prelude.{◌≡◌, ◌<◌, ◌++◌, slice_set};
 ghost use Rattle.slot_arena.specs.Heaps.{bitmap_of, entries_of, node_at};
 ghost use Rattle.nodes.specs.Builders.{renewed, contracted, by_index, pair, rung};
-ghost use Rattle.machine_model.specs.Building.{changed_branch, changed_list, changed};
+ghost use Rattle.trie_parts.specs.Beneath.machine_model.specs.Building.{changed_branch, changed_list, changed};
 
 use crate::entries::{entries_from, entries_from_parts, with_inserted, with_replaced, without};
 use crate::levels::{flag_of, index_in};
 use crate::looking::{bitmap_at, entries_at, node_at};
 use ctrie_base::HashKind;
 use epochs::Heap;
-use machine_model::Change;
+use gcas::Change;
 use nodes::{list_depth, position_of};
 use slot_arena::{Node, Ref};
 

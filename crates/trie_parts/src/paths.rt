@@ -1,7 +1,7 @@
 //! Paths: the indirections from the root down; the last is the current one.
 
 ghost use Rattle.std.specs.Prelude.{◌≡◌};
-ghost use Rattle.machine_model.specs.Paths.{current, above, is_below_root, depth_of};
+ghost use Rattle.trie_parts.specs.Beneath.machine_model.specs.Paths.{current, above, is_below_root, depth_of};
 
 use slot_arena::Ref;
 

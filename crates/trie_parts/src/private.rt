@@ -5,8 +5,8 @@ ghost use Rattle.slot_arena.specs.Heaps.{refs_of_node, next_ref, taken};
 ghost use Rattle.slot_arena.specs.Arenas.{IsLive, AreLive};
 ghost use Rattle.slot_arena.specs.Ticking.{TakesUpTo};
 ghost use Rattle.epochs.specs.Memories.{KeepsEpochs, KeepsRemarks, cleared};
-ghost use Rattle.machine_model.specs.Acting.{with_made};
-ghost use Rattle.machine_model.specs.declared.actions.Action.TheVariants as act;
+ghost use Rattle.trie_parts.specs.Beneath.machine_model.specs.Acting.{with_made};
+ghost use Rattle.trie_parts.specs.Beneath.machine_model.specs.declared.actions.Action.TheVariants as act;
 ghost use Rattle.trie_parts.specs.Holding.{Acts, AreHeld, KeepsOthers};
 
 use epochs::Heap;
@@ -104,7 +104,7 @@ pub fn keep(items: &mut Vec<Ref>, at: Ref)
 }
 
 /// Releases each of these references once.
-fn release_all(heap: &mut Heap, held: &[Ref])
+pub fn release_all(heap: &mut Heap, held: &[Ref])
     requires held { AreHeld held.now heap.old }
     ensures heap { heap.new.heap ≡ heap.old.heap }
     ensures others { KeepsOthers held.now heap.old [] heap.new }

@@ -29,7 +29,7 @@ use Rattle.script_text.specs.Threads.Reading.{Reading, thread_dialect, thread_fo
 use Rattle.script_text.specs.Threads.Grammar.{command_from, as_script, LineFits, FitsThreads}
 use Rattle.script_text.specs.Views.{read}
 use Rattle.script_text.proofs.Threads.Found.{as_progress}
-use Rattle.script_text.proofs.Few.{at_ok}
+use Rattle.text_lines.proofs.Whole.{at_ok}
 
 -- ---- a line behind the header
 

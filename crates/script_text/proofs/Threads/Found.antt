@@ -28,7 +28,7 @@ use Rattle.script_text.specs.Scripts.{Progress, Start, Sized, Hashed, InLines, w
 use Rattle.script_text.specs.Threads.Reading.{Reading, thread_dialect, thread_format, thread_script_of}
 use Rattle.script_text.specs.Threads.Grammar.{command_from, as_script, LineFits, FitsThreads}
 use Rattle.script_text.specs.Views.{read}
-use Rattle.script_text.proofs.Few.{at_ok}
+use Rattle.text_lines.proofs.Whole.{at_ok}
 
 -- what the lines so far have said, as those of any script
 abbrev pub as_progress : Progress ThreadLine → Progress Command

@@ -22,7 +22,17 @@ loop-at-preserved c = record {
     c.loop-at.invariant.outside r,
     times_more r c.args.refs.now c.loop-at.at-index c.at-item.result c.loop-at-test.true c.at-item.is,
   );
-  keeps = kept_on (c.loop-at.at-index + 1) c.loop-at.invariant.keeps (record { heap = c.hold.ensures.heap; epochs = c.hold.ensures.epochs; remarks = c.hold.ensures.remarks; few = c.hold.ensures.few; ticks = (omega (arith, c.hold.ensures.ticks), omega (arith, c.hold.ensures.ticks)) }) (omega arith);
+  keeps = kept_on
+      (c.loop-at.at-index + 1)
+      c.loop-at.invariant.keeps
+      (record {
+        heap = c.hold.ensures.heap;
+        epochs = c.hold.ensures.epochs;
+        remarks = c.hold.ensures.remarks;
+        few = c.hold.ensures.few;
+        ticks = (omega (arith, c.hold.ensures.ticks), omega (arith, c.hold.ensures.ticks));
+      })
+      (omega arith);
 }
 
 pub returns : goal.returns

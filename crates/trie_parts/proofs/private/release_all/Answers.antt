@@ -14,7 +14,10 @@ pub loop-at-preserved : goal.loop-at-preserved
 loop-at-preserved c =
     let at = c.at-item.result in
     let i = c.loop-at.at-index in
-    let some : 0 < times at c.loop-at.heap.outside = omega (arith, c.loop-at.invariant.others at, c.requires.held at, times_more at c.args.held.now i at c.loop-at-test.true c.at-item.is, once_same at, times_part at c.args.held.now (i + 1)) in
+    let more = times_more at c.args.held.now i at c.loop-at-test.true c.at-item.is in
+    let some : 0 < times at c.loop-at.heap.outside =
+    omega (arith, c.loop-at.invariant.others at, c.requires.held at, more, once_same at, times_part at c.args.held.now (i + 1))
+    in
     record {
       heap = c.release.ensures.heap ∙ c.loop-at.invariant.heap;
       others = λ r. omega (

@@ -1,8 +1,8 @@
 use Rattle.std.specs.Prelude.{[], None, refl}
 use Rattle.std.proofs.Common.{ap, ◌∙◌}
-use Rattle.machine_model.specs.declared.lines.Line.TheVariants as line
-use Rattle.machine_model.specs.declared.repairs.CleanLine.TheVariants as clean
-use Rattle.machine_model.specs.Cleaning.{clean_next, clean_after_main}
+use Rattle.contract.specs.Beneath.machine_model.specs.declared.lines.Line.TheVariants as line
+use Rattle.contract.specs.Beneath.machine_model.specs.declared.repairs.CleanLine.TheVariants as clean
+use Rattle.contract.specs.Beneath.machine_model.specs.Cleaning.{clean_next, clean_after_main}
 use Rattle.trie_parts.specs.Here.{at_heap}
 use Rattle.contract.specs.Cleaning.{clean_line}
 use Rattle.contract.proofs.Looks.{looked}

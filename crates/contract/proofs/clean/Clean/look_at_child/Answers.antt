@@ -1,8 +1,8 @@
 use Rattle.std.specs.Prelude.{◌∷◌, ◌++◌, [], None, refl}
 use Rattle.std.proofs.lemmas.Result.{MatchResult-weaker}
-use Rattle.machine_model.specs.declared.lines.Line.TheVariants as line
-use Rattle.machine_model.specs.declared.repairs.CleanLine.TheVariants as clean
-use Rattle.machine_model.specs.Cleaning.{clean_next}
+use Rattle.contract.specs.Beneath.machine_model.specs.declared.lines.Line.TheVariants as line
+use Rattle.contract.specs.Beneath.machine_model.specs.declared.repairs.CleanLine.TheVariants as clean
+use Rattle.contract.specs.Beneath.machine_model.specs.Cleaning.{clean_next}
 use Rattle.trie_parts.specs.Here.{at_heap}
 use Rattle.contract.specs.Cleaning.{clean_line}
 use Rattle.contract.proofs.Looks.{looked}
@@ -15,6 +15,7 @@ returns-clause-follows c =
     MatchResult-weaker c.put.result c.put.ensures.follows
     (λ next told state hashes operation path s place.
     let here = at_heap state c.args.heap.now.heap hashes in
-    looked here operation (line.Clean (clean.Tomb path main done c.args.child)) (clean_next here path main (done ++ c.kept-entry.result ∷ [])) (clean_line path s None c.put.new.self) place next refl refl
+    looked here operation (line.Clean (clean.Tomb path main done c.args.child)) (clean_next here path main (done ++ c.kept-entry.result ∷ []))
+    (clean_line path s None c.put.new.self) place next refl refl
     (rw (← c.as_slice.ensures) (c.kept-entry.ensures state hashes path)) (told state hashes path s))
     (λ refusal told. told)

@@ -2,9 +2,9 @@ use Rattle.std.specs.Prelude.{◌≡◌, ◌∷◌, ◌++◌, [], length, None, 
 use Rattle.std.proofs.Common.{◌∙◌}
 use Rattle.std.proofs.lemmas.Result.{MatchResult-weaker}
 use Rattle.slot_arena.specs.Heaps.{entry_at}
-use Rattle.machine_model.specs.declared.lines.Line.TheVariants as line
-use Rattle.machine_model.specs.declared.repairs.CleanLine.TheVariants as clean
-use Rattle.machine_model.specs.Cleaning.{clean_next}
+use Rattle.contract.specs.Beneath.machine_model.specs.declared.lines.Line.TheVariants as line
+use Rattle.contract.specs.Beneath.machine_model.specs.declared.repairs.CleanLine.TheVariants as clean
+use Rattle.contract.specs.Beneath.machine_model.specs.Cleaning.{clean_next}
 use Rattle.trie_parts.specs.Here.{at_heap}
 use Rattle.contract.specs.Cleaning.{clean_line}
 use Rattle.contract.proofs.Looks.{looked, single_kept}

@@ -1,13 +1,13 @@
 use Rattle.std.specs.Prelude.{◌≡◌, true, false, refl}
 use Rattle.std.proofs.Common.{◌∙◌, ap, sym}
 use Rattle.slot_arena.specs.Heaps.{generation_at}
-use Rattle.machine_model.specs.declared.reading.After.TheVariants.{Gives}
-use Rattle.machine_model.specs.declared.repairs.Climb.{Climb}
-use Rattle.machine_model.specs.Climbing.{climb_after_root}
+use Rattle.operate.specs.Beneath.machine_model.specs.declared.reading.After.TheVariants.{Gives}
+use Rattle.operate.specs.Beneath.machine_model.specs.declared.repairs.Climb.{Climb}
+use Rattle.operate.specs.Beneath.machine_model.specs.Climbing.{climb_after_root}
 use Rattle.trie_parts.specs.Here.{at_heap}
 use Rattle.trie_parts.specs.Tasks.{for_task, is_begun_in}
-use Rattle.rdcss_root.specs.Programs.{root_of}
-use Rattle.rdcss_root.specs.Tables.{word_in}
+use Rattle.operate.specs.Beneath.rdcss_root.specs.Programs.{root_of}
+use Rattle.operate.specs.Beneath.rdcss_root.specs.Tables.{word_in}
 use Rattle.operate.proofs.Rooting.{came, unread}
 use Rattle.operate.proofs.key_op.KeyOp.find_root_again.Goals as goal
 

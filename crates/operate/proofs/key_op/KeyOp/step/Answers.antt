@@ -1,5 +1,5 @@
 use Rattle.std.proofs.lemmas.Result.{MatchResult-weaker}
-use Rattle.rdcss_root.proofs.Together.{by_parts}
+use Rattle.operate.specs.Beneath.rdcss_root.proofs.Together.{by_parts}
 use Rattle.operate.proofs.key_op.KeyOp.step.Goals as goal
 
 pub returns-in-Root-clause-acts : goal.returns-in-Root-clause-acts

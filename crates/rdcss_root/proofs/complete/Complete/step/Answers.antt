@@ -1,4 +1,4 @@
-use Rattle.gcas.specs.Reads.{line_of}
+use Rattle.rdcss_root.specs.Beneath.gcas.specs.Reads.{line_of}
 use Rattle.rdcss_root.specs.Tables.{word_in}
 use Rattle.rdcss_root.proofs.Together.{by_read, by_swap}
 use Rattle.rdcss_root.proofs.complete.Complete.step.Goals as goal

@@ -16,7 +16,7 @@ returns c =
           c.step-kind.result
           c.requires.asks
           c.requires.untold
-      c.requires.begun
+          c.requires.begun
           c.step-kind.ensures.follows
           c.step-kind.ensures.table
           (c.step-kind.ensures.acts c.args.self.now.key.work.private)

@@ -1,32 +1,53 @@
-use Rattle.std.specs.Prelude.{◌≡◌, None, refl}
-use Rattle.rdcss_root.specs.Tables.{word_in}
+use Rattle.std.specs.Prelude.{◌≡◌, ℕ, Option, None, refl}
+use Rattle.std.proofs.Common.{sym, subst}
+use Rattle.epochs.specs.Memories.{Memory}
+use Rattle.rdcss_root.specs.Tables.{Table, word_in}
+use Rattle.trie_parts.specs.declared.calls.KeyCall.{KeyCall}
 use Rattle.trie_parts.specs.Here.{no_operation}
 use Rattle.trie_parts.specs.Steps.{IsAskingLine}
+use Rattle.operate.specs.declared.key_op.KeyOp.{KeyOp}
 use Rattle.operate.specs.Places.{key_line}
 use Rattle.operate.proofs.Wherever.{untold}
+use Rattle.running.specs.declared.job.Job.{Job}
+use Rattle.running.specs.declared.job.Program.TheVariants.{Key}
+use Rattle.running.specs.declared.programs.Programs.{Programs}
 use Rattle.running.specs.declared.programs.Stage.TheVariants.{Runs, Answered}
+use Rattle.running.specs.declared.taken.Taken.{Taken}
+use Rattle.running.specs.Steps.{Does, Scene, scene}
 use Rattle.running.proofs.Going.{keys, with_word}
 use Rattle.running.proofs.programs.Programs.change_key.Goals as goal
+
+-- where the call asks nothing has changed
+asked : (job : Job) (call : KeyCall) (told : Option ℕ) (generation : ℕ) (p : Programs) (key : KeyOp) (heap heap' : Memory) (roots roots' : Table) (taken : Taken) (after : Scene) →
+    key ≡ p.key → roots' ≡ roots → heap' ≡ heap → told ≡ None →
+    Does job (Key call) (key_line key None) (scene heap' roots' generation (record p { key = key })) taken after →
+    Does job (Key call) (key_line p.key told) (scene heap roots generation p) taken after
+asked job call told generation p key heap heap' roots roots' taken after same words memory none does =
+    subst (λ (t : Option ℕ). Does job (Key call) (key_line p.key t) (scene heap roots generation p) taken after) (sym none)
+    (subst (λ (m : Memory). Does job (Key call) (key_line p.key None) (scene m roots generation p) taken after) memory
+    (subst (λ (t : Table). Does job (Key call) (key_line p.key None) (scene heap' t generation p) taken after) words
+    (subst (λ (k : KeyOp). Does job (Key call) (key_line k None) (scene heap' roots' generation (record p { key = k })) taken after) same does)))
 
 pub ask-requires-clause-asks : goal.ask-requires-clause-asks
 unfolding with_word
 ask-requires-clause-asks c =
     let p = c.args.self.now in
     let asking : IsAskingLine (key_line p.key c.args.told) =
-        (rw c.in-AskRoot.is at c.in_ok-kind.ensures.follows) (with_word (word_in c.args.roots.now c.args.job.handle)) no_operation refl in
+    (rw c.in-AskRoot.is at c.in_ok-kind.ensures.follows) (with_word (word_in c.args.roots.now c.args.job.handle)) no_operation refl in
     let same = (rw c.in-AskRoot.is at c.in_ok-kind.ensures.asks) (tt {0}) in
     let none : c.args.told ≡ None = untold p.key c.args.told asking in
-    rw same.0 (rw none at asking)
+    subst (λ (k : KeyOp). IsAskingLine (key_line k None)) (sym same.0) (subst (λ (t : Option ℕ). IsAskingLine (key_line p.key t)) none asking)
 
 pub returns-in-AskRoot-clause-does : goal.returns-in-AskRoot-clause-does
 unfolding with_word
 returns-in-AskRoot-clause-does c =
     let p = c.args.self.now in
     let asking : IsAskingLine (key_line p.key c.args.told) =
-        (rw c.in-AskRoot.is at c.in_ok-kind.ensures.follows) (with_word (word_in c.args.roots.now c.args.job.handle)) no_operation refl in
+    (rw c.in-AskRoot.is at c.in_ok-kind.ensures.follows) (with_word (word_in c.args.roots.now c.args.job.handle)) no_operation refl in
     let same = (rw c.in-AskRoot.is at c.in_ok-kind.ensures.asks) (tt {0}) in
-    let none : c.args.told ≡ None = untold p.key c.args.told asking in
-    rw none (rw (same.0, same.1, same.2) at c.ask.ensures.does)
+    asked c.args.job c.args.call c.args.told c.args.generation p c.step.new.self c.args.heap.now c.step.new.heap c.args.roots.now c.step.new.roots c.ask.result
+    (record { memory = c.ask.new.heap; table = c.ask.new.roots; generation = c.args.generation; programs = c.ask.new.self })
+    same.0 same.1 same.2 (untold p.key c.args.told asking) c.ask.ensures.does
 
 pub returns-in-More-clause-does : goal.returns-in-More-clause-does
 returns-in-More-clause-does c =

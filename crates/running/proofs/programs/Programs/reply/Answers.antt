@@ -3,7 +3,8 @@ use Rattle.std.proofs.Common.{sym, ap, subst}
 use Rattle.history.specs.declared.replies.Reply.TheVariants as reply
 use Rattle.running.specs.declared.programs.Stage.{Stage}
 use Rattle.running.specs.declared.programs.Stage.TheVariants.{Listed, Counted}
-use Rattle.running.specs.Places.{answer_of, asking_line}
+use Rattle.operate.specs.Places.{answer_of}
+use Rattle.running.specs.Places.{asking_line}
 use Rattle.running.proofs.Answering.{ends}
 use Rattle.running.proofs.programs.Programs.reply.Goals as goal
 

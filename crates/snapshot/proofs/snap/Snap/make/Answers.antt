@@ -14,4 +14,4 @@ returns-in-Some-clause-follows c =
     _
     _
     (sym c.in-Some.is ∙ c.in_ok-make.ensures.made)
-    (c.after_made-at.ensures operation access mark _)
+    (c.after_made-at.ensures.line operation access mark _)

@@ -1,5 +1,5 @@
-use Rattle.gcas.specs.Reads.{line_of}
-use Rattle.rdcss_root.specs.Programs.{root_of, complete_of}
+use Rattle.snapshot.specs.Beneath.gcas.specs.Reads.{line_of}
+use Rattle.snapshot.specs.Beneath.rdcss_root.specs.Programs.{root_of, complete_of}
 use Rattle.snapshot.specs.Tasks.{mark_of}
 use Rattle.snapshot.proofs.Undrawn.{of_root, of_complete, of_read, of_making}
 use Rattle.snapshot.proofs.snap.Snap.step.Goals as goal
@@ -29,7 +29,19 @@ returns-in-Read-clause-acts c =
 
 pub returns-in-Make-clause-acts : goal.returns-in-Make-clause-acts
 returns-in-Make-clause-acts c =
-    rw c.in-Make.is (of_making c.args.heap.now c.make.new.heap c.args.work.now.private c.make.new.work.private c.make.result c.args.roots.now.roots c.args.generations.now c.args.self.now.root c.in-Make.making c.make.ensures.acts)
+    rw c.in-Make.is (
+    of_making
+    c.args.heap.now
+    c.make.new.heap
+    c.args.work.now.private
+    c.make.new.work.private
+    c.make.result
+    c.args.roots.now.roots
+    c.args.generations.now
+    c.args.self.now.root
+    c.in-Make.making
+    c.make.ensures.acts
+    )
 
 pub returns-in-Offer-clause-follows : goal.returns-in-Offer-clause-follows
 returns-in-Offer-clause-follows c =

@@ -1,5 +1,5 @@
 use Rattle.std.proofs.Common.{arith, ap, ◌∙◌}
-use Rattle.machine_model.specs.Walking.{rest_of}
+use Rattle.snapshot.specs.Beneath.machine_model.specs.Walking.{rest_of}
 use Rattle.snapshot.proofs.Stacks.{popped}
 use Rattle.snapshot.proofs.todo.Todo.drop_first.Goals as goal
 

@@ -23,7 +23,9 @@ returns-then-is_first-clause-others c = λ r. elim c.match-matches.branch [
 pub returns-else-is_first-clause-last : goal.returns-else-is_first-clause-last
 returns-else-is_first-clause-last c =
     let s = c.args.self.now.swap in
+    let line = (swap_of s c.args.root_seen).line in
+    let end = ended c.args.heap.now.heap s.read.access s.read.indirection s.replaced s.fresh line c.step-next.new.self c.step-next.result in
     λ last. elim c.match-matches.branch [
-      | in-Publish w ↦ ended c.args.heap.now.heap s.read.access s.read.indirection s.replaced s.fresh (swap_of s c.args.root_seen).line c.step-next.new.self c.step-next.result (rw w.self-is at c.step-next.ensures.follows) last
-      | in_default w ↦ ended c.args.heap.now.heap s.read.access s.read.indirection s.replaced s.fresh (swap_of s c.args.root_seen).line c.step-next.new.self c.step-next.result (rw w.self-is at c.step-next.ensures.follows) last
+      | in-Publish w ↦ end (rw w.self-is at c.step-next.ensures.follows) last
+      | in_default w ↦ end (rw w.self-is at c.step-next.ensures.follows) last
     ]

@@ -1,0 +1,7 @@
+-- What lies below this crate, named through the nearest crates alone: crates.txt lists only these, since the toolchain goes along each of its paths.
+pub use Rattle.rdcss_root as rdcss_root
+pub use Rattle.rdcss_root.specs.Beneath.trie_parts as trie_parts
+pub use Rattle.rdcss_root.specs.Beneath.gcas as gcas
+pub use Rattle.rdcss_root.specs.Beneath.machine_model as machine_model
+pub use Rattle.rdcss_root.specs.Beneath.history as history
+pub use Rattle.rdcss_root.specs.Beneath.slot_arena as slot_arena

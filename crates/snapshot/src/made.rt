@@ -1,0 +1,152 @@
+//! What is made for the swap of a root: the new root, a snapshot's second one, and for a clear an empty branch.
+
+ghost use Rattle.std.specs.Prelude.{◌≡◌, ◌+◌, ◌-◌, ◌<◌, ◌^◌, None, Some, Bool, ℕ, IfOk, IfErr, OnOk, OnErr};
+ghost use Rattle.slot_arena.specs.declared.refs.Ref.{Ref as ARef};
+ghost use Rattle.slot_arena.specs.Heaps.{Heap as Store, next_ref};
+ghost use Rattle.history.specs.declared.calls.Access.{Access as AnAccess};
+ghost use Rattle.snapshot.specs.Beneath.machine_model.specs.declared.actions.Action.TheVariants as act;
+ghost use Rattle.snapshot.specs.Beneath.machine_model.specs.declared.lines.Line.TheVariants as line;
+ghost use Rattle.snapshot.specs.Beneath.machine_model.specs.declared.operations.Operation.{Operation};
+ghost use Rattle.snapshot.specs.Beneath.machine_model.specs.Copying.{after_given, copy_action, copy_after_made, offering};
+ghost use Rattle.snapshot.specs.Beneath.machine_model.specs.States.{State};
+ghost use Rattle.snapshot.specs.Beneath.gcas.specs.declared.read.Read.{Read as ARead};
+ghost use Rattle.snapshot.specs.Beneath.gcas.specs.Reads.{IsAskingRoot};
+ghost use Rattle.trie_parts.specs.Holding.{Acts, AreHeld};
+ghost use Rattle.trie_parts.specs.Steps.{StepsOn, CanMake};
+ghost use Rattle.snapshot.specs.Beneath.rdcss_root.specs.Tables.{Table};
+ghost use Rattle.snapshot.specs.Copies.{snap_line, snap_line_at, ReadsAt, ReadsFor, making_line, made_node, line_behind};
+ghost use Rattle.snapshot.specs.Tasks.{at_roots, call_of, for_task, drawn_by};
+
+use crate::snap::{Making, Snap, SnapAt};
+use crate::tasks::{SnapCall, SnapReply, SnapTask};
+use ctrie_base::{Kind, Refusal};
+use epochs::Heap;
+use root_asking::Offer;
+use slot_arena::{Node, Ref};
+use trie_parts::{Descriptor, Next, Work, renewed};
+
+impl Snap {
+    /// Makes a node. A new root draws a generation.
+    pub(crate) fn make(
+        &mut self,
+        making: &Making,
+        work: &mut Work,
+        generations: &mut u64,
+        heap: &mut Heap,
+        task: SnapTask,
+    ) -> Result<Next<SnapReply>, Refusal>
+        requires can { CanMake heap.old.heap (made_node generations.old making.now) }
+        requires held { AreHeld work.old.private heap.old }
+        requires attempts { self.old.attempt < 2 ^ 64 - 1 }
+        requires generations { generations.old < 2 ^ 64 - 1 }
+        ensures follows { IfOk result (λ next. (state : State) (operation : Operation) (table : Table) (access : AnAccess) (mark : Bool) →
+            StepsOn (at_roots state heap.old.heap table) (for_task task self.old.attempt mark access operation) (line.Copy (making_line self.old.root making.now))
+            (snap_line work.new.swap.read None self.new) work.new.swap.read.at line_behind next) }
+        ensures acts { OnOk result (Acts heap.old work.old.private (act.Make (made_node generations.old making.now)) heap.new work.new.private) }
+        ensures drawn { OnOk result (generations.new ≡ drawn_by heap.old.heap generations.old (copy_action (making_line self.old.root making.now))) }
+        ensures same { (self.new.attempt ≡ self.old.attempt) × (self.new.generation ≡ self.old.generation) × (work.new.swap ≡ work.old.swap) }
+        ensures taken { IfOk result (λ next. IsAskingRoot next → ⊥) }
+        ensures err { OnErr result ((self.new ≡ self.old) × (work.new ≡ work.old) × (generations.new ≡ generations.old) × (heap.new ≡ heap.old)) }
+        ensures only_memory { IfErr result (λ refusal. refusal ≡ Refusal.Memory) }
+        ensures stands { IfOk result (λ next. ReadsFor next self.new work.new.swap.read) }
+    {
+        match work.make(heap, node_of(making, *generations))? {
+            None => Ok(Next::Done(Kind::Make, SnapReply::NoSlots)),
+            Some(made) => {
+                draw(generations, making);
+                let at = self.after_made(making, task, made);
+                self.at = at;
+                Ok(Next::More(Kind::Make))
+            }
+        }
+    }
+
+    /// Where the program stands behind the making of a node: a writable snapshot makes a second root.
+    fn after_made(&self, making: &Making, task: SnapTask, made: Ref) -> SnapAt
+        requires { self.now.attempt < 2 ^ 64 - 1 }
+        ensures line { (operation : Operation) (access : AnAccess) (mark : Bool) (r : ARead) →
+            snap_line_at self.now.root r None result ≡ copy_after_made (for_task task self.now.attempt mark access operation) (making_line self.now.root making.now) made }
+        ensures stands { (r : ARead) → ReadsAt result r }
+    {
+        match making {
+            Making::Successor { main } => match task.call {
+                SnapCall::Snapshot => SnapAt::Make(Making::Second {
+                    main: *main,
+                    successor: made,
+                }),
+                SnapCall::Freeze => self.offering(task, *main, made, None),
+                SnapCall::Clear => self.offering(task, *main, made, None),
+            },
+            Making::Second { main, successor } => {
+                self.offering(task, *main, *successor, Some(made))
+            }
+            Making::Empty { main } => SnapAt::Make(Making::Cleared {
+                main: *main,
+                branch: made,
+            }),
+            Making::Cleared { main, .. } => self.offering(task, *main, made, None),
+        }
+    }
+
+    /// The next offer: to put the successor in the place of the root, if that one still has this main node.
+    fn offering(&self, task: SnapTask, main: Ref, successor: Ref, second: Option<Ref>) -> SnapAt
+        requires { self.now.attempt < 2 ^ 64 - 1 }
+        ensures stands { (r : ARead) → ReadsAt result r }
+        ensures line { (operation : Operation) (access : AnAccess) (mark : Bool) (r : ARead) →
+            snap_line_at self.now.root r None result ≡ offering (for_task task self.now.attempt mark access operation) self.now.root main successor second }
+    {
+        SnapAt::Offer(Offer {
+            descriptor: Descriptor {
+                operation: task.operation,
+                attempt: self.attempt + 1,
+                root: self.root,
+                expected: main,
+                successor,
+                second,
+                opens: task.opens,
+            },
+        })
+    }
+}
+
+/// What is made first, over this main node of the root.
+pub(crate) fn first_making(call: SnapCall, main: Ref) -> Making
+    ensures { (handle : ℕ) (root : ARef) → line.Copy (making_line root result) ≡ after_given (call_of handle call) root main }
+{
+    match call {
+        SnapCall::Clear => Making::Empty { main },
+        SnapCall::Snapshot | SnapCall::Freeze => Making::Successor { main },
+    }
+}
+
+/// The node that is to be made; a new root is of this generation.
+fn node_of(making: &Making, generation: u64) -> Node
+    ensures { result ≡ made_node generation making.now }
+{
+    match making {
+        Making::Successor { main } | Making::Second { main, .. } => {
+            Node::Indirection {
+                generation,
+                main: *main,
+            }
+        }
+        Making::Empty { .. } => renewed(0, &[]),
+        Making::Cleared { branch, .. } => Node::Indirection {
+            generation,
+            main: *branch,
+        },
+    }
+}
+
+/// A new root has drawn a generation.
+fn draw(generations: &mut u64, making: &Making)
+    requires { generations.old < 2 ^ 64 - 1 }
+    ensures { (heap : Store) (root made : ARef) → next_ref heap ≡ Some made → generations.new ≡ drawn_by heap generations.old (copy_action (making_line root making.now)) }
+{
+    match making {
+        Making::Empty { .. } => {}
+        Making::Successor { .. } | Making::Second { .. } | Making::Cleared { .. } => {
+            *generations += 1;
+        }
+    }
+}
