@@ -13,3 +13,5 @@ pub mod Gathering
 pub mod Levels
 pub mod Sorting
 pub mod Named
+pub mod Knows
+pub mod Kept
