@@ -1,7 +1,7 @@
 -- What the parts of a machine keep, they keep where only the heap and the count of steps change, and where an operation ends or begins.
-use Rattle.std.proofs.Common.{◌≡◌, ◌≢◌, ℕ, zero, suc, ◌+◌, ◌-◌, ◌≤◌, ◌⊎◌, inl, inr, List, [], ◌∷◌, set, map, Option, Some, None, refl, sym, ap, ◌∙◌, subst, arith}
+use Rattle.std.proofs.Common.{◌≡◌, ◌≢◌, ℕ, zero, suc, ◌+◌, ◌-◌, ◌<◌, ◌≤◌, ◌⊎◌, inl, inr, List, [], ◌∷◌, set, map, Option, Some, None, refl, sym, ap, ◌∙◌, subst, arith}
 use Rattle.std.specs.Prelude.{option_and_then, option_map, slice_get}
-use Rattle.std.proofs.lemmas.Option.{none-some, same_Some, slice_get_within}
+use Rattle.std.proofs.lemmas.Option.{none-some, slice_get-get_or}
 use Rattle.ctrie_base.specs.declared.hashes.HashKind.{HashKind}
 use Rattle.history.specs.Histories.{begun}
 use Rattle.history.proofs.Places.{at_set_cases}
@@ -114,3 +114,7 @@ replaced_seated hashes actors after i P r seats new j actor at = by (at_set_case
     by : (((j ≡ i) × (r.is ≡ actor)) ⊎ ((j ≢ i) × (slice_get actors j ≡ Some actor))) → IsSeated hashes j actor
     by (inl (here, same)) = subst (IsSeated hashes j) same (subst (λ k. IsSeated hashes k r.is) (sym here) new)
     by (inr (apart, there)) = seats j actor there
+
+-- what stands at an index within the list
+pub at_index : {X : Type 0} (xs : List X) (i : ℕ) (x : X) → i < length xs → x ≡ get_or xs i x → slice_get xs i ≡ Some x
+at_index xs i x within is = slice_get-get_or xs i x within ∙ ap Some (sym is)

@@ -15,3 +15,4 @@ pub mod Sorting
 pub mod Named
 pub mod Knows
 pub mod Kept
+pub mod Left
