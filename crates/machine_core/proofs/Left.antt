@@ -1,6 +1,6 @@
 -- What an end leaves: the state is the definition's, and all that is kept is kept.
 use Rattle.std.proofs.Common.{◌≡◌, ℕ, ◌+◌, ◌-◌, ◌≤◌, List, [], ◌∷◌, ◌++◌, set, Option, Some, None, refl, sym, ap, ◌∙◌, subst, arith, inl, inr}
-use Rattle.std.specs.Prelude.{option_map}
+use Rattle.std.specs.Prelude.{option_map, slice_get}
 use Rattle.std.proofs.lemmas.Option.{none-some, same_Some}
 use Rattle.ctrie_base.specs.declared.hashes.HashKind.{HashKind}
 use Rattle.history.specs.declared.events.Event.{Event}
@@ -27,7 +27,17 @@ use Rattle.machine_core.specs.Ties.{IsTied}
 use Rattle.machine_core.proofs.Bounded.{begun_push}
 use Rattle.machine_core.proofs.Kept.{Seat, seat_of, operation_there, replaced_seated, replaced_seen}
 use Rattle.machine_core.proofs.Knows.{offerers_over, owners_over, runs_set}
-use Rattle.machine_core.proofs.Tied.{ended_tied, operation_stands}
+use Rattle.machine_core.proofs.Tied.{ended_tied, operation_stands, private_held}
+
+-- what the operation made is held
+pub held_there : (parts : Parts) (actor : ℕ) (u : UnderWay) → under_way_of parts actor ≡ Some u → IsKept parts → (found : Actor) → slice_get parts.actors.items (actor - 1) ≡ Some found →
+    (r : Ref) → times r found.programs.key.work.private ≤ times r parts.heap.outside
+held_there parts actor u e h found here r =
+    let seat = seat_of parts actor u e in
+    let operation : Operation = operation_at parts.table seat.found.programs u in
+    let at = operation_stands (seen parts) actor operation (operation_there parts actor u seat) in
+    let same : found ≡ seat.found = same_Some found seat.found (sym here ∙ seat.at) in
+    omega (arith, private_held parts.heap parts.table.roots (seen parts).actors actor operation h.tied at r, ap (λ (x : Actor). times r x.programs.key.work.private) same)
 
 -- the parts after the end of the actor's operation
 pub record EndsAt (before after : Parts) (actor : ℕ) (u : UnderWay) (answer : Reply) : Type 0 where
