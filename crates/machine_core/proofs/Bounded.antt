@@ -148,7 +148,7 @@ epoch_after state s o after (Sweeps spent) = sweep_epoch (map pin_of state.actor
 -- ---- begins
 
 -- an event more
-begun_push : (events : List Event) (e : Event) → begun (events ++ e ∷ []) ≡ begun events + cond (is_begin e) 1 0
+pub begun_push : (events : List Event) (e : Event) → begun (events ++ e ∷ []) ≡ begun events + cond (is_begin e) 1 0
 begun_push events e =
     sum_by-append (λ x. cond (is_begin x) 1 0) events (e ∷ []) ∙ ap (λ n. begun events + n) (let one : 0 + cond (is_begin e) 1 0 ≡ cond (is_begin e) 1 0 = omega arith in one)
 

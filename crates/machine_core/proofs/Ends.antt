@@ -2,6 +2,7 @@
 use Rattle.std.proofs.Common.{◌≡◌, ℕ, ◌+◌, ◌-◌, ◌≤◌, ◌^◌, nat_le, Bool, true, false, cond, List, [], ◌∷◌, length, map, drop, slice_index_or, Option, Some, None, Ok, refl, sym, ap, ◌∙◌, subst}
 use Rattle.std.proofs.lemmas.Option.{none-some, same_Some}
 use Rattle.slot_arena.specs.declared.refs.Ref.{Ref}
+use Rattle.slot_arena.specs.declared.nodes.Slot.{Slot}
 use Rattle.slot_arena.specs.Heaps.{freed}
 use Rattle.slot_arena.proofs.Times.{times-append}
 use Rattle.epochs.specs.declared.limbo.Zeroed.{Zeroed}
@@ -14,8 +15,10 @@ use Rattle.epochs.proofs.Forgetting.{counts_alone, freed_leaves}
 use Rattle.machine_model.specs.declared.steps.Outcome.TheVariants as outcome
 use Rattle.machine_model.specs.declared.steps.Step.TheVariants as step
 use Rattle.machine_model.specs.Counting.{outside, settled}
+use Rattle.machine_model.specs.Grown.{standing}
 use Rattle.machine_model.specs.Machine.{next, is_spent, pin_of, reclaimer_of, swept_with, settled_after}
 use Rattle.machine_model.specs.States.{State}
+use Rattle.proof_memory.proofs.Heap.Under.{freed_before}
 use Rattle.rdcss_root.specs.Holds.{root_refs}
 use Rattle.machine_core.specs.Ties.{IsTied, private_refs}
 use Rattle.machine_core.proofs.Steps.{sweep_answer}
@@ -112,3 +115,17 @@ sweeps state before middle after did unspent small tied to =
     sweep_answer state unspent ∙ ap (λ d. settled_after state (swept_with state d)) (sym done)
     ∙ ap (λ l. Ok (outcome.Swept did, record state { heap = middle.heap; limbo = l; epoch = middle.epoch; cursor = middle.cursor; steps = state.steps + 1 })) (sym held)
     ∙ ap (λ x. Ok (outcome.Swept did, x)) (sym (swept_state state before middle after did to))
+
+-- what stands after it stood before
+stood_by : (pins : List (Option ℕ)) (r : Reclaimer) (due : Option Ref) (main : Ref) (slot : Slot) → standing (sweep_by pins r due).1.heap main ≡ Some slot → standing r.heap main ≡ Some slot
+stood_by pins r (Some at) main slot e = freed_before r.heap at main slot e
+stood_by pins r None main slot e = by (nat_le r.cursor (length pins)) e
+  where
+    by : (b : Bool) → standing (cond b (scanned r (is_passed r.epoch (slice_index_or pins (r.cursor - 1) None))) (advanced r)).1.heap main ≡ Some slot → standing r.heap main ≡ Some slot
+    by true e = e
+    by false e = e
+
+pub stood : (pins : List (Option ℕ)) (r : Reclaimer) (did : Swept) (after : Reclaimer) → (did, after) ≡ swept_once pins r → (main : Ref) (slot : Slot) →
+    standing after.heap main ≡ Some slot → standing r.heap main ≡ Some slot
+stood pins r did after e main slot there =
+    stood_by pins r (ripe r.epoch r.limbo) main slot (subst (λ (done : Swept × Reclaimer). standing done.1.heap main ≡ Some slot) e there)

@@ -15,3 +15,7 @@ pub mod Numbers
 pub mod Gathering
 pub mod Levels
 pub mod Sorting
+pub mod Named
+pub mod Knows
+pub mod Kept
+pub mod Left

@@ -153,6 +153,7 @@ pub record AreFirst (limits : Limits) (parts : Parts) : Type 0 where
   pub events : parts.journal.events.items ≡ []
   pub steps : parts.steps ≡ 0
   pub begun_are : parts.begun ≡ 0
+  pub slots : limits.slots ≤ parts.commits.slots
 
 none_at_first : (limits : Limits) (parts : Parts) → AreFirst limits parts → (seen parts).actors ≡ replicate limits.actors None
 none_at_first limits parts h = none_seen parts.table limits.hash parts.actors.items h.actors.idle ∙ ap (λ n. replicate n None) h.actors.many
@@ -187,4 +188,5 @@ kept_first limits parts h =
       owners = λ main replaced used pending actor operation at before l found swaps. absurd (nobody_runs (seen parts) limits.actors actor operation none found);
       generations = h.drawn ∙ sym h.generations;
       begun_are = h.begun_are ∙ sym (ap begun h.events);
+      slots = omega (arith, h.slots, ap (λ (x : Limits). x.slots) h.limits_are);
     }

@@ -1,11 +1,12 @@
 //! Actors, and on which handles their operations run.
 
-ghost use Rattle.std.specs.Prelude.{◌≡◌};
+ghost use Rattle.std.specs.Prelude.{◌≡◌, is_some};
+ghost use Rattle.std.specs.List.{list_any};
 ghost use Rattle.machine_model.specs.Machine.{is_actor, is_busy, names, runs_on};
 ghost use Rattle.machine_core.specs.Seen.{operation_seen, seen};
-ghost use Rattle.rdcss_root.specs.Tables.{Table};
 
 use crate::parts::{Actor, Parts};
+use rdcss_root::Roots;
 
 /// Whether the actor is one of the machine's.
 pub fn is_actor(parts: &Parts, actor: u8) -> bool
@@ -15,25 +16,47 @@ pub fn is_actor(parts: &Parts, actor: u8) -> bool
 }
 
 /// Whether any actor runs an operation.
-#[tactic(auto, using(crate::proofs::Mapped::any_mapped))]
 pub fn is_busy(parts: &Parts) -> bool
     ensures { result ≡ is_busy (seen parts.now) }
 {
-    parts.actors.iter().any(|actor| actor.under_way.is_some())
+    is_busy_among(&parts.table, parts.actors.as_slice())
+}
+
+/// Whether one of these actors runs an operation.
+fn is_busy_among(table: &Roots, actors: &[Actor]) -> bool
+    ensures { result ≡ list_any (λ actor. is_some (operation_seen table.now actor)) actors.now }
+{
+    actors.iter().any(|actor| runs(table, actor))
+}
+
+/// Whether the actor runs an operation.
+fn runs(_table: &Roots, actor: &Actor) -> bool
+    ensures { result ≡ is_some (operation_seen _table.now actor.now) }
+{
+    match actor.under_way {
+        None => false,
+        Some(_) => true,
+    }
 }
 
 /// Whether an operation runs whose call names this handle.
-#[tactic(auto, using(crate::proofs::Mapped::any_mapped))]
 pub fn runs_on(parts: &Parts, handle: u16) -> bool
     ensures { result ≡ runs_on (seen parts.now) handle }
 {
-    parts.actors.iter().any(|actor| names(handle, actor))
+    runs_on_among(&parts.table, handle, parts.actors.as_slice())
+}
+
+/// Whether one of these actors runs an operation whose call names this handle.
+fn runs_on_among(table: &Roots, handle: u16, actors: &[Actor]) -> bool
+    ensures { result ≡ list_any (λ actor. names handle (operation_seen table.now actor)) actors.now }
+{
+    actors.iter().any(|actor| names(table, handle, actor))
 }
 
 /// Whether the actor runs an operation whose call names this handle.
 #[tactic(auto, using(crate::proofs::Named::handle_named))]
-fn names(handle: u16, actor: &Actor) -> bool
-    ensures { (table : Table) → result ≡ names handle (operation_seen table actor.now) }
+fn names(_table: &Roots, handle: u16, actor: &Actor) -> bool
+    ensures { result ≡ names handle (operation_seen _table.now actor.now) }
 {
     match actor.under_way {
         None => false,

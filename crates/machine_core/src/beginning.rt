@@ -114,7 +114,7 @@ pub fn begin_operation(parts: &mut Parts, actor: u8, call: Call)
     let access = access_for(parts, call);
     let under_way = new_under_way(parts, actor, call);
     close_handle(parts, call);
-    let _ = parts.journal.events.push(Event::Begin {
+    parts.journal.events.push_reserved(Event::Begin {
         id: under_way.job.id,
         actor,
         call,

@@ -145,7 +145,7 @@ pub fn finish(parts: &mut Parts, actor: u8, under_way: UnderWay, reply: Reply, p
 {
     vacate(&mut parts.actors, actor as usize - 1, &mut parts.heap);
     parts.heap.unpin(actor);
-    let _ = parts.journal.events.push(Event::End {
+    parts.journal.events.push_reserved(Event::End {
         id: under_way.job.id,
         reply,
     });

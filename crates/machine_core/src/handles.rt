@@ -37,15 +37,20 @@ fn is_reserved(table: &Roots, handle: u16, actor: &Actor) -> bool
     }
 }
 
+/// Whether one of these actors' operations has reserved this handle.
+fn is_reserved_among(table: &Roots, handle: u16, actors: &[Actor]) -> bool
+    ensures { result ≡ list_any (λ actor. is_number handle (reserved_by (operation_seen table.now actor))) actors.now }
+{
+    actors
+        .iter()
+        .any(|actor| is_reserved(table, handle, actor))
+}
+
 /// Whether an operation has reserved this handle.
-#[tactic(auto, using(crate::proofs::Mapped::any_mapped))]
 fn is_reserved_by_one(parts: &Parts, handle: u16) -> bool
     ensures { result ≡ list_any (λ operation. is_number handle (reserved_by operation)) (seen parts.now).actors }
 {
-    parts
-        .actors
-        .iter()
-        .any(|actor| is_reserved(&parts.table, handle, actor))
+    is_reserved_among(&parts.table, handle, parts.actors.as_slice())
 }
 
 /// Whether the handle number is open or reserved.

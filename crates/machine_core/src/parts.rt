@@ -1,9 +1,9 @@
 //! The parts of a machine.
 
-ghost use Rattle.std.specs.Prelude.{◌≡◌, option_bind, option_map, slice_get, ◌-◌};
+ghost use Rattle.std.specs.Prelude.{◌≡◌, option_map};
 ghost use Rattle.machine_model.specs.States.{key_hash, root_at, word_at};
 ghost use Rattle.machine_model.specs.Machine.{access_of, is_running};
-ghost use Rattle.machine_core.specs.Seen.{seen};
+ghost use Rattle.machine_core.specs.Seen.{actor_of, seen};
 
 use chronicle::{Chronicle, Commits};
 use epochs::Heap;

@@ -1,7 +1,7 @@
 //! How a machine starts.
 
 ghost use Rattle.std.specs.Prelude.{◌≡◌, ◌≤◌, ◌↔◌, ℕ, IsTrue, [], ◌∷◌, replicate, None, Some, IfOk, OnOk, IsOkUnless};
-ghost use Rattle.slot_arena.specs.Arenas.{IsLive};
+ghost use Rattle.slot_arena.specs.Arenas.{AreSlots, IsLive};
 ghost use Rattle.slot_arena.specs.Refs.{ref_to};
 ghost use Rattle.slot_arena.specs.Times.{times};
 ghost use Rattle.epochs.specs.Limbo.{limbo_after};
@@ -112,6 +112,17 @@ fn idle_actors(alloc: Global, hashes: HashKind, actors: u8) -> Result<Vec<Actor>
     Ok(idle)
 }
 
+/// No commits, with room for those of so many slots.
+fn first_commits(alloc: Global, slots: u32) -> Result<Commits, AllocError>
+    requires { AreSlots slots }
+    ensures commits { IfOk result (λ commits. commits.commits ≡ []) }
+    ensures slots { IfOk result (λ commits. slots ≤ commits.slots) }
+{
+    let mut commits = Commits::new(alloc);
+    commits.room_for(Ref::new(1, (slots - 1) as u16))?;
+    Ok(commits)
+}
+
 /// The first state, with nothing left to settle.
 #[tactic(auto, unfolding(machine_model::specs::States::first_state))]
 pub fn first_parts(alloc: Global, limits: Limits) -> Result<Parts, Refusal>
@@ -125,13 +136,14 @@ pub fn first_parts(alloc: Global, limits: Limits) -> Result<Parts, Refusal>
     let table = first_table(alloc, &mut heap, limits.actors)?;
     let actors = idle_actors(alloc, limits.hash, limits.actors)?;
     let chronicle = Chronicle::new(alloc)?;
+    let commits = first_commits(alloc, limits.slots)?;
     Ok(Parts {
         limits,
         heap,
         generations: 1,
         table,
         actors,
-        commits: Commits::new(alloc),
+        commits,
         journal: Journal {
             chronicle,
             events: Vec::new(alloc),

@@ -1,14 +1,33 @@
-use Rattle.plain_state.specs.Seen.{seen}
+use Rattle.std.proofs.Common.{◌≡◌, ◌+◌, Some, refl, ap, subst}
+use Rattle.slot_arena.specs.Heaps.{Heap}
+use Rattle.slot_arena.specs.Times.{times}
+use Rattle.machine_model.specs.Grown.{standing}
+use Rattle.machine_core.specs.Seen.{seen}
 use Rattle.machine_core.proofs.Ends.{settles}
-use Rattle.machine_core.proofs.Tied.{tied_same}
+use Rattle.machine_core.proofs.Kept.{kept_alike}
 use Rattle.machine_core.proofs.settling.settle.Goals as goal
 
 pub returns-clause-settled : goal.returns-clause-settled
 returns-clause-settled c =
     let done = c.settle.ensures in
-    settles (seen c.args.parts.now) c.args.parts.now.heap.memory c.settle.new.self c.requires.tied
+    settles (seen c.args.parts.now) c.args.parts.now.heap c.settle.new.self c.requires.kept.tied
     (record { limbo = done.limbo; heap = done.heap; epoch = done.epochs.0; cursor = done.epochs.1 })
 
-pub returns-clause-tied : goal.returns-clause-tied
-returns-clause-tied c =
-    tied_same c.args.parts.now.heap.memory c.settle.new.self c.args.parts.now.roots.items c.args.parts.now.actors.items c.settle.ensures.outside c.settle.ensures.epochs.2 c.requires.tied
+pub returns-clause-kept : goal.returns-clause-kept
+returns-clause-kept c =
+    let parts = c.args.parts.now in
+    let done = c.settle.ensures in
+    kept_alike parts (record parts { heap = c.settle.new.self; steps = parts.steps + 1 }) (record {
+      limits = refl;
+      table = refl;
+      actors = refl;
+      outside = λ r. ap (times r) done.outside;
+      pins = done.epochs.2;
+      stood = λ main slot e. subst (λ (h : Heap). standing h main ≡ Some slot) done.heap e;
+      owners = done.remarks.0;
+      drawn = refl;
+      generations = refl;
+      begun_are = refl;
+      events = refl;
+      slots = refl;
+    }) c.requires.kept

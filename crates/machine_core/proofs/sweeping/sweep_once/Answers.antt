@@ -1,8 +1,12 @@
-use Rattle.std.proofs.Common.{refl, ◌∙◌, arith}
-use Rattle.plain_state.specs.Seen.{seen}
+use Rattle.std.proofs.Common.{◌≡◌, ◌+◌, Some, refl, ap, ◌∙◌, arith, subst}
+use Rattle.slot_arena.specs.Heaps.{Heap}
+use Rattle.slot_arena.specs.Times.{times}
+use Rattle.epochs.specs.Memories.{reclaimer_of}
+use Rattle.machine_model.specs.Grown.{standing}
+use Rattle.machine_core.specs.Seen.{seen}
 use Rattle.machine_core.proofs.Bounded.{bounded}
-use Rattle.machine_core.proofs.Ends.{sweeps}
-use Rattle.machine_core.proofs.Tied.{tied_same}
+use Rattle.machine_core.proofs.Ends.{stood, sweeps}
+use Rattle.machine_core.proofs.Kept.{kept_alike}
 use Rattle.machine_core.proofs.sweeping.sweep_once.Goals as goal
 
 pub sweep-swept-requires-clause-room : goal.sweep-swept-requires-clause-room
@@ -12,8 +16,8 @@ pub returns-clause-swept : goal.returns-clause-swept
 returns-clause-swept c =
     let swept = c.sweep-swept.ensures in
     let settled = c.settle.ensures in
-    sweeps (seen c.args.parts.now) c.args.parts.now.heap.memory c.sweep-swept.new.self c.settle.new.self c.sweep-swept.result c.requires.unspent
-    (bounded (seen c.args.parts.now) c.requires.run).slots c.requires.tied (record {
+    sweeps (seen c.args.parts.now) c.args.parts.now.heap c.sweep-swept.new.self c.settle.new.self c.sweep-swept.result c.requires.unspent
+    (bounded (seen c.args.parts.now) c.requires.run).slots c.requires.kept.tied (record {
       swept = swept.swept;
       same = refl;
       left = swept.limbo;
@@ -24,7 +28,25 @@ returns-clause-swept c =
       cursor = settled.epochs.1;
     })
 
-pub returns-clause-tied : goal.returns-clause-tied
-returns-clause-tied c =
-    tied_same c.args.parts.now.heap.memory c.settle.new.self c.args.parts.now.roots.items c.args.parts.now.actors.items
-    (c.settle.ensures.outside ∙ c.sweep-swept.ensures.outside) (c.settle.ensures.epochs.2 ∙ c.sweep-swept.ensures.pins) c.requires.tied
+pub returns-clause-kept : goal.returns-clause-kept
+returns-clause-kept c =
+    let parts = c.args.parts.now in
+    let swept = c.sweep-swept.ensures in
+    let settled = c.settle.ensures in
+    kept_alike parts (record parts { heap = c.settle.new.self; steps = parts.steps + 1 }) (record {
+      limits = refl;
+      table = refl;
+      actors = refl;
+      outside = λ r. ap (times r) (settled.outside ∙ swept.outside);
+      pins = settled.epochs.2 ∙ swept.pins;
+      stood = λ main slot e.
+          stood parts.heap.pins (reclaimer_of parts.heap) c.sweep-swept.result
+          (record { heap = c.sweep-swept.new.self.heap; limbo = parts.heap.limbo; epoch = c.sweep-swept.new.self.epoch; cursor = c.sweep-swept.new.self.cursor }) swept.swept main slot
+          (subst (λ (h : Heap). standing h main ≡ Some slot) settled.heap e);
+      owners = settled.remarks.0 ∙ swept.remarks.0;
+      drawn = refl;
+      generations = refl;
+      begun_are = refl;
+      events = refl;
+      slots = refl;
+    }) c.requires.kept

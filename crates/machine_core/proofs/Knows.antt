@@ -1,0 +1,109 @@
+-- What is known of offers and of pending nodes stays known.
+use Rattle.std.proofs.Common.{◌≡◌, ℕ, zero, suc, ◌<◌, ◌⊎◌, inl, inr, set, get_or, Option, Some, None, refl, sym, ap, ◌∙◌, subst, arith}
+use Rattle.std.proofs.lemmas.Bool.{cases_eq}
+use Rattle.std.proofs.lemmas.Option.{none-some}
+use Rattle.history.specs.declared.calls.Call.{Call}
+use Rattle.history.specs.declared.calls.Call.TheVariants.{Get, Put, PutIfAbsent, Replace, ReplaceIf, Remove, RemoveIf, Clear, Snapshot, Freeze, Close, Entries, Count}
+use Rattle.history.specs.Histories.{begun}
+use Rattle.slot_arena.specs.declared.refs.Ref.{Ref}
+use Rattle.slot_arena.specs.declared.nodes.Slot.{Slot}
+use Rattle.slot_arena.specs.Refs.{slot_of}
+use Rattle.epochs.specs.Memories.{Memory}
+use Rattle.machine_model.specs.declared.lines.Line.TheVariants as line
+use Rattle.machine_model.specs.declared.lines.Purpose.{Purpose}
+use Rattle.machine_model.specs.declared.operations.Operation.{Operation}
+use Rattle.machine_model.specs.declared.reading.Swap.{Swap}
+use Rattle.machine_model.specs.declared.reading.SwapLine.{SwapLine}
+use Rattle.machine_model.specs.declared.roots.Descriptor.{Descriptor}
+use Rattle.machine_model.specs.declared.roots.RootWord.TheVariants.{Offer}
+use Rattle.machine_model.specs.Grown.{standing}
+use Rattle.machine_model.specs.Operations.{first_line}
+use Rattle.machine_model.specs.States.{State, operation_of, word_at}
+use Rattle.machine_model.specs.Machine.{run}
+use Rattle.machine_model.proofs.Found.{found_elsewhere, found_here}
+use Rattle.machine_model.proofs.Grown.{prev_standing}
+use Rattle.proof_generations.proofs.Roots.OfLists.{has_handles_along}
+use Rattle.proof_generations.proofs.Offers.Standing.{own_numbers}
+use Rattle.proof_records.specs.Beneath.proof_commits.specs.Laws.{IsInSwap}
+use Rattle.proof_records.specs.Laws.{HaveIds}
+use Rattle.proof_records.proofs.Given.{ids_apart}
+use Rattle.rdcss_root.specs.Tables.{Table, word_in}
+use Rattle.machine_core.specs.Bounds.{IsOfRun}
+use Rattle.machine_core.specs.Keeping.{KnowsOfferers, KnowsOwners}
+
+-- ---- who runs
+
+pub runs_same : (before after : State) → after.actors ≡ before.actors → (actor : ℕ) → operation_of after actor ≡ operation_of before actor
+runs_same before after same zero = refl
+runs_same before after same (suc n) = ap (λ os. get_or os n None) same
+
+-- who runs after a place was written ran before, or was put there
+pub runs_set : (before after : State) (i : ℕ) (put : Option Operation) → after.actors ≡ set before.actors i put → (actor : ℕ) (operation : Operation) →
+    operation_of after actor ≡ Some operation → (operation_of before actor ≡ Some operation) ⊎ (put ≡ Some operation)
+runs_set before after i put is zero operation e = absurd (none-some operation e)
+runs_set before after i put is (suc n) operation e = by (cases_eq n i)
+  where
+    here : get_or (set before.actors i put) n None ≡ Some operation
+    here = sym (ap (λ os. get_or os n None) is) ∙ e
+    by : ((n ≡ i) ⊎ (n ≡ i → ⊥)) → (get_or before.actors n None ≡ Some operation) ⊎ (put ≡ Some operation)
+    by (inl same) = inr (found_here before.actors i put operation (sym (ap (λ k. get_or (set before.actors i put) k None) same) ∙ here))
+    by (inr apart) = inl (sym (found_elsewhere before.actors i n put apart) ∙ here)
+
+-- ---- offers
+
+pub offerers_over : (table now : Table) (before after : State) → now.offerers ≡ table.offerers →
+    ((handle : ℕ) (offer : Descriptor) → word_in now handle ≡ Offer offer → word_in table handle ≡ Offer offer) →
+    ((handle : ℕ) (offer : Descriptor) → word_in now handle ≡ Offer offer → (actor : ℕ) (operation : Operation) → operation_of after actor ≡ Some operation →
+    operation.id ≡ offer.operation → operation_of before actor ≡ Some operation) → KnowsOfferers table before → KnowsOfferers now after
+offerers_over table now before after same words runs knows handle offer stands actor operation found is =
+    ap (λ os. get_or os handle 0) same ∙ knows handle offer (words handle offer stands) actor operation (runs handle offer stands actor operation found is) is
+
+-- ids that were given are below the number of begins
+pub ids : (state : State) → IsOfRun state → HaveIds state
+ids state h = subst HaveIds (sym h.is) (ids_apart state.limits h.steps h.limits)
+
+-- so is that of who made an offer that stands
+pub offer_given : (state : State) → IsOfRun state → (handle : ℕ) (offer : Descriptor) → word_at state handle ≡ Offer offer → offer.operation < begun state.events
+offer_given state h handle offer stands = subst (λ (s : State). word_at s handle ≡ Offer offer → offer.operation < begun s.events) (sym h.is) along stands
+  where
+    along : word_at (run state.limits h.steps) handle ≡ Offer offer → offer.operation < begun (run state.limits h.steps).events
+    along word =
+        let I = (has_handles_along state.limits h.steps).0 in
+        let b = I.offers handle offer word in
+        let mine = own_numbers b.owner offer (I.own b.k b.owner b.runs) b.completes in
+        omega (arith, mine.its, (ids_apart state.limits h.steps h.limits).given (suc b.k) b.owner b.runs)
+
+-- ---- pending nodes
+
+-- the operation is in no SWAP
+abbrev pub IsInNoSwap : Operation → Type 0
+IsInNoSwap operation = (at before main : Ref) (l : SwapLine) → IsInSwap operation at before main l → ⊥
+
+pub owners_over : (memory now : Memory) (before after : State) → now.owners ≡ memory.owners →
+    ((main : Ref) (slot : Slot) → standing now.heap main ≡ Some slot → standing memory.heap main ≡ Some slot) →
+    ((actor : ℕ) (operation : Operation) → operation_of after actor ≡ Some operation → (operation_of before actor ≡ Some operation) ⊎ IsInNoSwap operation) →
+    KnowsOwners memory before → KnowsOwners now after
+owners_over memory now before after same stood runs knows main replaced used pending actor operation at under l found swaps = by (runs actor operation found)
+  where
+    by : ((operation_of before actor ≡ Some operation) ⊎ IsInNoSwap operation) → get_or now.owners (slot_of main) 0 ≡ actor
+    by (inr none) = absurd (none at under main l swaps)
+    by (inl ran) =
+        let was = stood main used.0 used.1 in
+        let pended = prev_standing memory.heap main used.0 was ∙ sym (prev_standing now.heap main used.0 used.1) ∙ pending in
+        ap (λ os. get_or os (slot_of main) 0) same ∙ knows main replaced (used.0, was) pended actor operation at under l ran swaps
+
+-- no operation begins in one
+pub first_no_swap : (call : Call) (why : Purpose) (s : Swap) → first_line call ≡ line.Swap why s → ⊥
+first_no_swap (Get h k) why s e = cc
+first_no_swap (Put h k v) why s e = cc
+first_no_swap (PutIfAbsent h k v) why s e = cc
+first_no_swap (Replace h k v) why s e = cc
+first_no_swap (ReplaceIf h k a b) why s e = cc
+first_no_swap (Remove h k) why s e = cc
+first_no_swap (RemoveIf h k v) why s e = cc
+first_no_swap (Clear h) why s e = cc
+first_no_swap (Snapshot h) why s e = cc
+first_no_swap (Freeze h) why s e = cc
+first_no_swap (Close h) why s e = cc
+first_no_swap (Entries h) why s e = cc
+first_no_swap (Count h) why s e = cc
