@@ -19,3 +19,4 @@ pub mod Named
 pub mod Knows
 pub mod Kept
 pub mod Left
+pub mod Took

@@ -15,7 +15,7 @@ use Rattle.machine_model.specs.States.{State, word_at}
 use Rattle.machine_model.specs.Swapping.{is_carried_out}
 use Rattle.machine_model.proofs.Actors.{after_marks, marks_of}
 use Rattle.rdcss_root.specs.Tables.{Table}
-use Rattle.running.proofs.ByParts.{carried_by}
+use Rattle.running.specs.Carried.{carried_by}
 use Rattle.running.proofs.Offers.{marked_at, unmarked}
 use Rattle.machine_core.specs.declared.parts.Actor.{Actor}
 use Rattle.machine_core.specs.declared.parts.UnderWay.{UnderWay}

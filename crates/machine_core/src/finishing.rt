@@ -118,7 +118,7 @@ fn vacate(actors: &mut Vec<Actor>, index: usize, heap: &mut Heap)
 }
 
 /// Adds the place, if there is one. There is room for it.
-fn put_place(chronicle: &mut Chronicle, place: Option<Place>)
+pub fn put_place(chronicle: &mut Chronicle, place: Option<Place>)
     requires to_add { 0 < chronicle.old.room_to_add }
     requires of_id { MatchOption place Unit (λ at. at.id < chronicle.old.ids) }
     ensures places { chronicle.new.places ≡ chronicle.old.places ++ option_to_list place }

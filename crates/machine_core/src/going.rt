@@ -1,30 +1,34 @@
 //! A step of an operation: all of it but for limbo and the count of steps.
 
-ghost use Rattle.std.specs.Prelude.{◌≡◌, ◌+◌, ◌-◌, ◌<◌, ◌≤◌, ◌∷◌, ◌++◌, [], length, slice_get, slice_set, option_to_list, IfErr, IfOk, OnErr, OnOk, Some, None, IsSome, MatchOption};
+ghost use Rattle.std.specs.Prelude.{◌≡◌, ◌⊎◌, ◌+◌, ◌-◌, ◌<◌, ◌≤◌, ◌∷◌, ◌++◌, [], All, false, length, slice_get, option_to_list, IfErr, IfOk, OnErr, Some, None, IsSome, MatchOption};
+ghost use Rattle.places.specs.Places.{on_time};
+ghost use Rattle.slot_arena.specs.Heaps.{generation_at};
 ghost use Rattle.slot_arena.specs.Refs.{slot_of};
 ghost use Rattle.slot_arena.specs.Arenas.{IsLive};
 ghost use Rattle.machine_model.specs.declared.operations.Operation.{Operation};
 ghost use Rattle.machine_model.specs.States.{operation_of};
 ghost use Rattle.machine_model.specs.Operations.{action_of};
-ghost use Rattle.machine_model.specs.Acting.{gone};
+ghost use Rattle.machine_model.specs.Acting.{entered_by, gone};
 ghost use Rattle.machine_model.specs.Machine.{went};
 ghost use Rattle.chronicle.specs.Committed.{IsNewest};
 ghost use Rattle.operate.specs.Places.{answer_of};
 ghost use Rattle.running.specs.Places.{line_for, IsSound};
 ghost use Rattle.running.specs.Steps.{scene, CanStep};
 ghost use Rattle.machine_core.specs.Bounds.{IsOfRun};
-ghost use Rattle.machine_core.specs.Going.{entered_for, moved, Midway, Steps, StepsTo};
+ghost use Rattle.machine_core.specs.Going.{entered_for, moved, step_committed, CanNote, HasUnderWay, Midway, NotesCarried, NotesCommit, NotesDrawn, NotesKind, NotesOwner, Steps, StepsTo};
 ghost use Rattle.machine_core.specs.Keeping.{IsKept, Replaces};
-ghost use Rattle.machine_core.specs.Seen.{actor_of, seen, under_way_of};
+ghost use Rattle.machine_core.specs.Seen.{actor_of, operation_at, operation_seen, seen, under_way_of};
 ghost use Rattle.machine_core.specs.declared.parts.Actor.{Actor as AnActor};
 
-use crate::finishing::{end, place_of};
+use crate::finishing::{end, place_of, put_place};
 use crate::parts::{Actor, Parts, UnderWay};
-use chronicle::Commits;
+use chronicle::{Chronicle, Commits};
 use ctrie_base::{Kind, Refusal};
 use epochs::Heap;
+use gcas::generation_at;
 use history::Reply;
 use machine_model::Outcome;
+use places::Place;
 use rdcss_root::Roots;
 use running::{Program, Taken};
 use slot_arena::Ref;
@@ -220,10 +224,7 @@ fn note_commit(parts: &mut Parts, main: Ref)
     requires begun { 0 < parts.old.steps }
     requires to_add { 0 < parts.old.journal.chronicle.room_to_add }
     requires ids { All (λ place. place.id < parts.old.journal.chronicle.ids) (entered_for parts.old main) }
-    ensures commits { parts.new.commits.commits ≡ parts.old.commits.commits ++ record { main = main; step = parts.old.steps } ∷ [] }
-    ensures slots { parts.new.commits.slots ≡ parts.old.commits.slots }
-    ensures places { parts.new.journal.chronicle.places ≡ parts.old.journal.chronicle.places ++ entered_for parts.old main }
-    ensures same { AllBut parts.old parts.new }
+    ensures notes { NotesCommit parts.old main parts.new }
 {
     let place = place_at_commit(parts, main);
     parts.commits.note(main, parts.steps);
@@ -241,30 +242,54 @@ fn place_at_commit(parts: &Parts, main: Ref) -> Option<Place>
     }
 }
 
+/// The place that this actor's operation enters at the commit of this main node, if it does.
 fn entered_by(parts: &Parts, owner: &Actor, main: Ref) -> Option<Place>
     ensures { option_to_list result ≡ entered_by (seen parts.now) main (operation_seen parts.now.table owner.now) }
 {
     match owner.under_way {
-        Some(under_way) if owner.programs.swaps_in(under_way.program, main) => {
-            Some(place_of(parts, owner, under_way, parts.steps, false))
-        }
-        _ => None,
+        Some(under_way) => entered_with(parts, owner, under_way, main),
+        None => None,
+    }
+}
+
+fn entered_with(parts: &Parts, owner: &Actor, under_way: UnderWay, main: Ref) -> Option<Place>
+    ensures { option_to_list result ≡ entered_by (seen parts.now) main (Some (operation_at parts.now.table owner.now.programs under_way)) }
+{
+    if owner.programs.swaps_in(under_way.program, main) {
+        let step = parts.steps;
+        Some(place_of(parts, owner, under_way, step, false))
+    } else {
+        None
     }
 }
 
 /// Notes what a step of this kind did that committed nothing.
 fn note_kind(parts: &mut Parts, actor: u8, taken: &Taken)
+    requires can { CanNote parts.old actor taken.now }
+    ensures notes { NotesKind taken.now.kind taken.now.counts parts.old actor parts.new }
 {
     match taken.kind {
-        Kind::SwapMain if !taken.counts => note_owner(parts, actor),
+        Kind::SwapMain => note_swap(parts, actor, taken.counts),
         Kind::SwapRoot => note_carried(parts),
-        Kind::Make => note_drawn(&mut parts.journal.chronicle, parts.generations),
+        Kind::Make => note_drawn(parts),
         _ => {}
     }
 }
 
-/// The actor is the owner of the main node that it was about to swap in.
+/// Notes a swap of a main word, by a READ or not.
+fn note_swap(parts: &mut Parts, actor: u8, counts: bool)
+    requires owner { counts ≡ false → (found : AnActor) → actor_of parts.old actor ≡ Some found → IsLive parts.old.heap.heap found.programs.key.work.swap.fresh }
+    ensures notes { NotesKind Kind.SwapMain counts parts.old actor parts.new }
+{
+    if !counts {
+        note_owner(parts, actor);
+    }
+}
+
+/// The actor owns the main node that it was about to swap in.
 fn note_owner(parts: &mut Parts, actor: u8)
+    requires owner { (found : AnActor) → actor_of parts.old actor ≡ Some found → IsLive parts.old.heap.heap found.programs.key.work.swap.fresh }
+    ensures notes { NotesOwner parts.old actor parts.new }
 {
     if let Some(found) = parts.actor(actor) {
         let fresh = found.programs.fresh();
@@ -272,25 +297,59 @@ fn note_owner(parts: &mut Parts, actor: u8)
     }
 }
 
-/// If an offer was carried out, the generation of the root that it took away is closed, and whoever offered enters the order.
+/// If an offer was carried out, the generation of the root that it took away is closed, and whoever offered enters
+/// the order.
 fn note_carried(parts: &mut Parts)
+    requires later { All (λ closing. closing.step < parts.old.steps) parts.old.journal.chronicle.closings }
+    requires behind { All (λ place. place.step ≤ parts.old.steps) parts.old.journal.chronicle.places }
+    requires closes { MatchOption parts.old.table.carried Unit (λ offer. generation_at parts.old.heap.heap offer.root < parts.old.journal.chronicle.generations) }
+    requires given { MatchOption parts.old.table.carried Unit (λ offer. offer.operation < parts.old.journal.chronicle.ids) }
+    requires to_add { 0 < parts.old.journal.chronicle.room_to_add }
+    requires to_close { 0 < parts.old.journal.chronicle.room_to_close }
+    ensures notes { NotesCarried parts.old parts.new }
 {
     if let Some(offer) = parts.table.take_carried() {
         let generation = generation_at(&parts.heap, offer.root);
-        parts.journal.chronicle.close(generation, parts.steps);
-        parts.journal.chronicle.add(on_time(parts.steps, offer.operation));
+        close(&mut parts.journal.chronicle, generation, parts.steps, offer.operation);
     }
 }
 
-/// A generation was drawn, unless all that were are known.
-fn note_drawn(chronicle: &mut Chronicle, generations: u64)
-    requires known { (generations ≡ chronicle.old.generations) ⊎ (generations ≡ chronicle.old.generations + 1) }
-    requires room { 0 < chronicle.old.room_to_draw }
-    ensures generations { chronicle.new.generations ≡ generations }
-    ensures closings { chronicle.new.closings ≡ chronicle.old.closings }
-    ensures places { chronicle.new.places ≡ chronicle.old.places }
+/// The generation is closed in this step, and the operation with this id enters the order.
+fn close(chronicle: &mut Chronicle, generation: u64, step: u64, id: u64)
+    requires later { All (λ closing. closing.step < step) chronicle.old.closings }
+    requires behind { All (λ place. place.step ≤ step) chronicle.old.places }
+    requires drawn { generation < chronicle.old.generations }
+    requires of_id { id < chronicle.old.ids }
+    requires to_add { 0 < chronicle.old.room_to_add }
+    requires to_close { 0 < chronicle.old.room_to_close }
+    ensures closings { chronicle.new.closings ≡ chronicle.old.closings ++ record { generation = generation; step = step } ∷ [] }
+    ensures places { chronicle.new.places ≡ chronicle.old.places ++ on_time step false id ∷ [] }
+    ensures generations { chronicle.new.generations ≡ chronicle.old.generations }
 {
-    if chronicle.generations() < generations {
-        chronicle.draw();
+    chronicle.close(generation, step);
+    chronicle.add(on_time(step, id));
+}
+
+/// The place of an operation whose change stands from this step on.
+fn on_time(step: u64, id: u64) -> Place
+    ensures { result ≡ on_time step false id }
+{
+    Place {
+        step,
+        on_time: true,
+        moment: step,
+        changed_nothing: false,
+        id,
+    }
+}
+
+/// All generations that were drawn are known.
+fn note_drawn(parts: &mut Parts)
+    requires drawn { (parts.old.generations ≡ parts.old.journal.chronicle.generations) ⊎ (parts.old.generations ≡ parts.old.journal.chronicle.generations + 1) }
+    requires to_draw { 0 < parts.old.journal.chronicle.room_to_draw }
+    ensures notes { NotesDrawn parts.old parts.new }
+{
+    if parts.journal.chronicle.generations() < parts.generations {
+        parts.journal.chronicle.draw();
     }
 }
