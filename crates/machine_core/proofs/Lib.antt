@@ -20,3 +20,4 @@ pub mod Knows
 pub mod Kept
 pub mod Left
 pub mod Took
+pub mod Allowed

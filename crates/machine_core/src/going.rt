@@ -96,8 +96,7 @@ fn proceed(parts: &mut Parts, actor: u8, under_way: UnderWay) -> Result<Outcome,
 {
     parts.journal.chronicle.room_for(parts.begun)?;
     let taken = step(parts, actor, under_way)?;
-    note(parts, actor, under_way, &taken);
-    Ok(Outcome::Went(taken.kind))
+    Ok(Outcome::Went(note(parts, actor, under_way, taken)))
 }
 
 /// Lets the actor's programs take the step. After an error nothing has changed.
@@ -160,23 +159,25 @@ fn step_of(
     actor.programs.step(job, program, table, generations, heap)
 }
 
-/// Notes what a step did that the actor's programs took.
-fn note(parts: &mut Parts, actor: u8, under_way: UnderWay, taken: &Taken)
-    requires midway { Midway actor under_way taken.now parts.old }
+/// Notes what a step did that the actor's programs took, and tells its kind.
+fn note(parts: &mut Parts, actor: u8, under_way: UnderWay, taken: Taken) -> Kind
+    requires midway { Midway actor under_way taken parts.old }
     requires to_draw { 0 < parts.old.journal.chronicle.room_to_draw }
     requires to_add { 0 < parts.old.journal.chronicle.room_to_add }
     requires to_close { 0 < parts.old.journal.chronicle.room_to_close }
     requires ids { parts.old.begun < parts.old.journal.chronicle.ids }
-    ensures gone { (midway : Midway actor under_way taken.now parts.old) → (operation : Operation) → operation_of (seen midway.before) actor ≡ Some operation →
+    ensures kind { result ≡ taken.kind }
+    ensures gone { (midway : Midway actor under_way taken parts.old) → (operation : Operation) → operation_of (seen midway.before) actor ≡ Some operation →
         gone (seen midway.before) actor operation ≡ seen parts.new }
     ensures kept { IsKept parts.new }
 {
-    let next = moved(&parts.commits, under_way, taken, parts.steps);
+    let next = moved(&parts.commits, under_way, &taken, parts.steps);
     put_under_way(&mut parts.actors, actor as usize - 1, next);
     match taken.committed {
         Some(main) => note_commit(parts, main),
-        None => note_kind(parts, actor, taken),
+        None => note_kind(parts, actor, &taken),
     }
+    taken.kind
 }
 
 /// The operation under way behind this step.
