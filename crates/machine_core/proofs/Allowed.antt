@@ -126,3 +126,7 @@ unchanged before after limits journal begun_are commits same kept =
 pub runs_there : (parts : Parts) (n : ℕ) → operation_of (seen parts) n ≡ option_and_then (operation_seen parts.table) (actor_of parts n)
 runs_there parts zero = refl
 runs_there parts (suc n) = found_mapped (operation_seen parts.table) parts.actors.items n
+
+-- what the owner of this number runs
+pub owner_runs : (parts : Parts) (n owner : ℕ) (found : Option Actor) → actor_of parts n ≡ found → n ≡ owner → operation_of (seen parts) owner ≡ option_and_then (operation_seen parts.table) found
+owner_runs parts n owner found at is = ap (operation_of (seen parts)) (sym is) ∙ runs_there parts n ∙ ap (option_and_then (operation_seen parts.table)) at
