@@ -21,3 +21,5 @@ pub mod Kept
 pub mod Left
 pub mod Took
 pub mod Allowed
+pub mod Noted
+pub mod Offering
