@@ -23,3 +23,5 @@ pub mod Took
 pub mod Allowed
 pub mod Noted
 pub mod Offering
+pub mod Entering
+pub mod Notings

@@ -18,7 +18,7 @@ use Rattle.machine_model.specs.declared.roots.Descriptor.{Descriptor}
 use Rattle.machine_model.specs.declared.roots.RootWord.{RootWord}
 use Rattle.machine_model.specs.Acting.{commits_after, entered, gone, operation_after}
 use Rattle.machine_model.specs.Calls.{handle_of}
-use Rattle.machine_model.specs.Operations.{action_of, kind_of, read_of}
+use Rattle.machine_model.specs.Operations.{action_of, generation_from, kind_of, read_of}
 use Rattle.machine_model.specs.Orders.{commit_step as commit_of, committed_now, counted_from, moment_after, moment_from, moment_given, read_at_after}
 use Rattle.machine_model.specs.Reading.{at_indirection, read_after}
 use Rattle.machine_model.specs.States.{State, operation_of, word_at}
@@ -27,7 +27,7 @@ use Rattle.rdcss_root.specs.Tables.{Table, acted_table, word_in}
 use Rattle.running.specs.declared.programs.Programs.{Programs}
 use Rattle.running.specs.declared.taken.Taken.{Taken}
 use Rattle.running.specs.Carried.{carried_by, closed_by, placed_by}
-use Rattle.running.specs.Places.{line_for}
+use Rattle.running.specs.Places.{generation_in, line_for}
 use Rattle.running.specs.Steps.{Changes, Does, Scene, Takes, at_scene, given_by, given_in, scene}
 use Rattle.running.proofs.Offers.{marked_at, marks_by, unmarked}
 use Rattle.machine_core.specs.declared.parts.Actor.{Actor}
@@ -84,6 +84,13 @@ module _ (before : Parts) (actor : ℕ) (u next : UnderWay) (taken : Taken) (now
       (λ (s : State). Changes u.job (scene before.heap before.table before.generations t.seat.found.programs) (action_of s (operation_at before.table t.seat.found.programs u))
           (scene now.heap now.table now.generations t.programs))
       there (t.does.changes (seen before) (operation_at before.table t.seat.found.programs u))
+
+  pub generation_is : generation_in u.program t.programs
+      ≡ generation_from (seen before) (operation_at before.table t.seat.found.programs u) (line_for u.program t.seat.found.programs)
+  generation_is =
+      subst
+      (λ (s : State). generation_in u.program t.programs ≡ generation_from s (operation_at before.table t.seat.found.programs u) (line_for u.program t.seat.found.programs))
+      there (t.does.generation (seen before) (operation_at before.table t.seat.found.programs u))
 
   pub handle_is : handle_of (operation_at before.table t.seat.found.programs u).call ≡ u.job.handle
   handle_is = handle_named u.job.handle u.program

@@ -4,6 +4,7 @@ use Rattle.std.specs.Prelude.{slice_get, slice_set}
 use Rattle.std.proofs.lemmas.List.{set-set}
 use Rattle.std.proofs.lemmas.Option.{same_Some, slice_get_within}
 use Rattle.history.proofs.Places.{at_set}
+use Rattle.machine_model.specs.States.{operation_of}
 use Rattle.running.specs.declared.programs.Programs.{Programs}
 use Rattle.running.specs.declared.taken.Taken.{Taken}
 use Rattle.running.specs.Places.{line_for}
@@ -13,8 +14,8 @@ use Rattle.machine_core.specs.declared.parts.Parts.{Parts}
 use Rattle.machine_core.specs.declared.parts.UnderWay.{UnderWay}
 use Rattle.machine_core.specs.Going.{HasUnderWay, Steps}
 use Rattle.machine_core.specs.Keeping.{Replaces}
-use Rattle.machine_core.specs.Seen.{under_way_of}
-use Rattle.machine_core.proofs.Kept.{Seat, seat_of}
+use Rattle.machine_core.specs.Seen.{operation_at, seen, under_way_of}
+use Rattle.machine_core.proofs.Kept.{Seat, operation_under_way, seat_of}
 
 -- the actor's programs took this step, and this is under way behind it
 pub record Took (before : Parts) (actor : ℕ) (u next : UnderWay) (taken : Taken) (now : Parts) : Type 0 where
@@ -53,3 +54,15 @@ took before middle now actor u next taken runs steps puts rest =
           ∙ subst (λ (x : Parts). record middle { actors = now.actors } ≡ record before { heap = x.heap; table = x.table; generations = x.generations; actors = now.actors }) (sym rest)
               (ap (λ (x : Parts). record x { actors = now.actors }) steps.rest);
     }
+
+-- what stands at the actor's place then
+pub stands_now : (before : Parts) (actor : ℕ) (u next : UnderWay) (taken : Taken) (now : Parts) (t : Took before actor u next taken now) →
+    slice_get now.actors.items (actor - 1) ≡ Some (record { programs = t.programs; under_way = Some next })
+stands_now before actor u next taken now t =
+    ap (λ xs. slice_get xs (actor - 1)) t.set
+    ∙ at_set before.actors.items (actor - 1) (record { programs = t.programs; under_way = Some next }) (slice_get_within before.actors.items (actor - 1) t.seat.found t.seat.at)
+
+pub runs_now : (before : Parts) (actor : ℕ) (u next : UnderWay) (taken : Taken) (now : Parts) (t : Took before actor u next taken now) →
+    operation_of (seen now) actor ≡ Some (operation_at now.table t.programs next)
+runs_now before actor u next taken now t =
+    operation_under_way now actor (record { programs = t.programs; under_way = Some next }) t.seat.counts (stands_now before actor u next taken now t)
