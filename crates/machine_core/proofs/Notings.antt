@@ -33,7 +33,7 @@ use Rattle.machine_core.proofs.Entering.{decides_now, entering}
 use Rattle.machine_core.proofs.Noted.{NotedSo, changes, handle_is, takes}
 use Rattle.machine_core.proofs.Offering.{Carries, carries}
 use Rattle.machine_core.proofs.Stepped.{carried_now}
-use Rattle.machine_core.proofs.Took.{Took}
+use Rattle.machine_core.proofs.Took.{Took, actor_now}
 
 -- only a swap of the root carries an offer out
 carried_not : (word : RootWord) (action : Action) → (kind_of action ≡ kind.SwapRoot → ⊥) → carried_by word action ≡ None
@@ -151,3 +151,122 @@ module _ (before : Parts) (actor : ℕ) (u next : UnderWay) (taken : Taken) (now
       (ap (λ (x : Parts). x.heap.heap) same) (ap (λ (x : Parts). x.heap.limbo) same, ap (λ (x : Parts). x.heap.epoch) same, ap (λ (x : Parts). x.heap.cursor) same)
       (ap (λ (x : Parts). x.table) same) (ap (λ (x : Parts). x.journal.events.items) same) (ap (λ (x : Parts). x.journal.chronicle.closings) same)
       (ap (λ (x : Parts). x.journal.chronicle.places) same)
+
+  -- ---- a step that carries an offer out
+
+  carried_is : now.table.carried ≡ carried_now (seen before) (operation_at before.table t.seat.found.programs u)
+  carried_is =
+      let action : Action = action_of (seen before) (operation_at before.table t.seat.found.programs u) in
+      ap (λ (x : Table). x.carried) (changes before actor u next taken now t run kept is).table
+      ∙ (marks_by before.table u.job.handle u.job.actor action).carried
+      ∙ ap (λ c. carried_or c (carried_by (word_in before.table u.job.handle) action)) kept.noted.carried
+      ∙ or_none (carried_by (word_in before.table u.job.handle) action)
+      ∙ ap (λ h. carried_by (word_in before.table h) action) (sym (handle_is before actor u next taken now t run kept is))
+
+  -- that step leaves the heap
+  heap_stays : (offer : Descriptor) → carried_now (seen before) (operation_at before.table t.seat.found.programs u) ≡ Some offer → now.heap.heap ≡ before.heap.heap
+  heap_stays offer e =
+      let c : Carries _ _ offer = carries _ _ offer e in
+      (changes before actor u next taken now t run kept is).acts.heap ∙ ap (λ a. acted_heap before.heap.heap (with_generation before.generations a)) c.is
+
+  closed_same : (c : Option Descriptor) → carried_now (seen before) (operation_at before.table t.seat.found.programs u) ≡ c → closed_by (seen now) c ≡ closed_by (seen before) c
+  closed_same None e = refl
+  closed_same (Some offer) e =
+      ap (λ h. closed_by (record (seen now) { heap = h }) (Some offer)) (heap_stays offer e)
+      ∙ ap (λ (x : Parts). record { generation = generation_at before.heap.heap offer.root; step = x.steps } ∷ []) t.rest
+
+  placed_same : (c : Option Descriptor) → placed_by (seen now) c ≡ placed_by (seen before) c
+  placed_same None = refl
+  placed_same (Some offer) = ap (λ (x : Parts). placed_by (record (seen before) { steps = x.steps }) (Some offer)) t.rest
+
+  noted_carried : (after : Parts) → taken.committed ≡ None → NotesCarried now after → NotedSo before actor u next taken now t run kept is after
+  noted_carried after none notes =
+      let carried : Option Descriptor = carried_now (seen before) (operation_at before.table t.seat.found.programs u) in
+      let rest : after ≡ record now { heap = after.heap; table = after.table; journal = after.journal } =
+          subst (λ (x : Parts). x ≡ record now { heap = x.heap; table = x.table; journal = after.journal }) (sym notes.rest) refl in
+      noted_with after carried refl
+      (plain after rest (ap (λ (x : Parts). x.heap.heap) notes.rest)
+      (ap (λ (x : Parts). x.heap.limbo) notes.rest, ap (λ (x : Parts). x.heap.epoch) notes.rest, ap (λ (x : Parts). x.heap.cursor) notes.rest)
+      (ap (λ (x : Parts). x.table.roots) notes.rest) (ap (λ (x : Parts). x.table.marks) notes.rest) (ap (λ e. e.items) notes.events))
+      (commits_none after none rest)
+      (notes.closings ∙ ap (λ xs. xs ++ closed_by (seen now) now.table.carried) (ap (λ (x : Parts). x.journal.chronicle.closings) t.rest)
+      ∙ ap (λ c. before.journal.chronicle.closings ++ closed_by (seen now) c) carried_is ∙ ap (λ xs. before.journal.chronicle.closings ++ xs) (closed_same carried refl))
+      (places_none after carried none
+      (notes.places ∙ ap (λ xs. xs ++ placed_by (seen now) now.table.carried) (ap (λ (x : Parts). x.journal.chronicle.places) t.rest)
+      ∙ ap (λ c. before.journal.chronicle.places ++ placed_by (seen now) c) carried_is ∙ ap (λ xs. before.journal.chronicle.places ++ xs) (placed_same carried)))
+
+  -- ---- by the kind
+
+  noted_drawn : (after : Parts) → taken.committed ≡ None → (taken.kind ≡ kind.SwapRoot → ⊥) → NotesDrawn now after → NotedSo before actor u next taken now t run kept is after
+  noted_drawn after none other notes =
+      noted_plain after none other (subst (λ (x : Parts). x ≡ record now { heap = x.heap; table = x.table; journal = after.journal }) (sym notes.rest) refl)
+      (ap (λ (x : Parts). x.heap.heap) notes.rest)
+      (ap (λ (x : Parts). x.heap.limbo) notes.rest, ap (λ (x : Parts). x.heap.epoch) notes.rest, ap (λ (x : Parts). x.heap.cursor) notes.rest)
+      (ap (λ (x : Parts). x.table) notes.rest) (ap (λ e. e.items) notes.events) notes.closings notes.places
+
+  noted_owner : (after : Parts) → taken.committed ≡ None → (taken.kind ≡ kind.SwapRoot → ⊥) → NotesOwner now actor after → NotedSo before actor u next taken now t run kept is after
+  noted_owner after none other notes =
+      let rest = notes (record { programs = t.programs; under_way = Some next }) (actor_now before actor u next taken now t) in
+      noted_plain after none other (subst (λ (x : Parts). x ≡ record now { heap = x.heap; table = x.table; journal = x.journal }) (sym rest) refl)
+      (ap (λ (x : Parts). x.heap.heap) rest)
+      (ap (λ (x : Parts). x.heap.limbo) rest, ap (λ (x : Parts). x.heap.epoch) rest, ap (λ (x : Parts). x.heap.cursor) rest)
+      (ap (λ (x : Parts). x.table) rest) (ap (λ (x : Parts). x.journal.events.items) rest) (ap (λ (x : Parts). x.journal.chronicle.closings) rest)
+      (ap (λ (x : Parts). x.journal.chronicle.places) rest)
+
+  by_kind : (k : Kind) (c : Bool) (after : Parts) → taken.kind ≡ k → taken.committed ≡ None → NotesKind k c now actor after → NotedSo before actor u next taken now t run kept is after
+  by_kind kind.SwapMain false after same none notes = noted_owner after none (λ e. apart (sym same ∙ e)) notes
+    where
+      apart : kind.SwapMain ≡ kind.SwapRoot → ⊥
+      apart e = cc
+  by_kind kind.SwapMain true after same none notes = noted_none after none (λ e. apart (sym same ∙ e)) notes
+    where
+      apart : kind.SwapMain ≡ kind.SwapRoot → ⊥
+      apart e = cc
+  by_kind kind.SwapRoot c after same none notes = noted_carried after none notes
+  by_kind kind.Make c after same none notes = noted_drawn after none (λ e. apart (sym same ∙ e)) notes
+    where
+      apart : kind.Make ≡ kind.SwapRoot → ⊥
+      apart e = cc
+  by_kind kind.ReadRoot c after same none notes = noted_none after none (λ e. apart (sym same ∙ e)) notes
+    where
+      apart : kind.ReadRoot ≡ kind.SwapRoot → ⊥
+      apart e = cc
+  by_kind kind.ReadMain c after same none notes = noted_none after none (λ e. apart (sym same ∙ e)) notes
+    where
+      apart : kind.ReadMain ≡ kind.SwapRoot → ⊥
+      apart e = cc
+  by_kind kind.ReadPrev c after same none notes = noted_none after none (λ e. apart (sym same ∙ e)) notes
+    where
+      apart : kind.ReadPrev ≡ kind.SwapRoot → ⊥
+      apart e = cc
+  by_kind kind.SwapPrev c after same none notes = noted_none after none (λ e. apart (sym same ∙ e)) notes
+    where
+      apart : kind.SwapPrev ≡ kind.SwapRoot → ⊥
+      apart e = cc
+  by_kind kind.Look c after same none notes = noted_none after none (λ e. apart (sym same ∙ e)) notes
+    where
+      apart : kind.Look ≡ kind.SwapRoot → ⊥
+      apart e = cc
+  by_kind kind.End c after same none notes = noted_none after none (λ e. apart (sym same ∙ e)) notes
+    where
+      apart : kind.End ≡ kind.SwapRoot → ⊥
+      apart e = cc
+  by_kind kind.Begin c after same none notes = noted_none after none (λ e. apart (sym same ∙ e)) notes
+    where
+      apart : kind.Begin ≡ kind.SwapRoot → ⊥
+      apart e = cc
+  by_kind kind.ScanPin c after same none notes = noted_none after none (λ e. apart (sym same ∙ e)) notes
+    where
+      apart : kind.ScanPin ≡ kind.SwapRoot → ⊥
+      apart e = cc
+  by_kind kind.Advance c after same none notes = noted_none after none (λ e. apart (sym same ∙ e)) notes
+    where
+      apart : kind.Advance ≡ kind.SwapRoot → ⊥
+      apart e = cc
+  by_kind kind.FreeOne c after same none notes = noted_none after none (λ e. apart (sym same ∙ e)) notes
+    where
+      apart : kind.FreeOne ≡ kind.SwapRoot → ⊥
+      apart e = cc
+
+  pub noted_kind : (after : Parts) → taken.committed ≡ None → NotesKind taken.kind taken.counts now actor after → NotedSo before actor u next taken now t run kept is after
+  noted_kind after none notes = by_kind taken.kind taken.counts after refl none notes

@@ -1,5 +1,5 @@
 -- The parts of a machine after a step that an operation's programs took, with what it has under way brought up to date.
-use Rattle.std.proofs.Common.{◌≡◌, ℕ, ◌-◌, Some, sym, ap, subst, ◌∙◌}
+use Rattle.std.proofs.Common.{arith, ◌≡◌, ℕ, zero, suc, ◌-◌, Some, sym, ap, subst, ◌∙◌}
 use Rattle.std.specs.Prelude.{slice_get, slice_set}
 use Rattle.std.proofs.lemmas.List.{set-set}
 use Rattle.std.proofs.lemmas.Option.{same_Some, slice_get_within}
@@ -14,7 +14,7 @@ use Rattle.machine_core.specs.declared.parts.Parts.{Parts}
 use Rattle.machine_core.specs.declared.parts.UnderWay.{UnderWay}
 use Rattle.machine_core.specs.Going.{HasUnderWay, Steps}
 use Rattle.machine_core.specs.Keeping.{Replaces}
-use Rattle.machine_core.specs.Seen.{operation_at, seen, under_way_of}
+use Rattle.machine_core.specs.Seen.{actor_of, operation_at, seen, under_way_of}
 use Rattle.machine_core.proofs.Kept.{Seat, operation_under_way, seat_of}
 
 -- the actor's programs took this step, and this is under way behind it
@@ -66,3 +66,9 @@ pub runs_now : (before : Parts) (actor : ℕ) (u next : UnderWay) (taken : Taken
     operation_of (seen now) actor ≡ Some (operation_at now.table t.programs next)
 runs_now before actor u next taken now t =
     operation_under_way now actor (record { programs = t.programs; under_way = Some next }) t.seat.counts (stands_now before actor u next taken now t)
+
+pub actor_now : (before : Parts) (actor : ℕ) (u next : UnderWay) (taken : Taken) (now : Parts) (t : Took before actor u next taken now) →
+    actor_of now actor ≡ Some (record { programs = t.programs; under_way = Some next })
+actor_now before zero u next taken now t = absurd (let counts = t.seat.counts in omega (arith, counts))
+actor_now before (suc n) u next taken now t =
+    ap (slice_get now.actors.items) (let same : n ≡ suc n - 1 = omega arith in same) ∙ stands_now before (suc n) u next taken now t
