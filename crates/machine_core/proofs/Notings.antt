@@ -33,7 +33,7 @@ use Rattle.machine_core.proofs.Entering.{decides_now, entering}
 use Rattle.machine_core.proofs.Noted.{NotedSo, changes, handle_is, takes}
 use Rattle.machine_core.proofs.Offering.{Carries, carries}
 use Rattle.machine_core.proofs.Stepped.{carried_now}
-use Rattle.machine_core.proofs.Took.{Took, actor_now}
+use Rattle.machine_core.proofs.Took.{Took}
 
 -- only a swap of the root carries an offer out
 carried_not : (word : RootWord) (action : Action) → (kind_of action ≡ kind.SwapRoot → ⊥) → carried_by word action ≡ None
@@ -204,69 +204,68 @@ module _ (before : Parts) (actor : ℕ) (u next : UnderWay) (taken : Taken) (now
       (ap (λ (x : Parts). x.heap.limbo) notes.rest, ap (λ (x : Parts). x.heap.epoch) notes.rest, ap (λ (x : Parts). x.heap.cursor) notes.rest)
       (ap (λ (x : Parts). x.table) notes.rest) (ap (λ e. e.items) notes.events) notes.closings notes.places
 
-  noted_owner : (after : Parts) → taken.committed ≡ None → (taken.kind ≡ kind.SwapRoot → ⊥) → NotesOwner now actor after → NotedSo before actor u next taken now t run kept is after
-  noted_owner after none other notes =
-      let rest = notes (record { programs = t.programs; under_way = Some next }) (actor_now before actor u next taken now t) in
+  noted_owner : (fresh : Ref) (after : Parts) → taken.committed ≡ None → (taken.kind ≡ kind.SwapRoot → ⊥) → NotesOwner now actor fresh after → NotedSo before actor u next taken now t run kept is after
+  noted_owner fresh after none other rest =
       noted_plain after none other (subst (λ (x : Parts). x ≡ record now { heap = x.heap; table = x.table; journal = x.journal }) (sym rest) refl)
       (ap (λ (x : Parts). x.heap.heap) rest)
       (ap (λ (x : Parts). x.heap.limbo) rest, ap (λ (x : Parts). x.heap.epoch) rest, ap (λ (x : Parts). x.heap.cursor) rest)
       (ap (λ (x : Parts). x.table) rest) (ap (λ (x : Parts). x.journal.events.items) rest) (ap (λ (x : Parts). x.journal.chronicle.closings) rest)
       (ap (λ (x : Parts). x.journal.chronicle.places) rest)
 
-  by_kind : (k : Kind) (c : Bool) (after : Parts) → taken.kind ≡ k → taken.committed ≡ None → NotesKind k c now actor after → NotedSo before actor u next taken now t run kept is after
-  by_kind kind.SwapMain false after same none notes = noted_owner after none (λ e. apart (sym same ∙ e)) notes
+  by_kind : (k : Kind) (c : Bool) (fresh : Ref) (after : Parts) → taken.kind ≡ k → taken.committed ≡ None → NotesKind k c now actor fresh after → NotedSo before actor u next taken now t run kept is after
+  by_kind kind.SwapMain false fresh after same none notes = noted_owner fresh after none (λ e. apart (sym same ∙ e)) notes
     where
       apart : kind.SwapMain ≡ kind.SwapRoot → ⊥
       apart e = cc
-  by_kind kind.SwapMain true after same none notes = noted_none after none (λ e. apart (sym same ∙ e)) notes
+  by_kind kind.SwapMain true fresh after same none notes = noted_none after none (λ e. apart (sym same ∙ e)) notes
     where
       apart : kind.SwapMain ≡ kind.SwapRoot → ⊥
       apart e = cc
-  by_kind kind.SwapRoot c after same none notes = noted_carried after none notes
-  by_kind kind.Make c after same none notes = noted_drawn after none (λ e. apart (sym same ∙ e)) notes
+  by_kind kind.SwapRoot c fresh after same none notes = noted_carried after none notes
+  by_kind kind.Make c fresh after same none notes = noted_drawn after none (λ e. apart (sym same ∙ e)) notes
     where
       apart : kind.Make ≡ kind.SwapRoot → ⊥
       apart e = cc
-  by_kind kind.ReadRoot c after same none notes = noted_none after none (λ e. apart (sym same ∙ e)) notes
+  by_kind kind.ReadRoot c fresh after same none notes = noted_none after none (λ e. apart (sym same ∙ e)) notes
     where
       apart : kind.ReadRoot ≡ kind.SwapRoot → ⊥
       apart e = cc
-  by_kind kind.ReadMain c after same none notes = noted_none after none (λ e. apart (sym same ∙ e)) notes
+  by_kind kind.ReadMain c fresh after same none notes = noted_none after none (λ e. apart (sym same ∙ e)) notes
     where
       apart : kind.ReadMain ≡ kind.SwapRoot → ⊥
       apart e = cc
-  by_kind kind.ReadPrev c after same none notes = noted_none after none (λ e. apart (sym same ∙ e)) notes
+  by_kind kind.ReadPrev c fresh after same none notes = noted_none after none (λ e. apart (sym same ∙ e)) notes
     where
       apart : kind.ReadPrev ≡ kind.SwapRoot → ⊥
       apart e = cc
-  by_kind kind.SwapPrev c after same none notes = noted_none after none (λ e. apart (sym same ∙ e)) notes
+  by_kind kind.SwapPrev c fresh after same none notes = noted_none after none (λ e. apart (sym same ∙ e)) notes
     where
       apart : kind.SwapPrev ≡ kind.SwapRoot → ⊥
       apart e = cc
-  by_kind kind.Look c after same none notes = noted_none after none (λ e. apart (sym same ∙ e)) notes
+  by_kind kind.Look c fresh after same none notes = noted_none after none (λ e. apart (sym same ∙ e)) notes
     where
       apart : kind.Look ≡ kind.SwapRoot → ⊥
       apart e = cc
-  by_kind kind.End c after same none notes = noted_none after none (λ e. apart (sym same ∙ e)) notes
+  by_kind kind.End c fresh after same none notes = noted_none after none (λ e. apart (sym same ∙ e)) notes
     where
       apart : kind.End ≡ kind.SwapRoot → ⊥
       apart e = cc
-  by_kind kind.Begin c after same none notes = noted_none after none (λ e. apart (sym same ∙ e)) notes
+  by_kind kind.Begin c fresh after same none notes = noted_none after none (λ e. apart (sym same ∙ e)) notes
     where
       apart : kind.Begin ≡ kind.SwapRoot → ⊥
       apart e = cc
-  by_kind kind.ScanPin c after same none notes = noted_none after none (λ e. apart (sym same ∙ e)) notes
+  by_kind kind.ScanPin c fresh after same none notes = noted_none after none (λ e. apart (sym same ∙ e)) notes
     where
       apart : kind.ScanPin ≡ kind.SwapRoot → ⊥
       apart e = cc
-  by_kind kind.Advance c after same none notes = noted_none after none (λ e. apart (sym same ∙ e)) notes
+  by_kind kind.Advance c fresh after same none notes = noted_none after none (λ e. apart (sym same ∙ e)) notes
     where
       apart : kind.Advance ≡ kind.SwapRoot → ⊥
       apart e = cc
-  by_kind kind.FreeOne c after same none notes = noted_none after none (λ e. apart (sym same ∙ e)) notes
+  by_kind kind.FreeOne c fresh after same none notes = noted_none after none (λ e. apart (sym same ∙ e)) notes
     where
       apart : kind.FreeOne ≡ kind.SwapRoot → ⊥
       apart e = cc
 
-  pub noted_kind : (after : Parts) → taken.committed ≡ None → NotesKind taken.kind taken.counts now actor after → NotedSo before actor u next taken now t run kept is after
-  noted_kind after none notes = by_kind taken.kind taken.counts after refl none notes
+  pub noted_kind : (fresh : Ref) (after : Parts) → taken.committed ≡ None → NotesKind taken.kind taken.counts now actor fresh after → NotedSo before actor u next taken now t run kept is after
+  noted_kind fresh after none notes = by_kind taken.kind taken.counts fresh after refl none notes

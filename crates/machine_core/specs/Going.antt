@@ -39,12 +39,14 @@ pub record Steps (before : Parts) (actor : ℕ) (u : UnderWay) (taken : Taken) (
   pub rest : after ≡ record before { heap = after.heap; table = after.table; generations = after.generations; actors = after.actors }
 
 -- the parts between what the programs did and what the machine notes of it
-pub record Midway (actor : ℕ) (u : UnderWay) (taken : Taken) (parts : Parts) : Type 0 where
+pub record Midway (actor : ℕ) (u : UnderWay) (fresh : Ref) (taken : Taken) (parts : Parts) : Type 0 where
   pub before : Parts
   pub run : IsOfRun (seen before)
   pub kept : IsKept before
   pub runs : under_way_of before actor ≡ Some u
   pub steps : Steps before actor u taken parts
+  -- what the operation was about to swap in
+  pub fresh_is : (found : Actor) → actor_of before actor ≡ Some found → fresh ≡ found.programs.key.work.swap.fresh
 
 -- ---- what is noted of it
 
@@ -83,10 +85,8 @@ pub record NotesCommit (before : Parts) (main : Ref) (after : Parts) : Type 0 wh
   pub events : after.journal.events ≡ before.journal.events
 
 -- the actor owns the main node that it was about to swap in
-abbrev pub NotesOwner : Parts → ℕ → Parts → Type 0
-NotesOwner before actor after =
-    (found : Actor) → actor_of before actor ≡ Some found →
-    after ≡ record before { heap = record before.heap { owners = slice_set before.heap.owners (slot_of found.programs.key.work.swap.fresh) actor } }
+abbrev pub NotesOwner : Parts → ℕ → Ref → Parts → Type 0
+NotesOwner before actor fresh after = after ≡ record before { heap = record before.heap { owners = slice_set before.heap.owners (slot_of fresh) actor } }
 
 -- the offer that was carried out, if one was, has closed the generation of the root that it took away, and whoever offered enters the order
 pub record NotesCarried (before after : Parts) : Type 0 where
@@ -105,15 +105,15 @@ pub record NotesDrawn (before after : Parts) : Type 0 where
   pub events : after.journal.events ≡ before.journal.events
 
 -- what is noted of a step of this kind that committed nothing, from which a READ counts or not
-abbrev pub NotesKind : Kind → Bool → Parts → ℕ → Parts → Type 0
-NotesKind kind.SwapMain false before actor after = NotesOwner before actor after
-NotesKind kind.SwapRoot counts before actor after = NotesCarried before after
-NotesKind kind.Make counts before actor after = NotesDrawn before after
-NotesKind k counts before actor after = after ≡ before
+abbrev pub NotesKind : Kind → Bool → Parts → ℕ → Ref → Parts → Type 0
+NotesKind kind.SwapMain false before actor fresh after = NotesOwner before actor fresh after
+NotesKind kind.SwapRoot counts before actor fresh after = NotesCarried before after
+NotesKind kind.Make counts before actor fresh after = NotesDrawn before after
+NotesKind k counts before actor fresh after = after ≡ before
 
 -- what can be noted of such a step
-pub record CanNote (parts : Parts) (actor : ℕ) (taken : Taken) : Type 0 where
-  pub owner : taken.kind ≡ kind.SwapMain → taken.counts ≡ false → (found : Actor) → actor_of parts actor ≡ Some found → IsLive parts.heap.heap found.programs.key.work.swap.fresh
+pub record CanNote (parts : Parts) (fresh : Ref) (taken : Taken) : Type 0 where
+  pub owner : taken.kind ≡ kind.SwapMain → taken.counts ≡ false → IsLive parts.heap.heap fresh
   pub later : All (λ (closing : Closing). closing.step < parts.steps) parts.journal.chronicle.closings
   pub behind : All (λ (place : Place). place.step ≤ parts.steps) parts.journal.chronicle.places
   pub closes : MatchOption parts.table.carried (Unit {0}) (λ (offer : Descriptor). generation_at parts.heap.heap offer.root < parts.journal.chronicle.generations)

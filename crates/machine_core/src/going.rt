@@ -15,7 +15,7 @@ ghost use Rattle.operate.specs.Places.{answer_of};
 ghost use Rattle.running.specs.Places.{line_for, IsSound};
 ghost use Rattle.running.specs.Steps.{scene, CanStep};
 ghost use Rattle.machine_core.specs.Bounds.{IsOfRun};
-ghost use Rattle.machine_core.specs.Going.{entered_for, moved, step_committed, CanNote, HasUnderWay, Midway, NotesCarried, NotesCommit, NotesDrawn, NotesKind, NotesOwner, Steps, StepsTo};
+ghost use Rattle.machine_core.specs.Going.{entered_for, moved, step_committed, CanNote, HasUnderWay, Midway, NotesCarried, NotesCommit, NotesDrawn, NotesKind, Steps, StepsTo};
 ghost use Rattle.machine_core.specs.Keeping.{IsKept, Replaces};
 ghost use Rattle.machine_core.specs.Seen.{actor_of, operation_at, operation_seen, seen, under_way_of};
 ghost use Rattle.machine_core.specs.declared.parts.Actor.{Actor as AnActor};
@@ -95,8 +95,19 @@ fn proceed(parts: &mut Parts, actor: u8, under_way: UnderWay) -> Result<Outcome,
     ensures noted { OnErr result (parts.new.heap.noted ≡ parts.old.heap.noted) }
 {
     parts.journal.chronicle.room_for(parts.begun)?;
+    let fresh = fresh_of(parts, actor);
     let taken = step(parts, actor, under_way)?;
-    Ok(Outcome::Went(note(parts, actor, under_way, taken)))
+    Ok(Outcome::Went(note(parts, actor, under_way, fresh, taken)))
+}
+
+/// The main node that the actor's operation was, or is, about to swap in.
+fn fresh_of(parts: &Parts, actor: u8) -> Ref
+    ensures { (found : AnActor) → actor_of parts.now actor ≡ Some found → result ≡ found.programs.key.work.swap.fresh }
+{
+    match parts.actor(actor) {
+        Some(found) => found.programs.fresh(),
+        None => Ref::default(),
+    }
 }
 
 /// Lets the actor's programs take the step. After an error nothing has changed.
@@ -160,14 +171,14 @@ fn step_of(
 }
 
 /// Notes what a step did that the actor's programs took, and tells its kind.
-fn note(parts: &mut Parts, actor: u8, under_way: UnderWay, taken: Taken) -> Kind
-    requires midway { Midway actor under_way taken parts.old }
+fn note(parts: &mut Parts, actor: u8, under_way: UnderWay, fresh: Ref, taken: Taken) -> Kind
+    requires midway { Midway actor under_way fresh taken parts.old }
     requires to_draw { 0 < parts.old.journal.chronicle.room_to_draw }
     requires to_add { 0 < parts.old.journal.chronicle.room_to_add }
     requires to_close { 0 < parts.old.journal.chronicle.room_to_close }
     requires ids { parts.old.begun < parts.old.journal.chronicle.ids }
     ensures kind { result ≡ taken.kind }
-    ensures gone { (midway : Midway actor under_way taken parts.old) → (operation : Operation) → operation_of (seen midway.before) actor ≡ Some operation →
+    ensures gone { (midway : Midway actor under_way fresh taken parts.old) → (operation : Operation) → operation_of (seen midway.before) actor ≡ Some operation →
         gone (seen midway.before) actor operation ≡ seen parts.new }
     ensures kept { IsKept parts.new }
 {
@@ -175,7 +186,7 @@ fn note(parts: &mut Parts, actor: u8, under_way: UnderWay, taken: Taken) -> Kind
     put_under_way(&mut parts.actors, actor as usize - 1, next);
     match taken.committed {
         Some(main) => note_commit(parts, main),
-        None => note_kind(parts, actor, &taken),
+        None => note_kind(parts, actor, fresh, &taken),
     }
     taken.kind
 }
@@ -265,35 +276,24 @@ fn entered_with(parts: &Parts, owner: &Actor, under_way: UnderWay, main: Ref) ->
 }
 
 /// Notes what a step of this kind did that committed nothing.
-fn note_kind(parts: &mut Parts, actor: u8, taken: &Taken)
-    requires can { CanNote parts.old actor taken.now }
-    ensures notes { NotesKind taken.now.kind taken.now.counts parts.old actor parts.new }
+fn note_kind(parts: &mut Parts, actor: u8, fresh: Ref, taken: &Taken)
+    requires can { CanNote parts.old fresh taken.now }
+    ensures notes { NotesKind taken.now.kind taken.now.counts parts.old actor fresh parts.new }
 {
     match taken.kind {
-        Kind::SwapMain => note_swap(parts, actor, taken.counts),
+        Kind::SwapMain => note_swap(parts, actor, fresh, taken.counts),
         Kind::SwapRoot => note_carried(parts),
         Kind::Make => note_drawn(parts),
         _ => {}
     }
 }
 
-/// Notes a swap of a main word, by a READ or not.
-fn note_swap(parts: &mut Parts, actor: u8, counts: bool)
-    requires owner { counts ≡ false → (found : AnActor) → actor_of parts.old actor ≡ Some found → IsLive parts.old.heap.heap found.programs.key.work.swap.fresh }
-    ensures notes { NotesKind Kind.SwapMain counts parts.old actor parts.new }
+/// Notes a swap of a main word, by a READ or not: the actor owns the main node that it was about to swap in.
+fn note_swap(parts: &mut Parts, actor: u8, fresh: Ref, counts: bool)
+    requires owner { counts ≡ false → IsLive parts.old.heap.heap fresh }
+    ensures notes { NotesKind Kind.SwapMain counts parts.old actor fresh parts.new }
 {
     if !counts {
-        note_owner(parts, actor);
-    }
-}
-
-/// The actor owns the main node that it was about to swap in.
-fn note_owner(parts: &mut Parts, actor: u8)
-    requires owner { (found : AnActor) → actor_of parts.old actor ≡ Some found → IsLive parts.old.heap.heap found.programs.key.work.swap.fresh }
-    ensures notes { NotesOwner parts.old actor parts.new }
-{
-    if let Some(found) = parts.actor(actor) {
-        let fresh = found.programs.fresh();
         parts.heap.set_owner(fresh, actor);
     }
 }
