@@ -25,3 +25,4 @@ pub mod Noted
 pub mod Offering
 pub mod Entering
 pub mod Notings
+pub mod Whole
