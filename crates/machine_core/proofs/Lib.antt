@@ -26,3 +26,5 @@ pub mod Offering
 pub mod Entering
 pub mod Notings
 pub mod Whole
+pub mod Fits
+pub mod Asked
