@@ -85,7 +85,7 @@ given_used state h actor operation found (Some r) is main e =
         subst (λ (s : State). operation_of s actor ≡ Some operation → AllHold (IsInUse s.heap) s.heap (line_wants state.limits.hash operation.call operation.access operation.line)) (sym h.is)
         (λ e. line_finds_in (run state.limits h.steps) (safe_along state.limits h.limits h.steps) state.limits (limits_along state.limits h.steps) actor operation e) found
 
-newest_used : (state : State) → IsOfRun state → (main : Ref) → IsInUse state.heap main → IsNewest state.commits main
+pub newest_used : (state : State) → IsOfRun state → (main : Ref) → IsInUse state.heap main → IsNewest state.commits main
 newest_used state h main used =
     subst (λ (s : State). IsInUse s.heap main → IsNewest s.commits main) (sym h.is) (committed_are_newest state.limits h.steps h.limits main) used
 

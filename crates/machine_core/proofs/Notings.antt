@@ -154,7 +154,7 @@ module _ (before : Parts) (actor : ℕ) (u next : UnderWay) (taken : Taken) (now
 
   -- ---- a step that carries an offer out
 
-  carried_is : now.table.carried ≡ carried_now (seen before) (operation_at before.table t.seat.found.programs u)
+  pub carried_is : now.table.carried ≡ carried_now (seen before) (operation_at before.table t.seat.found.programs u)
   carried_is =
       let action : Action = action_of (seen before) (operation_at before.table t.seat.found.programs u) in
       ap (λ (x : Table). x.carried) (changes before actor u next taken now t run kept is).table
@@ -164,7 +164,7 @@ module _ (before : Parts) (actor : ℕ) (u next : UnderWay) (taken : Taken) (now
       ∙ ap (λ h. carried_by (word_in before.table h) action) (sym (handle_is before actor u next taken now t run kept is))
 
   -- that step leaves the heap
-  heap_stays : (offer : Descriptor) → carried_now (seen before) (operation_at before.table t.seat.found.programs u) ≡ Some offer → now.heap.heap ≡ before.heap.heap
+  pub heap_stays : (offer : Descriptor) → carried_now (seen before) (operation_at before.table t.seat.found.programs u) ≡ Some offer → now.heap.heap ≡ before.heap.heap
   heap_stays offer e =
       let c : Carries _ _ offer = carries _ _ offer e in
       (changes before actor u next taken now t run kept is).acts.heap ∙ ap (λ a. acted_heap before.heap.heap (with_generation before.generations a)) c.is
