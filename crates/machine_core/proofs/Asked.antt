@@ -115,7 +115,7 @@ root_drawn : (state : State) → IsOfRun state → (r : Ref) → IsInUse state.h
 root_drawn state h r used =
     subst (λ (s : State). IsInUse s.heap r → generation_at s.heap r < s.generations) (sym h.is)
     (λ there.
-        subst (λ n. generation_of n < (run state.limits h.steps).generations) (sym (node_standing (run state.limits h.steps).heap there.0 there.1))
+        subst (λ n. generation_of n < (run state.limits h.steps).generations) (sym (node_standing (run state.limits h.steps).heap r there.0 there.1))
         (standing_below (run state.limits h.steps) (below_along state.limits h.limits h.steps) r there.0 there.1))
     used
 

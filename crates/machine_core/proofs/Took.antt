@@ -72,3 +72,7 @@ pub actor_now : (before : Parts) (actor : ℕ) (u next : UnderWay) (taken : Take
 actor_now before zero u next taken now t = absurd (let counts = t.seat.counts in omega (arith, counts))
 actor_now before (suc n) u next taken now t =
     ap (slice_get now.actors.items) (let same : n ≡ suc n - 1 = omega arith in same) ∙ stands_now before (suc n) u next taken now t
+
+pub actor_there : (before : Parts) (actor : ℕ) (u : UnderWay) (seat : Seat before actor u) → actor_of before actor ≡ Some seat.found
+actor_there before zero u seat = absurd (let counts = seat.counts in omega (arith, counts))
+actor_there before (suc n) u seat = ap (slice_get before.actors.items) (let same : n ≡ suc n - 1 = omega arith in same) ∙ seat.at
