@@ -27,7 +27,7 @@ use Rattle.machine_model.proofs.Grown.{node_standing}
 use Rattle.machine_model.specs.Machine.{run}
 use Rattle.machine_model.specs.Operations.{action_of, kind_of, line_action}
 use Rattle.machine_model.specs.Orders.{closing_for, counted_from, place_of}
-use Rattle.machine_model.specs.States.{State, operation_of}
+use Rattle.machine_model.specs.States.{State, operation_of, word_at}
 use Rattle.proof_memory.specs.Laws.{IsInUse}
 use Rattle.proof_memory.specs.Wants.{AllHold, action_wants}
 use Rattle.proof_memory.proofs.Claims.Uses.{safe_of}
@@ -179,7 +179,8 @@ module _ (before : Parts) (actor : ℕ) (u next : UnderWay) (taken : Taken) (now
   root_below offer e =
       let own : Operation = operation_at before.table t.seat.found.programs u in
       let carried : carried_now (seen before) own ≡ Some offer = sym (carried_is before actor u next taken now t run kept is) ∙ e in
-      let c : Carries _ _ offer = carries _ _ offer carried in
+      let c : Carries (word_at (seen before) (handle_of own.call)) (action_of (seen before) own) offer =
+          carries (word_at (seen before) (handle_of own.call)) (action_of (seen before) own) offer carried in
       let used : IsInUse before.heap.heap offer.root =
           safe_of (subst (λ (a : Action). AllHold (IsInUse before.heap.heap) before.heap.heap (action_wants a)) c.is (action_used (seen before) run actor own (operation_there before actor u t.seat))).1.0 in
       let below = root_drawn (seen before) run offer.root used in
@@ -189,7 +190,9 @@ module _ (before : Parts) (actor : ℕ) (u next : UnderWay) (taken : Taken) (now
   offer_below : (n : ℕ) → before.begun < n → (offer : Descriptor) → now.table.carried ≡ Some offer → offer.operation < n
   offer_below n less offer e =
       let own : Operation = operation_at before.table t.seat.found.programs u in
-      let c : Carries _ _ offer = carries _ _ offer (sym (carried_is before actor u next taken now t run kept is) ∙ e) in
+      let carried : carried_now (seen before) own ≡ Some offer = sym (carried_is before actor u next taken now t run kept is) ∙ e in
+      let c : Carries (word_at (seen before) (handle_of own.call)) (action_of (seen before) own) offer =
+          carries (word_at (seen before) (handle_of own.call)) (action_of (seen before) own) offer carried in
       let given = offer_given (seen before) run (handle_of own.call) c.other c.stands in
       omega (arith, given, c.same, less, kept.begun_are)
 
