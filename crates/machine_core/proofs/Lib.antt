@@ -28,3 +28,4 @@ pub mod Notings
 pub mod Fits
 pub mod Asked
 pub mod Whole
+pub mod Keeps
