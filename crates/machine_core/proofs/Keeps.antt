@@ -1,17 +1,23 @@
 -- What a step of an operation in place leaves as it has to be: references that are held, recorded epochs, and where actors stand.
-use Rattle.std.proofs.Common.{arith, ◌≡◌, ℕ, ◌+◌, ◌-◌, ◌++◌, List, [], ◌∷◌, length, map, set, get_or, Option, Some, None, refl, sym, ap, subst, ◌∙◌}
-use Rattle.std.specs.Prelude.{option_map, slice_get}
-use Rattle.std.proofs.lemmas.List.{map-set}
+use Rattle.std.proofs.Common.{arith, ◌≡◌, Bool, true, false, ℕ, ◌+◌, ◌-◌, ◌++◌, List, [], ◌∷◌, length, map, set, get_or, Option, Some, None, refl, sym, ap, subst, ◌∙◌}
+use Rattle.std.specs.Prelude.{option_map, slice_get, slice_index_or}
+use Rattle.std.proofs.lemmas.List.{length-set, map-set}
 use Rattle.std.proofs.lemmas.List.Concat.{flat_map-cons}
 use Rattle.std.proofs.lemmas.Option.{none-some, same_Some}
 use Rattle.std.proofs.Math.Seq.{map-set_same}
 use Rattle.slot_arena.specs.declared.refs.Ref.{Ref}
 use Rattle.slot_arena.specs.Times.{times}
+use Rattle.machine_model.specs.declared.actions.Action.{Action}
+use Rattle.machine_model.specs.declared.actions.Action.TheVariants as act
 use Rattle.machine_model.specs.declared.operations.Operation.{Operation}
+use Rattle.machine_model.specs.declared.roots.Descriptor.{Descriptor}
 use Rattle.machine_model.specs.Counting.{refs_of_operation}
 use Rattle.machine_model.specs.Machine.{pin_of}
+use Rattle.machine_model.specs.Operations.{action_of}
 use Rattle.rdcss_root.specs.Holds.{root_refs}
-use Rattle.rdcss_root.specs.Tables.{Table}
+use Rattle.rdcss_root.specs.Tables.{Table, word_in}
+use Rattle.running.specs.Carried.{carried_by}
+use Rattle.running.proofs.Offers.{marked_at, marks_by, unmarked}
 use Rattle.running.specs.declared.programs.Programs.{Programs}
 use Rattle.running.specs.declared.taken.Taken.{Taken}
 use Rattle.running.specs.Places.{IsSound}
@@ -56,6 +62,16 @@ pub epochs_any : (a b : Table) (xs : List Actor) → map pin_of (actors_seen a x
 epochs_any a b [] = refl
 epochs_any a b (x ∷ xs) = ap (λ p. p ∷ map pin_of (actors_seen a xs)) (pins_any a b x) ∙ ap (λ ps. pin_of (operation_seen b x) ∷ ps) (epochs_any a b xs)
 
+-- ---- marks
+
+unmarked_length : (marks : List Bool) (actor : ℕ) (action : Action) → length (unmarked marks actor action) ≡ length marks
+unmarked_length marks actor (act.Offer offer) = length-set marks actor false
+unmarked_length marks actor action = refl
+
+marked_length : (marks : List Bool) (offerer : ℕ) (carried : Option Descriptor) → length (marked_at marks offerer carried) ≡ length marks
+marked_length marks offerer None = refl
+marked_length marks offerer (Some offer) = length-set marks offerer true
+
 -- ---- a step
 
 module _ (before : Parts) (actor : ℕ) (u next : UnderWay) (taken : Taken) (now : Parts) (t : Took before actor u next taken now) (run : IsOfRun (seen before)) (kept : IsKept before)
@@ -98,3 +114,12 @@ module _ (before : Parts) (actor : ℕ) (u next : UnderWay) (taken : Taken) (now
             ∙ sym (map-set_same pin_of (seen before).actors (actor - 1) (Some new) None (ap (λ (w : UnderWay). Some w.epoch) is ∙ sym (ap pin_of at.is)))
             ∙ ap (map pin_of) (sym seen_so) ∙ epochs_any before.table now.table now.actors.items;
       }
+
+  -- the table knows as many marks as before
+  pub marks_now : length now.table.marks ≡ length before.table.marks
+  marks_now =
+      let action : Action = action_of (seen before) (operation_at before.table t.seat.found.programs u) in
+      ap (λ (x : Table). length x.marks) (changes before actor u next taken now t run kept is).table
+      ∙ ap length (marks_by before.table u.job.handle u.job.actor action).marks
+      ∙ marked_length (unmarked before.table.marks u.job.actor action) (slice_index_or before.table.offerers u.job.handle 0) (carried_by (word_in before.table u.job.handle) action)
+      ∙ unmarked_length before.table.marks u.job.actor action

@@ -178,6 +178,14 @@ midway_roomed old chronicle actor u fresh taken after closings places generation
   fresh_is = fresh_is;
 }
 
+pub roomed_before : (old : Parts) (chronicle : Told) (actor : ℕ) (u : UnderWay) (fresh : Ref) (taken : Taken) (after : Parts) (closings : chronicle.closings ≡ old.journal.chronicle.closings)
+    (places : chronicle.places ≡ old.journal.chronicle.places) (generations : chronicle.generations ≡ old.journal.chronicle.generations) (run : IsOfRun (seen old)) (kept : IsKept old)
+    (runs : under_way_of old actor ≡ Some u) (steps : Steps (record old { journal = record old.journal { chronicle = chronicle } }) actor u taken after)
+    (fresh_is : (found : Actor) → actor_of old actor ≡ Some found → fresh ≡ found.programs.key.work.swap.fresh) →
+    seen (midway_roomed old chronicle actor u fresh taken after closings places generations run kept runs steps fresh_is).before ≡ seen old
+unfolding midway_roomed
+roomed_before old chronicle actor u fresh taken after closings places generations run kept runs steps fresh_is = seen_roomed old chronicle closings places
+
 pub whole_step : (old : Parts) (actor : ℕ) (u : UnderWay) (fresh : Ref) (taken : Taken) (after final : Parts) (m : Midway actor u fresh taken after) (k : Kind) → seen m.before ≡ seen old →
     k ≡ taken.kind →
     ((operation : Operation) → operation_of (seen m.before) actor ≡ Some operation → gone (seen m.before) actor operation ≡ seen final) →
