@@ -16,3 +16,4 @@ pub mod Named
 pub mod Knows
 pub mod Kept
 pub mod Left
+pub mod Begun

@@ -21,6 +21,7 @@ mod handles;
 mod machine;
 mod mains;
 mod parts;
+mod placing;
 mod settling;
 mod starting;
 mod stepping;
