@@ -62,8 +62,8 @@ seen_alike before after actor each = by actor.under_way refl
 -- an operation by its fields
 by_fields : {i j : ℕ} → i ≡ j → {c d : Call} → c ≡ d → {a b : Access} → a ≡ b → {e f : ℕ} → e ≡ f → {p q : List Ref} → p ≡ q → {o w : Option ℕ} → o ≡ w → {n m : ℕ} → n ≡ m →
     {x y : Bool} → x ≡ y → {g h : Option ℕ} → g ≡ h → {r s : ℕ} → r ≡ s → {t u : ℕ} → t ≡ u → {k l : Line} → k ≡ l →
-    record { id = i; call = c; access = a; epoch = e; private = p; opens = o; attempt = n; is_marked = x; generation = g; read_at = r; moment = t; line = k }
-    ≡ record { id = j; call = d; access = b; epoch = f; private = q; opens = w; attempt = m; is_marked = y; generation = h; read_at = s; moment = u; line = l }
+    ◌≡◌ {A = Operation} (record { id = i; call = c; access = a; epoch = e; private = p; opens = o; attempt = n; is_marked = x; generation = g; read_at = r; moment = t; line = k })
+    (record { id = j; call = d; access = b; epoch = f; private = q; opens = w; attempt = m; is_marked = y; generation = h; read_at = s; moment = u; line = l })
 by_fields id call access epoch private opens attempt mark generation read_at moment line =
     rw (id, call, access, epoch, private, opens, attempt, mark, generation, read_at, moment, line) refl
 

@@ -1,6 +1,13 @@
 use Rattle.std.proofs.Common.{◌≡◌, ◌+◌, ◌-◌, ◌++◌, ◌∷◌, [], length, Some, refl, ap, ◌∙◌, arith, subst}
 use Rattle.std.proofs.lemmas.List.{length-map}
+use Rattle.std.specs.Prelude.{unwrap_or}
+use Rattle.history.specs.declared.calls.Access.{Access}
+use Rattle.history.specs.declared.calls.Access.TheVariants.{Writable}
+use Rattle.history.specs.declared.calls.Call.{Call}
 use Rattle.history.specs.declared.events.Event.TheVariants.{Begin}
+use Rattle.machine_model.specs.Calls.{handle_of}
+use Rattle.machine_model.specs.Machine.{access_of}
+use Rattle.machine_model.specs.States.{root_at}
 use Rattle.rdcss_root.proofs.Rewriting.{ready_less}
 use Rattle.machine_core.specs.declared.parts.Parts.{Parts}
 use Rattle.machine_core.specs.Keeping.{Replaces}
@@ -29,6 +36,10 @@ seat-requires c =
     let at = begin_stands (seen parts) c.args.actor c.args.call c.requires.run c.requires.allowed in
     omega (arith, at.within, length-map parts.actors.items (operation_seen parts.table), ap (λ (p : Parts). length p.actors.items) c.close_handle.ensures.same)
 
+-- the access of the handle
+abbrev access_at : Parts → Call → Access
+access_at parts call = unwrap_or (access_of (root_at (seen parts) (handle_of call))) Writable
+
 -- what it comes to
 begins : (c : goal.After-parts-1) → BeginsAt c.args.parts.now c.close_handle.new.parts
     (record c.close_handle.new.parts {
@@ -49,7 +60,7 @@ begins c =
       moves = closed.moves;
       middle_events = closed.events;
       middle_drawn = closed.generations;
-      seated = subst (λ xs. Replaces xs (c.args.actor - 1) (Begins c.new_under_way-under_way.result _) c.seat.new.actors.items) (ap (λ (p : Parts). p.actors.items) closed.same)
+      seated = subst (λ xs. Replaces xs (c.args.actor - 1) (Begins c.new_under_way-under_way.result (access_at c.args.parts.now c.args.call)) c.seat.new.actors.items) (ap (λ (p : Parts). p.actors.items) closed.same)
           (subst (λ a. Replaces c.close_handle.new.parts.actors.items (c.args.actor - 1) (Begins c.new_under_way-under_way.result a) c.seat.new.actors.items) c.access_for-access.ensures
           c.seat.ensures);
       heap = c.pin.ensures;
