@@ -17,6 +17,7 @@ use Rattle.machine_model.specs.States.{State, operation_of}
 use Rattle.rdcss_root.specs.Holds.{root_refs}
 use Rattle.rdcss_root.specs.Tables.{Table, word_in}
 use Rattle.machine_core.specs.declared.parts.Actor.{Actor}
+use Rattle.machine_core.specs.declared.parts.Journal.{Journal}
 use Rattle.machine_core.specs.declared.parts.Parts.{Parts}
 use Rattle.machine_core.specs.declared.parts.UnderWay.{UnderWay}
 use Rattle.machine_core.specs.Keeping.{AreSeated, IsKept, IsNoted, IsSeated, KnowsOfferers, KnowsOwners, Replaces}
@@ -65,6 +66,24 @@ kept_alike before after a h =
       begun_are = a.begun_are ∙ h.begun_are ∙ ap begun (sym a.events);
       slots = omega (arith, h.slots, a.slots, ap (λ l. l.slots) a.limits);
     }
+
+-- what is kept of operations got more room
+pub kept_journal : (before : Parts) (journal : Journal) → journal.chronicle.generations ≡ before.journal.chronicle.generations → journal.events.items ≡ before.journal.events.items →
+    IsKept before → IsKept (record before { journal = journal })
+kept_journal before journal drawn events = kept_alike before (record before { journal = journal }) (record {
+  limits = refl;
+  table = refl;
+  actors = refl;
+  outside = λ r. refl;
+  pins = refl;
+  stood = λ main slot e. e;
+  owners = refl;
+  drawn = drawn;
+  generations = refl;
+  begun_are = refl;
+  events = events;
+  slots = refl;
+})
 
 -- ---- an actor's place
 

@@ -16,6 +16,7 @@ ghost use Rattle.machine_core.specs.Seen.{operation_at, seen, under_way_of};
 
 use crate::parts::{Actor, Parts, UnderWay};
 use crate::placing::place_of;
+use crate::room::make_room;
 use chronicle::Chronicle;
 use ctrie_base::Refusal;
 use epochs::Heap;
@@ -26,7 +27,8 @@ use places::Place;
 /// The place that an operation enters at its end with this reply, if it does: one that was answered and
 /// changed nothing does.
 fn entered_at_end(parts: &Parts, actor: &Actor, under_way: UnderWay, reply: &Reply) -> Option<Place>
-    ensures { option_to_list result ≡ entered_at_end (seen parts.now) (operation_at parts.now.table actor.now.programs under_way) reply.now }
+    ensures of_id { MatchOption result Unit (λ at. at.id ≡ under_way.job.id) }
+    ensures place { option_to_list result ≡ entered_at_end (seen parts.now) (operation_at parts.now.table actor.now.programs under_way) reply.now }
 {
     match reply {
         Reply::NoSlots => None,
@@ -36,7 +38,8 @@ fn entered_at_end(parts: &Parts, actor: &Actor, under_way: UnderWay, reply: &Rep
 
 /// The place of a reader at its end, if the operation has none yet.
 fn entered_unless_placed(parts: &Parts, actor: &Actor, under_way: UnderWay) -> Option<Place>
-    ensures { option_to_list result ≡ entered_at_end (seen parts.now) (operation_at parts.now.table actor.now.programs under_way) Closed }
+    ensures of_id { MatchOption result Unit (λ at. at.id ≡ under_way.job.id) }
+    ensures place { option_to_list result ≡ entered_at_end (seen parts.now) (operation_at parts.now.table actor.now.programs under_way) Closed }
 {
     if parts.journal.chronicle.is_placed(under_way.job.id) {
         None
@@ -125,8 +128,7 @@ pub fn end(parts: &mut Parts, actor: u8, under_way: UnderWay, reply: Reply) -> R
     ensures noted { OnErr result (parts.new.heap.noted ≡ parts.old.heap.noted) }
 {
     let kept = reply.copy()?;
-    parts.journal.events.reserve(1)?;
-    parts.journal.chronicle.room_for(parts.begun)?;
+    make_room(parts)?;
     let place = place_at_end(parts, actor, under_way, &reply);
     finish(parts, actor, under_way, kept, place);
     Ok(Outcome::Ended(under_way.job.id, reply))

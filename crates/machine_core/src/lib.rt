@@ -22,6 +22,7 @@ mod machine;
 mod mains;
 mod parts;
 mod placing;
+mod room;
 mod settling;
 mod starting;
 mod stepping;
