@@ -127,7 +127,8 @@ impl Core {
         ensures { result.items ≡ self.events }
     {
         let Core { parts } = self;
-        parts.journal.events
+        let journal = parts.journal;
+        journal.events
     }
 
     /// Whether the actor runs an operation.
