@@ -19,7 +19,7 @@ use history::Call;
 use machine_model::{Outcome, Step};
 
 /// Takes a step, or refuses it. After a refusal nothing that is seen has changed.
-#[tactic(auto, using(crate::proofs::Steps::refused, crate::proofs::Steps::lacks))]
+#[tactic(auto, using(crate::proofs::Steps::refused))]
 pub fn take_step(parts: &mut Parts, step: Step) -> Result<Outcome, Refusal>
     requires run { IsOfRun (seen parts.old) }
     requires kept { IsKept parts.old }
