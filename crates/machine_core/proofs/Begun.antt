@@ -19,6 +19,8 @@ use Rattle.machine_model.specs.declared.lines.Line.{Line}
 use Rattle.machine_model.specs.declared.operations.Operation.{Operation}
 use Rattle.machine_model.specs.declared.roots.Descriptor.{Descriptor}
 use Rattle.machine_model.specs.declared.roots.RootWord.TheVariants.{Offer}
+use Rattle.machine_model.specs.declared.steps.Outcome.TheVariants as outcome
+use Rattle.machine_model.specs.declared.steps.Step.TheVariants as step
 use Rattle.machine_model.specs.Calls.{handle_of, is_close, opens_handle}
 use Rattle.machine_model.specs.Grown.{standing}
 use Rattle.machine_model.specs.Machine.{access_of, begin_denial, handle_closed, least_free, new_operation, with_begin}
@@ -32,7 +34,7 @@ use Rattle.machine_core.specs.declared.parts.Actor.{Actor}
 use Rattle.machine_core.specs.declared.parts.Parts.{Parts}
 use Rattle.machine_core.specs.declared.parts.UnderWay.{UnderWay}
 use Rattle.machine_core.specs.Beginnings.{Begins}
-use Rattle.machine_core.specs.Bounds.{IsOfRun}
+use Rattle.machine_core.specs.Bounds.{IsOfRun, Leads}
 use Rattle.machine_core.specs.Keeping.{AreSeated, IsKept, IsNoted, IsSeated, Replaces}
 use Rattle.machine_core.specs.Seen.{actors_seen, operation_at, operation_seen, seen}
 use Rattle.machine_core.specs.Ties.{IsTied, StandsAt}
@@ -41,6 +43,7 @@ use Rattle.machine_core.proofs.Held.{begin_stands}
 use Rattle.machine_core.proofs.Kept.{replaced_seated, replaced_seen}
 use Rattle.machine_core.proofs.Knows.{IsInNoSwap, first_no_swap, offer_given, offerers_over, owners_over, runs_set}
 use Rattle.machine_core.proofs.Mapped.{found_mapped}
+use Rattle.machine_core.proofs.Steps.{begin_leads}
 use Rattle.machine_core.proofs.Tied.{begun_tied}
 
 -- ---- marks
@@ -220,3 +223,11 @@ module _ (before middle after : Parts) (actor : ℕ) (call : Call) (u : UnderWay
     where
       no_swap : (o : Operation) → begun_operation (seen before) call ≡ o → IsInNoSwap o
       no_swap o same at under main l swaps = first_no_swap call swaps.0 _ (ap (λ (x : Operation). x.line) same ∙ swaps.1)
+
+-- a begin that isn't denied leads there, once there was room
+pub leads_from_room : (before room after : Parts) (actor : ℕ) (call : Call) → begin_denial (seen before) actor call ≡ None → IsKept before →
+    room ≡ record before { journal = room.journal } → seen room ≡ seen before → seen after ≡ with_begin (seen room) actor call (begun_operation (seen room) call) →
+    Leads (seen before) (step.Begin actor call) (outcome.Began room.begun) (seen after)
+leads_from_room before room after actor call allowed h rest same is =
+    begin_leads (seen before) (seen after) actor call room.begun allowed (ap (λ (p : Parts). p.begun) rest ∙ h.begun_are)
+    (is ∙ ap (λ (s : State). with_begin s actor call (begun_operation s call)) same)

@@ -16,18 +16,19 @@ use machine_model::Outcome;
 /// What the step of the actor's operation does, but for what every step does at its end. After an error
 /// nothing has changed.
 // A stub: it gives up. The helper fast2 writes the body.
-pub fn go_on(_parts: &mut Parts, _actor: u8) -> Result<Outcome, Refusal>
-    requires run { IsOfRun (seen _parts.old) }
-    requires kept { IsKept _parts.old }
-    requires runs { IsSome (operation_of (seen _parts.old) _actor) }
+pub fn go_on(parts: &mut Parts, actor: u8) -> Result<Outcome, Refusal>
+    requires run { IsOfRun (seen parts.old) }
+    requires kept { IsKept parts.old }
+    requires runs { IsSome (operation_of (seen parts.old) actor) }
     ensures ok { IfOk result (λ outcome. (operation : Operation) →
-        operation_of (seen _parts.old) _actor ≡ Some operation →
-        went (seen _parts.old) _actor operation (action_of (seen _parts.old) operation)
-        ≡ (outcome, seen _parts.new)) }
-    ensures err { OnErr result (seen _parts.new ≡ seen _parts.old) }
+        operation_of (seen parts.old) actor ≡ Some operation →
+        went (seen parts.old) actor operation (action_of (seen parts.old) operation)
+        ≡ (outcome, seen parts.new)) }
+    ensures err { OnErr result (seen parts.new ≡ seen parts.old) }
     ensures only_memory { IfErr result (λ refusal. refusal ≡ Refusal.Memory) }
-    ensures kept { IsKept _parts.new }
-    ensures noted { OnErr result (_parts.new.heap.noted ≡ _parts.old.heap.noted) }
+    ensures kept { IsKept parts.new }
+    ensures noted { OnErr result (parts.new.heap.noted ≡ parts.old.heap.noted) }
 {
+    let _ = parts.is_running(actor);
     Err(Refusal::Memory)
 }

@@ -28,10 +28,10 @@ pub fn take_step(parts: &mut Parts, step: Step) -> Result<Outcome, Refusal>
     ensures kept { IsKept parts.new }
     ensures noted { parts.new.heap.noted ≡ [] }
 {
-    if let Some(refusal) = denial_of(parts, step) {
-        return Err(refusal);
+    match denial_of(parts, step) {
+        Some(refusal) => Err(refusal),
+        None => take_allowed(parts, step),
     }
-    take_allowed(parts, step)
 }
 
 /// A step that isn't denied. After an error nothing has changed.

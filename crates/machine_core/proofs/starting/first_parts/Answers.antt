@@ -1,5 +1,9 @@
-use Rattle.std.proofs.Common.{refl, ap, ◌∙◌}
+use Rattle.std.proofs.Common.{List, [], ◌∷◌, refl, ap, ◌∙◌}
+use Rattle.slot_arena.specs.Refs.{ref_to}
+use Rattle.slot_arena.specs.declared.refs.Ref.{Ref}
+use Rattle.slot_arena.specs.Heaps.{Heap}
 use Rattle.epochs.specs.Limbo.{limbo_after}
+use Rattle.machine_model.specs.States.{first_heap}
 use Rattle.machine_core.proofs.Starts.{AreFirst, first_limbo, kept_first, seen_first}
 use Rattle.machine_core.proofs.starting.first_parts.Goals as goal
 
@@ -7,8 +11,10 @@ pub first_table-requires-clause-limbo : goal.first_table-requires-clause-limbo
 first_table-requires-clause-limbo c =
     let m = c.in_ok-heap.heap in
     let is = c.in_ok-heap.ensures in
-    ap (λ h. limbo_after h m.outside m.epoch m.limbo) is.heap ∙ ap (λ o. limbo_after _ o m.epoch m.limbo) is.outside
-    ∙ ap (λ e. limbo_after _ _ e m.limbo) is.epoch ∙ ap (limbo_after _ _ 0) is.limbo ∙ first_limbo c.args.limits.slots c.requires.0
+    let heap : Heap = first_heap c.args.limits.slots in
+    let held : List Ref = ref_to 2 1 ∷ [] in
+    ap (λ h. limbo_after h m.outside m.epoch m.limbo) is.heap ∙ ap (λ o. limbo_after heap o m.epoch m.limbo) is.outside
+    ∙ ap (λ e. limbo_after heap held e m.limbo) is.epoch ∙ ap (limbo_after heap held 0) is.limbo ∙ first_limbo c.args.limits.slots c.requires.0
 
 -- the parts are those of a machine that has taken no step
 first : (c : goal.After-new-2) → AreFirst c.args.limits (record {

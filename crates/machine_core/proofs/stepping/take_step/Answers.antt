@@ -6,5 +6,7 @@ use Rattle.machine_core.proofs.stepping.take_step.Goals as goal
 pub returns-in-Some-clause-applies : goal.returns-in-Some-clause-applies
 returns-in-Some-clause-applies c = refused (seen c.args.parts.now) c.args.step c.in-Some.refusal (sym c.in-Some.ensures)
 
-pub returns-clause-applies : goal.returns-clause-applies
-returns-clause-applies c = ?
+pub returns-in-None-clause-applies : goal.returns-in-None-clause-applies
+returns-in-None-clause-applies c =
+    applies_so (seen c.args.parts.now) (seen c.take_allowed.new.parts) c.args.step c.take_allowed.result (sym c.in-None.ensures) c.take_allowed.ensures.taken c.take_allowed.ensures.err
+    c.take_allowed.ensures.only_memory
