@@ -1,6 +1,6 @@
 -- What the parts of a machine keep, they keep where only the heap and the count of steps change, and where an operation ends or begins.
 use Rattle.std.proofs.Common.{◌≡◌, ◌≢◌, length, ℕ, zero, suc, ◌+◌, ◌-◌, ◌<◌, ◌≤◌, ◌⊎◌, inl, inr, List, [], ◌∷◌, set, get_or, map, Option, Some, None, refl, sym, ap, ◌∙◌, subst, arith}
-use Rattle.std.specs.Prelude.{option_and_then, option_map, slice_get}
+use Rattle.std.specs.Prelude.{false, is_some, option_and_then, option_map, slice_get}
 use Rattle.std.proofs.lemmas.Option.{none-some, slice_get-get_or}
 use Rattle.ctrie_base.specs.declared.hashes.HashKind.{HashKind}
 use Rattle.history.specs.Histories.{begun}
@@ -12,10 +12,11 @@ use Rattle.epochs.specs.Memories.{Memory}
 use Rattle.machine_model.specs.declared.operations.Operation.{Operation}
 use Rattle.machine_model.specs.declared.roots.RootWord.TheVariants.{Offer}
 use Rattle.machine_model.specs.Grown.{standing}
-use Rattle.machine_model.specs.Machine.{pin_of}
+use Rattle.machine_model.specs.Machine.{is_running, pin_of}
 use Rattle.machine_model.specs.States.{State, operation_of}
 use Rattle.rdcss_root.specs.Holds.{root_refs}
 use Rattle.rdcss_root.specs.Tables.{Table, word_in}
+use Rattle.running.specs.declared.programs.Programs.{Programs}
 use Rattle.machine_core.specs.declared.parts.Actor.{Actor}
 use Rattle.machine_core.specs.declared.parts.Journal.{Journal}
 use Rattle.machine_core.specs.declared.parts.Parts.{Parts}
@@ -137,3 +138,21 @@ replaced_seated hashes actors after i P r seats new j actor at = by (at_set_case
 -- what stands at an index within the list
 pub at_index : {X : Type 0} (xs : List X) (i : ℕ) (x : X) → i < length xs → x ≡ get_or xs i x → slice_get xs i ≡ Some x
 at_index xs i x within is = slice_get-get_or xs i x within ∙ ap Some (sym is)
+
+-- ---- who runs
+
+found_operation : (parts : Parts) (actor : ℕ) → operation_of (seen parts) actor ≡ option_and_then (operation_seen parts.table) (actor_of parts actor)
+found_operation parts zero = refl
+found_operation parts (suc n) = found_mapped (operation_seen parts.table) parts.actors.items n
+
+some_seen : (table : Table) (programs : Programs) (o : Option UnderWay) → is_some o ≡ is_some (option_map (operation_at table programs) o)
+some_seen table programs None = refl
+some_seen table programs (Some u) = refl
+
+-- an actor that isn't there runs nothing; any other runs what it has under way
+pub nobody_there : (parts : Parts) (actor : ℕ) → None ≡ actor_of parts actor → false ≡ is_running (seen parts) actor
+nobody_there parts actor e = ap (λ o. is_some (option_and_then (operation_seen parts.table) o)) e ∙ ap is_some (sym (found_operation parts actor))
+
+pub runs_there : (parts : Parts) (actor : ℕ) (found : Actor) → Some found ≡ actor_of parts actor → is_some found.under_way ≡ is_running (seen parts) actor
+runs_there parts actor found e =
+    some_seen parts.table found.programs found.under_way ∙ ap (λ o. is_some (option_and_then (operation_seen parts.table) o)) e ∙ ap is_some (sym (found_operation parts actor))
