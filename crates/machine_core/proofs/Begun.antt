@@ -43,6 +43,7 @@ use Rattle.machine_core.proofs.Held.{begin_stands}
 use Rattle.machine_core.proofs.Kept.{replaced_seated, replaced_seen}
 use Rattle.machine_core.proofs.Knows.{IsInNoSwap, first_no_swap, offer_given, offerers_over, owners_over, runs_set}
 use Rattle.machine_core.proofs.Mapped.{found_mapped}
+use Rattle.machine_core.proofs.Marking.{remarked}
 use Rattle.machine_core.proofs.Steps.{begin_leads}
 use Rattle.machine_core.proofs.Tied.{begun_tied}
 
@@ -52,15 +53,6 @@ unmarked_here : (marks : List Bool) (i : ℕ) → get_or (set marks i false) i f
 unmarked_here [] i = refl
 unmarked_here (m ∷ marks) zero = refl
 unmarked_here (m ∷ marks) (suc i) = unmarked_here marks i
-
--- with a table whose mark for the operation's actor is this, the operation is as before
-pub seen_alike : (before after : Table) (actor : Actor) →
-    ((u : UnderWay) → actor.under_way ≡ Some u → get_or after.marks u.job.actor false ≡ get_or before.marks u.job.actor false) → operation_seen after actor ≡ operation_seen before actor
-seen_alike before after actor each = by actor.under_way refl
-  where
-    by : (o : Option UnderWay) → actor.under_way ≡ o → option_map (operation_at after actor.programs) o ≡ option_map (operation_at before actor.programs) o
-    by None is = refl
-    by (Some u) is = ap (λ (m : Bool). Some (record (operation_at before actor.programs u) { is_marked = m })) (each u is)
 
 -- an operation by its fields
 by_fields : {i j : ℕ} → i ≡ j → {c d : Call} → c ≡ d → {a b : Access} → a ≡ b → {e f : ℕ} → e ≡ f → {p q : List Ref} → p ≡ q → {o w : Option ℕ} → o ≡ w → {n m : ℕ} → n ≡ m →
@@ -126,7 +118,7 @@ module _ (before middle after : Parts) (actor : ℕ) (call : Call) (u : UnderWay
   actors_begun : (seen after).actors ≡ set (seen before).actors (actor - 1) (Some (begun_operation (seen before) call))
   actors_begun =
       replaced_seen before.table after.table before.actors.items after.actors.items (actor - 1) (Begins u _) a.seated
-      (λ j other apart at. seen_alike before.table after.table other (λ v e.
+      (λ j other apart at. remarked before.table after.table other (λ v e.
       let number = (h.seats j other at).number v e in
       ap (λ (t : Table). get_or t.marks v.job.actor false) a.table
       ∙ get_or-set_other middle.table.marks actor v.job.actor false false (λ same. apart (omega (arith, stands.counts, number, same)))

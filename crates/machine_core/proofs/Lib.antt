@@ -1,6 +1,9 @@
 pub mod Mapped
 pub mod Marking
 pub mod Stepped
+pub mod Claims
+pub mod Conditions
+pub mod Able
 pub mod Tying
 pub mod Tied
 pub mod Held
@@ -17,3 +20,9 @@ pub mod Knows
 pub mod Kept
 pub mod Left
 pub mod Begun
+pub mod Took
+pub mod Allowed
+pub mod Noted
+pub mod Offering
+pub mod Entering
+pub mod Notings

@@ -15,7 +15,7 @@ use Rattle.machine_model.specs.States.{State, word_at}
 use Rattle.machine_model.specs.Swapping.{is_carried_out}
 use Rattle.machine_model.proofs.Actors.{after_marks, marks_of}
 use Rattle.rdcss_root.specs.Tables.{Table}
-use Rattle.running.proofs.ByParts.{carried_by}
+use Rattle.running.specs.Carried.{carried_by}
 use Rattle.running.proofs.Offers.{marked_at, unmarked}
 use Rattle.machine_core.specs.declared.parts.Actor.{Actor}
 use Rattle.machine_core.specs.declared.parts.UnderWay.{UnderWay}
@@ -36,7 +36,7 @@ marks_carried state handle action = refl
 -- ---- the mark of one actor
 
 -- with a table whose mark for the operation's actor is this, the operation is as before but for that
-remarked : (before after : Table) (actor : Actor) → ((u : UnderWay) → actor.under_way ≡ Some u → slice_index_or after.marks u.job.actor false ≡ slice_index_or before.marks u.job.actor false) →
+pub remarked : (before after : Table) (actor : Actor) → ((u : UnderWay) → actor.under_way ≡ Some u → slice_index_or after.marks u.job.actor false ≡ slice_index_or before.marks u.job.actor false) →
     operation_seen after actor ≡ operation_seen before actor
 remarked before after actor each = by actor.under_way refl
   where
@@ -86,13 +86,13 @@ same_id : (a b : ℕ) → a ≡ b → (a == b) ≡ true
 same_id a b e = grind (arith, e)
 
 -- the definition marks by id, the table by the actor who offered
-pub marks_alike : (now after : Table) (actors : List Actor) (carried : Option Descriptor) (offerer : ℕ) → after.marks ≡ marked_at now.marks offerer carried → offerer < length now.marks →
-    ((offer : Descriptor) → carried ≡ Some offer → Offered offer.operation offerer actors) →
+pub marks_alike : (now after : Table) (actors : List Actor) (carried : Option Descriptor) (offerer : ℕ) → after.marks ≡ marked_at now.marks offerer carried →
+    ((offer : Descriptor) → carried ≡ Some offer → (offerer < length now.marks) × Offered offer.operation offerer actors) →
     after_marks (option_map (λ (offer : Descriptor). offer.operation) carried) (actors_seen now actors) ≡ actors_seen after actors
-marks_alike now after actors None offerer marks within offered =
+marks_alike now after actors None offerer marks offered =
     sym (map_alike (operation_seen now) (operation_seen after) actors (λ i x at. remarked now after x (λ u runs. ap (λ ms. slice_index_or ms u.job.actor false) marks)))
-marks_alike now after actors (Some offer) offerer marks within offered =
-    twice (marked offer.operation) (operation_seen now) (operation_seen after) actors (λ i x at. one x (λ u runs. offered offer refl i x u at runs))
+marks_alike now after actors (Some offer) offerer marks offered =
+    twice (marked offer.operation) (operation_seen now) (operation_seen after) actors (λ i x at. one x (λ u runs. (offered offer refl).1 i x u at runs))
   where
     one : (x : Actor) → ((u : UnderWay) → x.under_way ≡ Some u → (u.job.id ≡ offer.operation → offerer ≡ u.job.actor) × (offerer ≡ u.job.actor → u.job.id ≡ offer.operation)) →
         marked offer.operation (operation_seen now x) ≡ operation_seen after x
@@ -103,6 +103,6 @@ marks_alike now after actors (Some offer) offerer marks within offered =
         by (Some u) is =
             let fits = each u is in
             ap Some (mark_if (operation_at now x.programs u) (u.job.id == offer.operation) (slice_index_or after.marks u.job.actor false)
-            (mark_at now.marks offerer u.job.actor (slice_index_or now.marks u.job.actor false) (u.job.id == offer.operation) within
+            (mark_at now.marks offerer u.job.actor (slice_index_or now.marks u.job.actor false) (u.job.id == offer.operation) (offered offer refl).0
             (λ e. fits.0 (eqb-true u.job.id offer.operation e)) (λ e. same_id u.job.id offer.operation (fits.1 e)) refl
             ∙ ap (λ ms. slice_index_or ms u.job.actor false) (sym marks)))

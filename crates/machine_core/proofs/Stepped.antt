@@ -23,7 +23,8 @@ use Rattle.running.specs.declared.programs.Programs.{Programs}
 use Rattle.running.specs.declared.taken.Taken.{Taken}
 use Rattle.running.specs.Places.{generation_in, line_for}
 use Rattle.running.specs.Steps.{Changes, Does, Scene, Takes, at_scene}
-use Rattle.running.proofs.ByParts.{ActsBy, acts_by, carried_by, closed_by, placed_by}
+use Rattle.running.specs.Carried.{carried_by, closed_by, placed_by}
+use Rattle.running.proofs.ByParts.{ActsBy, acts_by}
 use Rattle.running.proofs.Offers.{unmarked}
 use Rattle.machine_core.specs.declared.parts.UnderWay.{UnderWay}
 use Rattle.machine_core.specs.Seen.{operation_at}

@@ -44,14 +44,8 @@ fn entered_unless_placed(parts: &Parts, actor: &Actor, under_way: UnderWay) -> O
     if parts.journal.chronicle.is_placed(under_way.job.id) {
         None
     } else {
-        Some(place_of(
-            &parts.journal.chronicle,
-            under_way.job.id,
-            actor.programs.access(),
-            actor.programs.generation(under_way.program),
-            under_way.moment,
-            true,
-        ))
+        let moment = under_way.moment;
+        Some(place_of(parts, actor, under_way, moment, true))
     }
 }
 
@@ -80,7 +74,7 @@ fn vacate(actors: &mut Vec<Actor>, index: usize, heap: &mut Heap)
 }
 
 /// Adds the place, if there is one. There is room for it.
-fn put_place(chronicle: &mut Chronicle, place: Option<Place>)
+pub fn put_place(chronicle: &mut Chronicle, place: Option<Place>)
     requires to_add { 0 < chronicle.old.room_to_add }
     requires of_id { MatchOption place Unit (λ at. at.id < chronicle.old.ids) }
     ensures places { chronicle.new.places ≡ chronicle.old.places ++ option_to_list place }

@@ -1,21 +1,42 @@
 //! A step of an operation: all of it but for limbo and the count of steps.
 
-ghost use Rattle.std.specs.Prelude.{◌≡◌, IfErr, IfOk, OnErr, Some, IsSome};
+ghost use Rattle.std.specs.Prelude.{◌≡◌, ◌⊎◌, ◌+◌, ◌-◌, ◌<◌, ◌≤◌, ◌∷◌, ◌++◌, [], All, false, length, slice_get, option_to_list, IfErr, IfOk, OnErr, Some, None, IsSome, MatchOption};
+ghost use Rattle.places.specs.Places.{on_time};
+ghost use Rattle.slot_arena.specs.Heaps.{generation_at};
+ghost use Rattle.slot_arena.specs.Refs.{slot_of};
+ghost use Rattle.slot_arena.specs.Arenas.{IsLive};
 ghost use Rattle.machine_model.specs.declared.operations.Operation.{Operation};
 ghost use Rattle.machine_model.specs.States.{operation_of};
 ghost use Rattle.machine_model.specs.Operations.{action_of};
+ghost use Rattle.machine_model.specs.Acting.{entered_by, gone};
 ghost use Rattle.machine_model.specs.Machine.{went};
+ghost use Rattle.chronicle.specs.Committed.{IsNewest};
+ghost use Rattle.operate.specs.Places.{answer_of};
+ghost use Rattle.running.specs.Places.{line_for, IsSound};
+ghost use Rattle.running.specs.Steps.{scene, CanStep};
 ghost use Rattle.machine_core.specs.Bounds.{IsOfRun};
-ghost use Rattle.machine_core.specs.Keeping.{IsKept};
-ghost use Rattle.machine_core.specs.Seen.{seen};
+ghost use Rattle.machine_core.specs.Going.{entered_for, moved, step_committed, CanNote, HasUnderWay, Midway, NotesCarried, NotesCommit, NotesDrawn, NotesKind, Steps, StepsTo};
+ghost use Rattle.machine_core.specs.Keeping.{IsKept, Replaces};
+ghost use Rattle.machine_core.specs.Seen.{actor_of, operation_at, operation_seen, seen, under_way_of};
+ghost use Rattle.machine_core.specs.declared.parts.Actor.{Actor as AnActor};
 
-use crate::parts::Parts;
-use ctrie_base::Refusal;
+use crate::finishing::{end, put_place};
+use crate::parts::{Actor, Parts, UnderWay};
+use crate::placing::place_of;
+use crate::room::make_room;
+use chronicle::{Chronicle, Commits};
+use ctrie_base::{Kind, Refusal};
+use epochs::Heap;
+use gcas::generation_at;
+use history::Reply;
 use machine_model::Outcome;
+use places::Place;
+use rdcss_root::Roots;
+use running::{Program, Taken};
+use slot_arena::Ref;
 
-/// What the step of the actor's operation does, but for what every step does at its end. After an error
-/// nothing has changed.
-// A stub: it gives up. The helper fast2 writes the body.
+/// What the step of the actor's operation does, but for what every step does at its end. After an error nothing
+/// that is seen has changed.
 pub fn go_on(parts: &mut Parts, actor: u8) -> Result<Outcome, Refusal>
     requires run { IsOfRun (seen parts.old) }
     requires kept { IsKept parts.old }
@@ -29,6 +50,309 @@ pub fn go_on(parts: &mut Parts, actor: u8) -> Result<Outcome, Refusal>
     ensures kept { IsKept parts.new }
     ensures noted { OnErr result (parts.new.heap.noted ≡ parts.old.heap.noted) }
 {
-    let _ = parts.is_running(actor);
-    Err(Refusal::Memory)
+    match under_way(parts, actor) {
+        Some(under_way) => match reply_of(parts, actor, under_way.program)? {
+            Some(reply) => end(parts, actor, under_way, reply),
+            None => proceed(parts, actor, under_way),
+        },
+        // It runs one.
+        None => Err(Refusal::Memory),
+    }
+}
+
+/// What the actor has under way.
+fn under_way(parts: &Parts, actor: u8) -> Option<UnderWay>
+    ensures { result ≡ under_way_of parts.now actor }
+{
+    match parts.actor(actor) {
+        Some(found) => found.under_way,
+        None => None,
+    }
+}
+
+/// The reply with which the actor's operation ends by its next step, if it does.
+fn reply_of(parts: &Parts, actor: u8, program: Program) -> Result<Option<Reply>, Refusal>
+    ensures reply { IfOk result (λ reply. (found : AnActor) → actor_of parts.now actor ≡ Some found → reply ≡ answer_of (line_for program found.programs)) }
+    ensures only_memory { IfErr result (λ refusal. refusal ≡ Refusal.Memory) }
+{
+    match parts.actor(actor) {
+        Some(found) => found.programs.reply(program),
+        None => Ok(None),
+    }
+}
+
+/// Takes a step of the actor's operation that isn't its end. After an error nothing that is seen has changed.
+fn proceed(parts: &mut Parts, actor: u8, under_way: UnderWay) -> Result<Outcome, Refusal>
+    requires run { IsOfRun (seen parts.old) }
+    requires kept { IsKept parts.old }
+    requires runs { under_way_of parts.old actor ≡ Some under_way }
+    requires goes_on { (found : AnActor) → actor_of parts.old actor ≡ Some found → answer_of (line_for under_way.program found.programs) ≡ None }
+    ensures ok { IfOk result (λ outcome. (operation : Operation) →
+        operation_of (seen parts.old) actor ≡ Some operation →
+        went (seen parts.old) actor operation (action_of (seen parts.old) operation)
+        ≡ (outcome, seen parts.new)) }
+    ensures err { OnErr result (seen parts.new ≡ seen parts.old) }
+    ensures only_memory { IfErr result (λ refusal. refusal ≡ Refusal.Memory) }
+    ensures kept { IsKept parts.new }
+    ensures noted { OnErr result (parts.new.heap.noted ≡ parts.old.heap.noted) }
+{
+    parts.journal.chronicle.room_for(parts.begun)?;
+    let fresh = fresh_of(parts, actor);
+    let taken = step(parts, actor, under_way)?;
+    Ok(Outcome::Went(note(parts, actor, under_way, fresh, taken)))
+}
+
+/// The main node that the actor's operation was, or is, about to swap in.
+fn fresh_of(parts: &Parts, actor: u8) -> Ref
+    ensures { (found : AnActor) → actor_of parts.now actor ≡ Some found → result ≡ found.programs.key.work.swap.fresh }
+{
+    match parts.actor(actor) {
+        Some(found) => found.programs.fresh(),
+        None => Ref::default(),
+    }
+}
+
+/// Lets the actor's programs take the step. After an error nothing has changed.
+fn step(parts: &mut Parts, actor: u8, under_way: UnderWay) -> Result<Taken, Refusal>
+    requires run { IsOfRun (seen parts.old) }
+    requires kept { IsKept parts.old }
+    requires runs { under_way_of parts.old actor ≡ Some under_way }
+    ensures steps { IfOk result (λ taken. Steps parts.old actor under_way taken parts.new) }
+    ensures err { OnErr result (seen parts.new ≡ seen parts.old) }
+    ensures kept { OnErr result (IsKept parts.new) }
+    ensures noted { OnErr result (parts.new.heap.noted ≡ parts.old.heap.noted) }
+    ensures only_memory { IfErr result (λ refusal. refusal ≡ Refusal.Memory) }
+{
+    let index = actor as usize - 1;
+    step_at(
+        &mut parts.actors,
+        index,
+        under_way,
+        &mut parts.table,
+        &mut parts.generations,
+        &mut parts.heap,
+    )
+}
+
+/// The same, for the actor with this index.
+fn step_at(
+    actors: &mut Vec<Actor>,
+    index: usize,
+    under_way: UnderWay,
+    table: &mut Roots,
+    generations: &mut u64,
+    heap: &mut Heap,
+) -> Result<Taken, Refusal>
+    requires within { index < length actors.old.items }
+    requires can { (found : AnActor) → slice_get actors.old.items index ≡ Some found → CanStep (scene heap.old table.old generations.old found.programs) under_way.program }
+    requires sound { (found : AnActor) → slice_get actors.old.items index ≡ Some found → IsSound under_way.program found.programs }
+    ensures steps { IfOk result (λ taken. Replaces actors.old.items index
+        (StepsTo under_way heap.old table.old generations.old taken heap.new table.new generations.new) actors.new.items) }
+    ensures err { OnErr result ((actors.new.items ≡ actors.old.items) × (table.new ≡ table.old) × (generations.new ≡ generations.old) × (heap.new ≡ heap.old)) }
+    ensures only_memory { IfErr result (λ refusal. refusal ≡ Refusal.Memory) }
+{
+    step_of(&mut actors[index], under_way, table, generations, heap)
+}
+
+/// The same, for this actor.
+fn step_of(
+    actor: &mut Actor,
+    under_way: UnderWay,
+    table: &mut Roots,
+    generations: &mut u64,
+    heap: &mut Heap,
+) -> Result<Taken, Refusal>
+    requires can { CanStep (scene heap.old table.old generations.old actor.old.programs) under_way.program }
+    requires sound { IsSound under_way.program actor.old.programs }
+    ensures steps { IfOk result (λ taken. StepsTo under_way heap.old table.old generations.old taken heap.new table.new generations.new actor.old actor.new) }
+    ensures err { OnErr result ((actor.new ≡ actor.old) × (table.new ≡ table.old) × (generations.new ≡ generations.old) × (heap.new ≡ heap.old)) }
+    ensures only_memory { IfErr result (λ refusal. refusal ≡ Refusal.Memory) }
+{
+    let UnderWay { job, program, .. } = under_way;
+    actor.programs.step(job, program, table, generations, heap)
+}
+
+/// Notes what a step did that the actor's programs took, and tells its kind.
+fn note(parts: &mut Parts, actor: u8, under_way: UnderWay, fresh: Ref, taken: Taken) -> Kind
+    requires midway { Midway actor under_way fresh taken parts.old }
+    requires to_draw { 0 < parts.old.journal.chronicle.room_to_draw }
+    requires to_add { 0 < parts.old.journal.chronicle.room_to_add }
+    requires to_close { 0 < parts.old.journal.chronicle.room_to_close }
+    requires ids { parts.old.begun < parts.old.journal.chronicle.ids }
+    ensures kind { result ≡ taken.kind }
+    ensures gone { (midway : Midway actor under_way fresh taken parts.old) → (operation : Operation) → operation_of (seen midway.before) actor ≡ Some operation →
+        gone (seen midway.before) actor operation ≡ seen parts.new }
+    ensures kept { IsKept parts.new }
+{
+    let next = moved(&parts.commits, under_way, &taken, parts.steps);
+    put_under_way(&mut parts.actors, actor as usize - 1, next);
+    match taken.committed {
+        Some(main) => note_commit(parts, main),
+        None => note_kind(parts, actor, fresh, &taken),
+    }
+    taken.kind
+}
+
+/// The operation under way behind this step.
+fn moved(commits: &Commits, under_way: UnderWay, taken: &Taken, step: u64) -> UnderWay
+    requires newest { MatchOption taken.now.given Unit (IsNewest commits.now.commits) }
+    ensures { result ≡ moved commits.now.commits step taken.now under_way }
+{
+    let read_at = if taken.counts { step } else { under_way.read_at };
+    let moment = match taken.given {
+        Some(main) => read_at.max(step_committed(commits, main, taken.committed, step)),
+        None => under_way.moment,
+    };
+    UnderWay {
+        read_at,
+        moment,
+        ..under_way
+    }
+}
+
+/// The step in which a main node was committed that a READ gave: this one, or one before.
+fn step_committed(commits: &Commits, main: Ref, committed: Option<Ref>, step: u64) -> u64
+    requires newest { IsNewest commits.now.commits main }
+    ensures { result ≡ step_committed commits.now.commits step main committed }
+{
+    match committed {
+        Some(_) => step,
+        None => commits.committed_at(main),
+    }
+}
+
+/// The actor with this index has this under way.
+fn put_under_way(actors: &mut Vec<Actor>, index: usize, under_way: UnderWay)
+    requires within { index < length actors.old.items }
+    ensures { Replaces actors.old.items index (HasUnderWay under_way) actors.new.items }
+{
+    actors[index].under_way = Some(under_way);
+}
+
+/// Notes the commit of this main node in this step: whoever swapped it in for a change of its key enters the order,
+/// whoever takes the step.
+fn note_commit(parts: &mut Parts, main: Ref)
+    requires live { IsLive parts.old.heap.heap main }
+    requires room { slot_of main < parts.old.commits.slots }
+    requires newest { IsNewest parts.old.commits.commits main }
+    requires begun { 0 < parts.old.steps }
+    requires to_add { 0 < parts.old.journal.chronicle.room_to_add }
+    requires ids { All (λ place. place.id < parts.old.journal.chronicle.ids) (entered_for parts.old main) }
+    ensures notes { NotesCommit parts.old main parts.new }
+{
+    let place = place_at_commit(parts, main);
+    parts.commits.note(main, parts.steps);
+    put_place(&mut parts.journal.chronicle, place);
+}
+
+/// The place that whoever swapped this main node in enters at its commit, if that was for a change of its key.
+fn place_at_commit(parts: &Parts, main: Ref) -> Option<Place>
+    requires live { IsLive parts.now.heap.heap main }
+    ensures { option_to_list result ≡ entered_for parts.now main }
+{
+    match parts.actor(parts.heap.owner(main)) {
+        Some(owner) => entered_by(parts, owner, main),
+        None => None,
+    }
+}
+
+/// The place that this actor's operation enters at the commit of this main node, if it does.
+fn entered_by(parts: &Parts, owner: &Actor, main: Ref) -> Option<Place>
+    ensures { option_to_list result ≡ entered_by (seen parts.now) main (operation_seen parts.now.table owner.now) }
+{
+    match owner.under_way {
+        Some(under_way) => entered_with(parts, owner, under_way, main),
+        None => None,
+    }
+}
+
+fn entered_with(parts: &Parts, owner: &Actor, under_way: UnderWay, main: Ref) -> Option<Place>
+    ensures { option_to_list result ≡ entered_by (seen parts.now) main (Some (operation_at parts.now.table owner.now.programs under_way)) }
+{
+    if owner.programs.swaps_in(under_way.program, main) {
+        let step = parts.steps;
+        Some(place_of(parts, owner, under_way, step, false))
+    } else {
+        None
+    }
+}
+
+/// Notes what a step of this kind did that committed nothing.
+fn note_kind(parts: &mut Parts, actor: u8, fresh: Ref, taken: &Taken)
+    requires can { CanNote parts.old fresh taken.now }
+    ensures notes { NotesKind taken.now.kind taken.now.counts parts.old actor fresh parts.new }
+{
+    match taken.kind {
+        Kind::SwapMain => note_swap(parts, actor, fresh, taken.counts),
+        Kind::SwapRoot => note_carried(parts),
+        Kind::Make => note_drawn(parts),
+        _ => {}
+    }
+}
+
+/// Notes a swap of a main word, by a READ or not: the actor owns the main node that it was about to swap in.
+fn note_swap(parts: &mut Parts, actor: u8, fresh: Ref, counts: bool)
+    requires owner { counts ≡ false → IsLive parts.old.heap.heap fresh }
+    ensures notes { NotesKind Kind.SwapMain counts parts.old actor fresh parts.new }
+{
+    if !counts {
+        parts.heap.set_owner(fresh, actor);
+    }
+}
+
+/// If an offer was carried out, the generation of the root that it took away is closed, and whoever offered enters
+/// the order.
+fn note_carried(parts: &mut Parts)
+    requires later { All (λ closing. closing.step < parts.old.steps) parts.old.journal.chronicle.closings }
+    requires behind { All (λ place. place.step ≤ parts.old.steps) parts.old.journal.chronicle.places }
+    requires closes { MatchOption parts.old.table.carried Unit (λ offer. generation_at parts.old.heap.heap offer.root < parts.old.journal.chronicle.generations) }
+    requires given { MatchOption parts.old.table.carried Unit (λ offer. offer.operation < parts.old.journal.chronicle.ids) }
+    requires to_add { 0 < parts.old.journal.chronicle.room_to_add }
+    requires to_close { 0 < parts.old.journal.chronicle.room_to_close }
+    ensures notes { NotesCarried parts.old parts.new }
+{
+    if let Some(offer) = parts.table.take_carried() {
+        let generation = generation_at(&parts.heap, offer.root);
+        close(&mut parts.journal.chronicle, generation, parts.steps, offer.operation);
+    }
+}
+
+/// The generation is closed in this step, and the operation with this id enters the order.
+fn close(chronicle: &mut Chronicle, generation: u64, step: u64, id: u64)
+    requires later { All (λ closing. closing.step < step) chronicle.old.closings }
+    requires behind { All (λ place. place.step ≤ step) chronicle.old.places }
+    requires drawn { generation < chronicle.old.generations }
+    requires of_id { id < chronicle.old.ids }
+    requires to_add { 0 < chronicle.old.room_to_add }
+    requires to_close { 0 < chronicle.old.room_to_close }
+    ensures closings { chronicle.new.closings ≡ chronicle.old.closings ++ record { generation = generation; step = step } ∷ [] }
+    ensures places { chronicle.new.places ≡ chronicle.old.places ++ on_time step false id ∷ [] }
+    ensures generations { chronicle.new.generations ≡ chronicle.old.generations }
+{
+    chronicle.close(generation, step);
+    chronicle.add(on_time(step, id));
+}
+
+/// The place of an operation whose change stands from this step on.
+fn on_time(step: u64, id: u64) -> Place
+    ensures { result ≡ on_time step false id }
+{
+    Place {
+        step,
+        on_time: true,
+        moment: step,
+        changed_nothing: false,
+        id,
+    }
+}
+
+/// All generations that were drawn are known.
+fn note_drawn(parts: &mut Parts)
+    requires drawn { (parts.old.generations ≡ parts.old.journal.chronicle.generations) ⊎ (parts.old.generations ≡ parts.old.journal.chronicle.generations + 1) }
+    requires to_draw { 0 < parts.old.journal.chronicle.room_to_draw }
+    ensures notes { NotesDrawn parts.old parts.new }
+{
+    if parts.journal.chronicle.generations() < parts.generations {
+        parts.journal.chronicle.draw();
+    }
 }

@@ -5,14 +5,37 @@ ghost use Rattle.places.specs.Places.{on_time, place_by};
 ghost use Rattle.machine_model.specs.declared.operations.Operation.{Operation};
 ghost use Rattle.machine_model.specs.Orders.{closing_for, place_of};
 ghost use Rattle.machine_model.specs.States.{State};
+ghost use Rattle.machine_core.specs.Seen.{operation_at, seen};
 
+use crate::parts::{Actor, Parts, UnderWay};
 use chronicle::Chronicle;
 use history::Access;
 use places::Place;
 
+/// The place of an operation that is under way, with this moment.
+pub fn place_of(
+    parts: &Parts,
+    actor: &Actor,
+    under_way: UnderWay,
+    moment: u64,
+    changed_nothing: bool,
+) -> Place
+    ensures place { result ≡ place_of (seen parts.now) (operation_at parts.now.table actor.now.programs under_way) moment changed_nothing }
+    ensures id { result.id ≡ under_way.job.id }
+{
+    place_for(
+        &parts.journal.chronicle,
+        under_way.job.id,
+        actor.programs.access(),
+        actor.programs.generation(under_way.program),
+        moment,
+        changed_nothing,
+    )
+}
+
 /// The place of an operation with this moment, on a handle of this kind, where the root that ROOT gave it has this
 /// generation.
-pub fn place_of(
+fn place_for(
     chronicle: &Chronicle,
     id: u64,
     access: Access,

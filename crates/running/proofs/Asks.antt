@@ -3,6 +3,7 @@ use Rattle.std.specs.Prelude.{◌≡◌, ℕ, false, Option, Some, None, refl}
 use Rattle.std.proofs.Common.{sym, ap, subst, ◌∙◌}
 use Rattle.std.proofs.lemmas.Option.{none-some, same_Some}
 use Rattle.ctrie_base.specs.declared.kinds.Kind.{Kind}
+use Rattle.ctrie_base.specs.declared.kinds.Kind.TheVariants as kind
 use Rattle.history.specs.declared.calls.Access.{Access}
 use Rattle.history.specs.declared.calls.Access.TheVariants.{Writable, ReadOnly}
 use Rattle.slot_arena.specs.declared.refs.Ref.{Ref}
@@ -50,7 +51,7 @@ use Rattle.running.specs.declared.job.Program.{Program}
 use Rattle.running.specs.declared.job.Program.TheVariants.{Key, Snap, Entries, Count, Close}
 use Rattle.running.specs.declared.programs.Programs.{Programs}
 use Rattle.running.specs.declared.programs.Stage.TheVariants.{Runs}
-use Rattle.running.specs.Places.{IsBegun, IsWaiting, generation_in, asking_line, call_for, met_at, program_line}
+use Rattle.running.specs.Places.{IsBegun, IsWaiting, ReadsOn, generation_in, asking_line, call_for, met_at, program_line}
 use Rattle.running.specs.Steps.{Changes, Does, Scene, at_scene, given_in, operation_in}
 use Rattle.running.proofs.Lasting.{tells}
 use Rattle.running.proofs.Giving.{asked_gives}
@@ -181,6 +182,14 @@ acts_so : (state : State) (operation : Operation) (l : Line) (r : Read) (main pr
 acts_so state operation l r main previous asking untold is =
     (each_holds l r is).acts state operation (asked_at main previous asking) ∙ reads_so r.indirection main previous asking untold
 
+-- a READ that has met an offer takes it back
+pub met_kind : (p : Programs) (program : Program) (offer : Descriptor) (state : State) (operation : Operation) → IsAskingLine (program_line p None program) →
+    kind_of (line_action state operation (asking_line p program Runs (Met offer))) ≡ kind.SwapRoot
+met_kind p program offer state operation ask =
+    let h = asks p program ask in
+    ap (λ l. kind_of (line_action state operation l)) (asked p program (Met offer) h)
+    ∙ ap kind_of (acts_so state operation (program_line p None program) _ h.main h.previous (Met offer) tt h.reads)
+
 draws_none : (heap : Heap) (generation : ℕ) (asking : Asking) → (drawn_by heap generation (ask_action asking) ≡ generation) × (with_generation generation (ask_action asking) ≡ ask_action asking)
 draws_none heap generation Unasked = (refl, refl)
 draws_none heap generation (Met offer) = (refl, refl)
@@ -221,15 +230,22 @@ same_call Entries p asking begun = tt
 same_call Count p asking begun = tt
 same_call Close p asking begun = tt
 
+same_reads : (program : Program) (p : Programs) (asking : Asking) → ReadsOn program p → ReadsOn program (record p { stage = Runs; asking = asking })
+same_reads (Key call) p asking stands = stands
+same_reads (Snap call) p asking stands = stands
+same_reads Entries p asking stands = tt
+same_reads Count p asking stands = tt
+same_reads Close p asking stands = tt
+
 -- A step of ABORT in the place of one of the program.
 pub steps : (job : Job) (program : Program) (before : Scene) (asking asking' : Asking) (memory' : Memory) (table' : Table) (k : Kind) →
-    IsAskingLine (program_line before.programs None program) → IsUntold asking → IsBegun program before.programs →
+    IsAskingLine (program_line before.programs None program) → IsUntold asking → IsBegun program before.programs → ReadsOn program before.programs →
     AsksOn before.memory.heap before.table job.handle asking asking' k →
     table' ≡ table_after_abort before.table job.handle (abort_of asking) →
     ActsInAll before.memory before.table.roots before.programs.key.work.private (ask_action asking) memory' table'.roots before.programs.key.work.private →
     Does job program (asking_line before.programs program Runs asking) before (record { kind = k; committed = None; given = None; counts = false })
     (record { memory = memory'; table = table'; generation = before.generation; programs = record before.programs { stage = Runs; asking = asking' } })
-steps job program before asking asking' memory' table' k ask untold begun on table acts =
+steps job program before asking asking' memory' table' k ask untold begun stands on table acts =
     let p : Programs = before.programs in
     let l : Line = program_line p None program in
     let h : Asks p.key.work.swap.read l = asks p program ask in
@@ -267,5 +283,5 @@ steps job program before asking asking' memory' table' k ask untold begun on tab
           ∙ keeps_generation (at_scene state before) (operation_in job program before operation) l _ h.main h.previous asking untold h.reads);
       access = refl;
       hashes = refl;
-      sound = (same_call program p asking' begun, waits asking' l ask);
+      sound = record { begun = same_call program p asking' begun; waits = waits asking' l ask; reads = same_reads program p asking' stands };
     }

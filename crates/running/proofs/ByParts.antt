@@ -1,20 +1,17 @@
 -- The state after a step of an operation that isn't its end, part by part.
-use Rattle.std.specs.Prelude.{◌≡◌, ◌==◌, ◌&&◌, ◌++◌, ◌∷◌, [], ℕ, Bool, true, false, List, Option, Some, None, refl, if◌then◌else◌}
+use Rattle.std.specs.Prelude.{◌≡◌, ◌==◌, ◌&&◌, ◌++◌, ◌∷◌, [], ℕ, Bool, true, false, Option, Some, None, refl, if◌then◌else◌}
 use Rattle.std.proofs.Common.{sym, ap, ◌∙◌}
 use Rattle.std.proofs.lemmas.List.{append-nil}
 use Rattle.slot_arena.specs.declared.refs.Ref.{Ref}
 use Rattle.slot_arena.specs.Heaps.{generation_at, next_ref}
 use Rattle.machine_model.specs.declared.actions.Action.{Action}
 use Rattle.machine_model.specs.declared.actions.Action.TheVariants as act
-use Rattle.machine_model.specs.declared.heaps.Closing.{Closing}
 use Rattle.machine_model.specs.declared.roots.Descriptor.{Descriptor}
-use Rattle.machine_model.specs.declared.roots.RootWord.{RootWord}
 use Rattle.machine_model.specs.declared.roots.RootWord.TheVariants.{Plain}
-use Rattle.machine_model.specs.Beneath.places.specs.declared.place.Place.{Place}
 use Rattle.machine_model.specs.Beneath.places.specs.Places.{on_time}
 use Rattle.machine_model.specs.Acting.{acted, carried_out, if_changed, new_root_taken, opened}
 use Rattle.machine_model.specs.States.{State, with_word, word_at}
-use Rattle.machine_model.specs.Swapping.{is_carried_out, is_plain, stands_in}
+use Rattle.machine_model.specs.Swapping.{is_plain, stands_in}
 use Rattle.machine_model.proofs.Actors.{acted_actors, after_marks, marks_of}
 use Rattle.machine_model.proofs.Frames.{IsFramed, acted_framed}
 use Rattle.gcas.specs.Acted.{acted_heap}
@@ -22,20 +19,7 @@ use Rattle.rdcss_root.specs.Tables.{Table, acted_table}
 use Rattle.rdcss_root.proofs.Acting.{acts_on_table}
 use Rattle.snapshot.specs.Tasks.{drawn_by, with_generation}
 use Rattle.snapshot.proofs.Drawing.{draws_generations}
-
--- the offer that the action carries out, if it does
-abbrev pub carried_by : RootWord → Action → Option Descriptor
-carried_by word (act.Complete offer main) = if is_carried_out word offer main then Some offer else None
-carried_by word action = None
-
--- it closes the generation of the root that it took away, and whoever offered enters the order
-abbrev pub closed_by : State → Option Descriptor → List Closing
-closed_by state None = []
-closed_by state (Some offer) = record { generation = generation_at state.heap offer.root; step = state.steps } ∷ []
-
-abbrev pub placed_by : State → Option Descriptor → List Place
-placed_by state None = []
-placed_by state (Some offer) = on_time state.steps false offer.operation ∷ []
+use Rattle.running.specs.Carried.{carried_by, closed_by, placed_by}
 
 -- what an action on this handle makes of a state
 pub record ActsBy (before : State) (handle : ℕ) (action : Action) (after : State) : Type 0 where

@@ -51,7 +51,7 @@ use Rattle.running.specs.declared.job.Program.{Program}
 use Rattle.running.specs.declared.job.Program.TheVariants.{Key, Snap}
 use Rattle.running.specs.declared.programs.Programs.{Programs}
 use Rattle.running.specs.declared.programs.Stage.{Stage}
-use Rattle.running.specs.Places.{IsBegun, call_for, generation_in, stage_line, task_for}
+use Rattle.running.specs.Places.{IsBegun, ReadsIn, call_for, generation_in, stage_line, task_for}
 use Rattle.running.specs.Steps.{Changes, Does, Scene, at_scene, operation_in, taken_in, taken_so}
 use Rattle.running.proofs.Asks.{key_handle}
 use Rattle.running.proofs.Giving.{SwapsNone, same_action, takes, takes_reading}
@@ -74,8 +74,9 @@ pub snaps : (job : Job) (call : SnapCall) (told : Option ℕ) (before : Scene) (
     ((state : State) (operation : Operation) →
     snap.generation ≡ generation_from (at_roots state before.memory.heap before.table) (record (as_task operation) { generation = p.snap.generation }) l) →
     work.swap.read.access ≡ p.key.work.swap.read.access →
+    ReadsIn stage (Snap call) after →
     Does job (Snap call) l before (taken_so k work.swap.read.at) (record { memory = memory; table = table; generation = generation; programs = after })
-snaps job call told before memory table generation work snap k stage leads acts acted drawn attempt kept access =
+snaps job call told before memory table generation work snap k stage leads acts acted drawn attempt kept access stands =
     let p : Programs = before.programs in
     let l : Line = snap_line p.key.work.swap.read told p.snap in
     let after : Scene = record { memory = memory; table = table; generation = generation; programs = record p { stage = stage; asking = Unasked; key = record p.key { work = work }; snap = snap } } in
@@ -90,7 +91,7 @@ snaps job call told before memory table generation work snap k stage leads acts 
       generation = λ state operation. kept (at_scene state before) (operation_in job (Snap call) before operation);
       access = access;
       hashes = refl;
-      sound = (tt, tt);
+      sound = record { begun = tt; waits = tt; reads = stands };
     }
 
 -- ---- a walk
@@ -137,8 +138,9 @@ pub walks : (job : Job) (program : Program) (told : Option ℕ) (before : Scene)
     Acts before.memory p.key.work.private (snap_action l) memory after.key.work.private →
     after.key.work.swap.read.access ≡ p.key.work.swap.read.access → after.key.task ≡ p.key.task → after.asking ≡ Unasked → after.snap ≡ p.snap →
     generation_in program p ≡ p.snap.generation → generation_in program after ≡ after.snap.generation → IsBegun program after →
+    ReadsIn after.stage program after →
     Does job program l before (taken_so k after.key.work.swap.read.at) (record { memory = memory; table = before.table; generation = before.generation; programs = after })
-walks job program told before memory w after k leads acts access task unasked same mine mine' begun =
+walks job program told before memory w after k leads acts access task unasked same mine mine' begun stands =
     let p : Programs = before.programs in
     let q : Read = p.key.work.swap.read in
     let l : Line = walk_line q told w in
@@ -164,7 +166,7 @@ walks job program told before memory w after k leads acts access task unasked sa
           ∙ sym (walk_keeps (at_scene state before) (operation_in job program before operation) q told w.todo w.pairs w.at);
       access = access;
       hashes = ap (λ (t : Task). t.hashes) task;
-      sound = (begun, rw unasked tt);
+      sound = record { begun = begun; waits = rw unasked tt; reads = stands };
     }
 
 -- ---- a call on one key
@@ -200,9 +202,10 @@ pub keys : (job : Job) (call : KeyCall) (told : Option ℕ) (before : Scene) (me
     key.task.generation ≡ generation_from (at_heap state before.memory.heap p.key.task.hashes) (as_key p.key operation) l) →
     key.work.swap.read.access ≡ p.key.work.swap.read.access →
     key.task ≡ record p.key.task { generation = key.task.generation } →
+    ReadsIn stage (Key call) after →
     Does job (Key call) l before (taken_in reading k key.work.swap.read.at)
     (record { memory = memory; table = table; generation = before.generation; programs = after })
-keys job call told before memory table key reading k stage begun reads leads acts acted kept access task =
+keys job call told before memory table key reading k stage begun reads leads acts acted kept access task stands =
     let p : Programs = before.programs in
     let l : Line = key_line p.key told in
     let then : Scene = record { memory = memory; table = table; generation = before.generation; programs = record p { stage = stage; asking = Unasked; key = key } } in
@@ -233,5 +236,5 @@ keys job call told before memory table key reading k stage begun reads leads act
           kept (at_scene state before) o (word state operation) ∙ ap (λ (x : Operation). generation_from (at_scene state before) x l) (key_operation job call before operation begun);
       access = access;
       hashes = ap (λ (t : Task). t.hashes) task;
-      sound = (ap (λ (t : Task). t.call) task ∙ begun, tt);
+      sound = record { begun = ap (λ (t : Task). t.call) task ∙ begun; waits = tt; reads = stands };
     }

@@ -7,7 +7,7 @@ use Rattle.machine_model.specs.declared.roots.RootWord.TheVariants.{Plain}
 use Rattle.machine_model.specs.Acting.{if_changed}
 use Rattle.machine_model.specs.Swapping.{is_plain, stands_in}
 use Rattle.rdcss_root.specs.Tables.{Table, acted_table, carried_out_in, with_word_in, word_in}
-use Rattle.running.proofs.ByParts.{carried_by}
+use Rattle.running.specs.Carried.{carried_by}
 
 -- ---- marks
 

@@ -20,10 +20,10 @@ use Rattle.root_asking.specs.declared.asking.Asking.{Asking}
 use Rattle.root_asking.specs.declared.asking.Asking.TheVariants.{Unasked, Met, Told}
 use Rattle.root_asking.specs.Inside.{with_read}
 use Rattle.operate.specs.Places.{key_line}
-use Rattle.operate.specs.Steps.{line_behind as line_answered}
+use Rattle.operate.specs.Steps.{line_behind as line_answered, ReadsAt as KeyReadsAt}
 use Rattle.snapshot.specs.declared.tasks.SnapCall.{SnapCall}
 use Rattle.snapshot.specs.declared.tasks.SnapTask.{SnapTask}
-use Rattle.snapshot.specs.Copies.{snap_line, line_behind}
+use Rattle.snapshot.specs.Copies.{snap_line, line_behind, ReadsAt as SnapReadsAt}
 use Rattle.snapshot.specs.Tasks.{call_of as snap_call}
 use Rattle.snapshot.specs.Walks.{walk_line}
 use Rattle.running.specs.declared.job.Job.{Job}
@@ -108,5 +108,17 @@ abbrev pub IsBegun : Program → Programs → Type 0
 IsBegun (Key call) p = p.key.task.call ≡ call
 IsBegun program p = Unit {0}
 
-abbrev pub IsSound : Program → Programs → Type 0
-IsSound program p = IsBegun program p × IsWaiting p.asking (stage_line p None program p.stage)
+-- while an offer is completed the READ is one of its root
+abbrev pub ReadsOn : Program → Programs → Type 0
+ReadsOn (Key call) p = KeyReadsAt p.key.place p.key.work.swap.read
+ReadsOn (Snap call) p = SnapReadsAt p.snap.at p.key.work.swap.read
+ReadsOn program p = Unit {0}
+
+abbrev pub ReadsIn : Stage → Program → Programs → Type 0
+ReadsIn Runs program p = ReadsOn program p
+ReadsIn stage program p = Unit {0}
+
+pub record IsSound (program : Program) (p : Programs) : Type 0 where
+  pub begun : IsBegun program p
+  pub waits : IsWaiting p.asking (stage_line p None program p.stage)
+  pub reads : ReadsIn p.stage program p

@@ -11,7 +11,7 @@ ghost use Rattle.operate.specs.Places.{key_line};
 ghost use Rattle.operate.specs.Steps.{CanKey};
 ghost use Rattle.snapshot.specs.Copies.{CanSnap, IsReadyBeside, snap_line};
 ghost use Rattle.snapshot.specs.Walks.{CanWalk, walk_line};
-ghost use Rattle.running.specs.Places.{asking_line, call_for, generation_in, line_for, program_line, IsBegun, IsSound, IsWaiting};
+ghost use Rattle.running.specs.Places.{asking_line, call_for, generation_in, line_for, program_line, IsBegun, IsSound, IsWaiting, ReadsOn};
 ghost use Rattle.running.specs.Steps.{CanProgram, CanStep, Does, scene, taken_in, taken_so};
 
 use crate::job::{Job, Program};
@@ -151,6 +151,7 @@ impl Programs {
         requires generations { generations.old < 2 ^ 64 - 1 }
         requires begun { IsBegun program self.old }
         requires sound { IsWaiting self.old.asking (program_line self.old None program) }
+        requires reads { ReadsOn program self.old }
         ensures does { IfOk result (λ taken. Does job program (asking_line self.old program Stage.Runs self.old.asking)
             (scene heap.old roots.old generations.old self.old) taken (scene heap.new roots.new generations.new self.new)) }
         ensures err { OnErr result ((self.new ≡ self.old) × (roots.new ≡ roots.old) × (generations.new ≡ generations.old) × (heap.new ≡ heap.old)) }
@@ -183,6 +184,7 @@ impl Programs {
         requires ready { IsReadyBeside heap.old roots.old.roots self.old.key.work.private }
         requires attempts { self.old.snap.attempt < 2 ^ 64 - 1 }
         requires begun { IsBegun program self.old }
+        requires reads { ReadsOn program self.old }
         requires generations { generations.old < 2 ^ 64 - 1 }
         ensures does { IfOk result (λ taken. Does job program (program_line self.old told program)
             (scene heap.old roots.old generations.old self.old) taken (scene heap.new roots.new generations.new self.new)) }
@@ -253,6 +255,7 @@ impl Programs {
         requires ready { IsReadyBeside heap.old roots.old.roots self.old.key.work.private }
         requires attempts { self.old.snap.attempt < 2 ^ 64 - 1 }
         requires generations { generations.old < 2 ^ 64 - 1 }
+        requires reads { ReadsOn (Program.Snap call) self.old }
         ensures does { IfOk result (λ taken. Does job (Program.Snap call) (snap_line self.old.key.work.swap.read told self.old.snap)
             (scene heap.old roots.old generations.old self.old) taken (scene heap.new roots.new generations.new self.new)) }
         ensures err { OnErr result ((self.new ≡ self.old) × (roots.new ≡ roots.old) × (generations.new ≡ generations.old) × (heap.new ≡ heap.old)) }
@@ -355,6 +358,7 @@ impl Programs {
         requires asks { IsAskingLine (program_line self.old None program) }
         requires untold { IsUntold asking }
         requires begun { IsBegun program self.old }
+        requires reads { ReadsOn program self.old }
         requires can { CanAbortOn heap.old roots.old (abort_of asking) }
         ensures does { Does job program (asking_line self.old program Stage.Runs asking)
             (scene heap.old roots.old generation self.old) result (scene heap.new roots.new generation self.new) }

@@ -4,13 +4,19 @@ ghost use Rattle.std.specs.Prelude.{◌≡◌, ℕ, Option, IfOk, IfErr};
 ghost use Rattle.key_finding.specs.Replies.{reply_of as key_reply};
 ghost use Rattle.operate.specs.Places.{answer_of};
 ghost use Rattle.snapshot.specs.Tasks.{reply_of};
-ghost use Rattle.running.specs.Places.{generation_in, line_for, program_line};
+ghost use Rattle.machine_model.specs.Acting.{swaps_in};
+ghost use Rattle.machine_model.specs.Operations.{kind_of, line_action};
+ghost use Rattle.machine_model.specs.States.{State};
+ghost use Rattle.machine_model.specs.declared.operations.Operation.{Operation};
+ghost use Rattle.running.specs.Places.{asking_line, generation_in, line_for, program_line, IsSound, IsWaiting};
 
 use crate::job::Program;
 use crate::programs::{Programs, Stage};
-use ctrie_base::Refusal;
+use ctrie_base::{Kind, Refusal};
 use history::{Access, Reply};
 use operate::KeyReply;
+use root_asking::Asking;
+use slot_arena::Ref;
 use snapshot::SnapReply;
 
 impl Programs {
@@ -42,6 +48,78 @@ impl Programs {
             Program::Snap(_) => None,
             Program::Entries => None,
             Program::Count => None,
+        }
+    }
+
+    /// Whether the operation is about to put this main node in the place of another, for a change of its key.
+    #[tactic(auto, using(crate::proofs::Ahead::swaps_so, crate::proofs::Ahead::swaps_nothing))]
+    pub fn swaps_in(&self, program: Program, main: Ref) -> bool
+        ensures { result ≡ swaps_in main (line_for program self.now) }
+    {
+        match &self.stage {
+            Stage::Runs => self.runs_to_swap(program, main),
+            Stage::Answered(_) => false,
+            Stage::Swapped(_) => false,
+            Stage::Listed => false,
+            Stage::Counted => false,
+            Stage::Impossible => false,
+        }
+    }
+
+    fn runs_to_swap(&self, program: Program, main: Ref) -> bool
+        ensures { (told : Option ℕ) → swaps_in main (program_line self.now told program) ≡ result }
+    {
+        match program {
+            Program::Key(_) => self.key.swaps_in(main),
+            Program::Snap(_) => false,
+            Program::Entries => false,
+            Program::Count => false,
+            Program::Close => false,
+        }
+    }
+
+    /// The main node that was, or is about to be, put in the place of another.
+    pub fn fresh(&self) -> Ref
+        ensures { result ≡ self.now.key.work.swap.fresh }
+    {
+        self.key.work.swap.fresh
+    }
+
+    /// The kind of the operation's next step.
+    pub fn next_kind(&self, program: Program) -> Kind
+        requires sound { IsSound program self.now }
+        ensures { (state : State) (operation : Operation) → result ≡ kind_of (line_action state operation (line_for program self.now)) }
+    {
+        match &self.stage {
+            Stage::Runs => self.running_kind(program),
+            Stage::Answered(_) => Kind::End,
+            Stage::Swapped(_) => Kind::End,
+            Stage::Listed => Kind::End,
+            Stage::Counted => Kind::End,
+            Stage::Impossible => Kind::ReadRoot,
+        }
+    }
+
+    fn running_kind(&self, program: Program) -> Kind
+        requires waits { IsWaiting self.now.asking (program_line self.now None program) }
+        ensures { (state : State) (operation : Operation) → result ≡ kind_of (line_action state operation (asking_line self.now program Stage.Runs self.now.asking)) }
+    {
+        match &self.asking {
+            Asking::Unasked => self.kind_told(program, None),
+            Asking::Told(generation) => self.kind_told(program, Some(*generation)),
+            Asking::Met(_) => Kind::SwapRoot,
+        }
+    }
+
+    fn kind_told(&self, program: Program, told: Option<u64>) -> Kind
+        ensures { (state : State) (operation : Operation) → result ≡ kind_of (line_action state operation (program_line self.now told program)) }
+    {
+        match program {
+            Program::Key(_) => self.key.next_kind(told),
+            Program::Snap(_) => self.snap.next_kind(&self.key.work.swap.read, told),
+            Program::Entries => self.entries.next_kind(&self.key.work.swap.read, told),
+            Program::Count => self.count.next_kind(&self.key.work.swap.read, told),
+            Program::Close => Kind::End,
         }
     }
 

@@ -11,8 +11,4 @@ returns-else-is_placed-clause-place c =
     let u = c.args.under_way in
     let operation : Operation = operation_at c.args.parts.now.table c.args.actor.now.programs u in
     let unplaced : is_placed before u.job.id ≡ false = sym c.is_placed.ensures ∙ c.if-is_placed.false in
-    let place : c.place_of.result ≡ place_of before operation u.moment true =
-    c.place_of.ensures.place before operation
-    ∙ ap (λ a. place_of before (record operation { access = a; generation = c.generation.result }) u.moment true) c.access.ensures
-    ∙ ap (λ g. place_of before (record operation { generation = g }) u.moment true) c.generation.ensures in
-    ap (λ p. p ∷ []) place ∙ ap (λ b. if b then [] else place_of before operation u.moment true ∷ []) (sym unplaced)
+    ap (λ p. p ∷ []) c.place_of.ensures.place ∙ ap (λ b. if b then [] else place_of before operation u.moment true ∷ []) (sym unplaced)

@@ -1,9 +1,14 @@
 use Rattle.std.proofs.Common.{ap, ◌∙◌}
-use Rattle.places.specs.Places.{place_by}
+use Rattle.machine_model.specs.declared.operations.Operation.{Operation}
+use Rattle.machine_model.specs.Orders.{place_of}
+use Rattle.machine_core.specs.Seen.{operation_at, seen}
 use Rattle.machine_core.proofs.placing.place_of.Goals as goal
 
 pub returns-clause-place : goal.returns-clause-place
-returns-clause-place c = λ state operation.
-    c.place_by.ensures.place
-    ∙ ap (λ closing. place_by closing c.args.moment c.args.changed_nothing c.args.id)
-    (c.closing_for-closing.ensures state (record operation { id = c.args.id; access = c.args.access; generation = c.args.generation }))
+returns-clause-place c =
+    let before = seen c.args.parts.now in
+    let u = c.args.under_way in
+    let operation : Operation = operation_at c.args.parts.now.table c.args.actor.now.programs u in
+    c.place_for.ensures.place before operation
+    ∙ ap (λ a. place_of before (record operation { access = a; generation = c.generation.result }) c.args.moment c.args.changed_nothing) c.access.ensures
+    ∙ ap (λ g. place_of before (record operation { generation = g }) c.args.moment c.args.changed_nothing) c.generation.ensures

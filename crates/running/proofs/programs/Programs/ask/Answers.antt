@@ -17,6 +17,7 @@ returns c =
           c.requires.asks
           c.requires.untold
           c.requires.begun
+          c.requires.reads
           c.step-kind.ensures.follows
           c.step-kind.ensures.table
           (c.step-kind.ensures.acts c.args.self.now.key.work.private)

@@ -71,6 +71,7 @@ returns-in-More-clause-does c =
     (rw c.in-More.is at c.in_ok-kind.ensures.generation)
     c.step.ensures.access
     c.in_ok-kind.ensures.task
+    c.in_ok-kind.ensures.stands
     )
 
 pub returns-in-Done-clause-does : goal.returns-in-Done-clause-does
@@ -95,4 +96,5 @@ returns-in-Done-clause-does c =
     (rw c.in-Done.is at c.in_ok-kind.ensures.generation)
     c.step.ensures.access
     c.in_ok-kind.ensures.task
+    tt
     )

@@ -44,6 +44,7 @@ returns-in-More-clause-does c =
     refl
     refl
     tt
+    tt
     )
 
 pub returns-in-Done-default-All-clause-does : goal.returns-in-Done-default-All-clause-does
@@ -67,6 +68,7 @@ returns-in-Done-default-All-clause-does c =
     refl
     refl
     tt
+    tt
     )
 
 pub returns-in-Done-default-Impossible-clause-does : goal.returns-in-Done-default-Impossible-clause-does
@@ -89,5 +91,6 @@ returns-in-Done-default-Impossible-clause-does c =
     refl
     refl
     refl
+    tt
     tt
     )

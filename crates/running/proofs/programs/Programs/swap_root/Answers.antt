@@ -15,6 +15,11 @@ ask-requires-clause-asks c =
     let untold : c.args.told ≡ None = snap_untold p.key.work.swap.read c.args.told p.snap asking in
     rw (same.0, same.1) (rw untold at asking)
 
+pub ask-requires-clause-reads : goal.ask-requires-clause-reads
+ask-requires-clause-reads c =
+    let same = (rw c.in-AskRoot.is at c.in_ok-kind.ensures.asks) (tt {0}) in
+    rw (same.0, same.1) c.requires.reads
+
 pub returns-in-AskRoot-clause-does : goal.returns-in-AskRoot-clause-does
 returns-in-AskRoot-clause-does c =
     let p = c.args.self.now in
@@ -45,6 +50,7 @@ returns-in-More-clause-does c =
     c.in_ok-kind.ensures.attempt
     (rw (c.swapping-task.ensures, c.in-More.is) at c.in_ok-kind.ensures.generation)
     c.step.ensures.access
+    (rw c.in-More.is at c.in_ok-kind.ensures.stands)
     )
 
 pub returns-in-Done-clause-does : goal.returns-in-Done-clause-does
@@ -69,4 +75,5 @@ returns-in-Done-clause-does c =
     c.in_ok-kind.ensures.attempt
     (rw (c.swapping-task.ensures, c.in-Done.is) at c.in_ok-kind.ensures.generation)
     c.step.ensures.access
+    tt
     )

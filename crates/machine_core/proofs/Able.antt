@@ -1,0 +1,154 @@
+-- An operation's programs can take its next step.
+use Rattle.std.proofs.Common.{arith, ◌≡◌, ℕ, ◌+◌, ◌-◌, ◌<◌, ◌≤◌, ◌^◌, List, Option, Some, None, refl, sym, ap, subst, ◌∙◌}
+use Rattle.history.specs.declared.calls.Call.{Call}
+use Rattle.slot_arena.specs.declared.refs.Ref.{Ref}
+use Rattle.slot_arena.specs.Times.{times}
+use Rattle.epochs.specs.Memories.{Memory}
+use Rattle.machine_model.specs.declared.actions.Action.{Action}
+use Rattle.machine_model.specs.declared.lines.Line.{Line}
+use Rattle.machine_model.specs.declared.lines.Line.TheVariants as line
+use Rattle.machine_model.specs.declared.operations.Operation.{Operation}
+use Rattle.machine_model.specs.declared.roots.Descriptor.{Descriptor}
+use Rattle.machine_model.specs.declared.reading.ReadLine.{ReadLine}
+use Rattle.machine_model.specs.declared.reading.ReadLine.TheVariants as read
+use Rattle.machine_model.specs.Calls.{handle_of}
+use Rattle.machine_model.specs.Operations.{action_of, line_action, read_of}
+use Rattle.machine_model.specs.States.{State}
+use Rattle.proof_memory.specs.Wants.{action_wants, line_wants}
+use Rattle.gcas.specs.declared.read.Read.{Read}
+use Rattle.gcas.specs.declared.read.ReadAt.{ReadAt}
+use Rattle.gcas.specs.declared.read.ReadAt.TheVariants as at
+use Rattle.gcas.specs.Reads.{line_of}
+use Rattle.trie_parts.specs.Steps.{IsAskingLine}
+use Rattle.trie_parts.specs.Tasks.{call_of as key_call}
+use Rattle.trie_parts.specs.declared.calls.KeyCall.{KeyCall}
+use Rattle.rdcss_root.specs.Holds.{IsReady, root_refs}
+use Rattle.rdcss_root.specs.Programs.{CanAbortOn}
+use Rattle.rdcss_root.specs.Tables.{Table}
+use Rattle.root_asking.specs.declared.asking.Asking.{Asking}
+use Rattle.root_asking.specs.declared.asking.Asking.TheVariants.{Unasked, Met, Told}
+use Rattle.root_asking.specs.Asked.{abort_of}
+use Rattle.root_asking.specs.Inside.{with_read}
+use Rattle.root_asking.proofs.Holding.{each_holds}
+use Rattle.operate.specs.Steps.{operation_for as as_key}
+use Rattle.snapshot.specs.Copies.{IsReadyBeside}
+use Rattle.running.specs.declared.job.Program.{Program}
+use Rattle.running.specs.declared.job.Program.TheVariants.{Key, Snap, Entries, Count, Close}
+use Rattle.running.specs.declared.programs.Programs.{Programs}
+use Rattle.running.specs.declared.programs.Stage.{Stage}
+use Rattle.running.specs.declared.programs.Stage.TheVariants.{Runs, Answered, Swapped, Listed, Counted, Impossible}
+use Rattle.running.specs.Places.{IsBegun, IsSound, IsWaiting, ReadsIn, ReadsOn, asking_line, line_for, met_at, program_line, stage_line}
+use Rattle.running.specs.Steps.{CanProgram, CanStage, CanStep, Scene, at_scene, scene}
+use Rattle.running.proofs.Asks.{Asks, asked, asks, key_handle}
+use Rattle.running.proofs.Lasting.{tells}
+use Rattle.machine_core.specs.declared.parts.UnderWay.{UnderWay}
+use Rattle.machine_core.specs.Seen.{operation_at}
+use Rattle.machine_core.proofs.Claims.{Lives, read_claims, root_live}
+use Rattle.machine_core.proofs.Conditions.{Finds, Stands, can_key, can_snap, can_walk, met, told}
+
+-- ---- the line of a program that runs
+
+-- it is the program's, with its READ on the line on which that stands
+record Within (p : Programs) (program : Program) (l : Line) : Type 0 where
+  here : ReadLine
+  stands : Stands p.key.work.swap.read here
+  is : l ≡ with_read here (program_line p None program)
+
+within : (p : Programs) (program : Program) (asking : Asking) → IsWaiting asking (program_line p None program) → Within p program (asking_line p program Runs asking)
+within p program Unasked waits = record { here = line_of p.key.work.swap.read None; stands = told None; is = tells p None program }
+within p program (Met offer) waits =
+    let h : Asks p.key.work.swap.read (program_line p None program) = asks p program waits in
+    record {
+      here = read.Abort h.main h.previous offer;
+      stands = met h.main h.previous offer h.decides;
+      is = ap (λ (place : ReadAt). with_read (met_at place offer) (program_line p None program)) h.decides;
+    }
+within p program (Told generation) waits = record { here = line_of p.key.work.swap.read (Some generation); stands = told (Some generation); is = tells p (Some generation) program }
+
+-- the state, whatever else it has, in which all this stands
+abbrev pub There : State → Memory → Table → ℕ → Programs → State
+There state memory table generation p = at_scene state (scene memory table generation p)
+
+-- the operation under way, with this program
+abbrev pub Own : Table → Programs → UnderWay → Program → Operation
+Own table p u program = operation_at table p (record u { program = program })
+
+own_call : (table : Table) (p : Programs) (u : UnderWay) (call : KeyCall) → p.key.task.call ≡ call → as_key p.key (Own table p u (Key call)) ≡ Own table p u (Key call)
+own_call table p u call begun =
+    ap (λ (c : Call). record (Own table p u (Key call)) { call = c })
+    (ap (key_call (handle_of (key_call u.job.handle call))) begun ∙ ap (λ n. key_call n call) (key_handle u.job.handle call))
+
+-- ---- its program
+
+module _ (state : State) (memory : Memory) (table : Table) (generation : ℕ) (p : Programs) (u : UnderWay) (ready : IsReady memory table.roots 8) where
+  can_program : (program : Program) (l : Line) → Within p program l → IsBegun program p → ReadsOn program p →
+      Finds memory.heap (There state memory table generation p) (Own table p u program) l → CanProgram (scene memory table generation p) program
+  can_program (Key call) l w begun reads finds =
+      can_key memory table (record state { roots = table.roots }) (Own table p u (Key call)) ready p.key w.here w.stands p.key.place reads
+      (subst (λ (o : Operation). Finds memory.heap (There state memory table generation p) o (with_read w.here (program_line p None (Key call)))) (sym (own_call table p u call begun))
+      (subst (Finds memory.heap (There state memory table generation p) (Own table p u (Key call))) w.is finds))
+  can_program (Snap call) l w begun reads finds =
+      can_snap memory table (There state memory table generation p) (Own table p u (Snap call)) ready p.key.work.swap.read w.here w.stands p.snap.root generation p.snap.at reads
+      (subst (Finds memory.heap (There state memory table generation p) (Own table p u (Snap call))) w.is finds)
+  can_program Entries l w begun reads finds =
+      can_walk memory table (There state memory table generation p) (Own table p u Entries) ready p.key.work.swap.read w.here w.stands p.entries.walk.todo p.entries.walk.pairs p.entries.walk.at
+      (subst (Finds memory.heap (There state memory table generation p) (Own table p u Entries)) w.is finds)
+  can_program Count l w begun reads finds =
+      can_walk memory table (There state memory table generation p) (Own table p u Count) ready p.key.work.swap.read w.here w.stands p.count.walk.todo p.count.walk.pairs p.count.walk.at
+      (subst (Finds memory.heap (There state memory table generation p) (Own table p u Count)) w.is finds)
+  can_program Close l w begun reads finds = tt
+
+  can_stage : (program : Program) (stage : Stage) → IsBegun program p → IsWaiting p.asking (stage_line p None program stage) → ReadsIn stage program p →
+      Finds memory.heap (There state memory table generation p) (Own table p u program) (asking_line p program stage p.asking) → CanStage (scene memory table generation p) program stage
+  can_stage program Runs begun waits reads finds = can_program program (asking_line p program Runs p.asking) (within p program p.asking waits) begun reads finds
+  can_stage program (Answered answer) begun waits reads finds = tt
+  can_stage program (Swapped answer) begun waits reads finds = tt
+  can_stage program Listed begun waits reads finds = tt
+  can_stage program Counted begun waits reads finds = tt
+  can_stage program Impossible begun waits reads finds = tt
+
+  -- ---- ABORT in its place
+
+  takes_back : (program : Program) (offer : Descriptor) → IsAskingLine (program_line p None program) →
+      Finds memory.heap (There state memory table generation p) (Own table p u program) (asking_line p program Runs (Met offer)) → CanAbortOn memory table (abort_of (Met offer))
+  takes_back program offer asking finds =
+      let l : Line = program_line p None program in
+      let h : Asks p.key.work.swap.read l = asks p program asking in
+      let acts = ap (line_action (There state memory table generation p) (Own table p u program)) (asked p program (Met offer) h)
+          ∙ (each_holds l _ h.reads).acts (There state memory table generation p) (Own table p u program) (read.Abort h.main h.previous offer) in
+      (root_live memory.heap offer (subst (λ (a : Action). Lives memory.heap (action_wants a)) acts finds.does),
+      record { held = ready.held; room = λ r. omega (arith, ready.room r) })
+
+  can_abort : (program : Program) (stage : Stage) (asking : Asking) → IsWaiting asking (stage_line p None program stage) →
+      Finds memory.heap (There state memory table generation p) (Own table p u program) (asking_line p program stage asking) → CanAbortOn memory table (abort_of asking)
+  can_abort program stage Unasked waits finds = tt
+  can_abort program stage (Told g) waits finds = tt
+  can_abort program Runs (Met offer) waits finds = takes_back program offer waits finds
+  can_abort program (Answered answer) (Met offer) waits finds = absurd waits
+  can_abort program (Swapped answer) (Met offer) waits finds = absurd waits
+  can_abort program Listed (Met offer) waits finds = absurd waits
+  can_abort program Counted (Met offer) waits finds = absurd waits
+  can_abort program Impossible (Met offer) waits finds = absurd waits
+
+-- ---- all
+
+-- the claims of its line and of its action are true, and what is held can be counted
+pub can_step : (state : State) (memory : Memory) (table : Table) (generation : ℕ) (p : Programs) (u : UnderWay) →
+    let there = at_scene state (scene memory table generation p) in
+    let operation = operation_at table p u in
+    Lives memory.heap (line_wants there.limits.hash operation.call operation.access operation.line) → Lives memory.heap (action_wants (action_of there operation)) →
+    IsSound u.program p → IsReadyBeside memory table.roots p.key.work.private → memory.heap.births + 1 < 2 ^ 48 → p.snap.attempt < 2 ^ 64 - 1 → generation < 2 ^ 64 - 1 →
+    CanStep (scene memory table generation p) u.program
+can_step state memory table generation p u line action sound ready births attempts generations =
+    let there : State = at_scene state (scene memory table generation p) in
+    let operation : Operation = operation_at table p u in
+    let root_ready : IsReady memory table.roots 8 = record { held = λ r. omega (arith, ready.held r); room = ready.room } in
+    let finds : Finds memory.heap there operation (line_for u.program p) =
+        record { reads = λ r is. read_claims memory.heap r there.limits.hash operation.call operation.access (line_for u.program p) is line; does = action; births = births } in
+    record {
+      runs = can_stage state memory table generation p u root_ready u.program p.stage sound.begun sound.waits sound.reads finds;
+      abort = can_abort state memory table generation p u root_ready u.program p.stage p.asking sound.waits finds;
+      ready = ready;
+      attempts = attempts;
+      generations = generations;
+    }

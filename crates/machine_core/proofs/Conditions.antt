@@ -1,0 +1,233 @@
+-- What a step of an operation's programs asks is what its line takes its references for.
+use Rattle.std.proofs.Common.{arith, ◌≡◌, ℕ, ◌+◌, ◌<◌, ◌^◌, true, List, Option, Some, None, refl, sym, ap, subst, ◌∙◌}
+use Rattle.ctrie_base.specs.declared.hashes.HashKind.TheVariants.{Low}
+use Rattle.history.specs.declared.calls.Access.{Access}
+use Rattle.history.specs.declared.calls.Access.TheVariants.{Writable, ReadOnly}
+use Rattle.slot_arena.specs.declared.refs.Ref.{Ref}
+use Rattle.slot_arena.specs.declared.nodes.Node.{Node}
+use Rattle.slot_arena.specs.declared.nodes.Node.TheVariants.{Indirection}
+use Rattle.slot_arena.specs.Heaps.{Heap, empty_branch}
+use Rattle.slot_arena.specs.Arenas.{IsLive}
+use Rattle.epochs.specs.Memories.{Memory}
+use Rattle.machine_model.specs.declared.actions.Action.{Action}
+use Rattle.machine_model.specs.declared.actions.Action.TheVariants as act
+use Rattle.machine_model.specs.declared.lines.Line.{Line}
+use Rattle.machine_model.specs.declared.lines.Line.TheVariants as line
+use Rattle.machine_model.specs.declared.lines.Purpose.{Purpose}
+use Rattle.machine_model.specs.declared.operations.Operation.{Operation}
+use Rattle.machine_model.specs.declared.reading.Read.{Read as Defined}
+use Rattle.machine_model.specs.declared.reading.ReadLine.{ReadLine}
+use Rattle.machine_model.specs.declared.reading.ReadLine.TheVariants as read
+use Rattle.machine_model.specs.declared.repairs.Climb.{Climb}
+use Rattle.machine_model.specs.declared.roots.Descriptor.{Descriptor}
+use Rattle.machine_model.specs.Operations.{completing_read, line_action, read_of, rooting_read, swapping_read}
+use Rattle.machine_model.specs.Paths.{above}
+use Rattle.machine_model.specs.States.{State}
+use Rattle.machine_model.specs.Swapping.{action_at, complete_action_at, root_action}
+use Rattle.proof_memory.specs.Wants.{action_wants, offer_wants, read_wants}
+use Rattle.proof_memory.proofs.Claims.Uses.{meets_of, safe_of}
+use Rattle.operate.specs.Beneath.gcas.specs.declared.read.Read.{Read}
+use Rattle.operate.specs.Beneath.gcas.specs.declared.read.ReadAt.{ReadAt}
+use Rattle.operate.specs.Beneath.gcas.specs.declared.read.ReadAt.TheVariants as at
+use Rattle.operate.specs.Beneath.gcas.specs.declared.swap.Swap.{Swap}
+use Rattle.operate.specs.Beneath.gcas.specs.declared.swap.SwapAt.{SwapAt}
+use Rattle.operate.specs.Beneath.gcas.specs.declared.swap.SwapAt.TheVariants as swap
+use Rattle.operate.specs.Beneath.gcas.specs.Reads.{CanReadAt, CanReadOn, line_at, line_of}
+use Rattle.operate.specs.Beneath.gcas.specs.Swaps.{CanSwapAt, swap_line_at}
+use Rattle.trie_parts.specs.Here.{at_heap}
+use Rattle.trie_parts.specs.Steps.{CanMake}
+use Rattle.trie_parts.specs.Tasks.{for_task}
+use Rattle.rdcss_root.specs.declared.complete.CompleteAt.{CompleteAt}
+use Rattle.rdcss_root.specs.declared.complete.CompleteAt.TheVariants as complete
+use Rattle.rdcss_root.specs.declared.root.ReadRoot.{ReadRoot}
+use Rattle.rdcss_root.specs.declared.root.ReadRoot.TheVariants as rooting
+use Rattle.rdcss_root.specs.Holds.{IsReady}
+use Rattle.rdcss_root.specs.Programs.{CanCompleteAt, CanRootOn, ReadsItsRoot, ReadsOffered, complete_line_at, root_of}
+use Rattle.rdcss_root.specs.Tables.{Table}
+use Rattle.root_asking.specs.Inside.{completing_at, rooting_at, swapping_at, with_read}
+use Rattle.operate.specs.Beneath.key_change.specs.declared.building.Building.{Building}
+use Rattle.operate.specs.Beneath.key_change.specs.declared.change.ChangeAt.{ChangeAt}
+use Rattle.operate.specs.Beneath.key_change.specs.declared.change.ChangeAt.TheVariants as change
+use Rattle.operate.specs.Beneath.key_change.specs.Built.{build_line, built}
+use Rattle.operate.specs.Beneath.key_change.specs.Lines.{line_at as change_at}
+use Rattle.operate.specs.Beneath.key_change.specs.Steps.{CanChangeAt}
+use Rattle.operate.specs.Beneath.key_change.proofs.Made.{builds}
+use Rattle.operate.specs.Beneath.contract.specs.declared.clean.CleanAt.{CleanAt}
+use Rattle.operate.specs.Beneath.contract.specs.declared.clean.CleanAt.TheVariants as clean
+use Rattle.operate.specs.Beneath.contract.specs.declared.climb.ClimbAt.{ClimbAt}
+use Rattle.operate.specs.Beneath.contract.specs.declared.climb.ClimbAt.TheVariants as climb
+use Rattle.operate.specs.Beneath.contract.specs.declared.renew.RenewAt.{RenewAt}
+use Rattle.operate.specs.Beneath.contract.specs.declared.renew.RenewAt.TheVariants as renew
+use Rattle.operate.specs.Beneath.contract.specs.Cleaning.{CanCleanAt, clean_line_at}
+use Rattle.operate.specs.Beneath.contract.specs.Climbing.{CanClimbAt, climb_line_at, climb_of}
+use Rattle.operate.specs.Beneath.contract.specs.Renewing.{CanRenewAt, renew_line_at}
+use Rattle.operate.specs.Beneath.contract.proofs.Made.{climbs}
+use Rattle.operate.specs.declared.key_op.BelowAt.{BelowAt}
+use Rattle.operate.specs.declared.key_op.BelowAt.TheVariants as below
+use Rattle.operate.specs.declared.key_op.KeyAt.{KeyAt}
+use Rattle.operate.specs.declared.key_op.KeyAt.TheVariants as key
+use Rattle.operate.specs.declared.key_op.KeyOp.{KeyOp}
+use Rattle.operate.specs.Places.{below_line, key_line_at}
+use Rattle.operate.specs.Steps.{CanBelow, CanKeyAt, ReadsAt, operation_for}
+use Rattle.snapshot.specs.declared.snap.Making.{Making}
+use Rattle.snapshot.specs.declared.snap.Making.TheVariants as making
+use Rattle.snapshot.specs.declared.snap.SnapAt.{SnapAt}
+use Rattle.snapshot.specs.declared.snap.SnapAt.TheVariants as snap
+use Rattle.snapshot.specs.declared.walk.WalkAt.{WalkAt}
+use Rattle.snapshot.specs.declared.walk.WalkAt.TheVariants as walk
+use Rattle.snapshot.specs.Copies.{CanSnapAt, made_node, making_line, snap_line_at, ReadsAt as SnapReadsAt}
+use Rattle.snapshot.specs.Walks.{CanWalkAt, walk_line_at}
+use Rattle.machine_core.proofs.Claims.{Lives, node_live, offer_live}
+
+-- ---- a READ
+
+-- the definition's line of this READ, whatever it was told, or while it takes an offer back
+pub data Stands (r : Read) : ReadLine → Type 0 where
+  told : (t : Option ℕ) → Stands r (line_of r t)
+  met : (main previous : Ref) (offer : Descriptor) → r.at ≡ at.Decide main previous → Stands r (read.Abort main previous offer)
+
+reads_at : (heap : Heap) (indirection : Ref) (access : Access) (t : Option ℕ) (place : ReadAt) → Lives heap (read_wants indirection (line_at access t place)) → CanReadAt heap indirection place
+reads_at heap indirection access t at.Main h = tt
+reads_at heap indirection access t (at.Prev main) h = tt
+reads_at heap indirection ReadOnly t (at.Decide main previous) h = (safe_of h.1.0, meets_of h.1.0, safe_of h.1.1.0)
+reads_at heap indirection Writable None (at.Decide main previous) h = (safe_of h.1.0, meets_of h.1.0, safe_of h.1.1.0)
+reads_at heap indirection Writable (Some generation) (at.Decide main previous) h = (safe_of h.1.0, meets_of h.1.0, safe_of h.1.1.0)
+reads_at heap indirection access t (at.Restore main previous) h = (safe_of h.0, meets_of h.0, safe_of h.1.1.0)
+reads_at heap indirection access t (at.Given main) h = tt
+
+can_read : (heap : Heap) (r : Read) (here : ReadLine) → Stands r here → Lives heap (read_wants r.indirection here) → CanReadOn heap r
+can_read heap r here (told t) h = reads_at heap r.indirection r.access t r.at h
+can_read heap r here (met main previous offer is) h = subst (CanReadAt heap r.indirection) (sym is) (safe_of h.1.0, meets_of h.1.0, safe_of h.1.1.0)
+
+-- ---- a line
+
+-- what the line's READ and what its step touches is what it is taken for, and births don't run out
+pub record Finds (heap : Heap) (state : State) (operation : Operation) (l : Line) : Type 0 where
+  pub reads : (r : Defined) → read_of l ≡ Some r → Lives heap (read_wants r.indirection r.line)
+  pub does : Lives heap (action_wants (line_action state operation l))
+  pub births : heap.births + 1 < 2 ^ 48
+
+module _ (memory : Memory) (table : Table) (state : State) (operation : Operation) (ready : IsReady memory table.roots 8) where
+  made : (l : Line) (node : Node) → Finds memory.heap state operation l → line_action state operation l ≡ act.Make node → CanMake memory.heap node
+  made l node finds is = (finds.births, node_live memory.heap node (subst (λ (a : Action). Lives memory.heap (action_wants a)) is finds.does).1)
+
+  module _ (r : Read) (here : ReadLine) (stands : Stands r here) where
+    -- the READ is the one of this line
+    own_read : (l : Line) → Finds memory.heap state operation l → read_of l ≡ Some (record { indirection = r.indirection; line = here }) → CanReadOn memory.heap r
+    own_read l finds is = can_read memory.heap r here stands (finds.reads (record { indirection = r.indirection; line = here }) is)
+
+    -- ---- COMPLETE, ROOT and SWAP
+
+    can_complete : (offer : Descriptor) (place : CompleteAt) (l : Line) → ReadsOffered place offer r →
+        line_action state operation l ≡ complete_action_at offer (completing_at here (complete_line_at place (line_of r None))) →
+        read_of l ≡ completing_read offer (completing_at here (complete_line_at place (line_of r None))) →
+        Finds memory.heap state operation l → CanCompleteAt memory table offer place r
+    can_complete offer complete.Reading l root acts reads finds =
+        (root, own_read l finds (reads ∙ ap (λ i. Some (record { indirection = i; line = here })) (sym root)))
+    can_complete offer (complete.Swap main) l root acts reads finds =
+        (offer_live memory.heap offer (subst (λ (a : Action). Lives memory.heap (action_wants a)) acts finds.does).1, ready)
+
+    can_root : (root : ReadRoot) (l : Line) → ReadsItsRoot root r → line_action state operation l ≡ root_action (rooting_at here (root_of root r None)) →
+        read_of l ≡ rooting_read (rooting_at here (root_of root r None)) → Finds memory.heap state operation l → CanRootOn memory table root r
+    can_root rooting.Read l root acts reads finds = tt
+    can_root (rooting.Completing c) l root acts reads finds = can_complete c.offer c.at l root acts reads finds
+
+    can_swap : (replaced fresh : Ref) (place : SwapAt) (l : Line) →
+        line_action state operation l ≡ action_at r.indirection replaced fresh (swapping_at here (swap_line_at place (line_of r None))) →
+        read_of l ≡ swapping_read r.indirection (swapping_at here (swap_line_at place (line_of r None))) →
+        Finds memory.heap state operation l → CanSwapAt memory.heap r fresh place
+    can_swap replaced fresh swap.Publish l acts reads finds =
+        let does = subst (λ (a : Action). Lives memory.heap (action_wants a)) acts finds.does in
+        (safe_of does.0, meets_of does.0, safe_of does.1.1.0)
+    can_swap replaced fresh swap.Deciding l acts reads finds = own_read l finds reads
+    can_swap replaced fresh swap.Check l acts reads finds = tt
+
+    -- ---- a snapshot, a freeze or a clear, and a walk
+
+    can_make : (root : Ref) (generation : ℕ) (m : Making) → Finds memory.heap state operation (line.Copy (making_line root m)) → CanMake memory.heap (made_node generation m)
+    can_make root generation (making.Successor main) finds = (finds.births, node_live memory.heap (Indirection generation main) finds.does)
+    can_make root generation (making.Second main successor) finds = (finds.births, node_live memory.heap (Indirection generation main) finds.does)
+    can_make root generation (making.Empty main) finds = made (line.Copy (making_line root (making.Empty main))) empty_branch finds refl
+    can_make root generation (making.Cleared main branch) finds = (finds.births, node_live memory.heap (Indirection generation branch) finds.does)
+
+    make_same : (root : Ref) (m : Making) → with_read here (line.Copy (making_line root m)) ≡ line.Copy (making_line root m)
+    make_same root (making.Successor main) = refl
+    make_same root (making.Second main successor) = refl
+    make_same root (making.Empty main) = refl
+    make_same root (making.Cleared main branch) = refl
+
+    pub can_snap : (root : Ref) (generation : ℕ) (place : SnapAt) → SnapReadsAt place r → Finds memory.heap state operation (with_read here (snap_line_at root r None place)) →
+        CanSnapAt memory table r generation place
+    can_snap root generation (snap.Root l) stands finds = can_root l _ stands refl refl finds
+    can_snap root generation snap.Read stands finds = own_read _ finds refl
+    can_snap root generation (snap.Make m) stands finds = can_make root generation m (subst (Finds memory.heap state operation) (make_same root m) finds)
+    can_snap root generation (snap.Offer offer) stands finds = offer_live memory.heap offer.descriptor finds.does
+    can_snap root generation (snap.Complete c) stands finds = can_complete c.offer c.at _ stands refl refl finds
+
+    pub can_walk : (todo : List Ref) (pairs : List (ℕ × ℕ)) (place : WalkAt) → Finds memory.heap state operation (with_read here (walk_line_at r None todo pairs place)) →
+        CanWalkAt memory.heap r place
+    can_walk todo pairs walk.Root finds = tt
+    can_walk todo pairs walk.Read finds = own_read _ finds refl
+    can_walk todo pairs (walk.Main main) finds = tt
+    can_walk todo pairs walk.Entry finds = tt
+
+-- ---- a call on one key
+
+module _ (memory : Memory) (table : Table) (other : State) (beside : Operation) (ready : IsReady memory table.roots 8) (op : KeyOp) (here : ReadLine) (stands : Stands op.work.swap.read here) where
+  can_change : (main : Ref) (place : ChangeAt) → Finds memory.heap (at_heap other memory.heap op.task.hashes) (operation_for op beside) (with_read here (change_at op.path op.work.swap None main place)) →
+      CanChangeAt memory.heap op.task op.path op.work.swap main place
+  can_change main (change.Sibling position former) finds = tt
+  can_change main (change.Build building) finds =
+      made memory table _ _ ready _ _ finds (builds memory.heap op.task op.work.swap.read.access op.path main building other beside)
+  can_change main (change.Swap former) finds =
+      can_swap memory table _ _ ready op.work.swap.read here stands op.work.swap.replaced op.work.swap.fresh op.work.swap.at _ refl refl finds
+
+  can_renew : (main : Ref) (done : List Ref) (place : RenewAt) →
+      Finds memory.heap (at_heap other memory.heap op.task.hashes) (operation_for op beside) (with_read here (renew_line_at op.path op.work.swap None main done place)) →
+      CanRenewAt memory.heap op.work.swap main done place
+  can_renew main done renew.Entry finds = tt
+  can_renew main done renew.Read finds = own_read memory table _ _ ready op.work.swap.read here stands _ finds refl
+  can_renew main done (renew.Link child) finds = made memory table _ _ ready _ _ finds refl
+  can_renew main done renew.Branch finds = made memory table _ _ ready _ _ finds refl
+  can_renew main done renew.Swap finds =
+      can_swap memory table _ _ ready op.work.swap.read here stands op.work.swap.replaced op.work.swap.fresh op.work.swap.at _ refl refl finds
+
+  can_clean : (main : Ref) (done : List Ref) (place : CleanAt) →
+      Finds memory.heap (at_heap other memory.heap op.task.hashes) (operation_for op beside) (with_read here (clean_line_at (above op.path) op.work.swap None main done place)) →
+      CanCleanAt memory.heap (above op.path) op.work.swap main done place
+  can_clean main done clean.Read finds = own_read memory table _ _ ready op.work.swap.read here stands _ finds refl
+  can_clean main done clean.Main finds = tt
+  can_clean main done clean.Entry finds = tt
+  can_clean main done clean.Child finds = own_read memory table _ _ ready op.work.swap.read here stands _ finds refl
+  can_clean main done (clean.Tomb child) finds = tt
+  can_clean main done clean.Contracted finds = made memory table _ _ ready _ _ finds refl
+  can_clean main done clean.Swap finds =
+      can_swap memory table _ _ ready op.work.swap.read here stands op.work.swap.replaced op.work.swap.fresh op.work.swap.at _ refl refl finds
+
+  can_climb : (c : Climb) (place : ClimbAt) → Finds memory.heap (at_heap other memory.heap op.task.hashes) (operation_for op beside) (with_read here (climb_line_at op.work.swap None c place)) →
+      CanClimbAt memory.heap op.task op.work.swap c place
+  can_climb c climb.Read finds = own_read memory table _ _ ready op.work.swap.read here stands _ finds refl
+  can_climb c (climb.Main main) finds = tt
+  can_climb c (climb.Contracted main) finds =
+      made memory table _ _ ready _ _ finds (ap act.Make (sym (climbs memory.heap op.task op.work.swap.read.access other beside c main)))
+  can_climb c climb.Swap finds =
+      can_swap memory table _ _ ready op.work.swap.read here stands op.work.swap.replaced op.work.swap.fresh op.work.swap.at _ refl refl finds
+
+  can_below : (place : BelowAt) → Finds memory.heap (at_heap other memory.heap op.task.hashes) (operation_for op beside) (with_read here (below_line op None place)) →
+      CanBelow memory.heap op place
+  can_below below.Read finds = own_read memory table _ _ ready op.work.swap.read here stands _ finds refl
+  can_below (below.Main main) finds = tt
+  can_below (below.Entry main position) finds = tt
+  can_below (below.Listed main position) finds = tt
+  can_below (below.Change c) finds = can_change c.main c.at finds
+  can_below below.Renew finds = can_renew op.renew.main op.renew.done op.renew.place finds
+  can_below below.Clean finds = can_clean op.clean.main op.clean.done op.clean.place finds
+  can_below (below.Climb c) finds = can_climb (climb_of op.path c) c.place finds
+  can_below (below.End answer) finds = tt
+  can_below below.Impossible finds = tt
+
+  pub can_key : (place : KeyAt) → ReadsAt place op.work.swap.read →
+      Finds memory.heap (at_heap other memory.heap op.task.hashes) (operation_for op beside) (with_read here (key_line_at op None place)) → CanKeyAt memory table op place
+  can_key (key.Root root) reads finds = can_root memory table _ _ ready op.work.swap.read here stands root _ reads refl refl finds
+  can_key (key.RootAgain single former root) reads finds = can_root memory table _ _ ready op.work.swap.read here stands root _ reads refl refl finds
+  can_key (key.Down place) reads finds = can_below place finds
