@@ -17,6 +17,7 @@ use Rattle.machine_model.specs.States.{State, operation_of}
 use Rattle.rdcss_root.specs.Holds.{root_refs}
 use Rattle.rdcss_root.specs.Tables.{Table, word_in}
 use Rattle.running.specs.declared.programs.Programs.{Programs}
+use Rattle.running.specs.Places.{IsSound}
 use Rattle.machine_core.specs.declared.parts.Actor.{Actor}
 use Rattle.machine_core.specs.declared.parts.Journal.{Journal}
 use Rattle.machine_core.specs.declared.parts.Parts.{Parts}
@@ -141,7 +142,7 @@ at_index xs i x within is = slice_get-get_or xs i x within ∙ ap Some (sym is)
 
 -- ---- who runs
 
-found_operation : (parts : Parts) (actor : ℕ) → operation_of (seen parts) actor ≡ option_and_then (operation_seen parts.table) (actor_of parts actor)
+pub found_operation : (parts : Parts) (actor : ℕ) → operation_of (seen parts) actor ≡ option_and_then (operation_seen parts.table) (actor_of parts actor)
 found_operation parts zero = refl
 found_operation parts (suc n) = found_mapped (operation_seen parts.table) parts.actors.items n
 
@@ -156,3 +157,9 @@ nobody_there parts actor e = ap (λ o. is_some (option_and_then (operation_seen 
 pub runs_there : (parts : Parts) (actor : ℕ) (found : Actor) → Some found ≡ actor_of parts actor → is_some found.under_way ≡ is_running (seen parts) actor
 runs_there parts actor found e =
     some_seen parts.table found.programs found.under_way ∙ ap (λ o. is_some (option_and_then (operation_seen parts.table) o)) e ∙ ap is_some (sym (found_operation parts actor))
+
+-- its programs are sound
+pub sound_there : (parts : Parts) (hashes : HashKind) (actor : ℕ) (found : Actor) → AreSeated hashes parts.actors.items → Some found ≡ actor_of parts actor → (u : UnderWay) →
+    found.under_way ≡ Some u → IsSound u.program found.programs
+sound_there parts hashes zero found seats e u runs = absurd (none-some found (sym e))
+sound_there parts hashes (suc n) found seats e u runs = (seats n found (sym e)).sound u runs
