@@ -2,7 +2,7 @@
 use Rattle.std.proofs.Common.{arith, ◌≡◌, ℕ, ◌+◌, ◌-◌, ◌<◌, ◌≤◌, ◌^◌, List, Option, Some, None, refl, sym, ap, subst, ◌∙◌}
 use Rattle.history.specs.declared.calls.Call.{Call}
 use Rattle.slot_arena.specs.declared.refs.Ref.{Ref}
-use Rattle.slot_arena.specs.Times.{times}
+use Rattle.slot_arena.specs.Arenas.{IsLive}
 use Rattle.epochs.specs.Memories.{Memory}
 use Rattle.machine_model.specs.declared.actions.Action.{Action}
 use Rattle.machine_model.specs.declared.lines.Line.{Line}
@@ -144,7 +144,7 @@ can_step state memory table generation p u line action sound ready births attemp
     let operation : Operation = operation_at table p u in
     let root_ready : IsReady memory table.roots 8 = record { held = λ r. omega (arith, ready.held r); room = ready.room } in
     let finds : Finds memory.heap there operation (line_for u.program p) =
-        record { reads = λ r is. read_claims memory.heap r there.limits.hash operation.call operation.access (line_for u.program p) is line; does = action; births = births } in
+        record { reads = λ r is. read_claims (IsLive memory.heap) memory.heap r there.limits.hash operation.call operation.access (line_for u.program p) is line; does = action; births = births } in
     record {
       runs = can_stage state memory table generation p u root_ready u.program p.stage sound.begun sound.waits sound.reads finds;
       abort = can_abort state memory table generation p u root_ready u.program p.stage p.asking sound.waits finds;

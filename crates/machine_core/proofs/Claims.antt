@@ -65,20 +65,20 @@ node_live heap (Listed singles) h = met_live heap ASingle singles.items (all_of 
 
 -- ---- a READ on a line
 
-module _ (heap : Heap) (r : Read) where
+module _ (S : Ref → Type 0) (heap : Heap) (r : Read) where
   -- the claims of the READ are among these
   abbrev pub Reads : List Claim → Type 0
-  Reads claims = Lives heap claims → Lives heap (read_wants r.indirection r.line)
+  Reads claims = AllHold S heap claims → AllHold S heap (read_wants r.indirection r.line)
 
-  so : (claims : List Claim) (q : Read) → Some q ≡ Some r → (Lives heap claims → Lives heap (read_wants q.indirection q.line)) → Reads claims
-  so claims q is each h = subst (λ (x : Read). Lives heap (read_wants x.indirection x.line)) (same_Some q r is) (each h)
+  so : (claims : List Claim) (q : Read) → Some q ≡ Some r → (AllHold S heap claims → AllHold S heap (read_wants q.indirection q.line)) → Reads claims
+  so claims q is each h = subst (λ (x : Read). AllHold S heap (read_wants x.indirection x.line)) (same_Some q r is) (each h)
 
   behind : (first : List Claim) (q : Read) → Some q ≡ Some r → Reads (first ++ read_wants q.indirection q.line)
-  behind first q is = so (first ++ read_wants q.indirection q.line) q is (λ h. last_hold (IsLive heap) heap first (read_wants q.indirection q.line) h)
+  behind first q is = so (first ++ read_wants q.indirection q.line) q is (λ h. last_hold S heap first (read_wants q.indirection q.line) h)
 
   completes : (offer : Descriptor) (l : CompleteLine) → completing_read offer l ≡ Some r → Reads (complete_wants offer l)
   completes offer (complete.Reading l) is =
-      so (complete_wants offer (complete.Reading l)) (record { indirection = offer.root; line = l }) is (λ h. last_hold (IsLive heap) heap (offer_wants offer) (read_wants offer.root l) h)
+      so (complete_wants offer (complete.Reading l)) (record { indirection = offer.root; line = l }) is (λ h. last_hold S heap (offer_wants offer) (read_wants offer.root l) h)
   completes offer (complete.Swap main) is = absurd (none-some r is)
 
   roots : (l : RootLine) → rooting_read l ≡ Some r → Reads (root_wants l)
@@ -95,14 +95,14 @@ module _ (heap : Heap) (r : Read) where
   read_claims kind call access (line.Key (key.Read path q)) is = behind (path_wants path) q is
   read_claims kind call access (line.Key l) is = absurd (grind arith)
   read_claims kind call access (line.Build l) is = absurd (none-some r is)
-  read_claims kind call access (line.Swap why s) is = λ h. swaps s.indirection s.line is (first_hold (IsLive heap) heap (swap_wants s) (purpose_wants why) h).1.1.1
+  read_claims kind call access (line.Swap why s) is = λ h. swaps s.indirection s.line is (first_hold S heap (swap_wants s) (purpose_wants why) h).1.1.1
   read_claims kind call access (line.Renew (renew.Read path main done q)) is = behind (done_wants path main done) q is
   read_claims kind call access (line.Renew l) is = absurd (grind arith)
   read_claims kind call access (line.Clean (clean.Read path q)) is = behind (path_wants path) q is
   read_claims kind call access (line.Clean (clean.Child path main done q)) is = behind (done_wants path main done) q is
   read_claims kind call access (line.Clean l) is = absurd (grind arith)
   read_claims kind call access (line.Climb (climb.Read c q)) is = behind (climb_carries c) q is
-  read_claims kind call access (line.Climb (climb.Root c l)) is = λ h. roots l is (last_hold (IsLive heap) heap (climb_carries c) (root_wants l) h)
+  read_claims kind call access (line.Climb (climb.Root c l)) is = λ h. roots l is (last_hold S heap (climb_carries c) (root_wants l) h)
   read_claims kind call access (line.Climb l) is = absurd (grind arith)
   read_claims kind call access (line.Copy (copy.Read at q)) is = so (copy_wants (copy.Read at q)) q is (λ h. h.1)
   read_claims kind call access (line.Copy (copy.Complete c)) is = completes c.offer c.line is

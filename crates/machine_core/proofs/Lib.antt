@@ -26,3 +26,6 @@ pub mod Noted
 pub mod Offering
 pub mod Entering
 pub mod Notings
+pub mod Whole
+pub mod Fits
+pub mod Asked
