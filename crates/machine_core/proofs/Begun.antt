@@ -92,7 +92,9 @@ module _ (before middle after : Parts) (actor : ℕ) (call : Call) (u : UnderWay
   stands = begin_stands (seen before) actor call run allowed
 
   idle : a.seated.was.under_way ≡ None
-  idle = by a.seated.was.under_way (sym (ap (option_and_then (operation_seen before.table)) a.seated.found) ∙ sym (found_mapped (operation_seen before.table) before.actors.items (actor - 1)) ∙ stands.is)
+  idle =
+      by a.seated.was.under_way (sym (ap (option_and_then (operation_seen before.table)) a.seated.found)
+      ∙ sym (found_mapped (operation_seen before.table) before.actors.items (actor - 1)) ∙ stands.is)
     where
       by : (o : Option UnderWay) → option_map (operation_at before.table a.seated.was.programs) o ≡ None → o ≡ None
       by None e = refl

@@ -60,7 +60,8 @@ begins c =
       moves = closed.moves;
       middle_events = closed.events;
       middle_drawn = closed.generations;
-      seated = subst (λ xs. Replaces xs (c.args.actor - 1) (Begins c.new_under_way-under_way.result (access_at c.args.parts.now c.args.call)) c.seat.new.actors.items) (ap (λ (p : Parts). p.actors.items) closed.same)
+      seated = subst (λ xs. Replaces xs (c.args.actor - 1) (Begins c.new_under_way-under_way.result (access_at c.args.parts.now c.args.call)) c.seat.new.actors.items)
+          (ap (λ (p : Parts). p.actors.items) closed.same)
           (subst (λ a. Replaces c.close_handle.new.parts.actors.items (c.args.actor - 1) (Begins c.new_under_way-under_way.result a) c.seat.new.actors.items) c.access_for-access.ensures
           c.seat.ensures);
       heap = c.pin.ensures;
@@ -72,7 +73,8 @@ begins c =
             journal = record c.close_handle.new.parts.journal { events = c.push_reserved.new.self };
             begun = n + 1;
           }) (ap (λ (p : Parts). p.begun) closed.same);
-      events = c.push_reserved.ensures.items ∙ ap (λ es. es.items ++ Begin c.new_under_way-under_way.result.job.id c.args.actor c.args.call c.new_under_way-under_way.result.job.opens ∷ []) closed.events;
+      events = c.push_reserved.ensures.items
+          ∙ ap (λ es. es.items ++ Begin c.new_under_way-under_way.result.job.id c.args.actor c.args.call c.new_under_way-under_way.result.job.opens ∷ []) closed.events;
     }
 
 pub returns-clause-begun : goal.returns-clause-begun
