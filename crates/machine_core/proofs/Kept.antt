@@ -1,6 +1,6 @@
 -- What the parts of a machine keep, they keep where only the heap and the count of steps change, and where an operation ends or begins.
 use Rattle.std.proofs.Common.{◌≡◌, ◌≢◌, length, ℕ, zero, suc, ◌+◌, ◌-◌, ◌<◌, ◌≤◌, ◌⊎◌, inl, inr, List, [], ◌∷◌, set, get_or, map, Option, Some, None, refl, sym, ap, ◌∙◌, subst, arith}
-use Rattle.std.specs.Prelude.{option_and_then, option_map, slice_get}
+use Rattle.std.specs.Prelude.{false, is_some, option_and_then, option_map, slice_get}
 use Rattle.std.proofs.lemmas.Option.{none-some, slice_get-get_or}
 use Rattle.ctrie_base.specs.declared.hashes.HashKind.{HashKind}
 use Rattle.history.specs.Histories.{begun}
@@ -12,11 +12,14 @@ use Rattle.epochs.specs.Memories.{Memory}
 use Rattle.machine_model.specs.declared.operations.Operation.{Operation}
 use Rattle.machine_model.specs.declared.roots.RootWord.TheVariants.{Offer}
 use Rattle.machine_model.specs.Grown.{standing}
-use Rattle.machine_model.specs.Machine.{pin_of}
+use Rattle.machine_model.specs.Machine.{is_running, pin_of}
 use Rattle.machine_model.specs.States.{State, operation_of}
 use Rattle.rdcss_root.specs.Holds.{root_refs}
 use Rattle.rdcss_root.specs.Tables.{Table, word_in}
+use Rattle.running.specs.declared.programs.Programs.{Programs}
+use Rattle.running.specs.Places.{IsSound}
 use Rattle.machine_core.specs.declared.parts.Actor.{Actor}
+use Rattle.machine_core.specs.declared.parts.Journal.{Journal}
 use Rattle.machine_core.specs.declared.parts.Parts.{Parts}
 use Rattle.machine_core.specs.declared.parts.UnderWay.{UnderWay}
 use Rattle.machine_core.specs.Keeping.{AreSeated, IsKept, IsNoted, IsSeated, KnowsOfferers, KnowsOwners, Replaces}
@@ -65,6 +68,24 @@ kept_alike before after a h =
       begun_are = a.begun_are ∙ h.begun_are ∙ ap begun (sym a.events);
       slots = omega (arith, h.slots, a.slots, ap (λ l. l.slots) a.limits);
     }
+
+-- what is kept of operations got more room
+pub kept_journal : (before : Parts) (journal : Journal) → journal.chronicle.generations ≡ before.journal.chronicle.generations → journal.events.items ≡ before.journal.events.items →
+    IsKept before → IsKept (record before { journal = journal })
+kept_journal before journal drawn events = kept_alike before (record before { journal = journal }) (record {
+  limits = refl;
+  table = refl;
+  actors = refl;
+  outside = λ r. refl;
+  pins = refl;
+  stood = λ main slot e. e;
+  owners = refl;
+  drawn = drawn;
+  generations = refl;
+  begun_are = refl;
+  events = events;
+  slots = refl;
+})
 
 -- ---- an actor's place
 
@@ -118,3 +139,27 @@ replaced_seated hashes actors after i P r seats new j actor at = by (at_set_case
 -- what stands at an index within the list
 pub at_index : {X : Type 0} (xs : List X) (i : ℕ) (x : X) → i < length xs → x ≡ get_or xs i x → slice_get xs i ≡ Some x
 at_index xs i x within is = slice_get-get_or xs i x within ∙ ap Some (sym is)
+
+-- ---- who runs
+
+pub found_operation : (parts : Parts) (actor : ℕ) → operation_of (seen parts) actor ≡ option_and_then (operation_seen parts.table) (actor_of parts actor)
+found_operation parts zero = refl
+found_operation parts (suc n) = found_mapped (operation_seen parts.table) parts.actors.items n
+
+some_seen : (table : Table) (programs : Programs) (o : Option UnderWay) → is_some o ≡ is_some (option_map (operation_at table programs) o)
+some_seen table programs None = refl
+some_seen table programs (Some u) = refl
+
+-- an actor that isn't there runs nothing; any other runs what it has under way
+pub nobody_there : (parts : Parts) (actor : ℕ) → None ≡ actor_of parts actor → false ≡ is_running (seen parts) actor
+nobody_there parts actor e = ap (λ o. is_some (option_and_then (operation_seen parts.table) o)) e ∙ ap is_some (sym (found_operation parts actor))
+
+pub runs_there : (parts : Parts) (actor : ℕ) (found : Actor) → Some found ≡ actor_of parts actor → is_some found.under_way ≡ is_running (seen parts) actor
+runs_there parts actor found e =
+    some_seen parts.table found.programs found.under_way ∙ ap (λ o. is_some (option_and_then (operation_seen parts.table) o)) e ∙ ap is_some (sym (found_operation parts actor))
+
+-- its programs are sound
+pub sound_there : (parts : Parts) (hashes : HashKind) (actor : ℕ) (found : Actor) → AreSeated hashes parts.actors.items → Some found ≡ actor_of parts actor → (u : UnderWay) →
+    found.under_way ≡ Some u → IsSound u.program found.programs
+sound_there parts hashes zero found seats e u runs = absurd (none-some found (sym e))
+sound_there parts hashes (suc n) found seats e u runs = (seats n found (sym e)).sound u runs

@@ -1,6 +1,7 @@
 -- What is known of offers and of pending nodes stays known.
-use Rattle.std.proofs.Common.{◌≡◌, ℕ, zero, suc, ◌<◌, ◌⊎◌, inl, inr, set, get_or, Option, Some, None, refl, sym, ap, ◌∙◌, subst, arith}
+use Rattle.std.proofs.Common.{◌≡◌, ℕ, zero, suc, ◌<◌, ◌⊎◌, inl, inr, List, [], ◌∷◌, set, get_or, Option, Some, None, refl, sym, ap, ◌∙◌, subst, arith}
 use Rattle.std.proofs.lemmas.Bool.{cases_eq}
+use Rattle.std.proofs.lemmas.List.{get_or-set_other}
 use Rattle.std.proofs.lemmas.Option.{none-some}
 use Rattle.history.specs.declared.calls.Call.{Call}
 use Rattle.history.specs.declared.calls.Call.TheVariants.{Get, Put, PutIfAbsent, Replace, ReplaceIf, Remove, RemoveIf, Clear, Snapshot, Freeze, Close, Entries, Count}
@@ -15,10 +16,11 @@ use Rattle.machine_model.specs.declared.operations.Operation.{Operation}
 use Rattle.machine_model.specs.declared.reading.Swap.{Swap}
 use Rattle.machine_model.specs.declared.reading.SwapLine.{SwapLine}
 use Rattle.machine_model.specs.declared.roots.Descriptor.{Descriptor}
+use Rattle.machine_model.specs.declared.roots.Root.{Root}
 use Rattle.machine_model.specs.declared.roots.RootWord.TheVariants.{Offer}
 use Rattle.machine_model.specs.Grown.{standing}
 use Rattle.machine_model.specs.Operations.{first_line}
-use Rattle.machine_model.specs.States.{State, operation_of, word_at}
+use Rattle.machine_model.specs.States.{State, operation_of, word_at, word_of}
 use Rattle.machine_model.specs.Machine.{run}
 use Rattle.machine_model.proofs.Found.{found_elsewhere, found_here}
 use Rattle.machine_model.proofs.Grown.{prev_standing}
@@ -27,7 +29,7 @@ use Rattle.proof_generations.proofs.Offers.Standing.{own_numbers}
 use Rattle.proof_records.specs.Beneath.proof_commits.specs.Laws.{IsInSwap}
 use Rattle.proof_records.specs.Laws.{HaveIds}
 use Rattle.proof_records.proofs.Given.{ids_apart}
-use Rattle.rdcss_root.specs.Tables.{Table, word_in}
+use Rattle.rdcss_root.specs.Tables.{Table, with_root_in, word_in}
 use Rattle.machine_core.specs.Bounds.{IsOfRun}
 use Rattle.machine_core.specs.Keeping.{KnowsOfferers, KnowsOwners}
 
@@ -57,6 +59,20 @@ pub offerers_over : (table now : Table) (before after : State) → now.offerers 
     operation.id ≡ offer.operation → operation_of before actor ≡ Some operation) → KnowsOfferers table before → KnowsOfferers now after
 offerers_over table now before after same words runs knows handle offer stands actor operation found is =
     ap (λ os. get_or os handle 0) same ∙ knows handle offer (words handle offer stands) actor operation (runs handle offer stands actor operation found is) is
+
+-- where a handle is closed no offer comes to stand
+pub closed_word : (table : Table) (closed handle : ℕ) (offer : Descriptor) → word_in (with_root_in table closed None) handle ≡ Offer offer → word_in table handle ≡ Offer offer
+closed_word table closed handle offer e = by (cases_eq handle closed)
+  where
+    nothing : (roots : List (Option Root)) (i : ℕ) → get_or (set roots i None) i None ≡ None
+    nothing [] i = refl
+    nothing (r ∷ roots) zero = refl
+    nothing (r ∷ roots) (suc i) = nothing roots i
+    plain : word_of None ≡ Offer offer → ⊥
+    plain h = cc
+    by : ((handle ≡ closed) ⊎ (handle ≡ closed → ⊥)) → word_in table handle ≡ Offer offer
+    by (inl same) = absurd (plain (sym (ap word_of (ap (λ k. get_or (set table.roots closed None) k None) same ∙ nothing table.roots closed)) ∙ e))
+    by (inr apart) = sym (ap word_of (get_or-set_other table.roots closed handle None None apart)) ∙ e
 
 -- ids that were given are below the number of begins
 pub ids : (state : State) → IsOfRun state → HaveIds state

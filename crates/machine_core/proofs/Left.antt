@@ -1,6 +1,6 @@
 -- What an end leaves: the state is the definition's, and all that is kept is kept.
-use Rattle.std.proofs.Common.{◌≡◌, ℕ, ◌+◌, ◌-◌, ◌≤◌, List, [], ◌∷◌, ◌++◌, set, Option, Some, None, refl, sym, ap, ◌∙◌, subst, arith, inl, inr}
-use Rattle.std.specs.Prelude.{option_map, slice_get}
+use Rattle.std.proofs.Common.{◌≡◌, ℕ, ◌+◌, ◌-◌, ◌<◌, ◌≤◌, List, [], ◌∷◌, ◌++◌, set, Option, Some, None, refl, sym, ap, ◌∙◌, subst, arith, inl, inr}
+use Rattle.std.specs.Prelude.{MatchOption, option_map, slice_get}
 use Rattle.std.proofs.lemmas.Option.{none-some, same_Some}
 use Rattle.ctrie_base.specs.declared.hashes.HashKind.{HashKind}
 use Rattle.history.specs.declared.events.Event.{Event}
@@ -11,6 +11,7 @@ use Rattle.slot_arena.specs.declared.refs.Ref.{Ref}
 use Rattle.slot_arena.specs.Heaps.{Heap}
 use Rattle.slot_arena.specs.Times.{times}
 use Rattle.epochs.specs.Memories.{Memory}
+use Rattle.places.specs.declared.place.Place.{Place}
 use Rattle.machine_model.specs.declared.operations.Operation.{Operation}
 use Rattle.machine_model.specs.declared.roots.RootWord.TheVariants.{Offer}
 use Rattle.machine_model.specs.Acting.{ended, entered_at_end}
@@ -21,12 +22,13 @@ use Rattle.machine_core.specs.declared.parts.Actor.{Actor}
 use Rattle.machine_core.specs.declared.parts.Parts.{Parts}
 use Rattle.machine_core.specs.declared.parts.UnderWay.{UnderWay}
 use Rattle.machine_core.specs.Beginnings.{Leaves}
+use Rattle.machine_core.specs.Bounds.{IsOfRun}
 use Rattle.machine_core.specs.Keeping.{AreSeated, IsKept, IsNoted, IsSeated, Replaces}
 use Rattle.machine_core.specs.Seen.{actors_seen, operation_at, operation_seen, seen, under_way_of}
 use Rattle.machine_core.specs.Ties.{IsTied}
 use Rattle.machine_core.proofs.Bounded.{begun_push}
 use Rattle.machine_core.proofs.Kept.{Seat, seat_of, operation_there, replaced_seated, replaced_seen}
-use Rattle.machine_core.proofs.Knows.{offerers_over, owners_over, runs_set}
+use Rattle.machine_core.proofs.Knows.{ids, offerers_over, owners_over, runs_set}
 use Rattle.machine_core.proofs.Tied.{ended_tied, operation_stands, private_held}
 
 -- what the operation made is held
@@ -38,6 +40,22 @@ held_there parts actor u e h found here r =
     let at = operation_stands (seen parts) actor operation (operation_there parts actor u seat) in
     let same : found ≡ seat.found = same_Some found seat.found (sym here ∙ seat.at) in
     omega (arith, private_held parts.heap parts.table.roots (seen parts).actors actor operation h.tied at r, ap (λ (x : Actor). times r x.programs.key.work.private) same)
+
+-- the operation's id is that of what is under way
+pub id_there : (parts : Parts) (actor : ℕ) (u : UnderWay) → under_way_of parts actor ≡ Some u → (operation : Operation) → operation_of (seen parts) actor ≡ Some operation → operation.id ≡ u.job.id
+id_there parts actor u e operation found =
+    let seat = seat_of parts actor u e in
+    ap (λ o. o.id) (same_Some operation (operation_at parts.table seat.found.programs u) (sym found ∙ operation_there parts actor u seat))
+
+-- and was given
+pub id_given : (parts : Parts) (actor : ℕ) (u : UnderWay) → IsOfRun (seen parts) → IsKept parts → under_way_of parts actor ≡ Some u → u.job.id < parts.begun
+id_given parts actor u run h e =
+    let seat = seat_of parts actor u e in
+    omega (arith, (ids (seen parts) run).given actor (operation_at parts.table seat.found.programs u) (operation_there parts actor u seat), h.begun_are)
+
+pub id_below : (place : Option Place) (id most : ℕ) → MatchOption place Unit (λ at. at.id ≡ id) → id < most → MatchOption place Unit (λ at. at.id < most)
+id_below None id most is less = tt
+id_below (Some at) id most is less = omega (arith, is, less)
 
 -- the parts after the end of the actor's operation
 pub record EndsAt (before after : Parts) (actor : ℕ) (u : UnderWay) (answer : Reply) : Type 0 where
@@ -75,9 +93,7 @@ module _ (before after : Parts) (actor : ℕ) (u : UnderWay) (answer : Reply) (a
 
   -- the state is the definition's
   pub seen_ended : under_way_of before actor ≡ Some u → (operation : Operation) → operation_of (seen before) actor ≡ Some operation → seen after ≡ ended (seen before) actor operation answer
-  seen_ended e operation found =
-      let seat = seat_of before actor u e in
-      by_fields operation found (ap (λ o. o.id) (same_Some operation (operation_at before.table seat.found.programs u) (sym found ∙ operation_there before actor u seat)))
+  seen_ended e operation found = by_fields operation found (id_there before actor u e operation found)
 
   seated : IsKept before → IsSeated before.limits.hash (actor - 1) a.left.is
   seated h = record {

@@ -19,6 +19,7 @@ pub mod Named
 pub mod Knows
 pub mod Kept
 pub mod Left
+pub mod Begun
 pub mod Took
 pub mod Allowed
 pub mod Noted

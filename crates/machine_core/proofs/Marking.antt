@@ -36,7 +36,7 @@ marks_carried state handle action = refl
 -- ---- the mark of one actor
 
 -- with a table whose mark for the operation's actor is this, the operation is as before but for that
-remarked : (before after : Table) (actor : Actor) → ((u : UnderWay) → actor.under_way ≡ Some u → slice_index_or after.marks u.job.actor false ≡ slice_index_or before.marks u.job.actor false) →
+pub remarked : (before after : Table) (actor : Actor) → ((u : UnderWay) → actor.under_way ≡ Some u → slice_index_or after.marks u.job.actor false ≡ slice_index_or before.marks u.job.actor false) →
     operation_seen after actor ≡ operation_seen before actor
 remarked before after actor each = by actor.under_way refl
   where

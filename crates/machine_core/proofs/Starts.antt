@@ -1,10 +1,10 @@
 -- A machine that has taken no step.
-use Rattle.std.proofs.Common.{◌≡◌, ℕ, zero, suc, ◌+◌, ◌==◌, ◌≤◌, ◌&&◌, Bool, true, false, not, List, [], ◌∷◌}
+use Rattle.std.proofs.Common.{◌≡◌, ℕ, zero, suc, ◌+◌, ◌==◌, ◌<◌, ◌≤◌, ◌&&◌, Bool, true, false, not, List, [], ◌∷◌}
 use Rattle.std.proofs.Common.{◌++◌, map, filter, set, get_or, replicate, flat_map, count_by, length, All, Option, Some, None, refl, sym, ap, ◌∙◌, arith, subst}
 use Rattle.std.specs.Prelude.{option_map, slice_get}
 use Rattle.std.proofs.lemmas.List.{length-append, length-replicate}
 use Rattle.std.proofs.lemmas.List.Concat.{flat_map-cons}
-use Rattle.std.proofs.lemmas.List.Elements.{All-get_or, All-head, All-nil, All-push, All-tail}
+use Rattle.std.proofs.lemmas.List.Elements.{All-cons, All-get_or, All-head, All-nil, All-push, All-tail}
 use Rattle.std.proofs.lemmas.Option.{get_or_from_slice_get, none-some, slice_get_within}
 use Rattle.ctrie_base.specs.declared.hashes.HashKind.{HashKind}
 use Rattle.history.specs.declared.calls.Access.TheVariants.{Writable}
@@ -15,7 +15,10 @@ use Rattle.slot_arena.specs.declared.nodes.Slot.{Slot}
 use Rattle.slot_arena.specs.Refs.{ref_to}
 use Rattle.slot_arena.specs.Heaps.{Heap, taken, empty_branch, next_ref, named_from, in_use, heap_refs, refs_of_slot}
 use Rattle.slot_arena.specs.Counts.{count_of}
-use Rattle.slot_arena.specs.Times.{times}
+use Rattle.slot_arena.specs.Arenas.{AreLive, IsLive}
+use Rattle.slot_arena.specs.Times.{times, without}
+use Rattle.slot_arena.proofs.Times.{once_same, times-cons, times-without, times_le}
+use Rattle.epochs.specs.Memories.{Memory}
 use Rattle.epochs.specs.Limbo.{is_zero, is_in, limbo_after, by_birth}
 use Rattle.machine_model.specs.declared.operations.Operation.{Operation}
 use Rattle.machine_model.specs.declared.roots.Root.{Root}
@@ -24,7 +27,7 @@ use Rattle.machine_model.specs.declared.steps.Limits.{Limits}
 use Rattle.machine_model.specs.Counting.{refs_of_root, refs_of_operation}
 use Rattle.machine_model.specs.Machine.{pin_of}
 use Rattle.machine_model.specs.States.{State, empty_heap, first_heap, first_state, operation_of}
-use Rattle.rdcss_root.specs.Holds.{root_refs}
+use Rattle.rdcss_root.specs.Holds.{IsReady, Moves, root_refs}
 use Rattle.rdcss_root.specs.Tables.{Table, new_table, with_root_in}
 use Rattle.machine_core.specs.declared.parts.Actor.{Actor}
 use Rattle.machine_core.specs.declared.parts.Parts.{Parts}
@@ -87,6 +90,39 @@ first_root_refs : (root : Option Root) (r : Ref) → refs_of_root root ≡ r ∷
 first_root_refs root r e =
     flat_map-cons refs_of_root root (replicate 255 None) ∙ ap (λ rs. rs ++ flat_map refs_of_root (replicate 255 None)) e
     ∙ ap (λ rs. r ∷ rs) (none_flat refs_of_root None 255 refl)
+
+pub one_live : (heap : Heap) (r : Ref) → IsLive heap r → AreLive heap (r ∷ [])
+one_live heap r h = All-cons (IsLive heap) r [] h (All-nil (IsLive heap))
+
+-- before any handle is open nothing has to be held
+pub none_ready : (memory : Memory) (table : Table) (actors : ℕ) → table ≡ new_table actors → memory.outside ≡ ref_to 2 1 ∷ [] → IsReady memory table.roots 4
+none_ready memory table actors new outside = record {
+  held = λ r. omega (arith, ap (λ (t : Table). times r (root_refs t.roots)) new, ap (times r) (none_flat refs_of_root None 256 refl));
+  room = λ r. omega (arith, ap (times r) outside, times_le r (ref_to 2 1 ∷ []));
+}
+
+-- once the first root stands in a root word it is held once more
+pub first_held : (before mid : Memory) (table now : Table) (actors : ℕ) (root : Ref) → table ≡ new_table actors →
+    now ≡ with_root_in table 0 (Some (record { access = Writable; word = Plain root })) → Moves before mid table.roots now.roots 4 → (r : Ref) →
+    times r mid.outside ≡ times r before.outside + times r (root ∷ [])
+first_held before mid table now actors root new put moves r =
+    let first : Option Root = Some (record { access = Writable; word = Plain root }) in
+    omega (
+      arith,
+      moves.outside r,
+      ap (λ (t : Table). times r (root_refs t.roots)) new,
+      ap (times r) (none_flat refs_of_root None 256 refl),
+      ap (λ (t : Table). times r (root_refs t.roots)) put,
+      ap (λ (t : Table). times r (root_refs (set t.roots 0 first))) new,
+      ap (times r) (first_root_refs first root refl),
+    )
+
+-- and may be released once
+pub first_there : (held mid : List Ref) (root : Ref) → times root mid ≡ times root held + times root (root ∷ []) → 0 < times root mid
+first_there held mid root more = omega (arith, more, times-cons root root [], once_same root)
+
+pub first_released : (held mid : List Ref) (root : Ref) → ((r : Ref) → times r mid ≡ times r held + times r (root ∷ [])) → (r : Ref) → times r (without root mid) ≡ times r held
+first_released held mid root more r = omega (arith, more r, times-without r root mid (first_there held mid root (more root)), times-cons r root [])
 
 none_pinned : (n : ℕ) → map pin_of (replicate {A = Option Operation} n None) ≡ replicate n None
 none_pinned zero = refl
@@ -181,7 +217,7 @@ kept_first limits parts h =
       seats = subst (λ (x : Limits). AreSeated x.hash parts.actors.items) (sym h.limits_are) (seated_at_first limits.hash limits.actors parts.actors.items h.actors);
       noted = record {
         marks = ap (λ (t : Table). length t.marks) h.table ∙ length-replicate (limits.actors + 1) false ∙ ap (λ (x : Limits). x.actors + 1) (sym h.limits_are);
-        offerers = ap (λ (t : Table). length t.offerers) h.table ∙ length-replicate 256 0;
+        offerers = ap (λ (t : Table). length t.offerers) h.table ∙ length-replicate {A = ℕ} 256 0;
         carried = ap (λ (t : Table). t.carried) h.table;
       };
       offerers = λ handle offer stands actor operation found same. absurd (nobody_runs (seen parts) limits.actors actor operation none found);

@@ -1,5 +1,5 @@
 -- What steps come to.
-use Rattle.std.proofs.Common.{◌≡◌, ℕ, ◌+◌, ◌-◌, slice_set, inl, inr, true, false, if◌then◌else◌, Option, Some, None, IfOk, Result, Ok, Err, refl, sym, ap, ◌∙◌, arith, Bool}
+use Rattle.std.proofs.Common.{◌≡◌, ℕ, ◌+◌, ◌-◌, slice_set, inl, inr, true, false, if◌then◌else◌, Option, Some, None, IfErr, IfOk, OnErr, Result, Ok, Err, refl, sym, ap, ◌∙◌, arith, Bool}
 use Rattle.std.proofs.lemmas.Option.{none-some, same_Some}
 use Rattle.ctrie_base.specs.declared.refusals.Refusal.{Refusal}
 use Rattle.ctrie_base.specs.declared.refusals.Refusal.TheVariants as refuse
@@ -79,9 +79,11 @@ allowed state (step.Begin actor call) d = ap is_taken_step (begin_answer state a
 allowed state (step.Go actor) d = let (operation, found) = running state actor d in ap is_taken_step (go_answer state actor operation d found)
 allowed state step.Sweep d = ap is_taken_step (sweep_answer state (sweep_unspent state d))
 
--- a step that lacks memory applies where it isn't denied
-pub lacks : (state after : State) (s : Step) → denial_of state s ≡ None → after ≡ state → Applies (Err refuse.Memory) state (next state s) after
-lacks state after s d e = (e, inr (refl, allowed state s d))
+-- a step that isn't denied applies, be it taken or not
+pub applies_so : (before after : State) (s : Step) (r : Result Outcome Refusal) → denial_of before s ≡ None → IfOk r (λ o. next before s ≡ Ok (o, after)) → OnErr r (after ≡ before) →
+    IfErr r (λ why. why ≡ refuse.Memory) → Applies r before (next before s) after
+applies_so before after s (Ok o) d taken same memory = taken
+applies_so before after s (Err why) d taken same memory = (same, inr (memory, allowed before s d))
 
 -- ---- what they lead to
 

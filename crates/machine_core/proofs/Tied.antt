@@ -12,7 +12,7 @@ use Rattle.machine_model.specs.States.{State, operation_of}
 use Rattle.machine_model.specs.Counting.{refs_of_operation}
 use Rattle.machine_model.specs.Machine.{pin_of}
 use Rattle.machine_model.proofs.Found.{found_within}
-use Rattle.rdcss_root.specs.Holds.{Moves, root_refs}
+use Rattle.rdcss_root.specs.Holds.{root_refs}
 use Rattle.machine_core.specs.Ties.{private_refs, IsTied, StandsAt}
 use Rattle.machine_core.proofs.Tying.{times_set, times_part}
 
@@ -43,13 +43,14 @@ ended_tied before after roots actors actor operation at tied given pins = record
 }
 
 pub begun_tied : (before after : Memory) (roots now : List (Option Root)) (actors : List (Option Operation)) (actor : ℕ) (operation : Operation) →
-    StandsAt actors actor None → IsTied before roots actors → Moves before after roots now 4 → operation.private ≡ [] →
+    StandsAt actors actor None → IsTied before roots actors →
+    ((r : Ref) → times r after.outside + times r (root_refs roots) ≡ times r before.outside + times r (root_refs now)) → operation.private ≡ [] →
     after.pins ≡ set before.pins (actor - 1) (Some operation.epoch) → IsTied after now (set actors (actor - 1) (Some operation))
 begun_tied before after roots now actors actor operation at tied moves none pins = record {
   held = λ r. omega (
     arith,
     tied.held r,
-    moves.outside r,
+    moves r,
     times_set r refs_of_operation actors (actor - 1) (Some operation) None at.within,
     ap (λ o. times r (refs_of_operation o)) at.is,
     ap (times r) none,

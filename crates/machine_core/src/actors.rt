@@ -1,11 +1,18 @@
 //! Actors, and on which handles their operations run.
 
-ghost use Rattle.std.specs.Prelude.{◌≡◌, is_some};
+ghost use Rattle.std.specs.Prelude.{◌≡◌, is_some, option_map, Some};
 ghost use Rattle.std.specs.List.{list_any};
-ghost use Rattle.machine_model.specs.Machine.{is_actor, is_busy, names, runs_on};
+ghost use Rattle.machine_model.specs.Machine.{is_actor, is_busy, names, next_kind, runs_on};
+ghost use Rattle.machine_model.specs.Operations.{action_of, kind_of};
+ghost use Rattle.machine_model.specs.States.{State};
+ghost use Rattle.rdcss_root.specs.Tables.{Table};
+ghost use Rattle.running.specs.Places.{IsSound};
+ghost use Rattle.machine_core.specs.declared.parts.UnderWay.{UnderWay as AnUnderWay};
+ghost use Rattle.machine_core.specs.Keeping.{AreSeated};
 ghost use Rattle.machine_core.specs.Seen.{operation_seen, seen};
 
 use crate::parts::{Actor, Parts};
+use ctrie_base::Kind;
 use rdcss_root::Roots;
 
 /// Whether the actor is one of the machine's.
@@ -13,6 +20,28 @@ pub fn is_actor(parts: &Parts, actor: u8) -> bool
     ensures { result ≡ is_actor (seen parts.now) actor }
 {
     0 < actor && actor <= parts.limits.actors
+}
+
+/// The kind of the next step of the actor's operation, if it runs one.
+pub fn next_kind(parts: &Parts, actor: u8) -> Option<Kind>
+    requires { AreSeated parts.now.limits.hash parts.now.actors.items }
+    ensures { result ≡ next_kind (seen parts.now) actor }
+{
+    match parts.actor(actor) {
+        None => None,
+        Some(found) => kind_for(found),
+    }
+}
+
+/// The same of this actor.
+fn kind_for(actor: &Actor) -> Option<Kind>
+    requires { (u : AnUnderWay) → actor.now.under_way ≡ Some u → IsSound u.program actor.now.programs }
+    ensures { (state : State) → (table : Table) → result ≡ option_map (λ operation. kind_of (action_of state operation)) (operation_seen table actor.now) }
+{
+    match actor.under_way {
+        None => None,
+        Some(under_way) => Some(actor.programs.next_kind(under_way.program)),
+    }
 }
 
 /// Whether any actor runs an operation.

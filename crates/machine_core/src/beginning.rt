@@ -1,12 +1,13 @@
 //! How an operation begins.
 
-ghost use Rattle.std.specs.Prelude.{◌≡◌, ◌<◌, ◌≤◌, ◌-◌, [], length, vec_len, vec_capacity, unwrap_or, slice_set, Some, None, if◌then◌else◌};
+ghost use Rattle.std.specs.Prelude.{◌≡◌, ◌<◌, ℕ, length, vec_len, vec_capacity, unwrap_or, Some, None, if◌then◌else◌};
 ghost use Rattle.machine_model.specs.States.{root_at};
 ghost use Rattle.machine_model.specs.Calls.{handle_of, opens_handle};
 ghost use Rattle.machine_model.specs.Machine.{access_of, begin_denial, new_operation, handle_closed, with_begin, least_free};
-ghost use Rattle.epochs.specs.Memories.{KeepsEpochs};
 ghost use Rattle.rdcss_root.specs.Holds.{IsReady, Moves};
-ghost use Rattle.rdcss_root.specs.Tables.{root_in};
+ghost use Rattle.rdcss_root.specs.Tables.{word_in};
+ghost use Rattle.machine_model.specs.declared.roots.Descriptor.{Descriptor};
+ghost use Rattle.machine_model.specs.declared.roots.RootWord.TheVariants.{Offer};
 ghost use Rattle.running.specs.Places.{call_for};
 ghost use Rattle.machine_core.specs.Beginnings.{Begins};
 ghost use Rattle.machine_core.specs.Bounds.{IsOfRun};
@@ -16,8 +17,8 @@ ghost use Rattle.machine_core.specs.Seen.{seen};
 use crate::calls::{handle_of, is_close, opens_handle, program_of};
 use crate::handles::least_free;
 use crate::parts::{Actor, Parts, UnderWay};
+use crate::placing::on_time;
 use history::{Access, Call, Event};
-use places::Place;
 use running::Job;
 
 /// The access of an open handle.
@@ -60,6 +61,7 @@ fn new_under_way(parts: &Parts, actor: u8, call: Call) -> UnderWay
 }
 
 /// A close takes the handle away as it begins, and enters the order there.
+#[tactic(auto, using(crate::proofs::Knows::closed_word))]
 fn close_handle(parts: &mut Parts, call: Call)
     requires to_add { 0 < parts.old.journal.chronicle.room_to_add }
     requires of_id { parts.old.begun < parts.old.journal.chronicle.ids }
@@ -67,18 +69,14 @@ fn close_handle(parts: &mut Parts, call: Call)
     ensures closed { seen parts.new ≡ handle_closed (seen parts.old) call parts.old.begun }
     ensures same { parts.new ≡ record parts.old { heap = parts.new.heap; table = record parts.old.table { roots = parts.new.table.roots }; journal = parts.new.journal } }
     ensures moves { Moves parts.old.heap parts.new.heap parts.old.table.roots parts.new.table.roots 4 }
+    ensures words { (handle : ℕ) → (offer : Descriptor) → word_in parts.new.table handle ≡ Offer offer → word_in parts.old.table handle ≡ Offer offer }
     ensures events { parts.new.journal.events ≡ parts.old.journal.events }
     ensures generations { parts.new.journal.chronicle.generations ≡ parts.old.journal.chronicle.generations }
 {
     if is_close(call) {
         parts.table.put(&mut parts.heap, handle_of(call), None);
-        parts.journal.chronicle.add(Place {
-            step: parts.steps,
-            on_time: true,
-            moment: parts.steps,
-            changed_nothing: false,
-            id: parts.begun,
-        });
+        let place = on_time(parts.steps, false, parts.begun);
+        parts.journal.chronicle.add(place);
     }
 }
 

@@ -2,7 +2,6 @@
 
 ghost use Rattle.std.specs.Prelude.{◌≡◌, ◌<◌, ◌-◌, ◌++◌, length, vec_len, vec_capacity, slice_get, Some, IfOk, IfErr, OnErr, MatchOption, option_to_list};
 ghost use Rattle.history.specs.declared.replies.Reply.TheVariants.{Closed};
-ghost use Rattle.places.specs.Places.{place_by};
 ghost use Rattle.epochs.specs.Memories.{KeepsEpochs, KeepsRemarks};
 ghost use Rattle.trie_parts.specs.Holding.{AreHeld};
 ghost use Rattle.machine_model.specs.declared.actions.Action.TheVariants as actions;
@@ -10,70 +9,26 @@ ghost use Rattle.machine_model.specs.declared.operations.Operation.{Operation};
 ghost use Rattle.machine_model.specs.States.{operation_of};
 ghost use Rattle.machine_model.specs.Acting.{ended, entered_at_end};
 ghost use Rattle.machine_model.specs.Machine.{went};
-ghost use Rattle.machine_model.specs.Orders.{closing_for, place_of};
 ghost use Rattle.machine_core.specs.Beginnings.{Leaves};
 ghost use Rattle.machine_core.specs.Bounds.{IsOfRun};
 ghost use Rattle.machine_core.specs.Keeping.{IsKept, Replaces};
 ghost use Rattle.machine_core.specs.Seen.{operation_at, seen, under_way_of};
 
 use crate::parts::{Actor, Parts, UnderWay};
+use crate::placing::place_of;
+use crate::room::make_room;
 use chronicle::Chronicle;
 use ctrie_base::Refusal;
 use epochs::Heap;
-use history::{Access, Event, Reply};
+use history::{Event, Reply};
 use machine_model::Outcome;
 use places::Place;
-
-/// The place of an operation with this moment whose generation was closed then, if it was.
-fn place_by(closing: Option<u64>, moment: u64, changed_nothing: bool, id: u64) -> Place
-    ensures { result ≡ place_by closing moment changed_nothing id }
-{
-    let on_time = Place {
-        step: moment,
-        on_time: true,
-        moment,
-        changed_nothing,
-        id,
-    };
-    match closing {
-        Some(step) if step < moment => Place {
-            step,
-            on_time: false,
-            ..on_time
-        },
-        _ => on_time,
-    }
-}
-
-/// The step that closed the generation of an operation's root, if it is on a writable handle and it was closed.
-pub fn closing_for(parts: &Parts, actor: &Actor, under_way: UnderWay) -> Option<u64>
-    ensures { result ≡ closing_for (seen parts.now) (operation_at parts.now.table actor.now.programs under_way) (operation_at parts.now.table actor.now.programs under_way).access }
-{
-    match actor.programs.access() {
-        Access::ReadOnly => None,
-        Access::Writable => match actor.programs.generation(under_way.program) {
-            None => None,
-            Some(generation) => parts.journal.chronicle.closed_at(generation),
-        },
-    }
-}
-
-/// The place of an operation with this moment.
-pub fn place_of(parts: &Parts, actor: &Actor, under_way: UnderWay, moment: u64, changed_nothing: bool) -> Place
-    ensures { result ≡ place_of (seen parts.now) (operation_at parts.now.table actor.now.programs under_way) moment changed_nothing }
-{
-    place_by(
-        closing_for(parts, actor, under_way),
-        moment,
-        changed_nothing,
-        under_way.job.id,
-    )
-}
 
 /// The place that an operation enters at its end with this reply, if it does: one that was answered and
 /// changed nothing does.
 fn entered_at_end(parts: &Parts, actor: &Actor, under_way: UnderWay, reply: &Reply) -> Option<Place>
-    ensures { option_to_list result ≡ entered_at_end (seen parts.now) (operation_at parts.now.table actor.now.programs under_way) reply.now }
+    ensures of_id { MatchOption result Unit (λ at. at.id ≡ under_way.job.id) }
+    ensures place { option_to_list result ≡ entered_at_end (seen parts.now) (operation_at parts.now.table actor.now.programs under_way) reply.now }
 {
     match reply {
         Reply::NoSlots => None,
@@ -83,7 +38,8 @@ fn entered_at_end(parts: &Parts, actor: &Actor, under_way: UnderWay, reply: &Rep
 
 /// The place of a reader at its end, if the operation has none yet.
 fn entered_unless_placed(parts: &Parts, actor: &Actor, under_way: UnderWay) -> Option<Place>
-    ensures { option_to_list result ≡ entered_at_end (seen parts.now) (operation_at parts.now.table actor.now.programs under_way) Closed }
+    ensures of_id { MatchOption result Unit (λ at. at.id ≡ under_way.job.id) }
+    ensures place { option_to_list result ≡ entered_at_end (seen parts.now) (operation_at parts.now.table actor.now.programs under_way) Closed }
 {
     if parts.journal.chronicle.is_placed(under_way.job.id) {
         None
@@ -166,8 +122,7 @@ pub fn end(parts: &mut Parts, actor: u8, under_way: UnderWay, reply: Reply) -> R
     ensures noted { OnErr result (parts.new.heap.noted ≡ parts.old.heap.noted) }
 {
     let kept = reply.copy()?;
-    parts.journal.events.reserve(1)?;
-    parts.journal.chronicle.room_for(parts.begun)?;
+    make_room(parts)?;
     let place = place_at_end(parts, actor, under_way, &reply);
     finish(parts, actor, under_way, kept, place);
     Ok(Outcome::Ended(under_way.job.id, reply))

@@ -20,8 +20,10 @@ ghost use Rattle.machine_core.specs.Keeping.{IsKept, Replaces};
 ghost use Rattle.machine_core.specs.Seen.{actor_of, operation_at, operation_seen, seen, under_way_of};
 ghost use Rattle.machine_core.specs.declared.parts.Actor.{Actor as AnActor};
 
-use crate::finishing::{end, place_of, put_place};
+use crate::finishing::{end, put_place};
 use crate::parts::{Actor, Parts, UnderWay};
+use crate::placing::place_of;
+use crate::room::make_room;
 use chronicle::{Chronicle, Commits};
 use ctrie_base::{Kind, Refusal};
 use epochs::Heap;

@@ -21,6 +21,8 @@ mod handles;
 mod machine;
 mod mains;
 mod parts;
+mod placing;
+mod room;
 mod settling;
 mod starting;
 mod stepping;

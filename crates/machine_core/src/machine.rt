@@ -5,12 +5,12 @@ ghost use Rattle.slot_arena.specs.Heaps.{in_use};
 ghost use Rattle.machine_model.specs.States.{first_state, root_at};
 ghost use Rattle.machine_model.specs.Orders.{order_of};
 ghost use Rattle.machine_model.specs.Contents.{content_at};
-ghost use Rattle.machine_model.specs.Machine.{next, is_running, is_busy, runs_on, denial_of, is_access, access_of, handles_taken, AreLimits};
+ghost use Rattle.machine_model.specs.Machine.{next, is_running, is_busy, next_kind, runs_on, denial_of, is_access, access_of, handles_taken, AreLimits};
 ghost use Rattle.machine_core.specs.Bounds.{Applies};
 ghost use Rattle.machine_core.specs.Finding.{found_along};
 ghost use Rattle.machine_model.specs.Refusing.{RefusesLimits, RefusesContent};
 
-use crate::actors::{is_busy, runs_on};
+use crate::actors::{is_busy, next_kind, runs_on};
 use crate::contents::content_of;
 use crate::denials::{denial_of, is_access};
 use crate::finding::value_of;
@@ -18,7 +18,7 @@ use crate::handles::handles_taken;
 use crate::parts::Parts;
 use crate::starting::{are_limits, first_parts};
 use crate::stepping::take_step;
-use ctrie_base::Refusal;
+use ctrie_base::{Kind, Refusal};
 use history::{Access, Event, Pairs};
 use machine_model::{Limits, Outcome, Step};
 use std::alloc::Global;
@@ -122,12 +122,20 @@ impl Core {
         self.parts.journal.events.as_slice()
     }
 
+    /// The kind of the next step of the actor's operation, if it runs one.
+    pub fn next_kind(&self, actor: u8) -> Option<Kind>
+        ensures { result ≡ next_kind self.now actor }
+    {
+        next_kind(&self.parts, actor)
+    }
+
     /// The history, handed out. It takes no memory.
     pub fn into_events(self) -> Vec<Event>
         ensures { result.items ≡ self.events }
     {
         let Core { parts } = self;
-        parts.journal.events
+        let journal = parts.journal;
+        journal.events
     }
 
     /// Whether the actor runs an operation.

@@ -1,6 +1,6 @@
 //! A step: a begin, a step of an actor's operation, or a step of the sweep.
 
-ghost use Rattle.std.specs.Prelude.{◌≡◌, ◌<◌, [], Ok, vec_len, vec_capacity, None, IfErr, IfOk, OnOk, OnErr};
+ghost use Rattle.std.specs.Prelude.{◌≡◌, ◌<◌, [], Ok, None, IfErr, IfOk, OnErr};
 ghost use Rattle.machine_model.specs.declared.steps.Step.TheVariants as steps;
 ghost use Rattle.machine_model.specs.Machine.{next, denial_of};
 ghost use Rattle.machine_core.specs.Bounds.{IsOfRun, Applies};
@@ -11,6 +11,7 @@ use crate::beginning::begin_operation;
 use crate::denials::denial_of;
 use crate::going::go_on;
 use crate::parts::Parts;
+use crate::room::make_room;
 use crate::settling::settle;
 use crate::sweeping::sweep_once;
 use ctrie_base::Refusal;
@@ -18,7 +19,7 @@ use history::Call;
 use machine_model::{Outcome, Step};
 
 /// Takes a step, or refuses it. After a refusal nothing that is seen has changed.
-#[tactic(auto, using(crate::proofs::Steps::refused, crate::proofs::Steps::lacks))]
+#[tactic(auto, using(crate::proofs::Steps::refused))]
 pub fn take_step(parts: &mut Parts, step: Step) -> Result<Outcome, Refusal>
     requires run { IsOfRun (seen parts.old) }
     requires kept { IsKept parts.old }
@@ -27,10 +28,10 @@ pub fn take_step(parts: &mut Parts, step: Step) -> Result<Outcome, Refusal>
     ensures kept { IsKept parts.new }
     ensures noted { parts.new.heap.noted ≡ [] }
 {
-    if let Some(refusal) = denial_of(parts, step) {
-        return Err(refusal);
+    match denial_of(parts, step) {
+        Some(refusal) => Err(refusal),
+        None => take_allowed(parts, step),
     }
-    take_allowed(parts, step)
 }
 
 /// A step that isn't denied. After an error nothing has changed.
@@ -69,21 +70,6 @@ fn begin(parts: &mut Parts, actor: u8, call: Call) -> Result<Outcome, Refusal>
     begin_operation(parts, actor, call);
     settle(parts);
     Ok(Outcome::Began(id))
-}
-
-/// Makes the room that a begin needs. Nothing that is seen changes.
-fn make_room(parts: &mut Parts) -> Result<(), Refusal>
-    ensures same { seen parts.new ≡ seen parts.old }
-    ensures only_memory { IfErr result (λ refusal. refusal ≡ Refusal.Memory) }
-    ensures kept { IsKept parts.old → IsKept parts.new }
-    ensures begun { parts.new.begun ≡ parts.old.begun }
-    ensures noted { parts.new.heap.noted ≡ parts.old.heap.noted }
-    ensures to_add { OnOk result (0 < parts.new.journal.chronicle.room_to_add) }
-    ensures of_id { OnOk result (parts.new.begun < parts.new.journal.chronicle.ids) }
-    ensures events { OnOk result (vec_len parts.new.journal.events < vec_capacity parts.new.journal.events) }
-{
-    parts.journal.events.reserve(1)?;
-    parts.journal.chronicle.room_for(parts.begun)
 }
 
 /// A step of an actor's operation that isn't denied. After an error nothing has changed.

@@ -4,7 +4,7 @@ use Rattle.slot_arena.specs.Heaps.{node_at, logical_main}
 use Rattle.machine_model.specs.Contents.{most_levels}
 use Rattle.machine_model.specs.States.{root_of, word_at}
 use Rattle.proof_contents.specs.Nodes.Looking.{find_at}
-use Rattle.plain_state.specs.Seen.{seen}
+use Rattle.machine_core.specs.Seen.{seen}
 use Rattle.machine_core.proofs.finding.value_of.Given as goal
 
 -- what is below the indirection at this depth decides it

@@ -1,6 +1,6 @@
 use Rattle.std.proofs.Common.{◌≡◌, ◌≤◌}
 use Rattle.machine_model.specs.Machine.{taken_below}
-use Rattle.plain_state.specs.Seen.{seen}
+use Rattle.machine_core.specs.Seen.{seen}
 use Rattle.machine_core.proofs.handles.handles_taken.Given as goal
 
 abbrev pub invariant-loop-handle : goal.invariant-loop-handle

@@ -1,6 +1,6 @@
 use Rattle.std.proofs.Common.{◌≡◌, ◌-◌}
 use Rattle.machine_model.specs.Machine.{least_from, least_free}
-use Rattle.plain_state.specs.Seen.{seen}
+use Rattle.machine_core.specs.Seen.{seen}
 use Rattle.machine_core.proofs.handles.least_free.Given as goal
 
 abbrev pub invariant-loop-handle : goal.invariant-loop-handle

@@ -1,6 +1,6 @@
 use Rattle.std.proofs.Common.{arith}
 use Rattle.machine_model.specs.declared.steps.Step.TheVariants as steps
-use Rattle.plain_state.specs.Seen.{seen}
+use Rattle.machine_core.specs.Seen.{seen}
 use Rattle.machine_core.proofs.Bounded.{bounded}
 use Rattle.machine_core.proofs.Steps.{go_leads, leads_taken}
 use Rattle.machine_core.proofs.stepping.go.Goals as goal

@@ -1,0 +1,60 @@
+use Rattle.std.proofs.Common.{List, [], ◌∷◌, refl, ap, ◌∙◌}
+use Rattle.slot_arena.specs.Refs.{ref_to}
+use Rattle.slot_arena.specs.declared.refs.Ref.{Ref}
+use Rattle.slot_arena.specs.Heaps.{Heap}
+use Rattle.epochs.specs.Limbo.{limbo_after}
+use Rattle.machine_model.specs.States.{first_heap}
+use Rattle.machine_core.proofs.Starts.{AreFirst, first_limbo, kept_first, seen_first}
+use Rattle.machine_core.proofs.starting.first_parts.Goals as goal
+
+pub first_table-requires-clause-limbo : goal.first_table-requires-clause-limbo
+first_table-requires-clause-limbo c =
+    let m = c.in_ok-heap.heap in
+    let is = c.in_ok-heap.ensures in
+    let heap : Heap = first_heap c.args.limits.slots in
+    let held : List Ref = ref_to 2 1 ∷ [] in
+    ap (λ h. limbo_after h m.outside m.epoch m.limbo) is.heap ∙ ap (λ o. limbo_after heap o m.epoch m.limbo) is.outside
+    ∙ ap (λ e. limbo_after heap held e m.limbo) is.epoch ∙ ap (limbo_after heap held 0) is.limbo ∙ first_limbo c.args.limits.slots c.requires.0
+
+-- the parts are those of a machine that has taken no step
+first : (c : goal.After-new-2) → AreFirst c.args.limits (record {
+  limits = c.args.limits;
+  heap = c.first_table.new.heap;
+  generations = 1;
+  table = c.in_ok-table.table;
+  actors = c.in_ok-actors.actors;
+  commits = c.in_ok-commits.commits;
+  journal = record { chronicle = c.in_ok-chronicle.chronicle; events = c.new-2.result };
+  steps = 0;
+  begun = 0;
+  alloc = c.args.alloc;
+})
+first c =
+    let memory = c.in_ok-heap.ensures in
+    let table = c.in_ok-table.ensures in
+    record {
+      limits_are = refl;
+      heap = table.heap ∙ memory.heap;
+      limbo = table.limbo;
+      epoch = table.epochs.0 ∙ memory.epoch;
+      cursor = table.epochs.1 ∙ memory.cursor;
+      pins = table.epochs.2 ∙ memory.pins;
+      held = table.held;
+      generations = refl;
+      table = table.table;
+      actors = c.in_ok-actors.ensures.idle;
+      commits = c.in_ok-commits.ensures.commits;
+      closings = c.in_ok-chronicle.ensures.closings;
+      places = c.in_ok-chronicle.ensures.places;
+      drawn = c.in_ok-chronicle.ensures.generations;
+      events = c.new-2.ensures.items;
+      steps = refl;
+      begun_are = refl;
+      slots = c.in_ok-commits.ensures.slots;
+    }
+
+pub returns-clause-first : goal.returns-clause-first
+returns-clause-first c = seen_first c.args.limits _ (first c)
+
+pub returns-clause-kept : goal.returns-clause-kept
+returns-clause-kept c = kept_first c.args.limits _ (first c)
