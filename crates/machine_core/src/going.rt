@@ -23,7 +23,6 @@ ghost use Rattle.machine_core.specs.declared.parts.Actor.{Actor as AnActor};
 use crate::finishing::{end, put_place};
 use crate::parts::{Actor, Parts, UnderWay};
 use crate::placing::place_of;
-use crate::room::make_room;
 use chronicle::{Chronicle, Commits};
 use ctrie_base::{Kind, Refusal};
 use epochs::Heap;
