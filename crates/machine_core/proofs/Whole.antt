@@ -1,6 +1,8 @@
 -- A step of an operation that isn't its end, with all that is noted of it.
 use Rattle.std.proofs.Common.{arith, ◌≡◌, ℕ, ◌-◌, ◌<◌, All, length, Some, None, refl, sym, ap, subst, ◌∙◌}
-use Rattle.std.specs.Prelude.{MatchOption}
+use Rattle.std.specs.Prelude.{IfOk, MatchOption, Result, Ok, Err}
+use Rattle.ctrie_base.specs.declared.refusals.Refusal.{Refusal}
+use Rattle.machine_model.specs.declared.steps.Outcome.{Outcome}
 use Rattle.std.proofs.lemmas.List.{length-set}
 use Rattle.std.proofs.lemmas.Option.{none-some, same_Some, slice_get_within}
 use Rattle.history.specs.declared.replies.Reply.{Reply}
@@ -199,3 +201,16 @@ whole_step old actor u fresh taken after final m k same kinds goes runs none ope
     let gone_is = ap (λ (s : State). gone s actor operation) (sym same) ∙ goes operation there in
     went_on (seen old) actor operation (ap (λ (o : Operation). answer_of o.line) own ∙ none seat.found (actor_there old actor u seat))
     ∙ ap (λ (x : Kind). (outcome.Went x, gone (seen old) actor operation)) kind_is ∙ ap (λ (s : State). (outcome.Went k, s)) gone_is
+
+-- an end is the step of an operation whose line tells this reply
+pub ends_step : (r : Result Outcome Refusal) (old final : Parts) (actor : ℕ) (u : UnderWay) (reply : Reply) → under_way_of old actor ≡ Some u →
+    ((found : Actor) → actor_of old actor ≡ Some found → Some reply ≡ answer_of (line_for u.program found.programs)) →
+    IfOk r (λ o. (operation : Operation) → operation_of (seen old) actor ≡ Some operation → went (seen old) actor operation (act.End reply) ≡ (o, seen final)) →
+    IfOk r (λ o. (operation : Operation) → operation_of (seen old) actor ≡ Some operation → went (seen old) actor operation (action_of (seen old) operation) ≡ (o, seen final))
+ends_step (Err refusal) old final actor u reply runs told ends = tt
+ends_step (Ok o) old final actor u reply runs told ends =
+    λ operation found.
+        let seat = seat_of old actor u runs in
+        let own = same_Some operation (operation_at old.table seat.found.programs u) (sym found ∙ operation_there old actor u seat) in
+        let line_is = ap (λ (x : Operation). answer_of x.line) own ∙ sym (told seat.found (actor_there old actor u seat)) in
+        ap (went (seen old) actor operation) (ends_so (seen old) operation operation.line reply line_is) ∙ ends operation found
