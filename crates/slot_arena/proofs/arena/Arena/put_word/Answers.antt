@@ -72,6 +72,7 @@ pub returns-clause-ticks : goal.returns-clause-ticks
 returns-clause-ticks c =
     let was = ap (λ (a : Contents). a.ticks) c.self.view_is in
     let up = one_comes c.args.swap in
-    let down = one_goes c.args.swap in
-    (omega (arith, ap length c.coming.ensures, ap length c.going.ensures, c.raise_all.ensures.ticks, c.lower_all.ensures.ticks),
-    omega (arith, ap length c.coming.ensures, ap length c.going.ensures, c.raise_all.ensures.ticks, c.lower_all.ensures.ticks))
+    let down = one_goes c.args.swap in (
+      omega (arith, ap length c.coming.ensures, ap length c.going.ensures, c.raise_all.ensures.ticks, c.lower_all.ensures.ticks),
+      omega (arith, ap length c.coming.ensures, ap length c.going.ensures, c.raise_all.ensures.ticks, c.lower_all.ensures.ticks),
+    )
