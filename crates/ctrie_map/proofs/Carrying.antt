@@ -91,7 +91,9 @@ module _ (before : Taken) (c : Call) (for_one : IsForOne before) (rest : is_busy
 
   -- so the machine begins it
   begin_free : begin_denial (state_of before) the_actor c ≡ None
-  begin_free = by_denial (begin_denial (state_of before) the_actor c) refl (subst (λ d. Due d (is_spent (state_of before)) (begin_denial (state_of before) the_actor c)) allowed (due before rest for_one.0 c change))
+  begin_free =
+      by_denial (begin_denial (state_of before) the_actor c) refl
+      (subst (λ d. Due d (is_spent (state_of before)) (begin_denial (state_of before) the_actor c)) allowed (due before rest for_one.0 c change))
     where
       by_denial : (d : Option Refusal) → begin_denial (state_of before) the_actor c ≡ d → Due None (is_spent (state_of before)) d → begin_denial (state_of before) the_actor c ≡ None
       by_denial None e due_so = e

@@ -113,7 +113,8 @@ module _ (node : Ref → Node) (kind : HashKind) (former key : ℕ) (old single 
 
       as_branch : x ≢ y → look node (hash_of kind) depth q (Branch (bit_or (2 ^ x) (2 ^ y)) (entries_from (by_index x y old single))) ≡ both q
       as_branch parted =
-          look_branch node q (bit_or (2 ^ x) (2 ^ y)) z (entries_from (by_index x y old single)) places (two-places x y old single (index_below (hash former) depth) (index_below (hash key) depth) parted)
+          look_branch node q (bit_or (2 ^ x) (2 ^ y)) z (entries_from (by_index x y old single)) places
+          (two-places x y old single (index_below (hash former) depth) (index_below (hash key) depth) parted)
           ∙ at_key (z == y) refl
         where
           first : List (Option Ref)

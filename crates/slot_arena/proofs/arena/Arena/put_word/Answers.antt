@@ -66,7 +66,9 @@ returns-clause-stay c =
     word_stays _ _ c.self.view_is _ (live_inside _ _ c.self.view_is c.args.at c.requires.live) _ _ _ (word_changes _ _ c.self.view_is c.args.at c.args.swap c.requires.stands) _ (slots_are c)
 
 pub returns-clause-few : goal.returns-clause-few
-returns-clause-few c = omega (arith, one_comes c.args.swap, one_goes c.args.swap, ap length c.coming.ensures, ap length c.going.ensures, c.raise_all.ensures.few, c.lower_all.ensures.few, ap (λ (a : Contents). length a.noted) c.self.view_is)
+returns-clause-few c =
+    let was = ap (λ (a : Contents). length a.noted) c.self.view_is in
+    omega (arith, one_comes c.args.swap, one_goes c.args.swap, ap length c.coming.ensures, ap length c.going.ensures, c.raise_all.ensures.few, c.lower_all.ensures.few)
 
 pub returns-clause-ticks : goal.returns-clause-ticks
 returns-clause-ticks c =
