@@ -81,10 +81,6 @@ performs_to before c third last same finished result p =
 
 -- ---- it isn't even tried
 
-pub none_of : {A : Type 0} (o : Option A) → ((x : A) → o ≡ Some x → ⊥) → o ≡ None
-none_of None other = refl
-none_of (Some x) other = absurd (other x refl)
-
 -- memory was wanting for what was left over
 pub unready_performs : (first second : MapState) → IsSame first second → (c : Call) (told : MapError) → (told ≡ error.Memory) × (first.is_finished ≡ false) → Performs (Err told) first c second
 unready_performs first second same c told (is, unready) = rw is (inr unready, same_stays first second same)

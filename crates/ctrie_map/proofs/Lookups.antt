@@ -37,7 +37,8 @@ pub counted : {A : Type 0} (machine : Taken) (answer : Result A MapError) → is
 counted machine answer rest = ap (λ b. if_finished (not b) answer) rest
 
 -- what is read can be worked on
-mapped_by : {A B : Type 0} (f : A → B) (b : Bool) (shown : Option HandleState) (read : KeyMap → A) (a : A) → if_finished b (read_of read shown) ≡ Ok a → if_finished b (read_of (λ m. f (read m)) shown) ≡ Ok (f a)
+mapped_by : {A B : Type 0} (f : A → B) (b : Bool) (shown : Option HandleState) (read : KeyMap → A) (a : A) → if_finished b (read_of read shown) ≡ Ok a →
+    if_finished b (read_of (λ m. f (read m)) shown) ≡ Ok (f a)
 mapped_by f true None read a e = cc e
 mapped_by f true (Some shown) read a e = let same : read shown.pairs ≡ a = cc e in ap (λ x. Ok (f x)) same
 mapped_by f false shown read a e = cc e

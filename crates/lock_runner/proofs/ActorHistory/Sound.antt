@@ -24,7 +24,7 @@ use Rattle.machine_model.proofs.Along.{along}
 use Rattle.lock_runner.specs.declared.accounts.Running.{Running}
 use Rattle.lock_runner.specs.ActorHistory.{Account, account_of, account_after, account_ended, account_from, begun_at, answered_at}
 use Rattle.history.proofs.Begins.{begun_push, begun_same}
-use Rattle.lock_runner.specs.Beneath.proof_generations.proofs.Handles.Running.{marks_length}
+use Rattle.lock_runner.specs.Beneath.proof_generations.proofs.Handles.Running.{actors_length}
 use Rattle.lock_runner.proofs.ActorHistory.Pushes.{account_push}
 use Rattle.lock_runner.proofs.ActorHistory.Turns.{Shown, shown, ran, Turns, Comes, Stays, Leaves, Rests, turns}
 
@@ -35,18 +35,6 @@ told (Some operation) = Some (operation.id, operation.call)
 -- what the actor runs
 abbrev pub runs : State → ℕ → Option Shown
 runs state actor = shown (operation_of state actor)
-
--- ---- lengths
-
-actors_length : (state : State) (s : Step) (o : Outcome) (after : State) → Moves state s o after → length after.actors ≡ length state.actors
-actors_length state s o after (Begins {actor = actor} {call = call} d) =
-    ap (λ xs. length xs) (begin_actors state actor call (begun_operation state call)) ∙ length-set state.actors _ _
-actors_length state s o after (Goes {actor = actor} {operation = operation} d is a g) =
-    ap (λ xs. length xs) (gone_actors state actor operation) ∙ marks_length (marks_by state (Some operation)) _ ∙ length-set state.actors _ _
-actors_length state s o after (Ends d is a) = length-set state.actors _ _
-actors_length state s o after (Sweeps spent) = refl
-
--- ---- how many have begun
 
 -- ---- what one event makes of an account
 

@@ -21,7 +21,7 @@ use Rattle.proof_obstruction_free.specs.Beneath.proof_commits.specs.Stages.{stag
 use Rattle.proof_obstruction_free.specs.Beneath.proof_commits.proofs.Known.StepsAt.{mark_stage, go_others, actor_counts}
 use Rattle.proof_obstruction_free.specs.Beneath.proof_commits.proofs.Lines.Turns.{line_turn}
 use Rattle.proof_obstruction_free.specs.Beneath.proof_commits.proofs.Words.Along.{line_facts, remembers_at}
-use Rattle.proof_obstruction_free.specs.Beneath.proof_generations.proofs.Handles.Running.{marks_length}
+use Rattle.proof_obstruction_free.specs.Beneath.proof_generations.proofs.Handles.Running.{actors_length}
 use Rattle.proof_obstruction_free.specs.Alone.{Lone, Stands}
 use Rattle.proof_obstruction_free.specs.Stepping.{IsNoEnd}
 use Rattle.proof_obstruction_free.proofs.Step.Next.{takes, next, no_end}
@@ -29,16 +29,6 @@ use Rattle.proof_obstruction_free.proofs.Step.Keeps.{after_so, goes_by}
 use Rattle.proof_obstruction_free.proofs.Read.Words.{w, p, sound, NonePending}
 use Rattle.proof_obstruction_free.proofs.Weights.FineWeight.{stage_weight, still_lighter, own_lighter}
 use Rattle.proof_obstruction_free.specs.Beneath.proof_commits.proofs.Known.Acts.{known_run}
-
--- ---- how many actors there are
-
-actors_length : (state : State) (s : Step) (o : Outcome) (after : State) → Moves state s o after → length after.actors ≡ length state.actors
-actors_length state s o after (Begins {actor} {call} d) =
-    ap (λ xs. length xs) (begin_actors state actor call (begun_operation state call)) ∙ length-set state.actors _ _
-actors_length state s o after (Goes {actor} {operation} d is a g) =
-    ap (λ xs. length xs) (gone_actors state actor operation) ∙ marks_length (marks_by state (Some operation)) _ ∙ length-set state.actors _ _
-actors_length state s o after (Ends d is a) = length-set state.actors _ _
-actors_length state s o after (Sweeps spent) = refl
 
 module _ (a : Lone) where
   -- ---- which actors weigh
