@@ -1,15 +1,14 @@
 -- Which operations are late, going through the order from its end.
-use Rattle.std.proofs.Common.{◌≡◌, ◌≢◌, ◌↔◌, ℕ, ◌+◌, ◌<◌, ◌≤◌, min, Bool, true, false, IsTrue, nat_lt, ◌⊎◌, inl, inr, List, length, set, Option, Some, None, slice_get, refl, sym, ap, ◌∙◌, subst}
+use Rattle.std.proofs.Common.{◌≡◌, ◌≢◌, ◌↔◌, ℕ, ◌+◌, ◌<◌, ◌≤◌, min, Bool, true, false, IsTrue, nat_lt, ◌⊎◌, inl, inr, List, length, set, Option, Some, None, refl, sym, ap, ◌∙◌, subst}
 use Rattle.std.proofs.Common.{arith, get_or}
-use Rattle.std.proofs.lemmas.Bool.{cases_order, cases_lt, true≢false, false≢true}
-use Rattle.std.proofs.lemmas.Option.{slice_get_within, slice_get-get_or, same_Some}
-use Rattle.history.specs.declared.calls.Call.{Call}
+use Rattle.std.proofs.lemmas.Bool.{cases_order, cases_lt, false≢true}
+use Rattle.std.proofs.lemmas.Option.{slice_get-get_or, same_Some}
 use Rattle.history.specs.declared.replies.Reply.{Reply}
 use Rattle.history.specs.declared.replies.Reply.TheVariants as reply
 use Rattle.history.specs.declared.events.Event.{Event}
 use Rattle.history.specs.declared.events.Event.TheVariants.{Begin}
 use Rattle.history.specs.declared.tables.Row.{Row}
-use Rattle.history.specs.Histories.{Operation, BeginsAt, EndsAt, HasBegun, HasEnded}
+use Rattle.history.specs.Histories.{Operation, BeginsAt, EndsAt, HasBegun}
 use Rattle.history.specs.Orders.{OrderedAt}
 use Rattle.history.specs.Tables.{IsRowOf, operation_of, recorded}
 use Rattle.history.proofs.Places.{at_set_cases, option_cases}
