@@ -15,10 +15,9 @@ use Rattle.history_text.specs.Grammar.{IsNumber, EventFits, Spell, IsShort}
 use Rattle.history_text.proofs.Only.{read_again}
 use Rattle.ctrie_base.specs.declared.refusals.Refusal.{Refusal}
 use Rattle.machine_model.specs.declared.steps.Limits.{Limits}
-use Rattle.machine_model.specs.declared.steps.Step.{Step}
 use Rattle.machine_model.specs.States.{State, first_state}
 use Rattle.machine_model.specs.Orders.{order_of}
-use Rattle.machine_model.specs.Machine.{run_from, run}
+use Rattle.machine_model.specs.Machine.{run_from}
 use Rattle.ctrie_commands.specs.Beneath.step_machine.specs.Machines.{Taken, state_of}
 use Rattle.ctrie_commands.specs.Beneath.step_machine.specs.Legality.{IsLegalFor, IsLegalRecord}
 use Rattle.ctrie_commands.specs.Beneath.step_machine.specs.Records.{IsRecordOf}

@@ -1,5 +1,5 @@
 -- The report of what threads did, from their workers and the record.
-use Rattle.std.proofs.Common.{◌≡◌, ℕ, zero, suc, ◌+◌, ◌-◌, ◌<◌, ◌≤◌, List, [], ◌∷◌, ◌++◌, map, length, inl, inr, ◌⊎◌, refl, sym, ap, subst, ◌∙◌, arith}
+use Rattle.std.proofs.Common.{◌≡◌, ℕ, zero, suc, ◌+◌, ◌-◌, ◌<◌, ◌≤◌, List, [], ◌∷◌, ◌++◌, map, inl, inr, ◌⊎◌, refl, sym, ap, subst, ◌∙◌, arith}
 use Rattle.std.specs.Prelude.{Ok, Some, slice_get, All, sum_by}
 use Rattle.std.proofs.lemmas.List.Elements.{All-nil, All-cons, All-same, All-map}
 use Rattle.std.proofs.lemmas.List.{length-map}

@@ -1,5 +1,5 @@
 -- A call that is carried out from rest, seen in the map.
-use Rattle.std.specs.Prelude.{◌≡◌, ◌≢◌, ◌≤◌, ◌<◌, ◌+◌, ℕ, Bool, true, false, not, nat_le, List, [], ◌++◌, length, Option, Some, None, Result, Ok, Err}
+use Rattle.std.specs.Prelude.{◌≡◌, ◌≢◌, ◌≤◌, ◌<◌, ◌+◌, ℕ, Bool, true, false, not, nat_le, [], length, Option, Some, None, Result, Ok, Err}
 use Rattle.std.proofs.Common.{refl, sym, ap, subst, arith, inl, inr, ◌∙◌}
 use Rattle.std.proofs.lemmas.Bool.{false≢true}
 use Rattle.ctrie_base.specs.Hashes.{hash_of}
@@ -12,10 +12,9 @@ use Rattle.history.specs.declared.replies.Reply.TheVariants.{NoSlots}
 use Rattle.history.specs.Effects.{Effect}
 use Rattle.history.specs.Worlds.{HandleMap}
 use Rattle.machine_model.specs.declared.steps.Limits.{Limits}
-use Rattle.machine_model.specs.declared.steps.Step.{Step}
 use Rattle.machine_model.specs.declared.steps.Step.TheVariants.{Begin}
 use Rattle.machine_model.specs.Going.{go_limit}
-use Rattle.machine_model.specs.Keys.{FitsKey, KeysFit}
+use Rattle.machine_model.specs.Keys.{KeysFit}
 use Rattle.machine_model.specs.Machine.{AreLimits, begin_denial, is_busy, is_spent}
 use Rattle.machine_model.specs.Moves.{begun_operation}
 use Rattle.machine_model.specs.States.{step_limit}

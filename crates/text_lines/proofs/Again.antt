@@ -1,5 +1,5 @@
 -- The words of a text, and the numbers among them, are read again.
-use Rattle.std.proofs.Common.{◌≡◌, ℕ, ◌<◌, ◌≤◌, ◌^◌, List, [], ◌∷◌, ◌++◌, length, refl, ap, ◌∙◌, Result, Ok, Some, Bool, true, false, eqb, ◌&&◌, arith}
+use Rattle.std.proofs.Common.{◌≡◌, ℕ, ◌<◌, ◌≤◌, ◌^◌, List, [], ◌∷◌, length, refl, ap, ◌∙◌, Result, Ok, Some, Bool, true, false, eqb, arith}
 use Rattle.std.specs.Prelude.{not}
 use Rattle.std.specs.List.{list_all, onto_first, AllByRecursion}
 use Rattle.std.specs.Str.{all_ascii_digits}

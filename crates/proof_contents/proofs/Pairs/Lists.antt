@@ -1,5 +1,5 @@
 -- Lists of pairs of different keys: what is found in them, and that sorted by key they are the entries of a map.
-use Rattle.std.proofs.Common.{◌≡◌, ◌≢◌, ℕ, suc, ◌<◌, ◌≤◌, ◌==◌, ◌&&◌, Bool, true, false, cond, T, nat_lt, List, [], ◌∷◌, ◌++◌, length, Option, Some, None, nat_cmp, is_lt, Less}
+use Rattle.std.proofs.Common.{◌≡◌, ◌≢◌, ℕ, suc, ◌<◌, ◌≤◌, ◌==◌, Bool, true, false, cond, T, nat_lt, List, [], ◌∷◌, ◌++◌, length, Option, Some, None, nat_cmp, is_lt, Less}
 use Rattle.std.proofs.Common.{Equal, Greater, refl, sym, ap, subst, ◌∙◌, arith, eqb-true, eq-eqb, ne_eqb, lt-ltb, ltb-true, ltb-false}
 use Rattle.std.specs.Cmp.{unsigned_tied}
 use Rattle.std.specs.Ordering.{eq_by_cmp}

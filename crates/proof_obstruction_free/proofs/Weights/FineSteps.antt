@@ -1,18 +1,15 @@
 -- What the actors weigh over one step of an operation that is alone.
 use Rattle.std.proofs.Common.{◌≡◌, ℕ, zero, suc, ◌<◌, ◌≤◌, length, Option, Some, None, refl, sym, ap, ◌∙◌, subst, arith}
 use native.Mathlib.Decide.{ℕ_discrete}
-use Rattle.std.proofs.lemmas.List.{length-set, length-replicate}
+use Rattle.std.proofs.lemmas.List.{length-replicate}
 use Rattle.proof_obstruction_free.specs.Beneath.slot_arena.specs.declared.refs.Ref.{Ref}
 use Rattle.proof_obstruction_free.specs.Beneath.machine_model.specs.declared.lines.Line.{Line}
 use Rattle.proof_obstruction_free.specs.Beneath.machine_model.specs.declared.operations.Operation.{Operation}
-use Rattle.proof_obstruction_free.specs.Beneath.machine_model.specs.declared.steps.Outcome.{Outcome}
-use Rattle.proof_obstruction_free.specs.Beneath.machine_model.specs.declared.steps.Step.{Step}
 use Rattle.proof_obstruction_free.specs.Beneath.machine_model.specs.States.{State, first_state, operation_of}
 use Rattle.proof_obstruction_free.specs.Beneath.machine_model.specs.Operations.{action_of, line_action, line_after}
-use Rattle.proof_obstruction_free.specs.Beneath.machine_model.proofs.Actors.{marks_by, gone_actors, begin_actors}
+use Rattle.proof_obstruction_free.specs.Beneath.machine_model.proofs.Actors.{marks_by}
 use Rattle.proof_obstruction_free.specs.Beneath.machine_model.proofs.Found.{found_within}
-use Rattle.proof_obstruction_free.specs.Beneath.machine_model.specs.Moves.{Begins, Goes, Ends, Sweeps}
-use Rattle.proof_obstruction_free.specs.Beneath.machine_model.specs.Moves.{Moves, begun_operation}
+use Rattle.proof_obstruction_free.specs.Beneath.machine_model.specs.Moves.{Moves}
 use Rattle.proof_obstruction_free.specs.Beneath.machine_model.proofs.Times.{at_each_time}
 use Rattle.proof_obstruction_free.specs.Beneath.proof_commits.specs.Protocol.{Rests, Decides}
 use Rattle.proof_obstruction_free.specs.Beneath.proof_commits.specs.Protocol as Word

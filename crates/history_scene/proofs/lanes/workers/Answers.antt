@@ -1,6 +1,5 @@
 -- A begin notes its actor, and an end none.
-use Rattle.std.proofs.Common.{◌≡◌, ◌<◌, ◌∙◌, ◌||◌, ℕ, ◌+◌, Bool, Some, false, true, get_or, length, set, slice_get, refl, sym, ap, arith, take, subst, length-set}
-use Rattle.history.specs.declared.events.Event.{Event}
+use Rattle.std.proofs.Common.{◌∙◌, ◌||◌, Bool, Some, false, refl, sym, ap, arith, take, length-set}
 use Rattle.history_scene.specs.Lanes.{is_begin_of, works}
 use Rattle.history_scene.proofs.Working.{at_same, works_more, begin_noted}
 use Rattle.std.proofs.Math.Bool.{or-false}
