@@ -95,9 +95,18 @@ fn stored_key_of(heap: &Heap, refs: &[Ref], index: usize) -> u64 {
     }
 }
 
-/// Swaps the main word of an indirection, so many times, to one reference after the other. Whether all
+/// How the main word of an indirection changes.
+#[derive(Clone, Copy)]
+pub(crate) enum MainChange {
+    /// It is swapped.
+    Swap,
+    /// Another main node is published in it.
+    Publish,
+}
+
+/// Changes the main word of an indirection, so many times, to one reference after the other. Whether all
 /// was done.
-pub(crate) fn swap(heap: &mut Heap, refs: &[Ref], count: u32) -> bool
+pub(crate) fn change_main(heap: &mut Heap, refs: &[Ref], count: u32, by: MainChange) -> bool
     requires { AreLive heap.old.heap refs.now }
     ensures { AreLive heap.new.heap refs.now }
 {
@@ -110,7 +119,7 @@ pub(crate) fn swap(heap: &mut Heap, refs: &[Ref], count: u32) -> bool
         if from >= refs.len() {
             from = 0;
         }
-        all &= swap_one(heap, indirection, refs, from);
+        all &= change_once(heap, indirection, refs, from, by);
         from += 1;
     }
     all
@@ -131,8 +140,14 @@ fn new_indirection(heap: &mut Heap, refs: &[Ref]) -> Option<Ref>
     })
 }
 
-/// Swaps its main word once, to this reference.
-fn swap_one(heap: &mut Heap, indirection: Ref, refs: &[Ref], index: usize) -> bool
+/// Changes its main word once, to this reference.
+fn change_once(
+    heap: &mut Heap,
+    indirection: Ref,
+    refs: &[Ref],
+    index: usize,
+    by: MainChange,
+) -> bool
     requires indirection { IsLive heap.old.heap indirection }
     requires live { AreLive heap.old.heap refs.now }
     ensures indirection { IsLive heap.new.heap indirection }
@@ -145,44 +160,10 @@ fn swap_one(heap: &mut Heap, indirection: Ref, refs: &[Ref], index: usize) -> bo
         Node::Indirection { main, .. } => *main,
         _ => return false,
     };
-    heap.swap_main(indirection, from, refs[index])
-}
-
-/// Publishes in an indirection so many times, one reference after the other. Whether all was done.
-pub(crate) fn publish(heap: &mut Heap, refs: &[Ref], count: u32) -> bool
-    requires { AreLive heap.old.heap refs.now }
-    ensures { AreLive heap.new.heap refs.now }
-{
-    let Some(indirection) = new_indirection(heap, refs) else {
-        return false;
-    };
-    let mut all = true;
-    let mut from = 0;
-    for _ in 0..count {
-        if from >= refs.len() {
-            from = 0;
-        }
-        all &= publish_one(heap, indirection, refs, from);
-        from += 1;
+    match by {
+        MainChange::Swap => heap.swap_main(indirection, from, refs[index]),
+        MainChange::Publish => heap.publish(indirection, from, refs[index]),
     }
-    all
-}
-
-/// Publishes there once, this reference.
-fn publish_one(heap: &mut Heap, indirection: Ref, refs: &[Ref], index: usize) -> bool
-    requires indirection { IsLive heap.old.heap indirection }
-    requires live { AreLive heap.old.heap refs.now }
-    ensures indirection { IsLive heap.new.heap indirection }
-    ensures live { AreLive heap.new.heap refs.now }
-{
-    if index >= refs.len() {
-        return false;
-    }
-    let from = match heap.look(indirection) {
-        Node::Indirection { main, .. } => *main,
-        _ => return false,
-    };
-    heap.publish(indirection, from, refs[index])
 }
 
 /// Settles so many times with nothing to settle.

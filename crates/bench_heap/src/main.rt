@@ -17,7 +17,9 @@ mod placing;
 
 use crate::arenas::{make_and_free, new_arena};
 use crate::builders::branches;
-use crate::heaps::{hold_and_release, look, look_stored, new_heap, publish, settle, swap};
+use crate::heaps::{
+    MainChange, change_main, hold_and_release, look, look_stored, new_heap, settle,
+};
 use crate::placing::places;
 use ctrie_base::Refusal;
 use epochs::Heap;
@@ -113,10 +115,10 @@ fn measure_changes<R: Clock + Print>(rt: &R, heap: &mut Heap, refs: &[Ref], coun
     settle(heap, count);
     tell(rt, "a settling of nothing", start, count);
     let start = Instant::now(rt).ok();
-    let swapped = swap(heap, refs, count);
+    let swapped = change_main(heap, refs, count, MainChange::Swap);
     tell(rt, "a swap of a main word", start, count);
     let start = Instant::now(rt).ok();
-    let published = publish(heap, refs, count);
+    let published = change_main(heap, refs, count, MainChange::Publish);
     tell(rt, "a main node published", start, count);
     let _ = println!(rt; "({settled}, {swapped}, {published})");
 }
@@ -167,8 +169,8 @@ fn small_heap<R: Print + AllocGlobal>(rt: &R) -> Result<(), Refusal> {
     let sum = look(&heap, refs.as_slice(), 100);
     let settled = hold_and_release(&mut heap, refs.as_slice(), 100);
     settle(&mut heap, 100);
-    let swapped = swap(&mut heap, refs.as_slice(), 100);
-    let published = publish(&mut heap, refs.as_slice(), 100);
+    let swapped = change_main(&mut heap, refs.as_slice(), 100, MainChange::Swap);
+    let published = change_main(&mut heap, refs.as_slice(), 100, MainChange::Publish);
     let _ = println!(rt;
         "branches made and freed: {made}, looks with the sum {sum}, slots settled: {settled}, words swapped: {swapped}, nodes published: {published}"
     );

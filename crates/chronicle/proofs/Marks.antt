@@ -2,6 +2,7 @@
 use Rattle.std.proofs.Common.{◌≡◌, ℕ, zero, suc, ◌==◌, ◌<◌, ◌≤◌, ◌||◌, Bool, true, false, List, [], ◌∷◌, ◌++◌, length, set, get_or, take, replicate, refl, sym, ap, ◌∙◌, eq-eqb, eqb-true}
 use Rattle.std.specs.List.{list_any}
 use Rattle.std.proofs.lemmas.Bool.{false≢true}
+use Rattle.std.proofs.Math.Bool.{or-true, or-false}
 use Rattle.std.proofs.lemmas.List.{get_or-set_same, get_or-set_other, take_all}
 use Rattle.places.specs.declared.place.Place.{Place}
 use Rattle.chronicle.specs.Entered.{AreMarked}
@@ -40,21 +41,13 @@ any_push (q ∷ places) p id b e = by (q.id == id) (any_push places p id b e)
     by true rest = refl
     by false rest = rest
 
-or_true : (t : Bool) → (t || true) ≡ true
-or_true true = refl
-or_true false = refl
-
-or_false : (t : Bool) → (t || false) ≡ t
-or_false true = refl
-or_false false = refl
-
 pub marked_more : (marks after : List Bool) (places : List Place) (p : Place) → p.id < length marks → after ≡ set marks p.id true → AreMarked marks places → AreMarked after (places ++ p ∷ [])
 marked_more marks after places p within is h id = by (p.id == id) refl
   where
     by : (b : Bool) → (p.id == id) ≡ b → get_or after id false ≡ list_any (λ place. place.id == id) (places ++ p ∷ [])
     by true e =
         ap (λ ms. get_or ms id false) is ∙ ap (λ n. get_or (set marks p.id true) n false) (sym (eqb-true p.id id e)) ∙ get_or-set_same marks p.id true false within
-        ∙ sym (any_push places p id true e ∙ or_true (list_any (λ place. place.id == id) places))
+        ∙ sym (any_push places p id true e ∙ or-true (list_any (λ place. place.id == id) places))
     by false e =
         ap (λ ms. get_or ms id false) is ∙ get_or-set_other marks p.id id true false (λ same. false≢true (sym e ∙ eq-eqb p.id id (sym same))) ∙ h id
-        ∙ sym (any_push places p id false e ∙ or_false (list_any (λ place. place.id == id) places))
+        ∙ sym (any_push places p id false e ∙ or-false (list_any (λ place. place.id == id) places))

@@ -4,6 +4,7 @@ use Rattle.std.specs.Prelude.{replicate, option_map}
 use Rattle.ctrie_base.specs.declared.kinds.Kind.{Kind}
 use Rattle.ctrie_base.specs.declared.refusals.Refusal.{Refusal}
 use Rattle.history.specs.declared.events.Event.{Event}
+use Rattle.history.proofs.Places.{option_unfound}
 use Rattle.machine_model.specs.declared.operations.Operation.{Operation}
 use Rattle.machine_model.specs.declared.steps.Outcome.{Outcome}
 use Rattle.machine_model.specs.declared.steps.Step.{Step}
@@ -63,10 +64,6 @@ sweeps_add_none (suc times) state = sweeps_add_none times (next_state state step
 
 -- ---- an operation goes on, up to its end
 
-is_none : {A : Type 0} (o : Option A) → ((x : A) → o ≡ Some x → ⊥) → o ≡ None
-is_none None never = refl
-is_none (Some x) never = absurd (never x refl)
-
 -- nothing is told, or the operation has ended
 abbrev QuietOrEnded : State → ℕ → State → Type 0
 QuietOrEnded before actor after = (after.events ≡ before.events) ⊎ (Adds 1 before after × (operation_of after actor ≡ None))
@@ -77,7 +74,7 @@ by_move state s o after (Goes {actor = own} {operation} d is a g) actor e = inl 
 by_move state s o after (Ends {actor = own} {operation} d is a) actor e =
     let (k, place, runs) = place_of_actor state own operation is in
     let same : actor ≡ suc k = let whose : own ≡ actor = cc e in sym whose ∙ place in
-    inr (one_more state.events _ _ refl, ap (operation_of after) same ∙ is_none (operation_of after (suc k)) (λ found at. of_end state own k place found at))
+    inr (one_more state.events _ _ refl, ap (operation_of after) same ∙ option_unfound (operation_of after (suc k)) (λ found at. of_end state own k place found at))
 by_move state s o after (Sweeps spent) actor e = cc e
 
 by_answer : (state : State) (actor : ℕ) (answer : Answer) → MovesIfTaken state (step.Go actor) answer → QuietOrEnded state actor (state_after state answer)

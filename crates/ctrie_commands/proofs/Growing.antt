@@ -11,7 +11,6 @@ use Rattle.machine_model.specs.States.{State}
 use Rattle.machine_model.specs.Machine.{Answer, next, next_state, state_after, run_from, next_kind, begin_denial, begin_unless, go_denial, go_unless}
 use Rattle.machine_model.proofs.Moves.{moves}
 use Rattle.machine_model.specs.Moves.{MovesIfTaken}
-use Rattle.machine_model.proofs.Frames.{limits_kept}
 use Rattle.ctrie_commands.specs.Beneath.proof_order.proofs.History.Growing.{Grows, grows_same, grows_trans, events_grow}
 use Rattle.script_text.specs.declared.commands.Command.{Command}
 use Rattle.script_text.specs.declared.commands.Command.TheVariants.{Begin, Go, Until, Finish, Do, Sweep}
@@ -28,15 +27,6 @@ unfolding run_from
 all_grow state [] = grows_same state.events state.events refl
 all_grow state (s ∷ steps) =
     grows_trans state.events (next_state state s).events (run_from (next_state state s) steps).events (one_grows state s (next state s) (moves state s)) (all_grow (next_state state s) steps)
-
-one_keeps_limits : (state : State) (s : Step) (answer : Answer) → MovesIfTaken state s answer → (state_after state answer).limits ≡ state.limits
-one_keeps_limits state s (Ok done) m = limits_kept state s done.0 done.1 m
-one_keeps_limits state s (Err refusal) m = refl
-
-pub limits_stay : (state : State) (steps : List Step) → (run_from state steps).limits ≡ state.limits
-unfolding run_from
-limits_stay state [] = refl
-limits_stay state (s ∷ steps) = limits_stay (next_state state s) steps ∙ one_keeps_limits state s (next state s) (moves state s)
 
 -- what the first steps and those behind them add
 pub added_split : (xs ys zs : List Event) → Grows xs ys → Grows ys zs → drop (length xs) zs ≡ drop (length xs) ys ++ drop (length ys) zs

@@ -15,10 +15,9 @@ use Rattle.history_text.specs.Grammar.{IsNumber, EventFits, Spell, IsShort}
 use Rattle.history_text.proofs.Only.{read_again}
 use Rattle.ctrie_base.specs.declared.refusals.Refusal.{Refusal}
 use Rattle.machine_model.specs.declared.steps.Limits.{Limits}
-use Rattle.machine_model.specs.declared.steps.Step.{Step}
 use Rattle.machine_model.specs.States.{State, first_state}
 use Rattle.machine_model.specs.Orders.{order_of}
-use Rattle.machine_model.specs.Machine.{run_from, run}
+use Rattle.machine_model.specs.Machine.{run_from}
 use Rattle.ctrie_commands.specs.Beneath.step_machine.specs.Machines.{Taken, state_of}
 use Rattle.ctrie_commands.specs.Beneath.step_machine.specs.Legality.{IsLegalFor, IsLegalRecord}
 use Rattle.ctrie_commands.specs.Beneath.step_machine.specs.Records.{IsRecordOf}
@@ -34,7 +33,7 @@ use Rattle.ctrie_commands.specs.Threads.{thread_report}
 use Rattle.ctrie_commands.specs.Verdicts.{IsVerdict}
 use Rattle.ctrie_commands.specs.Legality.{told_in, IsLegalText, AppendsJudged}
 use Rattle.ctrie_commands.proofs.Endings.{each_line_ends}
-use Rattle.ctrie_commands.proofs.Growing.{limits_stay}
+use Rattle.machine_model.proofs.Along.{limits_along}
 use Rattle.ctrie_commands.proofs.Spelled.{report_spelled, thread_report_spelled}
 use Rattle.ctrie_commands.proofs.Short.{report_short}
 
@@ -72,10 +71,6 @@ told_legal hash state text said fit legal is spelled =
 
 -- ---- the report of a script's run
 
-run_limits : (limits : Limits) (steps : List Step) → (run limits steps).limits ≡ limits
-unfolding first_state
-run_limits limits steps = limits_stay (first_state limits) steps
-
 -- the state after the lines of a script
 pub led_to : (script : Script) (before after : State) → before ≡ first_state script.limits → after ≡ run_from before (all_steps before script.lines) → after ≡ last_state script
 led_to script before after first last = last ∙ ap (λ s. run_from s (all_steps s script.lines)) first
@@ -84,7 +79,7 @@ pub report_legal : (script : Script) (machine : Taken) (text : List ℕ) → sta
     IsLegalFor machine (order_of (state_of machine)) → text ≡ report script → IsLegalText text (told_in script.limits.hash (last_state script))
 report_legal script machine text is fit legal same =
     let sizes : machine.limits ≡ script.limits =
-    sym (run_limits machine.limits machine.steps) ∙ ap (λ (s : State). s.limits) is ∙ run_limits script.limits (all_steps (first_state script.limits) script.lines) in
+    sym (limits_along machine.limits machine.steps) ∙ ap (λ (s : State). s.limits) is ∙ limits_along script.limits (all_steps (first_state script.limits) script.lines) in
     let here : IsLegal (hash_of script.limits.hash) (state_of machine).events (order_of (state_of machine)) =
     subst (λ (limits : Limits). IsLegal (hash_of limits.hash) (state_of machine).events (order_of (state_of machine))) sizes legal in
     told_legal script.limits.hash (last_state script) text (report script) (subst (λ (s : State). All EventFits s.events) is fit)

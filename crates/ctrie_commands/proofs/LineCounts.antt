@@ -48,15 +48,20 @@ denials_counted : (actor : ℕ) (denials : List (List Refusal)) (rest : List ℕ
 denials_counted actor [] rest = omega arith
 denials_counted actor (denied ∷ more) rest =
     let parts = append_assoc (denied_lines actor denied) (all_denied (actor + 1) more) rest in
-    omega (arith, ap (λ t. length (lines_of t)) parts, each_denial actor denied (all_denied (actor + 1) more ++ rest), denials_counted (actor + 1) more rest,
-        sum_by-cons (λ (d : List Refusal). length d) denied more)
+    omega (
+      arith,
+      ap (λ t. length (lines_of t)) parts,
+      each_denial actor denied (all_denied (actor + 1) more ++ rest),
+      denials_counted (actor + 1) more rest,
+      sum_by-cons (λ (d : List Refusal). length d) denied more,
+    )
 
 pub last_counted : (state : State) → length (lines_of (last_lines state)) ≡ 2
 last_counted state =
     let slots = slots_text (length (in_use state.heap)) (length state.heap.free) (length state.limbo) in
     let last : length (lines_of (line slots)) ≡ 1 =
     ap (λ t. length (lines_of t)) (sym (append-nil (line slots))) ∙ one_line slots [] (slots_line_none (length (in_use state.heap)) (length state.heap.free) (length state.limbo))
-        ∙ ap suc (ap length no_lines) in
+    ∙ ap suc (ap length no_lines) in
     one_line (order_text (order_of state)) (line slots) (order_line_none (order_of state)) ∙ ap suc last
 
 -- the hash, each event, each denial, the order and the slots

@@ -1,5 +1,5 @@
 -- The report of what threads did, from their workers and the record.
-use Rattle.std.proofs.Common.{◌≡◌, ℕ, zero, suc, ◌+◌, ◌-◌, ◌<◌, ◌≤◌, List, [], ◌∷◌, ◌++◌, map, length, inl, inr, ◌⊎◌, refl, sym, ap, subst, ◌∙◌, arith}
+use Rattle.std.proofs.Common.{◌≡◌, ℕ, zero, suc, ◌+◌, ◌-◌, ◌<◌, ◌≤◌, List, [], ◌∷◌, ◌++◌, map, inl, inr, ◌⊎◌, refl, sym, ap, subst, ◌∙◌, arith}
 use Rattle.std.specs.Prelude.{Ok, Some, slice_get, All, sum_by}
 use Rattle.std.proofs.lemmas.List.Elements.{All-nil, All-cons, All-same, All-map}
 use Rattle.std.proofs.lemmas.List.{length-map}
@@ -9,6 +9,7 @@ use Rattle.ctrie_base.specs.declared.refusals.Refusal.{Refusal}
 use Rattle.ctrie_base.specs.declared.refusals.Refusal.TheVariants.{Spent}
 use Rattle.ctrie_base.specs.declared.hashes.HashKind.{HashKind}
 use Rattle.history.specs.Histories.{IsRunning}
+use Rattle.history.proofs.Places.{at_within}
 use Rattle.history_text.specs.Grammar.{EventFits}
 use Rattle.machine_model.specs.declared.steps.Limits.{Limits}
 use Rattle.lock_runner.specs.ActorHistory.Answers.{AreAnswersOf}
@@ -41,15 +42,10 @@ seats_came script runner workers seats ranks are =
     All-same (λ (s : Seated). IsSeatOf runner s) seats _ are
     (All-map (λ (s : Seated). IsSeatOf runner s) (λ (w : Worker). w.seat) workers (all_of (λ (w : Worker). IsSeatOf runner w.seat) workers (λ k w e. (ranks.each k w e).runner)))
 
-at_place : {A : Type 0} (xs : List A) (k : ℕ) → k < length xs → (x : A) × (slice_get xs k ≡ Some x)
-at_place [] k below = absurd (omega arith)
-at_place (x ∷ xs) zero below = (x, refl)
-at_place (x ∷ xs) (suc k) below = at_place xs k (omega (arith, below))
-
 is_here : (script : Reading) (runner : Room) (workers : List Worker) (seats : List Seated) (actor : ℕ) → AreRanked script runner.id workers → seats ≡ map (λ (w : Worker). w.seat) workers →
     1 ≤ actor → actor ≤ script.limits.actors + 1 → IsHere actor seats
 is_here script runner workers seats actor ranks are low high =
-    let at = at_place workers (actor - 1) (omega (arith, ranks.number)) in (
+    let at = at_within workers (actor - 1) (omega (arith, ranks.number)) in (
       actor - 1,
       at.0.seat,
       ap (λ ss. slice_get ss (actor - 1)) are ∙ to_map (λ (w : Worker). w.seat) workers (actor - 1) at.0 at.1,

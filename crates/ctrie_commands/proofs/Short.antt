@@ -35,8 +35,12 @@ report_counted : (script : Reading) → length (lines_of (report script)) ≤ 2 
 unfolding report
 report_counted script =
     let rest = all_told (first_state script.limits) script.lines ++ last_lines (last_state script) in
-    omega (arith, one_line (hash_text script.limits.hash) rest (hash_none script.limits.hash), all_counted script.lines (first_state script.limits) (last_lines (last_state script)),
-        last_counted (last_state script))
+    omega (
+      arith,
+      one_line (hash_text script.limits.hash) rest (hash_none script.limits.hash),
+      all_counted script.lines (first_state script.limits) (last_lines (last_state script)),
+      last_counted (last_state script),
+    )
 
 pub report_short : (text : List ℕ) (script : Reading) → script_of text ≡ Ok script → IsShort (report script)
 unfolding script_of

@@ -55,7 +55,7 @@ one_owner (suc n) from owner call = elim (cases_eq owner from) [
   | inr other ↦
       let first = other_owner owner (zero + from) call (λ e. other (omega (arith, e))) in
       let more = total_least n (λ k. named_at (Do owner call) from (suc k)) (named_at (Do owner call) (from + 1))
-          (λ k below. let e : suc k + from ≡ k + (from + 1) = omega arith in omega (arith, ap (λ a. length (calls_in a (Do owner call))) e)) in
+      (λ k below. let e : suc k + from ≡ k + (from + 1) = omega arith in omega (arith, ap (λ a. length (calls_in a (Do owner call))) e)) in
       omega (arith, first, more, one_owner n (from + 1) owner call)
 ]
 

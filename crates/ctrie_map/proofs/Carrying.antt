@@ -1,8 +1,7 @@
 -- A call that is carried out from rest, seen in the map.
-use Rattle.std.specs.Prelude.{◌≡◌, ◌≢◌, ◌≤◌, ◌<◌, ◌+◌, ℕ, Bool, true, false, not, nat_le, List, [], ◌++◌, length, Option, Some, None, Result, Ok, Err}
-use Rattle.std.proofs.Common.{refl, sym, ap, subst, arith, inl, inr, get_or, ◌∙◌}
+use Rattle.std.specs.Prelude.{◌≡◌, ◌≢◌, ◌≤◌, ◌<◌, ◌+◌, ℕ, Bool, true, false, not, nat_le, [], length, Option, Some, None, Result, Ok, Err}
+use Rattle.std.proofs.Common.{refl, sym, ap, subst, arith, inl, inr, ◌∙◌}
 use Rattle.std.proofs.lemmas.Bool.{false≢true}
-use Rattle.std.proofs.lemmas.List.Elements.{All-contains, Contains-append_left, Contains-get_or}
 use Rattle.ctrie_base.specs.Hashes.{hash_of}
 use Rattle.ctrie_base.specs.declared.refusals.Refusal.{Refusal}
 use Rattle.ctrie_base.specs.declared.refusals.Refusal.TheVariants as refuse
@@ -13,10 +12,9 @@ use Rattle.history.specs.declared.replies.Reply.TheVariants.{NoSlots}
 use Rattle.history.specs.Effects.{Effect}
 use Rattle.history.specs.Worlds.{HandleMap}
 use Rattle.machine_model.specs.declared.steps.Limits.{Limits}
-use Rattle.machine_model.specs.declared.steps.Step.{Step}
 use Rattle.machine_model.specs.declared.steps.Step.TheVariants.{Begin}
 use Rattle.machine_model.specs.Going.{go_limit}
-use Rattle.machine_model.specs.Keys.{FitsKey, KeysFit}
+use Rattle.machine_model.specs.Keys.{KeysFit}
 use Rattle.machine_model.specs.Machine.{AreLimits, begin_denial, is_busy, is_spent}
 use Rattle.machine_model.specs.Moves.{begun_operation}
 use Rattle.machine_model.specs.States.{step_limit}
@@ -31,7 +29,7 @@ use Rattle.step_machine.proofs.Going.{has_more}
 use Rattle.step_machine.proofs.Legality.{acted_again, rests_again, spares_again}
 use Rattle.step_machine.proofs.Resting.{unanswered_at_rest}
 use Rattle.ctrie_map.specs.Beneath.proof_linearizable.specs.Laws.{Does, refused, acts}
-use Rattle.ctrie_map.specs.Beneath.proof_linearizable.proofs.Legal.{alone_it_acts}
+use Rattle.ctrie_map.specs.Beneath.proof_linearizable.proofs.Legal.{alone_it_acts, fit_in_front}
 use Rattle.ctrie_map.specs.Beneath.proof_obstruction_free.specs.Laws.{most_steps_alone}
 use Rattle.ctrie_map.specs.Beneath.proof_obstruction_free.proofs.Ends.Closes.{closes_end}
 use Rattle.ctrie_map.specs.Beneath.proof_obstruction_free.proofs.Inherited.EndsAll.{each_step_leads_to_its_end}
@@ -59,9 +57,6 @@ bounded : (c : Call) → IsChange c → IsBounded c
 bounded (call.Entries h) change = absurd change
 bounded (call.Count h) change = absurd change
 bounded c change = tt
-
-in_front : (xs ys : List Step) → KeysFit (xs ++ ys) → KeysFit xs
-in_front xs ys all = λ i d within. All-contains FitsKey (xs ++ ys) (get_or xs i d) all (Contains-append_left xs ys (get_or xs i d) (Contains-get_or xs i d within))
 
 -- where too few steps are left the map is worn out
 pub too_old : (before : Taken) → is_busy (state_of before) ≡ false → (state_of before).limbo ≡ [] → step_limit < (state_of before).steps + (1 + most_steps_alone) →
@@ -95,7 +90,9 @@ module _ (before : Taken) (c : Call) (for_one : IsForOne before) (rest : is_busy
 
   -- so the machine begins it
   begin_free : begin_denial (state_of before) the_actor c ≡ None
-  begin_free = by_denial (begin_denial (state_of before) the_actor c) refl (subst (λ d. Due d (is_spent (state_of before)) (begin_denial (state_of before) the_actor c)) allowed (due before rest for_one.0 c change))
+  begin_free =
+      by_denial (begin_denial (state_of before) the_actor c) refl
+      (subst (λ d. Due d (is_spent (state_of before)) (begin_denial (state_of before) the_actor c)) allowed (due before rest for_one.0 c change))
     where
       by_denial : (d : Option Refusal) → begin_denial (state_of before) the_actor c ≡ d → Due None (is_spent (state_of before)) d → begin_denial (state_of before) the_actor c ≡ None
       by_denial None e due_so = e
@@ -172,7 +169,7 @@ module _ (before : Taken) (c : Call) (for_one : IsForOne before) (rest : is_busy
   on_its_way n after few so ok fit =
       let middle = with_step before (Begin the_actor c) in
       let more = has_more n the_actor middle after (Ok None) so in
-      let fit_middle : KeysFit middle.steps = in_front middle.steps more.more (subst KeysFit more.steps fit) in
+      let fit_middle : KeysFit middle.steps = fit_in_front middle.steps more.more (subst KeysFit more.steps fit) in
       let whole : Going = going_on go_limit the_actor middle in
       let (answer, is) = must_be middle the_actor each_step_leads_to_its_end closes_end (subst AreLimits more.limits ok) fit_middle (begun_operation (state_of before) c)
       (begun_runs_on before the_actor c begin_free) (sure_behind before the_actor c begin_free most_steps_alone sure) whole.0 whole.1 refl in

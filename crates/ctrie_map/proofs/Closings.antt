@@ -28,7 +28,8 @@ module _ (before : MapState) (h : ℕ) (after : MapState) where
     does : Closes before h after → answer ≡ Closed → Way answer
 
   by_shown : (answer : Reply) (next : HandleMap) (shown : Option HandleState) → map.get before.handles h ≡ shown →
-      option_and_then {U = Reply × HandleMap} (λ m. Some (Closed, map.remove before.handles h)) (option_and_then (λ s. Some s.pairs) shown) ≡ Some (answer, next) → Becomes before next after → Way answer
+      option_and_then {U = Reply × HandleMap} (λ m. Some (Closed, map.remove before.handles h)) (option_and_then (λ s. Some s.pairs) shown) ≡ Some (answer, next) →
+      Becomes before next after → Way answer
   by_shown answer next None at e becomes = cc e
   by_shown answer next (Some shown) at e becomes =
       let same = same_Some (Closed, map.remove before.handles h) (answer, next) e in

@@ -1,5 +1,5 @@
 -- What a call comes to, where something was brought to its end before it and swept behind it.
-use Rattle.std.specs.Prelude.{◌≡◌, ◌⊎◌, Bool, true, false, Option, Some, None, Result, Ok, Err}
+use Rattle.std.specs.Prelude.{◌≡◌, ◌⊎◌, Bool, true, false, None, Result, Ok, Err}
 use Rattle.std.proofs.Common.{refl, sym, ap, subst, inl, inr, ◌∙◌}
 use Rattle.std.proofs.lemmas.Bool.{false≢true}
 use Rattle.history.specs.declared.calls.Call.{Call}
@@ -80,10 +80,6 @@ performs_to before c third last same finished result p =
     subst (λ s. Performs result before c s) (sym is) (to_by before c third last.is_finished same.ready finished result p)
 
 -- ---- it isn't even tried
-
-pub none_of : {A : Type 0} (o : Option A) → ((x : A) → o ≡ Some x → ⊥) → o ≡ None
-none_of None other = refl
-none_of (Some x) other = absurd (other x refl)
 
 -- memory was wanting for what was left over
 pub unready_performs : (first second : MapState) → IsSame first second → (c : Call) (told : MapError) → (told ≡ error.Memory) × (first.is_finished ≡ false) → Performs (Err told) first c second

@@ -42,7 +42,8 @@ same_end_behind most n actor machine between last answer few so goes =
 
 -- ---- keys
 
-keys_by : (n actor : ℕ) (machine last : Taken) (result : Result (Option Reply) Refusal) → KeysFit machine.steps → ((m : Taken) → going_on n actor m ≡ (result, last) → KeysFit m.steps → KeysFit last.steps) →
+keys_by : (n actor : ℕ) (machine last : Taken) (result : Result (Option Reply) Refusal) → KeysFit machine.steps →
+    ((m : Taken) → going_on n actor m ≡ (result, last) → KeysFit m.steps → KeysFit last.steps) →
     (reply : Answer) → after_go (going_on n actor) machine actor reply ≡ (result, last) → KeysFit last.steps
 keys_by n actor machine last result fit more (Err why) e = subst (λ (m : Taken). KeysFit m.steps) (ap (λ (g : Going). g.1) e) fit
 keys_by n actor machine last result fit more (Ok (outcome.Ended id said, state)) e =

@@ -4,7 +4,6 @@ use Rattle.std.specs.FinMap as map
 use Rattle.std.specs.Ordering.{nat_cmp}
 use Rattle.std.proofs.Common.{refl, sym, ap, subst, inl, inr, ◌∙◌}
 use Rattle.ctrie_base.specs.declared.refusals.Refusal.{Refusal}
-use Rattle.ctrie_base.specs.declared.refusals.Refusal.TheVariants as refuse
 use Rattle.history.specs.Worlds.{HandleState, KeyMap}
 use Rattle.machine_model.specs.declared.roots.Root.{Root}
 use Rattle.machine_model.specs.Contents.{content_at}
@@ -37,7 +36,8 @@ pub counted : {A : Type 0} (machine : Taken) (answer : Result A MapError) → is
 counted machine answer rest = ap (λ b. if_finished (not b) answer) rest
 
 -- what is read can be worked on
-mapped_by : {A B : Type 0} (f : A → B) (b : Bool) (shown : Option HandleState) (read : KeyMap → A) (a : A) → if_finished b (read_of read shown) ≡ Ok a → if_finished b (read_of (λ m. f (read m)) shown) ≡ Ok (f a)
+mapped_by : {A B : Type 0} (f : A → B) (b : Bool) (shown : Option HandleState) (read : KeyMap → A) (a : A) → if_finished b (read_of read shown) ≡ Ok a →
+    if_finished b (read_of (λ m. f (read m)) shown) ≡ Ok (f a)
 mapped_by f true None read a e = cc e
 mapped_by f true (Some shown) read a e = let same : read shown.pairs ≡ a = cc e in ap (λ x. Ok (f x)) same
 mapped_by f false shown read a e = cc e

@@ -11,7 +11,7 @@ use Rattle.std.specs.FinMap.{get-remove, get-from_entries, get-from_sorted, entr
 use Rattle.std.specs.FinMap.Entries.{below_all}
 use Rattle.std.proofs.lemmas.Map.Keys.{sorted_head, sorted_tail}
 
-both : (a b : Bool) → T a → T b → T (a && b)
+pub both : (a b : Bool) → T a → T b → T (a && b)
 both true b p q = q
 both false b p q = p
 

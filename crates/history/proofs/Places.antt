@@ -91,6 +91,11 @@ at_untested (None ∷ xs) zero lt is = refl
 at_untested (Some x ∷ xs) zero lt is = absurd (true≢false is)
 at_untested (a ∷ xs) (suc i) lt is = at_untested xs i (omega (arith, lt)) is
 
+-- an option of which no value can be is none
+pub option_unfound : {X : Type 0} (o : Option X) → ((x : X) → o ≡ Some x → ⊥) → o ≡ None
+option_unfound None never = refl
+option_unfound (Some x) never = absurd (never x refl)
+
 -- an option that a test finds to have a value
 pub option_tested : {X : Type 0} (o : Option X) → is_some o ≡ true → (x : X) × (o ≡ Some x)
 option_tested None is = absurd (false≢true is)

@@ -1,15 +1,14 @@
 -- Which operations are late, going through the order from its end.
-use Rattle.std.proofs.Common.{◌≡◌, ◌≢◌, ◌↔◌, ℕ, ◌+◌, ◌<◌, ◌≤◌, min, Bool, true, false, IsTrue, nat_lt, ◌⊎◌, inl, inr, List, length, set, Option, Some, None, slice_get, refl, sym, ap, ◌∙◌, subst}
-use Rattle.std.proofs.Common.{arith}
-use Rattle.std.proofs.lemmas.Bool.{cases_order, cases_lt, true≢false, false≢true}
-use Rattle.std.proofs.lemmas.Option.{slice_get_within, same_Some}
-use Rattle.history.specs.declared.calls.Call.{Call}
+use Rattle.std.proofs.Common.{◌≡◌, ◌≢◌, ◌↔◌, ℕ, ◌+◌, ◌<◌, ◌≤◌, min, Bool, true, false, IsTrue, nat_lt, ◌⊎◌, inl, inr, List, length, set, Option, Some, None, refl, sym, ap, ◌∙◌, subst}
+use Rattle.std.proofs.Common.{arith, get_or}
+use Rattle.std.proofs.lemmas.Bool.{cases_order, cases_lt, false≢true}
+use Rattle.std.proofs.lemmas.Option.{slice_get-get_or, same_Some}
 use Rattle.history.specs.declared.replies.Reply.{Reply}
 use Rattle.history.specs.declared.replies.Reply.TheVariants as reply
 use Rattle.history.specs.declared.events.Event.{Event}
 use Rattle.history.specs.declared.events.Event.TheVariants.{Begin}
 use Rattle.history.specs.declared.tables.Row.{Row}
-use Rattle.history.specs.Histories.{Operation, BeginsAt, EndsAt, HasBegun, HasEnded}
+use Rattle.history.specs.Histories.{Operation, BeginsAt, EndsAt, HasBegun}
 use Rattle.history.specs.Orders.{OrderedAt}
 use Rattle.history.specs.Tables.{IsRowOf, operation_of, recorded}
 use Rattle.history.proofs.Places.{at_set_cases, option_cases}
@@ -74,7 +73,7 @@ answered_of_swap history id row end is found =
     ((row.begin, operation_of row, is.begins, swaps.0), (told.0, subst (λ k. EndsAt history k id told.0) same ended.1, told.2))
 
 -- no operation that hasn't begun is a swap
-pub not_swap : (history : List Event) (id end : ℕ) → ¬ HasBegun history id → ¬ IsSwapAnswered history id end
+not_swap : (history : List Event) (id end : ℕ) → ¬ HasBegun history id → ¬ IsSwapAnswered history id end
 not_swap history id end never swaps = never (swaps.0.0, swaps.0.1, swaps.0.2)
 
 -- a place from this one on is this one or behind it
@@ -85,7 +84,7 @@ from_here n i le = elim (cases_order i n) [
 ]
 
 -- the earliest with a place more whose operation is no answered swap
-pub earliest_same : (history : List Event) (order : List ℕ) (n id : ℕ) (earliest : Option ℕ) → OrderedAt order n id → ((end : ℕ) → ¬ IsSwapAnswered history id end)
+earliest_same : (history : List Event) (order : List ℕ) (n id : ℕ) (earliest : Option ℕ) → OrderedAt order n id → ((end : ℕ) → ¬ IsSwapAnswered history id end)
     → IsEarliest history order (n + 1) earliest
     → IsEarliest history order n earliest
 earliest_same history order n id None at no_swap is = λ i other end le at_i swaps. elim (from_here n i le) [
@@ -129,7 +128,7 @@ no_more : (earliest : Option ℕ) → earlier earliest None ≡ earliest
 no_more None = refl
 no_more (Some first) = refl
 
-pub earliest_row : (history : List Event) (order : List ℕ) (n id : ℕ) (row : Row) (earliest : Option ℕ) → IsRowOf history id row → OrderedAt order n id → IsEarliest history order (n + 1) earliest
+earliest_row : (history : List Event) (order : List ℕ) (n id : ℕ) (row : Row) (earliest : Option ℕ) → IsRowOf history id row → OrderedAt order n id → IsEarliest history order (n + 1) earliest
     → IsEarliest history order n (earlier earliest (swap_end history row))
 earliest_row history order n id row earliest is at before =
     let P : Option ℕ → Type 0 = λ o. IsEarliest history order n o in
@@ -184,14 +183,14 @@ late_row history order n id row (Some first) (Some mine) is end before = (
 )
 
 -- an operation that hasn't begun is passed over
-pub late_skip : (history : List Event) (order : List ℕ) (n id : ℕ) (late : List Bool) → OrderedAt order n id → ¬ HasBegun history id → AreLate history order (n + 1) late → AreLate history order n late
+late_skip : (history : List Event) (order : List ℕ) (n id : ℕ) (late : List Bool) → OrderedAt order n id → ¬ HasBegun history id → AreLate history order (n + 1) late → AreLate history order n late
 late_skip history order n id late at never known = λ place other is_late le at_place begun at_late. elim (from_here n place le) [
   | inl same ↦ absurd (never (subst (λ k. HasBegun history k) (sym (same_id order place n id other at at_place same)) begun))
   | inr behind ↦ known place other is_late behind at_place begun at_late
 ]
 
 -- and another is noted
-pub late_note : (history : List Event) (order : List ℕ) (n id : ℕ) (row : Row) (earliest : Option ℕ) (late : List Bool) → IsRowOf history id row → OrderedAt order n id
+late_note : (history : List Event) (order : List ℕ) (n id : ℕ) (row : Row) (earliest : Option ℕ) (late : List Bool) → IsRowOf history id row → OrderedAt order n id
     → IsEarliest history order (n + 1) earliest → AreLate history order (n + 1) late → AreLate history order n (set late n (is_behind earliest row.end))
 late_note history order n id row earliest late is at before known = λ place other is_late le at_place begun at_late.
     elim (at_set_cases late n place (is_behind earliest row.end) is_late at_late) [
@@ -205,3 +204,23 @@ late_note history order n id row earliest late is at before known = λ place oth
         | inr behind ↦ known place other is_late behind at_place begun old.1
       ]
     ]
+
+-- one place of the order more, where the operation of this row stands
+pub one_begun : (history : List Event) (order : List ℕ) (place n : ℕ) (row : Row) (earliest : Option ℕ) (late : List Bool) → place ≡ n + 1 → n < length order → IsRowOf history (get_or order n 0) row
+    → IsEarliest history order place earliest → AreLate history order place late
+    → IsEarliest history order n (earlier earliest (swap_end history row)) × AreLate history order n (set late n (is_behind earliest row.end))
+one_begun history order place n row earliest late next within is before known =
+    let at : OrderedAt order n (get_or order n 0) = slice_get-get_or order n 0 within in
+    let first = subst (λ k. IsEarliest history order k earliest) next before in (
+      earliest_row history order n (get_or order n 0) row earliest is at first,
+      late_note history order n (get_or order n 0) row earliest late is at first (subst (λ k. AreLate history order k late) next known),
+    )
+
+-- where none stands that has begun
+pub one_unbegun : (history : List Event) (order : List ℕ) (place n : ℕ) (earliest : Option ℕ) (late : List Bool) → place ≡ n + 1 → n < length order → ¬ HasBegun history (get_or order n 0)
+    → IsEarliest history order place earliest → AreLate history order place late → IsEarliest history order n earliest × AreLate history order n late
+one_unbegun history order place n earliest late next within never before known =
+    let at : OrderedAt order n (get_or order n 0) = slice_get-get_or order n 0 within in (
+      earliest_same history order n (get_or order n 0) earliest at (λ end. not_swap history (get_or order n 0) end never) (subst (λ k. IsEarliest history order k earliest) next before),
+      late_skip history order n (get_or order n 0) late at never (subst (λ k. AreLate history order k late) next known),
+    )

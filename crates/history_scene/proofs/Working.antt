@@ -1,18 +1,13 @@
 -- Which actors have begun something, as the history grows, and their lanes.
-use Rattle.std.proofs.Common.{◌≡◌, ℕ, ◌+◌, ◌<◌, zero, suc, Bool, true, false, ◌==◌, ◌||◌, inl, inr, List, [], ◌∷◌, ◌++◌, length, take, set, replicate, get_or, Some, slice_get, if◌then◌else◌}
+use Rattle.std.proofs.Common.{◌≡◌, ℕ, ◌+◌, ◌<◌, zero, suc, Bool, true, ◌==◌, ◌||◌, inl, inr, List, [], ◌∷◌, ◌++◌, length, take, set, replicate, get_or, Some, slice_get, if◌then◌else◌}
 use Rattle.std.proofs.Common.{refl, sym, ap, ◌∙◌, subst, arith, add-one, eq-eqb}
 use Rattle.std.proofs.lemmas.Bool.{cases_order, ne_eqb}
 use Rattle.std.proofs.lemmas.List.{take_more}
 use Rattle.std.proofs.lemmas.List.Folds.{list_any-append}
-use Rattle.std.proofs.Math.Bool.{or-true}
+use Rattle.std.proofs.Math.Bool.{or-true, or-false}
 use Rattle.history.specs.declared.events.Event.{Event}
-use Rattle.history.specs.declared.events.Event.TheVariants.{Begin, End}
 use Rattle.history.proofs.Places.{at_set, at_set_other}
 use Rattle.history_scene.specs.Lanes.{is_begin_of, works, workers_below, actors_of, lane_of}
-
-pub or_false : (b : Bool) → (b || false) ≡ b
-or_false true = refl
-or_false false = refl
 
 -- the same at each place
 pub at_same : {X : Type 0} (n i : ℕ) (x : X) → i < n → slice_get (replicate n x) i ≡ Some x
@@ -24,7 +19,7 @@ at_same (suc n) (suc i) x lt = at_same n i x (omega (arith, lt))
 pub works_more : (history : List Event) (i actor : ℕ) (d : Event) → i < length history → works (take (i + 1) history) actor ≡ (works (take i history) actor || is_begin_of actor (get_or history i d))
 works_more history i actor d lt =
     ap (λ (h : List Event). works h actor) (take_more history i d lt) ∙ list_any-append (is_begin_of actor) (take i history) (get_or history i d ∷ [])
-    ∙ ap (λ b. works (take i history) actor || b) (or_false (is_begin_of actor (get_or history i d)))
+    ∙ ap (λ b. works (take i history) actor || b) (or-false (is_begin_of actor (get_or history i d)))
 
 -- an actor that begins something is noted
 pub begin_noted : (ws : List Bool) (before : ℕ → Bool) (who : ℕ) → length ws ≡ 256 → ((a : ℕ) → a < 256 → slice_get ws a ≡ Some (before a))
@@ -36,7 +31,7 @@ begin_noted ws before who size known a lt = elim (cases_order a who) [
       here ∙ ap (λ (b : Bool). Some b) (sym (ap (λ b. before a || b) (eq-eqb who a (sym same)) ∙ or-true (before a)))
   | inr other ↦
       let ne : a ≡ who → ⊥ = λ e. elim other [ inl below ↦ omega arith | inr above ↦ omega arith ] in
-      at_set_other ws who a true ne ∙ known a lt ∙ ap (λ (b : Bool). Some b) (sym (ap (λ b. before a || b) (ne_eqb who a (λ e. ne (sym e))) ∙ or_false (before a)))
+      at_set_other ws who a true ne ∙ known a lt ∙ ap (λ (b : Bool). Some b) (sym (ap (λ b. before a || b) (ne_eqb who a (λ e. ne (sym e))) ∙ or-false (before a)))
 ]
 
 -- the actors below the next number

@@ -5,7 +5,7 @@ use std::test::Fail;
 
 // A put that is decided in the nodes which a freeze shares, and an operation that hasn't ended.
 const LATE_PUT: &[u8] =
-    b"hash low\nbegin 0 2 put 0 1 10\nend 0 none\nbegin 1 7 put 0 65 650\nbegin 2 2 freeze 0 as 1\nend 2 handle 1\nend 1 none\nbegin 3 7 put 0 5 50\nend 3 no-slots\nbegin 4 2 get 1 65\norder 0 1 2 4\n";
+    b"hash low\nbegin 0 2 put 0 1 1\nend 0 none\nbegin 1 7 put 0 65 650\nbegin 2 2 freeze 0 as 1\nend 2 handle 1\nend 1 none\nbegin 3 7 put 0 5 5\nend 3 no-slots\nbegin 4 2 get 1 65\norder 0 1 2 4\n";
 
 fn drawn(alloc: Global, text: &[u8]) -> Result<Scene, Fail> {
     let Ok(given) = read_history(alloc, text) else {

@@ -1,10 +1,10 @@
 -- No line feed stands in the line of an event or of an order, so the lines of a text that is made of such are just these.
 use Rattle.std.proofs.Common.{◌≡◌, ℕ, zero, suc, ◌+◌, ◌≤◌, ◌/◌, ◌%◌, List, [], ◌∷◌, ◌++◌, refl, ap, ◌∙◌, Bool, true, false, cond, eqb, Option, Some, None, arith}
 use Rattle.std.specs.Prelude.{map, codes, not, filter, nat_lt}
-use Rattle.std.specs.List.{list_all, onto_first, AllByRecursion}
+use Rattle.std.specs.List.{list_all, AllByRecursion}
 use Rattle.std.specs.Fmt.{decimal, digits, digits_onto, digit_glyph}
-use Rattle.std.proofs.lemmas.Bool.{eqb-true, and_parts, not-true}
-use Rattle.std.proofs.lemmas.List.Splits.{slice_split-cons_no, length-slice_split}
+use Rattle.std.proofs.lemmas.Bool.{eqb-true}
+use Rattle.std.proofs.lemmas.List.Splits.{length-slice_split}
 use Rattle.history.specs.declared.calls.Call.{Call}
 use Rattle.history.specs.declared.calls.Call.TheVariants.{Get, Put, PutIfAbsent, Replace, ReplaceIf, Remove, RemoveIf, Clear, Snapshot, Freeze, Close, Entries, Count}
 use Rattle.history.specs.declared.replies.Reply.{Reply}
@@ -15,26 +15,22 @@ use Rattle.text_lines.specs.Words.{spaced, cut_at}
 use Rattle.text_lines.specs.Texts.{lines_of, without_empty_last, is_ignored, said_lines}
 use Rattle.history_text.specs.Texts.{call_words, opens_words, reply_words, event_words, order_words, event_text, order_text, pair_text}
 use Rattle.text_lines.proofs.FirstLine.{kept}
+use Rattle.text_lines.proofs.Lacking.{Lacks, lacks, lacks_append, first_cut}
 
 -- no line feed stands in the text
 abbrev pub HasNoFeed : List ℕ → Type 0
-HasNoFeed [] = Unit {0}
-HasNoFeed (b ∷ bs) = (eqb b 10 ≡ false) × HasNoFeed bs
+HasNoFeed text = Lacks 10 text
 
 abbrev pub HaveNoFeed : List (List ℕ) → Type 0
 HaveNoFeed texts = AllByRecursion HasNoFeed texts
 
 -- ---- the lines of a text
 
-cut_line : (line rest : List ℕ) → HasNoFeed line → cut_at 10 (line ++ 10 ∷ rest) ≡ line ∷ cut_at 10 rest
-cut_line [] rest none = refl
-cut_line (b ∷ bs) rest none = slice_split-cons_no (λ x. eqb x 10) b (bs ++ 10 ∷ rest) none.0 ∙ ap (onto_first b) (cut_line bs rest none.1)
-
 -- a line that ends with a line feed stands first
 pub first_line : (line rest : List ℕ) → HasNoFeed line → lines_of (line ++ 10 ∷ rest) ≡ line ∷ lines_of rest
 unfolding lines_of
 first_line line rest none =
-    ap without_empty_last (cut_line line rest none) ∙ kept line (cut_at 10 rest) (omega (arith, length-slice_split (λ b. eqb b 10) rest))
+    ap without_empty_last (first_cut 10 line rest none) ∙ kept line (cut_at 10 rest) (omega (arith, length-slice_split (λ b. eqb b 10) rest))
 
 -- a line that isn't ignored stands first among those that are said
 pub said_first : (line rest : List ℕ) → HasNoFeed line → is_ignored line ≡ false → said_lines (line ++ 10 ∷ rest) ≡ line ∷ said_lines rest
@@ -50,12 +46,10 @@ none_said = refl
 -- ---- words without line feeds
 
 pub no_feed_append : (a b : List ℕ) → HasNoFeed a → HasNoFeed b → HasNoFeed (a ++ b)
-no_feed_append [] b p q = q
-no_feed_append (x ∷ xs) b p q = (p.0, no_feed_append xs b p.1 q)
+no_feed_append a b p q = lacks_append 10 a b p q
 
 pub no_feed : (w : List ℕ) → list_all (λ b. not (eqb b 10)) w ≡ true → HasNoFeed w
-no_feed [] e = tt
-no_feed (b ∷ bs) e = let p = and_parts (not (eqb b 10)) (list_all (λ x. not (eqb x 10)) bs) e in (not-true (eqb b 10) p.0, no_feed bs p.1)
+no_feed w e = lacks 10 w e
 
 other_byte : (c : ℕ) (b : Bool) → eqb c 10 ≡ b → 11 ≤ c → eqb c 10 ≡ false
 other_byte c true e high = absurd (let same : c ≡ 10 = eqb-true c 10 e in omega arith)

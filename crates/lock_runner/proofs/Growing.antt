@@ -1,14 +1,13 @@
 -- Steps are counted.
 use Rattle.std.specs.Prelude.{◌≡◌, ℕ, ◌+◌, ◌≤◌, List, [], ◌∷◌, Ok}
-use Rattle.std.proofs.Common.{refl, sym, ap, subst, ◌∙◌, arith}
-use Rattle.machine_model.specs.declared.steps.Limits.{Limits}
+use Rattle.std.proofs.Common.{sym, ap, subst, ◌∙◌, arith}
 use Rattle.machine_model.specs.declared.steps.Step.{Step}
 use Rattle.machine_model.specs.declared.steps.Outcome.{Outcome}
 use Rattle.machine_model.specs.States.{State, first_state}
 use Rattle.machine_model.specs.Machine.{next, next_state, run_from, run}
 use Rattle.machine_model.proofs.Moves.{moved}
-use Rattle.machine_model.proofs.Along.{run-append, kept_by_moves, along}
-use Rattle.machine_model.proofs.Frames.{steps_counted, limits_kept}
+use Rattle.machine_model.proofs.Along.{run-append, kept_by_moves}
+use Rattle.machine_model.proofs.Frames.{steps_counted}
 use Rattle.step_machine.specs.Machines.{Taken, state_of}
 use Rattle.lock_runner.specs.Boards.{HasFollowed}
 
@@ -31,11 +30,3 @@ steps_grow actor seen board followed =
 
 pub one_step : (board now : Taken) (s : Step) (o : Outcome) → next (state_of board) s ≡ Ok (o, state_of now) → (state_of now).steps ≡ (state_of board).steps + 1
 one_step board now s o taken = steps_counted (state_of board) s o (state_of now) (moved (state_of board) s o (state_of now) taken)
-
--- a run has the limits that it was begun with
-first_limits : (limits : Limits) → (first_state limits).limits ≡ limits
-unfolding first_state
-first_limits limits = refl
-
-pub run_limits : (limits : Limits) (steps : List Step) → (run limits steps).limits ≡ limits
-run_limits limits = along limits (λ state. state.limits ≡ limits) (first_limits limits) (λ steps s o after m h. limits_kept (run limits steps) s o after m ∙ h)

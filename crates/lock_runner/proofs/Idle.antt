@@ -4,6 +4,7 @@ use Rattle.std.proofs.Common.{refl, sym, ap, ◌∙◌, lt-ltb, le-leb, arith}
 use Rattle.std.proofs.lemmas.Option.{none-some}
 use Rattle.ctrie_base.specs.declared.refusals.Refusal.{Refusal}
 use Rattle.ctrie_base.specs.declared.refusals.Refusal.TheVariants as refuse
+use Rattle.history.proofs.Places.{option_untested}
 use Rattle.machine_model.specs.declared.operations.Operation.{Operation}
 use Rattle.machine_model.specs.declared.steps.Step.TheVariants as step
 use Rattle.machine_model.specs.declared.steps.Outcome.{Outcome}
@@ -15,7 +16,7 @@ use Rattle.lock_runner.specs.declared.accounts.Running.{Running}
 use Rattle.lock_runner.proofs.ActorHistory.Turns.{shown}
 use Rattle.lock_runner.proofs.ActorHistory.Sound.{told, sound_along}
 use Rattle.lock_runner.specs.Boards.{account_in}
-use Rattle.lock_runner.proofs.Growing.{run_limits}
+use Rattle.machine_model.proofs.Along.{limits_along}
 use Rattle.lock_runner.proofs.ActorHistory.Steps.{none_told}
 
 none_shown : (o : Option Operation) → shown o ≡ None → o ≡ None
@@ -37,10 +38,6 @@ ok_err state done refusal e = grind (arith, e)
 not_denied : (state : State) (actor : ℕ) (operation : Operation) (refusal : Refusal) → go_on state actor (Some operation) ≡ Err refusal → ⊥
 not_denied state actor operation refusal e = ok_err state (went state actor operation (action_of state operation)) refusal e
 
-none_some : (o : Option Operation) → is_some o ≡ false → o ≡ None
-none_some None e = refl
-none_some (Some operation) e = absurd (grind (arith, e))
-
 going : (state : State) (actor : ℕ) (refusal : Refusal) (o : Option Operation) → is_some o ≡ true → go_on state actor o ≡ Err refusal → ⊥
 going state actor refusal None runs e = grind (arith, runs)
 going state actor refusal (Some operation) runs e = not_denied state actor operation refusal e
@@ -52,7 +49,7 @@ actor_by actor most low high = grind (arith, low, high, lt-ltb, le-leb)
 pub idle_denied : (state : State) (actor : ℕ) (refusal : Refusal) (a r s : Bool) → a ≡ true → is_some (operation_of state actor) ≡ r →
     go_unless state actor (first_reason ((not a, refuse.NoActor) ∷ (not r, refuse.Idle) ∷ (s, refuse.Spent) ∷ [])) ≡ Err refusal →
     (operation_of state actor ≡ None → refusal ≡ refuse.Idle) × ((operation_of state actor ≡ None → ⊥) → refusal ≡ refuse.Spent)
-idle_denied state actor refusal true false s own runs e = ((λ none. grind (arith, e)), (λ some. absurd (some (none_some _ runs))))
+idle_denied state actor refusal true false s own runs e = ((λ none. grind (arith, e)), (λ some. absurd (some (option_untested _ runs))))
 idle_denied state actor refusal true true true own runs e = ((λ none. absurd (grind (arith, runs, none))), (λ some. grind (arith, e)))
 idle_denied state actor refusal true true false own runs e = absurd (going state actor refusal (operation_of state actor) runs e)
 idle_denied state actor refusal false r s own runs e = absurd (grind (arith, own))
@@ -67,7 +64,7 @@ pub idle_only : (actor : ℕ) (board : Taken) (refusal : Refusal) → 1 ≤ acto
     MatchOption (account_in actor board).running (refusal ≡ refuse.Idle) (λ operation. refusal ≡ refuse.Spent)
 unfolding next
 idle_only actor board refusal low high e =
-    let within : actor ≤ (state_of board).limits.actors = omega (arith, high, ap (λ l. l.actors) (run_limits board.limits board.steps)) in
+    let within : actor ≤ (state_of board).limits.actors = omega (arith, high, ap (λ l. l.actors) (limits_along board.limits board.steps)) in
     let own : is_actor (state_of board) actor ≡ true = actor_by actor (state_of board).limits.actors low within in
     let alike = idle_alike actor board in
     let why = idle_denied (state_of board) actor refusal (is_actor (state_of board) actor) (is_running (state_of board) actor) (is_spent (state_of board)) own refl e in
@@ -81,6 +78,6 @@ idle_by state actor a r s own none = rw (own, none) refl
 pub idle_is_denied : (actor : ℕ) (board : Taken) → 1 ≤ actor → actor ≤ board.limits.actors → (account_in actor board).running ≡ None → next (state_of board) (step.Go actor) ≡ Err refuse.Idle
 unfolding next
 idle_is_denied actor board low high none =
-    let within : actor ≤ (state_of board).limits.actors = omega (arith, high, ap (λ l. l.actors) (run_limits board.limits board.steps)) in
+    let within : actor ≤ (state_of board).limits.actors = omega (arith, high, ap (λ l. l.actors) (limits_along board.limits board.steps)) in
     let own : is_actor (state_of board) actor ≡ true = actor_by actor (state_of board).limits.actors low within in
     idle_by (state_of board) actor (is_actor (state_of board) actor) (is_running (state_of board) actor) (is_spent (state_of board)) own (ap is_some ((idle_alike actor board).1 none))

@@ -3,6 +3,5 @@ pub mod Known
 pub mod Key
 pub mod Lines
 pub mod Times
-pub mod Reads
 pub mod Each
 pub mod Paths

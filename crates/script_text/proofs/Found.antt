@@ -45,9 +45,15 @@ in_commands [] limits so_far end script leads done =
 in_commands (l ∷ more) limits so_far end script leads done =
     let m = made_ok (λ command. InLines limits (so_far ++ command ∷ [])) (command_of (words_of l)) leads.0 leads.1 in
     let says = command_found (words_of l) m.0 m.1 in
-    let rest = in_commands more limits (so_far ++ m.0 ∷ []) end script (subst (λ (p : Progress Command). Leads script_format p more end) (sym m.2) leads.2) done in
-    (rest.0, (m.0 ∷ rest.1.0, rest.1.1 ∙ append_assoc so_far (m.0 ∷ []) rest.1.0, cons_same l (spaced (command_words m.0)) more _ (line_of l (command_words m.0) says.text) rest.1.2,
-        (says.fits, rest.1.3)))
+    let rest = in_commands more limits (so_far ++ m.0 ∷ []) end script (subst (λ (p : Progress Command). Leads script_format p more end) (sym m.2) leads.2) done in (
+      rest.0,
+      (
+        m.0 ∷ rest.1.0,
+        rest.1.1 ∙ append_assoc so_far (m.0 ∷ []) rest.1.0,
+        cons_same l (spaced (command_words m.0)) more _ (line_of l (command_words m.0) says.text) rest.1.2,
+        (says.fits, rest.1.3),
+      ),
+    )
 
 -- The header.
 

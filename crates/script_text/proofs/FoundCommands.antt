@@ -137,7 +137,7 @@ goes w (a ∷ t ∷ []) c n e =
     let m = made_ok _ (both (actor_word a) (times_word t)) c e in let b = both_ok (actor_word a) (times_word t) m.0 m.1 in
     let p = word_is 255 a m.0.0 b.0 in let q = range_is 1 1000000 t m.0.1 b.1 in
     subst (λ (x : Command). SaysCommand (w ∷ a ∷ t ∷ []) x) m.2
-        (record { text = actor_first w (codes "go") a m.0.0 (t ∷ []) (decimal m.0.1 ∷ []) n p.0 (one t (decimal m.0.1) q.0); fits = (p.1, (q.1, q.2)) })
+    (record { text = actor_first w (codes "go") a m.0.0 (t ∷ []) (decimal m.0.1 ∷ []) n p.0 (one t (decimal m.0.1) q.0); fits = (p.1, (q.1, q.2)) })
 goes w (a ∷ t ∷ x ∷ ws) c n e = absurd cc
 
 untils : (w : List ℕ) (ws : List (List ℕ)) (c : Command) → w ≡ codes "until" → until_of ws ≡ Ok c → SaysCommand (w ∷ ws) c
@@ -148,7 +148,7 @@ untils w (a ∷ k ∷ []) c n e =
     let m = made_ok _ (both (actor_word a) (kind_word k)) c e in let b = both_ok (actor_word a) (kind_word k) m.0 m.1 in
     let p = word_is 255 a m.0.0 b.0 in let q = kind_found k m.0.1 b.1 in
     subst (λ (x : Command). SaysCommand (w ∷ a ∷ k ∷ []) x) m.2
-        (record { text = actor_first w (codes "until") a m.0.0 (k ∷ []) (kinds.name_of m.0.1 ∷ []) n p.0 (one k (kinds.name_of m.0.1) q.0); fits = (p.1, q.1) })
+    (record { text = actor_first w (codes "until") a m.0.0 (k ∷ []) (kinds.name_of m.0.1 ∷ []) n p.0 (one k (kinds.name_of m.0.1) q.0); fits = (p.1, q.1) })
 untils w (a ∷ k ∷ x ∷ ws) c n e = absurd cc
 
 finishes : (w : List ℕ) (ws : List (List ℕ)) (c : Command) → w ≡ codes "finish" → finish_of ws ≡ Ok c → SaysCommand (w ∷ ws) c

@@ -8,21 +8,24 @@ use Rattle.slot_arena.specs.declared.nodes.Node.{Node}
 use Rattle.slot_arena.specs.declared.nodes.Prev.{Prev}
 use Rattle.slot_arena.specs.declared.nodes.Slot.{Slot}
 use Rattle.slot_arena.specs.Refs.{slot_of, birth_of}
-use Rattle.slot_arena.specs.Heaps.{node_of, node_at, prev_of, prev_at, main_of, main_at, with_main_word, main_changed, prev_changed, refs_of_node, refs_of_prev, refs_of_slot}
+use Rattle.slot_arena.specs.Heaps.{Heap, node_of, node_at, prev_of, prev_at, main_of, main_at, with_main_word, main_changed, prev_changed, refs_of_node, refs_of_prev, refs_of_slot}
 use Rattle.slot_arena.specs.Times.{times}
 use Rattle.slot_arena.specs.Tallies.{Tally, naming, NotesZeros}
 use Rattle.slot_arena.specs.Chains.{Chain}
 use Rattle.slot_arena.specs.Arenas.{Contents, NotesWaiting, has_birth, is_live, is_indirection}
 use Rattle.slot_arena.specs.Kept.{live, found, IsKept}
+use Rattle.slot_arena.specs.declared.word_swaps.WordSwap.{WordSwap}
+use Rattle.slot_arena.specs.declared.word_swaps.WordSwap.TheVariants as word
+use Rattle.slot_arena.specs.WordSwaps.{coming, going, StandsIn, word_changed, with_word}
 use Rattle.slot_arena.proofs.Times.{once, times-cons, times-append}
 use Rattle.slot_arena.proofs.Live.{live_within, all_within}
 use Rattle.slot_arena.proofs.Exact.{part_live, part_counted}
-use Rattle.slot_arena.proofs.Changed.{live_here, live_there}
+use Rattle.slot_arena.proofs.Changed.{live_here, live_there, one_prev}
 use Rattle.std.specs.Prelude.{option_map}
 use Rattle.slot_arena.specs.declared.nodes.Node.TheVariants.{Indirection, Branch, Single, Tomb, List as Listed}
 use Rattle.slot_arena.proofs.Marks.{zeros_trans}
 use Rattle.slot_arena.proofs.Swaps.{swap_kept}
-use Rattle.slot_arena.proofs.Reading.{slot_seen, node_seen, prev_seen, live_is}
+use Rattle.slot_arena.proofs.Reading.{slot_seen, node_seen, prev_seen, live_is, main_seen, prev_put_seen}
 use Rattle.slot_arena.proofs.Waiting.{born, notes_waiting}
 use Rattle.slot_arena.proofs.Written.{born_set}
 
@@ -166,6 +169,23 @@ pub prev_changes : (before seen : Contents) → before ≡ seen → (r : Ref) (t
     IsChange before.heap.slots r (prev_changed to) (refs_of_prev from) (refs_of_prev to)
 prev_changes before seen same r to from is =
     prev_is_change before.heap.slots r to from (ap (λ (a : Contents). prev_of (get_or a.heap.slots (slot_of r) None)) same ∙ prev_seen seen.heap r ∙ is)
+
+-- the word that is to be replaced is changed
+pub word_changes : (before seen : Contents) → before ≡ seen → (r : Ref) (w : WordSwap) → StandsIn seen.heap r w → IsChange before.heap.slots r (word_changed w) (going w) (coming w)
+word_changes before seen same r (word.Main from to) stands = main_changes before seen same r to from stands.0 stands.1
+word_changes before seen same r (word.Prev from to) stands = prev_changes before seen same r to from stands
+
+pub one_comes : (w : WordSwap) → length (coming w) ≤ 1
+one_comes (word.Main from to) = omega arith
+one_comes (word.Prev from to) = one_prev to
+
+pub one_goes : (w : WordSwap) → length (going w) ≤ 1
+one_goes (word.Main from to) = omega arith
+one_goes (word.Prev from to) = one_prev from
+
+pub word_seen : (heap : Heap) (r : Ref) (w : WordSwap) → with_word heap r w ≡ record { slots = changed_by (word_changed w) heap.slots r; free = heap.free; births = heap.births }
+word_seen heap r (word.Main from to) = main_seen heap r to
+word_seen heap r (word.Prev from to) = prev_put_seen heap r to
 
 -- an arena before and after the change
 module _

@@ -8,3 +8,4 @@ pub mod Ticking
 pub mod Cells
 pub mod Arenas
 pub mod Kept
+pub mod WordSwaps

@@ -8,12 +8,14 @@ ghost use Rattle.slot_arena.specs.Times.{times, without};
 ghost use Rattle.slot_arena.specs.Ticking.{TakesUpTo};
 ghost use Rattle.slot_arena.specs.Arenas.{IsLive, AreLive, is_live, waiting, is_indirection, is_main_node, NotesWaiting};
 ghost use Rattle.slot_arena.specs.Arenas.{new_arena, AreSlots};
+ghost use Rattle.slot_arena.specs.WordSwaps.{coming, StandsIn, with_word};
 
 use crate::cells::Cells;
 use crate::free_slots::FreeSlots;
 use crate::nodes::{Node, Prev, refs_of, refs_of_prev};
 use crate::refs::Ref;
 use crate::tally::Tally;
+use crate::word_swaps::WordSwap;
 use ctrie_base::{Change, Refusal, Ticks, Trace};
 use std::alloc::Global;
 use std::marker::Model;
@@ -163,9 +165,7 @@ impl Arena {
         if self.main(at) != from {
             return false;
         }
-        self.tally.raise_all(from_ref(&to));
-        self.tally.lower_all(from_ref(&from));
-        self.cells.set_main(at.slot(), to);
+        self.put_word(at, WordSwap::Main { from, to });
         true
     }
 
@@ -185,10 +185,25 @@ impl Arena {
         if self.prev(at) != from {
             return false;
         }
-        self.tally.raise_all(refs_of_prev(&to));
-        self.tally.lower_all(refs_of_prev(&from));
-        self.cells.set_prev(at.slot(), to);
+        self.put_word(at, WordSwap::Prev { from, to });
         true
+    }
+
+    /// Replaces a word of a slot.
+    fn put_word(&mut self, at: Ref, swap: WordSwap)
+        requires live { IsLive self.old.heap at }
+        requires stands { StandsIn self.old.heap at swap }
+        requires new_live { AreLive self.old.heap (coming swap) }
+        ensures heap { self.new.heap ≡ with_word self.old.heap at swap }
+        ensures outside { self.new.outside ≡ self.old.outside }
+        ensures stay { (q : Ref) → is_live self.new.heap q ≡ is_live self.old.heap q }
+        ensures noted { NotesWaiting self.old self.new }
+        ensures few { length self.new.noted ≤ length self.old.noted + 2 }
+        ensures ticks { TakesUpTo 2 self.old.ticks self.new.ticks }
+    {
+        self.tally.raise_all(swap.coming());
+        self.tally.lower_all(swap.going());
+        self.cells.set_word(at.slot(), swap);
     }
 
     /// Where the main word of an indirection is `from`, it becomes `to`, whose `prev` word becomes pending

@@ -3,9 +3,11 @@
 ghost use Rattle.std.specs.Prelude.{◌≡◌, ◌<◌, length, replicate, slice_index_or, slice_set, option_map, is_some, IsSome, Some, None, IfOk};
 ghost use Rattle.slot_arena.specs.Heaps.{node_of, prev_of, with_main_word, main_changed, prev_changed};
 ghost use Rattle.slot_arena.specs.Cells.{birth_of_slot};
+ghost use Rattle.slot_arena.specs.WordSwaps.{word_changed};
 
 use crate::nodes::{Node, Prev, Slot};
 use crate::refs::Ref;
+use crate::word_swaps::WordSwap;
 use std::alloc::{AllocError, Global};
 use std::marker::Model;
 
@@ -131,6 +133,17 @@ impl Cells {
         ensures { self.new ≡ slice_set self.old slot (option_map (prev_changed prev) (slice_index_or self.old slot None)) }
     {
         self.prevs[slot as usize] = prev;
+    }
+
+    /// Replaces a word.
+    pub(crate) fn set_word(&mut self, slot: u16, swap: WordSwap)
+        requires { slot < length self.old }
+        ensures { self.new ≡ slice_set self.old slot (option_map (word_changed swap) (slice_index_or self.old slot None)) }
+    {
+        match swap {
+            WordSwap::Main { to, .. } => self.set_main(slot, to),
+            WordSwap::Prev { to, .. } => self.set_prev(slot, to),
+        }
     }
 
     /// Takes a slot out of use.

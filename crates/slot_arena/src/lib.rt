@@ -10,6 +10,7 @@ mod nodes;
 mod refs;
 mod remarks;
 mod tally;
+mod word_swaps;
 
 pub use arena::Arena;
 pub use links::{Flags, Links};

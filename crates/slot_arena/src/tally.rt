@@ -123,15 +123,12 @@ impl Tally {
         ensures few { length self.new.noted ≤ length self.old.noted + 1 }
         ensures ticks { self.new.ticks ≡ self.old.ticks + 1 }
     {
-        if self.counts[slot as usize] == 0 {
-            self.enlist(slot);
-        }
-        self.counts[slot as usize] += 1;
-        self.ticks.add();
+        let count = self.counts[slot as usize];
+        self.set_count(slot, count + 1);
     }
 
     /// Counts one reference less to a slot.
-    pub(crate) fn lower(&mut self, slot: u16)
+    fn lower(&mut self, slot: u16)
         requires within { slot < length self.old.counts }
         requires some { 0 < slice_index self.old.counts slot }
         ensures counts { self.new.counts ≡ slice_set self.old.counts slot (slice_index self.old.counts slot - 1) }
@@ -139,10 +136,23 @@ impl Tally {
         ensures few { length self.new.noted ≤ length self.old.noted + 1 }
         ensures ticks { self.new.ticks ≡ self.old.ticks + 1 }
     {
-        if self.counts[slot as usize] == 1 {
+        let count = self.counts[slot as usize];
+        self.set_count(slot, count - 1);
+    }
+
+    /// Changes a count, and notes the slot where it reaches or leaves zero.
+    fn set_count(&mut self, slot: u16, count: u32)
+        requires { slot < length self.old.counts }
+        ensures counts { self.new.counts ≡ slice_set self.old.counts slot count }
+        ensures noted { NotesZeros self.old self.new }
+        ensures few { length self.new.noted ≤ length self.old.noted + 1 }
+        ensures ticks { self.new.ticks ≡ self.old.ticks + 1 }
+    {
+        let was_zero = self.counts[slot as usize] == 0;
+        if was_zero != (count == 0) {
             self.enlist(slot);
         }
-        self.counts[slot as usize] -= 1;
+        self.counts[slot as usize] = count;
         self.ticks.add();
     }
 

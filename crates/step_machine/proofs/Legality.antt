@@ -2,8 +2,8 @@
 use Rattle.std.specs.Prelude.{◌≡◌, ℕ, ◌+◌, List, ◌++◌, Option, Some, None, option_map, Result, Ok, Err, IfOk, IfErr, OnOk, IsSome, Vec, false, ◌≤◌, [], ◌∷◌, length}
 use Rattle.std.specs.FinMap as map
 use Rattle.std.specs.Ordering.{nat_cmp}
-use Rattle.std.proofs.Common.{refl, sym, ap, subst, ◌∙◌, inl, inr, arith, get_or}
-use Rattle.std.proofs.lemmas.List.Elements.{All-contains, Contains-append_left, Contains-get_or, Contains-push}
+use Rattle.std.proofs.Common.{refl, sym, ap, subst, ◌∙◌, inl, inr, arith}
+use Rattle.std.proofs.lemmas.List.Elements.{All-contains, Contains-push}
 use Rattle.std.proofs.lemmas.Option.{same_Some}
 use Rattle.std.specs.declared.alloc.Global.{Global}
 use Rattle.ctrie_base.specs.Hashes.{hash_of}
@@ -18,7 +18,6 @@ use Rattle.history.specs.Orders.{Explains}
 use Rattle.machine_model.specs.declared.roots.Root.{Root}
 use Rattle.machine_model.specs.declared.steps.Limits.{Limits}
 use Rattle.machine_model.specs.declared.steps.Outcome.{Outcome}
-use Rattle.machine_model.specs.declared.steps.Step.{Step}
 use Rattle.machine_model.specs.declared.steps.Step.TheVariants as step
 use Rattle.machine_model.specs.States.{State, first_state, root_at}
 use Rattle.machine_model.specs.Orders.{order_of}
@@ -29,6 +28,7 @@ use Rattle.machine_model.specs.Going.{go_limit}
 use Rattle.machine_model.proofs.Along.{run_push}
 use Rattle.machine_model.specs.Refusing.{RefusesContent}
 use Rattle.step_machine.specs.Beneath.proof_order.specs.Laws.Orders.{Names, ShowsContents, IsExplained}
+use Rattle.proof_linearizable.proofs.Legal.{fit_in_front}
 use Rattle.proof_linearizable.specs.Laws.{AloneItActs, RanAlone, Does}
 use Rattle.step_machine.specs.Machines.{Taken, state_of, with_step}
 use Rattle.step_machine.specs.Callers.{going_on, Resumes, Completes, CompletesUnless}
@@ -209,9 +209,6 @@ module _ (before machine after : Taken) (actor : ℕ) (call : Call) (went : Went
   more k answer goes =
       has_more (went.1.0 + k) actor (with_step before (step.Begin actor call)) after (Ok (Some answer)) (goes_further before after actor call went.0 went.1.0 k machine answer went.1.1 goes)
 
-  in_front : (xs ys : List Step) → KeysFit (xs ++ ys) → KeysFit xs
-  in_front xs ys all = λ i d within. All-contains FitsKey (xs ++ ys) (get_or xs i d) all (Contains-append_left xs ys (get_or xs i d) (Contains-get_or xs i d within))
-
   spared_by : (law : EachStepLeadsToItsEnd) (closes : ClosesEnd) (spare : EnoughForCall) → AreLimits after.limits → KeysFit after.steps → IsSure (state_of before) call (1 + most_steps_alone) →
       enough_slots call ≤ length (state_of before).heap.free → going_on go_limit actor machine ≡ (Ok (Some NoSlots), after) → (denial : Option Refusal) →
       begin_denial (state_of before) actor call ≡ denial → ⊥
@@ -219,8 +216,8 @@ module _ (before machine after : Taken) (actor : ℕ) (call : Call) (went : Went
       not_denied before after actor call went.0 (went.1.0 + go_limit) NoSlots why d (goes_further before after actor call went.0 went.1.0 go_limit machine NoSlots went.1.1 goes)
   spared_by law closes spare sizes keys sure free goes None d =
       let h = more go_limit NoSlots goes in
-      let fit = in_front (before.steps ++ step.Begin actor call ∷ []) h.more (subst KeysFit h.steps keys) in
-      spared_behind law closes spare before actor call (subst AreLimits h.limits sizes) (in_front before.steps (step.Begin actor call ∷ []) fit)
+      let fit = fit_in_front (before.steps ++ step.Begin actor call ∷ []) h.more (subst KeysFit h.steps keys) in
+      spared_behind law closes spare before actor call (subst AreLimits h.limits sizes) (fit_in_front before.steps (step.Begin actor call ∷ []) fit)
       (All-contains FitsKey (before.steps ++ step.Begin actor call ∷ []) (step.Begin actor call) fit (Contains-push before.steps (step.Begin actor call))) sure free d (went.1.0 + go_limit) after
       (goes_further before after actor call went.0 went.1.0 go_limit machine NoSlots went.1.1 goes)
 

@@ -45,6 +45,6 @@ pub first_split : (text : List ℕ) → 0 < length text
     → MatchOption (position (λ b. eqb b 10) text) (lines_of text ≡ text ∷ lines_of []) (λ i. (lines_of text ≡ take i text ∷ lines_of (drop (i + 1) text)) × (i < length text))
 first_split text some =
     cases_position text (ltb (position_or_len (λ b. eqb b 10) text) (length text)) (position_or_len (λ b. eqb b 10) text) _
-        (λ i. (lines_of text ≡ take i text ∷ lines_of (drop (i + 1) text)) × (i < length text))
+    (λ i. (lines_of text ≡ take i text ∷ lines_of (drop (i + 1) text)) × (i < length text))
     (λ e. only_line text some (ltb-false _ _ e))
     (λ e. (first_of_more text (position_or_len (λ b. eqb b 10) text) refl (ltb-true _ _ e), ltb-true _ _ e))

@@ -1,30 +1,26 @@
 -- What the accounts say of running operations is what the machine runs, along every run.
-use Rattle.std.specs.Prelude.{replicate, ◌≡◌, ℕ, zero, suc, ◌+◌, ◌<◌, ◌⊎◌, List, [], ◌∷◌, ◌++◌, length, Option, Some, None, cond}
+use Rattle.std.specs.Prelude.{replicate, ◌≡◌, ℕ, zero, suc, ◌+◌, ◌<◌, ◌⊎◌, List, [], ◌∷◌, ◌++◌, length, Option, Some, None}
 use Rattle.std.proofs.Common.{refl, sym, ap, subst, ◌∙◌, inl, inr, arith, eq-eqb, ne_eqb}
 use Rattle.std.proofs.lemmas.Bool.{cases_eq}
-use Rattle.std.proofs.lemmas.List.{length-set, length-map, length-replicate}
-use Rattle.std.proofs.lemmas.List.Sums.{sum_by-append}
+use Rattle.std.proofs.lemmas.List.{length-replicate}
 use Rattle.std.proofs.lemmas.Option.{none-some, same_Some}
 use Rattle.history.specs.declared.calls.Call.{Call}
 use Rattle.history.specs.declared.replies.Reply.{Reply}
 use Rattle.history.specs.declared.events.Event.{Event}
 use Rattle.history.specs.declared.events.Event.TheVariants.{Begin, End}
-use Rattle.history.specs.Histories.{begun, is_begin}
-use Rattle.machine_model.specs.declared.operations.Operation.{Operation}
+use Rattle.history.specs.Histories.{begun}
 use Rattle.machine_model.specs.declared.steps.Limits.{Limits}
 use Rattle.machine_model.specs.declared.steps.Step.{Step}
 use Rattle.machine_model.specs.declared.steps.Outcome.{Outcome}
 use Rattle.machine_model.specs.States.{State, first_state, operation_of}
 use Rattle.machine_model.specs.Machine.{run}
-use Rattle.machine_model.specs.Moves.{Begins, Goes, Ends, Sweeps}
-use Rattle.machine_model.specs.Moves.{Moves, begun_operation}
-use Rattle.machine_model.proofs.Actors.{after_marks, marks_by, gone_actors, begin_actors}
+use Rattle.machine_model.specs.Moves.{Moves}
 use Rattle.machine_model.proofs.Frames.{limits_kept}
 use Rattle.machine_model.proofs.Along.{along}
 use Rattle.lock_runner.specs.declared.accounts.Running.{Running}
 use Rattle.lock_runner.specs.ActorHistory.{Account, account_of, account_after, account_ended, account_from, begun_at, answered_at}
 use Rattle.history.proofs.Begins.{begun_push, begun_same}
-use Rattle.lock_runner.specs.Beneath.proof_generations.proofs.Handles.Running.{marks_length}
+use Rattle.lock_runner.specs.Beneath.proof_generations.proofs.Handles.Running.{actors_length}
 use Rattle.lock_runner.proofs.ActorHistory.Pushes.{account_push}
 use Rattle.lock_runner.proofs.ActorHistory.Turns.{Shown, shown, ran, Turns, Comes, Stays, Leaves, Rests, turns}
 
@@ -35,18 +31,6 @@ told (Some operation) = Some (operation.id, operation.call)
 -- what the actor runs
 abbrev pub runs : State → ℕ → Option Shown
 runs state actor = shown (operation_of state actor)
-
--- ---- lengths
-
-actors_length : (state : State) (s : Step) (o : Outcome) (after : State) → Moves state s o after → length after.actors ≡ length state.actors
-actors_length state s o after (Begins {actor = actor} {call = call} d) =
-    ap (λ xs. length xs) (begin_actors state actor call (begun_operation state call)) ∙ length-set state.actors _ _
-actors_length state s o after (Goes {actor = actor} {operation = operation} d is a g) =
-    ap (λ xs. length xs) (gone_actors state actor operation) ∙ marks_length (marks_by state (Some operation)) _ ∙ length-set state.actors _ _
-actors_length state s o after (Ends d is a) = length-set state.actors _ _
-actors_length state s o after (Sweeps spent) = refl
-
--- ---- how many have begun
 
 -- ---- what one event makes of an account
 

@@ -12,7 +12,8 @@ use Rattle.proof_contents.specs.Nodes.Branches.{HasPlaces, at_place}
 use Rattle.proof_contents.specs.Nodes.Looking.{Below, look_at}
 use Rattle.proof_contents.specs.Nodes.Changing.{look}
 use Rattle.proof_contents.proofs.Nodes.Branches.{updated-places}
-use Rattle.proof_contents.proofs.Nodes.Changes.{index-lt, look_place, look_branch}
+use Rattle.proof_contents.specs.Beneath.nodes.proofs.Indices.{index_below}
+use Rattle.proof_contents.proofs.Nodes.Changes.{look_place, look_branch}
 
 module _ (node : Ref → Node) (hash : ℕ → ℕ) (depth bitmap : ℕ) (entries : ArrayVec Ref) (places : List (Option Ref)) (h : HasPlaces bitmap entries.items places)
     (key : ℕ) (entry link : Ref) (at : at_place places (index_in (hash key) depth) ≡ Some entry) where
@@ -29,7 +30,7 @@ module _ (node : Ref → Node) (hash : ℕ → ℕ) (depth bitmap : ℕ) (entrie
   beside-is q g word is same =
       look_branch node q bitmap (index_in (hash q) depth) _ (set places (index_in (hash key) depth) (Some link)) linked-places
       ∙ ap (λ y. look_place node q (at_place (set places (index_in (hash key) depth) (Some link)) y)) same
-      ∙ ap (look_place node q) (get_or-set_same places (index_in (hash key) depth) (Some link) None (omega (arith, h.size, index-lt (hash key) depth)))
+      ∙ ap (look_place node q) (get_or-set_same places (index_in (hash key) depth) (Some link) None (omega (arith, h.size, index_below (hash key) depth)))
       ∙ ap (look_at q link) is
 
   -- of all others the branch says what it said

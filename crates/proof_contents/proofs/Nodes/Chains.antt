@@ -18,7 +18,8 @@ use Rattle.proof_contents.specs.Nodes.Looking.{Found, Absent, Has, look_at, or_e
 use Rattle.proof_contents.specs.Nodes.Changing.{look}
 use Rattle.proof_contents.specs.Nodes.Chains.{Parts, LeadsToPair, at_pair, by_rung}
 use Rattle.proof_contents.proofs.Nodes.Branches.{before, position-before, inserted-places, differ}
-use Rattle.proof_contents.proofs.Nodes.Changes.{index-lt, look_place, look_branch, look-other}
+use Rattle.proof_contents.specs.Beneath.nodes.proofs.Indices.{index_below}
+use Rattle.proof_contents.proofs.Nodes.Changes.{look_place, look_branch, look-other}
 use Rattle.proof_contents.proofs.Nodes.Lists.{or_else-absent}
 
 -- places with nothing
@@ -112,7 +113,8 @@ module _ (node : Ref → Node) (kind : HashKind) (former key : ℕ) (old single 
 
       as_branch : x ≢ y → look node (hash_of kind) depth q (Branch (bit_or (2 ^ x) (2 ^ y)) (entries_from (by_index x y old single))) ≡ both q
       as_branch parted =
-          look_branch node q (bit_or (2 ^ x) (2 ^ y)) z (entries_from (by_index x y old single)) places (two-places x y old single (index-lt (hash former) depth) (index-lt (hash key) depth) parted)
+          look_branch node q (bit_or (2 ^ x) (2 ^ y)) z (entries_from (by_index x y old single)) places
+          (two-places x y old single (index_below (hash former) depth) (index_below (hash key) depth) parted)
           ∙ at_key (z == y) refl
         where
           first : List (Option Ref)
@@ -127,7 +129,7 @@ module _ (node : Ref → Node) (kind : HashKind) (former key : ℕ) (old single 
           at_former : z ≢ y → (b : Bool) → (z == x) ≡ b → look_place node q (at_place first z) ≡ both q
           at_former other true e =
               ap (λ n. look_place node q (at_place first n)) (eqb-true z x e)
-              ∙ ap (look_place node q) (get_or-set_same (empty_places 32) x (Some old) None (omega (arith, one_length 32, index-lt (hash former) depth)))
+              ∙ ap (look_place node q) (get_or-set_same (empty_places 32) x (Some old) None (omega (arith, one_length 32, index_below (hash former) depth)))
               ∙ sym (or_else-absent (look_at q old (node old))) ∙ ap (or_else (look_at q old (node old)))
               (sym (look-other node q key v single is_new (λ same. other (ap (λ k. index_in (hash k) depth) same))))
           at_former other false e =
@@ -136,7 +138,7 @@ module _ (node : Ref → Node) (kind : HashKind) (former key : ℕ) (old single 
 
           at_key : (b : Bool) → (z == y) ≡ b → look_place node q (at_place places z) ≡ both q
           at_key true e =
-              ap (λ n. look_place node q (at_place places n)) (eqb-true z y e) ∙ ap (look_place node q) (get_or-set_same first y (Some single) None (omega (arith, size, index-lt (hash key) depth)))
+              ap (λ n. look_place node q (at_place places n)) (eqb-true z y e) ∙ ap (look_place node q) (get_or-set_same first y (Some single) None (omega (arith, size, index_below (hash key) depth)))
               ∙ sym (ap (λ f. or_else f (look_at q single (node single))) (look-other node q former w old is_old (λ same. parted (sym (ap (λ k. index_in (hash k) depth) same) ∙ eqb-true z y e))))
           at_key false e = ap (look_place node q) (get_or-set_other first y z (Some single) None (differ z y e)) ∙ at_former (differ z y e) (z == x) refl
 
@@ -160,7 +162,7 @@ module _ (node : Ref → Node) (kind : HashKind) (former key : ℕ) (old single 
       ∙ not_below q (find_at node main (hash_of kind) q left (suc depth))
   chain_says main levels depth indirection q apart (by_rung left depth' indirection' below word generation is under same chain) =
       ap (λ n. value_by next (look node (hash_of kind) depth q n)) is
-      ∙ ap (value_by next) (look_branch node q (2 ^ y) z (entries_from (below ∷ [])) places (one-places y below (index-lt (hash_of kind key) depth)))
+      ∙ ap (value_by next) (look_branch node q (2 ^ y) z (entries_from (below ∷ [])) places (one-places y below (index_below (hash_of kind key) depth)))
       ∙ at_key (chain_says main left (suc depth) below q apart chain) (z == y) refl
     where
       next : Ref → Option ℕ
@@ -179,7 +181,7 @@ module _ (node : Ref → Node) (kind : HashKind) (former key : ℕ) (old single 
           value_by next (look_place node q (at_place places z)) ≡ value_by (λ r. None) (both q)
       at_key rest true e =
           ap (λ n. value_by next (look_place node q (at_place places n))) (eqb-true z y e)
-          ∙ ap (λ o. value_by next (look_place node q o)) (get_or-set_same (empty_places 32) y (Some below) None (omega (arith, one_length 32, index-lt (hash_of kind key) depth)))
+          ∙ ap (λ o. value_by next (look_place node q o)) (get_or-set_same (empty_places 32) y (Some below) None (omega (arith, one_length 32, index_below (hash_of kind key) depth)))
           ∙ ap (λ n. value_by next (look_at q below n)) under ∙ rest
       at_key rest false e =
           ap (λ o. value_by next (look_place node q o)) (get_or-set_other (empty_places 32) y z (Some below) None (differ z y e) ∙ none_at 32 z)

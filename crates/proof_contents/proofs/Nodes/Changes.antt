@@ -1,6 +1,6 @@
 -- Own updates of a key in a branch.
 use Rattle.std.proofs.Common.{◌≡◌, ◌≢◌, ℕ, ◌^◌, ◌<◌, Bool, true, false, cond, ◌==◌, List, length, set, slice_index_or, Option, Some, None, is_some, refl, sym, ap, ap₂, ◌∙◌, arith}
-use Rattle.std.proofs.Common.{eq-eqb, eqb-true, ne_eqb, mod-lt}
+use Rattle.std.proofs.Common.{eq-eqb, eqb-true, ne_eqb}
 use Rattle.std.proofs.lemmas.List.{get_or-set_same, get_or-set_other}
 use Rattle.arrayvec.specs.ArrayVec.{ArrayVec}
 use Rattle.proof_contents.specs.Beneath.ctrie_base.specs.Paths.{position_of}
@@ -9,15 +9,12 @@ use Rattle.proof_contents.specs.Beneath.slot_arena.specs.declared.nodes.Node.{No
 use Rattle.proof_contents.specs.Beneath.slot_arena.specs.declared.nodes.Node.TheVariants.{Branch, Single}
 use Rattle.proof_contents.specs.Beneath.slot_arena.specs.Heaps.{no_ref}
 use Rattle.proof_contents.specs.Beneath.nodes.specs.Levels.{index_in, flag_of}
+use Rattle.proof_contents.specs.Beneath.nodes.proofs.Indices.{index_below}
 use Rattle.proof_contents.specs.Beneath.nodes.specs.Builders.{inserted, updated, removed}
 use Rattle.proof_contents.specs.Nodes.Branches.{HasPlaces, at_place}
 use Rattle.proof_contents.specs.Nodes.Looking.{Found, Absent, Has, look_at, look_in}
 use Rattle.proof_contents.specs.Nodes.Changing.{Changes}
 use Rattle.proof_contents.proofs.Nodes.Branches.{has_flag-place, entry-place, inserted-places, updated-places, removed-places, differ}
-
--- an index is one of 32
-pub index-lt : (hash depth : ℕ) → index_in hash depth < 32
-index-lt hash depth = mod-lt _ (omega arith)
 
 -- what stands at a place says this of a key
 abbrev pub look_place : (Ref → Node) → ℕ → Option Ref → Found
@@ -74,8 +71,8 @@ module _ (node : Ref → Node) where
         Changes node hash depth key (Branch bitmap entries) (inserted (flag_of (hash key) depth) bitmap entries.items single) Absent (Has value)
     inserted_changes key value single none is =
         let x = index_in (hash key) depth in
-        changed_place key _ x _ (Some single) Absent (Has value) (index-lt (hash key) depth) refl
-        (inserted-places bitmap entries.items places h x single (index-lt (hash key) depth) none)
+        changed_place key _ x _ (Some single) Absent (Has value) (index_below (hash key) depth) refl
+        (inserted-places bitmap entries.items places h x single (index_below (hash key) depth) none)
         (ap (look_place node key) none) (look-same key value single is)
         (λ q apart. ap (look_place node q) none ∙ sym (look-other q key value single is apart))
 
@@ -85,7 +82,7 @@ module _ (node : Ref → Node) where
         Changes node hash depth key (Branch bitmap entries) (updated bitmap entries.items (position_of (flag_of (hash key) depth) bitmap) single) (Has former) (Has value)
     updated_changes key former value entry single at was is =
         let x = index_in (hash key) depth in
-        changed_place key _ x _ (Some single) (Has former) (Has value) (index-lt (hash key) depth) refl
+        changed_place key _ x _ (Some single) (Has former) (Has value) (index_below (hash key) depth) refl
         (updated-places bitmap entries.items places h x entry single at)
         (ap (look_place node key) at ∙ look-same key former entry was) (look-same key value single is)
         (λ q apart. ap (look_place node q) at ∙ look-other q key former entry was apart ∙ sym (look-other q key value single is apart))
@@ -95,7 +92,7 @@ module _ (node : Ref → Node) where
         Changes node hash depth key (Branch bitmap entries) (removed (flag_of (hash key) depth) bitmap entries.items (position_of (flag_of (hash key) depth) bitmap)) (Has former) Absent
     removed_changes key former entry at was =
         let x = index_in (hash key) depth in
-        changed_place key _ x _ None (Has former) Absent (index-lt (hash key) depth) refl
+        changed_place key _ x _ None (Has former) Absent (index_below (hash key) depth) refl
         (removed-places bitmap entries.items places h x entry at)
         (ap (look_place node key) at ∙ look-same key former entry was) refl
         (λ q apart. ap (look_place node q) at ∙ look-other q key former entry was apart)

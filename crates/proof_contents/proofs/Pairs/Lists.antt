@@ -1,11 +1,12 @@
 -- Lists of pairs of different keys: what is found in them, and that sorted by key they are the entries of a map.
-use Rattle.std.proofs.Common.{◌≡◌, ◌≢◌, ℕ, suc, ◌<◌, ◌≤◌, ◌==◌, ◌&&◌, Bool, true, false, cond, T, nat_lt, List, [], ◌∷◌, ◌++◌, length, Option, Some, None, nat_cmp, is_lt, Less}
+use Rattle.std.proofs.Common.{◌≡◌, ◌≢◌, ℕ, suc, ◌<◌, ◌≤◌, ◌==◌, Bool, true, false, cond, T, nat_lt, List, [], ◌∷◌, ◌++◌, length, Option, Some, None, nat_cmp, is_lt, Less}
 use Rattle.std.proofs.Common.{Equal, Greater, refl, sym, ap, subst, ◌∙◌, arith, eqb-true, eq-eqb, ne_eqb, lt-ltb, ltb-true, ltb-false}
 use Rattle.std.specs.Cmp.{unsigned_tied}
 use Rattle.std.specs.Ordering.{eq_by_cmp}
 use Rattle.std.specs.FinMap.{get, entries, len, len-entries, from_sorted, find, is_sorted, get-from_sorted, entries-from_sorted}
 use Rattle.std.specs.FinMap.Entries.{below_all}
 use Rattle.proof_contents.specs.Beneath.history.specs.Worlds.{KeyMap}
+use Rattle.proof_contents.specs.Beneath.history.proofs.EntryMaps.{both}
 use Rattle.machine_model.specs.Pairs.{comes_before, put_pair, by_key}
 use Rattle.proof_contents.proofs.Values.Maps.{same_answers}
 
@@ -137,17 +138,13 @@ by_key_rises : (ps : Pairs) → AreApart ps → Rise (by_key ps)
 by_key_rises [] a = tt
 by_key_rises (p ∷ ps) a = put_rises p (by_key ps) (by_key_each (λ k. k ≢ p.0) ps a.0) (by_key_rises ps a.1)
 
-both_hold : (a b : Bool) → T a → T b → T (a && b)
-both_hold true b p q = q
-both_hold false b p q = p
-
 rise_below : (x : ℕ) (ps : Pairs) → EachKey (λ k. x < k) ps → T (below_all nat_cmp x ps)
 rise_below x [] a = tt
-rise_below x (p ∷ ps) a = both_hold _ _ (subst (λ b. T (is_lt (cond b Less (cond (x == p.0) Equal Greater)))) (sym (lt-ltb x p.0 a.0)) tt) (rise_below x ps a.1)
+rise_below x (p ∷ ps) a = both _ _ (subst (λ b. T (is_lt (cond b Less (cond (x == p.0) Equal Greater)))) (sym (lt-ltb x p.0 a.0)) tt) (rise_below x ps a.1)
 
 rise_sorted : (ps : Pairs) → Rise ps → T (is_sorted nat_cmp ps)
 rise_sorted [] r = tt
-rise_sorted (p ∷ ps) r = both_hold _ _ (rise_below p.0 ps r.0) (rise_sorted ps r.1)
+rise_sorted (p ∷ ps) r = both _ _ (rise_below p.0 ps r.0) (rise_sorted ps r.1)
 
 -- ---- a map of pairs
 

@@ -16,7 +16,8 @@ use Rattle.proof_contents.specs.Nodes.Looking.{Absent, Has, look_among, or_else}
 use Rattle.proof_contents.specs.Nodes.Lists.{AreSingles}
 use Rattle.proof_contents.specs.Nodes.Chains.{Parts}
 use Rattle.proof_contents.proofs.Nodes.Branches.{before, standing_at, flagged, unflagged, inserted-places, updated-places, removed-places, differ}
-use Rattle.proof_contents.proofs.Nodes.Changes.{index-lt, look-other}
+use Rattle.proof_contents.specs.Beneath.nodes.proofs.Indices.{index_below}
+use Rattle.proof_contents.proofs.Nodes.Changes.{look-other}
 use Rattle.proof_contents.proofs.Nodes.Tombs.{before-lt, place_of}
 use Rattle.proof_contents.proofs.Nodes.Refilling.{refilled, refilled-places, refilled-none, refilled-some}
 use Rattle.proof_contents.proofs.Nodes.Chains.{empty_places, nothing, none_at, one-places, two-places, one_length}
@@ -85,14 +86,14 @@ module _ (trie : Trie) (fits : (i : Ref) → trie.path i < 2 ^ (5 * trie.depth i
     x = index_in (hash_of trie.kind key) (trie.depth i)
 
     x-lt : x < length s.places
-    x-lt = omega (arith, s.has.size, index-lt (hash_of trie.kind key) (trie.depth i))
+    x-lt = omega (arith, s.has.size, index_below (hash_of trie.kind key) (trie.depth i))
 
     -- a single more, in its place
     pub inserted_shaped : (value : ℕ) (new : Ref) → has_flag bitmap (flag_of (hash_of trie.kind key) (trie.depth i)) ≡ false → trie.node new ≡ Single key value → LeadsTo trie i key →
         IsShaped trie i (inserted (flag_of (hash_of trie.kind key) (trie.depth i)) bitmap entries.items new)
     inserted_shaped value new no_flag is led =
         branch_of _ _ (set s.places x (Some new))
-        (inserted-places bitmap entries.items s.places s.has x new (index-lt (hash_of trie.kind key) (trie.depth i)) (unflagged bitmap entries.items s.places s.has x no_flag)) s.shallow
+        (inserted-places bitmap entries.items s.places s.has x new (index_below (hash_of trie.kind key) (trie.depth i)) (unflagged bitmap entries.items s.places s.has x no_flag)) s.shallow
         (written s.places x (Some new) x-lt (stood bitmap entries s)
         (λ e at. let same : Some new ≡ Some e = at in let e_is : new ≡ e = cc in subst (λ r. MayStand x r) e_is (a_single key value is refl led)))
 
@@ -191,8 +192,8 @@ module _ (trie : Trie) (fits : (i : Ref) → trie.path i < 2 ^ (5 * trie.depth i
       IsShaped trie i (rung (hash_of trie.kind key) (trie.depth i) below)
   rung_shaped key g below word shallow is child =
       let x = index_in (hash_of trie.kind key) (trie.depth i) in
-      branch_of (2 ^ x) (entries_from (below ∷ [])) (set (empty_places 32) x (Some below)) (one-places x below (index-lt (hash_of trie.kind key) (trie.depth i))) shallow
-      (written (empty_places 32) x (Some below) (omega (arith, one_length 32, index-lt (hash_of trie.kind key) (trie.depth i)))
+      branch_of (2 ^ x) (entries_from (below ∷ [])) (set (empty_places 32) x (Some below)) (one-places x below (index_below (hash_of trie.kind key) (trie.depth i))) shallow
+      (written (empty_places 32) x (Some below) (omega (arith, one_length 32, index_below (hash_of trie.kind key) (trie.depth i)))
       (λ y e at. absurd (let bad : None ≡ Some e = sym (none_at 32 y) ∙ at in cc))
       (λ e at. let same : Some below ≡ Some e = at in let e_is : below ≡ e = cc in subst (λ r. MayStand x r) e_is (a_child g word is child)))
 
@@ -231,9 +232,9 @@ module _ (trie : Trie) (fits : (i : Ref) → trie.path i < 2 ^ (5 * trie.depth i
       as_branch : trie.depth i < list_depth trie.kind → a ≢ b → IsShaped trie i (Branch (bit_or (2 ^ a) (2 ^ b)) (entries_from (by_index a b old new)))
       as_branch shallow split =
           branch_of (bit_or (2 ^ a) (2 ^ b)) (entries_from (by_index a b old new)) (set (set (empty_places 32) a (Some old)) b (Some new))
-          (two-places a b old new (index-lt (hash_of trie.kind former) (trie.depth i)) (index-lt (hash_of trie.kind key) (trie.depth i)) split) shallow
-          (written (set (empty_places 32) a (Some old)) b (Some new) (omega (arith, length-set (empty_places 32) a (Some old), one_length 32, index-lt (hash_of trie.kind key) (trie.depth i)))
-          (written (empty_places 32) a (Some old) (omega (arith, one_length 32, index-lt (hash_of trie.kind former) (trie.depth i)))
+          (two-places a b old new (index_below (hash_of trie.kind former) (trie.depth i)) (index_below (hash_of trie.kind key) (trie.depth i)) split) shallow
+          (written (set (empty_places 32) a (Some old)) b (Some new) (omega (arith, length-set (empty_places 32) a (Some old), one_length 32, index_below (hash_of trie.kind key) (trie.depth i)))
+          (written (empty_places 32) a (Some old) (omega (arith, one_length 32, index_below (hash_of trie.kind former) (trie.depth i)))
           (λ y e at. absurd (let bad : None ≡ Some e = sym (none_at 32 y) ∙ at in cc))
           (λ e at. let same : Some old ≡ Some e = at in let e_is : old ≡ e = cc in subst (λ r. MayStand a r) e_is (a_single former own is_old refl led_old)))
           (λ e at. let same : Some new ≡ Some e = at in let e_is : new ≡ e = cc in subst (λ r. MayStand b r) e_is (a_single key value is_new refl led_new)))

@@ -2,7 +2,7 @@
 use Rattle.std.proofs.Common.{◌≡◌, ℕ, zero, suc, ◌-◌, ◌⊎◌, inl, inr, List, set, get_or, Option, Some, None, refl, sym, ap, ◌∙◌, subst, arith, length}
 use native.Mathlib.Decide.{ℕ_discrete}
 use Rattle.std.proofs.Math.ListN.{get_or-map}
-use Rattle.std.proofs.lemmas.List.{get_or-set_same, length-map}
+use Rattle.std.proofs.lemmas.List.{get_or-set_same, length-map, length-set}
 use Rattle.std.proofs.lemmas.Option.{none-some, same_Some}
 use Rattle.proof_generations.specs.Beneath.history.specs.declared.calls.Call.{Call}
 use Rattle.proof_generations.specs.Beneath.history.specs.declared.replies.Reply.{Reply}
@@ -123,3 +123,12 @@ comes state s o after m k found at_k = comes_by state s o after m k found at_k (
 pub marks_length : (m : Option ℕ) (xs : List (Option Operation)) → length (after_marks m xs) ≡ length xs
 marks_length None xs = refl
 marks_length (Some id) xs = length-map xs (marked id)
+
+-- there are as many actors behind a move
+pub actors_length : (state : State) (s : Step) (o : Outcome) (after : State) → Moves state s o after → length after.actors ≡ length state.actors
+actors_length state s o after (Begins {actor} {call} d) =
+    ap (λ xs. length xs) (begin_actors state actor call (begun_operation state call)) ∙ length-set state.actors _ _
+actors_length state s o after (Goes {actor} {operation} d is a g) =
+    ap (λ xs. length xs) (gone_actors state actor operation) ∙ marks_length (marks_by state (Some operation)) _ ∙ length-set state.actors _ _
+actors_length state s o after (Ends d is a) = length-set state.actors _ _
+actors_length state s o after (Sweeps spent) = refl

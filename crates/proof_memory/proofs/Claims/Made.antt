@@ -3,7 +3,6 @@ use Rattle.std.proofs.Common.{◌≡◌, ℕ, suc, ◌+◌, ◌^◌, ◌<◌, �
 use Rattle.std.proofs.Common.{take, drop, refl, sym, ap, ◌∙◌, subst, ltb-true, lt-ltb, leb-true, arith}
 use Rattle.std.specs.Prelude.{bit_and, bit_or, bit_xor, count_ones, insert, remove}
 use Rattle.std.proofs.lemmas.Bool.{false≢true, and_parts, and_from, cond_both, le-leb}
-use Rattle.std.proofs.lemmas.Nat.{mod_below}
 use Rattle.std.proofs.lemmas.List.{length-append, length-take, length-drop, length-set, get_or-set_same}
 use Rattle.std.proofs.lemmas.List.Elements.{All-take, All-drop, All-append, All-cons, All-nil, All-push, All-set}
 use Rattle.arrayvec.specs.ArrayVec.{ArrayVec}
@@ -12,6 +11,7 @@ use Rattle.proof_memory.specs.Beneath.slot_arena.specs.declared.refs.Ref.{Ref}
 use Rattle.proof_memory.specs.Beneath.slot_arena.specs.declared.nodes.Node.{Node}
 use Rattle.proof_memory.specs.Beneath.slot_arena.specs.declared.nodes.Node.TheVariants.{Branch, Tomb, List as Listed}
 use Rattle.proof_memory.specs.Beneath.slot_arena.specs.Heaps.{Heap, node_at, entries_of, bitmap_of, entries_from}
+use Rattle.proof_memory.specs.Beneath.nodes.proofs.Indices.{index_below}
 use Rattle.proof_memory.specs.Beneath.nodes.specs.Levels.{index_in, flag_of, list_depth}
 use Rattle.proof_memory.specs.Beneath.nodes.specs.Builders.{renewed, contracted, by_index, pair, rung}
 use Rattle.proof_memory.specs.Beneath.ctrie_base.specs.declared.hashes.HashKind.{HashKind}
@@ -41,10 +41,6 @@ pub All-removed : (P : Ref → Type 0) (xs : List Ref) (i : ℕ) → All P xs �
 All-removed P xs i all = All-append P (take i xs) (drop (suc i) xs) (All-take P i xs all) (All-drop P (suc i) xs all)
 
 -- ---- formed nodes
-
--- the index of a hash is below 32
-pub index_below : (hash depth : ℕ) → index_in hash depth < 32
-index_below hash depth = mod_below _ 32 (omega arith)
 
 formed_branch : (bitmap : ℕ) (es : List Ref) → bitmap < 2 ^ 32 → count_ones bitmap ≤ length es → is_formed (Branch bitmap (entries_from es)) ≡ true
 formed_branch bitmap es small ones =

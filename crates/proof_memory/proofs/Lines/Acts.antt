@@ -47,7 +47,8 @@ use Rattle.proof_memory.proofs.Claims.Nodes.{Heaped, branch_entries, at_position
 use Rattle.proof_memory.proofs.Lines.Read.{read_acts, complete_acts, root_acts}
 use Rattle.proof_memory.proofs.Lines.Shared.{position_within, none_each, first_safe}
 use Rattle.proof_memory.proofs.Lines.Key.{key_acts}
-use Rattle.proof_memory.proofs.Claims.Made.{index_below, changed_made, pair_made, rung_made, renewed_made, contracted_made, alone}
+use Rattle.proof_memory.specs.Beneath.nodes.proofs.Indices.{index_below}
+use Rattle.proof_memory.proofs.Claims.Made.{changed_made, pair_made, rung_made, renewed_made, contracted_made, alone}
 
 -- the entry of a flag that a branch has lies within
 placed : (i : ℕ) (node : Node) → is_formed node ≡ true → meets (WithFlag (2 ^ i)) node ≡ true → position_of (2 ^ i) (bitmap_of node) < length (entries_of node)

@@ -1,18 +1,15 @@
 -- What the actors weigh over one step of an operation that is alone.
 use Rattle.std.proofs.Common.{◌≡◌, ℕ, zero, suc, ◌<◌, ◌≤◌, length, Option, Some, None, refl, sym, ap, ◌∙◌, subst, arith}
 use native.Mathlib.Decide.{ℕ_discrete}
-use Rattle.std.proofs.lemmas.List.{length-set, length-replicate}
+use Rattle.std.proofs.lemmas.List.{length-replicate}
 use Rattle.proof_obstruction_free.specs.Beneath.slot_arena.specs.declared.refs.Ref.{Ref}
 use Rattle.proof_obstruction_free.specs.Beneath.machine_model.specs.declared.lines.Line.{Line}
 use Rattle.proof_obstruction_free.specs.Beneath.machine_model.specs.declared.operations.Operation.{Operation}
-use Rattle.proof_obstruction_free.specs.Beneath.machine_model.specs.declared.steps.Outcome.{Outcome}
-use Rattle.proof_obstruction_free.specs.Beneath.machine_model.specs.declared.steps.Step.{Step}
 use Rattle.proof_obstruction_free.specs.Beneath.machine_model.specs.States.{State, first_state, operation_of}
 use Rattle.proof_obstruction_free.specs.Beneath.machine_model.specs.Operations.{action_of, line_action, line_after}
-use Rattle.proof_obstruction_free.specs.Beneath.machine_model.proofs.Actors.{marks_by, gone_actors, begin_actors}
+use Rattle.proof_obstruction_free.specs.Beneath.machine_model.proofs.Actors.{marks_by}
 use Rattle.proof_obstruction_free.specs.Beneath.machine_model.proofs.Found.{found_within}
-use Rattle.proof_obstruction_free.specs.Beneath.machine_model.specs.Moves.{Begins, Goes, Ends, Sweeps}
-use Rattle.proof_obstruction_free.specs.Beneath.machine_model.specs.Moves.{Moves, begun_operation}
+use Rattle.proof_obstruction_free.specs.Beneath.machine_model.specs.Moves.{Moves}
 use Rattle.proof_obstruction_free.specs.Beneath.machine_model.proofs.Times.{at_each_time}
 use Rattle.proof_obstruction_free.specs.Beneath.proof_commits.specs.Protocol.{Rests, Decides}
 use Rattle.proof_obstruction_free.specs.Beneath.proof_commits.specs.Protocol as Word
@@ -21,7 +18,7 @@ use Rattle.proof_obstruction_free.specs.Beneath.proof_commits.specs.Stages.{stag
 use Rattle.proof_obstruction_free.specs.Beneath.proof_commits.proofs.Known.StepsAt.{mark_stage, go_others, actor_counts}
 use Rattle.proof_obstruction_free.specs.Beneath.proof_commits.proofs.Lines.Turns.{line_turn}
 use Rattle.proof_obstruction_free.specs.Beneath.proof_commits.proofs.Words.Along.{line_facts, remembers_at}
-use Rattle.proof_obstruction_free.specs.Beneath.proof_generations.proofs.Handles.Running.{marks_length}
+use Rattle.proof_obstruction_free.specs.Beneath.proof_generations.proofs.Handles.Running.{actors_length}
 use Rattle.proof_obstruction_free.specs.Alone.{Lone, Stands}
 use Rattle.proof_obstruction_free.specs.Stepping.{IsNoEnd}
 use Rattle.proof_obstruction_free.proofs.Step.Next.{takes, next, no_end}
@@ -29,16 +26,6 @@ use Rattle.proof_obstruction_free.proofs.Step.Keeps.{after_so, goes_by}
 use Rattle.proof_obstruction_free.proofs.Read.Words.{w, p, sound, NonePending}
 use Rattle.proof_obstruction_free.proofs.Weights.FineWeight.{stage_weight, still_lighter, own_lighter}
 use Rattle.proof_obstruction_free.specs.Beneath.proof_commits.proofs.Known.Acts.{known_run}
-
--- ---- how many actors there are
-
-actors_length : (state : State) (s : Step) (o : Outcome) (after : State) → Moves state s o after → length after.actors ≡ length state.actors
-actors_length state s o after (Begins {actor} {call} d) =
-    ap (λ xs. length xs) (begin_actors state actor call (begun_operation state call)) ∙ length-set state.actors _ _
-actors_length state s o after (Goes {actor} {operation} d is a g) =
-    ap (λ xs. length xs) (gone_actors state actor operation) ∙ marks_length (marks_by state (Some operation)) _ ∙ length-set state.actors _ _
-actors_length state s o after (Ends d is a) = length-set state.actors _ _
-actors_length state s o after (Sweeps spent) = refl
 
 module _ (a : Lone) where
   -- ---- which actors weigh

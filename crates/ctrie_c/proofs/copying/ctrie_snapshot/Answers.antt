@@ -4,4 +4,6 @@ use Rattle.ctrie_c.proofs.Carried.{carried}
 use Rattle.ctrie_c.proofs.copying.ctrie_snapshot.Goals as goal
 
 pub returns-in-Some-clause-does : goal.returns-in-Some-clause-does
-returns-in-Some-clause-does c = carried (λ h. Opens h Writable) c.new.ensures c.deref_mut.ensures.value c.in-Some.ensures.some c.give.ensures c.tell_handle.ensures.bound c.tell_handle.ensures.told (c.snapshot-told.ensures.done, c.snapshot-told.ensures.refused)
+returns-in-Some-clause-does c =
+    carried (λ h. Opens h Writable)
+    c.new.ensures c.deref_mut.ensures.value c.in-Some.ensures.some c.give.ensures c.tell_handle.ensures.bound c.tell_handle.ensures.told (c.snapshot-told.ensures.done, c.snapshot-told.ensures.refused)

@@ -14,4 +14,4 @@ work_groups-requires-clause-unused g c κs within = all_grouped IsUnused _ _ c.i
 pub returns : goal.returns
 returns g c =
     when_joined (read c.args.script.now) c.args.seats.items c.in_ok-groups.groups.items c.in_ok-results.results.items c.joined.result c.in_ok-groups.ensures.seats c.in_ok-results.ensures
-        c.joined.ensures
+    c.joined.ensures

@@ -20,5 +20,5 @@ returns-clause-legal c =
     let script = c.args.script.now in
     let commands : c.deref.result.now ≡ script.lines.items = c.deref.ensures.value in
     let last = led_to (read script) (state_of c.in-Ok.machine) (state_of c.tell_all.new.machine) (ap state_of c.in-Ok.ensures.made ∙ fresh_state script.limits)
-        (rw commands at c.in_ok-tell_all.ensures.state) in
+    (rw commands at c.in_ok-tell_all.ensures.state) in
     report_legal (read script) c.tell_all.new.machine (string_bytes c.tell_last.new.text) last c.history_is_legal.ensures.fit c.history_is_legal.ensures.legal (returns-clause-text c)

@@ -29,4 +29,4 @@ returns-in-Ok-clause-report g c =
     let text = gathered.denied_are ∙ denied_by_rank (read c.args.script.now) c.in_ok-runner.runner.id c.in_ok-workers.workers.items ranks in
     let bytes : string_bytes c.in_ok-report_of_record-in-Ok.field-0 ≡ record_report c.in-Ok.«record» (string_bytes c.in_ok-seats.denied) = search rules in
     reported (read c.args.script.now) c.in_ok-runner.runner _ c.in_ok-workers.workers.items _ c.in-Ok.«record» _ _ c.in_ok-runner.ensures.made ranks gathered.seats_are text c.in-Ok.ensures
-        bytes c.report_of_record.ensures.fit
+    bytes c.report_of_record.ensures.fit

@@ -3,7 +3,8 @@ use Rattle.machine_model.specs.Machine.{begin_denial, is_busy}
 use Rattle.step_machine.specs.Machines.{state_of}
 use Rattle.ctrie_map.specs.Machines.{state_by, the_actor}
 use Rattle.ctrie_map.specs.Performing.{Performs}
-use Rattle.ctrie_map.proofs.Composing.{none_of, performs_from, performs_to, still_allowed, unswept_performs}
+use Rattle.history.proofs.Places.{option_unfound}
+use Rattle.ctrie_map.proofs.Composing.{performs_from, performs_to, still_allowed, unswept_performs}
 use Rattle.ctrie_map.proofs.Denying.{denied, not_denied}
 use Rattle.ctrie_map.proofs.performing.perform.Goals as goal
 
@@ -16,7 +17,7 @@ returns-in-Some-clause-performs c =
 
 pub returns-in_err-sweep-clause-performs : goal.returns-in_err-sweep-clause-performs
 returns-in_err-sweep-clause-performs c =
-    let free : begin_denial (state_of c.finish.new.machine) the_actor c.args.call ≡ None = sym c.denial.ensures ∙ none_of c.denial.result c.in_default.not-Some in
+    let free : begin_denial (state_of c.finish.new.machine) the_actor c.args.call ≡ None = sym c.denial.ensures ∙ option_unfound c.denial.result c.in_default.not-Some in
     let allowed = not_denied c.finish.new.machine c.in_ok-finish.ensures.done c.in_ok-finish.ensures.for_one.0 c.args.call c.requires.change free in
     let is : c.from_residual-in_err-sweep.result ≡ Err c.in_err-sweep.field-0.0 = grind (arith, c.from_residual-in_err-sweep.ensures) in
     subst (λ r. Performs r (state_by c.args.machine.now) c.args.call (state_by c.sweep.new.machine)) (sym is)
@@ -25,7 +26,7 @@ returns-in_err-sweep-clause-performs c =
 
 pub carry_out-result-requires-clause-allowed : goal.carry_out-result-requires-clause-allowed
 carry_out-result-requires-clause-allowed c =
-    let free : begin_denial (state_of c.finish.new.machine) the_actor c.args.call ≡ None = sym c.denial.ensures ∙ none_of c.denial.result c.in_default.not-Some in
+    let free : begin_denial (state_of c.finish.new.machine) the_actor c.args.call ≡ None = sym c.denial.ensures ∙ option_unfound c.denial.result c.in_default.not-Some in
     still_allowed (state_by c.finish.new.machine) (state_by c.sweep.new.machine) c.in_ok-sweep.ensures.same c.args.call
     (not_denied c.finish.new.machine c.in_ok-finish.ensures.done c.in_ok-finish.ensures.for_one.0 c.args.call c.requires.change free)
 

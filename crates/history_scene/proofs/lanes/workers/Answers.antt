@@ -1,8 +1,8 @@
 -- A begin notes its actor, and an end none.
-use Rattle.std.proofs.Common.{◌≡◌, ◌<◌, ◌∙◌, ◌||◌, ℕ, ◌+◌, Bool, Some, false, true, get_or, length, set, slice_get, refl, sym, ap, arith, take, subst, length-set}
-use Rattle.history.specs.declared.events.Event.{Event}
+use Rattle.std.proofs.Common.{◌∙◌, ◌||◌, Bool, Some, false, refl, sym, ap, arith, take, length-set}
 use Rattle.history_scene.specs.Lanes.{is_begin_of, works}
-use Rattle.history_scene.proofs.Working.{at_same, works_more, begin_noted, or_false}
+use Rattle.history_scene.proofs.Working.{at_same, works_more, begin_noted}
+use Rattle.std.proofs.Math.Bool.{or-false}
 use Rattle.history_scene.proofs.lanes.workers.Goals as goal
 use Rattle.history_scene.proofs.lanes.workers.Goals.{in-Begin, in-End}
 
@@ -24,7 +24,7 @@ loop-event-preserved c =
       )
       | in-End w ↦ let x = w.works-is in (
         rw x so_far.0,
-        λ actor lt. rw x (so_far.1 actor lt ∙ ap (λ (b : Bool). Some b) (sym (or_false (works (take i history) actor))
+        λ actor lt. rw x (so_far.1 actor lt ∙ ap (λ (b : Bool). Some b) (sym (or-false (works (take i history) actor))
             ∙ ap (λ e. works (take i history) actor || is_begin_of actor e) (sym w.in-End.is ∙ is) ∙ sym (works_more history i actor event (omega arith)))),
       )
     ]

@@ -18,7 +18,7 @@ returns-in_default-parse c =
     let w = c.args.word.now in
     let read = rw c.in-Ok.ensures.cases.0 at c.parse.ensures.value.0 in
     let m = parsed_number c.args.limit w c.parse.result (omega arith) (omega (arith, eqb-false (length w) 0 (sym c.is_empty.ensures ∙ c.if-is_empty.false)))
-        (sym c.is_odd.ensures ∙ c.if-is_odd.false) read in
+    (sym c.is_odd.ensures ∙ c.if-is_odd.false) read in
     sym (rw c.in_default-parse.is at m)
 
 pub returns-then-number-limit : goal.returns-then-number-limit
@@ -26,7 +26,7 @@ returns-then-number-limit c =
     let w = c.args.word.now in
     let read = rw c.in-Ok.ensures.cases.0 at c.parse.ensures.value.0 in
     let m = parsed_number c.args.limit w c.parse.result (omega arith) (omega (arith, eqb-false (length w) 0 (sym c.is_empty.ensures ∙ c.if-is_empty.false)))
-        (sym c.is_odd.ensures ∙ c.if-is_odd.false) read in
+    (sym c.is_odd.ensures ∙ c.if-is_odd.false) read in
     sym (rw (le-leb c.in-Ok-parse.number c.args.limit c.if-number-limit.true) at (rw c.in-Ok-parse.is at m))
 
 pub returns-else-number-limit : goal.returns-else-number-limit
@@ -34,5 +34,5 @@ returns-else-number-limit c =
     let w = c.args.word.now in
     let read = rw c.in-Ok.ensures.cases.0 at c.parse.ensures.value.0 in
     let m = parsed_number c.args.limit w c.parse.result (omega arith) (omega (arith, eqb-false (length w) 0 (sym c.is_empty.ensures ∙ c.if-is_empty.false)))
-        (sym c.is_odd.ensures ∙ c.if-is_odd.false) read in
+    (sym c.is_odd.ensures ∙ c.if-is_odd.false) read in
     sym (rw (lt-leb c.in-Ok-parse.number c.args.limit c.if-number-limit.false) at (rw c.in-Ok-parse.is at m))

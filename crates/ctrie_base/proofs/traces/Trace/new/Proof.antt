@@ -53,7 +53,7 @@ module _ (T : RattleType) where
         let r : Res (ended T).signature z.0.0 = record { of = record {}; items = [] } in
         let O : Fml = (type_at (ended T).signature.result z.0.0).own_val r (v ∷ []) in
         qed 𝓛 ((raw (alive 𝓛 (ended T).signature z.0.0 z.0.1) ⊛ ‵ (owns (types_at (ended T).signature.params z.0.0) z.0.3 z.0.4)) ∷ raw ((held z.0.0 z.0.3).requires z.1) ∷ []) ∵ split ! $
-            keep ! (0 ∷ []) $
+        keep ! (0 ∷ []) $
         enter ! C Λ function [] _ $ alloc_all ! (λ l. pass_all ! refl tt $
         sets ! (agg ! (no_more !)) refl (tt, tt) $ sets ! (agg ! (and_then ! (get ! refl) (no_more !))) refl (tt, (tt, tt)) $
         returns ! (look_at ! 0 refl) $ free_all ! refl $

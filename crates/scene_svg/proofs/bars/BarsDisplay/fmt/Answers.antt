@@ -13,4 +13,4 @@ loop-bar-preserved g c =
     let within : c.loop-bar.bar-index < length scene.bars.items = omega arith in
     let is : c.bar-item.result ≡ get_or scene.bars.items c.loop-bar.bar-index c.bar-item.result = rw all at c.bar-item.is in
     λ p. has_written_of_eq _ _ _ _ _ (written_item (bar_text scene.events) scene.bars.items c.loop-bar.bar-index c.bar-item.result within is)
-        (has_written_append _ _ _ _ _ _ (c.loop-bar.invariant p) (search rules))
+    (has_written_append _ _ _ _ _ _ (c.loop-bar.invariant p) (search rules))
