@@ -1,6 +1,6 @@
 //! A call on one key, step by step.
 
-ghost use Rattle.std.specs.Prelude.{◌≡◌, List, [], None, IfOk, IfErr, OnOk, OnErr};
+ghost use Rattle.std.specs.Prelude.{◌≡◌, if◌then◌else◌, List, [], None, IfOk, IfErr, OnOk, OnErr};
 ghost use Rattle.slot_arena.specs.declared.refs.Ref.{Ref as ARef};
 ghost use Rattle.history.specs.declared.calls.Access.{Access as AnAccess};
 ghost use Rattle.operate.specs.Beneath.machine_model.specs.Climbing.{climbed, climbing};
@@ -10,7 +10,7 @@ ghost use Rattle.operate.specs.Beneath.machine_model.specs.declared.lines.Line.T
 ghost use Rattle.operate.specs.Beneath.machine_model.specs.declared.operations.Operation.{Operation};
 ghost use Rattle.operate.specs.Beneath.gcas.specs.Reads.{begun, IsAskingRoot};
 ghost use Rattle.trie_parts.specs.Holding.{AreHeld};
-ghost use Rattle.trie_parts.specs.Tasks.{for_task};
+ghost use Rattle.trie_parts.specs.Tasks.{for_task, is_begun_in};
 ghost use Rattle.operate.specs.Beneath.rdcss_root.specs.Acts.{ActsInAll};
 ghost use Rattle.operate.specs.Beneath.rdcss_root.specs.Programs.{root_of, CanRootOn, rooted_at};
 ghost use Rattle.operate.specs.Beneath.rdcss_root.specs.Tables.{word_in};
@@ -257,13 +257,25 @@ impl KeyOp {
                 Next::AskRoot
             }
             Next::Done(kind, found) => {
-                if self.task.is_start(generation_at(heap, found)) {
-                    self.climb_on(single, former);
-                } else {
-                    self.answer(former);
-                }
+                self.climb_again(single, former, generation_at(heap, found));
                 Next::More(kind)
             }
+        }
+    }
+
+    /// After a climb whose swap failed, under a root of this generation.
+    fn climb_again(&mut self, single: Ref, former: Option<u64>, generation: u64)
+        ensures line { (access : AnAccess) (operation : Operation) → key_line self.new None
+            ≡ (if is_begun_in self.old.task generation
+            then climbing (for_task self.old.task access operation) (record { path = self.old.path; single = single; former = former })
+            else climbed (for_task self.old.task access operation) former) }
+        ensures same { (self.new.task ≡ self.old.task) × (self.new.work.private ≡ self.old.work.private) × (self.new.work.swap.read.access ≡ self.old.work.swap.read.access) }
+        ensures stands { ReadsAt self.new.place self.new.work.swap.read }
+    {
+        if self.task.is_start(generation) {
+            self.climb_on(single, former);
+        } else {
+            self.answer(former);
         }
     }
 

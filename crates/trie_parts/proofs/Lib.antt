@@ -1,7 +1,6 @@
 pub mod Counting
 pub mod Depths
 pub mod Capped
-pub mod Stored
 pub mod Partings
 pub mod Unmade
 pub mod Insides

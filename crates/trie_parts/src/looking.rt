@@ -11,7 +11,7 @@ use slot_arena::{Node, Ref};
 use std::slice::from_ref;
 
 /// The node that stands in a slot; where none does, the definition has a branch without entries.
-#[tactic(auto, using(crate::proofs::Stored::stands), unfolding(slot_arena::specs::Heaps::node_at))]
+#[tactic(auto, using(gcas::proofs::Stored::stands), unfolding(slot_arena::specs::Heaps::node_at))]
 pub fn node_at(heap: &Heap, at: Ref) -> Option<&Node>
     ensures { node_at heap.now.heap at ≡ unwrap_or (option_map (λ node. node.now) result) empty_branch }
 {

@@ -1,18 +1,18 @@
-use Rattle.std.specs.Prelude.{◌≡◌, true, false, refl}
+use Rattle.std.specs.Prelude.{◌≡◌, refl}
 use Rattle.std.proofs.Common.{◌∙◌, ap, sym}
 use Rattle.slot_arena.specs.Heaps.{generation_at}
 use Rattle.operate.specs.Beneath.machine_model.specs.declared.reading.After.TheVariants.{Gives}
 use Rattle.operate.specs.Beneath.machine_model.specs.declared.repairs.Climb.{Climb}
 use Rattle.operate.specs.Beneath.machine_model.specs.Climbing.{climb_after_root}
 use Rattle.trie_parts.specs.Here.{at_heap}
-use Rattle.trie_parts.specs.Tasks.{for_task, is_begun_in}
+use Rattle.trie_parts.specs.Tasks.{for_task}
 use Rattle.operate.specs.Beneath.rdcss_root.specs.Programs.{root_of}
 use Rattle.operate.specs.Beneath.rdcss_root.specs.Tables.{word_in}
 use Rattle.operate.proofs.Rooting.{came, unread}
 use Rattle.operate.proofs.key_op.KeyOp.find_root_again.Goals as goal
 
-pub returns-then-is_start-clause-follows : goal.returns-then-is_start-clause-follows
-returns-then-is_start-clause-follows c =
+pub returns-in-Done-clause-follows : goal.returns-in-Done-clause-follows
+returns-in-Done-clause-follows c =
     let me = c.args.self.now in
     let heap = c.args.heap.now.heap in
     let access = me.work.swap.read.access in
@@ -22,31 +22,10 @@ returns-then-is_start-clause-follows c =
     let climb : Climb = record { path = me.path; single = c.args.single; former = c.args.former } in
     let same_heap : c.step.new.heap.heap ≡ heap = c.in-Done.ensures.heap ∙ rw told.2 refl in
     let gen : c.generation_at.result ≡ generation_at heap found = c.generation_at.ensures ∙ ap (λ h. generation_at h found) same_heap in
-    let test : is_begun_in me.task (generation_at heap found) ≡ true = rw (← gen, ← c.is_start.ensures) c.if-is_start.true in
     λ state operation w. (
       told.0,
       ap (climb_after_root (at_heap state heap me.task.hashes) (for_task me.task access operation) climb)
           (came state operation heap me.task access (word_in c.args.roots.now c.args.handle) c.step.new.read before (Gives found) w c.in-Done.ensures.access told.1)
-          ∙ rw test (sym (c.climb_on.ensures.line access operation)),
-      unread heap access before c.in-Done.kind _ told.2 told.0,
-    )
-
-pub returns-else-is_start-clause-follows : goal.returns-else-is_start-clause-follows
-returns-else-is_start-clause-follows c =
-    let me = c.args.self.now in
-    let heap = c.args.heap.now.heap in
-    let access = me.work.swap.read.access in
-    let told = c.in-Done.ensures.follows in
-    let found = c.in-Done.found in
-    let before = root_of c.args.root me.work.swap.read c.args.root_seen in
-    let climb : Climb = record { path = me.path; single = c.args.single; former = c.args.former } in
-    let same_heap : c.step.new.heap.heap ≡ heap = c.in-Done.ensures.heap ∙ rw told.2 refl in
-    let gen : c.generation_at.result ≡ generation_at heap found = c.generation_at.ensures ∙ ap (λ h. generation_at h found) same_heap in
-    let test : is_begun_in me.task (generation_at heap found) ≡ false = rw (← gen, ← c.is_start.ensures) c.if-is_start.false in
-    λ state operation w. (
-      told.0,
-      ap (climb_after_root (at_heap state heap me.task.hashes) (for_task me.task access operation) climb)
-          (came state operation heap me.task access (word_in c.args.roots.now c.args.handle) c.step.new.read before (Gives found) w c.in-Done.ensures.access told.1)
-          ∙ rw test (sym (c.answer.ensures.line access operation)),
+          ∙ rw (← gen) (sym (c.climb_again.ensures.line access operation)),
       unread heap access before c.in-Done.kind _ told.2 told.0,
     )
