@@ -14,24 +14,24 @@ use Rattle.machine_model.specs.declared.reading.ReadLine.TheVariants as read
 use Rattle.machine_model.specs.Calls.{handle_of}
 use Rattle.machine_model.specs.Operations.{action_of, line_action, read_of}
 use Rattle.machine_model.specs.States.{State}
-use Rattle.proof_memory.specs.Wants.{action_wants, line_wants}
-use Rattle.gcas.specs.declared.read.Read.{Read}
-use Rattle.gcas.specs.declared.read.ReadAt.{ReadAt}
-use Rattle.gcas.specs.declared.read.ReadAt.TheVariants as at
-use Rattle.gcas.specs.Reads.{line_of}
+use Rattle.machine_core.specs.Beneath.proof_memory.specs.Wants.{action_wants, line_wants}
+use Rattle.machine_core.specs.Beneath.gcas.specs.declared.read.Read.{Read}
+use Rattle.machine_core.specs.Beneath.gcas.specs.declared.read.ReadAt.{ReadAt}
+use Rattle.machine_core.specs.Beneath.gcas.specs.declared.read.ReadAt.TheVariants as at
+use Rattle.machine_core.specs.Beneath.gcas.specs.Reads.{line_of}
 use Rattle.trie_parts.specs.Steps.{IsAskingLine}
 use Rattle.trie_parts.specs.Tasks.{call_of as key_call}
 use Rattle.trie_parts.specs.declared.calls.KeyCall.{KeyCall}
-use Rattle.rdcss_root.specs.Holds.{IsReady, root_refs}
-use Rattle.rdcss_root.specs.Programs.{CanAbortOn}
-use Rattle.rdcss_root.specs.Tables.{Table}
-use Rattle.root_asking.specs.declared.asking.Asking.{Asking}
-use Rattle.root_asking.specs.declared.asking.Asking.TheVariants.{Unasked, Met, Told}
-use Rattle.root_asking.specs.Asked.{abort_of}
-use Rattle.root_asking.specs.Inside.{with_read}
-use Rattle.root_asking.proofs.Holding.{each_holds}
-use Rattle.operate.specs.Steps.{operation_for as as_key}
-use Rattle.snapshot.specs.Copies.{IsReadyBeside}
+use Rattle.machine_core.specs.Beneath.rdcss_root.specs.Holds.{IsReady, root_refs}
+use Rattle.machine_core.specs.Beneath.rdcss_root.specs.Programs.{CanAbortOn}
+use Rattle.machine_core.specs.Beneath.rdcss_root.specs.Tables.{Table}
+use Rattle.machine_core.specs.Beneath.root_asking.specs.declared.asking.Asking.{Asking}
+use Rattle.machine_core.specs.Beneath.root_asking.specs.declared.asking.Asking.TheVariants.{Unasked, Met, Told}
+use Rattle.machine_core.specs.Beneath.root_asking.specs.Asked.{abort_of}
+use Rattle.machine_core.specs.Beneath.root_asking.specs.Inside.{with_read}
+use Rattle.machine_core.specs.Beneath.root_asking.proofs.Holding.{each_holds}
+use Rattle.machine_core.specs.Beneath.operate.specs.Steps.{operation_for as as_key}
+use Rattle.machine_core.specs.Beneath.snapshot.specs.Copies.{IsReadyBeside}
 use Rattle.running.specs.declared.job.Program.{Program}
 use Rattle.running.specs.declared.job.Program.TheVariants.{Key, Snap, Entries, Count, Close}
 use Rattle.running.specs.declared.programs.Programs.{Programs}
@@ -115,9 +115,10 @@ module _ (state : State) (memory : Memory) (table : Table) (generation : ℕ) (p
       let l : Line = program_line p None program in
       let h : Asks p.key.work.swap.read l = asks p program asking in
       let acts = ap (line_action (There state memory table generation p) (Own table p u program)) (asked p program (Met offer) h)
-          ∙ (each_holds l _ h.reads).acts (There state memory table generation p) (Own table p u program) (read.Abort h.main h.previous offer) in
-      (root_live memory.heap offer (subst (λ (a : Action). Lives memory.heap (action_wants a)) acts finds.does),
-      record { held = ready.held; room = λ r. omega (arith, ready.room r) })
+      ∙ (each_holds l _ h.reads).acts (There state memory table generation p) (Own table p u program) (read.Abort h.main h.previous offer) in (
+        root_live memory.heap offer (subst (λ (a : Action). Lives memory.heap (action_wants a)) acts finds.does),
+        record { held = ready.held; room = λ r. omega (arith, ready.room r) },
+      )
 
   can_abort : (program : Program) (stage : Stage) (asking : Asking) → IsWaiting asking (stage_line p None program stage) →
       Finds memory.heap (There state memory table generation p) (Own table p u program) (asking_line p program stage asking) → CanAbortOn memory table (abort_of asking)
@@ -144,7 +145,7 @@ can_step state memory table generation p u line action sound ready births attemp
     let operation : Operation = operation_at table p u in
     let root_ready : IsReady memory table.roots 8 = record { held = λ r. omega (arith, ready.held r); room = ready.room } in
     let finds : Finds memory.heap there operation (line_for u.program p) =
-        record { reads = λ r is. read_claims (IsLive memory.heap) memory.heap r there.limits.hash operation.call operation.access (line_for u.program p) is line; does = action; births = births } in
+    record { reads = λ r is. read_claims (IsLive memory.heap) memory.heap r there.limits.hash operation.call operation.access (line_for u.program p) is line; does = action; births = births } in
     record {
       runs = can_stage state memory table generation p u root_ready u.program p.stage sound.begun sound.waits sound.reads finds;
       abort = can_abort state memory table generation p u root_ready u.program p.stage p.asking sound.waits finds;

@@ -13,12 +13,12 @@ use Rattle.machine_model.proofs.Along.{limits_along}
 use Rattle.machine_model.specs.Grown.{standing}
 use Rattle.machine_model.specs.Operations.{action_of}
 use Rattle.machine_model.specs.States.{State, operation_of}
-use Rattle.proof_memory.specs.Laws.{IsInUse}
-use Rattle.proof_memory.specs.Wants.{action_wants, line_wants}
-use Rattle.proof_memory.proofs.Claims.Uses.{all_carried, same_node}
-use Rattle.proof_memory.proofs.Holding.Lives.{in_use_lives}
-use Rattle.proof_memory.proofs.Safety.AtEachTime.{safe_along}
-use Rattle.proof_memory.proofs.Safety.AtTimes.{line_finds_in}
+use Rattle.machine_core.specs.Beneath.proof_memory.specs.Laws.{IsInUse}
+use Rattle.machine_core.specs.Beneath.proof_memory.specs.Wants.{action_wants, line_wants}
+use Rattle.machine_core.specs.Beneath.proof_memory.proofs.Claims.Uses.{all_carried, same_node}
+use Rattle.machine_core.specs.Beneath.proof_memory.proofs.Holding.Lives.{in_use_lives}
+use Rattle.machine_core.specs.Beneath.proof_memory.proofs.Safety.AtEachTime.{safe_along}
+use Rattle.machine_core.specs.Beneath.proof_memory.proofs.Safety.AtTimes.{line_finds_in}
 use Rattle.running.specs.Places.{IsSound}
 use Rattle.running.specs.Steps.{CanStep, at_scene, scene}
 use Rattle.machine_core.specs.declared.parts.Actor.{Actor}

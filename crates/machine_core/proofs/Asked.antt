@@ -28,16 +28,16 @@ use Rattle.machine_model.specs.Machine.{run}
 use Rattle.machine_model.specs.Operations.{action_of, kind_of, line_action}
 use Rattle.machine_model.specs.Orders.{closing_for, counted_from, place_of}
 use Rattle.machine_model.specs.States.{State, operation_of, word_at}
-use Rattle.proof_memory.specs.Laws.{IsInUse}
-use Rattle.proof_memory.specs.Wants.{AllHold, action_wants}
-use Rattle.proof_memory.proofs.Claims.Uses.{safe_of}
-use Rattle.proof_memory.proofs.Holding.Lives.{in_use_lives}
-use Rattle.proof_memory.proofs.Safety.AtEachTime.{safe_along}
-use Rattle.proof_memory.proofs.Safety.AtTimes.{action_finds}
-use Rattle.proof_generations.proofs.Roots.OfLists.{below_along, standing_below}
+use Rattle.machine_core.specs.Beneath.proof_memory.specs.Laws.{IsInUse}
+use Rattle.machine_core.specs.Beneath.proof_memory.specs.Wants.{AllHold, action_wants}
+use Rattle.machine_core.specs.Beneath.proof_memory.proofs.Claims.Uses.{safe_of}
+use Rattle.machine_core.specs.Beneath.proof_memory.proofs.Holding.Lives.{in_use_lives}
+use Rattle.machine_core.specs.Beneath.proof_memory.proofs.Safety.AtEachTime.{safe_along}
+use Rattle.machine_core.specs.Beneath.proof_memory.proofs.Safety.AtTimes.{action_finds}
+use Rattle.machine_core.specs.Beneath.proof_generations.proofs.Roots.OfLists.{below_along, standing_below}
 use Rattle.proof_records.specs.Beneath.proof_order.proofs.History.PlacesPast.{places_past}
 use Rattle.proof_records.specs.Laws.{HaveIds}
-use Rattle.snapshot.specs.Tasks.{drawn, drawn_by}
+use Rattle.machine_core.specs.Beneath.snapshot.specs.Tasks.{drawn, drawn_by}
 use Rattle.running.specs.declared.taken.Taken.{Taken}
 use Rattle.running.specs.Carried.{carried_by}
 use Rattle.running.proofs.Fresh.{SwapsFresh, swaps_fresh}
@@ -79,6 +79,7 @@ entered_ids state main operation n less = by (swaps_in main operation.line)
   where
     place : Place
     place = place_of state operation state.steps false
+
     by : (b : Bool) → All (λ (p : Place). p.id < n) (if b then place_of state operation state.steps false ∷ [] else [])
     by true =
         All-cons (λ (p : Place). p.id < n) (place_of state operation state.steps false) []
@@ -87,7 +88,8 @@ entered_ids state main operation n less = by (swaps_in main operation.line)
 
 -- ---- what an action publishes
 
-only_publish : (state : State) (operation : Operation) (l : Line) (indirection replaced fresh x : Ref) → line_action state operation l ≡ act.Publish indirection replaced fresh → SwapsFresh x l → fresh ≡ x
+only_publish : (state : State) (operation : Operation) (l : Line) (indirection replaced fresh x : Ref) →
+    line_action state operation l ≡ act.Publish indirection replaced fresh → SwapsFresh x l → fresh ≡ x
 only_publish state operation l indirection replaced fresh x e swaps = grind (arith, e, swaps)
 
 -- a swap of a main word from which no READ counts puts the fresh node in its place
@@ -115,8 +117,8 @@ root_drawn : (state : State) → IsOfRun state → (r : Ref) → IsInUse state.h
 root_drawn state h r used =
     subst (λ (s : State). IsInUse s.heap r → generation_at s.heap r < s.generations) (sym h.is)
     (λ there.
-        subst (λ n. generation_of n < (run state.limits h.steps).generations) (sym (node_standing (run state.limits h.steps).heap r there.0 there.1))
-        (standing_below (run state.limits h.steps) (below_along state.limits h.limits h.steps) r there.0 there.1))
+    subst (λ n. generation_of n < (run state.limits h.steps).generations) (sym (node_standing (run state.limits h.steps).heap r there.0 there.1))
+    (standing_below (run state.limits h.steps) (below_along state.limits h.limits h.steps) r there.0 there.1))
     used
 
 for_offer : (o : Option Descriptor) (P : Descriptor → Type 0) → ((offer : Descriptor) → o ≡ Some offer → P offer) → MatchOption o (Unit {0}) P
@@ -172,7 +174,7 @@ module _ (before : Parts) (actor : ℕ) (u next : UnderWay) (taken : Taken) (now
       let p = publishes (action_of (seen before) own) taken.counts (took.kind ∙ swaps) none (took.counts 1 0) in
       let wants = subst (λ (a : Action). AllHold (IsLive before.heap.heap) before.heap.heap (action_wants a)) p.3 (claims (seen before) actor own run (operation_there before actor u t.seat)) in
       let mine : p.2 ≡ fresh =
-          only_publish (seen before) own own.line p.0 p.1 p.2 t.seat.found.programs.key.work.swap.fresh p.3 (swaps_fresh t.seat.found.programs u.program) ∙ sym same in
+      only_publish (seen before) own own.line p.0 p.1 p.2 t.seat.found.programs.key.work.swap.fresh p.3 (swaps_fresh t.seat.found.programs u.program) ∙ sym same in
       (changes before actor u next taken now t run kept is).acts.stay fresh (subst (IsLive before.heap.heap) mine (safe_of wants.1.1.0))
 
   root_below : (offer : Descriptor) → now.table.carried ≡ Some offer → generation_at now.heap.heap offer.root < now.journal.chronicle.generations
@@ -180,9 +182,10 @@ module _ (before : Parts) (actor : ℕ) (u next : UnderWay) (taken : Taken) (now
       let own : Operation = operation_at before.table t.seat.found.programs u in
       let carried : carried_now (seen before) own ≡ Some offer = sym (carried_is before actor u next taken now t run kept is) ∙ e in
       let c : Carries (word_at (seen before) (handle_of own.call)) (action_of (seen before) own) offer =
-          carries (word_at (seen before) (handle_of own.call)) (action_of (seen before) own) offer carried in
+      carries (word_at (seen before) (handle_of own.call)) (action_of (seen before) own) offer carried in
       let used : IsInUse before.heap.heap offer.root =
-          safe_of (subst (λ (a : Action). AllHold (IsInUse before.heap.heap) before.heap.heap (action_wants a)) c.is (action_used (seen before) run actor own (operation_there before actor u t.seat))).1.0 in
+      safe_of (subst (λ (a : Action). AllHold (IsInUse before.heap.heap) before.heap.heap (action_wants a)) c.is
+      (action_used (seen before) run actor own (operation_there before actor u t.seat))).1.0 in
       let below = root_drawn (seen before) run offer.root used in
       let heap = ap (λ h. generation_at h offer.root) (heap_stays before actor u next taken now t run kept is offer carried) in
       omega (arith, below, heap, kept.generations, ap (λ (x : Parts). x.journal.chronicle.generations) t.rest)
@@ -192,7 +195,7 @@ module _ (before : Parts) (actor : ℕ) (u next : UnderWay) (taken : Taken) (now
       let own : Operation = operation_at before.table t.seat.found.programs u in
       let carried : carried_now (seen before) own ≡ Some offer = sym (carried_is before actor u next taken now t run kept is) ∙ e in
       let c : Carries (word_at (seen before) (handle_of own.call)) (action_of (seen before) own) offer =
-          carries (word_at (seen before) (handle_of own.call)) (action_of (seen before) own) offer carried in
+      carries (word_at (seen before) (handle_of own.call)) (action_of (seen before) own) offer carried in
       let given = offer_given (seen before) run (handle_of own.call) c.other c.stands in
       omega (arith, given, c.same, less, kept.begun_are)
 

@@ -27,8 +27,8 @@ use Rattle.machine_model.specs.Machine.{access_of, begin_denial, handle_closed, 
 use Rattle.machine_model.specs.Moves.{begun_operation}
 use Rattle.machine_model.specs.Operations.{first_line}
 use Rattle.machine_model.specs.States.{State, operation_of, root_at, with_operation, word_of}
-use Rattle.rdcss_root.specs.Holds.{Moves, root_refs}
-use Rattle.rdcss_root.specs.Tables.{Table, word_in}
+use Rattle.machine_core.specs.Beneath.rdcss_root.specs.Holds.{Moves, root_refs}
+use Rattle.machine_core.specs.Beneath.rdcss_root.specs.Tables.{Table, word_in}
 use Rattle.running.specs.Places.{IsSound, call_for}
 use Rattle.machine_core.specs.declared.parts.Actor.{Actor}
 use Rattle.machine_core.specs.declared.parts.Parts.{Parts}
@@ -202,8 +202,8 @@ module _ (before middle after : Parts) (actor : ℕ) (call : Call) (u : UnderWay
         };
         offerers = offerers_over before.table after.table (seen before) (seen after) (ap (λ (t : Table). t.offerers) a.table ∙ ap (λ (p : Parts). p.table.offerers) a.same) words
             (λ handle offer stood other o found is. elim (runs other o found) [
-            | inl ran ↦ ran
-            | inr put ↦ absurd (omega (arith, offer_given (seen before) run handle offer (words handle offer stood), is, ap (λ (x : Operation). x.id) (same_Some operation o put)))
+              | inl ran ↦ ran
+              | inr put ↦ absurd (omega (arith, offer_given (seen before) run handle offer (words handle offer stood), is, ap (λ (x : Operation). x.id) (same_Some operation o put)))
             ]) h.offerers;
         owners = owners_over before.heap after.heap (seen before) (seen after) (ap (λ (m : Memory). m.owners) a.heap ∙ kept.remarks.0)
             (λ main slot e. subst (λ (x : Heap). standing x main ≡ Some slot) (ap (λ (m : Memory). m.heap) a.heap ∙ kept.heap) e)

@@ -31,8 +31,9 @@ use Rattle.machine_model.specs.declared.roots.RootWord.TheVariants.{Plain, Offer
 use Rattle.machine_model.specs.declared.walking.WalkLine.TheVariants as walk
 use Rattle.machine_model.specs.Counting.{refs_of_word}
 use Rattle.machine_model.specs.Operations.{completing_read, read_of, rooting_read, swapping_read}
-use Rattle.proof_memory.specs.Wants.{AllHold, AnEntry, AnIndirection, ASingle, Claim, Wanted, climb_carries, complete_wants, copy_wants, done_wants, line_wants, node_wants, offer_wants, path_wants, purpose_wants, read_wants, root_wants, swap_line_wants, swap_wants, walk_wants}
-use Rattle.proof_memory.proofs.Claims.Uses.{Meets, all_of, first_hold, last_hold, safe_of}
+use Rattle.machine_core.specs.Beneath.proof_memory.specs.Wants.{AllHold, AnEntry, AnIndirection, ASingle, Claim, Wanted, climb_carries, complete_wants, copy_wants, done_wants, line_wants}
+use Rattle.machine_core.specs.Beneath.proof_memory.specs.Wants.{node_wants, offer_wants, path_wants, purpose_wants, read_wants, root_wants, swap_line_wants, swap_wants, walk_wants}
+use Rattle.machine_core.specs.Beneath.proof_memory.proofs.Claims.Uses.{Meets, all_of, first_hold, last_hold, safe_of}
 
 -- the claims are true of what is in use
 abbrev pub Lives : Heap → List Claim → Type 0

@@ -24,59 +24,59 @@ use Rattle.machine_model.specs.Operations.{completing_read, line_action, read_of
 use Rattle.machine_model.specs.Paths.{above}
 use Rattle.machine_model.specs.States.{State}
 use Rattle.machine_model.specs.Swapping.{action_at, complete_action_at, root_action}
-use Rattle.proof_memory.specs.Wants.{action_wants, offer_wants, read_wants}
-use Rattle.proof_memory.proofs.Claims.Uses.{meets_of, safe_of}
-use Rattle.operate.specs.Beneath.gcas.specs.declared.read.Read.{Read}
-use Rattle.operate.specs.Beneath.gcas.specs.declared.read.ReadAt.{ReadAt}
-use Rattle.operate.specs.Beneath.gcas.specs.declared.read.ReadAt.TheVariants as at
-use Rattle.operate.specs.Beneath.gcas.specs.declared.swap.Swap.{Swap}
-use Rattle.operate.specs.Beneath.gcas.specs.declared.swap.SwapAt.{SwapAt}
-use Rattle.operate.specs.Beneath.gcas.specs.declared.swap.SwapAt.TheVariants as swap
-use Rattle.operate.specs.Beneath.gcas.specs.Reads.{CanReadAt, CanReadOn, line_at, line_of}
-use Rattle.operate.specs.Beneath.gcas.specs.Swaps.{CanSwapAt, swap_line_at}
+use Rattle.machine_core.specs.Beneath.proof_memory.specs.Wants.{action_wants, offer_wants, read_wants}
+use Rattle.machine_core.specs.Beneath.proof_memory.proofs.Claims.Uses.{meets_of, safe_of}
+use Rattle.machine_core.specs.Beneath.operate.specs.Beneath.gcas.specs.declared.read.Read.{Read}
+use Rattle.machine_core.specs.Beneath.operate.specs.Beneath.gcas.specs.declared.read.ReadAt.{ReadAt}
+use Rattle.machine_core.specs.Beneath.operate.specs.Beneath.gcas.specs.declared.read.ReadAt.TheVariants as at
+use Rattle.machine_core.specs.Beneath.operate.specs.Beneath.gcas.specs.declared.swap.Swap.{Swap}
+use Rattle.machine_core.specs.Beneath.operate.specs.Beneath.gcas.specs.declared.swap.SwapAt.{SwapAt}
+use Rattle.machine_core.specs.Beneath.operate.specs.Beneath.gcas.specs.declared.swap.SwapAt.TheVariants as swap
+use Rattle.machine_core.specs.Beneath.operate.specs.Beneath.gcas.specs.Reads.{CanReadAt, CanReadOn, line_at, line_of}
+use Rattle.machine_core.specs.Beneath.operate.specs.Beneath.gcas.specs.Swaps.{CanSwapAt, swap_line_at}
 use Rattle.trie_parts.specs.Here.{at_heap}
 use Rattle.trie_parts.specs.Steps.{CanMake}
 use Rattle.trie_parts.specs.Tasks.{for_task}
-use Rattle.rdcss_root.specs.declared.complete.CompleteAt.{CompleteAt}
-use Rattle.rdcss_root.specs.declared.complete.CompleteAt.TheVariants as complete
-use Rattle.rdcss_root.specs.declared.root.ReadRoot.{ReadRoot}
-use Rattle.rdcss_root.specs.declared.root.ReadRoot.TheVariants as rooting
-use Rattle.rdcss_root.specs.Holds.{IsReady}
-use Rattle.rdcss_root.specs.Programs.{CanCompleteAt, CanRootOn, ReadsItsRoot, ReadsOffered, complete_line_at, root_of}
-use Rattle.rdcss_root.specs.Tables.{Table}
-use Rattle.root_asking.specs.Inside.{completing_at, rooting_at, swapping_at, with_read}
-use Rattle.operate.specs.Beneath.key_change.specs.declared.building.Building.{Building}
-use Rattle.operate.specs.Beneath.key_change.specs.declared.change.ChangeAt.{ChangeAt}
-use Rattle.operate.specs.Beneath.key_change.specs.declared.change.ChangeAt.TheVariants as change
-use Rattle.operate.specs.Beneath.key_change.specs.Built.{build_line, built}
-use Rattle.operate.specs.Beneath.key_change.specs.Lines.{line_at as change_at}
-use Rattle.operate.specs.Beneath.key_change.specs.Steps.{CanChangeAt}
-use Rattle.operate.specs.Beneath.key_change.proofs.Made.{builds}
-use Rattle.operate.specs.Beneath.contract.specs.declared.clean.CleanAt.{CleanAt}
-use Rattle.operate.specs.Beneath.contract.specs.declared.clean.CleanAt.TheVariants as clean
-use Rattle.operate.specs.Beneath.contract.specs.declared.climb.ClimbAt.{ClimbAt}
-use Rattle.operate.specs.Beneath.contract.specs.declared.climb.ClimbAt.TheVariants as climb
-use Rattle.operate.specs.Beneath.contract.specs.declared.renew.RenewAt.{RenewAt}
-use Rattle.operate.specs.Beneath.contract.specs.declared.renew.RenewAt.TheVariants as renew
-use Rattle.operate.specs.Beneath.contract.specs.Cleaning.{CanCleanAt, clean_line_at}
-use Rattle.operate.specs.Beneath.contract.specs.Climbing.{CanClimbAt, climb_line_at, climb_of}
-use Rattle.operate.specs.Beneath.contract.specs.Renewing.{CanRenewAt, renew_line_at}
-use Rattle.operate.specs.Beneath.contract.proofs.Made.{climbs}
-use Rattle.operate.specs.declared.key_op.BelowAt.{BelowAt}
-use Rattle.operate.specs.declared.key_op.BelowAt.TheVariants as below
-use Rattle.operate.specs.declared.key_op.KeyAt.{KeyAt}
-use Rattle.operate.specs.declared.key_op.KeyAt.TheVariants as key
-use Rattle.operate.specs.declared.key_op.KeyOp.{KeyOp}
-use Rattle.operate.specs.Places.{below_line, key_line_at}
-use Rattle.operate.specs.Steps.{CanBelow, CanKeyAt, ReadsAt, operation_for}
-use Rattle.snapshot.specs.declared.snap.Making.{Making}
-use Rattle.snapshot.specs.declared.snap.Making.TheVariants as making
-use Rattle.snapshot.specs.declared.snap.SnapAt.{SnapAt}
-use Rattle.snapshot.specs.declared.snap.SnapAt.TheVariants as snap
-use Rattle.snapshot.specs.declared.walk.WalkAt.{WalkAt}
-use Rattle.snapshot.specs.declared.walk.WalkAt.TheVariants as walk
-use Rattle.snapshot.specs.Copies.{CanSnapAt, made_node, making_line, snap_line_at, ReadsAt as SnapReadsAt}
-use Rattle.snapshot.specs.Walks.{CanWalkAt, walk_line_at}
+use Rattle.machine_core.specs.Beneath.rdcss_root.specs.declared.complete.CompleteAt.{CompleteAt}
+use Rattle.machine_core.specs.Beneath.rdcss_root.specs.declared.complete.CompleteAt.TheVariants as complete
+use Rattle.machine_core.specs.Beneath.rdcss_root.specs.declared.root.ReadRoot.{ReadRoot}
+use Rattle.machine_core.specs.Beneath.rdcss_root.specs.declared.root.ReadRoot.TheVariants as rooting
+use Rattle.machine_core.specs.Beneath.rdcss_root.specs.Holds.{IsReady}
+use Rattle.machine_core.specs.Beneath.rdcss_root.specs.Programs.{CanCompleteAt, CanRootOn, ReadsItsRoot, ReadsOffered, complete_line_at, root_of}
+use Rattle.machine_core.specs.Beneath.rdcss_root.specs.Tables.{Table}
+use Rattle.machine_core.specs.Beneath.root_asking.specs.Inside.{completing_at, rooting_at, swapping_at, with_read}
+use Rattle.machine_core.specs.Beneath.operate.specs.Beneath.key_change.specs.declared.building.Building.{Building}
+use Rattle.machine_core.specs.Beneath.operate.specs.Beneath.key_change.specs.declared.change.ChangeAt.{ChangeAt}
+use Rattle.machine_core.specs.Beneath.operate.specs.Beneath.key_change.specs.declared.change.ChangeAt.TheVariants as change
+use Rattle.machine_core.specs.Beneath.operate.specs.Beneath.key_change.specs.Built.{build_line, built}
+use Rattle.machine_core.specs.Beneath.operate.specs.Beneath.key_change.specs.Lines.{line_at as change_at}
+use Rattle.machine_core.specs.Beneath.operate.specs.Beneath.key_change.specs.Steps.{CanChangeAt}
+use Rattle.machine_core.specs.Beneath.operate.specs.Beneath.key_change.proofs.Made.{builds}
+use Rattle.machine_core.specs.Beneath.operate.specs.Beneath.contract.specs.declared.clean.CleanAt.{CleanAt}
+use Rattle.machine_core.specs.Beneath.operate.specs.Beneath.contract.specs.declared.clean.CleanAt.TheVariants as clean
+use Rattle.machine_core.specs.Beneath.operate.specs.Beneath.contract.specs.declared.climb.ClimbAt.{ClimbAt}
+use Rattle.machine_core.specs.Beneath.operate.specs.Beneath.contract.specs.declared.climb.ClimbAt.TheVariants as climb
+use Rattle.machine_core.specs.Beneath.operate.specs.Beneath.contract.specs.declared.renew.RenewAt.{RenewAt}
+use Rattle.machine_core.specs.Beneath.operate.specs.Beneath.contract.specs.declared.renew.RenewAt.TheVariants as renew
+use Rattle.machine_core.specs.Beneath.operate.specs.Beneath.contract.specs.Cleaning.{CanCleanAt, clean_line_at}
+use Rattle.machine_core.specs.Beneath.operate.specs.Beneath.contract.specs.Climbing.{CanClimbAt, climb_line_at, climb_of}
+use Rattle.machine_core.specs.Beneath.operate.specs.Beneath.contract.specs.Renewing.{CanRenewAt, renew_line_at}
+use Rattle.machine_core.specs.Beneath.operate.specs.Beneath.contract.proofs.Made.{climbs}
+use Rattle.machine_core.specs.Beneath.operate.specs.declared.key_op.BelowAt.{BelowAt}
+use Rattle.machine_core.specs.Beneath.operate.specs.declared.key_op.BelowAt.TheVariants as below
+use Rattle.machine_core.specs.Beneath.operate.specs.declared.key_op.KeyAt.{KeyAt}
+use Rattle.machine_core.specs.Beneath.operate.specs.declared.key_op.KeyAt.TheVariants as key
+use Rattle.machine_core.specs.Beneath.operate.specs.declared.key_op.KeyOp.{KeyOp}
+use Rattle.machine_core.specs.Beneath.operate.specs.Places.{below_line, key_line_at}
+use Rattle.machine_core.specs.Beneath.operate.specs.Steps.{CanBelow, CanKeyAt, ReadsAt, operation_for}
+use Rattle.machine_core.specs.Beneath.snapshot.specs.declared.snap.Making.{Making}
+use Rattle.machine_core.specs.Beneath.snapshot.specs.declared.snap.Making.TheVariants as making
+use Rattle.machine_core.specs.Beneath.snapshot.specs.declared.snap.SnapAt.{SnapAt}
+use Rattle.machine_core.specs.Beneath.snapshot.specs.declared.snap.SnapAt.TheVariants as snap
+use Rattle.machine_core.specs.Beneath.snapshot.specs.declared.walk.WalkAt.{WalkAt}
+use Rattle.machine_core.specs.Beneath.snapshot.specs.declared.walk.WalkAt.TheVariants as walk
+use Rattle.machine_core.specs.Beneath.snapshot.specs.Copies.{CanSnapAt, made_node, making_line, snap_line_at, ReadsAt as SnapReadsAt}
+use Rattle.machine_core.specs.Beneath.snapshot.specs.Walks.{CanWalkAt, walk_line_at}
 use Rattle.machine_core.proofs.Claims.{Lives, node_live, offer_live}
 
 -- ---- a READ
@@ -174,7 +174,8 @@ module _ (memory : Memory) (table : Table) (state : State) (operation : Operatio
 -- ---- a call on one key
 
 module _ (memory : Memory) (table : Table) (other : State) (beside : Operation) (ready : IsReady memory table.roots 8) (op : KeyOp) (here : ReadLine) (stands : Stands op.work.swap.read here) where
-  can_change : (main : Ref) (place : ChangeAt) → Finds memory.heap (at_heap other memory.heap op.task.hashes) (operation_for op beside) (with_read here (change_at op.path op.work.swap None main place)) →
+  can_change : (main : Ref) (place : ChangeAt) →
+      Finds memory.heap (at_heap other memory.heap op.task.hashes) (operation_for op beside) (with_read here (change_at op.path op.work.swap None main place)) →
       CanChangeAt memory.heap op.task op.path op.work.swap main place
   can_change main (change.Sibling position former) finds = tt
   can_change main (change.Build building) finds =

@@ -36,9 +36,9 @@ use Rattle.machine_model.specs.States.{State, operation_of, word_at}
 use Rattle.proof_records.specs.Laws.{EntersAlone}
 use Rattle.proof_records.proofs.Owners.{owner_enters}
 use Rattle.proof_records.specs.Beneath.proof_commits.specs.Laws.{IsInSwap}
-use Rattle.root_asking.proofs.Holding.{each_holds}
+use Rattle.machine_core.specs.Beneath.root_asking.proofs.Holding.{each_holds}
 use Rattle.trie_parts.specs.Holding.{remarked}
-use Rattle.snapshot.specs.Tasks.{with_generation}
+use Rattle.machine_core.specs.Beneath.snapshot.specs.Tasks.{with_generation}
 use Rattle.running.specs.declared.taken.Taken.{Taken}
 use Rattle.running.specs.Places.{generation_in, line_for}
 use Rattle.machine_core.specs.declared.parts.Actor.{Actor}
@@ -119,11 +119,10 @@ deciding_stays : (state : State) (operation : Operation) (why : Purpose) (indire
     own ≡ line.Swap why (record { indirection = indirection; replaced = replaced; fresh = fresh; line = Deciding l }) →
     (swaps_in main (line_after state operation own) ≡ swaps_in main own) × (generation_from state operation own ≡ operation.generation)
 deciding_stays state operation why indirection replaced fresh main l own is =
-    let s : Swap = record { indirection = indirection; replaced = replaced; fresh = fresh; line = Deciding l } in
-    (
+    let s : Swap = record { indirection = indirection; replaced = replaced; fresh = fresh; line = Deciding l } in (
       ap (λ x. swaps_in main (line_after state operation x)) is
-      ∙ stays_swap state operation why s main (read_after state.heap operation.access (word_at state (handle_of operation.call)) indirection l)
-      ∙ ap (swaps_in main) (sym is),
+          ∙ stays_swap state operation why s main (read_after state.heap operation.access (word_at state (handle_of operation.call)) indirection l)
+          ∙ ap (swaps_in main) (sym is),
       ap (generation_from state operation) is,
     )
 
@@ -163,17 +162,17 @@ module _ (before : Parts) (actor : ℕ) (u next : UnderWay) (taken : Taken) (now
   by_itself same runs =
       let own : Operation = operation_at before.table t.seat.found.programs u in
       let mine : own ≡ alone.owner.operation =
-          same_Some own alone.owner.operation (sym (operation_there before actor u t.seat) ∙ ap (operation_of (seen before)) (sym same) ∙ alone.owner.runs) in
+      same_Some own alone.owner.operation (sym (operation_there before actor u t.seat) ∙ ap (operation_of (seen before)) (sym same) ∙ alone.owner.runs) in
       let swaps = alone.owner.swaps in
       let stands : own.line ≡ line.Swap swaps.0 (record { indirection = alone.indirection; replaced = alone.replaced; fresh = main; line = Deciding alone.owner.line }) =
-          ap (λ (o : Operation). o.line) mine ∙ swaps.1 in
+      ap (λ (o : Operation). o.line) mine ∙ swaps.1 in
       let stays = deciding_stays (seen before) own swaps.0 alone.indirection alone.replaced main main alone.owner.line own.line stands in
       ap (entered_by (seen now) main) runs
       ∙ entered_same (seen before) (seen now) main own (operation_at now.table t.programs next) closings_same steps_same
-          t.does.access
-          (ap (λ (n : UnderWay). generation_in n.program t.programs) is ∙ generation_is before actor u next taken now t run kept is ∙ stays.1)
-          (ap (λ (n : UnderWay). n.job.id) is)
-          (ap (λ (n : UnderWay). swaps_in main (line_for n.program t.programs)) is ∙ ap (swaps_in main) (sym (takes before actor u next taken now t run kept is).line) ∙ stays.0)
+      t.does.access
+      (ap (λ (n : UnderWay). generation_in n.program t.programs) is ∙ generation_is before actor u next taken now t run kept is ∙ stays.1)
+      (ap (λ (n : UnderWay). n.job.id) is)
+      (ap (λ (n : UnderWay). swaps_in main (line_for n.program t.programs)) is ∙ ap (swaps_in main) (sym (takes before actor u next taken now t run kept is).line) ∙ stays.0)
       ∙ ap (λ o. entered_by (seen before) main (Some o)) mine
 
   -- an owner who isn't the actor
@@ -205,7 +204,8 @@ module _ (before : Parts) (actor : ℕ) (u next : UnderWay) (taken : Taken) (now
   pub entering : entered_for now main ≡ entered (seen before) (Some main)
   entering =
       let owner : slice_index before.heap.owners (slot_of main) ≡ alone.owner.actor =
-          kept.owners main alone.replaced alone.used alone.pending alone.owner.actor alone.owner.operation alone.indirection alone.replaced (Deciding alone.owner.line) alone.owner.runs alone.owner.swaps in
+      kept.owners main alone.replaced alone.used alone.pending alone.owner.actor alone.owner.operation alone.indirection alone.replaced
+      (Deciding alone.owner.line) alone.owner.runs alone.owner.swaps in
       ap (λ os. entered_by (seen now) main (operation_of (seen now) (slice_index os (slot_of main)))) owners_same
       ∙ ap (λ n. entered_by (seen now) main (operation_of (seen now) n)) owner
       ∙ by (cases_eq alone.owner.actor actor)

@@ -30,11 +30,11 @@ use Rattle.machine_model.specs.Operations.{action_of, read_of}
 use Rattle.machine_model.specs.Reading.{Verdict, Commits, Fails, Overtaken, after_ask, after_decide, after_prev, after_restore, read_after, verdict}
 use Rattle.machine_model.specs.States.{State, operation_of, word_at}
 use Rattle.machine_model.specs.Calls.{handle_of}
-use Rattle.proof_memory.specs.Laws.{IsInUse}
-use Rattle.proof_memory.specs.Wants.{AllHold, action_wants, line_wants, read_wants}
-use Rattle.proof_memory.proofs.Claims.Uses.{safe_of}
-use Rattle.proof_memory.proofs.Safety.AtEachTime.{safe_along}
-use Rattle.proof_memory.proofs.Safety.AtTimes.{action_finds, line_finds_in}
+use Rattle.machine_core.specs.Beneath.proof_memory.specs.Laws.{IsInUse}
+use Rattle.machine_core.specs.Beneath.proof_memory.specs.Wants.{AllHold, action_wants, line_wants, read_wants}
+use Rattle.machine_core.specs.Beneath.proof_memory.proofs.Claims.Uses.{safe_of}
+use Rattle.machine_core.specs.Beneath.proof_memory.proofs.Safety.AtEachTime.{safe_along}
+use Rattle.machine_core.specs.Beneath.proof_memory.proofs.Safety.AtTimes.{action_finds, line_finds_in}
 use Rattle.proof_records.proofs.Newest.{committed_are_newest}
 use Rattle.chronicle.specs.Committed.{IsNewest}
 use Rattle.running.specs.Steps.{given_by, given_in}

@@ -11,12 +11,12 @@ use Rattle.machine_model.specs.States.{State, operation_of, handle_limit}
 use Rattle.machine_model.specs.Counting.{refs_of_root, refs_of_operation}
 use Rattle.machine_model.specs.Operations.{action_of}
 use Rattle.machine_model.specs.Machine.{begin_denial, is_actor, is_running}
-use Rattle.proof_memory.specs.Wants.{AllHold, action_wants}
-use Rattle.proof_memory.proofs.Holding.Lives.{lines_live}
-use Rattle.proof_memory.proofs.Holding.Privates.{privates_once}
-use Rattle.proof_memory.proofs.Holding.Sizes.{sizes_stay}
+use Rattle.machine_core.specs.Beneath.proof_memory.specs.Wants.{AllHold, action_wants}
+use Rattle.machine_core.specs.Beneath.proof_memory.proofs.Holding.Lives.{lines_live}
+use Rattle.machine_core.specs.Beneath.proof_memory.proofs.Holding.Privates.{privates_once}
+use Rattle.machine_core.specs.Beneath.proof_memory.proofs.Holding.Sizes.{sizes_stay}
 use Rattle.machine_core.specs.Bounds.{IsOfRun}
-use Rattle.rdcss_root.specs.Holds.{IsReady}
+use Rattle.machine_core.specs.Beneath.rdcss_root.specs.Holds.{IsReady}
 use Rattle.machine_core.specs.Ties.{IsTied, StandsAt}
 use Rattle.machine_core.proofs.Tying.{times_most, root_few}
 

@@ -14,8 +14,8 @@ use Rattle.machine_model.specs.declared.roots.Descriptor.{Descriptor}
 use Rattle.machine_model.specs.Counting.{refs_of_operation}
 use Rattle.machine_model.specs.Machine.{pin_of}
 use Rattle.machine_model.specs.Operations.{action_of}
-use Rattle.rdcss_root.specs.Holds.{root_refs}
-use Rattle.rdcss_root.specs.Tables.{Table, word_in}
+use Rattle.machine_core.specs.Beneath.rdcss_root.specs.Holds.{root_refs}
+use Rattle.machine_core.specs.Beneath.rdcss_root.specs.Tables.{Table, word_in}
 use Rattle.running.specs.Carried.{carried_by}
 use Rattle.running.proofs.Offers.{marked_at, marks_by, unmarked}
 use Rattle.running.specs.declared.programs.Programs.{Programs}
@@ -99,7 +99,7 @@ module _ (before : Parts) (actor : ℕ) (u next : UnderWay) (taken : Taken) (now
       let at = operation_stands (seen before) actor own (operation_there before actor u t.seat) in
       let acts = (changes before actor u next taken now t run kept is).acts in
       let seen_so : actors_seen before.table now.actors.items ≡ set (seen before).actors (actor - 1) (Some new) =
-          ap (actors_seen before.table) t.set ∙ map-set (operation_seen before.table) before.actors.items (actor - 1) behind in
+      ap (actors_seen before.table) t.set ∙ map-set (operation_seen before.table) before.actors.items (actor - 1) behind in
       record {
         held = λ r. omega (
           arith,

@@ -24,12 +24,12 @@ use Rattle.machine_model.specs.States.{State, operation_of, word_at, word_of}
 use Rattle.machine_model.specs.Machine.{run}
 use Rattle.machine_model.proofs.Found.{found_elsewhere, found_here}
 use Rattle.machine_model.proofs.Grown.{prev_standing}
-use Rattle.proof_generations.proofs.Roots.OfLists.{has_handles_along}
-use Rattle.proof_generations.proofs.Offers.Standing.{own_numbers}
+use Rattle.machine_core.specs.Beneath.proof_generations.proofs.Roots.OfLists.{has_handles_along}
+use Rattle.machine_core.specs.Beneath.proof_generations.proofs.Offers.Standing.{own_numbers}
 use Rattle.proof_records.specs.Beneath.proof_commits.specs.Laws.{IsInSwap}
 use Rattle.proof_records.specs.Laws.{HaveIds}
 use Rattle.proof_records.proofs.Given.{ids_apart}
-use Rattle.rdcss_root.specs.Tables.{Table, with_root_in, word_in}
+use Rattle.machine_core.specs.Beneath.rdcss_root.specs.Tables.{Table, with_root_in, word_in}
 use Rattle.machine_core.specs.Bounds.{IsOfRun}
 use Rattle.machine_core.specs.Keeping.{KnowsOfferers, KnowsOwners}
 
@@ -47,6 +47,7 @@ runs_set before after i put is (suc n) operation e = by (cases_eq n i)
   where
     here : get_or (set before.actors i put) n None ≡ Some operation
     here = sym (ap (λ os. get_or os n None) is) ∙ e
+
     by : ((n ≡ i) ⊎ (n ≡ i → ⊥)) → (get_or before.actors n None ≡ Some operation) ⊎ (put ≡ Some operation)
     by (inl same) = inr (found_here before.actors i put operation (sym (ap (λ k. get_or (set before.actors i put) k None) same) ∙ here))
     by (inr apart) = inl (sym (found_elsewhere before.actors i n put apart) ∙ here)
@@ -68,8 +69,10 @@ closed_word table closed handle offer e = by (cases_eq handle closed)
     nothing [] i = refl
     nothing (r ∷ roots) zero = refl
     nothing (r ∷ roots) (suc i) = nothing roots i
+
     plain : word_of None ≡ Offer offer → ⊥
     plain h = cc
+
     by : ((handle ≡ closed) ⊎ (handle ≡ closed → ⊥)) → word_in table handle ≡ Offer offer
     by (inl same) = absurd (plain (sym (ap word_of (ap (λ k. get_or (set table.roots closed None) k None) same ∙ nothing table.roots closed)) ∙ e))
     by (inr apart) = sym (ap word_of (get_or-set_other table.roots closed handle None None apart)) ∙ e

@@ -17,7 +17,7 @@ use Rattle.machine_model.specs.declared.roots.RootWord.TheVariants.{Offer}
 use Rattle.machine_model.specs.Acting.{ended, entered_at_end}
 use Rattle.machine_model.specs.Grown.{standing}
 use Rattle.machine_model.specs.States.{State, operation_of}
-use Rattle.rdcss_root.specs.Tables.{Table, word_in}
+use Rattle.machine_core.specs.Beneath.rdcss_root.specs.Tables.{Table, word_in}
 use Rattle.machine_core.specs.declared.parts.Actor.{Actor}
 use Rattle.machine_core.specs.declared.parts.Parts.{Parts}
 use Rattle.machine_core.specs.declared.parts.UnderWay.{UnderWay}

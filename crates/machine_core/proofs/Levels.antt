@@ -2,8 +2,8 @@
 use Rattle.std.proofs.Common.{◌≡◌, ℕ, suc, ◌+◌, ◌-◌, ◌<◌, None, refl, sym, ap, ◌∙◌, arith}
 use Rattle.slot_arena.specs.declared.refs.Ref.{Ref}
 use Rattle.slot_arena.specs.declared.nodes.Node.{Node}
-use Rattle.proof_contents.specs.Beneath.nodes.specs.Levels.{flag_of}
-use Rattle.proof_contents.specs.Nodes.Looking.{Found, look_in, value_by, find_at}
+use Rattle.machine_core.specs.Beneath.proof_contents.specs.Beneath.nodes.specs.Levels.{flag_of}
+use Rattle.machine_core.specs.Beneath.proof_contents.specs.Nodes.Looking.{Found, look_in, value_by, find_at}
 
 module _ (node : Ref → Node) (main : Ref → Ref) (hash : ℕ → ℕ) (key : ℕ) where
   -- what the main node at this depth says decides it

@@ -1,5 +1,6 @@
 -- Marks that stand in the table of root words are those that the definition sets by the ids of operations.
-use Rattle.std.specs.Prelude.{◌≡◌, ◌==◌, ◌+◌, ◌-◌, ◌<◌, ◌≤◌, ℕ, suc, Bool, true, false, List, [], ◌∷◌, length, map, slice_get, slice_index_or, slice_set, Option, Some, None, option_map, refl, if◌then◌else◌}
+use Rattle.std.specs.Prelude.{◌≡◌, ◌==◌, ◌+◌, ◌-◌, ◌<◌, ◌≤◌, ℕ, suc, Bool, true, false, List, [], ◌∷◌, length, map, slice_get, slice_index_or, slice_set}
+use Rattle.std.specs.Prelude.{Option, Some, None, option_map, refl, if◌then◌else◌}
 use Rattle.std.proofs.Common.{arith, sym, ap, subst, ◌∙◌, get_or, set}
 use Rattle.std.proofs.lemmas.Bool.{eqb-true, false≢true}
 use Rattle.std.proofs.lemmas.List.{get_or-set_same, get_or-set_other}
@@ -14,7 +15,7 @@ use Rattle.machine_model.specs.Acting.{marked}
 use Rattle.machine_model.specs.States.{State, word_at}
 use Rattle.machine_model.specs.Swapping.{is_carried_out}
 use Rattle.machine_model.proofs.Actors.{after_marks, marks_of}
-use Rattle.rdcss_root.specs.Tables.{Table}
+use Rattle.machine_core.specs.Beneath.rdcss_root.specs.Tables.{Table}
 use Rattle.running.specs.Carried.{carried_by}
 use Rattle.running.proofs.Offers.{marked_at, unmarked}
 use Rattle.machine_core.specs.declared.parts.Actor.{Actor}
@@ -57,9 +58,9 @@ pub stood : (hashes : HashKind) (before now : Table) (actors : List Actor) (acto
 stood hashes before now actors actor is action after seats counts marks stands =
     ap (slice_set (actors_seen before actors) (actor - 1)) (sym stands)
     ∙ sym (map_replaced (operation_seen before) (operation_seen now) actors (actor - 1) is (λ i y other at. remarked before now y (λ u runs.
-        let number = (seats i y at).number u runs in
-        let apart : u.job.actor ≡ actor → ⊥ = λ e. other (omega (arith, number, e, counts)) in
-        ap (λ ms. slice_index_or ms u.job.actor false) marks ∙ unmarked_other before.marks actor u.job.actor action apart)))
+    let number = (seats i y at).number u runs in
+    let apart : u.job.actor ≡ actor → ⊥ = λ e. other (omega (arith, number, e, counts)) in
+    ap (λ ms. slice_index_or ms u.job.actor false) marks ∙ unmarked_other before.marks actor u.job.actor action apart)))
 
 -- ---- marks
 

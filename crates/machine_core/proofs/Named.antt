@@ -3,8 +3,8 @@ use Rattle.std.proofs.Common.{◌≡◌, ℕ, refl}
 use Rattle.machine_model.specs.Calls.{handle_of}
 use Rattle.trie_parts.specs.declared.calls.KeyCall.{KeyCall}
 use Rattle.trie_parts.specs.declared.calls.KeyCall.TheVariants.{Get, Put, PutIfAbsent, Replace, ReplaceIf, Remove, RemoveIf}
-use Rattle.snapshot.specs.declared.tasks.SnapCall.{SnapCall}
-use Rattle.snapshot.specs.declared.tasks.SnapCall.TheVariants.{Snapshot, Freeze, Clear}
+use Rattle.machine_core.specs.Beneath.snapshot.specs.declared.tasks.SnapCall.{SnapCall}
+use Rattle.machine_core.specs.Beneath.snapshot.specs.declared.tasks.SnapCall.TheVariants.{Snapshot, Freeze, Clear}
 use Rattle.running.specs.declared.job.Program.{Program}
 use Rattle.running.specs.declared.job.Program.TheVariants.{Key, Snap, Entries, Count, Close}
 use Rattle.running.specs.Places.{call_for}

@@ -23,7 +23,7 @@ use Rattle.machine_model.specs.Orders.{commit_step as commit_of, committed_now, 
 use Rattle.machine_model.specs.Reading.{at_indirection, read_after}
 use Rattle.machine_model.specs.States.{State, operation_of, word_at}
 use Rattle.machine_model.proofs.Actors.{after_marks}
-use Rattle.rdcss_root.specs.Tables.{Table, acted_table, word_in}
+use Rattle.machine_core.specs.Beneath.rdcss_root.specs.Tables.{Table, acted_table, word_in}
 use Rattle.running.specs.declared.programs.Programs.{Programs}
 use Rattle.running.specs.declared.taken.Taken.{Taken}
 use Rattle.running.specs.Carried.{carried_by, closed_by, placed_by}
@@ -82,7 +82,7 @@ module _ (before : Parts) (actor : ℕ) (u next : UnderWay) (taken : Taken) (now
   changes =
       subst
       (λ (s : State). Changes u.job (scene before.heap before.table before.generations t.seat.found.programs) (action_of s (operation_at before.table t.seat.found.programs u))
-          (scene now.heap now.table now.generations t.programs))
+      (scene now.heap now.table now.generations t.programs))
       there (t.does.changes (seen before) (operation_at before.table t.seat.found.programs u))
 
   pub generation_is : generation_in u.program t.programs
@@ -131,7 +131,7 @@ module _ (before : Parts) (actor : ℕ) (u next : UnderWay) (taken : Taken) (now
 
   marks_are : now.table.marks
       ≡ marked_at (unmarked before.table.marks u.job.actor (action_of (seen before) (operation_at before.table t.seat.found.programs u)))
-          (slice_index_or before.table.offerers u.job.handle 0) (carried_now (seen before) (operation_at before.table t.seat.found.programs u))
+      (slice_index_or before.table.offerers u.job.handle 0) (carried_now (seen before) (operation_at before.table t.seat.found.programs u))
   marks_are =
       let action : Action = action_of (seen before) (operation_at before.table t.seat.found.programs u) in
       ap (λ (x : Table). x.marks) changes.table ∙ (marks_by before.table u.job.handle u.job.actor action).marks
@@ -144,11 +144,11 @@ module _ (before : Parts) (actor : ℕ) (u next : UnderWay) (taken : Taken) (now
       (slice_index_or before.table.offerers u.job.handle 0
       < length (unmarked before.table.marks u.job.actor (action_of (seen before) (operation_at before.table t.seat.found.programs u))))
       × Offered offer.operation (slice_index_or before.table.offerers u.job.handle 0)
-          (slice_set before.actors.items (actor - 1) (record { programs = t.programs; under_way = Some next }))
+      (slice_set before.actors.items (actor - 1) (record { programs = t.programs; under_way = Some next }))
 
   pub actors_are : KnowsOffered → actors_seen now.table now.actors.items
       ≡ after_marks (option_map (λ (offer : Descriptor). offer.operation) (carried_now (seen before) (operation_at before.table t.seat.found.programs u)))
-          (slice_set (seen before).actors (actor - 1) (Some (operation_after (seen before) (operation_at before.table t.seat.found.programs u))))
+      (slice_set (seen before).actors (actor - 1) (Some (operation_after (seen before) (operation_at before.table t.seat.found.programs u))))
   actors_are offered =
       let own : Operation = operation_at before.table t.seat.found.programs u in
       let action : Action = action_of (seen before) own in
@@ -160,8 +160,8 @@ module _ (before : Parts) (actor : ℕ) (u next : UnderWay) (taken : Taken) (now
       ap (actors_seen now.table) t.set
       ∙ sym (marks_alike table now.table xs carried offerer marks_are offered)
       ∙ ap (after_marks (option_map (λ (offer : Descriptor). offer.operation) carried))
-          (sym (stood before.limits.hash before.table table before.actors.items actor is' action (operation_after (seen before) own) kept.seats t.seat.counts
-          (ap (λ a. unmarked before.table.marks a action) number_is) (ap Some becomes)))
+      (sym (stood before.limits.hash before.table table before.actors.items actor is' action (operation_after (seen before) own) kept.seats t.seat.counts
+      (ap (λ a. unmarked before.table.marks a action) number_is) (ap Some becomes)))
 
   -- what was noted
   pub record NotedSo (after : Parts) : Type 0 where

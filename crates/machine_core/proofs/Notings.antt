@@ -16,12 +16,12 @@ use Rattle.machine_model.specs.Calls.{handle_of}
 use Rattle.machine_model.specs.Operations.{action_of, kind_of}
 use Rattle.machine_model.specs.States.{word_at}
 use Rattle.machine_model.specs.Orders.{committed_now}
-use Rattle.rdcss_root.specs.Tables.{Table, word_in}
+use Rattle.machine_core.specs.Beneath.rdcss_root.specs.Tables.{Table, word_in}
 use Rattle.running.specs.declared.taken.Taken.{Taken}
 use Rattle.running.specs.Carried.{carried_by, closed_by, placed_by}
 use Rattle.running.proofs.Offers.{carried_or, marks_by}
-use Rattle.gcas.specs.Acted.{acted_heap}
-use Rattle.snapshot.specs.Tasks.{with_generation}
+use Rattle.machine_core.specs.Beneath.gcas.specs.Acted.{acted_heap}
+use Rattle.machine_core.specs.Beneath.snapshot.specs.Tasks.{with_generation}
 use Rattle.machine_core.specs.declared.parts.Actor.{Actor}
 use Rattle.machine_core.specs.declared.parts.Parts.{Parts}
 use Rattle.machine_core.specs.declared.parts.UnderWay.{UnderWay}
@@ -74,7 +74,9 @@ module _ (before : Parts) (actor : ℕ) (u next : UnderWay) (taken : Taken) (now
         commits = commits ∙ ap (commits_after (seen before)) (sym committed);
         closings = closings ∙ ap (λ c. before.journal.chronicle.closings ++ closed_by (seen before) c) (sym carries);
         places = places ∙ ap (λ c. (before.journal.chronicle.places ++ entered (seen before) taken.committed) ++ placed_by (seen before) c) (sym carries)
-            ∙ ap (λ m. (before.journal.chronicle.places ++ entered (seen before) m) ++ placed_by (seen before) (carried_now (seen before) (operation_at before.table t.seat.found.programs u))) (sym committed);
+            ∙ ap
+            (λ m. (before.journal.chronicle.places ++ entered (seen before) m) ++ placed_by (seen before) (carried_now (seen before) (operation_at before.table t.seat.found.programs u)))
+            (sym committed);
         events = same.events ∙ ap (λ (x : Parts). x.journal.events.items) t.rest;
         steps = same.steps ∙ ap (λ (x : Parts). x.steps) t.rest;
       }
@@ -183,7 +185,7 @@ module _ (before : Parts) (actor : ℕ) (u next : UnderWay) (taken : Taken) (now
   noted_carried after none notes =
       let carried : Option Descriptor = carried_now (seen before) (operation_at before.table t.seat.found.programs u) in
       let rest : after ≡ record now { heap = after.heap; table = after.table; journal = after.journal } =
-          subst (λ (x : Parts). x ≡ record now { heap = x.heap; table = x.table; journal = after.journal }) (sym notes.rest) refl in
+      subst (λ (x : Parts). x ≡ record now { heap = x.heap; table = x.table; journal = after.journal }) (sym notes.rest) refl in
       noted_with after carried refl
       (plain after rest (ap (λ (x : Parts). x.heap.heap) notes.rest)
       (ap (λ (x : Parts). x.heap.limbo) notes.rest, ap (λ (x : Parts). x.heap.epoch) notes.rest, ap (λ (x : Parts). x.heap.cursor) notes.rest)
@@ -212,7 +214,8 @@ module _ (before : Parts) (actor : ℕ) (u next : UnderWay) (taken : Taken) (now
       (ap (λ (x : Parts). x.table) rest) (ap (λ (x : Parts). x.journal.events.items) rest) (ap (λ (x : Parts). x.journal.chronicle.closings) rest)
       (ap (λ (x : Parts). x.journal.chronicle.places) rest)
 
-  by_kind : (k : Kind) (c : Bool) (fresh : Ref) (after : Parts) → taken.kind ≡ k → taken.committed ≡ None → NotesKind k c now actor fresh after → NotedSo before actor u next taken now t run kept is after
+  by_kind : (k : Kind) (c : Bool) (fresh : Ref) (after : Parts) →
+      taken.kind ≡ k → taken.committed ≡ None → NotesKind k c now actor fresh after → NotedSo before actor u next taken now t run kept is after
   by_kind kind.SwapMain false fresh after same none notes = noted_owner fresh after none (λ e. apart (sym same ∙ e)) notes
     where
       apart : kind.SwapMain ≡ kind.SwapRoot → ⊥

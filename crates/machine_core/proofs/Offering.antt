@@ -15,9 +15,9 @@ use Rattle.machine_model.specs.declared.roots.RootWord.TheVariants.{Plain, Offer
 use Rattle.machine_model.specs.Machine.{run}
 use Rattle.machine_model.specs.States.{State, operation_of, word_at}
 use Rattle.machine_model.specs.Swapping.{is_carried_out, is_try, stands_in}
-use Rattle.proof_generations.proofs.Roots.OfLists.{has_handles_along}
-use Rattle.proof_generations.proofs.Offers.Standing.{own_numbers}
-use Rattle.rdcss_root.specs.Tables.{Table, word_in}
+use Rattle.machine_core.specs.Beneath.proof_generations.proofs.Roots.OfLists.{has_handles_along}
+use Rattle.machine_core.specs.Beneath.proof_generations.proofs.Offers.Standing.{own_numbers}
+use Rattle.machine_core.specs.Beneath.rdcss_root.specs.Tables.{Table, word_in}
 use Rattle.running.specs.declared.taken.Taken.{Taken}
 use Rattle.running.specs.Carried.{carried_by}
 use Rattle.running.proofs.Offers.{unmarked}
@@ -89,8 +89,7 @@ module _ (before : Parts) (actor : ℕ) (u next : UnderWay) (taken : Taken) (now
       (o.id ≡ id → slice_index_or before.table.offerers handle 0 ≡ n) × (slice_index_or before.table.offerers handle 0 ≡ n → o.id ≡ id)
   made_by handle other id stands same n o runs =
       let who = offerer_runs (seen before) run handle other stands in
-      let offerer : slice_index_or before.table.offerers handle 0 ≡ suc who.0 = kept.offerers handle other stands (suc who.0) who.1 who.2 who.3 in
-      (
+      let offerer : slice_index_or before.table.offerers handle 0 ≡ suc who.0 = kept.offerers handle other stands (suc who.0) who.1 who.2 who.3 in (
         λ e. kept.offerers handle other stands n o runs (e ∙ sym same),
         λ e.
             let here : operation_of (seen before) n ≡ Some who.1 = ap (operation_of (seen before)) (sym e ∙ offerer) ∙ who.2 in
@@ -107,23 +106,21 @@ module _ (before : Parts) (actor : ℕ) (u next : UnderWay) (taken : Taken) (now
       let who = offerer_runs (seen before) run u.job.handle c.other stands in
       let offerer : slice_index_or before.table.offerers u.job.handle 0 ≡ suc who.0 = kept.offerers u.job.handle c.other stands (suc who.0) who.1 who.2 who.3 in
       let within = (operation_stands (seen before) (suc who.0) who.1 who.2).within in
-      let runs_own = operation_there before actor u t.seat in
-      (
+      let runs_own = operation_there before actor u t.seat in (
         subst (λ (a : Action). slice_index_or before.table.offerers u.job.handle 0 < length (unmarked before.table.marks u.job.actor a)) (sym c.is)
-        (omega (arith, offerer, within, (sizes (seen before) run).1, kept.noted.marks)),
+            (omega (arith, offerer, within, (sizes (seen before) run).1, kept.noted.marks)),
         λ i x v at runs. elim (at_set_cases before.actors.items (actor - 1) i (record { programs = t.programs; under_way = Some next }) x at) [
           | inl here ↦
               let same : v ≡ next = same_Some v next (sym runs ∙ ap (λ (a : Actor). a.under_way) (sym here.1)) in
               let job : v.job ≡ u.job = ap (λ (w : UnderWay). w.job) (same ∙ is) in
-              let both = made_by u.job.handle c.other offer.operation stands c.same actor own runs_own in
-              (
+              let both = made_by u.job.handle c.other offer.operation stands c.same actor own runs_own in (
                 λ e'. both.0 (ap (λ j. j.id) (sym job) ∙ e') ∙ sym number ∙ ap (λ j. j.actor) (sym job),
                 λ e'. ap (λ j. j.id) job ∙ both.1 (e' ∙ ap (λ j. j.actor) job ∙ number),
               )
           | inr apart ↦
               let seat = (kept.seats i x apart.1).number v runs in
               let there = operation_under_way before (suc i) x (omega arith)
-                  (ap (slice_get before.actors.items) (let less : suc i - 1 ≡ i = omega arith in less) ∙ apart.1) ∙ ap (option_map (operation_at before.table x.programs)) runs in
+              (ap (slice_get before.actors.items) (let less : suc i - 1 ≡ i = omega arith in less) ∙ apart.1) ∙ ap (option_map (operation_at before.table x.programs)) runs in
               let both = made_by u.job.handle c.other offer.operation stands c.same (suc i) (operation_at before.table x.programs v) there in
               (λ e'. both.0 e' ∙ omega (arith, seat), λ e'. both.1 (e' ∙ omega (arith, seat)))
         ],

@@ -27,8 +27,8 @@ use Rattle.machine_model.specs.declared.steps.Limits.{Limits}
 use Rattle.machine_model.specs.Counting.{refs_of_root, refs_of_operation}
 use Rattle.machine_model.specs.Machine.{pin_of}
 use Rattle.machine_model.specs.States.{State, empty_heap, first_heap, first_state, operation_of}
-use Rattle.rdcss_root.specs.Holds.{IsReady, Moves, root_refs}
-use Rattle.rdcss_root.specs.Tables.{Table, new_table, with_root_in}
+use Rattle.machine_core.specs.Beneath.rdcss_root.specs.Holds.{IsReady, Moves, root_refs}
+use Rattle.machine_core.specs.Beneath.rdcss_root.specs.Tables.{Table, new_table, with_root_in}
 use Rattle.machine_core.specs.declared.parts.Actor.{Actor}
 use Rattle.machine_core.specs.declared.parts.Parts.{Parts}
 use Rattle.machine_core.specs.declared.parts.UnderWay.{UnderWay}

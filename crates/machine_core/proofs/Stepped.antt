@@ -15,9 +15,9 @@ use Rattle.machine_model.specs.Operations.{action_of, generation_from, line_afte
 use Rattle.machine_model.specs.Orders.{committed_now, moment_after, read_at_after}
 use Rattle.machine_model.specs.States.{State, with_operation, word_at}
 use Rattle.machine_model.proofs.Actors.{after_marks, marks_of}
-use Rattle.operate.specs.Beneath.gcas.specs.Acted.{acted_heap}
-use Rattle.rdcss_root.specs.Tables.{Table, acted_table}
-use Rattle.snapshot.specs.Tasks.{drawn_by, with_generation}
+use Rattle.machine_core.specs.Beneath.operate.specs.Beneath.gcas.specs.Acted.{acted_heap}
+use Rattle.machine_core.specs.Beneath.rdcss_root.specs.Tables.{Table, acted_table}
+use Rattle.machine_core.specs.Beneath.snapshot.specs.Tasks.{drawn_by, with_generation}
 use Rattle.trie_parts.specs.Here.{at_heap, no_state}
 use Rattle.running.specs.declared.programs.Programs.{Programs}
 use Rattle.running.specs.declared.taken.Taken.{Taken}
@@ -146,7 +146,7 @@ became state u now table before after taken does same read_at moment marks =
     let mark = mark_after operation.is_marked action in
     let generation = generation_from there operation (line_for u.program before.programs) in
     let put : Access → List Ref → ℕ → Bool → Option ℕ → ℕ → ℕ → Line → Operation =
-        λ a rs n m g r t l. record operation { access = a; private = rs; attempt = n; is_marked = m; generation = g; read_at = r; moment = t; line = l } in
+    λ a rs n m g r t l. record operation { access = a; private = rs; attempt = n; is_marked = m; generation = g; read_at = r; moment = t; line = l } in
     let q = p.key.work in
     let m' = slice_index_or table.marks u.job.actor false in
     let g' = generation_in u.program p in
@@ -155,10 +155,10 @@ became state u now table before after taken does same read_at moment marks =
     ap (operation_at table p) same
     ∙ ap (λ x. put x q.private p.snap.attempt m' g' now.read_at now.moment l') does.access
     ∙ ap (λ x. put access x p.snap.attempt m' g' now.read_at now.moment l')
-        (changes.acts.made ∙ private_same (at_heap no_state before.memory.heap Low) there before.programs.key.work.private before.generation action refl)
+    (changes.acts.made ∙ private_same (at_heap no_state before.memory.heap Low) there before.programs.key.work.private before.generation action refl)
     ∙ ap (λ x. put access private x m' g' now.read_at now.moment l') changes.attempt
     ∙ ap (λ x. put access private attempt x g' now.read_at now.moment l')
-        (ap (λ ms. slice_index_or ms u.job.actor false) marks ∙ own_mark before.table.marks u.job.actor action)
+    (ap (λ ms. slice_index_or ms u.job.actor false) marks ∙ own_mark before.table.marks u.job.actor action)
     ∙ ap (λ x. put access private attempt mark x now.read_at now.moment l') (does.generation state operation)
     ∙ ap (λ x. put access private attempt mark generation x now.moment l') read_at
     ∙ ap (λ x. put access private attempt mark generation (read_at_after there operation) x l') moment

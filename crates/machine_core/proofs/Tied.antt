@@ -12,7 +12,7 @@ use Rattle.machine_model.specs.States.{State, operation_of}
 use Rattle.machine_model.specs.Counting.{refs_of_operation}
 use Rattle.machine_model.specs.Machine.{pin_of}
 use Rattle.machine_model.proofs.Found.{found_within}
-use Rattle.rdcss_root.specs.Holds.{root_refs}
+use Rattle.machine_core.specs.Beneath.rdcss_root.specs.Holds.{root_refs}
 use Rattle.machine_core.specs.Ties.{private_refs, IsTied, StandsAt}
 use Rattle.machine_core.proofs.Tying.{times_set, times_part}
 
@@ -81,4 +81,3 @@ tied_same before after roots actors outside pins tied = record {
   held = λ r. ap (times r) outside ∙ tied.held r;
   pins = pins ∙ tied.pins;
 }
-

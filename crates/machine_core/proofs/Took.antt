@@ -44,15 +44,15 @@ took before middle now actor u next taken runs steps puts rest =
       does =
           subst
           (λ (a : Actor). Does u.job u.program (line_for u.program a.programs) (scene before.heap before.table before.generations a.programs) taken
-              (scene now.heap now.table now.generations r.is.programs))
+          (scene now.heap now.table now.generations r.is.programs))
           was
           (subst
           (λ (x : Parts). Does u.job u.program (line_for u.program r.was.programs) (scene before.heap before.table before.generations r.was.programs) taken
-              (scene x.heap x.table x.generations r.is.programs))
+          (scene x.heap x.table x.generations r.is.programs))
           (sym rest) r.does.does);
       rest = rest
           ∙ subst (λ (x : Parts). record middle { actors = now.actors } ≡ record before { heap = x.heap; table = x.table; generations = x.generations; actors = now.actors }) (sym rest)
-              (ap (λ (x : Parts). record x { actors = now.actors }) steps.rest);
+          (ap (λ (x : Parts). record x { actors = now.actors }) steps.rest);
     }
 
 -- what stands at the actor's place then

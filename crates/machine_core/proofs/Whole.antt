@@ -23,7 +23,7 @@ use Rattle.machine_model.specs.States.{State, operation_of}
 use Rattle.ctrie_base.specs.declared.kinds.Kind.{Kind}
 use Rattle.chronicle.specs.Committed.{IsNewest}
 use Rattle.chronicle.specs.Told.{Told}
-use Rattle.operate.specs.Places.{answer_of}
+use Rattle.machine_core.specs.Beneath.operate.specs.Places.{answer_of}
 use Rattle.running.specs.Places.{line_for}
 use Rattle.running.specs.Steps.{Takes, at_scene, scene}
 use Rattle.running.specs.declared.taken.Taken.{Taken}
@@ -106,7 +106,7 @@ module _ (actor : ℕ) (u : UnderWay) (fresh : Ref) (taken : Taken) (middle : Pa
       (there_is m.before (actor - 1) seat.found (m.kept.seats (actor - 1) seat.found seat.at))
       (subst
       (λ (a : Actor). Takes (at_scene (seen m.before) (scene m.before.heap m.before.table m.before.generations a.programs)) (operation_at m.before.table a.programs u)
-          (line_for u.program a.programs) taken (line_for u.program r.is.programs))
+      (line_for u.program a.programs) taken (line_for u.program r.is.programs))
       was (r.does.does.takes (seen m.before) (operation_at m.before.table r.was.programs u)))
 
   pub kind_there : (operation : Operation) → operation_of (seen m.before) actor ≡ Some operation → kind_of (action_of (seen m.before) operation) ≡ taken.kind
@@ -210,7 +210,7 @@ pub ends_step : (r : Result Outcome Refusal) (old final : Parts) (actor : ℕ) (
 ends_step (Err refusal) old final actor u reply runs told ends = tt
 ends_step (Ok o) old final actor u reply runs told ends =
     λ operation found.
-        let seat = seat_of old actor u runs in
-        let own = same_Some operation (operation_at old.table seat.found.programs u) (sym found ∙ operation_there old actor u seat) in
-        let line_is = ap (λ (x : Operation). answer_of x.line) own ∙ sym (told seat.found (actor_there old actor u seat)) in
-        ap (went (seen old) actor operation) (ends_so (seen old) operation operation.line reply line_is) ∙ ends operation found
+    let seat = seat_of old actor u runs in
+    let own = same_Some operation (operation_at old.table seat.found.programs u) (sym found ∙ operation_there old actor u seat) in
+    let line_is = ap (λ (x : Operation). answer_of x.line) own ∙ sym (told seat.found (actor_there old actor u seat)) in
+    ap (went (seen old) actor operation) (ends_so (seen old) operation operation.line reply line_is) ∙ ends operation found

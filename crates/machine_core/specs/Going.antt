@@ -13,7 +13,7 @@ use Rattle.machine_model.specs.declared.heaps.Commit.{Commit}
 use Rattle.machine_model.specs.declared.roots.Descriptor.{Descriptor}
 use Rattle.machine_model.specs.Acting.{entered_by}
 use Rattle.machine_model.specs.States.{operation_of}
-use Rattle.rdcss_root.specs.Tables.{Table}
+use Rattle.machine_core.specs.Beneath.rdcss_root.specs.Tables.{Table}
 use Rattle.chronicle.specs.Committed.{commit_step}
 use Rattle.running.specs.declared.taken.Taken.{Taken}
 use Rattle.running.specs.Carried.{closed_by, placed_by}

@@ -12,7 +12,7 @@ use Rattle.machine_model.specs.declared.reading.SwapLine.{SwapLine}
 use Rattle.machine_model.specs.declared.roots.Descriptor.{Descriptor}
 use Rattle.machine_model.specs.declared.roots.RootWord.TheVariants.{Offer}
 use Rattle.machine_model.specs.States.{State, handle_limit, operation_of}
-use Rattle.rdcss_root.specs.Tables.{Table, word_in}
+use Rattle.machine_core.specs.Beneath.rdcss_root.specs.Tables.{Table, word_in}
 use Rattle.running.specs.Places.{IsSound}
 use Rattle.proof_records.specs.Beneath.proof_commits.specs.Laws.{IsInSwap}
 use Rattle.proof_records.specs.Beneath.proof_memory.specs.Laws.{IsInUse}

@@ -1,3 +1,4 @@
+pub mod Beneath
 pub mod Beginnings
 pub mod Bounds
 pub mod Finding

@@ -5,7 +5,7 @@ ghost use Rattle.std.specs.List.{list_any};
 ghost use Rattle.machine_model.specs.Machine.{is_actor, is_busy, names, next_kind, runs_on};
 ghost use Rattle.machine_model.specs.Operations.{action_of, kind_of};
 ghost use Rattle.machine_model.specs.States.{State};
-ghost use Rattle.rdcss_root.specs.Tables.{Table};
+ghost use Rattle.machine_core.specs.Beneath.rdcss_root.specs.Tables.{Table};
 ghost use Rattle.running.specs.Places.{IsSound};
 ghost use Rattle.machine_core.specs.declared.parts.UnderWay.{UnderWay as AnUnderWay};
 ghost use Rattle.machine_core.specs.Keeping.{AreSeated};
@@ -13,7 +13,7 @@ ghost use Rattle.machine_core.specs.Seen.{operation_seen, seen};
 
 use crate::parts::{Actor, Parts};
 use ctrie_base::Kind;
-use rdcss_root::Roots;
+use running::Roots;
 
 /// Whether the actor is one of the machine's.
 pub fn is_actor(parts: &Parts, actor: u8) -> bool

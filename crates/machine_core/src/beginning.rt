@@ -4,8 +4,8 @@ ghost use Rattle.std.specs.Prelude.{◌≡◌, ◌<◌, ℕ, length, vec_len, ve
 ghost use Rattle.machine_model.specs.States.{root_at};
 ghost use Rattle.machine_model.specs.Calls.{handle_of, opens_handle};
 ghost use Rattle.machine_model.specs.Machine.{access_of, begin_denial, new_operation, handle_closed, with_begin, least_free};
-ghost use Rattle.rdcss_root.specs.Holds.{IsReady, Moves};
-ghost use Rattle.rdcss_root.specs.Tables.{word_in};
+ghost use Rattle.machine_core.specs.Beneath.rdcss_root.specs.Holds.{IsReady, Moves};
+ghost use Rattle.machine_core.specs.Beneath.rdcss_root.specs.Tables.{word_in};
 ghost use Rattle.machine_model.specs.declared.roots.Descriptor.{Descriptor};
 ghost use Rattle.machine_model.specs.declared.roots.RootWord.TheVariants.{Offer};
 ghost use Rattle.running.specs.Places.{call_for};
@@ -120,11 +120,6 @@ pub fn begin_operation(parts: &mut Parts, actor: u8, call: Call)
     });
     parts.heap.pin(actor);
     parts.table.unmark(actor);
-    seat(
-        &mut parts.actors,
-        actor as usize - 1,
-        under_way,
-        access,
-    );
+    seat(&mut parts.actors, actor as usize - 1, under_way, access);
     parts.begun += 1;
 }

@@ -5,9 +5,8 @@ ghost use Rattle.machine_model.specs.Calls.{handle_of, key_of, needs_writable, n
 ghost use Rattle.running.specs.Places.{call_for};
 
 use history::Call;
-use operate::KeyCall;
-use running::Program;
-use snapshot::SnapCall;
+use running::{Program, SnapCall};
+use trie_parts::KeyCall;
 
 /// The handle on which a call is made.
 pub fn handle_of(call: Call) -> u16

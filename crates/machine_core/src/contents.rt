@@ -35,12 +35,7 @@ pub fn content_of(parts: &Parts, handle: u16) -> Result<Pairs, AllocError>
 /// Adds the pairs that are reached from an indirection or a single, within so many levels.
 #[cycle(gathering)]
 #[tactic(auto, using(crate::proofs::Gathering::gathering))]
-fn gather(
-    pairs: &mut Vec<(u64, u64)>,
-    levels: u32,
-    heap: &Heap,
-    at: Ref,
-) -> Result<(), AllocError>
+fn gather(pairs: &mut Vec<(u64, u64)>, levels: u32, heap: &Heap, at: Ref) -> Result<(), AllocError>
     ensures { OnOk result (pairs.new.items ≡ pairs.old.items ++ pairs_below levels heap.now.heap at) }
 {
     if levels == 0 {

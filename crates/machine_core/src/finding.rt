@@ -2,7 +2,7 @@
 
 ghost use Rattle.std.specs.Prelude.{◌≡◌};
 ghost use Rattle.slot_arena.specs.Heaps.{node_at};
-ghost use Rattle.proof_contents.specs.Nodes.Looking.{look_at, look_among, look_in};
+ghost use Rattle.machine_core.specs.Beneath.proof_contents.specs.Nodes.Looking.{look_at, look_among, look_in};
 ghost use Rattle.machine_core.specs.Finding.{found_along, meant};
 ghost use Rattle.machine_core.specs.Seen.{seen};
 

@@ -109,7 +109,12 @@ pub fn finish(parts: &mut Parts, actor: u8, under_way: UnderWay, reply: Reply, p
 }
 
 /// The actor's operation ends with this reply. After an error nothing that is seen has changed.
-pub fn end(parts: &mut Parts, actor: u8, under_way: UnderWay, reply: Reply) -> Result<Outcome, Refusal>
+pub fn end(
+    parts: &mut Parts,
+    actor: u8,
+    under_way: UnderWay,
+    reply: Reply,
+) -> Result<Outcome, Refusal>
     requires run { IsOfRun (seen parts.old) }
     requires kept { IsKept parts.old }
     requires runs { under_way_of parts.old actor ≡ Some under_way }

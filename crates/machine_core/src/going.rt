@@ -11,7 +11,7 @@ ghost use Rattle.machine_model.specs.Operations.{action_of};
 ghost use Rattle.machine_model.specs.Acting.{entered_by, gone};
 ghost use Rattle.machine_model.specs.Machine.{went};
 ghost use Rattle.chronicle.specs.Committed.{IsNewest};
-ghost use Rattle.operate.specs.Places.{answer_of};
+ghost use Rattle.machine_core.specs.Beneath.operate.specs.Places.{answer_of};
 ghost use Rattle.running.specs.Places.{line_for, IsSound};
 ghost use Rattle.running.specs.Steps.{scene, CanStep};
 ghost use Rattle.machine_core.specs.Bounds.{IsOfRun};
@@ -26,13 +26,12 @@ use crate::placing::place_of;
 use chronicle::{Chronicle, Commits};
 use ctrie_base::{Kind, Refusal};
 use epochs::Heap;
-use gcas::generation_at;
 use history::Reply;
 use machine_model::Outcome;
 use places::Place;
-use rdcss_root::Roots;
-use running::{Program, Taken};
+use running::{Program, Roots, Taken};
 use slot_arena::Ref;
+use trie_parts::generation_at;
 
 /// What the step of the actor's operation does, but for what every step does at its end. After an error nothing
 /// that is seen has changed.
@@ -197,7 +196,11 @@ fn moved(commits: &Commits, under_way: UnderWay, taken: &Taken, step: u64) -> Un
     requires newest { MatchOption taken.now.given Unit (IsNewest commits.now.commits) }
     ensures { result ≡ moved commits.now.commits step taken.now under_way }
 {
-    let read_at = if taken.counts { step } else { under_way.read_at };
+    let read_at = if taken.counts {
+        step
+    } else {
+        under_way.read_at
+    };
     let moment = match taken.given {
         Some(main) => read_at.max(step_committed(commits, main, taken.committed, step)),
         None => under_way.moment,
@@ -312,7 +315,12 @@ fn note_carried(parts: &mut Parts)
 {
     if let Some(offer) = parts.table.take_carried() {
         let generation = generation_at(&parts.heap, offer.root);
-        close(&mut parts.journal.chronicle, generation, parts.steps, offer.operation);
+        close(
+            &mut parts.journal.chronicle,
+            generation,
+            parts.steps,
+            offer.operation,
+        );
     }
 }
 

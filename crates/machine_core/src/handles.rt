@@ -6,7 +6,7 @@ ghost use Rattle.machine_model.specs.Machine.{reserved_by, is_number, is_taken, 
 ghost use Rattle.machine_core.specs.Seen.{operation_seen, seen};
 
 use crate::parts::{Actor, Parts};
-use rdcss_root::Roots;
+use running::Roots;
 
 /// How many handles can be open or reserved.
 pub const HANDLE_LIMIT: u16 = 256;
@@ -41,9 +41,7 @@ fn is_reserved(table: &Roots, handle: u16, actor: &Actor) -> bool
 fn is_reserved_among(table: &Roots, handle: u16, actors: &[Actor]) -> bool
     ensures { result ≡ list_any (λ actor. is_number handle (reserved_by (operation_seen table.now actor))) actors.now }
 {
-    actors
-        .iter()
-        .any(|actor| is_reserved(table, handle, actor))
+    actors.iter().any(|actor| is_reserved(table, handle, actor))
 }
 
 /// Whether an operation has reserved this handle.

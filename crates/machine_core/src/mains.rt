@@ -3,7 +3,7 @@
 ghost use Rattle.std.specs.Prelude.{◌≡◌};
 ghost use Rattle.slot_arena.specs.Heaps.{logical_main, main_at};
 ghost use Rattle.ctrie_base.specs.Paths.{position_of};
-ghost use Rattle.nodes.specs.Levels.{has_flag};
+ghost use Rattle.machine_core.specs.Beneath.nodes.specs.Levels.{has_flag};
 ghost use Rattle.machine_model.specs.States.{root_of};
 
 use epochs::Heap;

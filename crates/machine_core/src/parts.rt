@@ -9,8 +9,7 @@ use chronicle::{Chronicle, Commits};
 use epochs::Heap;
 use history::{Access, Event};
 use machine_model::{Limits, RootWord};
-use rdcss_root::Roots;
-use running::{Job, Program, Programs};
+use running::{Job, Program, Programs, Roots};
 use std::alloc::Global;
 
 /// What an operation has that its programs don't know.

@@ -8,7 +8,7 @@ ghost use Rattle.epochs.specs.Limbo.{limbo_after};
 ghost use Rattle.epochs.specs.Memories.{AreSizes};
 ghost use Rattle.machine_model.specs.States.{first_heap, first_state};
 ghost use Rattle.machine_model.specs.Machine.{AreLimits};
-ghost use Rattle.rdcss_root.specs.Tables.{new_table, with_root_in};
+ghost use Rattle.machine_core.specs.Beneath.rdcss_root.specs.Tables.{new_table, with_root_in};
 ghost use Rattle.machine_core.specs.Keeping.{IsKept};
 ghost use Rattle.machine_core.specs.Seen.{seen};
 ghost use Rattle.machine_core.specs.Starting.{AreIdle, IsIdle};
@@ -20,8 +20,7 @@ use ctrie_base::{HashKind, Refusal};
 use epochs::Heap;
 use history::Access;
 use machine_model::{Limits, Root, RootWord};
-use rdcss_root::Roots;
-use running::Programs;
+use running::{Programs, Roots};
 use slot_arena::{Node, Ref};
 use std::alloc::{AllocError, Global};
 

@@ -3,13 +3,13 @@ use Rattle.std.specs.Prelude.{◌≡◌, ℕ, List, Option, Some, None, refl}
 use Rattle.std.proofs.Common.{◌∙◌}
 use Rattle.history.specs.declared.replies.Reply.{Reply}
 use Rattle.slot_arena.specs.declared.refs.Ref.{Ref}
-use Rattle.machine_model.specs.declared.lines.Line.{Line}
-use Rattle.machine_model.specs.declared.lines.Line.TheVariants as line
-use Rattle.machine_model.specs.declared.reading.ReadLine.{ReadLine}
-use Rattle.gcas.specs.declared.read.Read.{Read}
-use Rattle.root_asking.specs.declared.asking.Asking.{Asking}
-use Rattle.root_asking.specs.declared.asking.Asking.TheVariants.{Unasked, Met, Told}
-use Rattle.root_asking.specs.Inside.{with_read}
+use Rattle.running.specs.Beneath.machine_model.specs.declared.lines.Line.{Line}
+use Rattle.running.specs.Beneath.machine_model.specs.declared.lines.Line.TheVariants as line
+use Rattle.running.specs.Beneath.machine_model.specs.declared.reading.ReadLine.{ReadLine}
+use Rattle.running.specs.Beneath.gcas.specs.declared.read.Read.{Read}
+use Rattle.running.specs.Beneath.root_asking.specs.declared.asking.Asking.{Asking}
+use Rattle.running.specs.Beneath.root_asking.specs.declared.asking.Asking.TheVariants.{Unasked, Met, Told}
+use Rattle.running.specs.Beneath.root_asking.specs.Inside.{with_read}
 use Rattle.snapshot.specs.declared.snap.Making.TheVariants as making
 use Rattle.snapshot.specs.declared.snap.SnapAt.{SnapAt}
 use Rattle.snapshot.specs.declared.snap.SnapAt.TheVariants as at

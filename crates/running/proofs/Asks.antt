@@ -9,42 +9,42 @@ use Rattle.history.specs.declared.calls.Access.TheVariants.{Writable, ReadOnly}
 use Rattle.slot_arena.specs.declared.refs.Ref.{Ref}
 use Rattle.slot_arena.specs.Heaps.{Heap}
 use Rattle.epochs.specs.Memories.{Memory}
-use Rattle.machine_model.specs.declared.actions.Action.{Action}
-use Rattle.machine_model.specs.declared.lines.Line.{Line}
-use Rattle.machine_model.specs.declared.lines.Line.TheVariants as line
-use Rattle.machine_model.specs.declared.operations.Operation.{Operation}
-use Rattle.machine_model.specs.declared.reading.Read.{Read}
-use Rattle.machine_model.specs.declared.reading.ReadLine.{ReadLine}
-use Rattle.machine_model.specs.declared.reading.ReadLine.TheVariants as read
-use Rattle.machine_model.specs.declared.roots.CompleteLine.{CompleteLine}
-use Rattle.machine_model.specs.declared.roots.CompleteLine.TheVariants as complete
-use Rattle.machine_model.specs.declared.roots.Descriptor.{Descriptor}
-use Rattle.machine_model.specs.declared.roots.RootLine.TheVariants as root
-use Rattle.machine_model.specs.declared.roots.RootWord.{RootWord}
-use Rattle.machine_model.specs.declared.roots.RootWord.TheVariants.{Plain, Offer}
-use Rattle.machine_model.specs.Acting.{attempt_after}
-use Rattle.machine_model.specs.Calls.{handle_of}
-use Rattle.machine_model.specs.Operations.{generation_from, given_root, kind_of, line_action, line_after, read_of, rooting_read}
-use Rattle.machine_model.specs.Orders.{committed_in, counted_from}
-use Rattle.machine_model.specs.Reading.{read_action}
-use Rattle.machine_model.specs.States.{State, word_at}
-use Rattle.machine_model.specs.Swapping.{root_after}
-use Rattle.gcas.specs.declared.read.Read.{Read as Running}
-use Rattle.gcas.specs.declared.read.ReadAt.{ReadAt}
-use Rattle.gcas.specs.declared.read.ReadAt.TheVariants as at
-use Rattle.gcas.specs.Reads.{IsAsking, line_at, line_of}
-use Rattle.trie_parts.specs.Steps.{IsAskingLine, IsAskingRead}
-use Rattle.trie_parts.specs.Tasks.{call_of as key_call}
-use Rattle.trie_parts.specs.declared.calls.KeyCall.{KeyCall}
-use Rattle.trie_parts.specs.declared.calls.KeyCall.TheVariants.{Get, Put, PutIfAbsent, Replace, ReplaceIf, Remove, RemoveIf}
-use Rattle.rdcss_root.specs.Acts.{ActsInAll}
-use Rattle.rdcss_root.specs.Tables.{Table, acted_table}
-use Rattle.rdcss_root.specs.Programs.{table_after_abort}
-use Rattle.root_asking.specs.declared.asking.Asking.{Asking}
-use Rattle.root_asking.specs.declared.asking.Asking.TheVariants.{Unasked, Met, Told}
-use Rattle.root_asking.specs.Asked.{AsksOn, IsUntold, abort_of, ask_action, asked_at, asked_line, asked_read}
-use Rattle.root_asking.specs.Inside.{rooting_at, with_read}
-use Rattle.root_asking.proofs.Holding.{each_holds}
+use Rattle.running.specs.Beneath.machine_model.specs.declared.actions.Action.{Action}
+use Rattle.running.specs.Beneath.machine_model.specs.declared.lines.Line.{Line}
+use Rattle.running.specs.Beneath.machine_model.specs.declared.lines.Line.TheVariants as line
+use Rattle.running.specs.Beneath.machine_model.specs.declared.operations.Operation.{Operation}
+use Rattle.running.specs.Beneath.machine_model.specs.declared.reading.Read.{Read}
+use Rattle.running.specs.Beneath.machine_model.specs.declared.reading.ReadLine.{ReadLine}
+use Rattle.running.specs.Beneath.machine_model.specs.declared.reading.ReadLine.TheVariants as read
+use Rattle.running.specs.Beneath.machine_model.specs.declared.roots.CompleteLine.{CompleteLine}
+use Rattle.running.specs.Beneath.machine_model.specs.declared.roots.CompleteLine.TheVariants as complete
+use Rattle.running.specs.Beneath.machine_model.specs.declared.roots.Descriptor.{Descriptor}
+use Rattle.running.specs.Beneath.machine_model.specs.declared.roots.RootLine.TheVariants as root
+use Rattle.running.specs.Beneath.machine_model.specs.declared.roots.RootWord.{RootWord}
+use Rattle.running.specs.Beneath.machine_model.specs.declared.roots.RootWord.TheVariants.{Plain, Offer}
+use Rattle.running.specs.Beneath.machine_model.specs.Acting.{attempt_after}
+use Rattle.running.specs.Beneath.machine_model.specs.Calls.{handle_of}
+use Rattle.running.specs.Beneath.machine_model.specs.Operations.{generation_from, given_root, kind_of, line_action, line_after, read_of, rooting_read}
+use Rattle.running.specs.Beneath.machine_model.specs.Orders.{committed_in, counted_from}
+use Rattle.running.specs.Beneath.machine_model.specs.Reading.{read_action}
+use Rattle.running.specs.Beneath.machine_model.specs.States.{State, word_at}
+use Rattle.running.specs.Beneath.machine_model.specs.Swapping.{root_after}
+use Rattle.running.specs.Beneath.gcas.specs.declared.read.Read.{Read as Running}
+use Rattle.running.specs.Beneath.gcas.specs.declared.read.ReadAt.{ReadAt}
+use Rattle.running.specs.Beneath.gcas.specs.declared.read.ReadAt.TheVariants as at
+use Rattle.running.specs.Beneath.gcas.specs.Reads.{IsAsking, line_at, line_of}
+use Rattle.running.specs.Beneath.trie_parts.specs.Steps.{IsAskingLine, IsAskingRead}
+use Rattle.running.specs.Beneath.trie_parts.specs.Tasks.{call_of as key_call}
+use Rattle.running.specs.Beneath.trie_parts.specs.declared.calls.KeyCall.{KeyCall}
+use Rattle.running.specs.Beneath.trie_parts.specs.declared.calls.KeyCall.TheVariants.{Get, Put, PutIfAbsent, Replace, ReplaceIf, Remove, RemoveIf}
+use Rattle.running.specs.Beneath.rdcss_root.specs.Acts.{ActsInAll}
+use Rattle.running.specs.Beneath.rdcss_root.specs.Tables.{Table, acted_table}
+use Rattle.running.specs.Beneath.rdcss_root.specs.Programs.{table_after_abort}
+use Rattle.running.specs.Beneath.root_asking.specs.declared.asking.Asking.{Asking}
+use Rattle.running.specs.Beneath.root_asking.specs.declared.asking.Asking.TheVariants.{Unasked, Met, Told}
+use Rattle.running.specs.Beneath.root_asking.specs.Asked.{AsksOn, IsUntold, abort_of, ask_action, asked_at, asked_line, asked_read}
+use Rattle.running.specs.Beneath.root_asking.specs.Inside.{rooting_at, with_read}
+use Rattle.running.specs.Beneath.root_asking.proofs.Holding.{each_holds}
 use Rattle.snapshot.specs.Tasks.{drawn_by, with_generation}
 use Rattle.running.specs.declared.job.Job.{Job}
 use Rattle.running.specs.declared.job.Program.{Program}

@@ -4,19 +4,19 @@ use Rattle.std.proofs.Common.{sym, ap, ◌∙◌}
 use Rattle.std.proofs.lemmas.List.{append-nil}
 use Rattle.slot_arena.specs.declared.refs.Ref.{Ref}
 use Rattle.slot_arena.specs.Heaps.{generation_at, next_ref}
-use Rattle.machine_model.specs.declared.actions.Action.{Action}
-use Rattle.machine_model.specs.declared.actions.Action.TheVariants as act
-use Rattle.machine_model.specs.declared.roots.Descriptor.{Descriptor}
-use Rattle.machine_model.specs.declared.roots.RootWord.TheVariants.{Plain}
-use Rattle.machine_model.specs.Beneath.places.specs.Places.{on_time}
-use Rattle.machine_model.specs.Acting.{acted, carried_out, if_changed, new_root_taken, opened}
-use Rattle.machine_model.specs.States.{State, with_word, word_at}
-use Rattle.machine_model.specs.Swapping.{is_plain, stands_in}
-use Rattle.machine_model.proofs.Actors.{acted_actors, after_marks, marks_of}
-use Rattle.machine_model.proofs.Frames.{IsFramed, acted_framed}
-use Rattle.gcas.specs.Acted.{acted_heap}
-use Rattle.rdcss_root.specs.Tables.{Table, acted_table}
-use Rattle.rdcss_root.proofs.Acting.{acts_on_table}
+use Rattle.running.specs.Beneath.machine_model.specs.declared.actions.Action.{Action}
+use Rattle.running.specs.Beneath.machine_model.specs.declared.actions.Action.TheVariants as act
+use Rattle.running.specs.Beneath.machine_model.specs.declared.roots.Descriptor.{Descriptor}
+use Rattle.running.specs.Beneath.machine_model.specs.declared.roots.RootWord.TheVariants.{Plain}
+use Rattle.running.specs.Beneath.machine_model.specs.Beneath.places.specs.Places.{on_time}
+use Rattle.running.specs.Beneath.machine_model.specs.Acting.{acted, carried_out, if_changed, new_root_taken, opened}
+use Rattle.running.specs.Beneath.machine_model.specs.States.{State, with_word, word_at}
+use Rattle.running.specs.Beneath.machine_model.specs.Swapping.{is_plain, stands_in}
+use Rattle.running.specs.Beneath.machine_model.proofs.Actors.{acted_actors, after_marks, marks_of}
+use Rattle.running.specs.Beneath.machine_model.proofs.Frames.{IsFramed, acted_framed}
+use Rattle.running.specs.Beneath.gcas.specs.Acted.{acted_heap}
+use Rattle.running.specs.Beneath.rdcss_root.specs.Tables.{Table, acted_table}
+use Rattle.running.specs.Beneath.rdcss_root.proofs.Acting.{acts_on_table}
 use Rattle.snapshot.specs.Tasks.{drawn_by, with_generation}
 use Rattle.snapshot.proofs.Drawing.{draws_generations}
 use Rattle.running.specs.Carried.{carried_by, closed_by, placed_by}

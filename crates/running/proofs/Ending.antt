@@ -4,18 +4,18 @@ use Rattle.std.proofs.Common.{arith, sym, ap, subst, ◌∙◌}
 use Rattle.ctrie_base.specs.declared.kinds.Kind.{Kind}
 use Rattle.ctrie_base.specs.declared.kinds.Kind.TheVariants as kind
 use Rattle.history.specs.declared.replies.Reply.{Reply}
-use Rattle.machine_model.specs.declared.actions.Action.{Action}
-use Rattle.machine_model.specs.declared.actions.Action.TheVariants as act
-use Rattle.machine_model.specs.declared.lines.Line.{Line}
-use Rattle.machine_model.specs.declared.lines.Line.TheVariants as line
-use Rattle.machine_model.specs.declared.operations.Operation.{Operation}
-use Rattle.machine_model.specs.declared.reading.ReadLine.{ReadLine}
-use Rattle.machine_model.specs.Operations.{generation_from, kind_of, line_action, line_after, read_of}
-use Rattle.machine_model.specs.Orders.{committed_in, counted_from}
-use Rattle.machine_model.specs.States.{State}
-use Rattle.root_asking.specs.declared.asking.Asking.{Asking}
-use Rattle.root_asking.specs.declared.asking.Asking.TheVariants.{Unasked, Met, Told}
-use Rattle.root_asking.specs.Inside.{with_read}
+use Rattle.running.specs.Beneath.machine_model.specs.declared.actions.Action.{Action}
+use Rattle.running.specs.Beneath.machine_model.specs.declared.actions.Action.TheVariants as act
+use Rattle.running.specs.Beneath.machine_model.specs.declared.lines.Line.{Line}
+use Rattle.running.specs.Beneath.machine_model.specs.declared.lines.Line.TheVariants as line
+use Rattle.running.specs.Beneath.machine_model.specs.declared.operations.Operation.{Operation}
+use Rattle.running.specs.Beneath.machine_model.specs.declared.reading.ReadLine.{ReadLine}
+use Rattle.running.specs.Beneath.machine_model.specs.Operations.{generation_from, kind_of, line_action, line_after, read_of}
+use Rattle.running.specs.Beneath.machine_model.specs.Orders.{committed_in, counted_from}
+use Rattle.running.specs.Beneath.machine_model.specs.States.{State}
+use Rattle.running.specs.Beneath.root_asking.specs.declared.asking.Asking.{Asking}
+use Rattle.running.specs.Beneath.root_asking.specs.declared.asking.Asking.TheVariants.{Unasked, Met, Told}
+use Rattle.running.specs.Beneath.root_asking.specs.Inside.{with_read}
 use Rattle.running.specs.declared.job.Job.{Job}
 use Rattle.running.specs.declared.job.Program.{Program}
 use Rattle.running.specs.declared.programs.Programs.{Programs}

@@ -7,30 +7,30 @@ use Rattle.ctrie_base.specs.declared.kinds.Kind.TheVariants as kind
 use Rattle.history.specs.declared.calls.Access.{Access}
 use Rattle.slot_arena.specs.declared.refs.Ref.{Ref}
 use Rattle.slot_arena.specs.Heaps.{Heap, no_ref}
-use Rattle.machine_model.specs.declared.copying.CopyLine.TheVariants as copy
-use Rattle.machine_model.specs.declared.lines.Line.{Line}
-use Rattle.machine_model.specs.declared.lines.Line.TheVariants as line
-use Rattle.machine_model.specs.declared.operations.Operation.{Operation}
-use Rattle.machine_model.specs.declared.reading.Read.{Read}
-use Rattle.machine_model.specs.declared.reading.ReadLine.{ReadLine}
-use Rattle.machine_model.specs.declared.reading.ReadLine.TheVariants as read
-use Rattle.machine_model.specs.declared.roots.CompleteLine.{CompleteLine}
-use Rattle.machine_model.specs.declared.roots.CompleteLine.TheVariants as complete
-use Rattle.machine_model.specs.declared.roots.Descriptor.{Descriptor}
-use Rattle.machine_model.specs.declared.roots.RootLine.TheVariants as root
-use Rattle.machine_model.specs.declared.roots.RootWord.{RootWord}
-use Rattle.machine_model.specs.declared.roots.RootWord.TheVariants.{Plain, Offer}
-use Rattle.machine_model.specs.declared.walking.WalkLine.TheVariants as walk
-use Rattle.machine_model.specs.Calls.{handle_of}
-use Rattle.machine_model.specs.Operations.{kind_of, line_action, read_of}
-use Rattle.machine_model.specs.Orders.{committed_in, counted_from}
-use Rattle.machine_model.specs.Reading.{after_ask, read_action, read_after}
-use Rattle.machine_model.specs.States.{State, word_at}
-use Rattle.gcas.specs.declared.read.ReadAt.{ReadAt}
-use Rattle.gcas.specs.declared.read.ReadAt.TheVariants as at
-use Rattle.gcas.specs.Reads.{ReadsAlong, come_to, committed_so, given_so}
-use Rattle.trie_parts.specs.Steps.{Leads}
-use Rattle.root_asking.proofs.Holding.{each_holds}
+use Rattle.running.specs.Beneath.machine_model.specs.declared.copying.CopyLine.TheVariants as copy
+use Rattle.running.specs.Beneath.machine_model.specs.declared.lines.Line.{Line}
+use Rattle.running.specs.Beneath.machine_model.specs.declared.lines.Line.TheVariants as line
+use Rattle.running.specs.Beneath.machine_model.specs.declared.operations.Operation.{Operation}
+use Rattle.running.specs.Beneath.machine_model.specs.declared.reading.Read.{Read}
+use Rattle.running.specs.Beneath.machine_model.specs.declared.reading.ReadLine.{ReadLine}
+use Rattle.running.specs.Beneath.machine_model.specs.declared.reading.ReadLine.TheVariants as read
+use Rattle.running.specs.Beneath.machine_model.specs.declared.roots.CompleteLine.{CompleteLine}
+use Rattle.running.specs.Beneath.machine_model.specs.declared.roots.CompleteLine.TheVariants as complete
+use Rattle.running.specs.Beneath.machine_model.specs.declared.roots.Descriptor.{Descriptor}
+use Rattle.running.specs.Beneath.machine_model.specs.declared.roots.RootLine.TheVariants as root
+use Rattle.running.specs.Beneath.machine_model.specs.declared.roots.RootWord.{RootWord}
+use Rattle.running.specs.Beneath.machine_model.specs.declared.roots.RootWord.TheVariants.{Plain, Offer}
+use Rattle.running.specs.Beneath.machine_model.specs.declared.walking.WalkLine.TheVariants as walk
+use Rattle.running.specs.Beneath.machine_model.specs.Calls.{handle_of}
+use Rattle.running.specs.Beneath.machine_model.specs.Operations.{kind_of, line_action, read_of}
+use Rattle.running.specs.Beneath.machine_model.specs.Orders.{committed_in, counted_from}
+use Rattle.running.specs.Beneath.machine_model.specs.Reading.{after_ask, read_action, read_after}
+use Rattle.running.specs.Beneath.machine_model.specs.States.{State, word_at}
+use Rattle.running.specs.Beneath.gcas.specs.declared.read.ReadAt.{ReadAt}
+use Rattle.running.specs.Beneath.gcas.specs.declared.read.ReadAt.TheVariants as at
+use Rattle.running.specs.Beneath.gcas.specs.Reads.{ReadsAlong, come_to, committed_so, given_so}
+use Rattle.running.specs.Beneath.trie_parts.specs.Steps.{Leads}
+use Rattle.running.specs.Beneath.root_asking.proofs.Holding.{each_holds}
 use Rattle.snapshot.specs.Copies.{snap_action}
 use Rattle.running.specs.Steps.{Takes, committed_if, counts_if, given_by, given_if, given_in, if_reading, taken_in, taken_so}
 use Rattle.running.proofs.Counting.{gives_nothing, in_read, outside}

@@ -8,31 +8,31 @@ use Rattle.history.specs.declared.calls.Access.TheVariants.{Writable, ReadOnly}
 use Rattle.slot_arena.specs.declared.refs.Ref.{Ref}
 use Rattle.slot_arena.specs.Heaps.{Heap}
 use Rattle.epochs.specs.Memories.{Memory}
-use Rattle.machine_model.specs.declared.actions.Action.{Action}
-use Rattle.machine_model.specs.declared.actions.Action.TheVariants as act
-use Rattle.machine_model.specs.declared.lines.Line.{Line}
-use Rattle.machine_model.specs.declared.operations.Operation.{Operation}
-use Rattle.machine_model.specs.declared.roots.RootWord.{RootWord}
-use Rattle.machine_model.specs.Acting.{attempt_after}
-use Rattle.machine_model.specs.Calls.{handle_of}
-use Rattle.machine_model.specs.Operations.{generation_from, line_action, read_of}
-use Rattle.machine_model.specs.Reading.{read_action}
-use Rattle.machine_model.specs.States.{State, word_at}
-use Rattle.gcas.specs.declared.read.Read.{Read}
-use Rattle.gcas.specs.declared.read.ReadAt.{ReadAt}
-use Rattle.gcas.specs.declared.read.ReadAt.TheVariants as read
-use Rattle.gcas.specs.Reads.{line_at}
-use Rattle.trie_parts.specs.declared.work.Work.{Work}
-use Rattle.trie_parts.specs.declared.calls.KeyCall.{KeyCall}
-use Rattle.trie_parts.specs.declared.calls.Task.{Task}
-use Rattle.trie_parts.specs.Here.{at_heap, no_state}
-use Rattle.trie_parts.specs.Holding.{Acts}
-use Rattle.trie_parts.specs.Steps.{Leads}
-use Rattle.trie_parts.specs.Tasks.{call_of as key_call}
-use Rattle.rdcss_root.specs.Acts.{ActsInAll}
-use Rattle.rdcss_root.specs.Tables.{Table, acted_table, word_in}
-use Rattle.rdcss_root.proofs.Together.{by_parts}
-use Rattle.root_asking.specs.declared.asking.Asking.TheVariants.{Unasked}
+use Rattle.running.specs.Beneath.machine_model.specs.declared.actions.Action.{Action}
+use Rattle.running.specs.Beneath.machine_model.specs.declared.actions.Action.TheVariants as act
+use Rattle.running.specs.Beneath.machine_model.specs.declared.lines.Line.{Line}
+use Rattle.running.specs.Beneath.machine_model.specs.declared.operations.Operation.{Operation}
+use Rattle.running.specs.Beneath.machine_model.specs.declared.roots.RootWord.{RootWord}
+use Rattle.running.specs.Beneath.machine_model.specs.Acting.{attempt_after}
+use Rattle.running.specs.Beneath.machine_model.specs.Calls.{handle_of}
+use Rattle.running.specs.Beneath.machine_model.specs.Operations.{generation_from, line_action, read_of}
+use Rattle.running.specs.Beneath.machine_model.specs.Reading.{read_action}
+use Rattle.running.specs.Beneath.machine_model.specs.States.{State, word_at}
+use Rattle.running.specs.Beneath.gcas.specs.declared.read.Read.{Read}
+use Rattle.running.specs.Beneath.gcas.specs.declared.read.ReadAt.{ReadAt}
+use Rattle.running.specs.Beneath.gcas.specs.declared.read.ReadAt.TheVariants as read
+use Rattle.running.specs.Beneath.gcas.specs.Reads.{line_at}
+use Rattle.running.specs.Beneath.trie_parts.specs.declared.work.Work.{Work}
+use Rattle.running.specs.Beneath.trie_parts.specs.declared.calls.KeyCall.{KeyCall}
+use Rattle.running.specs.Beneath.trie_parts.specs.declared.calls.Task.{Task}
+use Rattle.running.specs.Beneath.trie_parts.specs.Here.{at_heap, no_state}
+use Rattle.running.specs.Beneath.trie_parts.specs.Holding.{Acts}
+use Rattle.running.specs.Beneath.trie_parts.specs.Steps.{Leads}
+use Rattle.running.specs.Beneath.trie_parts.specs.Tasks.{call_of as key_call}
+use Rattle.running.specs.Beneath.rdcss_root.specs.Acts.{ActsInAll}
+use Rattle.running.specs.Beneath.rdcss_root.specs.Tables.{Table, acted_table, word_in}
+use Rattle.running.specs.Beneath.rdcss_root.proofs.Together.{by_parts}
+use Rattle.running.specs.Beneath.root_asking.specs.declared.asking.Asking.TheVariants.{Unasked}
 use Rattle.operate.specs.declared.key_op.KeyOp.{KeyOp}
 use Rattle.operate.specs.Places.{key_line}
 use Rattle.operate.specs.Reach.{IsOfKey, SwapsNoRoot}

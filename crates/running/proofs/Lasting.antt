@@ -3,16 +3,16 @@ use Rattle.std.specs.Prelude.{◌≡◌, ℕ, List, Option, Some, None, refl}
 use Rattle.history.specs.declared.calls.Access.{Access}
 use Rattle.history.specs.declared.calls.Access.TheVariants.{Writable, ReadOnly}
 use Rattle.slot_arena.specs.declared.refs.Ref.{Ref}
-use Rattle.machine_model.specs.declared.roots.Descriptor.{Descriptor}
-use Rattle.gcas.specs.declared.read.Read.{Read}
-use Rattle.gcas.specs.declared.read.ReadAt.{ReadAt}
-use Rattle.gcas.specs.declared.read.ReadAt.TheVariants as read
-use Rattle.gcas.specs.Reads.{IsAsking, line_at, line_of}
-use Rattle.trie_parts.specs.Steps.{IsAskingLine}
-use Rattle.rdcss_root.specs.declared.complete.CompleteAt.{CompleteAt}
-use Rattle.rdcss_root.specs.declared.complete.CompleteAt.TheVariants as complete
-use Rattle.rdcss_root.specs.declared.root.ReadRoot.TheVariants as rooting
-use Rattle.root_asking.specs.Inside.{with_read}
+use Rattle.running.specs.Beneath.machine_model.specs.declared.roots.Descriptor.{Descriptor}
+use Rattle.running.specs.Beneath.gcas.specs.declared.read.Read.{Read}
+use Rattle.running.specs.Beneath.gcas.specs.declared.read.ReadAt.{ReadAt}
+use Rattle.running.specs.Beneath.gcas.specs.declared.read.ReadAt.TheVariants as read
+use Rattle.running.specs.Beneath.gcas.specs.Reads.{IsAsking, line_at, line_of}
+use Rattle.running.specs.Beneath.trie_parts.specs.Steps.{IsAskingLine}
+use Rattle.running.specs.Beneath.rdcss_root.specs.declared.complete.CompleteAt.{CompleteAt}
+use Rattle.running.specs.Beneath.rdcss_root.specs.declared.complete.CompleteAt.TheVariants as complete
+use Rattle.running.specs.Beneath.rdcss_root.specs.declared.root.ReadRoot.TheVariants as rooting
+use Rattle.running.specs.Beneath.root_asking.specs.Inside.{with_read}
 use Rattle.snapshot.specs.declared.snap.Making.TheVariants as making
 use Rattle.snapshot.specs.declared.snap.Snap.{Snap as ASnap}
 use Rattle.snapshot.specs.declared.snap.SnapAt.{SnapAt}

@@ -1,12 +1,12 @@
 -- What an action makes of the offers in the table of root words, and of marks.
 use Rattle.std.specs.Prelude.{◌≡◌, ◌==◌, ◌&&◌, ℕ, Bool, true, false, List, Option, Some, None, refl, slice_index_or, slice_set, if◌then◌else◌}
-use Rattle.machine_model.specs.declared.actions.Action.{Action}
-use Rattle.machine_model.specs.declared.actions.Action.TheVariants as act
-use Rattle.machine_model.specs.declared.roots.Descriptor.{Descriptor}
-use Rattle.machine_model.specs.declared.roots.RootWord.TheVariants.{Plain}
-use Rattle.machine_model.specs.Acting.{if_changed}
-use Rattle.machine_model.specs.Swapping.{is_plain, stands_in}
-use Rattle.rdcss_root.specs.Tables.{Table, acted_table, carried_out_in, with_word_in, word_in}
+use Rattle.running.specs.Beneath.machine_model.specs.declared.actions.Action.{Action}
+use Rattle.running.specs.Beneath.machine_model.specs.declared.actions.Action.TheVariants as act
+use Rattle.running.specs.Beneath.machine_model.specs.declared.roots.Descriptor.{Descriptor}
+use Rattle.running.specs.Beneath.machine_model.specs.declared.roots.RootWord.TheVariants.{Plain}
+use Rattle.running.specs.Beneath.machine_model.specs.Acting.{if_changed}
+use Rattle.running.specs.Beneath.machine_model.specs.Swapping.{is_plain, stands_in}
+use Rattle.running.specs.Beneath.rdcss_root.specs.Tables.{Table, acted_table, carried_out_in, with_word_in, word_in}
 use Rattle.running.specs.Carried.{carried_by}
 
 -- ---- marks
@@ -32,7 +32,8 @@ pub record MarksBy (before : Table) (handle actor : ℕ) (action : Action) (afte
 
 completes : (table : Table) (handle actor : ℕ) (offer : Descriptor) (b c : Bool) →
     let after = if_changed b (if c then carried_out_in table handle offer else with_word_in table handle (Plain offer.root)) table in
-    (after.marks ≡ marked_at table.marks (slice_index_or table.offerers handle 0) (if b && c then Some offer else None)) × (after.carried ≡ carried_or table.carried (if b && c then Some offer else None))
+    (after.marks ≡ marked_at table.marks (slice_index_or table.offerers handle 0) (if b && c then Some offer else None)) ×
+    (after.carried ≡ carried_or table.carried (if b && c then Some offer else None))
 completes table handle actor offer true true = (refl, refl)
 completes table handle actor offer true false = (refl, refl)
 completes table handle actor offer false c = (refl, refl)

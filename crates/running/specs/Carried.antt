@@ -1,15 +1,15 @@
 -- What an action that carries an offer out adds to what is kept of operations.
 use Rattle.std.specs.Prelude.{List, [], ◌∷◌, false, Option, Some, None, if◌then◌else◌}
 use Rattle.slot_arena.specs.Heaps.{generation_at}
-use Rattle.machine_model.specs.declared.actions.Action.{Action}
-use Rattle.machine_model.specs.declared.actions.Action.TheVariants as act
-use Rattle.machine_model.specs.declared.heaps.Closing.{Closing}
-use Rattle.machine_model.specs.declared.roots.Descriptor.{Descriptor}
-use Rattle.machine_model.specs.declared.roots.RootWord.{RootWord}
-use Rattle.machine_model.specs.Beneath.places.specs.declared.place.Place.{Place}
-use Rattle.machine_model.specs.Beneath.places.specs.Places.{on_time}
-use Rattle.machine_model.specs.States.{State}
-use Rattle.machine_model.specs.Swapping.{is_carried_out}
+use Rattle.running.specs.Beneath.machine_model.specs.declared.actions.Action.{Action}
+use Rattle.running.specs.Beneath.machine_model.specs.declared.actions.Action.TheVariants as act
+use Rattle.running.specs.Beneath.machine_model.specs.declared.heaps.Closing.{Closing}
+use Rattle.running.specs.Beneath.machine_model.specs.declared.roots.Descriptor.{Descriptor}
+use Rattle.running.specs.Beneath.machine_model.specs.declared.roots.RootWord.{RootWord}
+use Rattle.running.specs.Beneath.machine_model.specs.Beneath.places.specs.declared.place.Place.{Place}
+use Rattle.running.specs.Beneath.machine_model.specs.Beneath.places.specs.Places.{on_time}
+use Rattle.running.specs.Beneath.machine_model.specs.States.{State}
+use Rattle.running.specs.Beneath.machine_model.specs.Swapping.{is_carried_out}
 
 -- the offer that the action carries out, if it does
 abbrev pub carried_by : RootWord → Action → Option Descriptor

@@ -1,3 +1,4 @@
+pub mod Beneath
 pub mod Carried
 pub mod Places
 pub mod Steps

@@ -3,22 +3,22 @@ use Rattle.std.specs.Prelude.{◌≡◌, ℕ, slice_index_or, false, Option, Som
 use Rattle.history.specs.declared.calls.Call.{Call}
 use Rattle.history.specs.declared.calls.Call.TheVariants as calls
 use Rattle.history.specs.declared.replies.Reply.TheVariants as reply
-use Rattle.machine_model.specs.declared.lines.Line.{Line}
-use Rattle.machine_model.specs.declared.lines.Line.TheVariants as line
-use Rattle.machine_model.specs.declared.operations.Operation.{Operation}
-use Rattle.machine_model.specs.declared.reading.ReadLine.{ReadLine}
-use Rattle.machine_model.specs.declared.reading.ReadLine.TheVariants as read
-use Rattle.machine_model.specs.declared.roots.Descriptor.{Descriptor}
-use Rattle.machine_model.specs.Lines.{impossible}
-use Rattle.machine_model.specs.Walking.{walked_reply}
-use Rattle.gcas.specs.declared.read.ReadAt.{ReadAt}
-use Rattle.gcas.specs.declared.read.ReadAt.TheVariants as at
-use Rattle.trie_parts.specs.Steps.{IsAskingLine}
-use Rattle.trie_parts.specs.Tasks.{call_of as key_call}
-use Rattle.rdcss_root.specs.Tables.{Table}
-use Rattle.root_asking.specs.declared.asking.Asking.{Asking}
-use Rattle.root_asking.specs.declared.asking.Asking.TheVariants.{Unasked, Met, Told}
-use Rattle.root_asking.specs.Inside.{with_read}
+use Rattle.running.specs.Beneath.machine_model.specs.declared.lines.Line.{Line}
+use Rattle.running.specs.Beneath.machine_model.specs.declared.lines.Line.TheVariants as line
+use Rattle.running.specs.Beneath.machine_model.specs.declared.operations.Operation.{Operation}
+use Rattle.running.specs.Beneath.machine_model.specs.declared.reading.ReadLine.{ReadLine}
+use Rattle.running.specs.Beneath.machine_model.specs.declared.reading.ReadLine.TheVariants as read
+use Rattle.running.specs.Beneath.machine_model.specs.declared.roots.Descriptor.{Descriptor}
+use Rattle.running.specs.Beneath.machine_model.specs.Lines.{impossible}
+use Rattle.running.specs.Beneath.machine_model.specs.Walking.{walked_reply}
+use Rattle.running.specs.Beneath.gcas.specs.declared.read.ReadAt.{ReadAt}
+use Rattle.running.specs.Beneath.gcas.specs.declared.read.ReadAt.TheVariants as at
+use Rattle.running.specs.Beneath.trie_parts.specs.Steps.{IsAskingLine}
+use Rattle.running.specs.Beneath.trie_parts.specs.Tasks.{call_of as key_call}
+use Rattle.running.specs.Beneath.rdcss_root.specs.Tables.{Table}
+use Rattle.running.specs.Beneath.root_asking.specs.declared.asking.Asking.{Asking}
+use Rattle.running.specs.Beneath.root_asking.specs.declared.asking.Asking.TheVariants.{Unasked, Met, Told}
+use Rattle.running.specs.Beneath.root_asking.specs.Inside.{with_read}
 use Rattle.operate.specs.Places.{key_line}
 use Rattle.operate.specs.Steps.{line_behind as line_answered, ReadsAt as KeyReadsAt}
 use Rattle.snapshot.specs.declared.tasks.SnapCall.{SnapCall}

@@ -4,25 +4,25 @@ use Rattle.ctrie_base.specs.declared.kinds.Kind.{Kind}
 use Rattle.ctrie_base.specs.declared.kinds.Kind.TheVariants as kind
 use Rattle.slot_arena.specs.declared.refs.Ref.{Ref}
 use Rattle.epochs.specs.Memories.{Memory}
-use Rattle.machine_model.specs.declared.actions.Action.{Action}
-use Rattle.machine_model.specs.declared.lines.Line.{Line}
-use Rattle.machine_model.specs.declared.operations.Operation.{Operation}
-use Rattle.machine_model.specs.declared.reading.After.{After}
-use Rattle.machine_model.specs.declared.reading.After.TheVariants.{Goes, Gives}
-use Rattle.machine_model.specs.declared.reading.Read.{Read}
-use Rattle.machine_model.specs.declared.reading.ReadLine.{ReadLine}
-use Rattle.machine_model.specs.Acting.{attempt_after}
-use Rattle.machine_model.specs.Calls.{handle_of}
-use Rattle.machine_model.specs.Operations.{kind_of, line_action, line_after, read_of, generation_from}
-use Rattle.machine_model.specs.Orders.{committed_in, counted_from}
-use Rattle.machine_model.specs.Reading.{read_after}
-use Rattle.machine_model.specs.States.{State, word_at}
-use Rattle.gcas.specs.declared.read.ReadAt.{ReadAt}
-use Rattle.gcas.specs.Reads.{given_so}
-use Rattle.rdcss_root.specs.Acts.{ActsInAll}
-use Rattle.rdcss_root.specs.Programs.{CanAbortOn}
-use Rattle.rdcss_root.specs.Tables.{Table, acted_table}
-use Rattle.root_asking.specs.Asked.{abort_of}
+use Rattle.running.specs.Beneath.machine_model.specs.declared.actions.Action.{Action}
+use Rattle.running.specs.Beneath.machine_model.specs.declared.lines.Line.{Line}
+use Rattle.running.specs.Beneath.machine_model.specs.declared.operations.Operation.{Operation}
+use Rattle.running.specs.Beneath.machine_model.specs.declared.reading.After.{After}
+use Rattle.running.specs.Beneath.machine_model.specs.declared.reading.After.TheVariants.{Goes, Gives}
+use Rattle.running.specs.Beneath.machine_model.specs.declared.reading.Read.{Read}
+use Rattle.running.specs.Beneath.machine_model.specs.declared.reading.ReadLine.{ReadLine}
+use Rattle.running.specs.Beneath.machine_model.specs.Acting.{attempt_after}
+use Rattle.running.specs.Beneath.machine_model.specs.Calls.{handle_of}
+use Rattle.running.specs.Beneath.machine_model.specs.Operations.{kind_of, line_action, line_after, read_of, generation_from}
+use Rattle.running.specs.Beneath.machine_model.specs.Orders.{committed_in, counted_from}
+use Rattle.running.specs.Beneath.machine_model.specs.Reading.{read_after}
+use Rattle.running.specs.Beneath.machine_model.specs.States.{State, word_at}
+use Rattle.running.specs.Beneath.gcas.specs.declared.read.ReadAt.{ReadAt}
+use Rattle.running.specs.Beneath.gcas.specs.Reads.{given_so}
+use Rattle.running.specs.Beneath.rdcss_root.specs.Acts.{ActsInAll}
+use Rattle.running.specs.Beneath.rdcss_root.specs.Programs.{CanAbortOn}
+use Rattle.running.specs.Beneath.rdcss_root.specs.Tables.{Table, acted_table}
+use Rattle.running.specs.Beneath.root_asking.specs.Asked.{abort_of}
 use Rattle.operate.specs.Steps.{CanKey}
 use Rattle.snapshot.specs.Copies.{CanSnap, IsReadyBeside}
 use Rattle.snapshot.specs.Tasks.{drawn_by, with_generation}

@@ -15,4 +15,5 @@ mod telling;
 
 pub use job::{Job, Program};
 pub use programs::{Programs, Stage};
+pub use snapshot::{Roots, SnapCall};
 pub use taken::Taken;

@@ -2,11 +2,11 @@
 
 ghost use Rattle.std.specs.Prelude.{◌≡◌, ◌<◌, ◌≤◌, ◌+◌, ◌-◌, ◌^◌, ℕ, [], length, Option, None, Some, IfOk, IfErr, OnErr};
 ghost use Rattle.epochs.specs.Memories.{KeepsEpochs, KeepsRemarks};
-ghost use Rattle.machine_model.specs.Operations.{first_line};
-ghost use Rattle.trie_parts.specs.Holding.{AreHeld, KeepsOthers};
-ghost use Rattle.trie_parts.specs.Steps.{IsAskingLine};
-ghost use Rattle.rdcss_root.specs.Programs.{CanAbortOn};
-ghost use Rattle.root_asking.specs.Asked.{IsUntold, abort_of};
+ghost use Rattle.running.specs.Beneath.machine_model.specs.Operations.{first_line};
+ghost use Rattle.running.specs.Beneath.trie_parts.specs.Holding.{AreHeld, KeepsOthers};
+ghost use Rattle.running.specs.Beneath.trie_parts.specs.Steps.{IsAskingLine};
+ghost use Rattle.running.specs.Beneath.rdcss_root.specs.Programs.{CanAbortOn};
+ghost use Rattle.running.specs.Beneath.root_asking.specs.Asked.{IsUntold, abort_of};
 ghost use Rattle.operate.specs.Places.{key_line};
 ghost use Rattle.operate.specs.Steps.{CanKey};
 ghost use Rattle.snapshot.specs.Copies.{CanSnap, IsReadyBeside, snap_line};
@@ -18,12 +18,9 @@ use crate::job::{Job, Program};
 use crate::taken::Taken;
 use ctrie_base::{HashKind, Kind, Refusal};
 use epochs::Heap;
-use gcas::Next;
 use history::Access;
 use operate::{KeyCall, KeyOp, KeyReply};
-use rdcss_root::Roots;
-use root_asking::Asking;
-use snapshot::{Count, Entries, Snap, SnapCall, SnapReply, Walked};
+use snapshot::{Asking, Count, Entries, Next, Roots, Snap, SnapCall, SnapReply, Walked};
 use std::alloc::Global;
 
 /// How far an operation has come.

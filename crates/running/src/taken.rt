@@ -1,12 +1,12 @@
 //! What a step of an operation was.
 
 ghost use Rattle.std.specs.Prelude.{◌≡◌, false};
-ghost use Rattle.gcas.specs.Reads.{given_so};
+ghost use Rattle.running.specs.Beneath.gcas.specs.Reads.{given_so};
 ghost use Rattle.running.specs.Steps.{taken_so, taken_in, if_reading, given_if, committed_if, counts_if};
 
 use ctrie_base::Kind;
-use gcas::ReadAt;
 use slot_arena::Ref;
+use snapshot::ReadAt;
 
 /// A step that was taken.
 #[derive(Clone, Copy)]

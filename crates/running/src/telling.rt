@@ -1,13 +1,13 @@
 //! What the programs of an operation tell of it.
 
 ghost use Rattle.std.specs.Prelude.{◌≡◌, ℕ, Option, IfOk, IfErr};
-ghost use Rattle.key_finding.specs.Replies.{reply_of as key_reply};
+ghost use Rattle.running.specs.Beneath.key_finding.specs.Replies.{reply_of as key_reply};
 ghost use Rattle.operate.specs.Places.{answer_of};
 ghost use Rattle.snapshot.specs.Tasks.{reply_of};
-ghost use Rattle.machine_model.specs.Acting.{swaps_in};
-ghost use Rattle.machine_model.specs.Operations.{kind_of, line_action};
-ghost use Rattle.machine_model.specs.States.{State};
-ghost use Rattle.machine_model.specs.declared.operations.Operation.{Operation};
+ghost use Rattle.running.specs.Beneath.machine_model.specs.Acting.{swaps_in};
+ghost use Rattle.running.specs.Beneath.machine_model.specs.Operations.{kind_of, line_action};
+ghost use Rattle.running.specs.Beneath.machine_model.specs.States.{State};
+ghost use Rattle.running.specs.Beneath.machine_model.specs.declared.operations.Operation.{Operation};
 ghost use Rattle.running.specs.Places.{asking_line, generation_in, line_for, program_line, IsSound, IsWaiting};
 
 use crate::job::Program;
@@ -15,9 +15,8 @@ use crate::programs::{Programs, Stage};
 use ctrie_base::{Kind, Refusal};
 use history::{Access, Reply};
 use operate::KeyReply;
-use root_asking::Asking;
 use slot_arena::Ref;
-use snapshot::SnapReply;
+use snapshot::{Asking, SnapReply};
 
 impl Programs {
     /// The reply with which the operation ends by its next step, if it does. An error says that memory was refused.

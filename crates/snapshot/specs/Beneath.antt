@@ -2,3 +2,5 @@
 pub use Rattle.root_asking.specs.Beneath.rdcss_root as rdcss_root
 pub use Rattle.trie_parts.specs.Beneath.gcas as gcas
 pub use Rattle.trie_parts.specs.Beneath.machine_model as machine_model
+pub use Rattle.root_asking as root_asking
+pub use Rattle.trie_parts as trie_parts

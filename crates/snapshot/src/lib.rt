@@ -27,6 +27,8 @@ mod walk;
 
 pub use entries::{Count, Entries};
 pub use laws::{draws_generations, tells_snap, tells_walk};
+pub use root_asking::{Asking, Roots};
 pub use snap::{Making, Snap, SnapAt};
 pub use tasks::{SnapCall, SnapReply, SnapTask};
+pub use trie_parts::{Next, ReadAt};
 pub use walk::{WalkAt, Walked};

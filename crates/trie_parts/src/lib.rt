@@ -16,7 +16,7 @@ mod private;
 mod work;
 
 pub use calls::{KeyCall, Task};
-pub use gcas::{Change, Descriptor, Next, Read, Root, RootWord, Site, Swap, generation_at};
+pub use gcas::{Change, Descriptor, Next, Read, ReadAt, Root, RootWord, Site, Swap, generation_at};
 pub use levels::{flag_of, index_in, parting};
 pub use looking::{bitmap_at, entries_at, entry_at, entry_count, is_single_at, key_at, node_at};
 pub use made::{changed_at, contracted, contracted_at, pair, renewed, rung};

@@ -8,7 +8,7 @@ use Rattle.history.specs.declared.events.Event.TheVariants.{Begin}
 use Rattle.machine_model.specs.Calls.{handle_of}
 use Rattle.machine_model.specs.Machine.{access_of}
 use Rattle.machine_model.specs.States.{root_at}
-use Rattle.rdcss_root.proofs.Rewriting.{ready_less}
+use Rattle.machine_core.specs.Beneath.rdcss_root.proofs.Rewriting.{ready_less}
 use Rattle.machine_core.specs.declared.parts.Parts.{Parts}
 use Rattle.machine_core.specs.Keeping.{Replaces}
 use Rattle.machine_core.specs.Beginnings.{Begins}
@@ -67,12 +67,12 @@ begins c =
       heap = c.pin.ensures;
       table = c.unmark.ensures;
       rest = ap (λ n. record c.close_handle.new.parts {
-            heap = c.pin.new.self;
-            table = c.unmark.new.self;
-            actors = c.seat.new.actors;
-            journal = record c.close_handle.new.parts.journal { events = c.push_reserved.new.self };
-            begun = n + 1;
-          }) (ap (λ (p : Parts). p.begun) closed.same);
+        heap = c.pin.new.self;
+        table = c.unmark.new.self;
+        actors = c.seat.new.actors;
+        journal = record c.close_handle.new.parts.journal { events = c.push_reserved.new.self };
+        begun = n + 1;
+      }) (ap (λ (p : Parts). p.begun) closed.same);
       events = c.push_reserved.ensures.items
           ∙ ap (λ es. es.items ++ Begin c.new_under_way-under_way.result.job.id c.args.actor c.args.call c.new_under_way-under_way.result.job.opens ∷ []) closed.events;
     }

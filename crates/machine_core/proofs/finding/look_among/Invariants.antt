@@ -1,6 +1,6 @@
 use Rattle.std.proofs.Common.{◌≡◌, drop}
 use Rattle.slot_arena.specs.Heaps.{node_at}
-use Rattle.proof_contents.specs.Nodes.Looking.{look_among}
+use Rattle.machine_core.specs.Beneath.proof_contents.specs.Nodes.Looking.{look_among}
 use Rattle.machine_core.proofs.finding.look_among.Given as goal
 
 -- those before say nothing of the key

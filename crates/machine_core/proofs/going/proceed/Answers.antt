@@ -9,7 +9,7 @@ note-requires-clause-midway c =
 pub returns-clause-ok : goal.returns-clause-ok
 returns-clause-ok c =
     let m = midway_roomed c.args.parts.now c.room_for.new.self c.args.actor c.args.under_way c.fresh_of-fresh.result c.in_ok-taken.taken c.step.new.parts
-        c.room_for.ensures.closings c.room_for.ensures.places c.room_for.ensures.generations c.requires.run c.requires.kept c.requires.runs c.in_ok-taken.ensures.steps c.fresh_of-fresh.ensures in
+    c.room_for.ensures.closings c.room_for.ensures.places c.room_for.ensures.generations c.requires.run c.requires.kept c.requires.runs c.in_ok-taken.ensures.steps c.fresh_of-fresh.ensures in
     whole_step c.args.parts.now c.args.actor c.args.under_way c.fresh_of-fresh.result c.in_ok-taken.taken c.step.new.parts c.note.new.parts m c.note.result
     (roomed_before c.args.parts.now c.room_for.new.self c.args.actor c.args.under_way c.fresh_of-fresh.result c.in_ok-taken.taken c.step.new.parts
     c.room_for.ensures.closings c.room_for.ensures.places c.room_for.ensures.generations c.requires.run c.requires.kept c.requires.runs c.in_ok-taken.ensures.steps c.fresh_of-fresh.ensures)

@@ -1,6 +1,6 @@
 use Rattle.std.specs.Prelude.{◌≡◌, None, refl}
-use Rattle.trie_parts.specs.Here.{no_state, no_operation}
-use Rattle.trie_parts.specs.Steps.{IsAskingLine}
+use Rattle.running.specs.Beneath.trie_parts.specs.Here.{no_state, no_operation}
+use Rattle.running.specs.Beneath.trie_parts.specs.Steps.{IsAskingLine}
 use Rattle.snapshot.specs.Walks.{walk_line}
 use Rattle.running.specs.declared.job.Program.TheVariants.{Count}
 use Rattle.running.proofs.Going.{walks}

@@ -1,6 +1,6 @@
 use Rattle.std.specs.Prelude.{◌≡◌, None}
-use Rattle.trie_parts.specs.Here.{no_state, no_operation}
-use Rattle.trie_parts.specs.Steps.{IsAskingLine}
+use Rattle.running.specs.Beneath.trie_parts.specs.Here.{no_state, no_operation}
+use Rattle.running.specs.Beneath.trie_parts.specs.Steps.{IsAskingLine}
 use Rattle.snapshot.specs.Copies.{snap_line}
 use Rattle.running.specs.declared.programs.Stage.TheVariants.{Runs, Swapped}
 use Rattle.running.proofs.Going.{snaps}

@@ -1,4 +1,0 @@
-pub mod Entries
-pub mod Parents
-pub mod Partings
-pub mod Sorting

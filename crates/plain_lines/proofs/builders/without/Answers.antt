@@ -1,9 +1,0 @@
-use Rattle.std.proofs.Common.{ap, ◌∙◌}
-use Rattle.slot_arena.specs.Heaps.{entries_from}
-use Rattle.plain_lines.proofs.Entries.{remove_parts}
-use Rattle.plain_lines.proofs.builders.without.Goals as goal
-
-pub returns : goal.returns
-returns c =
-    let parts = remove_parts c.args.entries.now c.args.position in
-    c.entries_from_parts.ensures ∙ ap entries_from parts

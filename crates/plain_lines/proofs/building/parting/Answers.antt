@@ -1,9 +1,0 @@
-use Rattle.std.proofs.Common.{◌+◌, ◌-◌, arith, sym, ◌∙◌}
-use Rattle.plain_lines.proofs.Partings.{parts_below}
-use Rattle.plain_lines.proofs.building.parting.Goals as goal
-
-pub loop-depth-preserved : goal.loop-depth-preserved
-loop-depth-preserved c =
-    let d = c.loop-depth.depth in
-    let below = parts_below (c.args.end - d) (c.args.end - (d + 1)) c.args.old_hash c.args.hash d (omega arith) (sym c.index_in.ensures ∙ c.if-index_in.false ∙ c.index_in-in-loop-depth.ensures) in
-    sym below ∙ c.loop-depth.invariant
