@@ -3,15 +3,14 @@ use Rattle.std.specs.Prelude.{◌≡◌, ℕ, ◌==◌, Bool, false, List, slice
 use Rattle.std.specs.List.{list_any}
 use Rattle.places.specs.declared.place.Place.{Place}
 
--- what a caller sees: the places in the order in which they came, the steps of the closings, of how many ids there is a mark, for how
--- many places and closings there is room, and how often a place was written or moved
+-- what a caller sees: the places in the order in which they came, the steps of the closings, of how many ids there is a mark, and for how
+-- many places and closings there is room
 pub record Entered : Type 0 where
   pub places : List Place
   pub closings : List ℕ
   pub ids : ℕ
   pub room_to_add : ℕ
   pub room_to_close : ℕ
-  pub ticks : ℕ
 
 -- just the ids are marked that have a place
 abbrev pub AreMarked : List Bool → List Place → Type 0

@@ -4,7 +4,7 @@ use Rattle.machine_model.specs.declared.heaps.Closing.{Closing}
 use Rattle.places.specs.declared.place.Place.{Place}
 
 -- what a caller sees: the closings and the places in the order in which they came, how many generations were drawn, of how many ids there
--- is a mark, for how many generations, places and closings there is room, and how often a place was written or moved
+-- is a mark, and for how many generations, places and closings there is room
 pub record Told : Type 0 where
   pub closings : List Closing
   pub generations : ℕ
@@ -13,4 +13,3 @@ pub record Told : Type 0 where
   pub room_to_draw : ℕ
   pub room_to_add : ℕ
   pub room_to_close : ℕ
-  pub ticks : ℕ

@@ -1,6 +1,6 @@
 //! What places operations in the legal order.
 
-ghost use Rattle.std.specs.Prelude.{◌≡◌, ◌+◌, ◌<◌, ◌≤◌, ◌++◌, ◌∷◌, [], ◌==◌, All, IfOk, OnOk, IsOkUnless};
+ghost use Rattle.std.specs.Prelude.{◌≡◌, ◌+◌, ◌<◌, ◌≤◌, ◌++◌, ◌∷◌, [], ◌==◌, All, IfOk, OnOk, IsOkUnless, length};
 ghost use Rattle.std.specs.List.{list_any};
 ghost use Rattle.ctrie_base.specs.declared.refusals.Refusal.TheVariants.{Memory};
 ghost use Rattle.places.specs.Places.{ids_by_place};
@@ -34,7 +34,6 @@ impl Model for Chronicle {
       room_to_draw = c.closings.room;
       room_to_add = c.ordered.room_to_add;
       room_to_close = c.ordered.room_to_close;
-      ticks = c.ordered.ticks;
     } };
 
     ghost invariant = { λ c. c.ordered.closings ≡ map (λ closing. closing.step) c.closings.closings };
@@ -46,7 +45,6 @@ impl Chronicle {
         ensures closings { IfOk result (λ made. made.closings ≡ []) }
         ensures generations { IfOk result (λ made. made.generations ≡ 1) }
         ensures places { IfOk result (λ made. made.places ≡ []) }
-        ensures ticks { IfOk result (λ made. made.ticks ≡ 0) }
     {
         Ok(Chronicle {
             closings: Closings::new(alloc)?,
@@ -61,7 +59,6 @@ impl Chronicle {
         ensures closings { self.new.closings ≡ self.old.closings }
         ensures generations { self.new.generations ≡ self.old.generations }
         ensures places { self.new.places ≡ self.old.places }
-        ensures ticks { self.new.ticks ≡ self.old.ticks }
         ensures to_draw { OnOk result (0 < self.new.room_to_draw) }
         ensures to_add { OnOk result (0 < self.new.room_to_add) }
         ensures to_close { OnOk result (0 < self.new.room_to_close) }
@@ -77,7 +74,6 @@ impl Chronicle {
         ensures closings { self.new.closings ≡ self.old.closings }
         ensures generations { self.new.generations ≡ self.old.generations + 1 }
         ensures places { self.new.places ≡ self.old.places }
-        ensures ticks { self.new.ticks ≡ self.old.ticks }
     {
         self.closings.draw();
     }
@@ -107,7 +103,6 @@ impl Chronicle {
         ensures places { self.new.places ≡ self.old.places }
         ensures ids { self.new.ids ≡ self.old.ids }
         ensures room_to_add { self.new.room_to_add ≡ self.old.room_to_add }
-        ensures ticks { self.new.ticks ≡ self.old.ticks }
     {
         self.closings.close(generation, step);
         self.ordered.close(step);
@@ -121,7 +116,6 @@ impl Chronicle {
         ensures closings { self.new.closings ≡ self.old.closings }
         ensures generations { self.new.generations ≡ self.old.generations }
         ensures room_to_draw { self.new.room_to_draw ≡ self.old.room_to_draw }
-        ensures ticks { self.new.ticks ≡ self.old.ticks + 1 }
     {
         self.ordered.add(at);
     }
@@ -141,9 +135,9 @@ impl Chronicle {
         self.ordered.order()
     }
 
-    /// How often a place was written or moved.
+    /// How often a place was written or moved: once for each.
     pub fn ticks(&self) -> &Ticks
-        ensures { result.now.count ≡ self.now.ticks }
+        ensures { result.now.count ≡ length self.now.places }
     {
         self.ordered.ticks()
     }

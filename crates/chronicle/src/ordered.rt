@@ -19,7 +19,7 @@ pub struct Ordered {
 }
 
 impl Model for Ordered {
-    ghost use Rattle.std.specs.Prelude.{length};
+    ghost use Rattle.std.specs.Prelude.{◌≡◌, length};
     ghost use Rattle.chronicle.specs.Entered.{Entered, AreMarked};
 
     ghost Value = { Entered };
@@ -30,10 +30,9 @@ impl Model for Ordered {
       ids = length o.placed.items;
       room_to_add = o.places.room_to_add;
       room_to_close = o.places.room_to_close;
-      ticks = o.places.ticks;
     } };
 
-    ghost invariant = { λ o. AreMarked o.placed.items o.places.places };
+    ghost invariant = { λ o. AreMarked o.placed.items o.places.places × (o.places.ticks ≡ length o.places.places) };
 }
 
 impl Ordered {
@@ -42,7 +41,6 @@ impl Ordered {
     pub fn new(alloc: Global) -> Ordered
         ensures places { result.places ≡ [] }
         ensures closings { result.closings ≡ [] }
-        ensures ticks { result.ticks ≡ 0 }
     {
         Ordered {
             places: Places::new(alloc),
@@ -56,7 +54,6 @@ impl Ordered {
         ensures only_memory { IsOkUnless result Memory }
         ensures places { self.new.places ≡ self.old.places }
         ensures closings { self.new.closings ≡ self.old.closings }
-        ensures ticks { self.new.ticks ≡ self.old.ticks }
         ensures to_add { OnOk result (0 < self.new.room_to_add) }
         ensures to_close { OnOk result (0 < self.new.room_to_close) }
         ensures of_id { OnOk result (id < self.new.ids) }
@@ -70,7 +67,6 @@ impl Ordered {
     fn know(&mut self, id: usize) -> Result<(), AllocError>
         ensures places { self.new.places ≡ self.old.places }
         ensures closings { self.new.closings ≡ self.old.closings }
-        ensures ticks { self.new.ticks ≡ self.old.ticks }
         ensures to_add { self.new.room_to_add ≡ self.old.room_to_add }
         ensures to_close { self.new.room_to_close ≡ self.old.room_to_close }
         ensures of_id { OnOk result (id < self.new.ids) }
@@ -84,7 +80,6 @@ impl Ordered {
         requires behind { All (λ place. place.step ≤ step) self.old.places }
         ensures closings { self.new.closings ≡ self.old.closings ++ step ∷ [] }
         ensures places { self.new.places ≡ self.old.places }
-        ensures ticks { self.new.ticks ≡ self.old.ticks }
         ensures ids { self.new.ids ≡ self.old.ids }
         ensures room_to_add { self.new.room_to_add ≡ self.old.room_to_add }
     {
@@ -97,7 +92,6 @@ impl Ordered {
         requires of_id { at.id < self.old.ids }
         ensures places { self.new.places ≡ self.old.places ++ at ∷ [] }
         ensures closings { self.new.closings ≡ self.old.closings }
-        ensures ticks { self.new.ticks ≡ self.old.ticks + 1 }
     {
         mark(&mut self.placed, at.id as usize);
         self.places.add(at);
@@ -118,9 +112,9 @@ impl Ordered {
         self.places.order()
     }
 
-    /// How often a place was written or moved.
+    /// How often a place was written or moved: once for each.
     pub fn ticks(&self) -> &Ticks
-        ensures { result.now.count ≡ self.now.ticks }
+        ensures { result.now.count ≡ length self.now.places }
     {
         self.places.ticks()
     }
