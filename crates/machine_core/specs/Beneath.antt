@@ -11,3 +11,4 @@ pub use Rattle.proof_records.specs.Beneath.proof_memory as proof_memory
 pub use Rattle.proof_records.specs.Beneath.proof_commits as proof_commits
 pub use Rattle.proof_records.specs.Beneath.proof_generations as proof_generations
 pub use Rattle.proof_records.specs.Beneath.proof_order as proof_order
+pub use Rattle.proof_records as proof_records

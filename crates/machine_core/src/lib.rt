@@ -30,3 +30,4 @@ mod sweeping;
 
 pub use calls::key_of;
 pub use machine::Core;
+pub use proof_records::one_place_a_step;

@@ -18,7 +18,7 @@ use crate::handles::handles_taken;
 use crate::parts::Parts;
 use crate::starting::{are_limits, first_parts};
 use crate::stepping::take_step;
-use ctrie_base::{Kind, Refusal};
+use ctrie_base::{Kind, Refusal, Ticks};
 use history::{Access, Event, Pairs};
 use machine_model::{Limits, Outcome, Step};
 use std::alloc::Global;
@@ -100,6 +100,13 @@ impl Core {
             return Err(Refusal::NoHandle);
         }
         Ok(content_of(&self.parts, handle)?)
+    }
+
+    /// How often a place in the order was written or moved: once for each.
+    pub fn ticks(&self) -> &Ticks
+        ensures { result.now.count ≡ length self.now.places }
+    {
+        self.parts.journal.chronicle.ticks()
     }
 
     /// The value of a key in the map of an open handle, found along its hash. `NoHandle` exactly where the

@@ -1,5 +1,5 @@
 -- What the laws say of a step that was asked for, be it taken or refused.
-use Rattle.std.proofs.Common.{◌≡◌, ◌⊎◌, ◌+◌, ◌≤◌, List, ◌++◌, Result, Ok, Err, OnOk, sym, ap, subst, inl, inr, arith}
+use Rattle.std.proofs.Common.{◌≡◌, ◌⊎◌, ◌+◌, ◌≤◌, List, ◌++◌, length, Result, Ok, Err, OnOk, sym, ap, subst, inl, inr, arith}
 use Rattle.ctrie_base.specs.declared.refusals.Refusal.{Refusal}
 use Rattle.ctrie_base.specs.declared.refusals.Refusal.TheVariants as refuse
 use Rattle.step_machine.specs.Beneath.slot_arena.specs.Refs.{birth_of}
@@ -12,6 +12,7 @@ use Rattle.machine_model.specs.Machine.{AreLimits, next, run, state_after}
 use Rattle.machine_model.specs.States.{State, first_state}
 use Rattle.machine_model.proofs.Along.{run-append}
 use Rattle.machine_model.proofs.Moves.{moved}
+use Rattle.machine_core.specs.Beneath.proof_records.specs.Laws.{OnePlaceAStep}
 use Rattle.proof_memory.specs.Laws.{IsInUse, HeldInUse, StandingInUse, FreedLate}
 use Rattle.proof_memory.proofs.Heap.Later.{onward, births_later}
 use Rattle.proof_memory.proofs.Safety.AtEachTime.{safe_along}
@@ -65,6 +66,15 @@ draws_new result before s after ok is r unused used steps since parts old = elim
       let low = subst (λ xs. birth_of r ≤ (run before.limits xs).heap.births) (sym parts) (earlier_birth before.limits steps since ok r old) in
       omega (arith, new, low)
   | inr same ↦ unused (subst (λ m. Uses m r) same used)
+]
+
+-- ---- the order
+
+pub one_place_more : OnePlaceAStep → (result : Result Outcome Refusal) (before : Taken) (s : Step) (after : Taken) → AreLimits before.limits → Applied result before s after →
+    length (state_of after).places ≤ length (state_of before).places + 1
+one_place_more law result before s after ok is = elim (outcome_of result before s after is) [
+  | inl taken ↦ subst (λ (state : State). length state.places ≤ length (state_of before).places + 1) (ap (state_after (state_of before)) taken.2) (law before.limits before.steps s ok)
+  | inr same ↦ subst (λ (m : Taken). length (state_of m).places ≤ length (state_of before).places + 1) (sym same) (omega arith)
 ]
 
 -- ---- contents

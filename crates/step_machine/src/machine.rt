@@ -1,6 +1,6 @@
 //! A machine and its steps.
 
-ghost use Rattle.std.specs.Prelude.{◌≡◌, ◌≢◌, ◌+◌, ℕ, length, None, option_map, Some, Ok, IsSome, IfOk, IfErr, OnOk, IsOkUnless};
+ghost use Rattle.std.specs.Prelude.{◌≡◌, ◌≢◌, ◌+◌, ◌≤◌, ℕ, length, None, option_map, Some, Ok, IsSome, IfOk, IfErr, OnOk, IsOkUnless};
 ghost use Rattle.std.specs.FinMap as map;
 ghost use Rattle.std.specs.Ordering.{nat_cmp};
 ghost use Rattle.ctrie_base.specs.declared.kinds.Kind.TheVariants.{Make};
@@ -21,7 +21,7 @@ ghost use Rattle.step_machine.specs.Ending.{EndsIfSure, IsNearer};
 ghost use Rattle.step_machine.specs.Legality.{IsLegalFor, LeadsToContents, HasInOrder, InOrder, IsInOrder, writable_in};
 ghost use Rattle.step_machine.specs.Memory.{UsesWhatItNames, FreesLate, DrawsNew};
 
-use ctrie_base::{Kind, Refusal};
+use ctrie_base::{Kind, Refusal, Ticks};
 use history::{Access, Event};
 use machine_core::Core;
 use machine_model::{Limits, Outcome, Step};
@@ -73,7 +73,7 @@ impl Machine {
     /// it for two epochs (`frees`), and makes one under a reference that never was in use (`draws`). `contents`
     /// says what it does to the content of each open handle. An operation on one key, a snapshot, a freeze, a
     /// clear or a close ends within 3,962 steps of its actor alone, while so many are left (`ends`); each one
-    /// that is taken leaves one less (`nearer`).
+    /// that is taken leaves one less (`nearer`). What `ticks` counts grows by at most one.
     pub fn apply(&mut self, step: Step) -> Result<Outcome, Refusal>
         ensures applied { Applied result self.old step self.new }
         ensures want { (actor id : ℕ) → step ≡ Step.Go actor → result ≡ Ok (Outcome.Ended id NoSlots) → FoundNoSlot self.old actor id }
@@ -83,6 +83,7 @@ impl Machine {
         ensures contents { OnOk result (ChangesContents self.old step self.new) }
         ensures ends { (actor : ℕ) → EndsIfSure self.new actor }
         ensures nearer { OnOk result (IsNearer self.old step self.new) }
+        ensures ticks { length (state_of self.new).places ≤ length (state_of self.old).places + 1 }
     {
         let _ = self.limits();
         let result = self.take_step(step);
@@ -94,6 +95,7 @@ impl Machine {
         proof_updates::contents_of_handles();
         proof_obstruction_free::each_step_leads_to_its_end();
         proof_obstruction_free::closes_end();
+        machine_core::one_place_a_step();
         result
     }
 
@@ -261,6 +263,13 @@ impl Machine {
         ensures { result ≡ option_map (λ access. is_access Access.Writable (Some access)) (access_of (root_at (state_of self.now) handle)) }
     {
         self.body.is_writable(handle)
+    }
+
+    /// How often a place in the order was written or moved: once for each.
+    pub fn ticks(&self) -> &Ticks
+        ensures { result.now.count ≡ length (state_of self.now).places }
+    {
+        self.body.ticks()
     }
 
     /// How many handles are open or reserved, at most 256.

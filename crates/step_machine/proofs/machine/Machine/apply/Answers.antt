@@ -1,4 +1,4 @@
-use Rattle.step_machine.proofs.Applying.{uses_what_it_names, frees_late, draws_new, if_changes}
+use Rattle.step_machine.proofs.Applying.{uses_what_it_names, frees_late, draws_new, if_changes, one_place_more}
 use Rattle.step_machine.proofs.Ending.{ends_if_sure, if_nearer}
 use Rattle.step_machine.proofs.machine.Machine.apply.Goals as goal
 
@@ -23,3 +23,6 @@ returns-clause-ends c = ends_if_sure c.each_step_leads_to_its_end.ensures c.clos
 
 pub returns-clause-nearer : goal.returns-clause-nearer
 returns-clause-nearer c = if_nearer c.take_step-result.result c.args.self.now c.args.step c.take_step-result.new.self c.take_step-result.ensures
+
+pub returns-clause-ticks : goal.returns-clause-ticks
+returns-clause-ticks c = one_place_more c.one_place_a_step.ensures c.take_step-result.result c.args.self.now c.args.step c.take_step-result.new.self c.limits.ensures.in_range c.take_step-result.ensures
