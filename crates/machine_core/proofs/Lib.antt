@@ -14,7 +14,6 @@ pub mod Starts
 pub mod Numbers
 pub mod Gathering
 pub mod Levels
-pub mod Sorting
 pub mod Named
 pub mod Knows
 pub mod Kept

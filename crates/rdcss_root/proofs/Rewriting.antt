@@ -20,14 +20,15 @@ use Rattle.trie_parts.specs.Holding.{AreHeld}
 use Rattle.rdcss_root.specs.Holds.{Holds, Releases, IsReady, Moves}
 use Rattle.rdcss_root.proofs.Keeping.{kept, kept_on}
 
-times_flat : {X : Type 0} (r : Ref) (f : X → List Ref) (xs : List X) → times r (flat_map f xs) ≡ sum_by (λ x. times r (f x)) xs
+-- what stands in lists of lists
+pub times_flat : {X : Type 0} (r : Ref) (f : X → List Ref) (xs : List X) → times r (flat_map f xs) ≡ sum_by (λ x. times r (f x)) xs
 times_flat r f [] = refl
 times_flat r f (x ∷ xs) =
     ap (times r) (flat_map-cons f x xs)
     ∙ omega (arith, times-append r (f x) (flat_map f xs), times_flat r f xs, sum_by-cons (λ y. times r (f y)) x xs)
 
 -- one of the lists is replaced
-times_set : {X : Type 0} (r : Ref) (f : X → List Ref) (xs : List X) (i : ℕ) (y d : X) → i < length xs →
+pub times_set : {X : Type 0} (r : Ref) (f : X → List Ref) (xs : List X) (i : ℕ) (y d : X) → i < length xs →
     times r (flat_map f (slice_set xs i y)) + times r (f (slice_index_or xs i d)) ≡ times r (flat_map f xs) + times r (f y)
 times_set r f xs i y d within =
     omega (arith, times_flat r f (slice_set xs i y), times_flat r f xs, sum_by-set (λ x. times r (f x)) xs i y d within)
@@ -40,7 +41,8 @@ few_of_word (Offer offer) = by_second offer.second
     by_second None = omega arith
     by_second (Some r) = omega arith
 
-few_of_root : (root : Option Root) → length (refs_of_root root) ≤ 4
+-- a root word has at most four references
+pub few_of_root : (root : Option Root) → length (refs_of_root root) ≤ 4
 few_of_root None = omega arith
 few_of_root (Some root) = few_of_word root.word
 
