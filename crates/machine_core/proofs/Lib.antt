@@ -29,3 +29,4 @@ pub mod Fits
 pub mod Asked
 pub mod Whole
 pub mod Keeps
+pub mod Sorting

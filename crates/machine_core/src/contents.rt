@@ -71,7 +71,7 @@ fn gather_each(
 }
 
 /// All of these pairs, by rising key. An error says that memory was refused.
-#[tactic(auto, using(crate::specs::Beneath::snapshot::proofs::Sorting::sorted_by_key))]
+#[tactic(auto, using(crate::proofs::Sorting::sorted_by_key))]
 fn pairs_by_key(alloc: Global, pairs: &[(u64, u64)]) -> Result<Pairs, AllocError>
     ensures { IfOk result (λ sorted. sorted ≡ by_key pairs.now) }
 {
