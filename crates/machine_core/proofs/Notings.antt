@@ -36,7 +36,7 @@ use Rattle.machine_core.proofs.Stepped.{carried_now}
 use Rattle.machine_core.proofs.Took.{Took}
 
 -- only a swap of the root carries an offer out
-carried_not : (word : RootWord) (action : Action) → (kind_of action ≡ kind.SwapRoot → ⊥) → carried_by word action ≡ None
+pub carried_not : (word : RootWord) (action : Action) → (kind_of action ≡ kind.SwapRoot → ⊥) → carried_by word action ≡ None
 carried_not word (act.Complete offer main) other = absurd (other refl)
 carried_not word action other = refl
 
