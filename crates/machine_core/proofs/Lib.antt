@@ -30,3 +30,5 @@ pub mod Fits
 pub mod Asked
 pub mod Whole
 pub mod Keeps
+pub mod Owned
+pub mod Owning
