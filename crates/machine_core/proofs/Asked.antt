@@ -88,12 +88,12 @@ entered_ids state main operation n less = by (swaps_in main operation.line)
 
 -- ---- what an action publishes
 
-only_publish : (state : State) (operation : Operation) (l : Line) (indirection replaced fresh x : Ref) →
+pub only_publish : (state : State) (operation : Operation) (l : Line) (indirection replaced fresh x : Ref) →
     line_action state operation l ≡ act.Publish indirection replaced fresh → SwapsFresh x l → fresh ≡ x
 only_publish state operation l indirection replaced fresh x e swaps = grind (arith, e, swaps)
 
 -- a swap of a main word from which no READ counts puts the fresh node in its place
-publishes : (action : Action) (counts : Bool) → kind_of action ≡ kind.SwapMain → counts ≡ false → counted_from action 1 0 ≡ (if counts then 1 else 0) →
+pub publishes : (action : Action) (counts : Bool) → kind_of action ≡ kind.SwapMain → counts ≡ false → counted_from action 1 0 ≡ (if counts then 1 else 0) →
     (indirection : Ref) × (replaced : Ref) × (fresh : Ref) × (action ≡ act.Publish indirection replaced fresh)
 publishes (act.Publish indirection replaced fresh) counts swaps none counted = (indirection, replaced, fresh, refl)
 publishes (act.Restore indirection main previous) false swaps none counted = absurd (omega (arith, counted))
@@ -107,7 +107,7 @@ past_in state h =
     subst (λ (s : State). All (λ (place : Place). place.step < s.steps) s.places × All (λ (closing : Closing). closing.step < s.steps) s.closings) (sym h.is)
     (places_past state.limits h.steps)
 
-action_used : (state : State) → IsOfRun state → (actor : ℕ) (operation : Operation) → operation_of state actor ≡ Some operation →
+pub action_used : (state : State) → IsOfRun state → (actor : ℕ) (operation : Operation) → operation_of state actor ≡ Some operation →
     AllHold (IsInUse state.heap) state.heap (action_wants (action_of state operation))
 action_used state h actor operation found =
     subst (λ (s : State). operation_of s actor ≡ Some operation → AllHold (IsInUse s.heap) s.heap (action_wants (action_of s operation))) (sym h.is)

@@ -30,5 +30,7 @@ pub mod Fits
 pub mod Asked
 pub mod Whole
 pub mod Keeps
+pub mod Owned
+pub mod Owning
 pub mod Offerers
 pub mod Behind

@@ -207,7 +207,7 @@ module _ (before : Parts) (actor : ℕ) (u next : UnderWay) (taken : Taken) (now
       (ap (λ (x : Parts). x.table) notes.rest) (ap (λ e. e.items) notes.events) notes.closings notes.places
 
   noted_owner : (fresh : Ref) (after : Parts) → taken.committed ≡ None → (taken.kind ≡ kind.SwapRoot → ⊥) → NotesOwner now actor fresh after → NotedSo before actor u next taken now t run kept is after
-  noted_owner fresh after none other rest =
+  noted_owner fresh after none other (rest, set) =
       noted_plain after none other (subst (λ (x : Parts). x ≡ record now { heap = x.heap; table = x.table; journal = x.journal }) (sym rest) refl)
       (ap (λ (x : Parts). x.heap.heap) rest)
       (ap (λ (x : Parts). x.heap.limbo) rest, ap (λ (x : Parts). x.heap.epoch) rest, ap (λ (x : Parts). x.heap.cursor) rest)
