@@ -34,3 +34,4 @@ pub mod Owned
 pub mod Owning
 pub mod Offerers
 pub mod Behind
+pub mod Lasting

@@ -36,7 +36,6 @@ use Rattle.machine_core.specs.Keeping.{IsKept, Replaces}
 use Rattle.machine_core.specs.Seen.{actor_of, operation_at, seen, under_way_of}
 use Rattle.machine_core.proofs.Allowed.{there_is}
 use Rattle.machine_core.proofs.Asked.{begun_now, can_note, ids_main, live_main, newest_main, room_main}
-use Rattle.machine_core.proofs.Behind.{kept_commit, kept_kind}
 use Rattle.machine_core.proofs.Fits.{newest_given}
 use Rattle.machine_core.proofs.Kept.{Seat, kept_alike, operation_there, seat_of}
 use Rattle.machine_core.proofs.Noted.{NotedSo, gone_seen}
@@ -69,19 +68,8 @@ module _ (actor : ℕ) (u : UnderWay) (fresh : Ref) (taken : Taken) (middle : Pa
       (operation : Operation) → operation_of (seen m.before) actor ≡ Some operation → gone (seen m.before) actor operation ≡ seen after
   whole_kind after none notes = by_notes after (noted_kind m.before actor u next taken now took_so m.run m.kept moves_so fresh after none notes)
 
-  fresh_same : fresh ≡ took_so.seat.found.programs.key.work.swap.fresh
+  pub fresh_same : fresh ≡ took_so.seat.found.programs.key.work.swap.fresh
   fresh_same = m.fresh_is took_so.seat.found (actor_there m.before actor u took_so.seat)
-
-  -- ---- what is kept
-
-  goes_so : answer_of (line_for u.program took_so.seat.found.programs) ≡ None
-  goes_so = m.goes_on took_so.seat.found (actor_there m.before actor u took_so.seat)
-
-  pub keeps_commit : (main : Ref) (after : Parts) → taken.committed ≡ Some main → NotesCommit now main after → IsKept after
-  keeps_commit = kept_commit m.before actor u next taken now took_so m.run m.kept moves_so m.allowed goes_so
-
-  pub keeps_kind : (after : Parts) → taken.committed ≡ None → NotesKind taken.kind taken.counts now actor fresh after → IsKept after
-  keeps_kind after none notes = kept_kind m.before actor u next taken now took_so m.run m.kept moves_so m.allowed goes_so fresh after none fresh_same notes
 
   -- ---- what the notes ask
 
