@@ -14,7 +14,8 @@ use Rattle.history.specs.declared.faults.Obstacle.TheVariants.{NeedsWritable, Ne
 use Rattle.history.specs.Worlds.{KeyMap, HandleState, HandleMap}
 use Rattle.history.specs.Effects.{map_of, writable_map_of, read_only_map_of, with_access, naming, copying, effect}
 use Rattle.history.specs.Histories.{OpensRightly}
-use Rattle.history.specs.Faults.{handle_of, needed_access, Names, Hinders}
+use Rattle.history.specs.Faults.{needed_access, Names, Hinders}
+use Rattle.history.specs.Handles.{handle_of}
 use Rattle.history.specs.Obstacles.{mismatch}
 
 state_in : (o : Option HandleState) (access : Access) → option_and_then (λ s. Some s.access) o ≡ Some access → (m : KeyMap) × (o ≡ Some (record { access = access; pairs = m }))

@@ -20,7 +20,8 @@ use Rattle.history.specs.Effects.{effect}
 use Rattle.history.specs.Histories.{Operation, BeginsAt, EndsAt, HasBegun, HasEnded, OpensRightly, MayFollow, IsWellFormed}
 use Rattle.history.specs.Orders.{OrderedAt, IsBefore}
 use Rattle.history.specs.Beginnings.{LeadsTo}
-use Rattle.history.specs.Faults.{Names, Hinders, IsAmong, BeganLast, IsInTime, Calls, IsWrongBehind, IsFirstWrong, IsMissing, IsFirstMissing, IsFirstFault, handle_of, needed_access}
+use Rattle.history.specs.Faults.{Names, Hinders, IsAmong, BeganLast, IsInTime, Calls, IsWrongBehind, IsFirstWrong, IsFirstMissing, IsFirstFault, needed_access}
+use Rattle.history.specs.Handles.{handle_of}
 use Rattle.history.specs.Laws.{HasOneFirstFault}
 use Rattle.history.proofs.Places.{in_take, at_take}
 use Rattle.history.proofs.Begins.{begins_once}

@@ -4,7 +4,7 @@ use Rattle.std.specs.FinMap as map
 use Rattle.history.specs.declared.calls.Access.{Access}
 use Rattle.history.specs.declared.calls.Access.TheVariants.{Writable, ReadOnly}
 use Rattle.history.specs.declared.calls.Call.{Call}
-use Rattle.history.specs.declared.calls.Call.TheVariants.{Get, Put, PutIfAbsent, Replace, ReplaceIf, Remove, RemoveIf, Clear, Snapshot, Freeze, Close, Entries, Count}
+use Rattle.history.specs.declared.calls.Call.TheVariants.{Get, Close, Entries, Count}
 use Rattle.history.specs.declared.replies.Reply.{Reply}
 use Rattle.history.specs.declared.replies.Reply.TheVariants.{NoSlots}
 use Rattle.history.specs.declared.events.Event.{Event}
@@ -13,27 +13,12 @@ use Rattle.history.specs.declared.faults.Obstacle.{Obstacle}
 use Rattle.history.specs.declared.faults.Obstacle.TheVariants.{NotOpen, NeedsWritable, NeedsReadOnly, OpenAlready}
 use Rattle.history.specs.declared.faults.OrderFault.{OrderFault}
 use Rattle.history.specs.declared.faults.OrderFault.TheVariants.{WrongEvent, NotBegun, StandsTwice, WasRefused, StandsLate, NoEffect, OtherReply, Missing}
+use Rattle.history.specs.Handles.{handle_of}
 use Rattle.history.specs.Worlds.{KeyMap, HandleMap}
 use Rattle.history.specs.Effects.{effect}
 use Rattle.history.specs.Histories.{Operation, BeginsAt, HasBegun, HasEnded, MayFollow, IsWellFormed}
 use Rattle.history.specs.Orders.{OrderedAt, IsBefore}
 use Rattle.history.specs.Beginnings.{LeadsTo}
-
--- the handle on whose map a call is made
-abbrev pub handle_of : Call → ℕ
-handle_of (Get h k) = h
-handle_of (Put h k v) = h
-handle_of (PutIfAbsent h k v) = h
-handle_of (Replace h k v) = h
-handle_of (ReplaceIf h k a b) = h
-handle_of (Remove h k) = h
-handle_of (RemoveIf h k v) = h
-handle_of (Clear h) = h
-handle_of (Snapshot h) = h
-handle_of (Freeze h) = h
-handle_of (Close h) = h
-handle_of (Entries h) = h
-handle_of (Count h) = h
 
 -- what the handle must be: get and close take any; what changes or copies the map needs a writable one
 abbrev pub needed_access : Call → Option Access

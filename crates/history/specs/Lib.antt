@@ -1,3 +1,4 @@
+pub mod Handles
 pub mod Worlds
 pub mod WorldCodes
 pub mod Crowds

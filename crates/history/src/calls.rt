@@ -1,5 +1,8 @@
 //! The calls of a map.
 
+ghost use Rattle.std.specs.Prelude.{◌≡◌};
+ghost use Rattle.history.specs.Handles.{handle_of};
+
 /// Whether a handle's map may be changed.
 #[derive(Clone, Copy, Debug, PartialEq, Eq)]
 pub enum Access {
@@ -77,4 +80,27 @@ pub enum Call {
     Count {
         handle: u16,
     },
+}
+
+impl Call {
+    /// The handle on whose map the call is made.
+    pub fn handle(self) -> u16
+        ensures { result ≡ handle_of self }
+    {
+        match self {
+            Call::Get { handle, .. }
+            | Call::Put { handle, .. }
+            | Call::PutIfAbsent { handle, .. }
+            | Call::Replace { handle, .. }
+            | Call::ReplaceIf { handle, .. }
+            | Call::Remove { handle, .. }
+            | Call::RemoveIf { handle, .. }
+            | Call::Clear { handle }
+            | Call::Snapshot { handle }
+            | Call::Freeze { handle }
+            | Call::Close { handle }
+            | Call::Entries { handle }
+            | Call::Count { handle } => handle,
+        }
+    }
 }

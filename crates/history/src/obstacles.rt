@@ -3,7 +3,7 @@
 ghost use Rattle.std.specs.Prelude.{◌≡◌, ℕ, None};
 ghost use Rattle.history.specs.Histories.{OpensRightly};
 ghost use Rattle.history.specs.Effects.{effect};
-ghost use Rattle.history.specs.Faults.{handle_of, needed_access, Hinders};
+ghost use Rattle.history.specs.Faults.{needed_access, Hinders};
 ghost use Rattle.history.specs.Obstacles.{mismatch};
 
 use crate::calls::{Access, Call};
@@ -16,7 +16,7 @@ pub fn obstacle_to(world: &World, call: &Call, opens: Option<u16>) -> Obstacle
     requires no_effect { (hash : ℕ → ℕ) × (effect hash world.now call.now opens ≡ None) }
     ensures { Hinders world.now call.now opens result }
 {
-    let handle = handle_of(call);
+    let handle = call.handle();
     let Some(access) = world.access(handle) else {
         return Obstacle::NotOpen { handle };
     };
@@ -37,27 +37,6 @@ fn mismatch(needed: Option<Access>, access: Access, handle: u16) -> Option<Obsta
         (Some(Access::Writable), Access::ReadOnly) => Some(Obstacle::NeedsWritable { handle }),
         (Some(Access::ReadOnly), Access::Writable) => Some(Obstacle::NeedsReadOnly { handle }),
         _ => None,
-    }
-}
-
-/// The handle on whose map a call is made.
-fn handle_of(call: &Call) -> u16
-    ensures { result ≡ handle_of call.now }
-{
-    match *call {
-        Call::Get { handle, .. }
-        | Call::Put { handle, .. }
-        | Call::PutIfAbsent { handle, .. }
-        | Call::Replace { handle, .. }
-        | Call::ReplaceIf { handle, .. }
-        | Call::Remove { handle, .. }
-        | Call::RemoveIf { handle, .. }
-        | Call::Clear { handle }
-        | Call::Snapshot { handle }
-        | Call::Freeze { handle }
-        | Call::Close { handle }
-        | Call::Entries { handle }
-        | Call::Count { handle } => handle,
     }
 }
 

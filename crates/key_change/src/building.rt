@@ -21,7 +21,7 @@ use epochs::Heap;
 use nodes::list_depth;
 use slot_arena::{Node, Ref};
 use trie_parts::{
-    Change as NodeChange, Site, Task, changed_at, entry_at, key_at, pair, parting, rung,
+    Change as NodeChange, Site, Task, changed_at, dual, entry_at, key_at, parting, rung,
 };
 
 /// A step that makes a node for a change of one key. `former` is the key's value before the change.
@@ -85,7 +85,7 @@ fn beside(heap: &Heap, task: Task, old: Ref, depth: usize, single: Ref) -> Node
     ensures { result ≡ pair task.hashes depth (hash_of task.hashes (key_in (node_at heap.now.heap old))) (hash_of task.hashes (key_of (call_of 0 task.call))) old single }
 {
     let old_hash = hash_at(heap, task, old);
-    pair(task.hashes, depth, old_hash, task.hash(), old, single)
+    dual(task.hashes, depth, old_hash, task.hash(), old, single)
 }
 
 /// The hash of a single's key.

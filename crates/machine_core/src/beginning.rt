@@ -14,7 +14,7 @@ ghost use Rattle.machine_core.specs.Bounds.{IsOfRun};
 ghost use Rattle.machine_core.specs.Keeping.{IsKept, Replaces};
 ghost use Rattle.machine_core.specs.Seen.{seen};
 
-use crate::calls::{handle_of, is_close, opens_handle, program_of};
+use crate::calls::{is_close, opens_handle, program_of};
 use crate::handles::least_free;
 use crate::parts::{Actor, Parts, UnderWay};
 use crate::placing::on_time;
@@ -25,7 +25,7 @@ use running::Job;
 fn access_for(parts: &Parts, call: Call) -> Access
     ensures { result ≡ unwrap_or (access_of (root_at (seen parts.now) (handle_of call))) Access.Writable }
 {
-    parts.access(handle_of(call)).unwrap_or(Access::Writable)
+    parts.access(call.handle()).unwrap_or(Access::Writable)
 }
 
 /// The handle that a call opens, if it opens one.
@@ -50,7 +50,7 @@ fn new_under_way(parts: &Parts, actor: u8, call: Call) -> UnderWay
         job: Job {
             id: parts.begun,
             actor,
-            handle: handle_of(call),
+            handle: call.handle(),
             opens: handle_to_open(parts, call),
         },
         program: program_of(call),
@@ -74,7 +74,7 @@ fn close_handle(parts: &mut Parts, call: Call)
     ensures generations { parts.new.journal.chronicle.generations ≡ parts.old.journal.chronicle.generations }
 {
     if is_close(call) {
-        parts.table.put(&mut parts.heap, handle_of(call), None);
+        parts.table.put(&mut parts.heap, call.handle(), None);
         let place = on_time(parts.steps, false, parts.begun);
         parts.journal.chronicle.add(place);
     }

@@ -8,27 +8,6 @@ use history::Call;
 use running::{Program, SnapCall};
 use trie_parts::KeyCall;
 
-/// The handle on which a call is made.
-pub fn handle_of(call: Call) -> u16
-    ensures { result ≡ handle_of call }
-{
-    match call {
-        Call::Get { handle, .. }
-        | Call::Put { handle, .. }
-        | Call::PutIfAbsent { handle, .. }
-        | Call::Replace { handle, .. }
-        | Call::ReplaceIf { handle, .. }
-        | Call::Remove { handle, .. }
-        | Call::RemoveIf { handle, .. }
-        | Call::Clear { handle }
-        | Call::Snapshot { handle }
-        | Call::Freeze { handle }
-        | Call::Close { handle }
-        | Call::Entries { handle }
-        | Call::Count { handle } => handle,
-    }
-}
-
 /// The call without the handle.
 pub fn program_of(call: Call) -> Program
     ensures { call_for (handle_of call) result ≡ call }

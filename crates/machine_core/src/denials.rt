@@ -6,7 +6,7 @@ ghost use Rattle.machine_model.specs.declared.steps.Step.TheVariants as steps;
 ghost use Rattle.machine_core.specs.Seen.{seen};
 
 use crate::actors::{is_actor, runs_on};
-use crate::calls::{handle_of, is_close, needs_read_only, needs_writable, opens_handle};
+use crate::calls::{is_close, needs_read_only, needs_writable, opens_handle};
 use crate::handles::{HANDLE_LIMIT, handles_taken};
 use crate::parts::Parts;
 use ctrie_base::Refusal;
@@ -39,7 +39,7 @@ pub fn is_access(access: Access, found: Option<Access>) -> bool
 fn begin_denial(parts: &Parts, actor: u8, call: Call) -> Option<Refusal>
     ensures { result ≡ begin_denial (seen parts.now) actor call }
 {
-    let handle = handle_of(call);
+    let handle = call.handle();
     let access = parts.access(handle);
     if !is_actor(parts, actor) {
         Some(Refusal::NoActor)

@@ -4,24 +4,9 @@ use Rattle.history.specs.declared.calls.Call.{Call}
 use Rattle.history.specs.declared.calls.Call.TheVariants.{Get, Put, PutIfAbsent, Replace, ReplaceIf, Remove, RemoveIf, Clear, Snapshot, Freeze, Close, Entries, Count}
 use Rattle.history.specs.declared.replies.Reply.{Reply}
 use Rattle.history.specs.declared.replies.Reply.TheVariants as reply
+pub use Rattle.history.specs.Handles.{handle_of}
 use Rattle.machine_model.specs.declared.finding.WhenFound.{WhenFound}
 use Rattle.machine_model.specs.declared.finding.WhenFound.TheVariants.{Answers, Sets, Removes}
-
--- the handle on which a call is made
-abbrev pub handle_of : Call → ℕ
-handle_of (Get h k) = h
-handle_of (Put h k v) = h
-handle_of (PutIfAbsent h k v) = h
-handle_of (Replace h k v) = h
-handle_of (ReplaceIf h k a b) = h
-handle_of (Remove h k) = h
-handle_of (RemoveIf h k v) = h
-handle_of (Clear h) = h
-handle_of (Snapshot h) = h
-handle_of (Freeze h) = h
-handle_of (Close h) = h
-handle_of (Entries h) = h
-handle_of (Count h) = h
 
 -- the key of a call on one key
 abbrev pub key_of : Call → ℕ

@@ -1,3 +1,4 @@
+pub mod Depths
 pub mod Indices
 pub mod Partings
 pub mod Parts

@@ -14,18 +14,20 @@ pub fn list_depth(kind: HashKind) -> usize
     (kind.bits() as usize).div_ceil(5)
 }
 
-/// The index of a hash at a depth.
+/// The index of a hash at a depth, below 32; below all levels it is 0.
+#[tactic(auto, using(crate::proofs::Depths::spent))]
 pub fn index_in(hash: u64, depth: usize) -> u32
-    requires { depth < 13 }
     ensures index { result ≡ index_in hash depth }
     ensures below { result < 32 }
 {
+    if depth > 12 {
+        return 0;
+    }
     ((hash >> (5 * depth)) & 31) as u32
 }
 
 /// The flag of that index.
 pub fn flag_of(hash: u64, depth: usize) -> u32
-    requires { depth < 13 }
     ensures flag { result ≡ flag_of hash depth }
     ensures some { 0 < result }
 {
@@ -48,17 +50,15 @@ pub fn position_of(flag: u32, bitmap: u32) -> usize
     (bitmap & (flag - 1)).count_ones() as usize
 }
 
-/// The first depth from this one on at which the hashes have different indices, or that of lists.
-pub fn parting(kind: HashKind, old_hash: u64, hash: u64, depth: usize) -> usize
-    requires { depth ≤ list_depth kind }
-    ensures parting { result ≡ parting (list_depth kind - depth) old_hash hash depth }
-    ensures most { result ≤ list_depth kind }
+/// The first depth from `start` on and above `end` at which the hashes have different indices. Where there
+/// is none it is `end`, or `start` if that is greater.
+pub fn parting(old_hash: u64, hash: u64, start: usize, end: usize) -> usize
+    ensures { result ≡ parting (end - start) old_hash hash start }
 {
-    let end = list_depth(kind);
-    for level in depth..end {
-        if index_in(old_hash, level) != index_in(hash, level) {
-            return level;
+    for depth in start..end {
+        if index_in(old_hash, depth) != index_in(hash, depth) {
+            return depth;
         }
     }
-    end
+    start.max(end)
 }

@@ -1,7 +1,6 @@
 //! Two singles whose paths part below the place where one of them stood.
 
-ghost use Rattle.std.specs.Prelude.{◌≡◌, ◌<◌, ◌≤◌};
-ghost use Rattle.nodes.specs.Levels.{list_depth};
+ghost use Rattle.std.specs.Prelude.{◌≡◌};
 ghost use Rattle.nodes.specs.Builders.{by_index, pair, rung};
 
 use crate::entries::all_of;
@@ -12,7 +11,6 @@ use slot_arena::{Node, Ref};
 /// The main node of both, at the depth where they part: a branch, and below all levels a list, the older one
 /// first.
 pub fn dual(kind: HashKind, depth: usize, old_hash: u64, hash: u64, old: Ref, single: Ref) -> Node
-    requires { depth ≤ list_depth kind }
     ensures { result ≡ pair kind depth old_hash hash old single }
 {
     if depth == list_depth(kind) {
@@ -34,7 +32,6 @@ pub fn dual(kind: HashKind, depth: usize, old_hash: u64, hash: u64, old: Ref, si
 
 /// The branch of one entry on the way down to it, at a depth above that.
 pub fn rung(hash: u64, depth: usize, below: Ref) -> Node
-    requires { depth < 13 }
     ensures { result ≡ rung hash depth below }
 {
     Node::Branch {

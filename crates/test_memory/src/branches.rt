@@ -89,10 +89,10 @@ fn changes_lists(rt: HostRuntime) {
 #[test]
 fn parts_paths(rt: HostRuntime) {
     let [a, b, c] = three();
-    assert_eq!(rt; parting(HashKind::Low, 1, 33, 1), 1);
-    assert_eq!(rt; parting(HashKind::Low, 5, 5, 1), 7);
-    assert_eq!(rt; parting(HashKind::Wide, 1, 1 + (1 << 62), 1), 12);
-    assert_eq!(rt; parting(HashKind::Wide, 5, 5, 1), 13);
+    assert_eq!(rt; parting(1, 33, 1, 7), 1);
+    assert_eq!(rt; parting(5, 5, 1, 7), 7);
+    assert_eq!(rt; parting(1, 1 + (1 << 62), 1, 13), 12);
+    assert_eq!(rt; parting(5, 5, 1, 13), 13);
     assert!(rt;
         is_branch(
             &dual(HashKind::Low, 1, 33, 1, a, b),

@@ -1,7 +1,5 @@
 pub mod Counting
-pub mod Depths
 pub mod Capped
-pub mod Partings
 pub mod Unmade
 pub mod Insides
 pub mod Handles

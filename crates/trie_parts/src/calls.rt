@@ -7,9 +7,9 @@ ghost use Rattle.trie_parts.specs.Beneath.machine_model.specs.Calls.{key_of, val
 ghost use Rattle.trie_parts.specs.Beneath.machine_model.specs.Paths.{depth_of};
 ghost use Rattle.trie_parts.specs.Tasks.{call_of, is_begun_in};
 
-use crate::levels::flag_of;
 use crate::paths::depth_of;
 use ctrie_base::HashKind;
+use nodes::flag_of;
 use slot_arena::Ref;
 
 /// A call on one key, without the handle.

@@ -1,14 +1,13 @@
-//! What the programs of the map share: look-ups in a heap, levels of hashes, paths, and the main nodes that
-//! are made from the one before.
+//! What the programs of the map share: look-ups in a heap, paths, and the main nodes that are made from the
+//! one before.
 //!
-//! Each call computes the definition of the same name (`Heaps` of `slot_arena`, `Levels` and `Builders` of
-//! `nodes`, `Paths` of `machine_model`), for every heap, path and position, so that none of them asks for
+//! Each call computes the definition of the same name (`Heaps` of `slot_arena`, `Builders` of `nodes`,
+//! `Paths` of `machine_model`), for every heap, path and position, so that none of them asks for
 //! anything. None takes memory.
 #![tactic(auto)]
 
 mod calls;
 mod entries;
-mod levels;
 mod looking;
 mod made;
 mod paths;
@@ -17,9 +16,9 @@ mod work;
 
 pub use calls::{KeyCall, Task};
 pub use gcas::{Change, Descriptor, Next, Read, ReadAt, Root, RootWord, Site, Swap, generation_at};
-pub use levels::{flag_of, index_in, parting};
 pub use looking::{bitmap_at, entries_at, entry_at, entry_count, is_single_at, key_at, node_at};
-pub use made::{changed_at, contracted, contracted_at, pair, renewed, rung};
+pub use made::{changed_at, contracted, contracted_at, renewed};
+pub use nodes::{dual, flag_of, parting, rung};
 pub use paths::{above, current, depth_of, is_below_root};
 pub use private::{Private, keep, release_all};
 pub use work::Work;

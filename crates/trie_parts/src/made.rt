@@ -1,17 +1,15 @@
-//! Main nodes made from the main node before, and the indirections and branches down to two singles.
+//! Main nodes made from the main node before.
 
 ghost use Rattle.std.specs.Prelude.{◌≡◌, ◌<◌, ◌++◌, slice_set};
 ghost use Rattle.slot_arena.specs.Heaps.{bitmap_of, entries_of, node_at};
-ghost use Rattle.nodes.specs.Builders.{renewed, contracted, by_index, pair, rung};
+ghost use Rattle.nodes.specs.Builders.{renewed, contracted};
 ghost use Rattle.trie_parts.specs.Beneath.machine_model.specs.Building.{changed_branch, changed_list, changed};
 
 use crate::entries::{entries_from, entries_from_parts, with_inserted, with_replaced, without};
-use crate::levels::{flag_of, index_in};
 use crate::looking::{bitmap_at, entries_at, node_at};
-use ctrie_base::HashKind;
 use epochs::Heap;
 use gcas::Change;
-use nodes::{list_depth, position_of};
+use nodes::position_of;
 use slot_arena::{Node, Ref};
 
 /// A main node after the change, where `flag` is that of the call's key. What is no branch or list stays as
@@ -115,43 +113,4 @@ pub fn contracted_at(heap: &Heap, main: Ref, may_entomb: bool, position: usize, 
 {
     let entries = with_replaced(entries_at(heap, main), position, single);
     contracted(may_entomb, bitmap_at(heap, main), entries.as_slice())
-}
-
-/// The main node of two singles at a depth: a branch, and below all levels a list, the older one first.
-pub fn pair(kind: HashKind, depth: usize, old_hash: u64, hash: u64, old: Ref, single: Ref) -> Node
-    ensures { result ≡ pair kind depth old_hash hash old single }
-{
-    if depth == list_depth(kind) {
-        return Node::List {
-            singles: entries_from(&[old, single]),
-        };
-    }
-    let both = by_index(
-        index_in(old_hash, depth),
-        index_in(hash, depth),
-        old,
-        single,
-    );
-    Node::Branch {
-        bitmap: flag_of(old_hash, depth) | flag_of(hash, depth),
-        entries: entries_from(&both),
-    }
-}
-
-/// The branch of one entry on the way down to two singles.
-pub fn rung(hash: u64, depth: usize, below: Ref) -> Node
-    ensures { result ≡ rung hash depth below }
-{
-    renewed(flag_of(hash, depth), &[below])
-}
-
-/// The two references by the rising index of what they refer to.
-fn by_index(first_index: u32, other_index: u32, first: Ref, other: Ref) -> [Ref; 2]
-    ensures { result ≡ by_index first_index other_index first other }
-{
-    if first_index < other_index {
-        [first, other]
-    } else {
-        [other, first]
-    }
 }
