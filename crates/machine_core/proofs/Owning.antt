@@ -1,6 +1,6 @@
 -- Beside a pending node stands the actor who swapped it in: behind a step of an operation and its notes it is so still.
 use Rattle.std.proofs.Common.{arith, ◌≡◌, ◌⊎◌, inl, inr, ℕ, ◌<◌, ◌++◌, ◌∷◌, [], Bool, true, false, Option, Some, None, refl, sym, ap, subst, ◌∙◌}
-use Rattle.std.specs.Prelude.{slice_index, slice_set, if◌then◌else◌}
+use Rattle.std.specs.Prelude.{Ok, slice_index, slice_set, if◌then◌else◌}
 use Rattle.std.proofs.lemmas.Bool.{cases_eq}
 use Rattle.std.proofs.lemmas.List.{get_or-set_other}
 use Rattle.std.proofs.lemmas.Option.{same_Some}
@@ -24,6 +24,7 @@ use Rattle.machine_model.specs.declared.steps.Outcome.TheVariants as outcome
 use Rattle.machine_model.specs.declared.steps.Step.TheVariants as step
 use Rattle.machine_model.specs.Acting.{gone}
 use Rattle.machine_model.specs.Counting.{settled}
+use Rattle.machine_model.specs.Machine as machine
 use Rattle.machine_model.specs.Machine.{go_denial, went}
 use Rattle.machine_model.specs.Operations.{action_of, kind_of, line_action}
 use Rattle.machine_model.specs.Orders.{counted_from}
@@ -116,10 +117,11 @@ module _ (before : Parts) (actor : ℕ) (u next : UnderWay) (taken : Taken) (now
         ap (λ (x : Operation). went (seen before) actor x (action_of (seen before) x)) (same_Some operation Own (sym found ∙ runs_own))
         ∙ went_on (seen before) actor Own goes_on ∙ ap (λ (x : State). (Done, x)) gone_is
 
+    leads : machine.next (seen before) (step.Go actor) ≡ Ok (Done, settled (seen before) (seen after))
+    leads = (go_leads (seen before) (seen after) actor Done allowed goes).answer
+
     module _ (main replaced : Ref) (used : IsInUse after.heap.heap main) (pending : prev_at after.heap.heap main ≡ prev.Pending replaced)
         (k : ℕ) (operation : Operation) (at under : Ref) (l : SwapLine) (runs : operation_of (seen after) k ≡ Some operation) (swaps_in : IsInSwap operation at under main l) where
-      leads = (go_leads (seen before) (seen after) actor Done allowed goes).answer
-
       stood : IsInUse before.heap.heap main
       stood = used_before (seen before) run (step.Go actor) Done (settled (seen before) (seen after)) leads main replaced used pending
 
@@ -130,8 +132,8 @@ module _ (before : Parts) (actor : ℕ) (u next : UnderWay) (taken : Taken) (now
           let o = owned_at (seen before) run replaced main stood pended in
           mine ∙ o.alone actor Own own.at own.under own.on runs_own own.is ∙ sym (o.alone was operation' indirection replaced on ran its)
 
-      publisher : (indirection : Ref) (operation' : Operation) → operation_of (seen before) k ≡ Some operation' → IsInSwap operation' indirection replaced main Publish → (k ≡ actor) ⊎ (k ≡ actor → ⊥) →
-          slice_index after.heap.owners (slot_of main) ≡ k
+      publisher : (indirection : Ref) (operation' : Operation) → operation_of (seen before) k ≡ Some operation' → IsInSwap operation' indirection replaced main Publish →
+          (k ≡ actor) ⊎ (k ≡ actor → ⊥) → slice_index after.heap.owners (slot_of main) ≡ k
       publisher indirection operation' ran its (inl mine) =
           let same : Own ≡ operation' = same_Some Own operation' (sym runs_own ∙ ap (operation_of (seen before)) (sym mine) ∙ ran) in
           sets.published indirection replaced main (ap (line_action (seen before) Own) (ap (λ (x : Operation). x.line) same ∙ its.1)) ∙ sym mine
