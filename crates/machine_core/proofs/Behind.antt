@@ -44,14 +44,14 @@ drawn_not heap generation action other = refl
 -- what is noted of a step that committed nothing, by its kind
 data NotesOne (k : Kind) (before : Parts) (actor : ℕ) (fresh : Ref) (after : Parts) : Type 0 where
   owner : k ≡ kind.SwapMain → NotesOwner before actor fresh after → NotesOne k before actor fresh after
-  carried : k ≡ kind.SwapRoot → NotesCarried before after → NotesOne k before actor fresh after
+  carries : k ≡ kind.SwapRoot → NotesCarried before after → NotesOne k before actor fresh after
   drawn : k ≡ kind.Make → NotesDrawn before after → NotesOne k before actor fresh after
   nothing : (k ≡ kind.SwapRoot → ⊥) → (k ≡ kind.Make → ⊥) → after ≡ before → NotesOne k before actor fresh after
 
 notes_one : (k : Kind) (counts : Bool) (before : Parts) (actor : ℕ) (fresh : Ref) (after : Parts) → NotesKind k counts before actor fresh after → NotesOne k before actor fresh after
 notes_one kind.SwapMain false before actor fresh after notes = owner refl notes
 notes_one kind.SwapMain true before actor fresh after notes = nothing (λ e. cc e) (λ e. cc e) notes
-notes_one kind.SwapRoot counts before actor fresh after notes = carried refl notes
+notes_one kind.SwapRoot counts before actor fresh after notes = carries refl notes
 notes_one kind.Make counts before actor fresh after notes = drawn refl notes
 notes_one kind.ReadRoot counts before actor fresh after notes = nothing (λ e. cc e) (λ e. cc e) notes
 notes_one kind.ReadMain counts before actor fresh after notes = nothing (λ e. cc e) (λ e. cc e) notes
@@ -76,7 +76,7 @@ module _ (before : Parts) (actor : ℕ) (u next : UnderWay) (taken : Taken) (now
   kept_with : (owners : List ℕ) (carried : Option Descriptor) (noted : Parts) (journal : Journal) → carried ≡ None → KnowsOwners (record now.heap { owners = owners }) (seen now) →
       journal.chronicle.generations ≡ now.generations → journal.events ≡ before.journal.events → noted.commits.slots ≡ before.commits.slots →
       IsKept (with_notes now owners carried noted journal)
-  kept_with owners carried noted journal none knows drawn events slots =
+  kept_with owners carried noted journal none knows generations events slots =
       let tied = tied_now before actor u next taken now t run kept is in
       let limits : now.limits ≡ before.limits = ap (λ (x : Parts). x.limits) t.rest in
       record {
@@ -89,14 +89,14 @@ module _ (before : Parts) (actor : ℕ) (u next : UnderWay) (taken : Taken) (now
         };
         offerers = offerers_now before actor u next taken now t run kept is;
         owners = knows;
-        generations = drawn;
+        generations = generations;
         begun_are = ap (λ (x : Parts). x.begun) t.rest ∙ kept.begun_are ∙ ap (λ e. begun e.items) (sym events);
         slots = omega (arith, kept.slots, slots, ap (λ (l : Limits). l.slots) limits);
       }
 
   -- ---- generations and offers that were carried out
 
-  action : Action
+  abbrev action : Action
   action = action_of (seen before) (operation_at before.table t.seat.found.programs u)
 
   kind_is : kind_of action ≡ taken.kind
@@ -151,7 +151,7 @@ module _ (before : Parts) (actor : ℕ) (u next : UnderWay) (taken : Taken) (now
 
       not_made : kind.SwapMain ≡ kind.Make → ⊥
       not_made e = cc
-  kept_one fresh after knows (carried same noted) =
+  kept_one fresh after knows (carries same noted) =
       subst IsKept (sym noted.rest)
       (kept_with now.heap.owners None now after.journal refl (knows (with_notes now now.heap.owners None now after.journal) noted.rest)
       (noted.generations ∙ drawn_none (λ e. not_made (sym same ∙ e))) (noted.events ∙ events_now) slots_now)

@@ -16,7 +16,7 @@ use Rattle.machine_core.proofs.Whole.{fresh_same, moves_so, took_so}
 module _ (actor : ℕ) (u : UnderWay) (fresh : Ref) (taken : Taken) (middle : Parts) (m : Midway actor u fresh taken middle) (next : UnderWay) (now : Parts)
     (moves : next ≡ moved middle.commits.commits middle.steps taken u) (puts : Replaces middle.actors.items (actor - 1) (HasUnderWay next) now.actors.items)
     (rest : now ≡ record middle { actors = now.actors }) where
-  took : Took m.before actor u next taken now
+  abbrev took : Took m.before actor u next taken now
   took = took_so actor u fresh taken middle m next now moves puts rest
 
   same : next ≡ moved m.before.commits.commits m.before.steps taken u

@@ -175,10 +175,10 @@ module _ (before : Parts) (actor : ℕ) (u next : UnderWay) (taken : Taken) (now
       by None at = absurd (none-some operation (sym (found_mapped (operation_seen now.table) now.actors.items m ∙ ap (option_and_then (operation_seen now.table)) at) ∙ e))
       by (Some x) at = ran_at m x operation at (sym (found_mapped (operation_seen now.table) now.actors.items m ∙ ap (option_and_then (operation_seen now.table)) at) ∙ e)
 
-  own : Operation
+  abbrev own : Operation
   own = operation_at before.table t.seat.found.programs u
 
-  action : Action
+  abbrev action : Action
   action = action_of (seen before) own
 
   offerers_are : now.table.offerers ≡ offerers_after before.table u.job.handle u.job.actor action
@@ -210,7 +210,7 @@ module _ (before : Parts) (actor : ℕ) (u next : UnderWay) (taken : Taken) (now
           let made : offer.operation ≡ own.id = own_id (seen before) run actor own offer (operation_there before actor u t.seat) offers in
           ap (λ a. slice_index_or (offerers_after before.table u.job.handle u.job.actor a) handle 0) offers
           ∙ ap (λ (b : Bool). slice_index_or (if b then slice_set before.table.offerers u.job.handle u.job.actor else before.table.offerers) handle 0) plain
-          ∙ ap (slice_index_or (slice_set before.table.offerers u.job.handle u.job.actor)) here
+          ∙ ap (λ h. slice_index_or (slice_set before.table.offerers u.job.handle u.job.actor) h 0) here
           ∙ get_or-set_same before.table.offerers u.job.handle u.job.actor 0 (omega (arith, within, (sizes (seen before) run).0, kept.noted.offerers))
           ∙ number_is before actor u next taken now t run kept is
           ∙ (ids (seen before) run).distinct actor n own who.0 (operation_there before actor u t.seat) who.1 (sym made ∙ sym same ∙ who.2)
