@@ -1,6 +1,6 @@
 -- Who is in the SWAP of a pending node, at a state of a run and behind one more step.
 use Rattle.std.proofs.Common.{arith, ◌≡◌, ◌⊎◌, inl, inr, ℕ, suc, ◌<◌, ◌++◌, ◌∷◌, [], Bool, List, length, Option, Some, None, refl, sym, ap, subst, ◌∙◌}
-use Rattle.std.specs.Prelude.{Result, Ok, slice_index, if◌then◌else◌}
+use Rattle.std.specs.Prelude.{Ok, slice_index, if◌then◌else◌}
 use Rattle.std.proofs.lemmas.Bool.{cases_eq}
 use Rattle.std.proofs.lemmas.List.{get_or-set_other, length-append}
 use Rattle.std.proofs.lemmas.Option.{none-some, same_Some}
@@ -15,8 +15,6 @@ use Rattle.slot_arena.proofs.Reading.{live_seen}
 use Rattle.epochs.specs.Memories.{cleared}
 use Rattle.machine_model.specs.declared.actions.Action.{Action}
 use Rattle.machine_model.specs.declared.actions.Action.TheVariants as act
-use Rattle.machine_model.specs.declared.lines.Line.{Line}
-use Rattle.machine_model.specs.declared.lines.Line.TheVariants as line
 use Rattle.machine_model.specs.declared.operations.Operation.{Operation}
 use Rattle.machine_model.specs.declared.reading.ReadLine.{ReadLine}
 use Rattle.machine_model.specs.declared.reading.SwapLine.{SwapLine}
@@ -52,7 +50,7 @@ use Rattle.proof_records.specs.Beneath.proof_shape.proofs.Sites.Fixed.{states_of
 use Rattle.proof_records.specs.Laws.{OwnsBy}
 use Rattle.proof_records.proofs.Swapping.{owners_stay}
 use Rattle.trie_parts.specs.Holding.{remarked}
-use Rattle.machine_core.specs.Bounds.{Applies, IsOfRun}
+use Rattle.machine_core.specs.Bounds.{IsOfRun}
 use Rattle.machine_core.proofs.Bounded.{applied_run}
 
 -- ---- nodes in use

@@ -1,6 +1,6 @@
 -- Beside a pending node stands the actor who swapped it in: behind a step of an operation and its notes it is so still.
-use Rattle.std.proofs.Common.{arith, ◌≡◌, ◌⊎◌, inl, inr, ℕ, ◌<◌, ◌++◌, ◌∷◌, [], Bool, true, false, Option, Some, None, refl, sym, ap, subst, ◌∙◌}
-use Rattle.std.specs.Prelude.{Ok, slice_index, slice_set, if◌then◌else◌}
+use Rattle.std.proofs.Common.{arith, ◌≡◌, ◌⊎◌, inl, inr, ℕ, ◌++◌, ◌∷◌, [], Bool, true, false, Option, Some, None, refl, sym, ap, subst, ◌∙◌}
+use Rattle.std.specs.Prelude.{Ok, slice_index, if◌then◌else◌}
 use Rattle.std.proofs.lemmas.Bool.{cases_eq}
 use Rattle.std.proofs.lemmas.List.{get_or-set_other}
 use Rattle.std.proofs.lemmas.Option.{same_Some}
@@ -14,9 +14,7 @@ use Rattle.machine_model.specs.declared.actions.Action.{Action}
 use Rattle.machine_model.specs.declared.actions.Action.TheVariants as act
 use Rattle.machine_model.specs.declared.lines.Line.{Line}
 use Rattle.machine_model.specs.declared.lines.Line.TheVariants as line
-use Rattle.machine_model.specs.declared.lines.Purpose.{Purpose}
 use Rattle.machine_model.specs.declared.operations.Operation.{Operation}
-use Rattle.machine_model.specs.declared.reading.Swap.{Swap}
 use Rattle.machine_model.specs.declared.reading.SwapLine.{SwapLine}
 use Rattle.machine_model.specs.declared.reading.SwapLine.TheVariants.{Deciding, Publish}
 use Rattle.machine_model.specs.declared.steps.Outcome.{Outcome}
@@ -36,10 +34,9 @@ use Rattle.machine_core.specs.Beneath.proof_memory.proofs.Claims.Uses.{safe_of}
 use Rattle.machine_core.specs.Beneath.proof_commits.specs.Laws.{IsInSwap}
 use Rattle.machine_core.specs.Beneath.snapshot.specs.Tasks.{with_generation}
 use Rattle.proof_records.specs.Laws.{OwnsBy, owned, swaps}
-use Rattle.trie_parts.specs.Holding.{remarked}
 use Rattle.running.specs.declared.taken.Taken.{Taken}
 use Rattle.running.specs.Places.{line_for}
-use Rattle.running.proofs.Fresh.{SwapsFresh, swaps_fresh}
+use Rattle.running.proofs.Fresh.{swaps_fresh}
 use Rattle.machine_core.specs.declared.parts.Parts.{Parts}
 use Rattle.machine_core.specs.declared.parts.UnderWay.{UnderWay}
 use Rattle.machine_core.specs.Bounds.{IsOfRun}
@@ -47,8 +44,8 @@ use Rattle.machine_core.specs.Going.{entered_for, NotesCommit, NotesKind, NotesO
 use Rattle.machine_core.specs.Keeping.{IsKept, KnowsOwners}
 use Rattle.machine_core.specs.Seen.{operation_at, seen}
 use Rattle.machine_core.proofs.Asked.{action_used, only_publish, publishes}
-use Rattle.machine_core.proofs.Entering.{Decides, decides_now}
-use Rattle.machine_core.proofs.Kept.{Seat, operation_there}
+use Rattle.machine_core.proofs.Entering.{decides_now}
+use Rattle.machine_core.proofs.Kept.{operation_there}
 use Rattle.machine_core.proofs.Noted.{NotedSo, changes, gone_seen, takes}
 use Rattle.machine_core.proofs.Notings.{noted_commit, noted_kind}
 use Rattle.machine_core.proofs.Offering.{knows_offered}
