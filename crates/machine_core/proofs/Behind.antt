@@ -1,5 +1,5 @@
 -- What the parts of a machine keep stands behind a step of an operation and the notes of it.
-use Rattle.std.proofs.Common.{arith, ◌≡◌, ℕ, ◌+◌, Bool, true, false, List, length, Option, Some, None, refl, sym, ap, subst, ◌∙◌}
+use Rattle.std.proofs.Common.{arith, ◌≡◌, ℕ, ◌+◌, Bool, true, false, List, Option, Some, None, refl, sym, ap, subst, ◌∙◌}
 use Rattle.std.specs.Prelude.{slice_set}
 use Rattle.history.specs.Histories.{begun}
 use Rattle.slot_arena.specs.Refs.{slot_of}
@@ -9,7 +9,6 @@ use Rattle.slot_arena.specs.declared.refs.Ref.{Ref}
 use Rattle.slot_arena.specs.Heaps.{Heap}
 use Rattle.machine_model.specs.declared.actions.Action.{Action}
 use Rattle.machine_model.specs.declared.actions.Action.TheVariants as act
-use Rattle.machine_model.specs.declared.operations.Operation.{Operation}
 use Rattle.machine_model.specs.declared.roots.Descriptor.{Descriptor}
 use Rattle.machine_model.specs.declared.steps.Limits.{Limits}
 use Rattle.machine_model.specs.Calls.{handle_of}
@@ -18,7 +17,6 @@ use Rattle.machine_model.specs.Operations.{action_of, kind_of}
 use Rattle.machine_model.specs.States.{word_at}
 use Rattle.machine_core.specs.Beneath.operate.specs.Places.{answer_of}
 use Rattle.machine_core.specs.Beneath.snapshot.specs.Tasks.{drawn_by}
-use Rattle.running.specs.Carried.{carried_by}
 use Rattle.running.specs.declared.taken.Taken.{Taken}
 use Rattle.running.specs.Places.{line_for}
 use Rattle.machine_core.specs.declared.parts.Journal.{Journal}

@@ -1,5 +1,5 @@
 -- What the parts of a machine keep stands behind the notes of a step that was under way.
-use Rattle.std.proofs.Common.{◌≡◌, ℕ, ◌-◌, Option, Some, None}
+use Rattle.std.proofs.Common.{◌≡◌, ℕ, ◌-◌, Some, None}
 use Rattle.slot_arena.specs.declared.refs.Ref.{Ref}
 use Rattle.machine_core.specs.Beneath.operate.specs.Places.{answer_of}
 use Rattle.running.specs.declared.taken.Taken.{Taken}
@@ -9,7 +9,6 @@ use Rattle.machine_core.specs.declared.parts.UnderWay.{UnderWay}
 use Rattle.machine_core.specs.Going.{HasUnderWay, Midway, NotesCommit, NotesKind, moved}
 use Rattle.machine_core.specs.Keeping.{IsKept, Replaces}
 use Rattle.machine_core.proofs.Behind.{kept_commit, kept_kind}
-use Rattle.machine_core.proofs.Kept.{Seat}
 use Rattle.machine_core.proofs.Took.{Took, actor_there}
 use Rattle.machine_core.proofs.Whole.{fresh_same, moves_so, took_so}
 

@@ -12,12 +12,11 @@ use Rattle.machine_model.specs.declared.copying.CopyLine.TheVariants as copy
 use Rattle.machine_model.specs.declared.operations.Operation.{Operation}
 use Rattle.machine_model.specs.declared.roots.Descriptor.{Descriptor}
 use Rattle.machine_model.specs.declared.roots.Root.{Root}
-use Rattle.machine_model.specs.declared.roots.RootWord.{RootWord}
 use Rattle.machine_model.specs.declared.roots.RootWord.TheVariants.{Plain, Offer}
-use Rattle.machine_model.specs.Acting.{acted, if_changed}
+use Rattle.machine_model.specs.Acting.{if_changed}
 use Rattle.machine_model.specs.Machine.{run}
 use Rattle.machine_model.specs.Operations.{action_of}
-use Rattle.machine_model.specs.States.{State, handle_limit, operation_of, rewritten, word_of}
+use Rattle.machine_model.specs.States.{State, operation_of, rewritten, word_of}
 use Rattle.machine_model.specs.Swapping.{is_plain, stands_in}
 use Rattle.machine_model.proofs.Basics.{not_offer}
 use Rattle.machine_core.specs.Beneath.proof_generations.proofs.Lines.Copy.{LineFits}

@@ -1,4 +1,4 @@
-use Rattle.std.proofs.Common.{refl, sym, ap, ◌∙◌}
+use Rattle.std.proofs.Common.{refl}
 use Rattle.machine_core.proofs.Whole.{asks_begun, asks_ids, asks_kind, asks_live, asks_newest, asks_room, newest_there, whole_commit, whole_kind, within_there}
 use Rattle.machine_core.proofs.Lasting.{keeps_commit, keeps_kind}
 use Rattle.machine_core.proofs.going.note.Goals as goal
