@@ -1,28 +1,24 @@
 -- An operation's programs can take its next step.
-use Rattle.std.proofs.Common.{arith, ◌≡◌, ℕ, ◌+◌, ◌-◌, ◌<◌, ◌≤◌, ◌^◌, List, Option, Some, None, refl, sym, ap, subst, ◌∙◌}
+use Rattle.std.proofs.Common.{arith, ◌≡◌, ℕ, ◌+◌, ◌-◌, ◌<◌, ◌^◌, Some, None, sym, ap, subst, ◌∙◌}
 use Rattle.history.specs.declared.calls.Call.{Call}
-use Rattle.slot_arena.specs.declared.refs.Ref.{Ref}
 use Rattle.slot_arena.specs.Arenas.{IsLive}
 use Rattle.epochs.specs.Memories.{Memory}
 use Rattle.machine_model.specs.declared.actions.Action.{Action}
 use Rattle.machine_model.specs.declared.lines.Line.{Line}
-use Rattle.machine_model.specs.declared.lines.Line.TheVariants as line
 use Rattle.machine_model.specs.declared.operations.Operation.{Operation}
 use Rattle.machine_model.specs.declared.roots.Descriptor.{Descriptor}
 use Rattle.machine_model.specs.declared.reading.ReadLine.{ReadLine}
 use Rattle.machine_model.specs.declared.reading.ReadLine.TheVariants as read
 use Rattle.machine_model.specs.Calls.{handle_of}
-use Rattle.machine_model.specs.Operations.{action_of, line_action, read_of}
+use Rattle.machine_model.specs.Operations.{action_of, line_action}
 use Rattle.machine_model.specs.States.{State}
 use Rattle.machine_core.specs.Beneath.proof_memory.specs.Wants.{action_wants, line_wants}
-use Rattle.machine_core.specs.Beneath.gcas.specs.declared.read.Read.{Read}
 use Rattle.machine_core.specs.Beneath.gcas.specs.declared.read.ReadAt.{ReadAt}
-use Rattle.machine_core.specs.Beneath.gcas.specs.declared.read.ReadAt.TheVariants as at
 use Rattle.machine_core.specs.Beneath.gcas.specs.Reads.{line_of}
 use Rattle.trie_parts.specs.Steps.{IsAskingLine}
 use Rattle.trie_parts.specs.Tasks.{call_of as key_call}
 use Rattle.trie_parts.specs.declared.calls.KeyCall.{KeyCall}
-use Rattle.machine_core.specs.Beneath.rdcss_root.specs.Holds.{IsReady, root_refs}
+use Rattle.machine_core.specs.Beneath.rdcss_root.specs.Holds.{IsReady}
 use Rattle.machine_core.specs.Beneath.rdcss_root.specs.Programs.{CanAbortOn}
 use Rattle.machine_core.specs.Beneath.rdcss_root.specs.Tables.{Table}
 use Rattle.machine_core.specs.Beneath.root_asking.specs.declared.asking.Asking.{Asking}
@@ -38,7 +34,7 @@ use Rattle.running.specs.declared.programs.Programs.{Programs}
 use Rattle.running.specs.declared.programs.Stage.{Stage}
 use Rattle.running.specs.declared.programs.Stage.TheVariants.{Runs, Answered, Swapped, Listed, Counted, Impossible}
 use Rattle.running.specs.Places.{IsBegun, IsSound, IsWaiting, ReadsIn, ReadsOn, asking_line, line_for, met_at, program_line, stage_line}
-use Rattle.running.specs.Steps.{CanProgram, CanStage, CanStep, Scene, at_scene, scene}
+use Rattle.running.specs.Steps.{CanProgram, CanStage, CanStep, at_scene, scene}
 use Rattle.running.proofs.Asks.{Asks, asked, asks, key_handle}
 use Rattle.running.proofs.Lasting.{tells}
 use Rattle.machine_core.specs.declared.parts.UnderWay.{UnderWay}

@@ -1,15 +1,11 @@
 -- What the notes of a step ask of the parts, and have.
-use Rattle.std.proofs.Common.{arith, ◌≡◌, ◌⊎◌, inl, inr, ◌==◌, ℕ, ◌+◌, ◌-◌, ◌<◌, ◌≤◌, ◌∷◌, ◌++◌, [], All, Bool, true, false, List, length, Option, Some, None, refl, sym, ap, subst, ◌∙◌}
+use Rattle.std.proofs.Common.{arith, ◌≡◌, ◌⊎◌, inl, inr, ℕ, ◌+◌, ◌<◌, ◌≤◌, ◌∷◌, [], All, Bool, true, false, List, Option, Some, None, refl, sym, ap, subst, ◌∙◌}
 use Rattle.std.specs.Prelude.{MatchOption, nat_lt, if◌then◌else◌}
 use Rattle.std.proofs.lemmas.List.Elements.{All-nil, All-cons, All-weaker}
-use Rattle.std.proofs.lemmas.Option.{none-some, same_Some}
-use Rattle.ctrie_base.specs.declared.kinds.Kind.{Kind}
 use Rattle.ctrie_base.specs.declared.kinds.Kind.TheVariants as kind
-use Rattle.history.specs.Histories.{begun}
 use Rattle.places.specs.declared.place.Place.{Place}
 use Rattle.places.specs.Places.{place_by}
 use Rattle.slot_arena.specs.declared.refs.Ref.{Ref}
-use Rattle.slot_arena.specs.declared.nodes.Slot.{Slot}
 use Rattle.slot_arena.specs.Arenas.{IsLive}
 use Rattle.slot_arena.specs.Refs.{slot_of}
 use Rattle.chronicle.specs.Committed.{IsNewest}
@@ -20,9 +16,8 @@ use Rattle.machine_model.specs.declared.heaps.Closing.{Closing}
 use Rattle.machine_model.specs.declared.lines.Line.{Line}
 use Rattle.machine_model.specs.declared.operations.Operation.{Operation}
 use Rattle.machine_model.specs.declared.roots.Descriptor.{Descriptor}
-use Rattle.machine_model.specs.Acting.{entered, entered_by, swaps_in}
+use Rattle.machine_model.specs.Acting.{entered_by, swaps_in}
 use Rattle.machine_model.specs.Calls.{handle_of}
-use Rattle.machine_model.specs.Grown.{standing}
 use Rattle.machine_model.proofs.Grown.{node_standing}
 use Rattle.machine_model.specs.Machine.{run}
 use Rattle.machine_model.specs.Operations.{action_of, kind_of, line_action}
@@ -36,12 +31,9 @@ use Rattle.machine_core.specs.Beneath.proof_memory.proofs.Safety.AtEachTime.{saf
 use Rattle.machine_core.specs.Beneath.proof_memory.proofs.Safety.AtTimes.{action_finds}
 use Rattle.machine_core.specs.Beneath.proof_generations.proofs.Roots.OfLists.{below_along, standing_below}
 use Rattle.proof_records.specs.Beneath.proof_order.proofs.History.PlacesPast.{places_past}
-use Rattle.proof_records.specs.Laws.{HaveIds}
 use Rattle.machine_core.specs.Beneath.snapshot.specs.Tasks.{drawn, drawn_by}
 use Rattle.running.specs.declared.taken.Taken.{Taken}
-use Rattle.running.specs.Carried.{carried_by}
 use Rattle.running.proofs.Fresh.{SwapsFresh, swaps_fresh}
-use Rattle.machine_core.specs.declared.parts.Actor.{Actor}
 use Rattle.machine_core.specs.declared.parts.Parts.{Parts}
 use Rattle.machine_core.specs.declared.parts.UnderWay.{UnderWay}
 use Rattle.machine_core.specs.Bounds.{IsOfRun}
@@ -49,10 +41,10 @@ use Rattle.machine_core.specs.Going.{CanNote, entered_for, moved}
 use Rattle.machine_core.specs.Keeping.{IsKept}
 use Rattle.machine_core.specs.Seen.{operation_at, seen}
 use Rattle.machine_core.proofs.Bounded.{bounded}
-use Rattle.machine_core.proofs.Entering.{alone, commits_now, entering}
+use Rattle.machine_core.proofs.Entering.{alone, entering}
 use Rattle.machine_core.proofs.Fits.{newest_used, used_below}
 use Rattle.machine_core.proofs.Held.{claims}
-use Rattle.machine_core.proofs.Kept.{Seat, operation_there}
+use Rattle.machine_core.proofs.Kept.{operation_there}
 use Rattle.machine_core.proofs.Knows.{ids, offer_given}
 use Rattle.machine_core.proofs.Noted.{changes, takes}
 use Rattle.machine_core.proofs.Notings.{carried_is, heap_stays}
@@ -88,12 +80,12 @@ entered_ids state main operation n less = by (swaps_in main operation.line)
 
 -- ---- what an action publishes
 
-only_publish : (state : State) (operation : Operation) (l : Line) (indirection replaced fresh x : Ref) →
+pub only_publish : (state : State) (operation : Operation) (l : Line) (indirection replaced fresh x : Ref) →
     line_action state operation l ≡ act.Publish indirection replaced fresh → SwapsFresh x l → fresh ≡ x
 only_publish state operation l indirection replaced fresh x e swaps = grind (arith, e, swaps)
 
 -- a swap of a main word from which no READ counts puts the fresh node in its place
-publishes : (action : Action) (counts : Bool) → kind_of action ≡ kind.SwapMain → counts ≡ false → counted_from action 1 0 ≡ (if counts then 1 else 0) →
+pub publishes : (action : Action) (counts : Bool) → kind_of action ≡ kind.SwapMain → counts ≡ false → counted_from action 1 0 ≡ (if counts then 1 else 0) →
     (indirection : Ref) × (replaced : Ref) × (fresh : Ref) × (action ≡ act.Publish indirection replaced fresh)
 publishes (act.Publish indirection replaced fresh) counts swaps none counted = (indirection, replaced, fresh, refl)
 publishes (act.Restore indirection main previous) false swaps none counted = absurd (omega (arith, counted))
@@ -107,7 +99,7 @@ past_in state h =
     subst (λ (s : State). All (λ (place : Place). place.step < s.steps) s.places × All (λ (closing : Closing). closing.step < s.steps) s.closings) (sym h.is)
     (places_past state.limits h.steps)
 
-action_used : (state : State) → IsOfRun state → (actor : ℕ) (operation : Operation) → operation_of state actor ≡ Some operation →
+pub action_used : (state : State) → IsOfRun state → (actor : ℕ) (operation : Operation) → operation_of state actor ≡ Some operation →
     AllHold (IsInUse state.heap) state.heap (action_wants (action_of state operation))
 action_used state h actor operation found =
     subst (λ (s : State). operation_of s actor ≡ Some operation → AllHold (IsInUse s.heap) s.heap (action_wants (action_of s operation))) (sym h.is)

@@ -1,5 +1,5 @@
 -- What a begin leaves: the state is the definition's, and all that is kept is kept.
-use Rattle.std.proofs.Common.{◌≡◌, ℕ, zero, suc, ◌+◌, ◌-◌, ◌≤◌, Bool, false, List, [], ◌∷◌, ◌++◌, length, set, get_or, Option, Some, None, refl, sym, ap, ◌∙◌, subst, arith, inl, inr, cond}
+use Rattle.std.proofs.Common.{◌≡◌, ℕ, zero, suc, ◌+◌, ◌-◌, Bool, false, List, [], ◌∷◌, ◌++◌, length, set, get_or, Option, Some, None, refl, sym, ap, ◌∙◌, subst, arith, inl, inr}
 use Rattle.std.specs.Prelude.{option_and_then, option_map, unwrap_or, if◌then◌else◌, ◌⊎◌}
 use Rattle.std.proofs.Common.{Global, Vec}
 use Rattle.std.proofs.lemmas.List.{get_or-set_other, length-set}
@@ -21,21 +21,20 @@ use Rattle.machine_model.specs.declared.roots.Descriptor.{Descriptor}
 use Rattle.machine_model.specs.declared.roots.RootWord.TheVariants.{Offer}
 use Rattle.machine_model.specs.declared.steps.Outcome.TheVariants as outcome
 use Rattle.machine_model.specs.declared.steps.Step.TheVariants as step
-use Rattle.machine_model.specs.Calls.{handle_of, is_close, opens_handle}
+use Rattle.machine_model.specs.Calls.{handle_of, opens_handle}
 use Rattle.machine_model.specs.Grown.{standing}
-use Rattle.machine_model.specs.Machine.{access_of, begin_denial, handle_closed, least_free, new_operation, with_begin}
+use Rattle.machine_model.specs.Machine.{access_of, begin_denial, handle_closed, least_free, with_begin}
 use Rattle.machine_model.specs.Moves.{begun_operation}
 use Rattle.machine_model.specs.Operations.{first_line}
 use Rattle.machine_model.specs.States.{State, operation_of, root_at, with_operation, word_of}
 use Rattle.machine_core.specs.Beneath.rdcss_root.specs.Holds.{Moves, root_refs}
 use Rattle.machine_core.specs.Beneath.rdcss_root.specs.Tables.{Table, word_in}
 use Rattle.running.specs.Places.{IsSound, call_for}
-use Rattle.machine_core.specs.declared.parts.Actor.{Actor}
 use Rattle.machine_core.specs.declared.parts.Parts.{Parts}
 use Rattle.machine_core.specs.declared.parts.UnderWay.{UnderWay}
 use Rattle.machine_core.specs.Beginnings.{Begins}
 use Rattle.machine_core.specs.Bounds.{IsOfRun, Leads}
-use Rattle.machine_core.specs.Keeping.{AreSeated, IsKept, IsNoted, IsSeated, Replaces}
+use Rattle.machine_core.specs.Keeping.{AreSeated, IsKept, IsSeated, Replaces}
 use Rattle.machine_core.specs.Seen.{actors_seen, operation_at, operation_seen, seen}
 use Rattle.machine_core.specs.Ties.{IsTied, StandsAt}
 use Rattle.machine_core.proofs.Bounded.{begun_push}

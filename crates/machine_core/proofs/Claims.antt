@@ -1,10 +1,9 @@
 -- What a READ, and what a node that is made, may count on, of what a line and an action take their references for.
-use Rattle.std.proofs.Common.{arith, ◌≡◌, ℕ, List, [], ◌∷◌, ◌++◌, All, Option, Some, None, refl, sym, ap, subst}
+use Rattle.std.proofs.Common.{arith, ◌≡◌, List, [], ◌∷◌, ◌++◌, All, Some, subst}
 use Rattle.std.proofs.lemmas.List.Elements.{All-nil, All-cons, All-weaker}
 use Rattle.std.proofs.lemmas.Option.{none-some, same_Some}
 use Rattle.ctrie_base.specs.declared.hashes.HashKind.{HashKind}
 use Rattle.history.specs.declared.calls.Access.{Access}
-use Rattle.history.specs.declared.calls.Access.TheVariants.{Writable, ReadOnly}
 use Rattle.history.specs.declared.calls.Call.{Call}
 use Rattle.slot_arena.specs.declared.refs.Ref.{Ref}
 use Rattle.slot_arena.specs.declared.nodes.Node.{Node}
@@ -16,7 +15,6 @@ use Rattle.machine_model.specs.declared.finding.KeyLine.TheVariants as key
 use Rattle.machine_model.specs.declared.lines.Line.{Line}
 use Rattle.machine_model.specs.declared.lines.Line.TheVariants as line
 use Rattle.machine_model.specs.declared.reading.Read.{Read}
-use Rattle.machine_model.specs.declared.reading.ReadLine.{ReadLine}
 use Rattle.machine_model.specs.declared.reading.SwapLine.{SwapLine}
 use Rattle.machine_model.specs.declared.reading.SwapLine.TheVariants as swap
 use Rattle.machine_model.specs.declared.repairs.CleanLine.TheVariants as clean
@@ -27,7 +25,7 @@ use Rattle.machine_model.specs.declared.roots.CompleteLine.TheVariants as comple
 use Rattle.machine_model.specs.declared.roots.Descriptor.{Descriptor}
 use Rattle.machine_model.specs.declared.roots.RootLine.{RootLine}
 use Rattle.machine_model.specs.declared.roots.RootLine.TheVariants as root
-use Rattle.machine_model.specs.declared.roots.RootWord.TheVariants.{Plain, Offer}
+use Rattle.machine_model.specs.declared.roots.RootWord.TheVariants.{Offer}
 use Rattle.machine_model.specs.declared.walking.WalkLine.TheVariants as walk
 use Rattle.machine_model.specs.Counting.{refs_of_word}
 use Rattle.machine_model.specs.Operations.{completing_read, read_of, rooting_read, swapping_read}

@@ -1,19 +1,16 @@
 -- What a step of an operation's programs asks is what its line takes its references for.
-use Rattle.std.proofs.Common.{arith, ◌≡◌, ℕ, ◌+◌, ◌<◌, ◌^◌, true, List, Option, Some, None, refl, sym, ap, subst, ◌∙◌}
-use Rattle.ctrie_base.specs.declared.hashes.HashKind.TheVariants.{Low}
+use Rattle.std.proofs.Common.{◌≡◌, ℕ, ◌+◌, ◌<◌, ◌^◌, List, Option, Some, None, refl, sym, ap, subst, ◌∙◌}
 use Rattle.history.specs.declared.calls.Access.{Access}
 use Rattle.history.specs.declared.calls.Access.TheVariants.{Writable, ReadOnly}
 use Rattle.slot_arena.specs.declared.refs.Ref.{Ref}
 use Rattle.slot_arena.specs.declared.nodes.Node.{Node}
 use Rattle.slot_arena.specs.declared.nodes.Node.TheVariants.{Indirection}
 use Rattle.slot_arena.specs.Heaps.{Heap, empty_branch}
-use Rattle.slot_arena.specs.Arenas.{IsLive}
 use Rattle.epochs.specs.Memories.{Memory}
 use Rattle.machine_model.specs.declared.actions.Action.{Action}
 use Rattle.machine_model.specs.declared.actions.Action.TheVariants as act
 use Rattle.machine_model.specs.declared.lines.Line.{Line}
 use Rattle.machine_model.specs.declared.lines.Line.TheVariants as line
-use Rattle.machine_model.specs.declared.lines.Purpose.{Purpose}
 use Rattle.machine_model.specs.declared.operations.Operation.{Operation}
 use Rattle.machine_model.specs.declared.reading.Read.{Read as Defined}
 use Rattle.machine_model.specs.declared.reading.ReadLine.{ReadLine}
@@ -24,19 +21,17 @@ use Rattle.machine_model.specs.Operations.{completing_read, line_action, read_of
 use Rattle.machine_model.specs.Paths.{above}
 use Rattle.machine_model.specs.States.{State}
 use Rattle.machine_model.specs.Swapping.{action_at, complete_action_at, root_action}
-use Rattle.machine_core.specs.Beneath.proof_memory.specs.Wants.{action_wants, offer_wants, read_wants}
+use Rattle.machine_core.specs.Beneath.proof_memory.specs.Wants.{action_wants, read_wants}
 use Rattle.machine_core.specs.Beneath.proof_memory.proofs.Claims.Uses.{meets_of, safe_of}
 use Rattle.machine_core.specs.Beneath.operate.specs.Beneath.gcas.specs.declared.read.Read.{Read}
 use Rattle.machine_core.specs.Beneath.operate.specs.Beneath.gcas.specs.declared.read.ReadAt.{ReadAt}
 use Rattle.machine_core.specs.Beneath.operate.specs.Beneath.gcas.specs.declared.read.ReadAt.TheVariants as at
-use Rattle.machine_core.specs.Beneath.operate.specs.Beneath.gcas.specs.declared.swap.Swap.{Swap}
 use Rattle.machine_core.specs.Beneath.operate.specs.Beneath.gcas.specs.declared.swap.SwapAt.{SwapAt}
 use Rattle.machine_core.specs.Beneath.operate.specs.Beneath.gcas.specs.declared.swap.SwapAt.TheVariants as swap
 use Rattle.machine_core.specs.Beneath.operate.specs.Beneath.gcas.specs.Reads.{CanReadAt, CanReadOn, line_at, line_of}
 use Rattle.machine_core.specs.Beneath.operate.specs.Beneath.gcas.specs.Swaps.{CanSwapAt, swap_line_at}
 use Rattle.trie_parts.specs.Here.{at_heap}
 use Rattle.trie_parts.specs.Steps.{CanMake}
-use Rattle.trie_parts.specs.Tasks.{for_task}
 use Rattle.machine_core.specs.Beneath.rdcss_root.specs.declared.complete.CompleteAt.{CompleteAt}
 use Rattle.machine_core.specs.Beneath.rdcss_root.specs.declared.complete.CompleteAt.TheVariants as complete
 use Rattle.machine_core.specs.Beneath.rdcss_root.specs.declared.root.ReadRoot.{ReadRoot}
@@ -45,10 +40,8 @@ use Rattle.machine_core.specs.Beneath.rdcss_root.specs.Holds.{IsReady}
 use Rattle.machine_core.specs.Beneath.rdcss_root.specs.Programs.{CanCompleteAt, CanRootOn, ReadsItsRoot, ReadsOffered, complete_line_at, root_of}
 use Rattle.machine_core.specs.Beneath.rdcss_root.specs.Tables.{Table}
 use Rattle.machine_core.specs.Beneath.root_asking.specs.Inside.{completing_at, rooting_at, swapping_at, with_read}
-use Rattle.machine_core.specs.Beneath.operate.specs.Beneath.key_change.specs.declared.building.Building.{Building}
 use Rattle.machine_core.specs.Beneath.operate.specs.Beneath.key_change.specs.declared.change.ChangeAt.{ChangeAt}
 use Rattle.machine_core.specs.Beneath.operate.specs.Beneath.key_change.specs.declared.change.ChangeAt.TheVariants as change
-use Rattle.machine_core.specs.Beneath.operate.specs.Beneath.key_change.specs.Built.{build_line, built}
 use Rattle.machine_core.specs.Beneath.operate.specs.Beneath.key_change.specs.Lines.{line_at as change_at}
 use Rattle.machine_core.specs.Beneath.operate.specs.Beneath.key_change.specs.Steps.{CanChangeAt}
 use Rattle.machine_core.specs.Beneath.operate.specs.Beneath.key_change.proofs.Made.{builds}

@@ -1,16 +1,13 @@
 -- Who enters the order at a commit is found beside the committed node.
-use Rattle.std.proofs.Common.{arith, ◌≡◌, ◌≢◌, ◌⊎◌, inl, inr, ◌==◌, ◌++◌, ◌∷◌, [], ℕ, zero, suc, ◌+◌, ◌-◌, ◌≤◌, Bool, true, false, List, Option, Some, None, refl, sym, ap, subst, ◌∙◌}
-use Rattle.std.specs.Prelude.{option_and_then, option_map, slice_get, slice_index, slice_set, if◌then◌else◌}
+use Rattle.std.proofs.Common.{arith, ◌≡◌, ◌⊎◌, inl, inr, ◌∷◌, [], ℕ, zero, suc, ◌-◌, Bool, false, List, Option, Some, None, refl, sym, ap, subst, ◌∙◌}
+use Rattle.std.specs.Prelude.{option_and_then, option_map, slice_get, slice_index, if◌then◌else◌}
 use Rattle.std.proofs.lemmas.Bool.{cases_eq}
 use Rattle.std.proofs.lemmas.Option.{none-some, same_Some}
-use Rattle.history.proofs.Places.{at_set, at_set_other}
-use Rattle.std.proofs.lemmas.Option.{slice_get_within}
+use Rattle.history.proofs.Places.{at_set_other}
 use Rattle.history.specs.declared.calls.Access.{Access}
-use Rattle.history.specs.declared.calls.Access.TheVariants.{Writable, ReadOnly}
 use Rattle.slot_arena.specs.declared.refs.Ref.{Ref}
 use Rattle.slot_arena.specs.Refs.{slot_of}
 use Rattle.places.specs.declared.place.Place.{Place}
-use Rattle.places.specs.Places.{place_by}
 use Rattle.machine_model.specs.declared.actions.Action.{Action}
 use Rattle.machine_model.specs.declared.actions.Action.TheVariants as act
 use Rattle.machine_model.specs.declared.heaps.Closing.{Closing}
@@ -29,13 +26,12 @@ use Rattle.machine_model.specs.declared.reading.SwapLine.TheVariants.{Deciding}
 use Rattle.machine_model.specs.Acting.{entered, entered_by, swaps_in}
 use Rattle.machine_model.specs.Calls.{handle_of}
 use Rattle.machine_model.specs.Operations.{action_of, after_swap, generation_from, line_action, line_after, read_of}
-use Rattle.machine_model.specs.Orders.{closed_after, committed_in, committed_now, place_of}
+use Rattle.machine_model.specs.Orders.{committed_in, committed_now, place_of}
 use Rattle.machine_model.specs.Reading.{Verdict, committed_by, committed_so, read_action, read_after, verdict}
 use Rattle.machine_model.specs.Swapping.{after_deciding, on_line}
 use Rattle.machine_model.specs.States.{State, operation_of, word_at}
 use Rattle.proof_records.specs.Laws.{EntersAlone}
 use Rattle.proof_records.proofs.Owners.{owner_enters}
-use Rattle.proof_records.specs.Beneath.proof_commits.specs.Laws.{IsInSwap}
 use Rattle.machine_core.specs.Beneath.root_asking.proofs.Holding.{each_holds}
 use Rattle.trie_parts.specs.Holding.{remarked}
 use Rattle.machine_core.specs.Beneath.snapshot.specs.Tasks.{with_generation}
@@ -49,7 +45,7 @@ use Rattle.machine_core.specs.Going.{entered_for, moved}
 use Rattle.machine_core.specs.Keeping.{IsKept}
 use Rattle.machine_core.specs.Seen.{actor_of, operation_at, operation_seen, seen}
 use Rattle.machine_core.proofs.Allowed.{runs_there}
-use Rattle.machine_core.proofs.Kept.{Seat, operation_there}
+use Rattle.machine_core.proofs.Kept.{operation_there}
 use Rattle.machine_core.proofs.Noted.{changes, generation_is, takes}
 use Rattle.machine_core.proofs.Took.{Took, runs_now}
 

@@ -1,21 +1,16 @@
 -- What the notes of a step ask.
-use Rattle.std.proofs.Common.{arith, ◌≡◌, ◌⊎◌, inl, inr, ◌==◌, ℕ, ◌+◌, ◌-◌, ◌<◌, ◌≤◌, ◌∷◌, [], All, Bool, true, false, List, length, Option, Some, None, refl, sym, ap, subst, ◌∙◌}
-use Rattle.std.specs.Prelude.{MatchOption, if◌then◌else◌}
-use Rattle.std.proofs.lemmas.List.Elements.{All-nil, All-cons, All-weaker}
+use Rattle.std.proofs.Common.{arith, ◌≡◌, ◌==◌, ℕ, ◌<◌, Bool, true, false, length, Option, Some, None, refl, sym, ap, subst, ◌∙◌}
+use Rattle.std.specs.Prelude.{MatchOption}
 use Rattle.std.proofs.lemmas.Option.{none-some, same_Some}
 use Rattle.history.specs.declared.calls.Access.{Access}
 use Rattle.history.specs.declared.calls.Access.TheVariants.{Writable, ReadOnly}
-use Rattle.history.specs.Histories.{begun}
 use Rattle.slot_arena.specs.declared.nodes.Prev.{Prev}
 use Rattle.slot_arena.specs.declared.nodes.Prev.TheVariants as prev
 use Rattle.slot_arena.specs.declared.nodes.Slot.{Slot}
 use Rattle.slot_arena.specs.declared.refs.Ref.{Ref}
-use Rattle.slot_arena.specs.Arenas.{IsLive}
 use Rattle.slot_arena.specs.Heaps.{Heap, main_at, prev_at, stored}
 use Rattle.slot_arena.specs.Refs.{birth_of, slot_of}
 use Rattle.machine_model.specs.declared.operations.Operation.{Operation}
-use Rattle.machine_model.specs.declared.reading.After.{After}
-use Rattle.machine_model.specs.declared.reading.After.TheVariants.{Goes, Gives}
 use Rattle.machine_model.specs.declared.reading.Read.{Read}
 use Rattle.machine_model.specs.declared.reading.ReadLine.{ReadLine}
 use Rattle.machine_model.specs.declared.reading.ReadLine.TheVariants as read
@@ -24,17 +19,17 @@ use Rattle.machine_model.specs.declared.roots.RootWord.TheVariants.{Plain, Offer
 use Rattle.machine_model.proofs.Along.{limits_along}
 use Rattle.machine_model.proofs.Found.{found_within}
 use Rattle.machine_model.proofs.Slots.{sound_along}
-use Rattle.machine_model.specs.Grown.{of_birth, standing}
+use Rattle.machine_model.specs.Grown.{of_birth}
 use Rattle.machine_model.specs.Machine.{run}
-use Rattle.machine_model.specs.Operations.{action_of, read_of}
+use Rattle.machine_model.specs.Operations.{read_of}
 use Rattle.machine_model.specs.Reading.{Verdict, Commits, Fails, Overtaken, after_ask, after_decide, after_prev, after_restore, read_after, verdict}
 use Rattle.machine_model.specs.States.{State, operation_of, word_at}
 use Rattle.machine_model.specs.Calls.{handle_of}
 use Rattle.machine_core.specs.Beneath.proof_memory.specs.Laws.{IsInUse}
-use Rattle.machine_core.specs.Beneath.proof_memory.specs.Wants.{AllHold, action_wants, line_wants, read_wants}
+use Rattle.machine_core.specs.Beneath.proof_memory.specs.Wants.{AllHold, line_wants, read_wants}
 use Rattle.machine_core.specs.Beneath.proof_memory.proofs.Claims.Uses.{safe_of}
 use Rattle.machine_core.specs.Beneath.proof_memory.proofs.Safety.AtEachTime.{safe_along}
-use Rattle.machine_core.specs.Beneath.proof_memory.proofs.Safety.AtTimes.{action_finds, line_finds_in}
+use Rattle.machine_core.specs.Beneath.proof_memory.proofs.Safety.AtTimes.{line_finds_in}
 use Rattle.proof_records.proofs.Newest.{committed_are_newest}
 use Rattle.chronicle.specs.Committed.{IsNewest}
 use Rattle.running.specs.Steps.{given_by, given_in}

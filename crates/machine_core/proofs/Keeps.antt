@@ -1,11 +1,10 @@
 -- What a step of an operation in place leaves as it has to be: references that are held, recorded epochs, and where actors stand.
-use Rattle.std.proofs.Common.{arith, ◌≡◌, Bool, true, false, ℕ, ◌+◌, ◌-◌, ◌++◌, List, [], ◌∷◌, length, map, set, get_or, Option, Some, None, refl, sym, ap, subst, ◌∙◌}
-use Rattle.std.specs.Prelude.{option_map, slice_get, slice_index_or}
+use Rattle.std.proofs.Common.{arith, ◌≡◌, Bool, true, false, ℕ, ◌-◌, ◌++◌, List, [], ◌∷◌, length, map, set, Option, Some, None, refl, sym, ap, subst, ◌∙◌}
+use Rattle.std.specs.Prelude.{option_map, slice_index_or}
 use Rattle.std.proofs.lemmas.List.{length-set, map-set}
 use Rattle.std.proofs.lemmas.List.Concat.{flat_map-cons}
 use Rattle.std.proofs.lemmas.Option.{none-some, same_Some}
 use Rattle.std.proofs.Math.Seq.{map-set_same}
-use Rattle.slot_arena.specs.declared.refs.Ref.{Ref}
 use Rattle.slot_arena.specs.Times.{times}
 use Rattle.machine_model.specs.declared.actions.Action.{Action}
 use Rattle.machine_model.specs.declared.actions.Action.TheVariants as act
@@ -14,11 +13,9 @@ use Rattle.machine_model.specs.declared.roots.Descriptor.{Descriptor}
 use Rattle.machine_model.specs.Counting.{refs_of_operation}
 use Rattle.machine_model.specs.Machine.{pin_of}
 use Rattle.machine_model.specs.Operations.{action_of}
-use Rattle.machine_core.specs.Beneath.rdcss_root.specs.Holds.{root_refs}
 use Rattle.machine_core.specs.Beneath.rdcss_root.specs.Tables.{Table, word_in}
 use Rattle.running.specs.Carried.{carried_by}
 use Rattle.running.proofs.Offers.{marked_at, marks_by, unmarked}
-use Rattle.running.specs.declared.programs.Programs.{Programs}
 use Rattle.running.specs.declared.taken.Taken.{Taken}
 use Rattle.running.specs.Places.{IsSound}
 use Rattle.machine_core.specs.declared.parts.Actor.{Actor}
@@ -26,10 +23,10 @@ use Rattle.machine_core.specs.declared.parts.Parts.{Parts}
 use Rattle.machine_core.specs.declared.parts.UnderWay.{UnderWay}
 use Rattle.machine_core.specs.Bounds.{IsOfRun}
 use Rattle.machine_core.specs.Going.{moved}
-use Rattle.machine_core.specs.Keeping.{AreSeated, IsKept, IsSeated, Replaces}
+use Rattle.machine_core.specs.Keeping.{AreSeated, IsKept, IsSeated}
 use Rattle.machine_core.specs.Seen.{actors_seen, operation_at, operation_seen, seen}
 use Rattle.machine_core.specs.Ties.{IsTied, private_refs}
-use Rattle.machine_core.proofs.Kept.{Seat, operation_there, replaced_seated}
+use Rattle.machine_core.proofs.Kept.{operation_there, replaced_seated}
 use Rattle.machine_core.proofs.Noted.{changes}
 use Rattle.machine_core.proofs.Tied.{operation_stands}
 use Rattle.machine_core.proofs.Took.{Took}

@@ -1,5 +1,5 @@
 -- What the parts of a machine keep, they keep where only the heap and the count of steps change, and where an operation ends or begins.
-use Rattle.std.proofs.Common.{◌≡◌, ◌≢◌, length, ℕ, zero, suc, ◌+◌, ◌-◌, ◌<◌, ◌≤◌, ◌⊎◌, inl, inr, List, [], ◌∷◌, set, get_or, map, Option, Some, None, refl, sym, ap, ◌∙◌, subst, arith}
+use Rattle.std.proofs.Common.{◌≡◌, ◌≢◌, length, ℕ, zero, suc, ◌-◌, ◌<◌, ◌≤◌, ◌⊎◌, inl, inr, List, set, get_or, map, Option, Some, None, refl, sym, ap, ◌∙◌, subst, arith}
 use Rattle.std.specs.Prelude.{false, is_some, option_and_then, option_map, slice_get}
 use Rattle.std.proofs.lemmas.Option.{none-some, slice_get-get_or}
 use Rattle.ctrie_base.specs.declared.hashes.HashKind.{HashKind}
@@ -8,12 +8,10 @@ use Rattle.history.proofs.Places.{at_set_cases}
 use Rattle.slot_arena.specs.declared.refs.Ref.{Ref}
 use Rattle.slot_arena.specs.declared.nodes.Slot.{Slot}
 use Rattle.slot_arena.specs.Times.{times}
-use Rattle.epochs.specs.Memories.{Memory}
-use Rattle.machine_model.specs.declared.operations.Operation.{Operation}
 use Rattle.machine_model.specs.declared.roots.RootWord.TheVariants.{Offer}
 use Rattle.machine_model.specs.Grown.{standing}
 use Rattle.machine_model.specs.Machine.{is_running, pin_of}
-use Rattle.machine_model.specs.States.{State, operation_of}
+use Rattle.machine_model.specs.States.{operation_of}
 use Rattle.machine_core.specs.Beneath.rdcss_root.specs.Holds.{root_refs}
 use Rattle.machine_core.specs.Beneath.rdcss_root.specs.Tables.{Table, word_in}
 use Rattle.running.specs.declared.programs.Programs.{Programs}
@@ -22,11 +20,11 @@ use Rattle.machine_core.specs.declared.parts.Actor.{Actor}
 use Rattle.machine_core.specs.declared.parts.Journal.{Journal}
 use Rattle.machine_core.specs.declared.parts.Parts.{Parts}
 use Rattle.machine_core.specs.declared.parts.UnderWay.{UnderWay}
-use Rattle.machine_core.specs.Keeping.{AreSeated, IsKept, IsNoted, IsSeated, KnowsOfferers, KnowsOwners, Replaces}
+use Rattle.machine_core.specs.Keeping.{AreSeated, IsKept, IsNoted, IsSeated, Replaces}
 use Rattle.machine_core.specs.Seen.{actor_of, actors_seen, operation_at, operation_seen, seen, under_way_of}
-use Rattle.machine_core.specs.Ties.{IsTied, private_refs}
+use Rattle.machine_core.specs.Ties.{private_refs}
 use Rattle.machine_core.proofs.Knows.{offerers_over, owners_over, runs_same}
-use Rattle.machine_core.proofs.Mapped.{found_mapped, map_alike, map_replaced}
+use Rattle.machine_core.proofs.Mapped.{found_mapped, map_replaced}
 
 -- ---- the heap alone changed
 

@@ -1,9 +1,8 @@
 -- What an end leaves: the state is the definition's, and all that is kept is kept.
-use Rattle.std.proofs.Common.{◌≡◌, ℕ, ◌+◌, ◌-◌, ◌<◌, ◌≤◌, List, [], ◌∷◌, ◌++◌, set, Option, Some, None, refl, sym, ap, ◌∙◌, subst, arith, inl, inr}
+use Rattle.std.proofs.Common.{◌≡◌, ℕ, ◌+◌, ◌-◌, ◌<◌, ◌≤◌, [], ◌∷◌, ◌++◌, set, Option, Some, None, refl, sym, ap, ◌∙◌, subst, arith, inl, inr}
 use Rattle.std.specs.Prelude.{MatchOption, option_map, slice_get}
 use Rattle.std.proofs.lemmas.Option.{none-some, same_Some}
 use Rattle.ctrie_base.specs.declared.hashes.HashKind.{HashKind}
-use Rattle.history.specs.declared.events.Event.{Event}
 use Rattle.history.specs.declared.events.Event.TheVariants.{End}
 use Rattle.history.specs.declared.replies.Reply.{Reply}
 use Rattle.history.specs.Histories.{begun}
@@ -16,7 +15,7 @@ use Rattle.machine_model.specs.declared.operations.Operation.{Operation}
 use Rattle.machine_model.specs.declared.roots.RootWord.TheVariants.{Offer}
 use Rattle.machine_model.specs.Acting.{ended, entered_at_end}
 use Rattle.machine_model.specs.Grown.{standing}
-use Rattle.machine_model.specs.States.{State, operation_of}
+use Rattle.machine_model.specs.States.{operation_of}
 use Rattle.machine_core.specs.Beneath.rdcss_root.specs.Tables.{Table, word_in}
 use Rattle.machine_core.specs.declared.parts.Actor.{Actor}
 use Rattle.machine_core.specs.declared.parts.Parts.{Parts}
@@ -24,10 +23,10 @@ use Rattle.machine_core.specs.declared.parts.UnderWay.{UnderWay}
 use Rattle.machine_core.specs.Beginnings.{Leaves}
 use Rattle.machine_core.specs.Bounds.{IsOfRun}
 use Rattle.machine_core.specs.Keeping.{AreSeated, IsKept, IsNoted, IsSeated, Replaces}
-use Rattle.machine_core.specs.Seen.{actors_seen, operation_at, operation_seen, seen, under_way_of}
+use Rattle.machine_core.specs.Seen.{actors_seen, operation_at, seen, under_way_of}
 use Rattle.machine_core.specs.Ties.{IsTied}
 use Rattle.machine_core.proofs.Bounded.{begun_push}
-use Rattle.machine_core.proofs.Kept.{Seat, seat_of, operation_there, replaced_seated, replaced_seen}
+use Rattle.machine_core.proofs.Kept.{seat_of, operation_there, replaced_seated, replaced_seen}
 use Rattle.machine_core.proofs.Knows.{ids, offerers_over, owners_over, runs_set}
 use Rattle.machine_core.proofs.Tied.{ended_tied, operation_stands, private_held}
 

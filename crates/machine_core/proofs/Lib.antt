@@ -30,3 +30,8 @@ pub mod Asked
 pub mod Whole
 pub mod Keeps
 pub mod Sorting
+pub mod Owned
+pub mod Owning
+pub mod Offerers
+pub mod Behind
+pub mod Lasting

@@ -1,34 +1,26 @@
 -- What a step of an operation and the notes of it come to is what the definition says.
-use Rattle.std.proofs.Common.{arith, ◌≡◌, ℕ, ◌+◌, ◌-◌, ◌<◌, ◌≤◌, ◌++◌, max, Bool, true, false, List, [], ◌∷◌, length, map, Option, Some, None, refl, sym, ap, subst, ◌∙◌}
-use Rattle.std.specs.Prelude.{option_map, slice_index_or, slice_set, if◌then◌else◌}
-use Rattle.std.proofs.lemmas.List.{append-nil}
-use Rattle.std.proofs.lemmas.Option.{none-some, same_Some}
-use Rattle.ctrie_base.specs.declared.kinds.Kind.{Kind}
-use Rattle.ctrie_base.specs.declared.kinds.Kind.TheVariants as kind
+use Rattle.std.proofs.Common.{arith, ◌≡◌, ℕ, ◌-◌, ◌<◌, ◌++◌, max, List, length, Option, Some, None, refl, sym, ap, subst, ◌∙◌}
+use Rattle.std.specs.Prelude.{option_map, slice_index_or, slice_set}
 use Rattle.slot_arena.specs.declared.refs.Ref.{Ref}
 use Rattle.machine_model.specs.declared.actions.Action.{Action}
-use Rattle.machine_model.specs.declared.actions.Action.TheVariants as act
-use Rattle.machine_model.specs.declared.lines.Line.{Line}
 use Rattle.machine_model.specs.declared.operations.Operation.{Operation}
 use Rattle.machine_model.specs.declared.reading.After.{After}
 use Rattle.machine_model.specs.declared.reading.After.TheVariants.{Goes, Gives}
 use Rattle.machine_model.specs.declared.reading.Read.{Read}
 use Rattle.machine_model.specs.declared.reading.ReadLine.{ReadLine}
 use Rattle.machine_model.specs.declared.roots.Descriptor.{Descriptor}
-use Rattle.machine_model.specs.declared.roots.RootWord.{RootWord}
 use Rattle.machine_model.specs.Acting.{commits_after, entered, gone, operation_after}
 use Rattle.machine_model.specs.Calls.{handle_of}
-use Rattle.machine_model.specs.Operations.{action_of, generation_from, kind_of, read_of}
-use Rattle.machine_model.specs.Orders.{commit_step as commit_of, committed_now, counted_from, moment_after, moment_from, moment_given, read_at_after}
+use Rattle.machine_model.specs.Operations.{action_of, generation_from, read_of}
+use Rattle.machine_model.specs.Orders.{commit_step as commit_of, committed_now, moment_after, moment_from, moment_given, read_at_after}
 use Rattle.machine_model.specs.Reading.{at_indirection, read_after}
-use Rattle.machine_model.specs.States.{State, operation_of, word_at}
+use Rattle.machine_model.specs.States.{State, word_at}
 use Rattle.machine_model.proofs.Actors.{after_marks}
 use Rattle.machine_core.specs.Beneath.rdcss_root.specs.Tables.{Table, acted_table, word_in}
-use Rattle.running.specs.declared.programs.Programs.{Programs}
 use Rattle.running.specs.declared.taken.Taken.{Taken}
 use Rattle.running.specs.Carried.{carried_by, closed_by, placed_by}
 use Rattle.running.specs.Places.{generation_in, line_for}
-use Rattle.running.specs.Steps.{Changes, Does, Scene, Takes, at_scene, given_by, given_in, scene}
+use Rattle.running.specs.Steps.{Changes, Takes, at_scene, given_by, given_in, scene}
 use Rattle.running.proofs.Offers.{marked_at, marks_by, unmarked}
 use Rattle.machine_core.specs.declared.parts.Actor.{Actor}
 use Rattle.machine_core.specs.declared.parts.Parts.{Parts}
@@ -36,12 +28,11 @@ use Rattle.machine_core.specs.declared.parts.UnderWay.{UnderWay}
 use Rattle.machine_core.specs.Bounds.{IsOfRun}
 use Rattle.machine_core.specs.Going.{moment_by, moved, step_committed}
 use Rattle.machine_core.specs.Keeping.{IsKept, IsSeated}
-use Rattle.machine_core.specs.Seen.{actors_seen, operation_at, operation_seen, seen}
+use Rattle.machine_core.specs.Seen.{actors_seen, operation_at, seen}
 use Rattle.machine_core.proofs.Allowed.{there_is}
-use Rattle.machine_core.proofs.Kept.{Seat, operation_there}
 use Rattle.machine_core.proofs.Marking.{Offered, marks_alike, stood}
 use Rattle.machine_core.proofs.Named.{handle_named}
-use Rattle.machine_core.proofs.Stepped.{IsGone, became, carried_now, gone_so}
+use Rattle.machine_core.proofs.Stepped.{became, carried_now, gone_so}
 use Rattle.machine_core.proofs.Took.{Took}
 
 -- ---- moments

@@ -1,14 +1,12 @@
 -- What is noted of a step, by its kind.
-use Rattle.std.proofs.Common.{arith, ◌≡◌, ℕ, ◌++◌, ◌∷◌, [], Bool, true, false, List, Option, Some, None, refl, sym, ap, subst, ◌∙◌}
+use Rattle.std.proofs.Common.{◌≡◌, ℕ, ◌++◌, ◌∷◌, [], Bool, true, false, Option, Some, None, refl, sym, ap, subst, ◌∙◌}
 use Rattle.std.proofs.lemmas.List.{append-nil}
 use Rattle.ctrie_base.specs.declared.kinds.Kind.{Kind}
 use Rattle.ctrie_base.specs.declared.kinds.Kind.TheVariants as kind
 use Rattle.slot_arena.specs.declared.refs.Ref.{Ref}
 use Rattle.slot_arena.specs.Heaps.{generation_at}
-use Rattle.epochs.specs.Memories.{Memory}
 use Rattle.machine_model.specs.declared.actions.Action.{Action}
 use Rattle.machine_model.specs.declared.actions.Action.TheVariants as act
-use Rattle.machine_model.specs.declared.operations.Operation.{Operation}
 use Rattle.machine_model.specs.declared.roots.Descriptor.{Descriptor}
 use Rattle.machine_model.specs.declared.roots.RootWord.{RootWord}
 use Rattle.machine_model.specs.Acting.{commits_after, entered}
@@ -22,13 +20,12 @@ use Rattle.running.specs.Carried.{carried_by, closed_by, placed_by}
 use Rattle.running.proofs.Offers.{carried_or, marks_by}
 use Rattle.machine_core.specs.Beneath.gcas.specs.Acted.{acted_heap}
 use Rattle.machine_core.specs.Beneath.snapshot.specs.Tasks.{with_generation}
-use Rattle.machine_core.specs.declared.parts.Actor.{Actor}
 use Rattle.machine_core.specs.declared.parts.Parts.{Parts}
 use Rattle.machine_core.specs.declared.parts.UnderWay.{UnderWay}
 use Rattle.machine_core.specs.Bounds.{IsOfRun}
 use Rattle.machine_core.specs.Going.{entered_for, NotesCarried, NotesCommit, NotesDrawn, NotesKind, NotesOwner, moved}
 use Rattle.machine_core.specs.Keeping.{IsKept}
-use Rattle.machine_core.specs.Seen.{actor_of, actors_seen, operation_at, seen}
+use Rattle.machine_core.specs.Seen.{actors_seen, operation_at, seen}
 use Rattle.machine_core.proofs.Entering.{decides_now, entering}
 use Rattle.machine_core.proofs.Noted.{NotedSo, changes, handle_is, takes}
 use Rattle.machine_core.proofs.Offering.{Carries, carries}
@@ -36,7 +33,7 @@ use Rattle.machine_core.proofs.Stepped.{carried_now}
 use Rattle.machine_core.proofs.Took.{Took}
 
 -- only a swap of the root carries an offer out
-carried_not : (word : RootWord) (action : Action) → (kind_of action ≡ kind.SwapRoot → ⊥) → carried_by word action ≡ None
+pub carried_not : (word : RootWord) (action : Action) → (kind_of action ≡ kind.SwapRoot → ⊥) → carried_by word action ≡ None
 carried_not word (act.Complete offer main) other = absurd (other refl)
 carried_not word action other = refl
 
@@ -207,7 +204,7 @@ module _ (before : Parts) (actor : ℕ) (u next : UnderWay) (taken : Taken) (now
       (ap (λ (x : Parts). x.table) notes.rest) (ap (λ e. e.items) notes.events) notes.closings notes.places
 
   noted_owner : (fresh : Ref) (after : Parts) → taken.committed ≡ None → (taken.kind ≡ kind.SwapRoot → ⊥) → NotesOwner now actor fresh after → NotedSo before actor u next taken now t run kept is after
-  noted_owner fresh after none other rest =
+  noted_owner fresh after none other (rest, set) =
       noted_plain after none other (subst (λ (x : Parts). x ≡ record now { heap = x.heap; table = x.table; journal = x.journal }) (sym rest) refl)
       (ap (λ (x : Parts). x.heap.heap) rest)
       (ap (λ (x : Parts). x.heap.limbo) rest, ap (λ (x : Parts). x.heap.epoch) rest, ap (λ (x : Parts). x.heap.cursor) rest)

@@ -1,8 +1,7 @@
 -- Whose offer a step carries out.
-use Rattle.std.proofs.Common.{arith, ◌≡◌, ◌≢◌, ◌⊎◌, inl, inr, ◌==◌, ◌&&◌, ℕ, suc, ◌+◌, ◌-◌, ◌<◌, ◌≤◌, Bool, true, false, List, length, map, Option, Some, None, refl, sym, ap, subst, ◌∙◌}
-use Rattle.std.specs.Prelude.{option_map, slice_get, slice_index_or, slice_set, if◌then◌else◌}
-use Rattle.std.proofs.lemmas.Bool.{eqb-true, false≢true}
-use Rattle.std.proofs.lemmas.List.{length-map}
+use Rattle.std.proofs.Common.{arith, ◌≡◌, inl, inr, ℕ, suc, ◌-◌, ◌<◌, Bool, true, false, length, Some, None, refl, sym, ap, subst, ◌∙◌}
+use Rattle.std.specs.Prelude.{option_map, slice_get, slice_index_or, if◌then◌else◌}
+use Rattle.std.proofs.lemmas.Bool.{false≢true}
 use Rattle.std.proofs.lemmas.Option.{none-some, same_Some}
 use Rattle.history.proofs.Places.{at_set_cases}
 use Rattle.slot_arena.specs.declared.refs.Ref.{Ref}
@@ -14,10 +13,10 @@ use Rattle.machine_model.specs.declared.roots.RootWord.{RootWord}
 use Rattle.machine_model.specs.declared.roots.RootWord.TheVariants.{Plain, Offer}
 use Rattle.machine_model.specs.Machine.{run}
 use Rattle.machine_model.specs.States.{State, operation_of, word_at}
-use Rattle.machine_model.specs.Swapping.{is_carried_out, is_try, stands_in}
+use Rattle.machine_model.specs.Swapping.{is_carried_out}
 use Rattle.machine_core.specs.Beneath.proof_generations.proofs.Roots.OfLists.{has_handles_along}
 use Rattle.machine_core.specs.Beneath.proof_generations.proofs.Offers.Standing.{own_numbers}
-use Rattle.machine_core.specs.Beneath.rdcss_root.specs.Tables.{Table, word_in}
+use Rattle.machine_core.specs.Beneath.rdcss_root.specs.Tables.{word_in}
 use Rattle.running.specs.declared.taken.Taken.{Taken}
 use Rattle.running.specs.Carried.{carried_by}
 use Rattle.running.proofs.Offers.{unmarked}
@@ -29,10 +28,8 @@ use Rattle.machine_core.specs.Going.{moved}
 use Rattle.machine_core.specs.Keeping.{IsKept}
 use Rattle.machine_core.specs.Seen.{operation_at, seen}
 use Rattle.machine_core.proofs.Held.{sizes}
-use Rattle.machine_core.proofs.Kept.{Seat, operation_there, operation_under_way}
-use Rattle.machine_core.proofs.Marking.{Offered}
+use Rattle.machine_core.proofs.Kept.{operation_there, operation_under_way}
 use Rattle.machine_core.proofs.Noted.{KnowsOffered, handle_is, number_is}
-use Rattle.machine_core.proofs.Stepped.{carried_now}
 use Rattle.machine_core.proofs.Tied.{operation_stands}
 use Rattle.machine_core.proofs.Took.{Took}
 

@@ -8,7 +8,6 @@ use Rattle.std.proofs.lemmas.List.Elements.{All-cons, All-get_or, All-head, All-
 use Rattle.std.proofs.lemmas.Option.{get_or_from_slice_get, none-some, slice_get_within}
 use Rattle.ctrie_base.specs.declared.hashes.HashKind.{HashKind}
 use Rattle.history.specs.declared.calls.Access.TheVariants.{Writable}
-use Rattle.history.specs.declared.events.Event.{Event}
 use Rattle.history.specs.Histories.{begun}
 use Rattle.slot_arena.specs.declared.refs.Ref.{Ref}
 use Rattle.slot_arena.specs.declared.nodes.Slot.{Slot}
@@ -31,8 +30,7 @@ use Rattle.machine_core.specs.Beneath.rdcss_root.specs.Holds.{IsReady, Moves, ro
 use Rattle.machine_core.specs.Beneath.rdcss_root.specs.Tables.{Table, new_table, with_root_in}
 use Rattle.machine_core.specs.declared.parts.Actor.{Actor}
 use Rattle.machine_core.specs.declared.parts.Parts.{Parts}
-use Rattle.machine_core.specs.declared.parts.UnderWay.{UnderWay}
-use Rattle.machine_core.specs.Keeping.{AreSeated, IsKept, IsNoted, IsSeated}
+use Rattle.machine_core.specs.Keeping.{AreSeated, IsKept}
 use Rattle.machine_core.specs.Seen.{actors_seen, operation_at, seen}
 use Rattle.machine_core.specs.Starting.{AreIdle, IsIdle}
 use Rattle.machine_core.specs.Ties.{private_refs}

@@ -1,6 +1,6 @@
 -- The state after a step of an operation that isn't its end, put together from its parts.
-use Rattle.std.specs.Prelude.{◌≡◌, ◌++◌, ◌-◌, ℕ, zero, suc, Bool, true, false, List, [], ◌∷◌, slice_index_or, slice_set, Option, Some, None, option_map, refl}
-use Rattle.std.proofs.Common.{sym, ap, subst, ◌∙◌, get_or, set}
+use Rattle.std.specs.Prelude.{◌≡◌, ◌++◌, ◌-◌, ℕ, zero, suc, Bool, false, List, [], ◌∷◌, slice_index_or, slice_set, Option, Some, option_map, refl}
+use Rattle.std.proofs.Common.{sym, ap, ◌∙◌, get_or, set}
 use Rattle.ctrie_base.specs.declared.hashes.HashKind.TheVariants.{Low}
 use Rattle.history.specs.declared.calls.Access.{Access}
 use Rattle.slot_arena.specs.declared.refs.Ref.{Ref}
@@ -11,10 +11,10 @@ use Rattle.machine_model.specs.declared.operations.Operation.{Operation}
 use Rattle.machine_model.specs.declared.roots.Descriptor.{Descriptor}
 use Rattle.machine_model.specs.Acting.{acted, attempt_after, commits_after, entered, gone, mark_after, operation_after, private_after}
 use Rattle.machine_model.specs.Calls.{handle_of}
-use Rattle.machine_model.specs.Operations.{action_of, generation_from, line_after}
+use Rattle.machine_model.specs.Operations.{action_of, generation_from}
 use Rattle.machine_model.specs.Orders.{committed_now, moment_after, read_at_after}
 use Rattle.machine_model.specs.States.{State, with_operation, word_at}
-use Rattle.machine_model.proofs.Actors.{after_marks, marks_of}
+use Rattle.machine_model.proofs.Actors.{after_marks}
 use Rattle.machine_core.specs.Beneath.operate.specs.Beneath.gcas.specs.Acted.{acted_heap}
 use Rattle.machine_core.specs.Beneath.rdcss_root.specs.Tables.{Table, acted_table}
 use Rattle.machine_core.specs.Beneath.snapshot.specs.Tasks.{drawn_by, with_generation}

@@ -1,5 +1,5 @@
 -- What a step leaves tied: the references that the heap holds are those of root words and private lists.
-use Rattle.std.proofs.Common.{◌≡◌, ℕ, zero, suc, ◌+◌, ◌-◌, ◌≤◌, true, List, [], length, map, set, get_or, is_some, Option, Some, None, refl, sym, ap, ◌∙◌, arith}
+use Rattle.std.proofs.Common.{◌≡◌, ℕ, zero, suc, ◌+◌, ◌-◌, ◌≤◌, true, List, [], length, set, get_or, is_some, Option, Some, None, refl, sym, ap, ◌∙◌, arith}
 use Rattle.std.proofs.lemmas.List.{map-set, length-map}
 use Rattle.std.proofs.lemmas.Bool.{false≢true}
 use Rattle.std.proofs.lemmas.Option.{none-some}
@@ -13,7 +13,7 @@ use Rattle.machine_model.specs.Counting.{refs_of_operation}
 use Rattle.machine_model.specs.Machine.{pin_of}
 use Rattle.machine_model.proofs.Found.{found_within}
 use Rattle.machine_core.specs.Beneath.rdcss_root.specs.Holds.{root_refs}
-use Rattle.machine_core.specs.Ties.{private_refs, IsTied, StandsAt}
+use Rattle.machine_core.specs.Ties.{IsTied, StandsAt}
 use Rattle.machine_core.proofs.Tying.{times_set, times_part}
 
 -- ---- the operation of an actor

@@ -16,7 +16,7 @@ use Rattle.machine_model.specs.declared.lines.Line.{Line}
 use Rattle.machine_model.specs.declared.lines.Line.TheVariants as line
 use Rattle.machine_model.specs.declared.operations.Operation.{Operation}
 use Rattle.machine_model.specs.declared.steps.Outcome.TheVariants as outcome
-use Rattle.machine_model.specs.Machine.{went}
+use Rattle.machine_model.specs.Machine.{go_denial, went}
 use Rattle.machine_model.specs.Operations.{action_of, kind_of, line_action}
 use Rattle.machine_model.specs.Acting.{gone}
 use Rattle.machine_model.specs.States.{State, operation_of}
@@ -68,7 +68,7 @@ module _ (actor : ℕ) (u : UnderWay) (fresh : Ref) (taken : Taken) (middle : Pa
       (operation : Operation) → operation_of (seen m.before) actor ≡ Some operation → gone (seen m.before) actor operation ≡ seen after
   whole_kind after none notes = by_notes after (noted_kind m.before actor u next taken now took_so m.run m.kept moves_so fresh after none notes)
 
-  fresh_same : fresh ≡ took_so.seat.found.programs.key.work.swap.fresh
+  pub fresh_same : fresh ≡ took_so.seat.found.programs.key.work.swap.fresh
   fresh_same = m.fresh_is took_so.seat.found (actor_there m.before actor u took_so.seat)
 
   -- ---- what the notes ask
@@ -153,10 +153,11 @@ seen_roomed old chronicle closings places =
     ap (λ xs. record (seen old) { closings = xs; places = chronicle.places }) closings ∙ ap (λ xs. record (seen old) { places = xs }) places
 
 pub midway_roomed : (old : Parts) (chronicle : Told) (actor : ℕ) (u : UnderWay) (fresh : Ref) (taken : Taken) (after : Parts) → chronicle.closings ≡ old.journal.chronicle.closings →
-    chronicle.places ≡ old.journal.chronicle.places → chronicle.generations ≡ old.journal.chronicle.generations → IsOfRun (seen old) → IsKept old → under_way_of old actor ≡ Some u →
+    chronicle.places ≡ old.journal.chronicle.places → chronicle.generations ≡ old.journal.chronicle.generations → IsOfRun (seen old) → IsKept old →
+    go_denial (seen old) actor ≡ None → under_way_of old actor ≡ Some u → ((found : Actor) → actor_of old actor ≡ Some found → answer_of (line_for u.program found.programs) ≡ None) →
     Steps (record old { journal = record old.journal { chronicle = chronicle } }) actor u taken after →
     ((found : Actor) → actor_of old actor ≡ Some found → fresh ≡ found.programs.key.work.swap.fresh) → Midway actor u fresh taken after
-midway_roomed old chronicle actor u fresh taken after closings places generations run kept runs steps fresh_is = record {
+midway_roomed old chronicle actor u fresh taken after closings places generations run kept allowed runs goes_on steps fresh_is = record {
   before = record old { journal = record old.journal { chronicle = chronicle } };
   run = subst IsOfRun (sym (seen_roomed old chronicle closings places)) run;
   kept = kept_alike old (record old { journal = record old.journal { chronicle = chronicle } })
@@ -175,18 +176,22 @@ midway_roomed old chronicle actor u fresh taken after closings places generation
         slots = refl;
       })
       kept;
+  allowed = allowed;
   runs = runs;
+  goes_on = goes_on;
   steps = steps;
   fresh_is = fresh_is;
 }
 
 pub roomed_before : (old : Parts) (chronicle : Told) (actor : ℕ) (u : UnderWay) (fresh : Ref) (taken : Taken) (after : Parts) (closings : chronicle.closings ≡ old.journal.chronicle.closings)
     (places : chronicle.places ≡ old.journal.chronicle.places) (generations : chronicle.generations ≡ old.journal.chronicle.generations) (run : IsOfRun (seen old)) (kept : IsKept old)
-    (runs : under_way_of old actor ≡ Some u) (steps : Steps (record old { journal = record old.journal { chronicle = chronicle } }) actor u taken after)
+    (allowed : go_denial (seen old) actor ≡ None) (runs : under_way_of old actor ≡ Some u)
+    (goes_on : (found : Actor) → actor_of old actor ≡ Some found → answer_of (line_for u.program found.programs) ≡ None)
+    (steps : Steps (record old { journal = record old.journal { chronicle = chronicle } }) actor u taken after)
     (fresh_is : (found : Actor) → actor_of old actor ≡ Some found → fresh ≡ found.programs.key.work.swap.fresh) →
-    seen (midway_roomed old chronicle actor u fresh taken after closings places generations run kept runs steps fresh_is).before ≡ seen old
+    seen (midway_roomed old chronicle actor u fresh taken after closings places generations run kept allowed runs goes_on steps fresh_is).before ≡ seen old
 unfolding midway_roomed
-roomed_before old chronicle actor u fresh taken after closings places generations run kept runs steps fresh_is = seen_roomed old chronicle closings places
+roomed_before old chronicle actor u fresh taken after closings places generations run kept allowed runs goes_on steps fresh_is = seen_roomed old chronicle closings places
 
 pub whole_step : (old : Parts) (actor : ℕ) (u : UnderWay) (fresh : Ref) (taken : Taken) (after final : Parts) (m : Midway actor u fresh taken after) (k : Kind) → seen m.before ≡ seen old →
     k ≡ taken.kind →

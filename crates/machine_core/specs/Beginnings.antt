@@ -1,5 +1,5 @@
 -- How an actor's operation begins and ends.
-use Rattle.std.specs.Prelude.{◌≡◌, ℕ, [], Option, Some, None}
+use Rattle.std.specs.Prelude.{◌≡◌, ℕ, [], Some, None}
 use Rattle.history.specs.declared.calls.Access.{Access}
 use Rattle.machine_model.specs.Operations.{first_line}
 use Rattle.epochs.specs.Memories.{Memory}

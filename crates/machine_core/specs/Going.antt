@@ -12,7 +12,9 @@ use Rattle.machine_model.specs.declared.heaps.Closing.{Closing}
 use Rattle.machine_model.specs.declared.heaps.Commit.{Commit}
 use Rattle.machine_model.specs.declared.roots.Descriptor.{Descriptor}
 use Rattle.machine_model.specs.Acting.{entered_by}
+use Rattle.machine_model.specs.Machine.{go_denial}
 use Rattle.machine_model.specs.States.{operation_of}
+use Rattle.machine_core.specs.Beneath.operate.specs.Places.{answer_of}
 use Rattle.machine_core.specs.Beneath.rdcss_root.specs.Tables.{Table}
 use Rattle.chronicle.specs.Committed.{commit_step}
 use Rattle.running.specs.declared.taken.Taken.{Taken}
@@ -43,7 +45,9 @@ pub record Midway (actor : ℕ) (u : UnderWay) (fresh : Ref) (taken : Taken) (pa
   pub before : Parts
   pub run : IsOfRun (seen before)
   pub kept : IsKept before
+  pub allowed : go_denial (seen before) actor ≡ None
   pub runs : under_way_of before actor ≡ Some u
+  pub goes_on : (found : Actor) → actor_of before actor ≡ Some found → answer_of (line_for u.program found.programs) ≡ None
   pub steps : Steps before actor u taken parts
   -- what the operation was about to swap in
   pub fresh_is : (found : Actor) → actor_of before actor ≡ Some found → fresh ≡ found.programs.key.work.swap.fresh
@@ -86,7 +90,9 @@ pub record NotesCommit (before : Parts) (main : Ref) (after : Parts) : Type 0 wh
 
 -- the actor owns the main node that it was about to swap in
 abbrev pub NotesOwner : Parts → ℕ → Ref → Parts → Type 0
-NotesOwner before actor fresh after = after ≡ record before { heap = record before.heap { owners = slice_set before.heap.owners (slot_of fresh) actor } }
+NotesOwner before actor fresh after =
+    (after ≡ record before { heap = record before.heap { owners = slice_set before.heap.owners (slot_of fresh) actor } })
+    × (slice_index after.heap.owners (slot_of fresh) ≡ actor)
 
 -- the offer that was carried out, if one was, has closed the generation of the root that it took away, and whoever offered enters the order
 pub record NotesCarried (before after : Parts) : Type 0 where

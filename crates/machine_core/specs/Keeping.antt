@@ -1,5 +1,5 @@
 -- What the parts of a machine keep, beside the state that they hold, between steps and in the midst of one.
-use Rattle.std.specs.Prelude.{◌≡◌, ℕ, ◌+◌, ◌≤◌, List, [], length, slice_get, slice_index, slice_set, slice_index_or, Option, Some, None}
+use Rattle.std.specs.Prelude.{◌≡◌, ℕ, ◌+◌, ◌≤◌, List, [], length, slice_get, slice_index, slice_set, slice_index_or, Some, None}
 use Rattle.ctrie_base.specs.declared.hashes.HashKind.{HashKind}
 use Rattle.history.specs.Histories.{begun}
 use Rattle.slot_arena.specs.declared.refs.Ref.{Ref}

@@ -3,7 +3,6 @@ use Rattle.std.specs.Prelude.{ℕ, zero, suc, List, map, slice_get, slice_index_
 use Rattle.machine_model.specs.declared.operations.Operation.{Operation}
 use Rattle.machine_model.specs.States.{State}
 use Rattle.machine_core.specs.Beneath.rdcss_root.specs.Tables.{Table}
-use Rattle.running.specs.declared.job.Job.{Job}
 use Rattle.running.specs.declared.programs.Programs.{Programs}
 use Rattle.running.specs.Places.{call_for, generation_in, line_for}
 use Rattle.machine_core.specs.declared.parts.Actor.{Actor}

@@ -1,6 +1,6 @@
 //! A step of an operation: all of it but for limbo and the count of steps.
 
-ghost use Rattle.std.specs.Prelude.{◌≡◌, ◌⊎◌, ◌+◌, ◌-◌, ◌<◌, ◌≤◌, ◌∷◌, ◌++◌, [], All, false, length, slice_get, option_to_list, IfErr, IfOk, OnErr, Some, None, IsSome, MatchOption};
+ghost use Rattle.std.specs.Prelude.{◌≡◌, ◌⊎◌, ◌+◌, ◌-◌, ◌<◌, ◌≤◌, ◌∷◌, ◌++◌, [], All, false, length, slice_get, option_to_list, IfErr, IfOk, OnErr, Some, None, MatchOption};
 ghost use Rattle.places.specs.Places.{on_time};
 ghost use Rattle.slot_arena.specs.Heaps.{generation_at};
 ghost use Rattle.slot_arena.specs.Refs.{slot_of};
@@ -9,7 +9,7 @@ ghost use Rattle.machine_model.specs.declared.operations.Operation.{Operation};
 ghost use Rattle.machine_model.specs.States.{operation_of};
 ghost use Rattle.machine_model.specs.Operations.{action_of};
 ghost use Rattle.machine_model.specs.Acting.{entered_by, gone};
-ghost use Rattle.machine_model.specs.Machine.{went};
+ghost use Rattle.machine_model.specs.Machine.{go_denial, went};
 ghost use Rattle.chronicle.specs.Committed.{IsNewest};
 ghost use Rattle.machine_core.specs.Beneath.operate.specs.Places.{answer_of};
 ghost use Rattle.running.specs.Places.{line_for, IsSound};
@@ -38,7 +38,7 @@ use trie_parts::generation_at;
 pub fn go_on(parts: &mut Parts, actor: u8) -> Result<Outcome, Refusal>
     requires run { IsOfRun (seen parts.old) }
     requires kept { IsKept parts.old }
-    requires runs { IsSome (operation_of (seen parts.old) actor) }
+    requires allowed { go_denial (seen parts.old) actor ≡ None }
     ensures ok { IfOk result (λ outcome. (operation : Operation) →
         operation_of (seen parts.old) actor ≡ Some operation →
         went (seen parts.old) actor operation (action_of (seen parts.old) operation)
@@ -83,6 +83,7 @@ fn reply_of(parts: &Parts, actor: u8, program: Program) -> Result<Option<Reply>,
 fn proceed(parts: &mut Parts, actor: u8, under_way: UnderWay) -> Result<Outcome, Refusal>
     requires run { IsOfRun (seen parts.old) }
     requires kept { IsKept parts.old }
+    requires allowed { go_denial (seen parts.old) actor ≡ None }
     requires runs { under_way_of parts.old actor ≡ Some under_way }
     requires goes_on { (found : AnActor) → actor_of parts.old actor ≡ Some found → answer_of (line_for under_way.program found.programs) ≡ None }
     ensures ok { IfOk result (λ outcome. (operation : Operation) →

@@ -1,5 +1,4 @@
 use Rattle.std.proofs.Common.{sym, ap, ◌∙◌}
-use Rattle.std.specs.Prelude.{is_some}
 use Rattle.std.specs.List.{list_any}
 use Rattle.machine_model.specs.Machine.{names}
 use Rattle.machine_core.specs.Seen.{operation_seen}

@@ -1,5 +1,6 @@
-use Rattle.std.proofs.Common.{refl, sym, ap, ◌∙◌}
+use Rattle.std.proofs.Common.{refl}
 use Rattle.machine_core.proofs.Whole.{asks_begun, asks_ids, asks_kind, asks_live, asks_newest, asks_room, newest_there, whole_commit, whole_kind, within_there}
+use Rattle.machine_core.proofs.Lasting.{keeps_commit, keeps_kind}
 use Rattle.machine_core.proofs.going.note.Goals as goal
 
 pub moved-next-requires : goal.moved-next-requires
@@ -46,7 +47,9 @@ returns-in-Some-clause-gone c = λ midway operation found.
     (record c.args.parts.now { actors = c.put_under_way.new.actors }) c.moved-next.ensures c.put_under_way.ensures refl c.in-Some.main _ c.in-Some.is c.note_commit.ensures.notes operation found
 
 pub returns-in-Some-clause-kept : goal.returns-in-Some-clause-kept
-returns-in-Some-clause-kept c = ?
+returns-in-Some-clause-kept c =
+    keeps_commit c.args.actor c.args.under_way c.args.fresh c.args.taken c.args.parts.now c.requires.midway c.moved-next.result
+    (record c.args.parts.now { actors = c.put_under_way.new.actors }) c.moved-next.ensures c.put_under_way.ensures refl c.in-Some.main _ c.in-Some.is c.note_commit.ensures.notes
 
 pub returns-in-None-clause-gone : goal.returns-in-None-clause-gone
 returns-in-None-clause-gone c = λ midway operation found.
@@ -54,4 +57,6 @@ returns-in-None-clause-gone c = λ midway operation found.
     (record c.args.parts.now { actors = c.put_under_way.new.actors }) c.moved-next.ensures c.put_under_way.ensures refl _ c.in-None.is c.note_kind.ensures.notes operation found
 
 pub returns-in-None-clause-kept : goal.returns-in-None-clause-kept
-returns-in-None-clause-kept c = ?
+returns-in-None-clause-kept c =
+    keeps_kind c.args.actor c.args.under_way c.args.fresh c.args.taken c.args.parts.now c.requires.midway c.moved-next.result
+    (record c.args.parts.now { actors = c.put_under_way.new.actors }) c.moved-next.ensures c.put_under_way.ensures refl _ c.in-None.is c.note_kind.ensures.notes

@@ -1,7 +1,6 @@
-use Rattle.std.specs.Prelude.{option_and_then}
 use Rattle.std.proofs.Common.{ap, sym, ◌∙◌}
 use Rattle.machine_model.specs.Acting.{entered_by}
-use Rattle.machine_core.specs.Seen.{operation_seen, seen}
+use Rattle.machine_core.specs.Seen.{seen}
 use Rattle.machine_core.proofs.Allowed.{owner_runs}
 use Rattle.machine_core.proofs.going.place_at_commit.Goals as goal
 
