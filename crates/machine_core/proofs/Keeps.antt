@@ -30,7 +30,7 @@ use Rattle.machine_core.proofs.Kept.{operation_there, replaced_seated}
 use Rattle.machine_core.proofs.Noted.{changes}
 use Rattle.machine_core.proofs.Tied.{operation_stands}
 use Rattle.machine_core.proofs.Took.{Took}
-use Rattle.machine_core.proofs.Tying.{times_set}
+use Rattle.machine_core.specs.Beneath.rdcss_root.proofs.Rewriting.{times_set}
 
 -- ---- root words matter neither to private lists nor to recorded epochs
 

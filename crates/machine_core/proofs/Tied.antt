@@ -14,7 +14,8 @@ use Rattle.machine_model.specs.Machine.{pin_of}
 use Rattle.machine_model.proofs.Found.{found_within}
 use Rattle.machine_core.specs.Beneath.rdcss_root.specs.Holds.{root_refs}
 use Rattle.machine_core.specs.Ties.{IsTied, StandsAt}
-use Rattle.machine_core.proofs.Tying.{times_set, times_part}
+use Rattle.machine_core.specs.Beneath.rdcss_root.proofs.Rewriting.{times_set}
+use Rattle.machine_core.proofs.Tying.{times_part}
 
 -- ---- the operation of an actor
 
