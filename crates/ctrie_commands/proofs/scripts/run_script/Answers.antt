@@ -1,6 +1,6 @@
 use Rattle.std.specs.String.{string_bytes}
 use Rattle.ctrie_commands.proofs.Legal.{appends_judged}
-use Rattle.ctrie_commands.proofs.running.run_script.Goals as goal
+use Rattle.ctrie_commands.proofs.scripts.run_script.Goals as goal
 
 pub returns-clause-legal : goal.returns-clause-legal
 returns-clause-legal g c =

@@ -1,7 +1,7 @@
 use Rattle.std.specs.String.{string_bytes}
 use Rattle.script_text.specs.Views.{read}
 use Rattle.ctrie_commands.proofs.Legal.{is_report}
-use Rattle.ctrie_commands.proofs.running.carried_out.Goals as goal
+use Rattle.ctrie_commands.proofs.scripts.carried_out.Goals as goal
 
 pub returns-clause-report : goal.returns-clause-report
 returns-clause-report c =
