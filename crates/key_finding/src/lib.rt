@@ -16,5 +16,5 @@ mod looks;
 
 pub use calls::{KeyReply, absent_reply, changed_reply};
 pub use found::Found;
-pub use key_change::{Change, Tried};
+pub use key_change::{Change, ChangeAt, Tried};
 pub use looks::{after_entry, after_listed, after_main};

@@ -213,15 +213,15 @@ module _ (memory : Memory) (table : Table) (other : State) (beside : Operation) 
   can_below (below.Main main) finds = tt
   can_below (below.Entry main position) finds = tt
   can_below (below.Listed main position) finds = tt
-  can_below (below.Change c) finds = can_change c.main c.at finds
+  can_below below.Change finds = can_change op.change.main op.change.at finds
   can_below below.Renew finds = can_renew op.renew.main op.renew.done op.renew.place finds
   can_below below.Clean finds = can_clean op.clean.main op.clean.done op.clean.place finds
-  can_below (below.Climb c) finds = can_climb (climb_of op.path c) c.place finds
-  can_below (below.End answer) finds = tt
+  can_below below.Climb finds = can_climb (climb_of op.path op.climb) op.climb.place finds
+  can_below below.End finds = tt
   can_below below.Impossible finds = tt
 
-  pub can_key : (place : KeyAt) → ReadsAt place op.work.swap.read →
+  pub can_key : (place : KeyAt) → ReadsAt op.root op.work.swap.read place →
       Finds memory.heap (at_heap other memory.heap op.task.hashes) (operation_for op beside) (with_read here (key_line_at op None place)) → CanKeyAt memory table op place
-  can_key (key.Root root) reads finds = can_root memory table _ _ ready op.work.swap.read here stands root _ reads refl refl finds
-  can_key (key.RootAgain single former root) reads finds = can_root memory table _ _ ready op.work.swap.read here stands root _ reads refl refl finds
+  can_key key.Root reads finds = can_root memory table _ _ ready op.work.swap.read here stands op.root _ reads refl refl finds
+  can_key key.RootAgain reads finds = can_root memory table _ _ ready op.work.swap.read here stands op.root _ reads refl refl finds
   can_key (key.Down place) reads finds = can_below place finds

@@ -24,7 +24,6 @@ use Rattle.trie_parts.specs.declared.calls.KeyCall.TheVariants.{Get, Put, PutIfA
 use Rattle.trie_parts.specs.declared.calls.Task.{Task}
 use Rattle.trie_parts.specs.Tasks.{call_of}
 use Rattle.trie_parts.proofs.Handles.{handle_same}
-use Rattle.operate.specs.Beneath.rdcss_root.specs.declared.root.ReadRoot.{ReadRoot}
 
 -- a call on one key goes down from the root
 pub below : (call : KeyCall) (handle : ℕ) (r : Ref) → from_root (call_of handle call) r ≡ going_down [] r

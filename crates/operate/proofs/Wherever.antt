@@ -15,7 +15,7 @@ use Rattle.operate.specs.Beneath.rdcss_root.specs.declared.complete.CompleteAt.{
 use Rattle.operate.specs.Beneath.rdcss_root.specs.declared.complete.CompleteAt.TheVariants as complete
 use Rattle.operate.specs.Beneath.rdcss_root.specs.declared.root.ReadRoot.{ReadRoot}
 use Rattle.operate.specs.Beneath.rdcss_root.specs.declared.root.ReadRoot.TheVariants as rooting
-use Rattle.operate.specs.Beneath.rdcss_root.specs.Programs.{root_of}
+use Rattle.operate.specs.Beneath.rdcss_root.specs.Programs.{root_of, rooted_at}
 use Rattle.operate.specs.Beneath.rdcss_root.specs.Tables.{Table}
 use Rattle.trie_parts.specs.Steps.{IsAskingLine}
 use Rattle.root_asking.specs.Inside.{with_read}
@@ -28,6 +28,7 @@ use Rattle.operate.specs.declared.key_op.KeyAt.TheVariants as key
 use Rattle.operate.specs.declared.key_op.KeyOp.{KeyOp}
 use Rattle.operate.specs.Places.{below_line, key_line_at}
 use Rattle.operate.specs.Reach.{ActsOfKey, IsOfKey}
+use Rattle.operate.specs.Steps.{table_at}
 use Rattle.operate.specs.Telling.{AsksUntold, TellsKey}
 use Rattle.operate.proofs.Going.{IsCalm, looks, ends, reads_root, reads, told_on, changes, renews, cleans, climbs}
 
@@ -38,11 +39,11 @@ tells_below op told at.Read = refl
 tells_below op told (at.Main main) = refl
 tells_below op told (at.Entry main position) = refl
 tells_below op told (at.Listed main position) = refl
-tells_below op told (at.Change c) = (changes op.path op.work.swap c.main c.at).tells told
+tells_below op told at.Change = (changes op.path op.work.swap op.change.main op.change.at).tells told
 tells_below op told at.Renew = (renews op.path op.work.swap op.renew.main op.renew.done op.renew.place).tells told
 tells_below op told at.Clean = (cleans (above op.path) op.work.swap op.clean.main op.clean.done op.clean.place).tells told
-tells_below op told (at.Climb c) = (climbs op.work.swap (climb_of op.path c) c.place).tells told
-tells_below op told (at.End answer) = refl
+tells_below op told at.Climb = (climbs op.work.swap (climb_of op.path op.climb) op.climb.place).tells told
+tells_below op told at.End = refl
 tells_below op told at.Impossible = refl
 
 untold_below : (op : KeyOp) (generation : ℕ) (place : BelowAt) → IsAskingLine (below_line op (Some generation) place) → ⊥
@@ -50,11 +51,11 @@ untold_below op generation at.Read asks = told_on op.work.swap.read.access gener
 untold_below op generation (at.Main main) asks = asks
 untold_below op generation (at.Entry main position) asks = asks
 untold_below op generation (at.Listed main position) asks = asks
-untold_below op generation (at.Change c) asks = (changes op.path op.work.swap c.main c.at).untold generation asks
+untold_below op generation at.Change asks = (changes op.path op.work.swap op.change.main op.change.at).untold generation asks
 untold_below op generation at.Renew asks = (renews op.path op.work.swap op.renew.main op.renew.done op.renew.place).untold generation asks
 untold_below op generation at.Clean asks = (cleans (above op.path) op.work.swap op.clean.main op.clean.done op.clean.place).untold generation asks
-untold_below op generation (at.Climb c) asks = (climbs op.work.swap (climb_of op.path c) c.place).untold generation asks
-untold_below op generation (at.End answer) asks = asks
+untold_below op generation at.Climb asks = (climbs op.work.swap (climb_of op.path op.climb) op.climb.place).untold generation asks
+untold_below op generation at.End asks = asks
 untold_below op generation at.Impossible asks = asks
 
 pub calm_below : (state : State) (operation : Operation) (op : KeyOp) (told : Option ℕ) (place : BelowAt) → IsCalm (line_action state operation (below_line op told place))
@@ -62,11 +63,11 @@ calm_below state operation op told at.Read = reads op.work.swap.read.indirection
 calm_below state operation op told (at.Main main) = looks _
 calm_below state operation op told (at.Entry main position) = looks _
 calm_below state operation op told (at.Listed main position) = looks _
-calm_below state operation op told (at.Change c) = (changes op.path op.work.swap c.main c.at).calm state operation told
+calm_below state operation op told at.Change = (changes op.path op.work.swap op.change.main op.change.at).calm state operation told
 calm_below state operation op told at.Renew = (renews op.path op.work.swap op.renew.main op.renew.done op.renew.place).calm state operation told
 calm_below state operation op told at.Clean = (cleans (above op.path) op.work.swap op.clean.main op.clean.done op.clean.place).calm state operation told
-calm_below state operation op told (at.Climb c) = (climbs op.work.swap (climb_of op.path c) c.place).calm state operation told
-calm_below state operation op told (at.End answer) = ends (reply_of answer)
+calm_below state operation op told at.Climb = (climbs op.work.swap (climb_of op.path op.climb) op.climb.place).calm state operation told
+calm_below state operation op told at.End = ends (reply_of op.reply)
 calm_below state operation op told at.Impossible = reads_root
 
 -- ---- ROOT
@@ -103,29 +104,29 @@ untold_root r generation (rooting.Completing c) asks = untold_completing r gener
 
 -- where it changes a root word, it completes an offer
 completes : (roots : Table) (handle : ℕ) (r : Read) (told : Option ℕ) (offer : Descriptor) (place : CompleteAt) →
-    IsOfKey roots handle (key.Root (rooting.Completing (record { offer = offer; at = place }))) (root_action (root_of (rooting.Completing (record { offer = offer; at = place })) r told))
+    IsOfKey roots handle (rooted_at roots handle (rooting.Completing (record { offer = offer; at = place }))) (root_action (root_of (rooting.Completing (record { offer = offer; at = place })) r told))
 completes roots handle r told offer complete.Reading =
     let calm = reads offer.root r.access told r.at in
     record { words = λ actor. calm.words roots handle actor; tries = calm.tries; beside = calm.beside }
 completes roots handle r told offer (complete.Swap main) = record { words = λ actor. refl; tries = λ attempt. refl; beside = tt }
 
-acts_root : (roots : Table) (handle : ℕ) (r : Read) (told : Option ℕ) (root : ReadRoot) → IsOfKey roots handle (key.Root root) (root_action (root_of root r told))
+acts_root : (roots : Table) (handle : ℕ) (r : Read) (told : Option ℕ) (root : ReadRoot) → IsOfKey roots handle (rooted_at roots handle root) (root_action (root_of root r told))
 acts_root roots handle r told rooting.Read = record { words = λ actor. refl; tries = λ attempt. refl; beside = tt }
 acts_root roots handle r told (rooting.Completing c) = completes roots handle r told c.offer c.at
 
 -- ---- wherever it stands
 
 tells_at : (op : KeyOp) (told : Option ℕ) (place : KeyAt) → key_line_at op told place ≡ with_read (line_of op.work.swap.read told) (key_line_at op None place)
-tells_at op told (key.Root root) = tells_root op.work.swap.read told root
-tells_at op told (key.RootAgain single former root) = tells_again (record { path = op.path; single = single; former = former }) op.work.swap.read told root
+tells_at op told key.Root = tells_root op.work.swap.read told op.root
+tells_at op told key.RootAgain = tells_again (climb_of op.path op.climb) op.work.swap.read told op.root
 tells_at op told (key.Down place) = tells_below op told place
 
 pub tells : TellsKey
 tells op told = tells_at op told op.place
 
 untold_at : (op : KeyOp) (generation : ℕ) (place : KeyAt) → IsAskingLine (key_line_at op (Some generation) place) → ⊥
-untold_at op generation (key.Root root) asks = untold_root op.work.swap.read generation root asks
-untold_at op generation (key.RootAgain single former root) asks = untold_root op.work.swap.read generation root asks
+untold_at op generation key.Root asks = untold_root op.work.swap.read generation op.root asks
+untold_at op generation key.RootAgain asks = untold_root op.work.swap.read generation op.root asks
 untold_at op generation (key.Down place) asks = untold_below op generation place asks
 
 pub untold : AsksUntold
@@ -133,10 +134,10 @@ untold op None asks = refl
 untold op (Some generation) asks = absurd (untold_at op generation op.place asks)
 
 acts_at : (state : State) (operation : Operation) (roots : Table) (handle : ℕ) (op : KeyOp) (told : Option ℕ) (place : KeyAt) →
-    IsOfKey roots handle place (line_action state operation (key_line_at op told place))
-acts_at state operation roots handle op told (key.Root root) = acts_root roots handle op.work.swap.read told root
-acts_at state operation roots handle op told (key.RootAgain single former root) =
-    let acts = acts_root roots handle op.work.swap.read told root in
+    IsOfKey roots handle (table_at roots handle op.root place) (line_action state operation (key_line_at op told place))
+acts_at state operation roots handle op told key.Root = acts_root roots handle op.work.swap.read told op.root
+acts_at state operation roots handle op told key.RootAgain =
+    let acts = acts_root roots handle op.work.swap.read told op.root in
     record { words = acts.words; tries = acts.tries; beside = acts.beside }
 acts_at state operation roots handle op told (key.Down place) =
     let calm = calm_below state operation op told place in

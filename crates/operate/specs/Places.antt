@@ -13,7 +13,7 @@ use Rattle.operate.specs.Beneath.machine_model.specs.Paths.{above}
 use Rattle.operate.specs.Beneath.gcas.specs.Reads.{read_of}
 use Rattle.operate.specs.Beneath.rdcss_root.specs.Programs.{root_of}
 use Rattle.contract.specs.Cleaning.{clean_line}
-use Rattle.contract.specs.Climbing.{climb_line}
+use Rattle.contract.specs.Climbing.{climb_line, climb_of}
 use Rattle.contract.specs.Renewing.{renew_line}
 use Rattle.operate.specs.Beneath.key_change.specs.Lines.{line_of as change_line}
 use Rattle.operate.specs.Beneath.key_change.specs.declared.change.Tried.{Tried}
@@ -30,16 +30,16 @@ below_line op told at.Read = line.Key (key.Read op.path (read_of op.work.swap.re
 below_line op told (at.Main main) = line.Key (key.Main op.path main)
 below_line op told (at.Entry main position) = line.Key (key.Entry op.path main position)
 below_line op told (at.Listed main position) = line.Key (key.Listed op.path main position)
-below_line op told (at.Change c) = change_line op.path op.work.swap told c
+below_line op told at.Change = change_line op.path op.work.swap told op.change
 below_line op told at.Renew = renew_line op.path op.work.swap told op.renew
 below_line op told at.Clean = clean_line (above op.path) op.work.swap told op.clean
-below_line op told (at.Climb c) = climb_line op.path op.work.swap told c
-below_line op told (at.End answer) = line.End (reply_of answer)
+below_line op told at.Climb = climb_line op.path op.work.swap told op.climb
+below_line op told at.End = line.End (reply_of op.reply)
 below_line op told at.Impossible = impossible
 
 abbrev pub key_line_at : KeyOp → Option ℕ → KeyAt → Line
-key_line_at op told (Root r) = line.Root (root_of r op.work.swap.read told)
-key_line_at op told (RootAgain single former r) = line.Climb (climb.Root (record { path = op.path; single = single; former = former }) (root_of r op.work.swap.read told))
+key_line_at op told Root = line.Root (root_of op.root op.work.swap.read told)
+key_line_at op told RootAgain = line.Climb (climb.Root (climb_of op.path op.climb) (root_of op.root op.work.swap.read told))
 key_line_at op told (Down place) = below_line op told place
 
 -- the definition's line of a call whose READ was told this of the root's generation

@@ -7,7 +7,6 @@ use Rattle.operate.specs.Beneath.machine_model.specs.Acting.{attempt_after}
 use Rattle.operate.specs.Beneath.machine_model.specs.Operations.{line_action}
 use Rattle.operate.specs.Beneath.machine_model.specs.States.{State}
 use Rattle.operate.specs.Beneath.rdcss_root.specs.Tables.{Table, acted_table}
-use Rattle.operate.specs.declared.key_op.KeyAt.{KeyAt}
 use Rattle.operate.specs.declared.key_op.KeyOp.{KeyOp}
 use Rattle.operate.specs.Places.{key_line}
 use Rattle.operate.specs.Steps.{table_after}
@@ -19,9 +18,9 @@ SwapsNoRoot (act.Offer offer) = ⊥
 SwapsNoRoot (act.MakeRoot main) = ⊥
 SwapsNoRoot action = Unit {0}
 
--- The action of a call that stands here: it changes root words only where ROOT completes an offer, and no tries are counted.
-pub record IsOfKey (roots : Table) (handle : ℕ) (place : KeyAt) (action : Action) : Type 0 where
-  pub words : (actor : ℕ) → acted_table roots handle actor action ≡ table_after roots handle place
+-- The action of a call behind which the root words are these: it changes them only where ROOT completes an offer, and no tries are counted.
+pub record IsOfKey (roots : Table) (handle : ℕ) (after : Table) (action : Action) : Type 0 where
+  pub words : (actor : ℕ) → acted_table roots handle actor action ≡ after
   pub tries : (attempt : ℕ) → attempt_after attempt action ≡ attempt
   pub beside : SwapsNoRoot action
 
@@ -29,4 +28,4 @@ pub record IsOfKey (roots : Table) (handle : ℕ) (place : KeyAt) (action : Acti
 abbrev pub ActsOfKey : Type 0
 ActsOfKey =
     (state : State) → (operation : Operation) → (roots : Table) → (handle : ℕ) → (op : KeyOp) → (told : Option ℕ) →
-    IsOfKey roots handle op.place (line_action state operation (key_line op told))
+    IsOfKey roots handle (table_after roots handle op) (line_action state operation (key_line op told))

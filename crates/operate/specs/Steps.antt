@@ -24,6 +24,7 @@ use Rattle.trie_parts.specs.Holding.{Acts}
 use Rattle.trie_parts.specs.Steps.{StepsOn}
 use Rattle.trie_parts.specs.Tasks.{for_task}
 use Rattle.operate.specs.Beneath.rdcss_root.specs.Acts.{ActsInAll}
+use Rattle.operate.specs.Beneath.rdcss_root.specs.declared.root.ReadRoot.{ReadRoot}
 use Rattle.operate.specs.Beneath.rdcss_root.specs.Programs.{CanRootOn, ReadsItsRoot, rooted_at}
 use Rattle.operate.specs.Beneath.rdcss_root.specs.Tables.{Table}
 use Rattle.operate.specs.Beneath.key_change.specs.Steps.{CanChange}
@@ -87,10 +88,13 @@ RootActs before roots op l after roots' private' =
     ActsInAll before roots op.work.private (line_action (at_heap state before.heap op.task.hashes) (operation_for op operation) l) after roots' private'
 
 -- the table of root words behind a step: only ROOT changes it, where it completes an offer
-abbrev pub table_after : Table → ℕ → KeyAt → Table
-table_after table handle (op.Root r) = rooted_at table handle r
-table_after table handle (op.RootAgain single former r) = rooted_at table handle r
-table_after table handle (op.Down place) = table
+abbrev pub table_at : Table → ℕ → ReadRoot → KeyAt → Table
+table_at table handle r op.Root = rooted_at table handle r
+table_at table handle r op.RootAgain = rooted_at table handle r
+table_at table handle r (op.Down place) = table
+
+abbrev pub table_after : Table → ℕ → KeyOp → Table
+table_after table handle o = table_at table handle o.root o.place
 
 -- ---- what it asks of the heap and of the root words
 
@@ -99,16 +103,16 @@ CanBelow heap o at.Read = CanReadOn heap o.work.swap.read
 CanBelow heap o (at.Main main) = Unit {0}
 CanBelow heap o (at.Entry main position) = Unit {0}
 CanBelow heap o (at.Listed main position) = Unit {0}
-CanBelow heap o (at.Change c) = CanChange heap o.task o.path o.work.swap c
+CanBelow heap o at.Change = CanChange heap o.task o.path o.work.swap o.change
 CanBelow heap o at.Renew = CanRenew heap o.work.swap o.renew
 CanBelow heap o at.Clean = CanClean heap (above o.path) o.work.swap o.clean
-CanBelow heap o (at.Climb c) = CanClimb heap o.task o.path o.work.swap c
-CanBelow heap o (at.End answer) = Unit {0}
+CanBelow heap o at.Climb = CanClimb heap o.task o.path o.work.swap o.climb
+CanBelow heap o at.End = Unit {0}
 CanBelow heap o at.Impossible = Unit {0}
 
 abbrev pub CanKeyAt : Memory → Table → KeyOp → KeyAt → Type 0
-CanKeyAt memory table o (op.Root r) = CanRootOn memory table r o.work.swap.read
-CanKeyAt memory table o (op.RootAgain single former r) = CanRootOn memory table r o.work.swap.read
+CanKeyAt memory table o op.Root = CanRootOn memory table o.root o.work.swap.read
+CanKeyAt memory table o op.RootAgain = CanRootOn memory table o.root o.work.swap.read
 CanKeyAt memory table o (op.Down place) = CanBelow memory.heap o place
 
 -- what is going to be changed, or referred to, is in use, and of its kind
@@ -116,7 +120,10 @@ abbrev pub CanKey : Memory → Table → KeyOp → Type 0
 CanKey memory table o = CanKeyAt memory table o o.place
 
 -- where ROOT completes an offer its READ is that of the root which is to be swapped
-abbrev pub ReadsAt : KeyAt → Read → Type 0
-ReadsAt (op.Root r) read = ReadsItsRoot r read
-ReadsAt (op.RootAgain single former r) read = ReadsItsRoot r read
-ReadsAt (op.Down place) read = Unit {0}
+abbrev pub ReadsAt : ReadRoot → Read → KeyAt → Type 0
+ReadsAt r read op.Root = ReadsItsRoot r read
+ReadsAt r read op.RootAgain = ReadsItsRoot r read
+ReadsAt r read (op.Down place) = Unit {0}
+
+abbrev pub ReadsKey : KeyOp → Type 0
+ReadsKey o = ReadsAt o.root o.work.swap.read o.place

@@ -19,8 +19,8 @@ impl KeyOp {
         ensures { (told : Option ℕ) → result ≡ is_some (read_of (key_line self.now told)) }
     {
         match &self.place {
-            KeyAt::Root(root) => root.is_reading(),
-            KeyAt::RootAgain { root, .. } => root.is_reading(),
+            KeyAt::Root => self.root.is_reading(),
+            KeyAt::RootAgain => self.root.is_reading(),
             KeyAt::Down(at) => self.is_reading_at(at),
         }
     }
@@ -33,11 +33,11 @@ impl KeyOp {
             BelowAt::Main { .. } => false,
             BelowAt::Entry { .. } => false,
             BelowAt::Listed { .. } => false,
-            BelowAt::Change(change) => change.is_reading(&self.work.swap),
+            BelowAt::Change => self.change.is_reading(&self.work.swap),
             BelowAt::Renew => self.renew.is_reading(&self.work.swap),
             BelowAt::Clean => self.clean.is_reading(&self.work.swap),
-            BelowAt::Climb(climb) => climb.is_reading(&self.work.swap),
-            BelowAt::End(_) => false,
+            BelowAt::Climb => self.climb.is_reading(&self.work.swap),
+            BelowAt::End => false,
             BelowAt::Impossible => false,
         }
     }
@@ -47,8 +47,8 @@ impl KeyOp {
         ensures { (told : Option ℕ) → result ≡ swaps_in main (key_line self.now told) }
     {
         match &self.place {
-            KeyAt::Root(_) => false,
-            KeyAt::RootAgain { .. } => false,
+            KeyAt::Root => false,
+            KeyAt::RootAgain => false,
             KeyAt::Down(at) => self.swaps_in_at(at, main),
         }
     }
@@ -61,11 +61,11 @@ impl KeyOp {
             BelowAt::Main { .. } => false,
             BelowAt::Entry { .. } => false,
             BelowAt::Listed { .. } => false,
-            BelowAt::Change(change) => change.swaps_in(&self.work.swap, main),
+            BelowAt::Change => self.change.swaps_in(&self.work.swap, main),
             BelowAt::Renew => false,
             BelowAt::Clean => false,
-            BelowAt::Climb(_) => false,
-            BelowAt::End(_) => false,
+            BelowAt::Climb => false,
+            BelowAt::End => false,
             BelowAt::Impossible => false,
         }
     }
@@ -75,8 +75,8 @@ impl KeyOp {
         ensures { (state : State) (operation : Operation) → result ≡ kind_of (line_action state operation (key_line self.now root_seen)) }
     {
         match &self.place {
-            KeyAt::Root(root) => root.next_kind(&self.work.swap.read, root_seen),
-            KeyAt::RootAgain { root, .. } => root.next_kind(&self.work.swap.read, root_seen),
+            KeyAt::Root => self.root.next_kind(&self.work.swap.read, root_seen),
+            KeyAt::RootAgain => self.root.next_kind(&self.work.swap.read, root_seen),
             KeyAt::Down(at) => self.next_kind_at(at, root_seen),
         }
     }
@@ -89,11 +89,11 @@ impl KeyOp {
             BelowAt::Main { .. } => Kind::Look,
             BelowAt::Entry { .. } => Kind::Look,
             BelowAt::Listed { .. } => Kind::Look,
-            BelowAt::Change(change) => change.next_kind(&self.work.swap, root_seen),
+            BelowAt::Change => self.change.next_kind(&self.work.swap, root_seen),
             BelowAt::Renew => self.renew.next_kind(&self.work.swap, root_seen),
             BelowAt::Clean => self.clean.next_kind(&self.work.swap, root_seen),
-            BelowAt::Climb(climb) => climb.next_kind(&self.work.swap, root_seen),
-            BelowAt::End(_) => Kind::End,
+            BelowAt::Climb => self.climb.next_kind(&self.work.swap, root_seen),
+            BelowAt::End => Kind::End,
             BelowAt::Impossible => Kind::ReadRoot,
         }
     }
@@ -103,8 +103,8 @@ impl KeyOp {
         ensures { (told : Option ℕ) → answer_of (key_line self.now told) ≡ option_map reply_of result }
     {
         match &self.place {
-            KeyAt::Root(_) => None,
-            KeyAt::RootAgain { .. } => None,
+            KeyAt::Root => None,
+            KeyAt::RootAgain => None,
             KeyAt::Down(at) => self.reply_at(at),
         }
     }
@@ -117,11 +117,11 @@ impl KeyOp {
             BelowAt::Main { .. } => None,
             BelowAt::Entry { .. } => None,
             BelowAt::Listed { .. } => None,
-            BelowAt::Change(_) => None,
+            BelowAt::Change => None,
             BelowAt::Renew => None,
             BelowAt::Clean => None,
-            BelowAt::Climb(_) => None,
-            BelowAt::End(reply) => Some(*reply),
+            BelowAt::Climb => None,
+            BelowAt::End => Some(self.reply),
             BelowAt::Impossible => None,
         }
     }

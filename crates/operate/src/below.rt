@@ -19,61 +19,27 @@ ghost use Rattle.trie_parts.specs.Holding.{AreHeld};
 ghost use Rattle.operate.specs.Beneath.key_change.specs.Lines.{line_of as change_line};
 ghost use Rattle.operate.specs.Beneath.key_change.specs.Steps.{CanChange, line_behind as line_tried};
 ghost use Rattle.key_finding.specs.Lines.{line_found};
-ghost use Rattle.operate.specs.Places.{key_line, below_line, changed_line, former_of};
-ghost use Rattle.operate.specs.Steps.{CommitsNoMore, KeySteps, KeyActs, CanBelow, ReadsAt, operation_for};
+ghost use Rattle.operate.specs.Places.{key_line, changed_line, former_of};
+ghost use Rattle.operate.specs.Steps.{CommitsNoMore, KeySteps, KeyActs, ReadsKey, operation_for};
 
 use crate::key_op::{BelowAt, KeyAt, KeyOp};
-use contract::Climb;
 use ctrie_base::{Kind, Refusal};
 use epochs::Heap;
 use key_finding::{Change, Found, KeyReply, Tried, after_entry, after_listed, after_main};
-use root_asking::ReadRoot;
 use slot_arena::{Node, Ref};
 use trie_parts::{Next, above, current, node_at};
 
 impl KeyOp {
-    /// Takes a step from this place below the root.
-    pub(crate) fn go_on(
-        &mut self,
-        at: &BelowAt,
-        heap: &mut Heap,
-        root_seen: Option<u64>,
-    ) -> Result<Next<KeyReply>, Refusal>
-        requires can { CanBelow heap.old.heap self.old at.now }
-        requires held { AreHeld self.old.work.private heap.old }
-        ensures follows { IfOk result (λ next. KeySteps heap.old.heap self.old (below_line self.old root_seen at.now) self.new next) }
-        ensures acts { OnOk result (KeyActs heap.old self.old (below_line self.old root_seen at.now) heap.new self.new.work.private) }
-        ensures same { (self.new.task ≡ self.old.task) × (self.new.work.swap.read.access ≡ self.old.work.swap.read.access) }
-        ensures asks { IfOk result (λ next. IsAskingRoot next → (self.new ≡ record self.old { place = KeyAt.Down (at.now) }) × (heap.new ≡ heap.old)) }
-        ensures err { OnErr result ((self.new ≡ record self.old { place = KeyAt.Down (at.now) }) × (heap.new ≡ heap.old)) }
-        ensures only_memory { IfErr result (λ refusal. refusal ≡ Refusal.Memory) }
-        ensures stands { OnOk result (ReadsAt self.new.place self.new.work.swap.read) }
-    {
-        self.place = KeyAt::Down(*at);
-        match at {
-            BelowAt::Read => Ok(self.read(heap, root_seen)),
-            BelowAt::Main { main } => self.look_at_main(heap, *main),
-            BelowAt::Entry { main, position } => self.look_at_entry(heap, *main, *position),
-            BelowAt::Listed { main, position } => self.look_at_single(heap, *main, *position),
-            BelowAt::Change(change) => self.change(*change, heap, root_seen),
-            BelowAt::Renew => self.renew(heap, root_seen),
-            BelowAt::Clean => self.clean(heap, root_seen),
-            BelowAt::Climb(climb) => self.climb(*climb, heap, root_seen),
-            BelowAt::End(reply) => Ok(Next::Done(Kind::End, *reply)),
-            BelowAt::Impossible => Ok(Next::More(Kind::ReadRoot)),
-        }
-    }
-
     /// Takes a step of the current indirection's READ.
-    fn read(&mut self, heap: &mut Heap, root_seen: Option<u64>) -> Next<KeyReply>
+    pub(crate) fn read(&mut self, heap: &mut Heap, root_seen: Option<u64>) -> Next<KeyReply>
+        requires at { self.old.place ≡ KeyAt.Down BelowAt.Read }
         requires can { CanReadOn heap.old.heap self.old.work.swap.read }
         ensures follows { KeySteps heap.old.heap self.old (line.Key (key.Read self.old.path (read_of self.old.work.swap.read root_seen))) self.new result }
         ensures acts { KeyActs heap.old self.old (line.Key (key.Read self.old.path (read_of self.old.work.swap.read root_seen))) heap.new self.new.work.private }
         ensures same { (self.new.task ≡ self.old.task) × (self.new.work.swap.read.access ≡ self.old.work.swap.read.access) }
-        ensures asks { IsAskingRoot result → (self.new ≡ record self.old { place = KeyAt.Down (BelowAt.Read) }) × (heap.new ≡ heap.old) }
-        ensures stands { ReadsAt self.new.place self.new.work.swap.read }
+        ensures asks { IsAskingRoot result → (self.new ≡ self.old) × (heap.new ≡ heap.old) }
+        ensures stands { ReadsKey self.new }
     {
-        self.place = KeyAt::Down(BelowAt::Read);
         match self.work.read(heap, root_seen) {
             Next::More(kind) => Next::More(kind),
             Next::AskRoot => Next::AskRoot,
@@ -85,13 +51,13 @@ impl KeyOp {
     }
 
     /// Looks at the main node.
-    fn look_at_main(&mut self, heap: &Heap, main: Ref) -> Result<Next<KeyReply>, Refusal>
+    pub(crate) fn look_at_main(&mut self, heap: &Heap, main: Ref) -> Result<Next<KeyReply>, Refusal>
         ensures follows { IfOk result (λ next. KeySteps heap.now.heap self.old (line.Key (key.Main self.old.path main)) self.new next) }
         ensures same { (self.new.task ≡ self.old.task) × (self.new.work.private ≡ self.old.work.private) × (self.new.work.swap.read.access ≡ self.old.work.swap.read.access) }
         ensures taken { IfOk result (λ next. IsAskingRoot next → ⊥) }
         ensures err { OnErr result (self.new ≡ self.old) }
         ensures only_memory { IfErr result (λ refusal. refusal ≡ Refusal.Memory) }
-        ensures stands { OnOk result (ReadsAt self.new.place self.new.work.swap.read) }
+        ensures stands { OnOk result (ReadsKey self.new) }
     {
         let found = after_main(
             heap,
@@ -105,7 +71,7 @@ impl KeyOp {
     }
 
     /// Looks at a branch's entry.
-    fn look_at_entry(
+    pub(crate) fn look_at_entry(
         &mut self,
         heap: &Heap,
         main: Ref,
@@ -116,7 +82,7 @@ impl KeyOp {
         ensures taken { IfOk result (λ next. IsAskingRoot next → ⊥) }
         ensures err { OnErr result (self.new ≡ self.old) }
         ensures only_memory { IfErr result (λ refusal. refusal ≡ Refusal.Memory) }
-        ensures stands { OnOk result (ReadsAt self.new.place self.new.work.swap.read) }
+        ensures stands { OnOk result (ReadsKey self.new) }
     {
         let found = after_entry(
             heap,
@@ -131,7 +97,7 @@ impl KeyOp {
     }
 
     /// Looks at a single of a list, or at a tomb's.
-    fn look_at_single(
+    pub(crate) fn look_at_single(
         &mut self,
         heap: &Heap,
         main: Ref,
@@ -142,7 +108,7 @@ impl KeyOp {
         ensures taken { IfOk result (λ next. IsAskingRoot next → ⊥) }
         ensures err { OnErr result (self.new ≡ self.old) }
         ensures only_memory { IfErr result (λ refusal. refusal ≡ Refusal.Memory) }
-        ensures stands { OnOk result (ReadsAt self.new.place self.new.work.swap.read) }
+        ensures stands { OnOk result (ReadsKey self.new) }
     {
         let found = after_listed(
             heap,
@@ -162,7 +128,7 @@ impl KeyOp {
         ensures same { (self.new.task ≡ self.old.task) × (self.new.work.private ≡ self.old.work.private) × (self.new.work.swap.read.access ≡ self.old.work.swap.read.access) }
         ensures err { OnErr result (self.new ≡ self.old) }
         ensures only_memory { IfErr result (λ refusal. refusal ≡ Refusal.Memory) }
-        ensures stands { OnOk result (ReadsAt self.new.place self.new.work.swap.read) }
+        ensures stands { OnOk result (ReadsKey self.new) }
     {
         match found {
             Found::Down { below } => self.go_down(below),
@@ -184,11 +150,12 @@ impl KeyOp {
                 Ok(())
             }
             Found::Change(at) => {
-                self.place = KeyAt::Down(BelowAt::Change(Change { main, at }));
+                self.change = Change { main, at };
+                self.place = KeyAt::Down(BelowAt::Change);
                 Ok(())
             }
             Found::End(reply) => {
-                self.place = KeyAt::Down(BelowAt::End(reply));
+                self.end_with(reply);
                 Ok(())
             }
             Found::Impossible => {
@@ -204,7 +171,7 @@ impl KeyOp {
         ensures same { (self.new.task ≡ self.old.task) × (self.new.work.private ≡ self.old.work.private) × (self.new.work.swap.read.access ≡ self.old.work.swap.read.access) }
         ensures err { OnErr result (self.new ≡ self.old) }
         ensures only_memory { IfErr result (λ refusal. refusal ≡ Refusal.Memory) }
-        ensures stands { OnOk result (ReadsAt self.new.place self.new.work.swap.read) }
+        ensures stands { OnOk result (ReadsKey self.new) }
     {
         self.path.push(below)?;
         self.read_next(below);
@@ -215,7 +182,7 @@ impl KeyOp {
     fn clean_parent(&mut self)
         ensures line { key_line self.new None ≡ line.Clean (clean.Read (above self.old.path) (reading (current (above self.old.path)))) }
         ensures same { (self.new.task ≡ self.old.task) × (self.new.work.private ≡ self.old.work.private) × (self.new.work.swap.read.access ≡ self.old.work.swap.read.access) }
-        ensures stands { ReadsAt self.new.place self.new.work.swap.read }
+        ensures stands { ReadsKey self.new }
     {
         let parent = current(above(self.path.as_slice()));
         self.clean.begin(&mut self.work, parent);
@@ -223,39 +190,32 @@ impl KeyOp {
     }
 
     /// Takes a step of a change.
-    fn change(
+    pub(crate) fn change(
         &mut self,
-        change: Change,
         heap: &mut Heap,
         root_seen: Option<u64>,
     ) -> Result<Next<KeyReply>, Refusal>
-        requires can { CanChange heap.old.heap self.old.task self.old.path self.old.work.swap change }
+        requires at { self.old.place ≡ KeyAt.Down BelowAt.Change }
+        requires can { CanChange heap.old.heap self.old.task self.old.path self.old.work.swap self.old.change }
         requires held { AreHeld self.old.work.private heap.old }
-        ensures follows { IfOk result (λ next. KeySteps heap.old.heap self.old (change_line self.old.path self.old.work.swap root_seen change) self.new next) }
-        ensures acts { OnOk result (KeyActs heap.old self.old (change_line self.old.path self.old.work.swap root_seen change) heap.new self.new.work.private) }
+        ensures follows { IfOk result (λ next. KeySteps heap.old.heap self.old (change_line self.old.path self.old.work.swap root_seen self.old.change) self.new next) }
+        ensures acts { OnOk result (KeyActs heap.old self.old (change_line self.old.path self.old.work.swap root_seen self.old.change) heap.new self.new.work.private) }
         ensures same { (self.new.task ≡ self.old.task) × (self.new.work.swap.read.access ≡ self.old.work.swap.read.access) }
-        ensures asks { IfOk result (λ next. IsAskingRoot next → (self.new ≡ record self.old { place = KeyAt.Down (BelowAt.Change change) }) × (heap.new ≡ heap.old)) }
+        ensures asks { IfOk result (λ next. IsAskingRoot next → (self.new ≡ self.old) × (heap.new ≡ heap.old)) }
         ensures err { OnErr result ((self.new ≡ self.old) × (heap.new ≡ heap.old)) }
         ensures only_memory { IfErr result (λ refusal. refusal ≡ Refusal.Memory) }
-        ensures stands { OnOk result (ReadsAt self.new.place self.new.work.swap.read) }
+        ensures stands { OnOk result (ReadsKey self.new) }
     {
-        let mut change = change;
         let tomb = tomb_at(heap, self.work.swap.fresh);
-        match change.step(
+        match self.change.step(
             &mut self.work,
             heap,
             self.task,
             self.path.as_slice(),
             root_seen,
         )? {
-            Next::More(kind) => {
-                self.place = KeyAt::Down(BelowAt::Change(change));
-                Ok(Next::More(kind))
-            }
-            Next::AskRoot => {
-                self.place = KeyAt::Down(BelowAt::Change(change));
-                Ok(Next::AskRoot)
-            }
+            Next::More(kind) => Ok(Next::More(kind)),
+            Next::AskRoot => Ok(Next::AskRoot),
             Next::Done(kind, tried) => {
                 self.after_try(tried, tomb);
                 Ok(Next::More(kind))
@@ -271,15 +231,15 @@ impl KeyOp {
             key_line self.new None ≡ line_tried state (operation_for self.old operation) self.old.path fresh tried }
         ensures same { (self.new.task ≡ self.old.task) × (self.new.work.private ≡ self.old.work.private) × (self.new.work.swap.read.access ≡ self.old.work.swap.read.access) }
         ensures reads { CommitsNoMore self.old.work.swap.read.at self.new.work.swap.read.at }
-        ensures stands { ReadsAt self.new.place self.new.work.swap.read }
+        ensures stands { ReadsKey self.new }
     {
         match tried {
             Tried::Changed { former } => match tomb {
                 Some(single) => self.climb_on(single, former),
                 None => self.answer(former),
             },
-            Tried::Lost => self.place = KeyAt::Root(ReadRoot::Read),
-            Tried::NoSlots => self.place = KeyAt::Down(BelowAt::End(KeyReply::NoSlots)),
+            Tried::Lost => self.begin_try(),
+            Tried::NoSlots => self.end_with(KeyReply::NoSlots),
             Tried::Impossible => self.place = KeyAt::Down(BelowAt::Impossible),
         }
     }

@@ -14,15 +14,16 @@ ghost use Rattle.trie_parts.specs.Tasks.{for_task, is_begun_in};
 ghost use Rattle.operate.specs.Beneath.rdcss_root.specs.Acts.{ActsInAll};
 ghost use Rattle.operate.specs.Beneath.rdcss_root.specs.Programs.{root_of, CanRootOn, rooted_at};
 ghost use Rattle.operate.specs.Beneath.rdcss_root.specs.Tables.{word_in};
+ghost use Rattle.contract.specs.Climbing.{climb_of};
 ghost use Rattle.operate.specs.Places.{key_line, key_line_at};
-ghost use Rattle.operate.specs.Steps.{RootSteps, RootActs, CommitsNoMore, KeepsGeneration, CanKey, ReadsAt, table_after};
+ghost use Rattle.operate.specs.Steps.{RootSteps, RootActs, CommitsNoMore, KeepsGeneration, CanKey, ReadsKey, table_after};
 
 use crate::path::Path;
-use contract::{Clean, Climb, Renew};
+use contract::{Clean, Climb, ClimbAt, Renew};
 use ctrie_base::{HashKind, Kind, Refusal};
 use epochs::Heap;
 use history::Access;
-use key_finding::{Change, KeyReply, changed_reply};
+use key_finding::{Change, ChangeAt, KeyReply, changed_reply};
 use root_asking::{ReadRoot, Roots};
 use slot_arena::Ref;
 use std::alloc::Global;
@@ -40,15 +41,15 @@ pub enum BelowAt {
     /// Looks at the single at this position of a list, or at a tomb's.
     Listed { main: Ref, position: usize },
     /// Changes the main node.
-    Change(Change),
+    Change,
     /// Renews it.
     Renew,
     /// Cleans the parent.
     Clean,
     /// Climbs.
-    Climb(Climb),
-    /// Ends with this reply.
-    End(KeyReply),
+    Climb,
+    /// Ends with its reply.
+    End,
     /// A node is of another kind than the program takes it for. No machine comes here.
     Impossible,
 }
@@ -57,13 +58,9 @@ pub enum BelowAt {
 #[derive(Clone, Copy)]
 pub enum KeyAt {
     /// ROOT: a try begins.
-    Root(ReadRoot),
+    Root,
     /// ROOT, after a climb whose swap failed: it climbs on where the root is of the same generation still.
-    RootAgain {
-        single: Ref,
-        former: Option<u64>,
-        root: ReadRoot,
-    },
+    RootAgain,
     /// Below the root.
     Down(BelowAt),
 }
@@ -76,9 +73,14 @@ pub struct KeyOp {
     pub(crate) path: Path,
     /// An actor has one for the calls of all kinds.
     pub work: Work,
+    pub(crate) place: KeyAt,
+    /// Each program stays in its place, and is read only where the call stands in it: so a step moves little.
+    pub(crate) root: ReadRoot,
+    pub(crate) change: Change,
     pub(crate) renew: Renew,
     pub(crate) clean: Clean,
-    pub(crate) place: KeyAt,
+    pub(crate) climb: Climb,
+    pub(crate) reply: KeyReply,
 }
 
 impl KeyOp {
@@ -101,9 +103,20 @@ impl KeyOp {
                 private: Private::new(alloc),
                 swap: Swap::new(Access::ReadOnly, nowhere, nowhere, nowhere),
             },
+            place: KeyAt::Down(BelowAt::Impossible),
+            root: ReadRoot::Read,
+            change: Change {
+                main: nowhere,
+                at: ChangeAt::Swap { former: None },
+            },
             renew: Renew::new(alloc),
             clean: Clean::new(alloc),
-            place: KeyAt::Down(BelowAt::Impossible),
+            climb: Climb {
+                single: nowhere,
+                former: None,
+                place: ClimbAt::Read,
+            },
+            reply: KeyReply::NoSlots,
         })
     }
 
@@ -117,7 +130,7 @@ impl KeyOp {
         self.task.call = call;
         self.task.generation = None;
         self.work.swap.read.access = access;
-        self.place = KeyAt::Root(ReadRoot::Read);
+        self.begin_try();
     }
 
     /// The references that it holds from outside.
@@ -140,64 +153,75 @@ impl KeyOp {
         requires held { AreHeld self.old.work.private heap.old }
         ensures follows { IfOk result (λ next. RootSteps heap.old.heap (word_in roots.old handle) self.old (key_line self.old root_seen) self.new next) }
         ensures acts { OnOk result (RootActs heap.old roots.old.roots self.old (key_line self.old root_seen) heap.new roots.new.roots self.new.work.private) }
-        ensures table { OnOk result (roots.new ≡ table_after roots.old handle self.old.place) }
+        ensures table { OnOk result (roots.new ≡ table_after roots.old handle self.old) }
         ensures generation { IfOk result (λ next. KeepsGeneration heap.old.heap (word_in roots.old handle) self.old (key_line self.old root_seen) self.new.task next) }
         ensures task { OnOk result (self.new.task ≡ record self.old.task { generation = self.new.task.generation }) }
         ensures access { self.new.work.swap.read.access ≡ self.old.work.swap.read.access }
-        ensures stands { OnOk result (ReadsAt self.new.place self.new.work.swap.read) }
+        ensures stands { OnOk result (ReadsKey self.new) }
         ensures asks { IfOk result (λ next. IsAskingRoot next → (self.new ≡ self.old) × (roots.new ≡ roots.old) × (heap.new ≡ heap.old)) }
         ensures err { OnErr result ((self.new ≡ self.old) × (roots.new ≡ roots.old) × (heap.new ≡ heap.old)) }
         ensures only_memory { IfErr result (λ refusal. refusal ≡ Refusal.Memory) }
     {
         match &self.place {
-            KeyAt::Root(root) => {
-                let root = *root;
-                Ok(self.find_root(root, roots, handle, heap, root_seen))
-            }
-            KeyAt::RootAgain {
-                single,
-                former,
-                root,
-            } => {
-                let (single, former, root) = (*single, *former, *root);
-                Ok(self.find_root_again(single, former, root, roots, handle, heap, root_seen))
-            }
-            KeyAt::Down(at) => {
-                let at = *at;
-                self.go_on(&at, heap, root_seen)
-            }
+            KeyAt::Root => Ok(self.find_root(roots, handle, heap, root_seen)),
+            KeyAt::RootAgain => Ok(self.find_root_again(roots, handle, heap, root_seen)),
+            KeyAt::Down(at) => match at {
+                BelowAt::Read => Ok(self.read(heap, root_seen)),
+                BelowAt::Main { main } => {
+                    let main = *main;
+                    self.look_at_main(heap, main)
+                }
+                BelowAt::Entry { main, position } => {
+                    let (main, position) = (*main, *position);
+                    self.look_at_entry(heap, main, position)
+                }
+                BelowAt::Listed { main, position } => {
+                    let (main, position) = (*main, *position);
+                    self.look_at_single(heap, main, position)
+                }
+                BelowAt::Change => self.change(heap, root_seen),
+                BelowAt::Renew => self.renew(heap, root_seen),
+                BelowAt::Clean => self.clean(heap, root_seen),
+                BelowAt::Climb => self.climb(heap, root_seen),
+                BelowAt::End => Ok(Next::Done(Kind::End, self.reply)),
+                BelowAt::Impossible => Ok(Next::More(Kind::ReadRoot)),
+            },
         }
+    }
+
+    /// Begins a try: ROOT reads the root word next.
+    pub(crate) fn begin_try(&mut self)
+        ensures { self.new ≡ record self.old { place = KeyAt.Root; root = ReadRoot.Read } }
+    {
+        self.root = ReadRoot::Read;
+        self.place = KeyAt::Root;
     }
 
     /// Takes a step of ROOT at the beginning of a try.
     fn find_root(
         &mut self,
-        root: ReadRoot,
         roots: &mut Roots,
         handle: u16,
         heap: &mut Heap,
         root_seen: Option<u64>,
     ) -> Next<KeyReply>
-        requires { CanRootOn heap.old roots.old root self.old.work.swap.read }
-        ensures follows { RootSteps heap.old.heap (word_in roots.old handle) self.old (line.Root (root_of root self.old.work.swap.read root_seen)) self.new result }
-        ensures acts { (private : List ARef) → ActsInAll heap.old roots.old.roots private (root_action (root_of root self.old.work.swap.read root_seen)) heap.new roots.new.roots private }
-        ensures table { roots.new ≡ rooted_at roots.old handle root }
-        ensures generation { KeepsGeneration heap.old.heap (word_in roots.old handle) self.old (line.Root (root_of root self.old.work.swap.read root_seen)) self.new.task result }
+        requires at { self.old.place ≡ KeyAt.Root }
+        requires can { CanRootOn heap.old roots.old self.old.root self.old.work.swap.read }
+        ensures follows { RootSteps heap.old.heap (word_in roots.old handle) self.old (line.Root (root_of self.old.root self.old.work.swap.read root_seen)) self.new result }
+        ensures acts { (private : List ARef) → ActsInAll heap.old roots.old.roots private (root_action (root_of self.old.root self.old.work.swap.read root_seen)) heap.new roots.new.roots private }
+        ensures table { roots.new ≡ rooted_at roots.old handle self.old.root }
+        ensures generation { KeepsGeneration heap.old.heap (word_in roots.old handle) self.old (line.Root (root_of self.old.root self.old.work.swap.read root_seen)) self.new.task result }
         ensures task { self.new.task ≡ record self.old.task { generation = self.new.task.generation } }
         ensures same { (self.new.work.private ≡ self.old.work.private) × (self.new.work.swap.read.access ≡ self.old.work.swap.read.access) }
-        ensures asks { IsAskingRoot result → (self.new ≡ record self.old { place = KeyAt.Root root }) × (roots.new ≡ roots.old) × (heap.new ≡ heap.old) }
-        ensures stands { ReadsAt self.new.place self.new.work.swap.read }
+        ensures asks { IsAskingRoot result → (self.new ≡ self.old) × (roots.new ≡ roots.old) × (heap.new ≡ heap.old) }
+        ensures stands { ReadsKey self.new }
     {
-        let mut root = root;
-        match root.step(&mut self.work.swap.read, roots, handle, heap, root_seen) {
-            Next::More(kind) => {
-                self.place = KeyAt::Root(root);
-                Next::More(kind)
-            }
-            Next::AskRoot => {
-                self.place = KeyAt::Root(root);
-                Next::AskRoot
-            }
+        match self
+            .root
+            .step(&mut self.work.swap.read, roots, handle, heap, root_seen)
+        {
+            Next::More(kind) => Next::More(kind),
+            Next::AskRoot => Next::AskRoot,
             Next::Done(kind, found) => {
                 self.task.generation = Some(generation_at(heap, found));
                 self.path.restart(found);
@@ -221,59 +245,46 @@ impl KeyOp {
     /// Takes a step of ROOT after a climb whose swap failed.
     fn find_root_again(
         &mut self,
-        single: Ref,
-        former: Option<u64>,
-        root: ReadRoot,
         roots: &mut Roots,
         handle: u16,
         heap: &mut Heap,
         root_seen: Option<u64>,
     ) -> Next<KeyReply>
-        requires { CanRootOn heap.old roots.old root self.old.work.swap.read }
-        ensures follows { RootSteps heap.old.heap (word_in roots.old handle) self.old (key_line_at self.old root_seen (KeyAt.RootAgain single former root)) self.new result }
-        ensures acts { (private : List ARef) → ActsInAll heap.old roots.old.roots private (root_action (root_of root self.old.work.swap.read root_seen)) heap.new roots.new.roots private }
-        ensures table { roots.new ≡ rooted_at roots.old handle root }
+        requires at { self.old.place ≡ KeyAt.RootAgain }
+        requires can { CanRootOn heap.old roots.old self.old.root self.old.work.swap.read }
+        ensures follows { RootSteps heap.old.heap (word_in roots.old handle) self.old (key_line_at self.old root_seen KeyAt.RootAgain) self.new result }
+        ensures acts { (private : List ARef) → ActsInAll heap.old roots.old.roots private (root_action (root_of self.old.root self.old.work.swap.read root_seen)) heap.new roots.new.roots private }
+        ensures table { roots.new ≡ rooted_at roots.old handle self.old.root }
         ensures same { (self.new.task ≡ self.old.task) × (self.new.work.private ≡ self.old.work.private) × (self.new.work.swap.read.access ≡ self.old.work.swap.read.access) }
-        ensures asks { IsAskingRoot result → (self.new ≡ record self.old { place = KeyAt.RootAgain single former root })
+        ensures asks { IsAskingRoot result → (self.new ≡ self.old)
             × (roots.new ≡ roots.old) × (heap.new ≡ heap.old) }
-        ensures stands { ReadsAt self.new.place self.new.work.swap.read }
+        ensures stands { ReadsKey self.new }
     {
-        let mut root = root;
-        match root.step(&mut self.work.swap.read, roots, handle, heap, root_seen) {
-            Next::More(kind) => {
-                self.place = KeyAt::RootAgain {
-                    single,
-                    former,
-                    root,
-                };
-                Next::More(kind)
-            }
-            Next::AskRoot => {
-                self.place = KeyAt::RootAgain {
-                    single,
-                    former,
-                    root,
-                };
-                Next::AskRoot
-            }
+        match self
+            .root
+            .step(&mut self.work.swap.read, roots, handle, heap, root_seen)
+        {
+            Next::More(kind) => Next::More(kind),
+            Next::AskRoot => Next::AskRoot,
             Next::Done(kind, found) => {
-                self.climb_again(single, former, generation_at(heap, found));
+                self.climb_again(generation_at(heap, found));
                 Next::More(kind)
             }
         }
     }
 
     /// After a climb whose swap failed, under a root of this generation.
-    fn climb_again(&mut self, single: Ref, former: Option<u64>, generation: u64)
+    fn climb_again(&mut self, generation: u64)
         ensures line { (access : AnAccess) (operation : Operation) → key_line self.new None
             ≡ (if is_begun_in self.old.task generation
-            then climbing (for_task self.old.task access operation) (record { path = self.old.path; single = single; former = former })
-            else climbed (for_task self.old.task access operation) former) }
+            then climbing (for_task self.old.task access operation) (climb_of self.old.path self.old.climb)
+            else climbed (for_task self.old.task access operation) self.old.climb.former) }
         ensures same { (self.new.task ≡ self.old.task) × (self.new.work.private ≡ self.old.work.private) × (self.new.work.swap.read.access ≡ self.old.work.swap.read.access) }
-        ensures stands { ReadsAt self.new.place self.new.work.swap.read }
+        ensures stands { ReadsKey self.new }
     {
+        let former = self.climb.former;
         if self.task.is_start(generation) {
-            self.climb_on(single, former);
+            self.climb_on(self.climb.single, former);
         } else {
             self.answer(former);
         }
@@ -282,10 +293,18 @@ impl KeyOp {
     /// The change stands, and is answered; the key had this value before.
     pub(crate) fn answer(&mut self, former: Option<u64>)
         ensures line { (access : AnAccess) (operation : Operation) → key_line self.new None ≡ climbed (for_task self.old.task access operation) former }
-        ensures same { self.new ≡ record self.old { place = self.new.place } }
-        ensures stands { ReadsAt self.new.place self.new.work.swap.read }
+        ensures same { self.new ≡ record self.old { place = self.new.place; reply = self.new.reply } }
+        ensures stands { ReadsKey self.new }
     {
-        self.place = KeyAt::Down(BelowAt::End(changed_reply(self.task.call, former)));
+        self.end_with(changed_reply(self.task.call, former));
+    }
+
+    /// Ends with this reply next.
+    pub(crate) fn end_with(&mut self, reply: KeyReply)
+        ensures { self.new ≡ record self.old { place = KeyAt.Down BelowAt.End; reply = reply } }
+    {
+        self.reply = reply;
+        self.place = KeyAt::Down(BelowAt::End);
     }
 
     /// The path's last indirection is tombed, with this single: climbs, if it has a parent.
@@ -294,12 +313,12 @@ impl KeyOp {
             ≡ climbing (for_task self.old.task access operation) (record { path = self.old.path; single = single; former = former }) }
         ensures same { (self.new.task ≡ self.old.task) × (self.new.work.private ≡ self.old.work.private) × (self.new.work.swap.read.access ≡ self.old.work.swap.read.access) }
         ensures reads { CommitsNoMore self.old.work.swap.read.at self.new.work.swap.read.at }
-        ensures stands { ReadsAt self.new.place self.new.work.swap.read }
+        ensures stands { ReadsKey self.new }
     {
         let path = self.path.as_slice();
         if is_below_root(path) {
-            let climb = Climb::begin(&mut self.work, path, single, former);
-            self.place = KeyAt::Down(BelowAt::Climb(climb));
+            self.climb = Climb::begin(&mut self.work, path, single, former);
+            self.place = KeyAt::Down(BelowAt::Climb);
         } else {
             self.answer(former);
         }

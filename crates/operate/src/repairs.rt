@@ -8,18 +8,17 @@ ghost use Rattle.operate.specs.Beneath.machine_model.specs.declared.operations.O
 ghost use Rattle.operate.specs.Beneath.gcas.specs.Reads.{IsAskingRoot};
 ghost use Rattle.trie_parts.specs.Holding.{AreHeld};
 ghost use Rattle.contract.specs.Cleaning.{clean_line, CanClean, line_behind as line_cleaned};
-ghost use Rattle.contract.specs.Climbing.{climb_line, CanClimb, line_behind as line_climbed};
+ghost use Rattle.contract.specs.Climbing.{climb_line, climb_of, CanClimb, line_behind as line_climbed};
 ghost use Rattle.contract.specs.Renewing.{renew_line, CanRenew, line_behind as line_renewed};
 ghost use Rattle.operate.specs.Places.{key_line};
-ghost use Rattle.operate.specs.Steps.{CommitsNoMore, KeySteps, KeyActs, ReadsAt};
+ghost use Rattle.operate.specs.Steps.{CommitsNoMore, KeySteps, KeyActs, ReadsKey};
 
 use crate::key_op::{BelowAt, KeyAt, KeyOp};
-use contract::{Cleaned, Climb, Climbed, Renewed};
+use contract::{Cleaned, Climbed, Renewed};
 use ctrie_base::Refusal;
 use epochs::Heap;
 use key_finding::KeyReply;
 use root_asking::ReadRoot;
-use slot_arena::Ref;
 use trie_parts::{Next, above, current};
 
 impl KeyOp {
@@ -29,17 +28,17 @@ impl KeyOp {
         heap: &mut Heap,
         root_seen: Option<u64>,
     ) -> Result<Next<KeyReply>, Refusal>
+        requires at { self.old.place ≡ KeyAt.Down BelowAt.Renew }
         requires can { CanRenew heap.old.heap self.old.work.swap self.old.renew }
         requires held { AreHeld self.old.work.private heap.old }
         ensures follows { IfOk result (λ next. KeySteps heap.old.heap self.old (renew_line self.old.path self.old.work.swap root_seen self.old.renew) self.new next) }
         ensures acts { OnOk result (KeyActs heap.old self.old (renew_line self.old.path self.old.work.swap root_seen self.old.renew) heap.new self.new.work.private) }
         ensures same { (self.new.task ≡ self.old.task) × (self.new.work.swap.read.access ≡ self.old.work.swap.read.access) }
-        ensures asks { IfOk result (λ next. IsAskingRoot next → (self.new ≡ record self.old { place = KeyAt.Down (BelowAt.Renew) }) × (heap.new ≡ heap.old)) }
-        ensures err { OnErr result ((self.new ≡ record self.old { place = KeyAt.Down (BelowAt.Renew) }) × (heap.new ≡ heap.old)) }
+        ensures asks { IfOk result (λ next. IsAskingRoot next → (self.new ≡ self.old) × (heap.new ≡ heap.old)) }
+        ensures err { OnErr result ((self.new ≡ self.old) × (heap.new ≡ heap.old)) }
         ensures only_memory { IfErr result (λ refusal. refusal ≡ Refusal.Memory) }
-        ensures stands { OnOk result (ReadsAt self.new.place self.new.work.swap.read) }
+        ensures stands { OnOk result (ReadsKey self.new) }
     {
-        self.place = KeyAt::Down(BelowAt::Renew);
         match self.renew.step(
             &mut self.work,
             heap,
@@ -61,15 +60,15 @@ impl KeyOp {
         ensures line { key_line self.new None ≡ line_renewed self.old.path renewed }
         ensures same { (self.new.task ≡ self.old.task) × (self.new.work.private ≡ self.old.work.private) × (self.new.work.swap.read.access ≡ self.old.work.swap.read.access) }
         ensures reads { CommitsNoMore self.old.work.swap.read.at self.new.work.swap.read.at }
-        ensures stands { ReadsAt self.new.place self.new.work.swap.read }
+        ensures stands { ReadsKey self.new }
     {
         match renewed {
             Renewed::Renewed => {
                 let indirection = current(self.path.as_slice());
                 self.read_next(indirection);
             }
-            Renewed::Lost => self.place = KeyAt::Root(ReadRoot::Read),
-            Renewed::NoSlots => self.place = KeyAt::Down(BelowAt::End(KeyReply::NoSlots)),
+            Renewed::Lost => self.begin_try(),
+            Renewed::NoSlots => self.end_with(KeyReply::NoSlots),
             Renewed::Impossible => self.place = KeyAt::Down(BelowAt::Impossible),
         }
     }
@@ -80,17 +79,17 @@ impl KeyOp {
         heap: &mut Heap,
         root_seen: Option<u64>,
     ) -> Result<Next<KeyReply>, Refusal>
+        requires at { self.old.place ≡ KeyAt.Down BelowAt.Clean }
         requires can { CanClean heap.old.heap (above self.old.path) self.old.work.swap self.old.clean }
         requires held { AreHeld self.old.work.private heap.old }
         ensures follows { IfOk result (λ next. KeySteps heap.old.heap self.old (clean_line (above self.old.path) self.old.work.swap root_seen self.old.clean) self.new next) }
         ensures acts { OnOk result (KeyActs heap.old self.old (clean_line (above self.old.path) self.old.work.swap root_seen self.old.clean) heap.new self.new.work.private) }
         ensures same { (self.new.task ≡ self.old.task) × (self.new.work.swap.read.access ≡ self.old.work.swap.read.access) }
-        ensures asks { IfOk result (λ next. IsAskingRoot next → (self.new ≡ record self.old { place = KeyAt.Down (BelowAt.Clean) }) × (heap.new ≡ heap.old)) }
-        ensures err { OnErr result ((self.new ≡ record self.old { place = KeyAt.Down (BelowAt.Clean) }) × (heap.new ≡ heap.old)) }
+        ensures asks { IfOk result (λ next. IsAskingRoot next → (self.new ≡ self.old) × (heap.new ≡ heap.old)) }
+        ensures err { OnErr result ((self.new ≡ self.old) × (heap.new ≡ heap.old)) }
         ensures only_memory { IfErr result (λ refusal. refusal ≡ Refusal.Memory) }
-        ensures stands { OnOk result (ReadsAt self.new.place self.new.work.swap.read) }
+        ensures stands { OnOk result (ReadsKey self.new) }
     {
-        self.place = KeyAt::Down(BelowAt::Clean);
         let parents = above(self.path.as_slice());
         match self
             .clean
@@ -109,11 +108,11 @@ impl KeyOp {
     fn after_cleaning(&mut self, cleaned: Cleaned)
         ensures line { key_line self.new None ≡ line_cleaned cleaned }
         ensures same { (self.new.task ≡ self.old.task) × (self.new.work ≡ self.old.work) }
-        ensures stands { ReadsAt self.new.place self.new.work.swap.read }
+        ensures stands { ReadsKey self.new }
     {
         match cleaned {
-            Cleaned::Cleaned => self.place = KeyAt::Root(ReadRoot::Read),
-            Cleaned::NoSlots => self.place = KeyAt::Down(BelowAt::End(KeyReply::NoSlots)),
+            Cleaned::Cleaned => self.begin_try(),
+            Cleaned::NoSlots => self.end_with(KeyReply::NoSlots),
             Cleaned::Impossible => self.place = KeyAt::Down(BelowAt::Impossible),
         }
     }
@@ -121,64 +120,53 @@ impl KeyOp {
     /// Takes a step of a climb.
     pub(crate) fn climb(
         &mut self,
-        climb: Climb,
         heap: &mut Heap,
         root_seen: Option<u64>,
     ) -> Result<Next<KeyReply>, Refusal>
-        requires can { CanClimb heap.old.heap self.old.task self.old.path self.old.work.swap climb }
+        requires at { self.old.place ≡ KeyAt.Down BelowAt.Climb }
+        requires can { CanClimb heap.old.heap self.old.task self.old.path self.old.work.swap self.old.climb }
         requires held { AreHeld self.old.work.private heap.old }
-        ensures follows { IfOk result (λ next. KeySteps heap.old.heap self.old (climb_line self.old.path self.old.work.swap root_seen climb) self.new next) }
-        ensures acts { OnOk result (KeyActs heap.old self.old (climb_line self.old.path self.old.work.swap root_seen climb) heap.new self.new.work.private) }
+        ensures follows { IfOk result (λ next. KeySteps heap.old.heap self.old (climb_line self.old.path self.old.work.swap root_seen self.old.climb) self.new next) }
+        ensures acts { OnOk result (KeyActs heap.old self.old (climb_line self.old.path self.old.work.swap root_seen self.old.climb) heap.new self.new.work.private) }
         ensures same { (self.new.task ≡ self.old.task) × (self.new.work.swap.read.access ≡ self.old.work.swap.read.access) }
-        ensures asks { IfOk result (λ next. IsAskingRoot next → (self.new ≡ record self.old { place = KeyAt.Down (BelowAt.Climb climb) }) × (heap.new ≡ heap.old)) }
+        ensures asks { IfOk result (λ next. IsAskingRoot next → (self.new ≡ self.old) × (heap.new ≡ heap.old)) }
         ensures err { OnErr result ((self.new ≡ self.old) × (heap.new ≡ heap.old)) }
         ensures only_memory { IfErr result (λ refusal. refusal ≡ Refusal.Memory) }
-        ensures stands { OnOk result (ReadsAt self.new.place self.new.work.swap.read) }
+        ensures stands { OnOk result (ReadsKey self.new) }
     {
-        let (single, former) = (climb.single, climb.former);
-        let mut climb = climb;
-        match climb.step(
+        match self.climb.step(
             &mut self.work,
             heap,
             self.task,
             self.path.as_slice(),
             root_seen,
         )? {
-            Next::More(kind) => {
-                self.place = KeyAt::Down(BelowAt::Climb(climb));
-                Ok(Next::More(kind))
-            }
-            Next::AskRoot => {
-                self.place = KeyAt::Down(BelowAt::Climb(climb));
-                Ok(Next::AskRoot)
-            }
+            Next::More(kind) => Ok(Next::More(kind)),
+            Next::AskRoot => Ok(Next::AskRoot),
             Next::Done(kind, climbed) => {
-                self.after_climb(climbed, single, former);
+                self.after_climb(climbed);
                 Ok(Next::More(kind))
             }
         }
     }
 
     /// After a climb of one indirection.
-    fn after_climb(&mut self, climbed: Climbed, single: Ref, former: Option<u64>)
+    fn after_climb(&mut self, climbed: Climbed)
         ensures line { (access : AnAccess) (operation : Operation) → key_line self.new None
-            ≡ line_climbed (for_task self.old.task access operation) (record { path = self.old.path; single = single; former = former }) climbed }
+            ≡ line_climbed (for_task self.old.task access operation) (climb_of self.old.path self.old.climb) climbed }
         ensures same { (self.new.task ≡ self.old.task) × (self.new.work.private ≡ self.old.work.private) × (self.new.work.swap.read.access ≡ self.old.work.swap.read.access) }
         ensures reads { CommitsNoMore self.old.work.swap.read.at self.new.work.swap.read.at }
-        ensures stands { ReadsAt self.new.place self.new.work.swap.read }
+        ensures stands { ReadsKey self.new }
     {
         match climbed {
             Climbed::Higher { single } => {
                 self.path.pop();
-                self.climb_on(single, former);
+                self.climb_on(single, self.climb.former);
             }
-            Climbed::Climbed => self.answer(former),
+            Climbed::Climbed => self.answer(self.climb.former),
             Climbed::Lost => {
-                self.place = KeyAt::RootAgain {
-                    single,
-                    former,
-                    root: ReadRoot::Read,
-                };
+                self.root = ReadRoot::Read;
+                self.place = KeyAt::RootAgain;
             }
             Climbed::Impossible => self.place = KeyAt::Down(BelowAt::Impossible),
         }

@@ -71,14 +71,14 @@ repairing op told at.Renew e =
     record { why = purpose.Renew op.path; stands = ap (renew_line_at op.path op.work.swap told op.renew.main op.renew.done) e; repairs = λ path former h. cc }
 repairing op told at.Clean e =
     record { why = purpose.Clean; stands = ap (clean_line_at (above op.path) op.work.swap told op.clean.main op.clean.done) e; repairs = λ path former h. cc }
-repairing op told (at.Climb c) e =
-    record { why = purpose.Climb (climb_of op.path c); stands = ap (climb_line_at op.work.swap told (climb_of op.path c)) e; repairs = λ path former h. cc }
+repairing op told at.Climb e =
+    record { why = purpose.Climb (climb_of op.path op.climb); stands = ap (climb_line_at op.work.swap told (climb_of op.path op.climb)) e; repairs = λ path former h. cc }
 repairing op told at.Read e = absurd e
 repairing op told (at.Main main) e = absurd e
 repairing op told (at.Entry main position) e = absurd e
 repairing op told (at.Listed main position) e = absurd e
-repairing op told (at.Change c) e = absurd e
-repairing op told (at.End answer) e = absurd e
+repairing op told at.Change e = absurd e
+repairing op told at.End e = absurd e
 repairing op told at.Impossible e = absurd e
 
 pub repairs_leave : OfEachKeyStep RepairsLeave
@@ -95,17 +95,17 @@ repairs_leave limits steps s outcome after ok fit taken op told place operation 
       commits = commits _ s op told place operation x ∙ own;
     })
 
-changing : (op : KeyOp) (told : Option ℕ) (place : BelowAt) (former : Option ℕ) → SwapsChanged place former →
+changing : (op : KeyOp) (told : Option ℕ) (place : BelowAt) (former : Option ℕ) → SwapsChanged op place former →
     below_line op told place ≡ line.Swap (purpose.Update op.path former) (swap_of op.work.swap told)
-changing op told (at.Change c) former e = ap (change_at op.path op.work.swap told c.main) e
+changing op told at.Change former e = ap (change_at op.path op.work.swap told op.change.main) e
 changing op told at.Read former e = absurd e
 changing op told (at.Main main) former e = absurd e
 changing op told (at.Entry main position) former e = absurd e
 changing op told (at.Listed main position) former e = absurd e
 changing op told at.Renew former e = absurd e
 changing op told at.Clean former e = absurd e
-changing op told (at.Climb c) former e = absurd e
-changing op told (at.End answer) former e = absurd e
+changing op told at.Climb former e = absurd e
+changing op told at.End former e = absurd e
 changing op told at.Impossible former e = absurd e
 
 pub changes_its_key : OfEachKeyStep ChangesItsKey

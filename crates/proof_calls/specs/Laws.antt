@@ -33,6 +33,6 @@ RepairsLeave limits before op told place operation after =
 -- the commit of what it made to change its key does just the call's change, in each handle that reaches the indirection
 abbrev pub ChangesItsKey : Limits → State → KeyOp → Option ℕ → BelowAt → Operation → State → Type 0
 ChangesItsKey limits before op told place operation after =
-    (former : Option ℕ) → SwapsChanged place former → committed before op told place ≡ Some op.work.swap.fresh →
+    (former : Option ℕ) → SwapsChanged op place former → committed before op told place ≡ Some op.work.swap.fresh →
     (handle : ℕ) (access : Access) (pairs : List (ℕ × ℕ)) → HandleHolds before handle access pairs → Reaches before handle op.work.swap.read.indirection →
     (later : List (ℕ × ℕ)) × HandleHolds after handle access later × Turns (hash_of limits.hash) operation.call former pairs later

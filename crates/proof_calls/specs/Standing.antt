@@ -31,10 +31,10 @@ committed state op told place = committed_in state (read_of (below_line op told 
 abbrev pub SwapsRepaired : KeyOp → BelowAt → Type 0
 SwapsRepaired op at.Renew = op.renew.place ≡ renew.Swap
 SwapsRepaired op at.Clean = op.clean.place ≡ clean.Swap
-SwapsRepaired op (at.Climb c) = c.place ≡ climb.Swap
+SwapsRepaired op at.Climb = op.climb.place ≡ climb.Swap
 SwapsRepaired op place = ⊥
 
 -- it swaps in a main node in which its key is changed, whose value was the former one
-abbrev pub SwapsChanged : BelowAt → Option ℕ → Type 0
-SwapsChanged (at.Change c) former = c.at ≡ change.Swap former
-SwapsChanged place former = ⊥
+abbrev pub SwapsChanged : KeyOp → BelowAt → Option ℕ → Type 0
+SwapsChanged op at.Change former = op.change.at ≡ change.Swap former
+SwapsChanged op place former = ⊥

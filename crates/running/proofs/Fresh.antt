@@ -60,15 +60,15 @@ climb_fresh s told c climb.Swap = refl
 climb_fresh s told c place = tt
 
 below_fresh : (op : KeyOp) (told : Option ℕ) (place : BelowAt) → SwapsFresh op.work.swap.fresh (below_line op told place)
-below_fresh op told (below.Change c) = change_fresh op.path op.work.swap told c.main c.at
+below_fresh op told below.Change = change_fresh op.path op.work.swap told op.change.main op.change.at
 below_fresh op told below.Renew = renew_fresh op.path op.work.swap told op.renew.main op.renew.done op.renew.place
 below_fresh op told below.Clean = clean_fresh (above op.path) op.work.swap told op.clean.main op.clean.done op.clean.place
-below_fresh op told (below.Climb c) = climb_fresh op.work.swap told (climb_of op.path c) c.place
+below_fresh op told below.Climb = climb_fresh op.work.swap told (climb_of op.path op.climb) op.climb.place
 below_fresh op told place = tt
 
 key_fresh : (op : KeyOp) (told : Option ℕ) (place : KeyAt) → SwapsFresh op.work.swap.fresh (key_line_at op told place)
-key_fresh op told (key.Root root) = tt
-key_fresh op told (key.RootAgain single former root) = tt
+key_fresh op told key.Root = tt
+key_fresh op told key.RootAgain = tt
 key_fresh op told (key.Down place) = below_fresh op told place
 
 none_fresh : (fresh : Ref) (l : Line) → SwapsNone l → SwapsFresh fresh l

@@ -197,7 +197,7 @@ pub keys : (job : Job) (call : KeyCall) (told : Option ℕ) (before : Scene) (me
     ((state : State) (operation : Operation) →
     ActsInAll before.memory before.table.roots p.key.work.private (line_action (at_heap state before.memory.heap p.key.task.hashes) (as_key p.key operation) l)
     memory table.roots key.work.private) →
-    table ≡ table_after before.table job.handle p.key.place →
+    table ≡ table_after before.table job.handle p.key →
     ((state : State) (operation : Operation) → word_at state (handle_of operation.call) ≡ word_in before.table job.handle →
     key.task.generation ≡ generation_from (at_heap state before.memory.heap p.key.task.hashes) (as_key p.key operation) l) →
     key.work.swap.read.access ≡ p.key.work.swap.read.access →
@@ -221,7 +221,7 @@ keys job call told before memory table key reading k stage begun reads leads act
       changes = λ state operation.
           let o : Operation = operation_in job (Key call) before operation in
           let a : Action = line_action (at_scene state before) o l in
-          let of : IsOfKey before.table job.handle p.key.place a = key_acts (at_scene state before) o before.table job.handle p.key told in
+          let of : IsOfKey before.table job.handle (table_after before.table job.handle p.key) a = key_acts (at_scene state before) o before.table job.handle p.key told in
           let plain = plain_action before.memory.heap before.generation a of.beside in
           record {
             acts = subst (λ (x : Action). ActsInAll before.memory before.table.roots p.key.work.private x memory table.roots key.work.private) (sym plain.0)

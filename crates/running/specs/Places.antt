@@ -20,7 +20,7 @@ use Rattle.running.specs.Beneath.root_asking.specs.declared.asking.Asking.{Askin
 use Rattle.running.specs.Beneath.root_asking.specs.declared.asking.Asking.TheVariants.{Unasked, Met, Told}
 use Rattle.running.specs.Beneath.root_asking.specs.Inside.{with_read}
 use Rattle.operate.specs.Places.{key_line}
-use Rattle.operate.specs.Steps.{line_behind as line_answered, ReadsAt as KeyReadsAt}
+use Rattle.operate.specs.Steps.{line_behind as line_answered, ReadsKey}
 use Rattle.snapshot.specs.declared.tasks.SnapCall.{SnapCall}
 use Rattle.snapshot.specs.declared.tasks.SnapTask.{SnapTask}
 use Rattle.snapshot.specs.Copies.{snap_line, line_behind, ReadsAt as SnapReadsAt}
@@ -110,7 +110,7 @@ IsBegun program p = Unit {0}
 
 -- while an offer is completed the READ is one of its root
 abbrev pub ReadsOn : Program → Programs → Type 0
-ReadsOn (Key call) p = KeyReadsAt p.key.place p.key.work.swap.read
+ReadsOn (Key call) p = ReadsKey p.key
 ReadsOn (Snap call) p = SnapReadsAt p.snap.at p.key.work.swap.read
 ReadsOn program p = Unit {0}
 

@@ -2,7 +2,7 @@ use Rattle.std.proofs.Common.{◌∙◌, sym}
 use Rattle.operate.proofs.key_op.KeyOp.clean.Goals as goal
 
 pub returns-in-More-clause-follows : goal.returns-in-More-clause-follows
-returns-in-More-clause-follows c = rw (c.above-parents.ensures, c.as_slice.ensures, c.in-More.is) at c.in_ok-kind.ensures.follows
+returns-in-More-clause-follows c = rw c.requires.at (rw (c.above-parents.ensures, c.as_slice.ensures, c.in-More.is) at c.in_ok-kind.ensures.follows)
 
 pub returns-in-AskRoot-clause-follows : goal.returns-in-AskRoot-clause-follows
 returns-in-AskRoot-clause-follows c = rw (c.above-parents.ensures, c.as_slice.ensures, c.in-AskRoot.is) at c.in_ok-kind.ensures.follows

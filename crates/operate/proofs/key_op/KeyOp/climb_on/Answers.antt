@@ -9,4 +9,4 @@ returns-else-is_below_root-clause-line c =
     λ access operation. rw e (c.answer.ensures.line access operation)
 
 pub returns-then-is_below_root-clause-reads : goal.returns-then-is_below_root-clause-reads
-returns-then-is_below_root-clause-reads c = rw c.begin-climb.ensures.read (begins c.args.self.now.work.swap.read.at)
+returns-then-is_below_root-clause-reads c = rw c.begin-self.ensures.read (begins c.args.self.now.work.swap.read.at)

@@ -8,6 +8,7 @@ use Rattle.trie_parts.specs.Here.{at_heap}
 use Rattle.trie_parts.specs.Tasks.{for_task}
 use Rattle.operate.specs.Beneath.rdcss_root.specs.Programs.{root_of}
 use Rattle.operate.specs.Beneath.rdcss_root.specs.Tables.{word_in}
+use Rattle.contract.specs.Climbing.{climb_of}
 use Rattle.operate.proofs.Rooting.{came, unread}
 use Rattle.operate.proofs.key_op.KeyOp.find_root_again.Goals as goal
 
@@ -18,8 +19,8 @@ returns-in-Done-clause-follows c =
     let access = me.work.swap.read.access in
     let told = c.in-Done.ensures.follows in
     let found = c.in-Done.found in
-    let before = root_of c.args.root me.work.swap.read c.args.root_seen in
-    let climb : Climb = record { path = me.path; single = c.args.single; former = c.args.former } in
+    let before = root_of me.root me.work.swap.read c.args.root_seen in
+    let climb : Climb = climb_of me.path me.climb in
     let same_heap : c.step.new.heap.heap ≡ heap = c.in-Done.ensures.heap ∙ rw told.2 refl in
     let gen : c.generation_at.result ≡ generation_at heap found = c.generation_at.ensures ∙ ap (λ h. generation_at h found) same_heap in
     λ state operation w. (

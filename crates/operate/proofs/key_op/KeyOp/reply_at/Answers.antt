@@ -6,7 +6,7 @@ use Rattle.operate.proofs.key_op.KeyOp.reply_at.Goals as goal
 pub returns-in-Change : goal.returns-in-Change
 returns-in-Change c =
     let op = c.args.self.now in
-    rw c.in-Change.is (λ told. (changes op.path op.work.swap c.in-Change.field-0.main c.in-Change.field-0.at).goes_on told)
+    rw c.in-Change.is (λ told. (changes op.path op.work.swap op.change.main op.change.at).goes_on told)
 
 pub returns-in-Renew : goal.returns-in-Renew
 returns-in-Renew c =
@@ -21,4 +21,4 @@ returns-in-Clean c =
 pub returns-in-Climb : goal.returns-in-Climb
 returns-in-Climb c =
     let op = c.args.self.now in
-    rw c.in-Climb.is (λ told. (climbs op.work.swap (climb_of op.path c.in-Climb.field-0) c.in-Climb.field-0.place).goes_on told)
+    rw c.in-Climb.is (λ told. (climbs op.work.swap (climb_of op.path op.climb) op.climb.place).goes_on told)

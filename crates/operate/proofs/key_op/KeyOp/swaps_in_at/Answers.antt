@@ -20,4 +20,4 @@ returns-in-Clean c =
 pub returns-in-Climb : goal.returns-in-Climb
 returns-in-Climb c =
     let op = c.args.self.now in
-    rw c.in-Climb.is (λ told. sym (climbs_no_try c.args.main op.work.swap told (climb_of op.path c.in-Climb.field-0) c.in-Climb.field-0.place))
+    rw c.in-Climb.is (λ told. sym (climbs_no_try c.args.main op.work.swap told (climb_of op.path op.climb) op.climb.place))
