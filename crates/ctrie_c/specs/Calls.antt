@@ -8,8 +8,8 @@ use Rattle.history.specs.Effects.{has_value}
 use Rattle.history.specs.Worlds.{KeyMap}
 use Rattle.ctrie_map.specs.declared.errors.MapError.{MapError}
 use Rattle.ctrie_map.specs.Changes.{Changes, Closes, Copies, HasRoom, IsAny, IsCrowdedAt, IsReady, RefusesChange, RefusesClear, RefusesClose, RefusesCopy, removed_if_it_has, set_if_absent, set_if_it_has, set_if_there}
-use Rattle.ctrie_map.specs.Maps.{AreSlots, IsNew, MapState, RefusesSizes}
-use Rattle.ctrie_map.specs.Performing.{IsForWant, IsSame}
+use Rattle.ctrie_map.specs.Maps.{AreSlots, IsNew, IsSame, MapState, RefusesSizes}
+use Rattle.ctrie_map.specs.Performing.{IsForWant}
 use Rattle.ctrie_map.specs.Reading.{RefusesReading, if_finished, reading}
 use Rattle.ctrie_c.specs.Answers.{bad_hash, done_told, has_map, no_map}
 

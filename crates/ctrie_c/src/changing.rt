@@ -147,6 +147,7 @@ pub extern "C" fn ctrie_remove_if(
 #[unsafe(no_mangle)]
 pub extern "C" fn ctrie_clear(alloc: Global, held: &mut HeldMap, handle: u16) -> u32
     ensures does { Does held.old.state held.new.state result (Clears handle (done_told result)) }
+    ensures not_yes { nat_eq result 1 ≡ false }
 {
     match take(alloc, held) {
         None => NO_MAP,

@@ -72,6 +72,7 @@ pub(crate) fn tell_truth(told: Result<bool, MapError>) -> u32
 pub(crate) fn tell_done(told: Result<(), MapError>) -> u32
     ensures told { done_told result ≡ told }
     ensures bound { result < no_map }
+    ensures not_yes { nat_eq result 1 ≡ false }
 {
     match told {
         Ok(()) => NO,
@@ -83,6 +84,7 @@ pub(crate) fn tell_done(told: Result<(), MapError>) -> u32
 pub(crate) fn tell_count(told: Result<u64, MapError>, count: &mut u64) -> u32
     ensures told { number_told result count.new ≡ told }
     ensures bound { result < no_map }
+    ensures not_yes { nat_eq result 1 ≡ false }
     ensures kept { nat_eq result 0 ≡ false → count.new ≡ count.old }
 {
     match told {
@@ -98,6 +100,7 @@ pub(crate) fn tell_count(told: Result<u64, MapError>, count: &mut u64) -> u32
 pub(crate) fn tell_number(told: Result<u32, MapError>, number: &mut u32) -> u32
     ensures told { number_told result number.new ≡ told }
     ensures bound { result < no_map }
+    ensures not_yes { nat_eq result 1 ≡ false }
     ensures kept { nat_eq result 0 ≡ false → number.new ≡ number.old }
 {
     match told {
@@ -113,6 +116,7 @@ pub(crate) fn tell_number(told: Result<u32, MapError>, number: &mut u32) -> u32
 pub(crate) fn tell_handle(told: Result<Handle, MapError>, handle: &mut u16) -> u32
     ensures told { number_told result handle.new ≡ told }
     ensures bound { result < no_map }
+    ensures not_yes { nat_eq result 1 ≡ false }
     ensures kept { nat_eq result 0 ≡ false → handle.new ≡ handle.old }
 {
     match told {

@@ -20,6 +20,7 @@ pub extern "C" fn ctrie_snapshot(
 ) -> u32
     ensures does { Does held.old.state held.new.state result (Opens handle Writable (number_told result copy.new)) }
     ensures kept { nat_eq result 0 ≡ false → copy.new ≡ copy.old }
+    ensures not_yes { nat_eq result 1 ≡ false }
 {
     match take(alloc, held) {
         None => NO_MAP,
@@ -41,6 +42,7 @@ pub extern "C" fn ctrie_freeze(
 ) -> u32
     ensures does { Does held.old.state held.new.state result (Opens handle ReadOnly (number_told result copy.new)) }
     ensures kept { nat_eq result 0 ≡ false → copy.new ≡ copy.old }
+    ensures not_yes { nat_eq result 1 ≡ false }
 {
     match take(alloc, held) {
         None => NO_MAP,
@@ -56,6 +58,7 @@ pub extern "C" fn ctrie_freeze(
 #[unsafe(no_mangle)]
 pub extern "C" fn ctrie_close(alloc: Global, held: &mut HeldMap, handle: u16) -> u32
     ensures does { Does held.old.state held.new.state result (ClosesIt handle (done_told result)) }
+    ensures not_yes { nat_eq result 1 ≡ false }
 {
     match take(alloc, held) {
         None => NO_MAP,

@@ -56,6 +56,7 @@ pub extern "C" fn ctrie_count(
 ) -> u32
     ensures does { Does held.old.state held.new.state result (Counts handle (number_told result count.new)) }
     ensures kept { nat_eq result 0 ≡ false → count.new ≡ count.old }
+    ensures not_yes { nat_eq result 1 ≡ false }
 {
     match take(alloc, held) {
         None => NO_MAP,
@@ -72,6 +73,7 @@ pub extern "C" fn ctrie_count(
 pub extern "C" fn ctrie_handles(alloc: Global, held: &mut HeldMap, handles: &mut u32) -> u32
     ensures does { Does held.old.state held.new.state result (CountsHandles (number_told result handles.new)) }
     ensures kept { nat_eq result 0 ≡ false → handles.new ≡ handles.old }
+    ensures not_yes { nat_eq result 1 ≡ false }
 {
     match take(alloc, held) {
         None => NO_MAP,
@@ -88,6 +90,7 @@ pub extern "C" fn ctrie_handles(alloc: Global, held: &mut HeldMap, handles: &mut
 pub extern "C" fn ctrie_slots(alloc: Global, held: &mut HeldMap, slots: &mut u32) -> u32
     ensures does { Does held.old.state held.new.state result (CountsSlots (number_told result slots.new)) }
     ensures kept { nat_eq result 0 ≡ false → slots.new ≡ slots.old }
+    ensures not_yes { nat_eq result 1 ≡ false }
 {
     match take(alloc, held) {
         None => NO_MAP,
@@ -104,6 +107,7 @@ pub extern "C" fn ctrie_slots(alloc: Global, held: &mut HeldMap, slots: &mut u32
 pub extern "C" fn ctrie_free_slots(alloc: Global, held: &mut HeldMap, free: &mut u32) -> u32
     ensures does { Does held.old.state held.new.state result (CountsFree (number_told result free.new)) }
     ensures kept { nat_eq result 0 ≡ false → free.new ≡ free.old }
+    ensures not_yes { nat_eq result 1 ≡ false }
 {
     match take(alloc, held) {
         None => NO_MAP,

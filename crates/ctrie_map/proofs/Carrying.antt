@@ -40,8 +40,8 @@ use Rattle.ctrie_map.specs.Changes.{IsTight, is_worn_out}
 use Rattle.ctrie_map.specs.Machines.{IsForOne, finished, state_by, swept_out, the_actor}
 use Rattle.ctrie_map.specs.Maps.{MapState, Becomes}
 use Rattle.ctrie_map.specs.Performing.{Answers, IsBegun, IsChange, Performs, denial_in}
-use Rattle.ctrie_map.proofs.Denying.{Due, due, stays_put}
-use Rattle.ctrie_map.proofs.Finishing.{finished_at_rest, finished_while_busy}
+use Rattle.ctrie_map.proofs.Denying.{Due, due}
+use Rattle.ctrie_map.proofs.Finishing.{finished_at_rest, finished_while_busy, stays_same}
 use Rattle.ctrie_map.proofs.Going.{keys_behind, same_end_behind}
 use Rattle.ctrie_map.proofs.Sweeping.{out_when_clean}
 
@@ -226,7 +226,7 @@ module _ (before : Taken) (c : Call) (for_one : IsForOne before) (rest : is_busy
     where
       by_begin : CompletesUnless None (Err refuse.Memory) before the_actor c after → IsForOne after × Performs (Err error.Memory) (state_by before) c (state_by after)
       by_begin (inl memory) =
-          subst (λ m. IsForOne m × Performs (Err error.Memory) (state_by before) c (state_by m)) (sym memory.1) (for_one, (inl allowed, stays_put (state_by before)))
+          subst (λ m. IsForOne m × Performs (Err error.Memory) (state_by before) c (state_by m)) (sym memory.1) (for_one, (inl allowed, stays_same (state_by before)))
       by_begin (inr (n, few, so, free)) = let way = on_its_way n after few so ok fit in absurd (unanswered_at_rest go_limit the_actor after way.last way.answer idle way.led)
 
   -- it doesn't go on for ever

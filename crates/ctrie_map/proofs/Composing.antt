@@ -7,8 +7,8 @@ use Rattle.history.specs.declared.replies.Reply.{Reply}
 use Rattle.history.specs.declared.replies.Reply.TheVariants.{NoSlots}
 use Rattle.ctrie_map.specs.declared.errors.MapError.{MapError}
 use Rattle.ctrie_map.specs.declared.errors.MapError.TheVariants as error
-use Rattle.ctrie_map.specs.Maps.{MapState, Stays}
-use Rattle.ctrie_map.specs.Performing.{Answers, IsForWant, IsSame, Performs, denial_in}
+use Rattle.ctrie_map.specs.Maps.{MapState, IsSame}
+use Rattle.ctrie_map.specs.Performing.{Answers, IsForWant, Performs, denial_in}
 
 -- a state that is the same but for this
 abbrev with_finished : MapState → Bool → MapState
@@ -22,9 +22,6 @@ module _ (first second : MapState) (same : IsSame first second) where
       ∙ ap (λ x. record { hash = first.hash; slots = first.slots; handles = x; free = second.free; age = second.age; is_finished = second.is_finished }) same.handles
       ∙ ap (λ x. record { hash = first.hash; slots = first.slots; handles = first.handles; free = x; age = second.age; is_finished = second.is_finished }) same.free
       ∙ ap (λ x. record { hash = first.hash; slots = first.slots; handles = first.handles; free = first.free; age = x; is_finished = second.is_finished }) same.age
-
-  pub same_stays : Stays first second
-  same_stays = ((same.hash, same.slots, same.handles), same.ready)
 
 -- ---- before it
 
@@ -41,15 +38,15 @@ module _ (first : MapState) (b : Bool) (ready : first.is_finished ≡ true → b
   wants_from (inl none) = inl none
   wants_from (inr not_b) = inr (unready first.is_finished refl not_b)
 
-  stays_from : Stays (with_finished first b) after → Stays first after
-  stays_from p = (p.0, λ f. p.1 (ready f))
+  same_from : IsSame (with_finished first b) after → IsSame first after
+  same_from p = record { hash = p.hash; slots = p.slots; handles = p.handles; free = p.free; age = p.age; ready = λ f. p.ready (ready f) }
 
   from_by : (result : Result Reply MapError) → Performs result (with_finished first b) c after → Performs result first c after
   from_by (Ok answer) p = (p.0, answers_from answer p.1, p.2)
   from_by (Err error.Unfinished) p = (p.0, p.1, (p.2.0, answers_from p.2.0 p.2.1))
-  from_by (Err error.Memory) p = (wants_from p.0, stays_from p.1)
-  from_by (Err error.WornOut) p = (p.0, p.1, stays_from p.2)
-  from_by (Err why) p = (p.0, stays_from p.1)
+  from_by (Err error.Memory) p = (wants_from p.0, same_from p.1)
+  from_by (Err error.WornOut) p = (p.0, p.1, same_from p.2)
+  from_by (Err why) p = (p.0, same_from p.1)
 
 pub performs_from : (first second : MapState) → IsSame first second → (c : Call) (after : MapState) (result : Result Reply MapError) → Performs result second c after → Performs result first c after
 performs_from first second same c after result p =
@@ -63,15 +60,15 @@ module _ (before : MapState) (c : Call) (third : MapState) (b : Bool) (ready : t
   answers_to NoSlots p = p
   answers_to answer p = p
 
-  stays_to : Stays before third → Stays before (with_finished third b)
-  stays_to p = (p.0, λ f. ready (p.1 f))
+  same_to : IsSame before third → IsSame before (with_finished third b)
+  same_to p = record { hash = p.hash; slots = p.slots; handles = p.handles; free = p.free; age = p.age; ready = λ f. ready (p.ready f) }
 
   to_by : (result : Result Reply MapError) → Performs result before c third → Performs result before c (with_finished third b)
   to_by (Ok answer) p = (p.0, answers_to answer p.1, ready p.2)
   to_by (Err error.Unfinished) p = absurd (false≢true (sym p.1 ∙ finished))
-  to_by (Err error.Memory) p = (p.0, stays_to p.1)
-  to_by (Err error.WornOut) p = (p.0, p.1, stays_to p.2)
-  to_by (Err why) p = (p.0, stays_to p.1)
+  to_by (Err error.Memory) p = (p.0, same_to p.1)
+  to_by (Err error.WornOut) p = (p.0, p.1, same_to p.2)
+  to_by (Err why) p = (p.0, same_to p.1)
 
 pub performs_to : (before : MapState) (c : Call) (third last : MapState) → IsSame third last → third.is_finished ≡ true → (result : Result Reply MapError) → Performs result before c third →
     Performs result before c last
@@ -83,12 +80,12 @@ performs_to before c third last same finished result p =
 
 -- memory was wanting for what was left over
 pub unready_performs : (first second : MapState) → IsSame first second → (c : Call) (told : MapError) → (told ≡ error.Memory) × (first.is_finished ≡ false) → Performs (Err told) first c second
-unready_performs first second same c told (is, unready) = rw is (inr unready, same_stays first second same)
+unready_performs first second same c told (is, unready) = rw is (inr unready, same)
 
 -- or for the sweep
 pub unswept_performs : (first second : MapState) → IsSame first second → (c : Call) (told : MapError) → denial_in first c ≡ None → IsForWant first told → Performs (Err told) first c second
-unswept_performs first second same c told allowed (inl is) = rw is (inl allowed, same_stays first second same)
-unswept_performs first second same c told allowed (inr (is, worn)) = rw is (allowed, worn, same_stays first second same)
+unswept_performs first second same c told allowed (inl is) = rw is (inl allowed, same)
+unswept_performs first second same c told allowed (inr (is, worn)) = rw is (allowed, worn, same)
 
 -- what is allowed stays so
 pub still_allowed : (first second : MapState) → IsSame first second → (c : Call) → denial_in first c ≡ None → denial_in second c ≡ None

@@ -28,9 +28,9 @@ use Rattle.ctrie_map.specs.declared.errors.MapError.{MapError}
 use Rattle.ctrie_map.specs.declared.errors.MapError.TheVariants as error
 use Rattle.ctrie_map.specs.Changes.{denial_by, is_frozen}
 use Rattle.ctrie_map.specs.Machines.{state_by, the_actor}
-use Rattle.ctrie_map.specs.Maps.{MapState, Becomes, Stays}
+use Rattle.ctrie_map.specs.Maps.{MapState, Becomes, IsSame, Stays}
 use Rattle.ctrie_map.specs.Performing.{IsChange, Performs, denial_in, of_refusal}
-use Rattle.ctrie_map.proofs.Finishing.{finished_at_rest}
+use Rattle.ctrie_map.proofs.Finishing.{finished_at_rest, stays_same}
 use Rattle.ctrie_map.proofs.Sweeping.{worn_when_spent}
 
 -- ---- the machine's reasons, at rest
@@ -163,13 +163,10 @@ told_of before c told e = elim (denied_with (needs_writable c) (opens_handle c) 
 ]
 
 told_so : (told : MapError) (before : MapState) (c : Call) (after : MapState) → (told ≡ error.NoHandle) ⊎ ((told ≡ error.ReadOnly) ⊎ (told ≡ error.HandlesFull)) →
-    denial_in before c ≡ Some told → Stays before after → Performs (Err told) before c after
-told_so told before c after (inl is) e stays = rw is (subst (λ t. denial_in before c ≡ Some t) is e, stays)
-told_so told before c after (inr (inl is)) e stays = rw is (subst (λ t. denial_in before c ≡ Some t) is e, stays)
-told_so told before c after (inr (inr is)) e stays = rw is (subst (λ t. denial_in before c ≡ Some t) is e, stays)
-
-pub stays_put : (state : MapState) → Stays state state
-stays_put state = ((refl, refl, refl), λ r. r)
+    denial_in before c ≡ Some told → IsSame before after → Performs (Err told) before c after
+told_so told before c after (inl is) e same = rw is (subst (λ t. denial_in before c ≡ Some t) is e, same)
+told_so told before c after (inr (inl is)) e same = rw is (subst (λ t. denial_in before c ≡ Some t) is e, same)
+told_so told before c after (inr (inr is)) e same = rw is (subst (λ t. denial_in before c ≡ Some t) is e, same)
 
 pub stays_if_ready : (before after : MapState) → Becomes before before.handles after → after.is_finished ≡ true → Stays before after
 stays_if_ready before after becomes ready = (becomes, λ r. ready)
@@ -180,8 +177,8 @@ module _ (machine : Taken) (rest : is_busy (state_of machine) ≡ false) (one : 
   performs_by (Some told) why e due_so =
       subst (λ t. Performs (Err t) (state_by machine) c (state_by machine)) (sym due_so)
       (told_so told (state_by machine) c (state_by machine)
-      (denied_with (needs_writable c) (opens_handle c) (map.get (state_by machine).handles (handle_of c)) (map.len (state_by machine).handles) told e) e (stays_put (state_by machine)))
-  performs_by None why e due_so = rw due_so.0 (e, worn_when_spent machine rest due_so.1, stays_put (state_by machine))
+      (denied_with (needs_writable c) (opens_handle c) (map.get (state_by machine).handles (handle_of c)) (map.len (state_by machine).handles) told e) e (stays_same (state_by machine)))
+  performs_by None why e due_so = rw due_so.0 (e, worn_when_spent machine rest due_so.1, stays_same (state_by machine))
 
   -- a call that is denied
   pub denied : (why : Refusal) → begin_denial (state_of machine) the_actor c ≡ Some why → Performs (Err (of_refusal why)) (state_by machine) c (state_by machine)

@@ -14,8 +14,7 @@ use Rattle.step_machine.specs.Machines.{Taken, state_of}
 use Rattle.step_machine.proofs.Going.{HasMore, has_more}
 use Rattle.step_machine.proofs.Resting.{unanswered_at_rest}
 use Rattle.ctrie_map.specs.Machines.{Ends, IsForOne, finished, state_by, swept_out, the_actor}
-use Rattle.ctrie_map.specs.Maps.{MapState}
-use Rattle.ctrie_map.specs.Performing.{IsSame}
+use Rattle.ctrie_map.specs.Maps.{MapState, IsSame}
 use Rattle.ctrie_map.proofs.Going.{same_end_behind}
 
 -- ---- what is seen of a machine

@@ -25,7 +25,7 @@ use Rattle.step_machine.proofs.Sweeping.{nearer}
 use Rattle.step_machine.proofs.Telling.{stepped}
 use Rattle.ctrie_map.specs.Changes.{is_worn_out}
 use Rattle.ctrie_map.specs.Machines.{IsForOne, finished, is_empty, state_by, swept_out, swept_within}
-use Rattle.ctrie_map.specs.Performing.{IsSame}
+use Rattle.ctrie_map.specs.Maps.{IsSame}
 use Rattle.ctrie_map.proofs.Finishing.{finished_at_rest, looks_same}
 
 -- ---- the world stays

@@ -11,7 +11,7 @@ use Rattle.ctrie_map.specs.Beneath.proof_obstruction_free.specs.Laws.{most_steps
 use Rattle.ctrie_map.specs.Beneath.proof_obstruction_free.specs.Slots.{most_makes_alone, most_steps_of_copies}
 use Rattle.ctrie_map.specs.declared.errors.MapError.{MapError}
 use Rattle.ctrie_map.specs.declared.errors.MapError.TheVariants.{NoHandle, ReadOnly, HandlesFull, Crowded, Full, WornOut, Unfinished, Memory}
-use Rattle.ctrie_map.specs.Maps.{MapState, Becomes, Stays}
+use Rattle.ctrie_map.specs.Maps.{MapState, Becomes, IsSame, Stays}
 
 -- ---- what is changed
 
@@ -103,15 +103,16 @@ abbrev pub IsReady : MapState → MapState → Type 0
 IsReady before after = (is_worn_out before ≡ false) × (after.is_finished ≡ true)
 
 -- Why a call was refused for which there may be such a denial, for which so many slots are enough, whose key may be crowded, and which else is done. All maps
--- stay as they are; but where memory was wanting in the midst of the call, it is done, without its reply, or was refused as crowded or for want of slots.
+-- stay as they are, and where it wasn't begun, the free slots and the work that was done too; but where memory was wanting in the midst of the call, it is done,
+-- without its reply, or was refused as crowded or for want of slots.
 abbrev pub Refused : Option MapError → ℕ → Type 0 → (MapState → Type 0) → MapState → MapState → MapError → Type 0
-Refused denial enough Crowds Done before after Memory = ((denial ≡ None) ⊎ (before.is_finished ≡ false)) × Stays before after
+Refused denial enough Crowds Done before after Memory = ((denial ≡ None) ⊎ (before.is_finished ≡ false)) × IsSame before after
 Refused denial enough Crowds Done before after Unfinished =
     (denial ≡ None) × (is_worn_out before ≡ false) × (after.is_finished ≡ false) × (Done after ⊎ ((Crowds ⊎ IsTight enough before) × Becomes before before.handles after))
 Refused denial enough Crowds Done before after Full = (denial ≡ None) × (is_worn_out before ≡ false) × IsTight enough before × Stays before after
 Refused denial enough Crowds Done before after Crowded = (denial ≡ None) × (is_worn_out before ≡ false) × Crowds × Stays before after
-Refused denial enough Crowds Done before after WornOut = (denial ≡ None) × (is_worn_out before ≡ true) × Stays before after
-Refused denial enough Crowds Done before after error = (denial ≡ Some error) × Stays before after
+Refused denial enough Crowds Done before after WornOut = (denial ≡ None) × (is_worn_out before ≡ true) × IsSame before after
+Refused denial enough Crowds Done before after error = (denial ≡ Some error) × IsSame before after
 
 -- a change of a key, which may be crowded
 abbrev pub RefusesChange : MapState → ℕ → Type 0 → (KeyMap → Type 0) → (KeyMap → KeyMap) → MapState → MapError → Type 0

@@ -27,6 +27,15 @@ Becomes before handles after = (after.hash ≡ before.hash) × (after.slots ≡ 
 abbrev pub Stays : MapState → MapState → Type 0
 Stays before after = Becomes before before.handles after × (before.is_finished ≡ true → after.is_finished ≡ true)
 
+-- all is as before, but that a call may have come to its end that was unfinished
+pub record IsSame (before after : MapState) : Type 0 where
+  pub hash : after.hash ≡ before.hash
+  pub slots : after.slots ≡ before.slots
+  pub handles : after.handles ≡ before.handles
+  pub free : after.free ≡ before.free
+  pub age : after.age ≡ before.age
+  pub ready : before.is_finished ≡ true → after.is_finished ≡ true
+
 -- a new map: handle 0 is open, writable and empty, and takes two slots
 abbrev pub IsNew : ℕ → HashKind → MapState → Type 0
 IsNew slots hash made =

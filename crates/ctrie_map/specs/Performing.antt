@@ -13,7 +13,7 @@ use Rattle.machine_model.specs.Calls.{handle_of, needs_writable, opens_handle}
 use Rattle.step_machine.specs.Ending.{enough_slots}
 use Rattle.ctrie_map.specs.declared.errors.MapError.{MapError}
 use Rattle.ctrie_map.specs.declared.errors.MapError.TheVariants.{NoHandle, ReadOnly, HandlesFull, BadSizes, WornOut, Unfinished, Memory}
-use Rattle.ctrie_map.specs.Maps.{MapState, Becomes, Stays}
+use Rattle.ctrie_map.specs.Maps.{MapState, Becomes, IsSame}
 use Rattle.ctrie_map.specs.Changes.{IsTight, denial_by, is_worn_out}
 
 -- any call but get, entries and count
@@ -49,19 +49,10 @@ of_refusal refusal = Memory
 -- what it comes to; unfinished, it comes to a reply that isn't told
 abbrev pub Performs : Result Reply MapError → MapState → Call → MapState → Type 0
 Performs (Ok answer) before call after = IsBegun before call × Answers before call answer after × (after.is_finished ≡ true)
-Performs (Err Memory) before call after = ((denial_in before call ≡ None) ⊎ (before.is_finished ≡ false)) × Stays before after
+Performs (Err Memory) before call after = ((denial_in before call ≡ None) ⊎ (before.is_finished ≡ false)) × IsSame before after
 Performs (Err Unfinished) before call after = IsBegun before call × (after.is_finished ≡ false) × ((answer : Reply) × Answers before call answer after)
-Performs (Err WornOut) before call after = (denial_in before call ≡ None) × (is_worn_out before ≡ true) × Stays before after
-Performs (Err error) before call after = (denial_in before call ≡ Some error) × Stays before after
-
--- all is as before, but that a call may have come to its end that was unfinished
-pub record IsSame (before after : MapState) : Type 0 where
-  pub hash : after.hash ≡ before.hash
-  pub slots : after.slots ≡ before.slots
-  pub handles : after.handles ≡ before.handles
-  pub free : after.free ≡ before.free
-  pub age : after.age ≡ before.age
-  pub ready : before.is_finished ≡ true → after.is_finished ≡ true
+Performs (Err WornOut) before call after = (denial_in before call ≡ None) × (is_worn_out before ≡ true) × IsSame before after
+Performs (Err error) before call after = (denial_in before call ≡ Some error) × IsSame before after
 
 -- memory was wanting, or the map is worn out
 abbrev pub IsForWant : MapState → MapError → Type 0

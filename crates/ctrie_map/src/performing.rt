@@ -4,7 +4,8 @@ ghost use Rattle.std.specs.Prelude.{◌≡◌, false, [], None, OnOk, IfErr};
 ghost use Rattle.machine_model.specs.Machine.{is_busy};
 ghost use Rattle.step_machine.specs.Machines.{state_of};
 ghost use Rattle.ctrie_map.specs.Machines.{IsForOne, state_by};
-ghost use Rattle.ctrie_map.specs.Performing.{IsChange, IsForWant, IsSame, Performs, denial_in};
+ghost use Rattle.ctrie_map.specs.Maps.{IsSame};
+ghost use Rattle.ctrie_map.specs.Performing.{IsChange, IsForWant, Performs, denial_in};
 
 use crate::errors::MapError;
 use ctrie_base::Refusal;

@@ -4,7 +4,8 @@ ghost use Rattle.std.specs.Prelude.{◌≡◌, nat_le, IfOk, IfErr, Ok};
 ghost use Rattle.std.specs.FinMap as map;
 ghost use Rattle.ctrie_map.specs.Changes.{slots_for_a_call};
 ghost use Rattle.ctrie_map.specs.Machines.{IsForOne, state_by};
-ghost use Rattle.ctrie_map.specs.Performing.{IsForWant, IsSame};
+ghost use Rattle.ctrie_map.specs.Maps.{IsSame};
+ghost use Rattle.ctrie_map.specs.Performing.{IsForWant};
 ghost use Rattle.ctrie_map.specs.Reading.{RefusesReading, if_finished, reading};
 
 use crate::errors::MapError;

@@ -1,12 +1,12 @@
 use Rattle.std.proofs.Common.{arith}
 use Rattle.ctrie_map.proofs.Carrying.{answered_as, broken_off, not_begun, too_old}
-use Rattle.ctrie_map.proofs.Denying.{stays_put}
+use Rattle.ctrie_map.proofs.Finishing.{stays_same}
 use Rattle.ctrie_map.specs.Machines.{state_by}
 use Rattle.ctrie_map.proofs.performing.carry_out.Goals as goal
 
 pub returns-then-steps_taken-clause-performs : goal.returns-then-steps_taken-clause-performs
 returns-then-steps_taken-clause-performs c =
-    (c.requires.allowed, too_old c.args.machine.now c.requires.rest c.requires.clean (grind (arith, c.steps_taken.ensures, c.if-steps_taken.true)), stays_put (state_by c.args.machine.now))
+    (c.requires.allowed, too_old c.args.machine.now c.requires.rest c.requires.clean (grind (arith, c.steps_taken.ensures, c.if-steps_taken.true)), stays_same (state_by c.args.machine.now))
 
 pub returns-in-Ok-Some-clause-for_one : goal.returns-in-Ok-Some-clause-for_one
 returns-in-Ok-Some-clause-for_one c =
